@@ -1,0 +1,3 @@
+pub mod Operands
+pub mod Table
+pub mod Short

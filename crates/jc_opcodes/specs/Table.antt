@@ -1,0 +1,202 @@
+-- The instruction table (virtual machine specification, the instruction set): each opcode with its
+-- mnemonic, the form of its operands and the instruction that they make. An opcode that has no row is
+-- no instruction; the rows of fields, arrays, objects and calls are still to come.
+use Rattle.std.specs.Prelude.{ℕ, ◌+◌, ◌*◌, ◌-◌, ◌/◌, ◌%◌, ◌≡◌, ℤ, pos, negsuc, ◌-ℤ◌, ◌+ℤ◌, ◌==◌, nat_lt, nat_le, int_lt, if◌then◌else◌, List, [], ◌∷◌, ◌++◌, Option, Some, None, slice_get, length, map, Bool, ◌&&◌, ◌||◌, unsigned_abs}
+use Rattle.std.specs.Option.{option_map, option_and_then}
+use Rattle.jc_opcodes.specs.Operands.{u1, s1, u2, s2}
+use Rattle.jc_opcodes.specs.declared.instr.Instr.{Instr}
+use Rattle.jc_opcodes.specs.declared.instr.Instr.TheVariants.{Nop, Push, Access, Arrange, Compute, Jump, Leave}
+use Rattle.jc_opcodes.specs.declared.instr.Constant.TheVariants.{Null, Number}
+use Rattle.jc_opcodes.specs.declared.instr.Local.TheVariants.{LoadReference, LoadShort, StoreReference, StoreShort, Increment}
+use Rattle.jc_opcodes.specs.declared.instr.Stack.TheVariants.{Pop, PopTwo, Duplicate, DuplicateTwo, DuplicateBelow, Swap}
+use Rattle.jc_opcodes.specs.declared.instr.Arithmetic.TheVariants.{Two, Negate, ToByte}
+use Rattle.jc_opcodes.specs.declared.instr.Binary.TheVariants.{Add, Subtract, Multiply, Divide, Remainder, ShiftLeft, ShiftRight, ShiftRightUnsigned, And, Or, Xor}
+use Rattle.jc_opcodes.specs.declared.instr.Comparison.TheVariants.{Equal, NotEqual, Less, GreaterOrEqual, Greater, LessOrEqual}
+use Rattle.jc_opcodes.specs.declared.instr.Condition.{Condition}
+use Rattle.jc_opcodes.specs.declared.instr.Condition.TheVariants.{Zero, IsNull, NotNull, SameReference, OtherReference, Shorts}
+use Rattle.jc_opcodes.specs.declared.instr.Branch.TheVariants.{If, Goto, Subroutine, Back, Table, Lookup}
+use Rattle.jc_opcodes.specs.declared.instr.Return.TheVariants.{WithShort, WithNothing}
+
+-- what follows an opcode, and the instruction that it makes
+pub data Form : Type 0 where
+  Bare : Instr → Form
+  U1 : (ℕ → Instr) → Form
+  S1 : (ℤ → Instr) → Form
+  S2 : (ℤ → Instr) → Form
+  U1S1 : (ℕ → ℤ → Instr) → Form
+  U1S2 : (ℕ → ℤ → Instr) → Form
+  -- one byte of two halves, the high one first, which may be no operand of this instruction
+  Halves : (ℕ → ℕ → Option Instr) → Form
+  -- s2 default, s2 low, s2 high, and an s2 for each number from low to high
+  TableSwitch : Form
+  -- s2 default, u2 count, and so many pairs of an s2 match and an s2 offset
+  LookupSwitch : Form
+
+-- an opcode and its form
+abbrev pub Row : Type 0
+Row = ℕ × Form
+
+abbrev pub constants : List Row
+constants =
+    (0x00, Bare Nop) ∷                                            -- nop
+    (0x01, Bare (Push Null)) ∷                                    -- aconst_null
+    (0x02, Bare (Push (Number (negsuc 0)))) ∷                     -- sconst_m1
+    (0x03, Bare (Push (Number (pos 0)))) ∷                        -- sconst_0
+    (0x04, Bare (Push (Number (pos 1)))) ∷                        -- sconst_1
+    (0x05, Bare (Push (Number (pos 2)))) ∷                        -- sconst_2
+    (0x06, Bare (Push (Number (pos 3)))) ∷                        -- sconst_3
+    (0x07, Bare (Push (Number (pos 4)))) ∷                        -- sconst_4
+    (0x08, Bare (Push (Number (pos 5)))) ∷                        -- sconst_5
+    (0x10, S1 (λ v. Push (Number v))) ∷                           -- bspush
+    (0x11, S2 (λ v. Push (Number v))) ∷                           -- sspush
+    []
+
+abbrev pub locals : List Row
+locals =
+    (0x15, U1 (λ n. Access (LoadReference n))) ∷                  -- aload
+    (0x16, U1 (λ n. Access (LoadShort n))) ∷                      -- sload
+    (0x18, Bare (Access (LoadReference 0))) ∷                     -- aload_0
+    (0x19, Bare (Access (LoadReference 1))) ∷                     -- aload_1
+    (0x1A, Bare (Access (LoadReference 2))) ∷                     -- aload_2
+    (0x1B, Bare (Access (LoadReference 3))) ∷                     -- aload_3
+    (0x1C, Bare (Access (LoadShort 0))) ∷                         -- sload_0
+    (0x1D, Bare (Access (LoadShort 1))) ∷                         -- sload_1
+    (0x1E, Bare (Access (LoadShort 2))) ∷                         -- sload_2
+    (0x1F, Bare (Access (LoadShort 3))) ∷                         -- sload_3
+    (0x28, U1 (λ n. Access (StoreReference n))) ∷                 -- astore
+    (0x29, U1 (λ n. Access (StoreShort n))) ∷                     -- sstore
+    (0x2B, Bare (Access (StoreReference 0))) ∷                    -- astore_0
+    (0x2C, Bare (Access (StoreReference 1))) ∷                    -- astore_1
+    (0x2D, Bare (Access (StoreReference 2))) ∷                    -- astore_2
+    (0x2E, Bare (Access (StoreReference 3))) ∷                    -- astore_3
+    (0x2F, Bare (Access (StoreShort 0))) ∷                        -- sstore_0
+    (0x30, Bare (Access (StoreShort 1))) ∷                        -- sstore_1
+    (0x31, Bare (Access (StoreShort 2))) ∷                        -- sstore_2
+    (0x32, Bare (Access (StoreShort 3))) ∷                        -- sstore_3
+    (0x59, U1S1 (λ n v. Access (Increment n v))) ∷                -- sinc
+    (0x96, U1S2 (λ n v. Access (Increment n v))) ∷                -- sinc_w
+    []
+
+-- the operand of dup_x: m from 1 to 4, and n 0 or from m to m + 4
+abbrev pub duplicate_below : ℕ → ℕ → Option Instr
+duplicate_below m n =
+    if nat_le 1 m && nat_le m 4 && (n == 0 || (nat_le m n && nat_le n (m + 4)))
+    then Some (Arrange (DuplicateBelow m n)) else None
+
+-- the operand of swap_x: m and n each 1 or 2
+abbrev pub swap : ℕ → ℕ → Option Instr
+swap m n =
+    if nat_le 1 m && nat_le m 2 && nat_le 1 n && nat_le n 2 then Some (Arrange (Swap m n)) else None
+
+abbrev pub stack : List Row
+stack =
+    (0x3B, Bare (Arrange Pop)) ∷                                  -- pop
+    (0x3C, Bare (Arrange PopTwo)) ∷                               -- pop2
+    (0x3D, Bare (Arrange Duplicate)) ∷                            -- dup
+    (0x3E, Bare (Arrange DuplicateTwo)) ∷                         -- dup2
+    (0x3F, Halves duplicate_below) ∷                              -- dup_x
+    (0x40, Halves swap) ∷                                         -- swap_x
+    []
+
+abbrev pub arithmetic : List Row
+arithmetic =
+    (0x41, Bare (Compute (Two Add))) ∷                            -- sadd
+    (0x43, Bare (Compute (Two Subtract))) ∷                       -- ssub
+    (0x45, Bare (Compute (Two Multiply))) ∷                       -- smul
+    (0x47, Bare (Compute (Two Divide))) ∷                         -- sdiv
+    (0x49, Bare (Compute (Two Remainder))) ∷                      -- srem
+    (0x4B, Bare (Compute Negate)) ∷                               -- sneg
+    (0x4D, Bare (Compute (Two ShiftLeft))) ∷                      -- sshl
+    (0x4F, Bare (Compute (Two ShiftRight))) ∷                     -- sshr
+    (0x51, Bare (Compute (Two ShiftRightUnsigned))) ∷             -- sushr
+    (0x53, Bare (Compute (Two And))) ∷                            -- sand
+    (0x55, Bare (Compute (Two Or))) ∷                             -- sor
+    (0x57, Bare (Compute (Two Xor))) ∷                            -- sxor
+    (0x5B, Bare (Compute ToByte)) ∷                               -- s2b
+    []
+
+-- the conditional branches with an offset of one byte
+abbrev pub conditions : List (ℕ × Condition)
+conditions =
+    (0x60, Zero Equal) ∷                                          -- ifeq
+    (0x61, Zero NotEqual) ∷                                       -- ifne
+    (0x62, Zero Less) ∷                                           -- iflt
+    (0x63, Zero GreaterOrEqual) ∷                                 -- ifge
+    (0x64, Zero Greater) ∷                                        -- ifgt
+    (0x65, Zero LessOrEqual) ∷                                    -- ifle
+    (0x66, IsNull) ∷                                              -- ifnull
+    (0x67, NotNull) ∷                                             -- ifnonnull
+    (0x68, SameReference) ∷                                       -- if_acmpeq
+    (0x69, OtherReference) ∷                                      -- if_acmpne
+    (0x6A, Shorts Equal) ∷                                        -- if_scmpeq
+    (0x6B, Shorts NotEqual) ∷                                     -- if_scmpne
+    (0x6C, Shorts Less) ∷                                         -- if_scmplt
+    (0x6D, Shorts GreaterOrEqual) ∷                               -- if_scmpge
+    (0x6E, Shorts Greater) ∷                                      -- if_scmpgt
+    (0x6F, Shorts LessOrEqual) ∷                                  -- if_scmple
+    []
+
+-- the condition that belongs to an opcode, if it has one
+abbrev pub condition_in : List (ℕ × Condition) → ℕ → Option Condition
+condition_in [] op = None
+condition_in (row ∷ rows) op = if op == row.0 then Some row.1 else condition_in rows op
+
+-- a conditional branch with an offset of one byte
+abbrev pub in_short : (ℕ × Condition) → Row
+in_short (op, condition) = (op, S1 (λ offset. Jump (If condition offset)))
+
+-- its wide form (ifeq_w to if_scmple_w, 98 to A7), with an offset of two bytes
+abbrev pub in_wide : (ℕ × Condition) → Row
+in_wide (op, condition) = (op + 0x38, S2 (λ offset. Jump (If condition offset)))
+
+abbrev pub branches : List Row
+branches =
+    map in_short conditions ++ (map in_wide conditions ++ (
+    (0x70, S1 (λ offset. Jump (Goto offset))) ∷                   -- goto
+    (0xA8, S2 (λ offset. Jump (Goto offset))) ∷                   -- goto_w
+    (0x71, S2 (λ offset. Jump (Subroutine offset))) ∷             -- jsr
+    (0x72, U1 (λ n. Jump (Back n))) ∷                             -- ret
+    (0x73, TableSwitch) ∷                                         -- stableswitch
+    (0x75, LookupSwitch) ∷                                        -- slookupswitch
+    []))
+
+abbrev pub returns : List Row
+returns =
+    (0x78, Bare (Leave WithShort)) ∷                              -- sreturn
+    (0x7A, Bare (Leave WithNothing)) ∷                            -- return
+    []
+
+abbrev pub table : List Row
+table = constants ++ (locals ++ (stack ++ (arithmetic ++ (branches ++ returns))))
+
+-- the form that belongs to an opcode, if it has one
+abbrev pub form_in : List Row → ℕ → Option Form
+form_in [] op = None
+form_in (row ∷ rows) op = if op == row.0 then Some row.1 else form_in rows op
+
+-- an instruction, where all its bytes, which end before this place, are there
+abbrev pub ending : List ℕ → ℕ → Instr → Option (Instr × ℕ)
+ending code next instr = if nat_le next (length code) then Some (instr, next) else None
+
+-- the instruction whose operands begin at a place, and the place after them
+abbrev pub read : List ℕ → ℕ → Form → Option (Instr × ℕ)
+read code at (Bare instr) = Some (instr, at)
+read code at (U1 f) = option_map (λ n. (f n, at + 1)) (u1 code at)
+read code at (S1 f) = option_map (λ v. (f v, at + 1)) (s1 code at)
+read code at (S2 f) = option_map (λ v. (f v, at + 2)) (s2 code at)
+read code at (U1S1 f) = option_and_then (λ n. option_map (λ v. (f n v, at + 2)) (s1 code (at + 1))) (u1 code at)
+read code at (U1S2 f) = option_and_then (λ n. option_map (λ v. (f n v, at + 3)) (s2 code (at + 1))) (u1 code at)
+read code at (Halves f) = option_and_then (λ b. option_map (λ instr. (instr, at + 1)) (f (b / 16) (b % 16))) (u1 code at)
+read code at TableSwitch =
+    option_and_then (λ otherwise. option_and_then (λ low. option_and_then (λ high.
+    if int_lt high low then None else
+    ending code (at + 6 + 2 * (unsigned_abs (high -ℤ low) + 1)) (Jump (Table otherwise low high)))
+    (s2 code (at + 4))) (s2 code (at + 2))) (s2 code at)
+read code at LookupSwitch =
+    option_and_then (λ otherwise. option_and_then (λ count.
+    ending code (at + 4 + 4 * count) (Jump (Lookup otherwise count)))
+    (u2 code (at + 2))) (s2 code at)
+
+-- the instruction whose opcode stands at a place and the place after it; none where it is undecodable or cut
+abbrev pub decoded : List ℕ → ℕ → Option (Instr × ℕ)
+decoded code pc = option_and_then (λ op. option_and_then (read code (pc + 1)) (form_in table op)) (slice_get code pc)

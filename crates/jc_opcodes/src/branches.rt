@@ -1,0 +1,109 @@
+//! Branches: the conditional ones, `goto`, `jsr`, `ret`, `stableswitch`, `slookupswitch`.
+ghost use Rattle.std.specs.Prelude.{IfSome, ◌≡◌, ◌≤◌, length, map};
+ghost use Rattle.std.specs.Option.{option_and_then};
+ghost use Rattle.jc_opcodes.specs.Table.{Form, branches, condition_in, conditions, form_in, in_wide, read};
+
+use crate::instr::{Branch, Comparison, Condition, Instr};
+use crate::operands::{s1_at, s2_at, u1_at, u2_at};
+
+#[inline]
+pub(crate) fn decode_branch(opcode: u8, code: &[u8], at: usize) -> Option<(Instr, usize)>
+    requires { at ≤ length code.now }
+    ensures value { result ≡ option_and_then (read code.now at) (form_in branches opcode) }
+    ensures within { IfSome result (λ p. p.1 ≤ length code.now) }
+{
+    let (branch, next) = match opcode {
+        0x60..=0x6F => (
+            Branch::If(condition_of(opcode)?, s1_at(code, at)?),
+            at + 1,
+        ),
+        0x98..=0xA7 => return decode_wide_if(opcode, code, at),
+        0x70 => (Branch::Goto(s1_at(code, at)?), at + 1),
+        0xA8 => (Branch::Goto(s2_at(code, at)?), at + 2),
+        0x71 => (Branch::Subroutine(s2_at(code, at)?), at + 2),
+        0x72 => (Branch::Back(u1_at(code, at)?), at + 1),
+        0x73 => return decode_table_switch(code, at),
+        0x75 => return decode_lookup_switch(code, at),
+        _ => return None,
+    };
+    Some((Instr::Jump(branch), next))
+}
+
+// The condition of a conditional branch with an offset of one byte.
+#[inline]
+fn condition_of(opcode: u8) -> Option<Condition>
+    ensures { result ≡ condition_in conditions opcode }
+{
+    let condition = match opcode {
+        0x60 => Condition::Zero(Comparison::Equal),
+        0x61 => Condition::Zero(Comparison::NotEqual),
+        0x62 => Condition::Zero(Comparison::Less),
+        0x63 => Condition::Zero(Comparison::GreaterOrEqual),
+        0x64 => Condition::Zero(Comparison::Greater),
+        0x65 => Condition::Zero(Comparison::LessOrEqual),
+        0x66 => Condition::IsNull,
+        0x67 => Condition::NotNull,
+        0x68 => Condition::SameReference,
+        0x69 => Condition::OtherReference,
+        0x6A => Condition::Shorts(Comparison::Equal),
+        0x6B => Condition::Shorts(Comparison::NotEqual),
+        0x6C => Condition::Shorts(Comparison::Less),
+        0x6D => Condition::Shorts(Comparison::GreaterOrEqual),
+        0x6E => Condition::Shorts(Comparison::Greater),
+        0x6F => Condition::Shorts(Comparison::LessOrEqual),
+        _ => return None,
+    };
+    Some(condition)
+}
+
+// The wide forms stand 0x38 above the others, in the same order.
+fn decode_wide_if(opcode: u8, code: &[u8], at: usize) -> Option<(Instr, usize)>
+    requires wide { 56 ≤ opcode }
+    requires at { at ≤ length code.now }
+    ensures value { result ≡ option_and_then (read code.now at) (form_in (map in_wide conditions) opcode) }
+    ensures within { IfSome result (λ p. p.1 ≤ length code.now) }
+{
+    let condition = condition_of(opcode - 0x38)?;
+    let offset = s2_at(code, at)?;
+    Some((Instr::Jump(Branch::If(condition, offset)), at + 2))
+}
+
+fn decode_table_switch(code: &[u8], at: usize) -> Option<(Instr, usize)>
+    requires { at ≤ length code.now }
+    ensures value { result ≡ read code.now at Form.TableSwitch }
+    ensures within { IfSome result (λ p. p.1 ≤ length code.now) }
+{
+    let otherwise = s2_at(code, at)?;
+    let low = s2_at(code, at + 2)?;
+    let high = s2_at(code, at + 4)?;
+    if high < low {
+        return None;
+    }
+    let next = at + 6 + 2 * (usize::from(high.abs_diff(low)) + 1);
+    let branch = Branch::Table {
+        otherwise,
+        low,
+        high,
+    };
+    if next <= code.len() {
+        Some((Instr::Jump(branch), next))
+    } else {
+        None
+    }
+}
+
+fn decode_lookup_switch(code: &[u8], at: usize) -> Option<(Instr, usize)>
+    requires { at ≤ length code.now }
+    ensures value { result ≡ read code.now at Form.LookupSwitch }
+    ensures within { IfSome result (λ p. p.1 ≤ length code.now) }
+{
+    let otherwise = s2_at(code, at)?;
+    let count = u2_at(code, at + 2)?;
+    let next = at + 4 + 4 * usize::from(count);
+    let branch = Branch::Lookup { otherwise, count };
+    if next <= code.len() {
+        Some((Instr::Jump(branch), next))
+    } else {
+        None
+    }
+}

@@ -1,0 +1,23 @@
+//! Constants: `nop`, `aconst_null`, `sconst_m1` to `sconst_5`, `bspush`, `sspush`.
+ghost use Rattle.std.specs.Prelude.{IfSome, ◌≡◌, ◌≤◌, length};
+ghost use Rattle.std.specs.Option.{option_and_then};
+ghost use Rattle.jc_opcodes.specs.Table.{constants, form_in, read};
+
+use crate::instr::{Constant, Instr};
+use crate::operands::{s1_at, s2_at};
+
+#[inline]
+pub(crate) fn decode_constant(opcode: u8, code: &[u8], at: usize) -> Option<(Instr, usize)>
+    requires { at ≤ length code.now }
+    ensures value { result ≡ option_and_then (read code.now at) (form_in constants opcode) }
+    ensures within { IfSome result (λ p. p.1 ≤ length code.now) }
+{
+    match opcode {
+        0x00 => Some((Instr::Nop, at)),
+        0x01 => Some((Instr::Push(Constant::Null), at)),
+        0x02..=0x08 => Some((Instr::Push(Constant::Number(i16::from(opcode) - 3)), at)),
+        0x10 => Some((Instr::Push(Constant::Number(s1_at(code, at)?)), at + 1)),
+        0x11 => Some((Instr::Push(Constant::Number(s2_at(code, at)?)), at + 2)),
+        _ => None,
+    }
+}

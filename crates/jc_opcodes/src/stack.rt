@@ -1,0 +1,53 @@
+//! The stack's order: `pop`, `pop2`, `dup`, `dup2`, `dup_x`, `swap_x`.
+ghost use Rattle.std.specs.Prelude.{IfSome, ◌≡◌, ◌/◌, ◌%◌, ◌≤◌, length};
+ghost use Rattle.std.specs.Option.{option_map, option_and_then};
+ghost use Rattle.jc_opcodes.specs.Table.{duplicate_below, form_in, read, stack, swap};
+
+use crate::instr::{Instr, Stack};
+use crate::operands::u1_at;
+
+#[inline]
+pub(crate) fn decode_stack(opcode: u8, code: &[u8], at: usize) -> Option<(Instr, usize)>
+    requires { at ≤ length code.now }
+    ensures value { result ≡ option_and_then (read code.now at) (form_in stack opcode) }
+    ensures within { IfSome result (λ p. p.1 ≤ length code.now) }
+{
+    let (stack, next) = match opcode {
+        0x3B => (Stack::Pop, at),
+        0x3C => (Stack::PopTwo, at),
+        0x3D => (Stack::Duplicate, at),
+        0x3E => (Stack::DuplicateTwo, at),
+        0x3F => (duplicate_below_of(u1_at(code, at)?)?, at + 1),
+        0x40 => (swap_of(u1_at(code, at)?)?, at + 1),
+        _ => return None,
+    };
+    Some((Instr::Arrange(stack), next))
+}
+
+// The operand of `dup_x`, if it is one: the high four bits are the count, the low four the depth.
+fn duplicate_below_of(halves: u8) -> Option<Stack>
+    ensures { option_map (λ s. Instr.Arrange s) result ≡ duplicate_below (halves / 16) (halves % 16) }
+{
+    let count = halves / 16;
+    let depth = halves % 16;
+    let listed = (1..=4).contains(&count) && (depth == 0 || (count..=count + 4).contains(&depth));
+    if listed {
+        Some(Stack::DuplicateBelow { count, depth })
+    } else {
+        None
+    }
+}
+
+// The operand of `swap_x`, if it is one: the high four bits are the count, the low four the cells below.
+fn swap_of(halves: u8) -> Option<Stack>
+    ensures { option_map (λ s. Instr.Arrange s) result ≡ swap (halves / 16) (halves % 16) }
+{
+    let count = halves / 16;
+    let below = halves % 16;
+    let listed = (1..=2).contains(&count) && (1..=2).contains(&below);
+    if listed {
+        Some(Stack::Swap { count, below })
+    } else {
+        None
+    }
+}
