@@ -1,7 +1,7 @@
 -- The instruction table (virtual machine specification, the instruction set): each opcode with its
 -- mnemonic, the form of its operands and the instruction that they make. An opcode that has no row is
 -- no instruction; the rows of fields, arrays, objects and calls are still to come.
-use Rattle.std.specs.Prelude.{ℕ, ◌+◌, ◌*◌, ◌-◌, ◌/◌, ◌%◌, ◌≡◌, ℤ, pos, negsuc, ◌-ℤ◌, ◌+ℤ◌, ◌==◌, nat_lt, nat_le, int_lt, if◌then◌else◌, List, [], ◌∷◌, ◌++◌, Option, Some, None, slice_get, length, map, Bool, ◌&&◌, ◌||◌, unsigned_abs}
+use Rattle.std.specs.Prelude.{IsTrue, ℕ, ◌+◌, ◌*◌, ◌/◌, ◌%◌, ℤ, pos, negsuc, ◌-ℤ◌, ◌==◌, nat_le, int_lt, if◌then◌else◌, List, [], ◌∷◌, ◌++◌, Option, Some, None, slice_get, length, map, Bool, ◌&&◌, ◌||◌, unsigned_abs}
 use Rattle.std.specs.Option.{option_map, option_and_then}
 use Rattle.jc_opcodes.specs.Operands.{u1, s1, u2, s2}
 use Rattle.jc_opcodes.specs.declared.instr.Instr.{Instr}
@@ -77,16 +77,19 @@ locals =
     (0x96, U1S2 (λ n v. Access (Increment n v))) ∷                -- sinc_w
     []
 
--- the operand of dup_x: m from 1 to 4, and n 0 or from m to m + 4
-abbrev pub duplicate_below : ℕ → ℕ → Option Instr
-duplicate_below m n =
-    if nat_le 1 m && nat_le m 4 && (n == 0 || (nat_le m n && nat_le n (m + 4)))
-    then Some (Arrange (DuplicateBelow m n)) else None
+-- what dup_x takes: m from 1 to 4, and n 0 or from m to m + 4
+abbrev pub can_duplicate_below : ℕ → ℕ → Bool
+can_duplicate_below m n = nat_le 1 m && nat_le m 4 && (n == 0 || (nat_le m n && nat_le n (m + 4)))
 
--- the operand of swap_x: m and n each 1 or 2
+abbrev pub duplicate_below : ℕ → ℕ → Option Instr
+duplicate_below m n = if can_duplicate_below m n then Some (Arrange (DuplicateBelow m n)) else None
+
+-- what swap_x takes: m and n each 1 or 2
+abbrev pub can_swap : ℕ → ℕ → Bool
+can_swap m n = nat_le 1 m && nat_le m 2 && nat_le 1 n && nat_le n 2
+
 abbrev pub swap : ℕ → ℕ → Option Instr
-swap m n =
-    if nat_le 1 m && nat_le m 2 && nat_le 1 n && nat_le n 2 then Some (Arrange (Swap m n)) else None
+swap m n = if can_swap m n then Some (Arrange (Swap m n)) else None
 
 abbrev pub stack : List Row
 stack =
@@ -200,3 +203,9 @@ read code at LookupSwitch =
 -- the instruction whose opcode stands at a place and the place after it; none where it is undecodable or cut
 abbrev pub decoded : List ℕ → ℕ → Option (Instr × ℕ)
 decoded code pc = option_and_then (λ op. option_and_then (read code (pc + 1)) (form_in table op)) (slice_get code pc)
+
+-- an instruction whose operands the table lists: of dup_x and swap_x not all bytes are
+abbrev pub HasListedOperands : Instr → Type 0
+HasListedOperands (Arrange (DuplicateBelow m n)) = IsTrue (can_duplicate_below m n)
+HasListedOperands (Arrange (Swap m n)) = IsTrue (can_swap m n)
+HasListedOperands instr = Unit {0}

@@ -1,7 +1,7 @@
 //! Arithmetic: `sadd` to `sxor`, `sneg`, `s2b`.
 ghost use Rattle.std.specs.Prelude.{IfSome, ◌≡◌, List, ℕ};
 ghost use Rattle.std.specs.Option.{option_and_then};
-ghost use Rattle.jc_opcodes.specs.Table.{arithmetic, form_in, read};
+ghost use Rattle.jc_opcodes.specs.Table.{HasListedOperands, arithmetic, form_in, read};
 
 use crate::instr::{Arithmetic, Binary, Instr};
 
@@ -9,6 +9,7 @@ use crate::instr::{Arithmetic, Binary, Instr};
 pub(crate) fn decode_arithmetic(opcode: u8, at: usize) -> Option<(Instr, usize)>
     ensures value { (code : List ℕ) → result ≡ option_and_then (read code at) (form_in arithmetic opcode) }
     ensures within { IfSome result (λ p. p.1 ≡ at) }
+    ensures listed { IfSome result (λ p. HasListedOperands p.0) }
 {
     let operation = match opcode {
         0x41 => Arithmetic::Two(Binary::Add),

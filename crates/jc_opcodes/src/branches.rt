@@ -1,7 +1,7 @@
 //! Branches: the conditional ones, `goto`, `jsr`, `ret`, `stableswitch`, `slookupswitch`.
 ghost use Rattle.std.specs.Prelude.{IfSome, ◌≡◌, ◌≤◌, length, map};
 ghost use Rattle.std.specs.Option.{option_and_then};
-ghost use Rattle.jc_opcodes.specs.Table.{Form, branches, condition_in, conditions, form_in, in_wide, read};
+ghost use Rattle.jc_opcodes.specs.Table.{HasListedOperands, Form, branches, condition_in, conditions, form_in, in_wide, read};
 
 use crate::instr::{Branch, Comparison, Condition, Instr};
 use crate::operands::{s1_at, s2_at, u1_at, u2_at};
@@ -11,6 +11,7 @@ pub(crate) fn decode_branch(opcode: u8, code: &[u8], at: usize) -> Option<(Instr
     requires { at ≤ length code.now }
     ensures value { result ≡ option_and_then (read code.now at) (form_in branches opcode) }
     ensures within { IfSome result (λ p. p.1 ≤ length code.now) }
+    ensures listed { IfSome result (λ p. HasListedOperands p.0) }
 {
     let (branch, next) = match opcode {
         0x60..=0x6F => (
@@ -62,6 +63,7 @@ fn decode_wide_if(opcode: u8, code: &[u8], at: usize) -> Option<(Instr, usize)>
     requires at { at ≤ length code.now }
     ensures value { result ≡ option_and_then (read code.now at) (form_in (map in_wide conditions) opcode) }
     ensures within { IfSome result (λ p. p.1 ≤ length code.now) }
+    ensures listed { IfSome result (λ p. HasListedOperands p.0) }
 {
     let condition = condition_of(opcode - 0x38)?;
     let offset = s2_at(code, at)?;
@@ -72,6 +74,7 @@ fn decode_table_switch(code: &[u8], at: usize) -> Option<(Instr, usize)>
     requires { at ≤ length code.now }
     ensures value { result ≡ read code.now at Form.TableSwitch }
     ensures within { IfSome result (λ p. p.1 ≤ length code.now) }
+    ensures listed { IfSome result (λ p. HasListedOperands p.0) }
 {
     let otherwise = s2_at(code, at)?;
     let low = s2_at(code, at + 2)?;
@@ -96,6 +99,7 @@ fn decode_lookup_switch(code: &[u8], at: usize) -> Option<(Instr, usize)>
     requires { at ≤ length code.now }
     ensures value { result ≡ read code.now at Form.LookupSwitch }
     ensures within { IfSome result (λ p. p.1 ≤ length code.now) }
+    ensures listed { IfSome result (λ p. HasListedOperands p.0) }
 {
     let otherwise = s2_at(code, at)?;
     let count = u2_at(code, at + 2)?;

@@ -1,7 +1,7 @@
 //! Constants: `nop`, `aconst_null`, `sconst_m1` to `sconst_5`, `bspush`, `sspush`.
 ghost use Rattle.std.specs.Prelude.{IfSome, ◌≡◌, ◌≤◌, length};
 ghost use Rattle.std.specs.Option.{option_and_then};
-ghost use Rattle.jc_opcodes.specs.Table.{constants, form_in, read};
+ghost use Rattle.jc_opcodes.specs.Table.{HasListedOperands, constants, form_in, read};
 
 use crate::instr::{Constant, Instr};
 use crate::operands::{s1_at, s2_at};
@@ -11,6 +11,7 @@ pub(crate) fn decode_constant(opcode: u8, code: &[u8], at: usize) -> Option<(Ins
     requires { at ≤ length code.now }
     ensures value { result ≡ option_and_then (read code.now at) (form_in constants opcode) }
     ensures within { IfSome result (λ p. p.1 ≤ length code.now) }
+    ensures listed { IfSome result (λ p. HasListedOperands p.0) }
 {
     match opcode {
         0x00 => Some((Instr::Nop, at)),

@@ -1,6 +1,6 @@
 //! From the bytes of a method to an instruction.
 ghost use Rattle.std.specs.Prelude.{IfSome, ◌≡◌, ◌<◌, ◌≤◌, length};
-ghost use Rattle.jc_opcodes.specs.Table.{decoded};
+ghost use Rattle.jc_opcodes.specs.Table.{HasListedOperands, decoded};
 
 use crate::arithmetic::decode_arithmetic;
 use crate::branches::decode_branch;
@@ -19,6 +19,7 @@ use crate::stack::decode_stack;
 pub fn decode(code: &[u8], pc: usize) -> Option<(Instr, usize)>
     ensures value { result ≡ decoded code.now pc }
     ensures within { IfSome result (λ p. (pc < length code.now) × (p.1 ≤ length code.now)) }
+    ensures listed { IfSome result (λ p. HasListedOperands p.0) }
 {
     let opcode = u1_at(code, pc)?;
     let at = pc + 1;

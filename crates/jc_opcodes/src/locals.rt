@@ -1,7 +1,7 @@
 //! Locals: `aload`, `sload`, `astore`, `sstore` and their short forms, `sinc`, `sinc_w`.
 ghost use Rattle.std.specs.Prelude.{IfSome, ◌≡◌, ◌≤◌, length};
 ghost use Rattle.std.specs.Option.{option_and_then};
-ghost use Rattle.jc_opcodes.specs.Table.{form_in, locals, read};
+ghost use Rattle.jc_opcodes.specs.Table.{HasListedOperands, form_in, locals, read};
 
 use crate::instr::{Instr, Local};
 use crate::operands::{s1_at, s2_at, u1_at};
@@ -11,6 +11,7 @@ pub(crate) fn decode_local(opcode: u8, code: &[u8], at: usize) -> Option<(Instr,
     requires { at ≤ length code.now }
     ensures value { result ≡ option_and_then (read code.now at) (form_in locals opcode) }
     ensures within { IfSome result (λ p. p.1 ≤ length code.now) }
+    ensures listed { IfSome result (λ p. HasListedOperands p.0) }
 {
     let (local, next) = match opcode {
         0x15 => (Local::LoadReference(u1_at(code, at)?), at + 1),

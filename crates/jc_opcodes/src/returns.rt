@@ -1,7 +1,7 @@
 //! Returns: `sreturn`, `return`.
 ghost use Rattle.std.specs.Prelude.{IfSome, ◌≡◌, List, ℕ};
 ghost use Rattle.std.specs.Option.{option_and_then};
-ghost use Rattle.jc_opcodes.specs.Table.{form_in, read, returns};
+ghost use Rattle.jc_opcodes.specs.Table.{HasListedOperands, form_in, read, returns};
 
 use crate::instr::{Instr, Return};
 
@@ -9,6 +9,7 @@ use crate::instr::{Instr, Return};
 pub(crate) fn decode_return(opcode: u8, at: usize) -> Option<(Instr, usize)>
     ensures value { (code : List ℕ) → result ≡ option_and_then (read code at) (form_in returns opcode) }
     ensures within { IfSome result (λ p. p.1 ≡ at) }
+    ensures listed { IfSome result (λ p. HasListedOperands p.0) }
 {
     match opcode {
         0x78 => Some((Instr::Leave(Return::WithShort), at)),

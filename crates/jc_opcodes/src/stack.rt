@@ -1,7 +1,7 @@
 //! The stack's order: `pop`, `pop2`, `dup`, `dup2`, `dup_x`, `swap_x`.
 ghost use Rattle.std.specs.Prelude.{IfSome, ◌≡◌, ◌/◌, ◌%◌, ◌≤◌, length};
 ghost use Rattle.std.specs.Option.{option_map, option_and_then};
-ghost use Rattle.jc_opcodes.specs.Table.{duplicate_below, form_in, read, stack, swap};
+ghost use Rattle.jc_opcodes.specs.Table.{HasListedOperands, duplicate_below, form_in, read, stack, swap};
 
 use crate::instr::{Instr, Stack};
 use crate::operands::u1_at;
@@ -11,6 +11,7 @@ pub(crate) fn decode_stack(opcode: u8, code: &[u8], at: usize) -> Option<(Instr,
     requires { at ≤ length code.now }
     ensures value { result ≡ option_and_then (read code.now at) (form_in stack opcode) }
     ensures within { IfSome result (λ p. p.1 ≤ length code.now) }
+    ensures listed { IfSome result (λ p. HasListedOperands p.0) }
 {
     let (stack, next) = match opcode {
         0x3B => (Stack::Pop, at),
@@ -26,7 +27,8 @@ pub(crate) fn decode_stack(opcode: u8, code: &[u8], at: usize) -> Option<(Instr,
 
 // The operand of `dup_x`, if it is one: the high four bits are the count, the low four the depth.
 fn duplicate_below_of(halves: u8) -> Option<Stack>
-    ensures { option_map (λ s. Instr.Arrange s) result ≡ duplicate_below (halves / 16) (halves % 16) }
+    ensures value { option_map (λ s. Instr.Arrange s) result ≡ duplicate_below (halves / 16) (halves % 16) }
+    ensures listed { IfSome result (λ s. HasListedOperands (Instr.Arrange s)) }
 {
     let count = halves / 16;
     let depth = halves % 16;
@@ -40,7 +42,8 @@ fn duplicate_below_of(halves: u8) -> Option<Stack>
 
 // The operand of `swap_x`, if it is one: the high four bits are the count, the low four the cells below.
 fn swap_of(halves: u8) -> Option<Stack>
-    ensures { option_map (λ s. Instr.Arrange s) result ≡ swap (halves / 16) (halves % 16) }
+    ensures value { option_map (λ s. Instr.Arrange s) result ≡ swap (halves / 16) (halves % 16) }
+    ensures listed { IfSome result (λ s. HasListedOperands (Instr.Arrange s)) }
 {
     let count = halves / 16;
     let below = halves % 16;
