@@ -1,0 +1,17 @@
+//! Status words.
+/// The two bytes that end a response, as a number, the first one high (ISO/IEC 7816-4).
+#[derive(Clone, Copy, PartialEq, Eq, Debug)]
+pub struct StatusWord(pub u16);
+
+impl StatusWord {
+    /// The command was carried out.
+    pub const NO_ERROR: StatusWord = StatusWord(0x9000);
+    /// The command's length is wrong, or data are missing.
+    pub const WRONG_LENGTH: StatusWord = StatusWord(0x6700);
+    /// The instruction is not known.
+    pub const INS_NOT_SUPPORTED: StatusWord = StatusWord(0x6D00);
+    /// The class is not known.
+    pub const CLA_NOT_SUPPORTED: StatusWord = StatusWord(0x6E00);
+    /// No precise diagnosis: an uncaught exception or a code fault.
+    pub const UNKNOWN: StatusWord = StatusWord(0x6F00);
+}
