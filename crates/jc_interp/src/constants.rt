@@ -8,7 +8,7 @@ use crate::cells::Cells;
 use crate::outcome::Outcome;
 use jc_opcodes::instr::Constant;
 
-#[inline]
+#[inline(always)]
 pub(crate) fn push_constant(constant: Constant, cells: &mut Cells) -> Result<(), Outcome>
     ensures { after_of result cells.new ≡ put constant cells.old }
 {

@@ -9,7 +9,7 @@ use crate::outcome::Outcome;
 use jc_opcodes::instr::Local;
 use jc_opcodes::short;
 
-#[inline]
+#[inline(always)]
 pub(crate) fn access(local: Local, cells: &mut Cells) -> Result<(), Outcome>
     ensures { after_of result cells.new ≡ accessed local cells.old }
 {

@@ -6,6 +6,7 @@ use crate::cells::Cells;
 use crate::outcome::Outcome;
 use jc_opcodes::instr::Return;
 
+#[inline(always)]
 pub(crate) fn leave(how: Return, cells: &mut Cells) -> Outcome
     ensures { result ≡ left how cells.old }
 {

@@ -8,7 +8,7 @@ use crate::cells::Cells;
 use crate::outcome::Outcome;
 use jc_opcodes::instr::{Instr, Stack};
 
-#[inline]
+#[inline(always)]
 pub(crate) fn arrange(stack: Stack, cells: &mut Cells) -> Result<(), Outcome>
     requires { HasListedOperands (Instr.Arrange stack) }
     ensures { after_of result cells.new ≡ arranged stack cells.old }

@@ -38,43 +38,43 @@ Row = ℕ × Form
 
 abbrev pub constants : List Row
 constants =
-    (0x00, Bare Nop) ∷                                            -- nop
-    (0x01, Bare (Push Null)) ∷                                    -- aconst_null
-    (0x02, Bare (Push (Number (negsuc 0)))) ∷                     -- sconst_m1
-    (0x03, Bare (Push (Number (pos 0)))) ∷                        -- sconst_0
-    (0x04, Bare (Push (Number (pos 1)))) ∷                        -- sconst_1
-    (0x05, Bare (Push (Number (pos 2)))) ∷                        -- sconst_2
-    (0x06, Bare (Push (Number (pos 3)))) ∷                        -- sconst_3
-    (0x07, Bare (Push (Number (pos 4)))) ∷                        -- sconst_4
-    (0x08, Bare (Push (Number (pos 5)))) ∷                        -- sconst_5
-    (0x10, S1 (λ v. Push (Number v))) ∷                           -- bspush
-    (0x11, S2 (λ v. Push (Number v))) ∷                           -- sspush
+    (0x00, Bare Nop) ∷  -- nop
+    (0x01, Bare (Push Null)) ∷  -- aconst_null
+    (0x02, Bare (Push (Number (negsuc 0)))) ∷  -- sconst_m1
+    (0x03, Bare (Push (Number (pos 0)))) ∷  -- sconst_0
+    (0x04, Bare (Push (Number (pos 1)))) ∷  -- sconst_1
+    (0x05, Bare (Push (Number (pos 2)))) ∷  -- sconst_2
+    (0x06, Bare (Push (Number (pos 3)))) ∷  -- sconst_3
+    (0x07, Bare (Push (Number (pos 4)))) ∷  -- sconst_4
+    (0x08, Bare (Push (Number (pos 5)))) ∷  -- sconst_5
+    (0x10, S1 (λ v. Push (Number v))) ∷  -- bspush
+    (0x11, S2 (λ v. Push (Number v))) ∷  -- sspush
     []
 
 abbrev pub locals : List Row
 locals =
-    (0x15, U1 (λ n. Access (LoadReference n))) ∷                  -- aload
-    (0x16, U1 (λ n. Access (LoadShort n))) ∷                      -- sload
-    (0x18, Bare (Access (LoadReference 0))) ∷                     -- aload_0
-    (0x19, Bare (Access (LoadReference 1))) ∷                     -- aload_1
-    (0x1A, Bare (Access (LoadReference 2))) ∷                     -- aload_2
-    (0x1B, Bare (Access (LoadReference 3))) ∷                     -- aload_3
-    (0x1C, Bare (Access (LoadShort 0))) ∷                         -- sload_0
-    (0x1D, Bare (Access (LoadShort 1))) ∷                         -- sload_1
-    (0x1E, Bare (Access (LoadShort 2))) ∷                         -- sload_2
-    (0x1F, Bare (Access (LoadShort 3))) ∷                         -- sload_3
-    (0x28, U1 (λ n. Access (StoreReference n))) ∷                 -- astore
-    (0x29, U1 (λ n. Access (StoreShort n))) ∷                     -- sstore
-    (0x2B, Bare (Access (StoreReference 0))) ∷                    -- astore_0
-    (0x2C, Bare (Access (StoreReference 1))) ∷                    -- astore_1
-    (0x2D, Bare (Access (StoreReference 2))) ∷                    -- astore_2
-    (0x2E, Bare (Access (StoreReference 3))) ∷                    -- astore_3
-    (0x2F, Bare (Access (StoreShort 0))) ∷                        -- sstore_0
-    (0x30, Bare (Access (StoreShort 1))) ∷                        -- sstore_1
-    (0x31, Bare (Access (StoreShort 2))) ∷                        -- sstore_2
-    (0x32, Bare (Access (StoreShort 3))) ∷                        -- sstore_3
-    (0x59, U1S1 (λ n v. Access (Increment n v))) ∷                -- sinc
-    (0x96, U1S2 (λ n v. Access (Increment n v))) ∷                -- sinc_w
+    (0x15, U1 (λ n. Access (LoadReference n))) ∷  -- aload
+    (0x16, U1 (λ n. Access (LoadShort n))) ∷  -- sload
+    (0x18, Bare (Access (LoadReference 0))) ∷  -- aload_0
+    (0x19, Bare (Access (LoadReference 1))) ∷  -- aload_1
+    (0x1A, Bare (Access (LoadReference 2))) ∷  -- aload_2
+    (0x1B, Bare (Access (LoadReference 3))) ∷  -- aload_3
+    (0x1C, Bare (Access (LoadShort 0))) ∷  -- sload_0
+    (0x1D, Bare (Access (LoadShort 1))) ∷  -- sload_1
+    (0x1E, Bare (Access (LoadShort 2))) ∷  -- sload_2
+    (0x1F, Bare (Access (LoadShort 3))) ∷  -- sload_3
+    (0x28, U1 (λ n. Access (StoreReference n))) ∷  -- astore
+    (0x29, U1 (λ n. Access (StoreShort n))) ∷  -- sstore
+    (0x2B, Bare (Access (StoreReference 0))) ∷  -- astore_0
+    (0x2C, Bare (Access (StoreReference 1))) ∷  -- astore_1
+    (0x2D, Bare (Access (StoreReference 2))) ∷  -- astore_2
+    (0x2E, Bare (Access (StoreReference 3))) ∷  -- astore_3
+    (0x2F, Bare (Access (StoreShort 0))) ∷  -- sstore_0
+    (0x30, Bare (Access (StoreShort 1))) ∷  -- sstore_1
+    (0x31, Bare (Access (StoreShort 2))) ∷  -- sstore_2
+    (0x32, Bare (Access (StoreShort 3))) ∷  -- sstore_3
+    (0x59, U1S1 (λ n v. Access (Increment n v))) ∷  -- sinc
+    (0x96, U1S2 (λ n v. Access (Increment n v))) ∷  -- sinc_w
     []
 
 -- what dup_x takes: m from 1 to 4, and n 0 or from m to m + 4
@@ -93,50 +93,50 @@ swap m n = if can_swap m n then Some (Arrange (Swap m n)) else None
 
 abbrev pub stack : List Row
 stack =
-    (0x3B, Bare (Arrange Pop)) ∷                                  -- pop
-    (0x3C, Bare (Arrange PopTwo)) ∷                               -- pop2
-    (0x3D, Bare (Arrange Duplicate)) ∷                            -- dup
-    (0x3E, Bare (Arrange DuplicateTwo)) ∷                         -- dup2
-    (0x3F, Halves duplicate_below) ∷                              -- dup_x
-    (0x40, Halves swap) ∷                                         -- swap_x
+    (0x3B, Bare (Arrange Pop)) ∷  -- pop
+    (0x3C, Bare (Arrange PopTwo)) ∷  -- pop2
+    (0x3D, Bare (Arrange Duplicate)) ∷  -- dup
+    (0x3E, Bare (Arrange DuplicateTwo)) ∷  -- dup2
+    (0x3F, Halves duplicate_below) ∷  -- dup_x
+    (0x40, Halves swap) ∷  -- swap_x
     []
 
 abbrev pub arithmetic : List Row
 arithmetic =
-    (0x41, Bare (Compute (Two Add))) ∷                            -- sadd
-    (0x43, Bare (Compute (Two Subtract))) ∷                       -- ssub
-    (0x45, Bare (Compute (Two Multiply))) ∷                       -- smul
-    (0x47, Bare (Compute (Two Divide))) ∷                         -- sdiv
-    (0x49, Bare (Compute (Two Remainder))) ∷                      -- srem
-    (0x4B, Bare (Compute Negate)) ∷                               -- sneg
-    (0x4D, Bare (Compute (Two ShiftLeft))) ∷                      -- sshl
-    (0x4F, Bare (Compute (Two ShiftRight))) ∷                     -- sshr
-    (0x51, Bare (Compute (Two ShiftRightUnsigned))) ∷             -- sushr
-    (0x53, Bare (Compute (Two And))) ∷                            -- sand
-    (0x55, Bare (Compute (Two Or))) ∷                             -- sor
-    (0x57, Bare (Compute (Two Xor))) ∷                            -- sxor
-    (0x5B, Bare (Compute ToByte)) ∷                               -- s2b
+    (0x41, Bare (Compute (Two Add))) ∷  -- sadd
+    (0x43, Bare (Compute (Two Subtract))) ∷  -- ssub
+    (0x45, Bare (Compute (Two Multiply))) ∷  -- smul
+    (0x47, Bare (Compute (Two Divide))) ∷  -- sdiv
+    (0x49, Bare (Compute (Two Remainder))) ∷  -- srem
+    (0x4B, Bare (Compute Negate)) ∷  -- sneg
+    (0x4D, Bare (Compute (Two ShiftLeft))) ∷  -- sshl
+    (0x4F, Bare (Compute (Two ShiftRight))) ∷  -- sshr
+    (0x51, Bare (Compute (Two ShiftRightUnsigned))) ∷  -- sushr
+    (0x53, Bare (Compute (Two And))) ∷  -- sand
+    (0x55, Bare (Compute (Two Or))) ∷  -- sor
+    (0x57, Bare (Compute (Two Xor))) ∷  -- sxor
+    (0x5B, Bare (Compute ToByte)) ∷  -- s2b
     []
 
 -- the conditional branches with an offset of one byte
 abbrev pub conditions : List (ℕ × Condition)
 conditions =
-    (0x60, Zero Equal) ∷                                          -- ifeq
-    (0x61, Zero NotEqual) ∷                                       -- ifne
-    (0x62, Zero Less) ∷                                           -- iflt
-    (0x63, Zero GreaterOrEqual) ∷                                 -- ifge
-    (0x64, Zero Greater) ∷                                        -- ifgt
-    (0x65, Zero LessOrEqual) ∷                                    -- ifle
-    (0x66, IsNull) ∷                                              -- ifnull
-    (0x67, NotNull) ∷                                             -- ifnonnull
-    (0x68, SameReference) ∷                                       -- if_acmpeq
-    (0x69, OtherReference) ∷                                      -- if_acmpne
-    (0x6A, Shorts Equal) ∷                                        -- if_scmpeq
-    (0x6B, Shorts NotEqual) ∷                                     -- if_scmpne
-    (0x6C, Shorts Less) ∷                                         -- if_scmplt
-    (0x6D, Shorts GreaterOrEqual) ∷                               -- if_scmpge
-    (0x6E, Shorts Greater) ∷                                      -- if_scmpgt
-    (0x6F, Shorts LessOrEqual) ∷                                  -- if_scmple
+    (0x60, Zero Equal) ∷  -- ifeq
+    (0x61, Zero NotEqual) ∷  -- ifne
+    (0x62, Zero Less) ∷  -- iflt
+    (0x63, Zero GreaterOrEqual) ∷  -- ifge
+    (0x64, Zero Greater) ∷  -- ifgt
+    (0x65, Zero LessOrEqual) ∷  -- ifle
+    (0x66, IsNull) ∷  -- ifnull
+    (0x67, NotNull) ∷  -- ifnonnull
+    (0x68, SameReference) ∷  -- if_acmpeq
+    (0x69, OtherReference) ∷  -- if_acmpne
+    (0x6A, Shorts Equal) ∷  -- if_scmpeq
+    (0x6B, Shorts NotEqual) ∷  -- if_scmpne
+    (0x6C, Shorts Less) ∷  -- if_scmplt
+    (0x6D, Shorts GreaterOrEqual) ∷  -- if_scmpge
+    (0x6E, Shorts Greater) ∷  -- if_scmpgt
+    (0x6F, Shorts LessOrEqual) ∷  -- if_scmple
     []
 
 -- the condition that belongs to an opcode, if it has one
@@ -155,18 +155,18 @@ in_wide (op, condition) = (op + 0x38, S2 (λ offset. Jump (If condition offset))
 abbrev pub branches : List Row
 branches =
     map in_short conditions ++ (map in_wide conditions ++ (
-    (0x70, S1 (λ offset. Jump (Goto offset))) ∷                   -- goto
-    (0xA8, S2 (λ offset. Jump (Goto offset))) ∷                   -- goto_w
-    (0x71, S2 (λ offset. Jump (Subroutine offset))) ∷             -- jsr
-    (0x72, U1 (λ n. Jump (Back n))) ∷                             -- ret
-    (0x73, TableSwitch) ∷                                         -- stableswitch
-    (0x75, LookupSwitch) ∷                                        -- slookupswitch
+    (0x70, S1 (λ offset. Jump (Goto offset))) ∷  -- goto
+    (0xA8, S2 (λ offset. Jump (Goto offset))) ∷  -- goto_w
+    (0x71, S2 (λ offset. Jump (Subroutine offset))) ∷  -- jsr
+    (0x72, U1 (λ n. Jump (Back n))) ∷  -- ret
+    (0x73, TableSwitch) ∷  -- stableswitch
+    (0x75, LookupSwitch) ∷  -- slookupswitch
     []))
 
 abbrev pub returns : List Row
 returns =
-    (0x78, Bare (Leave WithShort)) ∷                              -- sreturn
-    (0x7A, Bare (Leave WithNothing)) ∷                            -- return
+    (0x78, Bare (Leave WithShort)) ∷  -- sreturn
+    (0x7A, Bare (Leave WithNothing)) ∷  -- return
     []
 
 abbrev pub table : List Row

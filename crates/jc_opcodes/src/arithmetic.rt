@@ -5,7 +5,7 @@ ghost use Rattle.jc_opcodes.specs.Table.{HasListedOperands, arithmetic, form_in,
 
 use crate::instr::{Arithmetic, Binary, Instr};
 
-#[inline]
+#[inline(always)]
 pub(crate) fn decode_arithmetic(opcode: u8, at: usize) -> Option<(Instr, usize)>
     ensures value { (code : List ℕ) → result ≡ option_and_then (read code at) (form_in arithmetic opcode) }
     ensures within { IfSome result (λ p. p.1 ≡ at) }

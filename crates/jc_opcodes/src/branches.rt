@@ -6,7 +6,7 @@ ghost use Rattle.jc_opcodes.specs.Table.{HasListedOperands, Form, branches, cond
 use crate::instr::{Branch, Comparison, Condition, Instr};
 use crate::operands::{s1_at, s2_at, u1_at, u2_at};
 
-#[inline]
+#[inline(always)]
 pub(crate) fn decode_branch(opcode: u8, code: &[u8], at: usize) -> Option<(Instr, usize)>
     requires { at ≤ length code.now }
     ensures value { result ≡ option_and_then (read code.now at) (form_in branches opcode) }
@@ -14,10 +14,7 @@ pub(crate) fn decode_branch(opcode: u8, code: &[u8], at: usize) -> Option<(Instr
     ensures listed { IfSome result (λ p. HasListedOperands p.0) }
 {
     let (branch, next) = match opcode {
-        0x60..=0x6F => (
-            Branch::If(condition_of(opcode)?, s1_at(code, at)?),
-            at + 1,
-        ),
+        0x60..=0x6F => (Branch::If(condition_of(opcode)?, s1_at(code, at)?), at + 1),
         0x98..=0xA7 => return decode_wide_if(opcode, code, at),
         0x70 => (Branch::Goto(s1_at(code, at)?), at + 1),
         0xA8 => (Branch::Goto(s2_at(code, at)?), at + 2),
@@ -31,7 +28,8 @@ pub(crate) fn decode_branch(opcode: u8, code: &[u8], at: usize) -> Option<(Instr
 }
 
 // The condition of a conditional branch with an offset of one byte.
-#[inline]
+#[inline(always)]
+#[inline(always)]
 fn condition_of(opcode: u8) -> Option<Condition>
     ensures { result ≡ condition_in conditions opcode }
 {
@@ -58,6 +56,7 @@ fn condition_of(opcode: u8) -> Option<Condition>
 }
 
 // The wide forms stand 0x38 above the others, in the same order.
+#[inline(always)]
 fn decode_wide_if(opcode: u8, code: &[u8], at: usize) -> Option<(Instr, usize)>
     requires wide { 56 ≤ opcode }
     requires at { at ≤ length code.now }
@@ -70,6 +69,7 @@ fn decode_wide_if(opcode: u8, code: &[u8], at: usize) -> Option<(Instr, usize)>
     Some((Instr::Jump(Branch::If(condition, offset)), at + 2))
 }
 
+#[inline(always)]
 fn decode_table_switch(code: &[u8], at: usize) -> Option<(Instr, usize)>
     requires { at ≤ length code.now }
     ensures value { result ≡ read code.now at Form.TableSwitch }
@@ -95,6 +95,7 @@ fn decode_table_switch(code: &[u8], at: usize) -> Option<(Instr, usize)>
     }
 }
 
+#[inline(always)]
 fn decode_lookup_switch(code: &[u8], at: usize) -> Option<(Instr, usize)>
     requires { at ≤ length code.now }
     ensures value { result ≡ read code.now at Form.LookupSwitch }

@@ -6,7 +6,7 @@ ghost use Rattle.jc_opcodes.specs.Table.{HasListedOperands, constants, form_in, 
 use crate::instr::{Constant, Instr};
 use crate::operands::{s1_at, s2_at};
 
-#[inline]
+#[inline(always)]
 pub(crate) fn decode_constant(opcode: u8, code: &[u8], at: usize) -> Option<(Instr, usize)>
     requires { at ≤ length code.now }
     ensures value { result ≡ option_and_then (read code.now at) (form_in constants opcode) }

@@ -15,7 +15,7 @@ use crate::stack::decode_stack;
 ///
 /// `None` where the opcode or an operand is not listed in the instruction table (opcodes of the int
 /// forms are not), or where the code ends before the instruction does.
-#[inline]
+#[inline(always)]
 pub fn decode(code: &[u8], pc: usize) -> Option<(Instr, usize)>
     ensures value { result ≡ decoded code.now pc }
     ensures within { IfSome result (λ p. (pc < length code.now) × (p.1 ≤ length code.now)) }

@@ -6,7 +6,7 @@ ghost use Rattle.jc_opcodes.specs.Table.{HasListedOperands, form_in, locals, rea
 use crate::instr::{Instr, Local};
 use crate::operands::{s1_at, s2_at, u1_at};
 
-#[inline]
+#[inline(always)]
 pub(crate) fn decode_local(opcode: u8, code: &[u8], at: usize) -> Option<(Instr, usize)>
     requires { at ≤ length code.now }
     ensures value { result ≡ option_and_then (read code.now at) (form_in locals opcode) }

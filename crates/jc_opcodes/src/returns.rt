@@ -5,7 +5,7 @@ ghost use Rattle.jc_opcodes.specs.Table.{HasListedOperands, form_in, read, retur
 
 use crate::instr::{Instr, Return};
 
-#[inline]
+#[inline(always)]
 pub(crate) fn decode_return(opcode: u8, at: usize) -> Option<(Instr, usize)>
     ensures value { (code : List ℕ) → result ≡ option_and_then (read code at) (form_in returns opcode) }
     ensures within { IfSome result (λ p. p.1 ≡ at) }

@@ -6,7 +6,7 @@ ghost use Rattle.jc_opcodes.specs.Table.{HasListedOperands, duplicate_below, for
 use crate::instr::{Instr, Stack};
 use crate::operands::u1_at;
 
-#[inline]
+#[inline(always)]
 pub(crate) fn decode_stack(opcode: u8, code: &[u8], at: usize) -> Option<(Instr, usize)>
     requires { at ≤ length code.now }
     ensures value { result ≡ option_and_then (read code.now at) (form_in stack opcode) }
@@ -26,6 +26,7 @@ pub(crate) fn decode_stack(opcode: u8, code: &[u8], at: usize) -> Option<(Instr,
 }
 
 // The operand of `dup_x`, if it is one: the high four bits are the count, the low four the depth.
+#[inline(always)]
 fn duplicate_below_of(halves: u8) -> Option<Stack>
     ensures value { option_map (λ s. Instr.Arrange s) result ≡ duplicate_below (halves / 16) (halves % 16) }
     ensures listed { IfSome result (λ s. HasListedOperands (Instr.Arrange s)) }
@@ -41,6 +42,7 @@ fn duplicate_below_of(halves: u8) -> Option<Stack>
 }
 
 // The operand of `swap_x`, if it is one: the high four bits are the count, the low four the cells below.
+#[inline(always)]
 fn swap_of(halves: u8) -> Option<Stack>
     ensures value { option_map (λ s. Instr.Arrange s) result ≡ swap (halves / 16) (halves % 16) }
     ensures listed { IfSome result (λ s. HasListedOperands (Instr.Arrange s)) }
