@@ -1,0 +1,44 @@
+-- How the program ends: its exit status and its last line.
+use Rattle.std.specs.Prelude.{ℕ, ◌≡◌, ◌⊎◌, List, [], ◌++◌, codes, decimal, Result, Ok, Err}
+use Rattle.std.specs.Borrow.{Bor}
+use Rattle.jcard_script.specs.Texts.{IsCutOf}
+use Rattle.jcard_script.specs.declared.script.ScriptFault.{ScriptFault}
+use Rattle.jcard_script.specs.declared.script.ScriptFault.TheVariants.{ReadFailed, WriteFailed as CannotWrite, BadLine, TooLong}
+use Rattle.jcard.specs.declared.fault.Fault.{Fault}
+use Rattle.jcard.specs.declared.fault.Fault.TheVariants.{BadCommandLine, NoMemory, CannotRead, BadCommand, ScriptTooLong, WriteFailed}
+
+-- the exit status
+abbrev pub status_of : Result Unit Fault → ℕ
+status_of (Ok done) = 0
+status_of (Err BadCommandLine) = 2
+status_of (Err NoMemory) = 1
+status_of (Err (CannotRead path)) = 1
+status_of (Err (BadCommand n)) = 1
+status_of (Err ScriptTooLong) = 1
+status_of (Err WriteFailed) = 1
+
+-- the line that tells a fault; none tells a failed write
+abbrev pub line_of : Fault → List ℕ
+line_of BadCommandLine = codes "jcard: bad command line\n"
+line_of NoMemory = codes "jcard: no memory\n"
+line_of (CannotRead path) = codes "jcard: cannot read " ++ path.now ++ codes "\n"
+line_of (BadCommand n) = codes "jcard: line " ++ decimal n ++ codes ": bad command\n"
+line_of ScriptTooLong = codes "jcard: script too long\n"
+line_of WriteFailed = []
+
+-- the line is written, or a beginning of it where a write fails
+abbrev pub IsWritten : List ℕ → List ℕ → Type 0
+IsWritten line text = (text ≡ line) ⊎ IsCutOf line text
+
+-- the last line after the program ended so
+abbrev pub IsLastLine : Result Unit Fault → List ℕ → Type 0
+IsLastLine (Ok done) text = text ≡ []
+IsLastLine (Err fault) text = IsWritten (line_of fault) text
+
+-- how the carrying out of the script in a file of this name ended
+abbrev pub IsOutcomeOf : List ℕ → Result Unit ScriptFault → Result Unit Fault → Type 0
+IsOutcomeOf path (Ok done) result = result ≡ Ok done
+IsOutcomeOf path (Err (BadLine n)) result = result ≡ Err (BadCommand n)
+IsOutcomeOf path (Err TooLong) result = result ≡ Err ScriptTooLong
+IsOutcomeOf path (Err CannotWrite) result = result ≡ Err WriteFailed
+IsOutcomeOf path (Err ReadFailed) result = (name : Bor (List ℕ)) × (result ≡ Err (CannotRead name)) × (name.now ≡ path)

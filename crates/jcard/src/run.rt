@@ -1,0 +1,65 @@
+//! What the program does.
+ghost use Rattle.std.specs.Prelude.{◌≡◌, ◌++◌, ℕ, List, Bool, Result};
+ghost use Rattle.std.specs.Bool.{OnTrue};
+ghost use Rattle.std.specs.Io.KnownBytes.{Appends, Consumes, IsAtEnd};
+ghost use Rattle.jcard_script.specs.Script.{Ends};
+ghost use Rattle.jcard_script.specs.declared.script.ScriptFault.{ScriptFault};
+ghost use Rattle.jcard.specs.Faults.{status_of, IsLastLine, IsOutcomeOf};
+ghost use Rattle.jcard.specs.declared.fault.Fault.{Fault};
+
+use crate::arguments::{Action, parse};
+use crate::fault::{Fault, tell};
+use jcard_script::script::{ScriptFault, run_script};
+use jcard_script::std_text::StdText;
+use jcard_script::streams::{TextIn, TextOut};
+use std::fs;
+use std::rt::Files;
+
+/// Does what the words ask for, the program's name among them as the first, and answers the exit
+/// status. What is written goes to `out`: the answers, and after a fault one last line.
+pub fn run_words<R: Files + AllocGlobal, W: TextOut>(rt: &R, words: &[String], out: &mut W) -> u8
+    ensures { (text last : List ℕ) × (ended : Result Unit Fault)
+        × Appends (W.contents out.old) (W.contents out.new) (text ++ last)
+        × IsLastLine ended last × (result ≡ status_of ended) }
+{
+    let ended = perform(rt, words, out);
+    tell(ended, out)
+}
+
+fn perform<'a, R: Files + AllocGlobal, W: TextOut>(
+    rt: &R,
+    words: &'a [String],
+    out: &mut W,
+) -> Result<(), Fault<'a>>
+    ensures { (text : List ℕ) × Appends (W.contents out.old) (W.contents out.new) text }
+{
+    match parse(rt.alloc(), words)? {
+        Action::Run { image: _, script } => {
+            let Ok(file) = fs::open(rt, script) else {
+                return Err(Fault::CannotRead(script));
+            };
+            carry_out(script, &mut StdText::new(file), out)
+        }
+    }
+}
+
+// Carries out the script that comes from the file of this name.
+fn carry_out<'a, I: TextIn, W: TextOut>(
+    path: &'a str,
+    script: &mut I,
+    out: &mut W,
+) -> Result<(), Fault<'a>>
+    ensures { (bytes text : List ℕ) × (at_end : Bool) × (ended : Result Unit ScriptFault)
+        × Consumes (I.remaining script.old) (I.remaining script.new) bytes
+        × Appends (W.contents out.old) (W.contents out.new) text
+        × OnTrue at_end (IsAtEnd (I.remaining script.new))
+        × Ends ended at_end bytes text × IsOutcomeOf path.now ended result }
+{
+    match run_script(script, out) {
+        Ok(()) => Ok(()),
+        Err(ScriptFault::ReadFailed) => Err(Fault::CannotRead(path)),
+        Err(ScriptFault::WriteFailed) => Err(Fault::WriteFailed),
+        Err(ScriptFault::BadLine(n)) => Err(Fault::BadCommand(n)),
+        Err(ScriptFault::TooLong) => Err(Fault::ScriptTooLong),
+    }
+}

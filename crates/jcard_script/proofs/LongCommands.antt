@@ -1,0 +1,48 @@
+-- Commands that are longer than any command.
+use Rattle.std.proofs.Common.{◌≡◌, ℕ, ◌+◌, ◌<◌, ◌≤◌, ◌==◌, nat_lt, nat_le, Bool, true, false, if◌then◌else◌, List, length, take, drop, slice_index, Option, Some, None, refl, sym, ◌∙◌, ap, subst, arith, inl, inr, length-take}
+use Rattle.std.specs.Prelude.{MatchOption}
+use Rattle.std.proofs.lemmas.Bool.{cases_lt, ne_eqb}
+use Rattle.std.proofs.lemmas.Bool.Decides.{nat_tests}
+use Rattle.std.proofs.lemmas.List.{take_all}
+use Rattle.std.proofs.lemmas.Grind.{common_steps}
+use Rattle.hex.specs.Hex.{IsBytes}
+use Rattle.jc_card.specs.Apdu.{Apdu, apdu_of, data_of}
+use Rattle.jc_card.specs.StatusWord.{status_bytes, wrong_length}
+use Rattle.jc_card.specs.Answers.{Answers, AnswersApdu}
+
+-- a command of more than 261 bytes has no data
+data_none : (c : List ℕ) → 261 < length c → slice_index c 4 < 256 → data_of c ≡ None
+data_none c h k =
+    let first : nat_lt (length c) 4 ≡ false = grind (arith, nat_tests) in
+    let second : nat_le (length c) 5 ≡ false = grind (arith, nat_tests) in
+    let five : (length c == 5 + slice_index c 4) ≡ false = ne_eqb (length c) (5 + slice_index c 4) (λ e. omega arith) in
+    let six : (length c == 6 + slice_index c 4) ≡ false = ne_eqb (length c) (6 + slice_index c 4) (λ e. omega arith) in
+    none_if (nat_lt (length c) 4) (nat_le (length c) 5) (slice_index c 4 == 0) (length c == 5 + slice_index c 4) (length c == 6 + slice_index c 4) _ _ _ first second five six
+  where
+    none_if : (a b z d e : Bool) (x y w : Option (List ℕ)) → a ≡ false → b ≡ false → d ≡ false → e ≡ false
+        → (if a then None else if b then x else if z then None else if d then y else if e then w else None) ≡ None
+    none_if a b true d e x y w ha hb hd he = rw (ha, hb) refl
+    none_if a b false d e x y w ha hb hd he = rw (ha, hb, hd, he) refl
+
+-- so it is no command
+apdu_none : (c : List ℕ) → 261 < length c → slice_index c 4 < 256 → apdu_of c ≡ None
+apdu_none c h k = rw (data_none c h k) refl
+
+-- what answers the first 262 bytes answers the whole command
+pub answers_whole : (whole given answer : List ℕ) → IsBytes whole → given ≡ take 262 whole → Answers given answer → Answers whole answer
+answers_whole whole given answer bytes e h =
+    elim (cases_lt (length whole) 263) [
+      | inl short ↦ let same : given ≡ whole = e ∙ take_all 262 whole (omega arith) in subst (λ c. Answers c answer) same h
+      | inr long ↦
+          let count : length given ≡ 262 = ap length e ∙ length_first whole long in
+          let fourth : slice_index given 4 ≡ slice_index whole 4 = ap (λ l. slice_index l 4) e ∙ first_four whole in
+          let none = apdu_none given (omega arith) (rw fourth (bytes 4)) in
+          let refused = subst (λ o. MatchOption o (answer ≡ status_bytes wrong_length) (λ command. AnswersApdu command answer)) none h in
+          subst (λ o. MatchOption o (answer ≡ status_bytes wrong_length) (λ command. AnswersApdu command answer)) (sym (apdu_none whole (omega arith) (bytes 4))) refused
+    ]
+  where
+    length_first : (whole : List ℕ) → 263 ≤ length whole → length (take 262 whole) ≡ 262
+    length_first whole h = omega (arith, length-take 262 whole)
+
+    first_four : (whole : List ℕ) → slice_index (take 262 whole) 4 ≡ slice_index whole 4
+    first_four whole = grind (arith, common_steps)

@@ -1,0 +1,18 @@
+use Rattle.std.proofs.Common.{rules, ◌∙◌, sym}
+use Rattle.jcard_script.proofs.Decoding.{bad_digits, good_digits, some_digits}
+use Rattle.jcard_script.proofs.line.Content.asked.Goals as goal
+
+pub returns-in-Nonsense : goal.returns-in-Nonsense
+returns-in-Nonsense c = λ line h. let k = rw c.in-Nonsense.is at h in bad_digits line k.0 k.1
+
+pub returns-in-Some : goal.returns-in-Some
+returns-in-Some c = λ line h.
+    let k = rw c.in-Digits.is at h in
+    good_digits line c.as_slice.result.now c.in-Some.command.items k.0 k.1.0 (sym k.1.2 ∙ c.if-self.false) (c.as_slice.ensures.value ∙ k.1.1) c.in-Some.ensures
+
+pub returns-in-None : goal.returns-in-None
+returns-in-None c = λ line h.
+    let k = rw c.in-Digits.is at h in
+    let some = some_digits line c.as_slice.result.now k.1.0 (sym k.1.2 ∙ c.if-self.false) (c.as_slice.ensures.value ∙ k.1.1) in
+    let refused = rw some.1 at c.in-None.ensures in
+    cc refused

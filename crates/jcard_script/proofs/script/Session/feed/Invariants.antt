@@ -1,0 +1,13 @@
+use Rattle.std.proofs.Common.{◌≡◌, ◌+◌, ◌≤◌, ℕ, List, ◌++◌, take}
+use Rattle.std.specs.Io.KnownBytes.{Appends}
+use Rattle.jcard_script.specs.Session.{StandsAt}
+use Rattle.jcard_script.proofs.script.Session.feed.Given as goal
+
+abbrev pub invariant-loop-byte : goal.invariant-loop-byte
+invariant-loop-byte g l = record {
+  number : l.self.number ≤ l.fn.self.number + l.byte-index;
+  failures : g.W.TextOut.failures l.writer ≡ g.W.TextOut.failures l.fn.writer;
+  goes : (script text : List ℕ) → StandsAt l.fn.self script text
+      → (more : List ℕ) × Appends (g.W.TextOut.contents l.fn.writer) (g.W.TextOut.contents l.writer) more
+      × StandsAt l.self (script ++ take l.byte-index l.piece) (text ++ more);
+}

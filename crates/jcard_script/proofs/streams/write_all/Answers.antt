@@ -1,0 +1,13 @@
+use Rattle.std.proofs.Common.{rules, arith, ◌∙◌, ap, length-drop}
+use Rattle.jcard_script.proofs.Known.{one_piece, whole_rest}
+use Rattle.jcard_script.proofs.streams.write_all.Goals as goal
+
+pub loop-done-preserved : goal.loop-done-preserved
+loop-done-preserved g c =
+    let rest = rw (whole_rest c.loop-done.done c.args.bytes.now) at c.in_ok-done.ensures.bytes in
+    let near = rw (whole_rest c.loop-done.done c.args.bytes.now, length-drop c.loop-done.done c.args.bytes.now) at c.in_ok-done.ensures.within in
+    record {
+      inside = omega (arith, near);
+      written = one_piece c.loop-done.done c.in_ok-done.field-0 c.args.bytes.now _ _ _ c.loop-done.invariant.written rest;
+      failures = search rules;
+    }

@@ -1,0 +1,5 @@
+pub mod Failures
+pub mod Line
+pub mod Script
+pub mod Session
+pub mod Texts

@@ -1,0 +1,36 @@
+-- What is kept of a line while it comes, byte by byte.
+use Rattle.std.specs.Prelude.{ℕ, ◌≡◌, ◌<◌, ◌==◌, ◌-◌, ◌%◌, Bool, true, false, List, [], ◌∷◌, length, take, slice_index}
+use Rattle.std.specs.List.{list_all}
+use Rattle.std.specs.Str.Lines.{strip_carriage_return}
+use Rattle.hex.specs.Hex.{is_hex_digit}
+use Rattle.jcard_script.specs.Script.{Form, Skipped, Command, Bad, form_of, spaceless}
+use Rattle.jcard_script.specs.declared.line.Kind.{Kind}
+use Rattle.jcard_script.specs.declared.line.Kind.TheVariants.{Empty, Comment, Digits, Nonsense}
+use Rattle.jcard_script.specs.declared.line.Asked.{Asked}
+use Rattle.jcard_script.specs.declared.line.Asked.TheVariants.{Nothing, Exchange, Refused}
+
+-- the line is neither empty nor a comment
+abbrev pub IsPlain : List ℕ → Type 0
+IsPlain [] = ⊥
+IsPlain (first ∷ rest) = (first == 35) ≡ false
+
+-- the line has digits and spaces alone, these are its first 524 digits, and their number is odd or not
+abbrev pub HasDigits : List ℕ → Bool → List ℕ → Type 0
+HasDigits digits odd line = (list_all is_hex_digit (spaceless line) ≡ true) × (digits ≡ take 524 (spaceless line)) × (odd ≡ (length (spaceless line) % 2 == 1))
+
+-- a line of this kind
+abbrev pub IsLineOf : Kind → List ℕ → Bool → List ℕ → Type 0
+IsLineOf Empty digits odd line = (line ≡ []) × HasDigits digits odd line
+IsLineOf Comment digits odd line = (rest : List ℕ) × (line ≡ 35 ∷ rest)
+IsLineOf Digits digits odd line = IsPlain line × HasDigits digits odd line
+IsLineOf Nonsense digits odd line = IsPlain line × (list_all is_hex_digit (spaceless line) ≡ false)
+
+-- whether the last byte is a carriage return
+abbrev pub ends_in_return : List ℕ → Bool
+ends_in_return line = slice_index line (length line - 1) == 13
+
+-- what a line asks for; of a command the first 262 bytes are told, more than any command has
+abbrev pub AsksFor : Asked → List ℕ → Type 0
+AsksFor Nothing line = form_of line ≡ Skipped
+AsksFor (Exchange command) line = (bytes : List ℕ) × (form_of line ≡ Command bytes) × (command.items ≡ take 262 bytes)
+AsksFor Refused line = form_of line ≡ Bad

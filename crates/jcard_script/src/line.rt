@@ -1,0 +1,201 @@
+//! One line of a script, byte by byte, in fixed room.
+ghost use Rattle.std.specs.Prelude.{◌≡◌, ◌≢◌, ◌≤◌, ℕ, List, [], ◌∷◌, ◌++◌, length, IsErr, MatchOption, Ok};
+ghost use Rattle.std.specs.Str.Lines.{strip_carriage_return};
+ghost use Rattle.hex.specs.Hex.{decode_of, is_hex_digit};
+ghost use Rattle.jcard_script.specs.Line.{IsLineOf, IsPlain, HasDigits, AsksFor};
+ghost use Rattle.jcard_script.specs.Session.{IsKeptOf};
+
+use arrayvec::ArrayVec;
+
+/// The most digits of a line that are kept: two more than the longest command has.
+const DIGITS: usize = 524;
+
+/// The most bytes of a command that are told: one more than the longest command has.
+const BYTES: usize = 262;
+
+/// What the bytes of a line are.
+#[derive(Clone, Copy)]
+pub(crate) enum Kind {
+    /// There are none.
+    Empty,
+    /// They begin with '#'.
+    Comment,
+    /// They are hexadecimal digits and spaces.
+    Digits,
+    /// They are anything else.
+    Nonsense,
+}
+
+/// What a line asks for.
+#[derive(Drop)]
+pub(crate) enum Asked {
+    /// Nothing: it is empty or a comment.
+    Nothing,
+    /// The command of these bytes, of which 262 at most are told.
+    Exchange(ArrayVec<u8, 262>),
+    /// It has no form.
+    Refused,
+}
+
+/// What is kept of a line's bytes.
+#[derive(Drop)]
+pub(crate) struct Content {
+    kind: Kind,
+    digits: ArrayVec<u8, 524>,
+    is_odd: bool,
+}
+
+/// What is kept of a line, and whether its last byte is a carriage return, which belongs to it
+/// only if another byte follows.
+#[derive(Drop)]
+pub(crate) struct Line {
+    content: Content,
+    carriage_return: bool,
+}
+
+impl Content {
+    fn empty() -> Self
+        ensures { IsLineOf result.kind result.digits.items result.is_odd [] }
+    {
+        Content {
+            kind: Kind::Empty,
+            digits: ArrayVec::new(),
+            is_odd: false,
+        }
+    }
+
+    fn clear(&mut self)
+        ensures { IsLineOf self.new.kind self.new.digits.items self.new.is_odd [] }
+    {
+        self.kind = Kind::Empty;
+        self.digits.clear();
+        self.is_odd = false;
+    }
+
+    // One more byte.
+    fn push(&mut self, byte: u8)
+        ensures { (line : List ℕ) → IsLineOf self.old.kind self.old.digits.items self.old.is_odd line
+            → IsLineOf self.new.kind self.new.digits.items self.new.is_odd (line ++ byte ∷ []) }
+    {
+        match self.kind {
+            Kind::Comment | Kind::Nonsense => {}
+            Kind::Empty => {
+                if byte == b'#' {
+                    self.kind = Kind::Comment;
+                } else {
+                    self.push_digit(byte);
+                }
+            }
+            Kind::Digits => self.push_digit(byte),
+        }
+    }
+
+    // One more byte of a line that is no comment.
+    fn push_digit(&mut self, byte: u8)
+        ensures { (line : List ℕ) → HasDigits self.old.digits.items self.old.is_odd line → IsPlain (line ++ byte ∷ [])
+            → IsLineOf self.new.kind self.new.digits.items self.new.is_odd (line ++ byte ∷ []) }
+    {
+        if byte == b' ' {
+            self.kind = Kind::Digits;
+        } else if is_digit(byte) {
+            self.kind = Kind::Digits;
+            self.is_odd = !self.is_odd;
+            let _ = self.digits.try_push(byte);
+        } else {
+            self.kind = Kind::Nonsense;
+        }
+    }
+
+    // What a line of these bytes asks for.
+    fn asked(&self) -> Asked
+        ensures { (line : List ℕ) → IsLineOf self.now.kind self.now.digits.items self.now.is_odd line → AsksFor result line }
+    {
+        match self.kind {
+            Kind::Empty | Kind::Comment => Asked::Nothing,
+            Kind::Nonsense => Asked::Refused,
+            Kind::Digits => {
+                if self.is_odd {
+                    return Asked::Refused;
+                }
+                match command_of(self.digits.as_slice()) {
+                    Some(command) => Asked::Exchange(command),
+                    None => Asked::Refused,
+                }
+            }
+        }
+    }
+}
+
+impl Line {
+    /// A line of which no byte has come.
+    pub(crate) fn empty() -> Self
+        ensures { IsKeptOf result [] }
+    {
+        Line {
+            content: Content::empty(),
+            carriage_return: false,
+        }
+    }
+
+    /// Forgets the line: no byte has come.
+    pub(crate) fn clear(&mut self)
+        ensures { IsKeptOf self.new [] }
+    {
+        self.content.clear();
+        self.carriage_return = false;
+    }
+
+    /// One more byte of the line, which is no line feed.
+    pub(crate) fn push(&mut self, byte: u8)
+        ensures { (line : List ℕ) → IsKeptOf self.old line → IsKeptOf self.new (line ++ byte ∷ []) }
+    {
+        self.settle();
+        self.carriage_return = byte == b'\r';
+        if !self.carriage_return {
+            self.content.push(byte);
+        }
+    }
+
+    /// What the line asks for if a line feed follows.
+    pub(crate) fn ended(&self) -> Asked
+        ensures { (line : List ℕ) → IsKeptOf self.now line → AsksFor result (strip_carriage_return line) }
+    {
+        self.content.asked()
+    }
+
+    /// What the line asks for if it is the script's last, which no line feed ends.
+    pub(crate) fn last(&mut self) -> Asked
+        ensures { (line : List ℕ) → IsKeptOf self.old line → AsksFor result line }
+    {
+        self.settle();
+        self.content.asked()
+    }
+
+    // A carriage return at the end belongs to the line.
+    fn settle(&mut self)
+        ensures { (line : List ℕ) → IsKeptOf self.old line
+            → IsLineOf self.new.content.kind self.new.content.digits.items self.new.content.is_odd line }
+    {
+        if self.carriage_return {
+            self.content.push(b'\r');
+        }
+    }
+}
+
+fn is_digit(byte: u8) -> bool
+    ensures { result ≡ is_hex_digit byte }
+{
+    byte.is_ascii_hexdigit()
+}
+
+// The bytes that so many digits spell.
+fn command_of(digits: &[u8]) -> Option<ArrayVec<u8, 262>>
+    requires { length digits.now ≤ 524 }
+    ensures { MatchOption result (IsErr (decode_of digits.now)) (λ command. decode_of digits.now ≡ Ok command.items) }
+{
+    let mut bytes = [0u8; BYTES];
+    let count = digits.len() / 2;
+    let text = &mut bytes[..count];
+    hex::decode_to_slice(digits, text).ok()?;
+    ArrayVec::try_from(&bytes[..count]).ok()
+}
