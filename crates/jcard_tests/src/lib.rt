@@ -13,4 +13,6 @@ mod jumps;
 #[cfg(test)]
 mod running;
 #[cfg(test)]
+mod scripts;
+#[cfg(test)]
 mod stack_order;
