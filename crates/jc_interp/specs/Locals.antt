@@ -1,5 +1,5 @@
 -- Locals: each is read or written by its number, with the kind that the instruction names.
-use Rattle.std.specs.Prelude.{ℤ, ◌+ℤ◌, ◌∷◌, slice_get, Option, Some, None}
+use Rattle.std.specs.Prelude.{◌+ℤ◌, slice_get, Option, Some, None}
 use Rattle.std.specs.Option.{option_and_then}
 use Rattle.jc_opcodes.specs.declared.instr.Local.{Local}
 use Rattle.jc_opcodes.specs.declared.instr.Local.TheVariants.{LoadReference, LoadShort, StoreReference, StoreShort, Increment}

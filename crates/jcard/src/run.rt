@@ -1,10 +1,10 @@
 //! What the program does.
 ghost use Rattle.std.specs.Prelude.{◌≡◌, ◌++◌, ℕ, List, Bool, Result};
 ghost use Rattle.std.specs.Bool.{OnTrue};
-ghost use Rattle.std.specs.Io.KnownBytes.{Appends, Consumes, IsAtEnd};
-ghost use Rattle.jcard_script.specs.Script.{Ends};
+ghost use Rattle.std.specs.Io.KnownBytes.{Appends, Consumes};
+ghost use Rattle.jcard_script.specs.Script.{Ends, IsWholeScript};
 ghost use Rattle.jcard_script.specs.declared.script.ScriptFault.{ScriptFault};
-ghost use Rattle.jcard.specs.Faults.{status_of, IsLastLine, IsOutcomeOf};
+ghost use Rattle.jcard.specs.Faults.{status_of, IsLastLine, IsOutcomeOf, IsPerformed};
 ghost use Rattle.jcard.specs.declared.fault.Fault.{Fault};
 
 use crate::arguments::{Action, parse};
@@ -20,7 +20,7 @@ use std::rt::Files;
 pub fn run_words<R: Files + AllocGlobal, W: TextOut>(rt: &R, words: &[String], out: &mut W) -> u8
     ensures { (text last : List ℕ) × (ended : Result Unit Fault)
         × Appends (W.contents out.old) (W.contents out.new) (text ++ last)
-        × IsLastLine ended last × (result ≡ status_of ended) }
+        × IsPerformed ended text × IsLastLine ended last × (result ≡ status_of ended) }
 {
     let ended = perform(rt, words, out);
     tell(ended, out)
@@ -31,7 +31,7 @@ fn perform<'a, R: Files + AllocGlobal, W: TextOut>(
     words: &'a [String],
     out: &mut W,
 ) -> Result<(), Fault<'a>>
-    ensures { (text : List ℕ) × Appends (W.contents out.old) (W.contents out.new) text }
+    ensures { (text : List ℕ) × Appends (W.contents out.old) (W.contents out.new) text × IsPerformed result text }
 {
     match parse(rt.alloc(), words)? {
         Action::Run { image: _, script } => {
@@ -52,7 +52,7 @@ fn carry_out<'a, I: TextIn, W: TextOut>(
     ensures { (bytes text : List ℕ) × (at_end : Bool) × (ended : Result Unit ScriptFault)
         × Consumes (I.remaining script.old) (I.remaining script.new) bytes
         × Appends (W.contents out.old) (W.contents out.new) text
-        × OnTrue at_end (IsAtEnd (I.remaining script.new))
+        × OnTrue at_end (IsWholeScript (I.remaining script.new) bytes)
         × Ends ended at_end bytes text × IsOutcomeOf path.now ended result }
 {
     match run_script(script, out) {

@@ -1,7 +1,7 @@
 -- Lines that are carried out one after another.
-use Rattle.std.proofs.Common.{◌≡◌, ℕ, ◌+◌, ◌<◌, List, [], ◌∷◌, ◌++◌, length, refl, sym, ◌∙◌, ap, arith, append_assoc, append-nil}
+use Rattle.std.proofs.Common.{◌≡◌, ℕ, ◌+◌, List, [], ◌∷◌, ◌++◌, length, refl, sym, ◌∙◌, ap, append_assoc, append-nil}
 use Rattle.jcard_script.specs.Texts.{IsCutOf}
-use Rattle.jcard_script.specs.Script.{Form, Bad, form_of, IsWrittenFor, AreCarriedOut, StopsAtBad, StopsInside}
+use Rattle.jcard_script.specs.Script.{Bad, form_of, IsWrittenFor, AreCarriedOut, StopsAtBad, StopsInside}
 
 -- one more line is carried out
 pub carried_more : (all : List (List ℕ)) (line text more : List ℕ) → AreCarriedOut all text → IsWrittenFor (form_of line) more → AreCarriedOut (all ++ line ∷ []) (text ++ more)

@@ -1,5 +1,5 @@
 -- What the kept digits of a line spell.
-use Rattle.std.proofs.Common.{◌≡◌, ℕ, zero, suc, ◌+◌, ◌-◌, ◌*◌, ◌%◌, ◌<◌, ◌≤◌, ◌==◌, Bool, true, false, if◌then◌else◌, List, [], ◌∷◌, ◌++◌, length, take, Result, Ok, Err, refl, sym, ◌∙◌, ap, arith, length-take}
+use Rattle.std.proofs.Common.{◌≡◌, ℕ, zero, suc, ◌+◌, ◌*◌, ◌%◌, ◌==◌, Bool, true, false, if◌then◌else◌, List, [], ◌∷◌, length, take, Result, Ok, Err, refl, sym, ◌∙◌, ap, arith, length-take}
 use Rattle.std.specs.List.{list_all}
 use Rattle.std.specs.Result.{result_unwrap_or}
 use Rattle.std.proofs.lemmas.List.Sums.{AllPass-from_list_all, list_all-from_AllPass}
@@ -7,7 +7,7 @@ use Rattle.std.proofs.lemmas.Bool.{eqb-true, eqb-false}
 use Rattle.hex.specs.Hex.{decode_of, decode_pairs, is_hex_digit, pair_value, IsBytes, ◌>>=◌}
 use Rattle.hex.specs.declared.error.FromHexError.{FromHexError}
 use Rattle.hex.proofs.HexLemmas.{decode_of-ok, decode_of-odd, decode_of-even, decode_of-digits, decode_of-same}
-use Rattle.jcard_script.specs.Script.{Form, Command, Skipped, Bad, form_of, form_of_decoded, spaceless}
+use Rattle.jcard_script.specs.Script.{Command, Skipped, Bad, form_of, form_of_decoded, spaceless}
 use Rattle.jcard_script.specs.Line.{IsPlain}
 
 step : (p : Result ℕ FromHexError) (r s : Result (List ℕ) FromHexError) (n : ℕ) (bytes : List ℕ)

@@ -1,11 +1,10 @@
 -- How lines and scripts end.
-use Rattle.std.proofs.Common.{◌≡◌, ℕ, ◌+◌, ◌<◌, ◌≤◌, Bool, true, false, List, [], ◌∷◌, ◌++◌, length, take, Result, Ok, Err, refl, sym, ◌∙◌, ap, subst, arith, append_assoc, append-nil, length-append, get_or, drop, take-append-drop}
+use Rattle.std.proofs.Common.{◌≡◌, ℕ, ◌+◌, ◌<◌, true, false, List, [], ◌∷◌, ◌++◌, length, take, Result, Ok, Err, refl, sym, ◌∙◌, ap, subst, arith, append_assoc, append-nil, length-append, get_or, drop, take-append-drop}
 use Rattle.std.proofs.lemmas.List.{take_more}
 use Rattle.std.specs.Prelude.{OnOk}
 use Rattle.std.specs.Str.Lines.{lines}
-use Rattle.jcard_script.specs.Script.{Form, Bad, form_of, IsWrittenFor, AreCarriedOut, StopsAtBad, StopsInside, Ends, ended_lines, bound}
+use Rattle.jcard_script.specs.Script.{form_of, AreCarriedOut, StopsAtBad, StopsInside, Ends, ended_lines, bound}
 use Rattle.jcard_script.specs.Session.{LineEnds, LinesEnd, begun_line}
-use Rattle.jcard_script.specs.Texts.{IsCutOf}
 use Rattle.jcard_script.specs.declared.script.ScriptFault.{ScriptFault}
 use Rattle.jcard_script.specs.declared.script.ScriptFault.TheVariants.{ReadFailed, WriteFailed, BadLine, TooLong}
 use Rattle.jcard_script.proofs.Carried.{carried_more, bad_more, cut_more, bad_then, cut_then}
@@ -56,12 +55,12 @@ ended_then ReadFailed script rest text h = absurd h
 ended_then TooLong script rest text h = absurd h
 
 -- the end of the script
-pub ends_at_end : (r : Result Unit ScriptFault) (script text : List ℕ) → length script ≤ bound → LinesEnd r (lines script) text → Ends r true script text
-ends_at_end (Ok done) script text h k = (refl, h, k)
-ends_at_end (Err (BadLine n)) script text h k = k
-ends_at_end (Err WriteFailed) script text h k = k
-ends_at_end (Err ReadFailed) script text h k = absurd k
-ends_at_end (Err TooLong) script text h k = absurd k
+pub ends_at_end : (r : Result Unit ScriptFault) (script text : List ℕ) → LinesEnd r (lines script) text → Ends r true script text
+ends_at_end (Ok done) script text k = (refl, k)
+ends_at_end (Err (BadLine n)) script text k = k
+ends_at_end (Err WriteFailed) script text k = k
+ends_at_end (Err ReadFailed) script text k = absurd k
+ends_at_end (Err TooLong) script text k = absurd k
 
 -- before the end
 pub ends_before : (fault : ScriptFault) (script text : List ℕ) → LinesEnd (Err fault) (ended_lines (take bound script)) text → Ends (Err fault) false script text

@@ -1,5 +1,5 @@
 -- What is kept of a line, with one more byte.
-use Rattle.std.proofs.Common.{◌≡◌, ℕ, zero, suc, ◌+◌, ◌-◌, ◌%◌, ◌<◌, ◌≤◌, ◌==◌, Bool, true, false, not, ◌&&◌, if◌then◌else◌, List, [], ◌∷◌, ◌++◌, length, take, filter, slice_index, refl, sym, ◌∙◌, ap, subst, arith, append-nil, length-append, length-take, inl, inr, Result, Ok, Err}
+use Rattle.std.proofs.Common.{◌≡◌, ℕ, ◌+◌, ◌-◌, ◌%◌, ◌<◌, ◌≤◌, ◌==◌, Bool, true, false, not, ◌&&◌, if◌then◌else◌, List, [], ◌∷◌, ◌++◌, length, take, slice_index, refl, sym, ◌∙◌, ap, arith, append-nil, length-append, length-take, inl, inr, Result, Ok, Err}
 use Rattle.std.specs.Prelude.{IsOk, OnOk, OnErr, ◌↔◌}
 use Rattle.std.specs.List.{list_all}
 use Rattle.std.specs.Str.Lines.{strip_carriage_return}

@@ -1,12 +1,12 @@
 -- Commands that are longer than any command.
-use Rattle.std.proofs.Common.{◌≡◌, ℕ, ◌+◌, ◌<◌, ◌≤◌, ◌==◌, nat_lt, nat_le, Bool, true, false, if◌then◌else◌, List, length, take, drop, slice_index, Option, Some, None, refl, sym, ◌∙◌, ap, subst, arith, inl, inr, length-take}
+use Rattle.std.proofs.Common.{◌≡◌, ℕ, ◌+◌, ◌<◌, ◌≤◌, ◌==◌, nat_lt, nat_le, Bool, true, false, if◌then◌else◌, List, length, take, slice_index, Option, None, refl, sym, ◌∙◌, ap, subst, arith, inl, inr, length-take}
 use Rattle.std.specs.Prelude.{MatchOption}
 use Rattle.std.proofs.lemmas.Bool.{cases_lt, ne_eqb}
 use Rattle.std.proofs.lemmas.Bool.Decides.{nat_tests}
 use Rattle.std.proofs.lemmas.List.{take_all}
 use Rattle.std.proofs.lemmas.Grind.{common_steps}
 use Rattle.hex.specs.Hex.{IsBytes}
-use Rattle.jc_card.specs.Apdu.{Apdu, apdu_of, data_of}
+use Rattle.jc_card.specs.Apdu.{apdu_of, data_of}
 use Rattle.jc_card.specs.StatusWord.{status_bytes, wrong_length}
 use Rattle.jc_card.specs.Answers.{Answers, AnswersApdu}
 

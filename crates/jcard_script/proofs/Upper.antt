@@ -1,5 +1,5 @@
 -- Hexadecimal text in upper case.
-use Rattle.std.proofs.Common.{◌≡◌, ℕ, ◌+◌, ◌/◌, ◌%◌, List, [], ◌∷◌, map, slice_index, get_or, refl, sym, ◌∙◌, ap}
+use Rattle.std.proofs.Common.{◌≡◌, ℕ, ◌/◌, ◌%◌, List, [], ◌∷◌, map, slice_index, get_or, refl, sym, ◌∙◌, ap}
 use Rattle.std.specs.Char.{to_ascii_uppercase}
 use Rattle.std.proofs.Math.ListN.{get_or-map}
 use Rattle.hex.specs.Hex.{encode_lower, encode_upper, encode_with, lower_digits, upper_digits}

@@ -1,9 +1,8 @@
 -- What is kept of a line while it comes, byte by byte.
-use Rattle.std.specs.Prelude.{ℕ, ◌≡◌, ◌<◌, ◌==◌, ◌-◌, ◌%◌, Bool, true, false, List, [], ◌∷◌, length, take, slice_index}
+use Rattle.std.specs.Prelude.{ℕ, ◌≡◌, ◌==◌, ◌-◌, ◌%◌, Bool, true, false, List, [], ◌∷◌, length, take, slice_index}
 use Rattle.std.specs.List.{list_all}
-use Rattle.std.specs.Str.Lines.{strip_carriage_return}
 use Rattle.hex.specs.Hex.{is_hex_digit}
-use Rattle.jcard_script.specs.Script.{Form, Skipped, Command, Bad, form_of, spaceless}
+use Rattle.jcard_script.specs.Script.{Skipped, Command, Bad, form_of, spaceless}
 use Rattle.jcard_script.specs.declared.line.Kind.{Kind}
 use Rattle.jcard_script.specs.declared.line.Kind.TheVariants.{Empty, Comment, Digits, Nonsense}
 use Rattle.jcard_script.specs.declared.line.Asked.{Asked}

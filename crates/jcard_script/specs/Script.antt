@@ -1,5 +1,6 @@
 -- Scripts: their lines, what the lines ask for, and what is written for them.
-use Rattle.std.specs.Prelude.{ℕ, ◌+◌, ◌≡◌, ◌≤◌, ◌<◌, ◌==◌, Bool, true, false, not, if◌then◌else◌, IsTrue, List, [], ◌∷◌, ◌++◌, length, take, filter, Result, Ok, Err}
+use Rattle.std.specs.Prelude.{ℕ, ◌+◌, ◌≡◌, ◌≤◌, ◌<◌, ◌==◌, Bool, true, false, not, if◌then◌else◌, IsTrue, List, [], ◌∷◌, ◌++◌, length, take, filter, Option, Result, Ok, Err}
+use Rattle.std.specs.Io.KnownBytes.{IsAtEnd}
 use Rattle.std.specs.List.{slice_split}
 use Rattle.std.specs.Str.Lines.{lines, strip_carriage_return}
 use Rattle.hex.specs.Hex.{decode_of, encode_upper}
@@ -24,6 +25,10 @@ ended_parts (x ∷ y ∷ more) = strip_carriage_return x ∷ ended_parts (y ∷ 
 -- the lines of a text that a line feed ends
 abbrev pub ended_lines : List ℕ → List (List ℕ)
 ended_lines text = ended_parts (slice_split (λ b. b == 10) text)
+
+-- this is a whole script: nothing is left to read, and it isn't longer than the bound
+abbrev pub IsWholeScript : Option (List ℕ) → List ℕ → Type 0
+IsWholeScript left script = IsAtEnd left × (length script ≤ bound)
 
 -- the lines that count when so much of a script was read: at its end all, before it those that a line feed ended within the bound
 abbrev pub lines_so_far : Bool → List ℕ → List (List ℕ)
@@ -79,9 +84,9 @@ StopsInside all text = (before : List (List ℕ)) × (line : List ℕ) × (after
 
 -- ---- how a script ends
 
--- these bytes of a script were read, to its end or not, this text was written, and so it ended
+-- these bytes of a script were read, the whole of it or not, this text was written, and so it ended
 abbrev pub Ends : Result Unit ScriptFault → Bool → List ℕ → List ℕ → Type 0
-Ends (Ok done) at_end script text = IsTrue at_end × (length script ≤ bound) × AreCarriedOut (lines script) text
+Ends (Ok done) at_end script text = IsTrue at_end × AreCarriedOut (lines script) text
 Ends (Err (BadLine n)) at_end script text = StopsAtBad n (lines_so_far at_end script) text
 Ends (Err TooLong) at_end script text = (bound < length script) × AreCarriedOut (lines_so_far false script) text
 Ends (Err ReadFailed) at_end script text = (length script ≤ bound) × AreCarriedOut (lines_so_far false script) text

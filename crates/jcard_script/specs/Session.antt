@@ -1,7 +1,7 @@
 -- A script that is being carried out.
-use Rattle.std.specs.Prelude.{ℕ, ◌+◌, ◌≡◌, ◌<◌, ◌==◌, Bool, List, [], ◌∷◌, ◌++◌, length, Result, Ok, Err}
+use Rattle.std.specs.Prelude.{ℕ, ◌≡◌, ◌==◌, List, [], ◌∷◌, length, Result, Ok, Err}
 use Rattle.std.specs.List.{slice_split}
-use Rattle.std.specs.Str.Lines.{lines, strip_carriage_return}
+use Rattle.std.specs.Str.Lines.{strip_carriage_return}
 use Rattle.jcard_script.specs.Line.{IsLineOf, ends_in_return}
 use Rattle.jcard_script.specs.Script.{Form, Bad, IsWrittenFor, AreCarriedOut, StopsAtBad, StopsInside, ended_lines}
 use Rattle.jcard_script.specs.Texts.{IsCutOf}

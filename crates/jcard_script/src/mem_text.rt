@@ -1,6 +1,7 @@
 //! Texts in memory.
-ghost use Rattle.std.specs.Prelude.{◌≡◌, ◌<◌, ◌≤◌, ℕ, List, [], Some, length, is_err, IfOk, OnErr, vec_len, vec_capacity};
-ghost use Rattle.std.specs.Io.KnownBytes.{WriteAppends};
+ghost use Rattle.std.specs.Prelude.{◌≡◌, ◌<◌, ◌≤◌, ℕ, List, [], Some, length, is_err, IfOk, IsOk, OnErr, vec_len, vec_capacity};
+ghost use Rattle.std.specs.Io.{ReadsAtMost};
+ghost use Rattle.std.specs.Io.KnownBytes.{ReadConsumes, WriteAppends};
 ghost use Rattle.jcard_script.specs.Failures.{failures_after};
 
 use crate::streams::{ReadFailed, TextIn, TextOut, WriteFailed};
@@ -43,7 +44,12 @@ impl<'a> TextIn for MemText<'a> {
 
     ghost failures = { λ text. text.failures };
 
-    fn read(&mut self, buffer: &mut [u8]) -> Result<usize, ReadFailed> {
+    fn read(&mut self, buffer: &mut [u8]) -> Result<usize, ReadFailed>
+        ensures within { ReadsAtMost result buffer.new }
+        ensures bytes { ReadConsumes (Some self.old.input.now) (Some self.new.input.now) result buffer.new }
+        ensures count { self.new.failures ≡ failures_after self.old.failures (is_err result) }
+        ensures never_fails { IsOk result }
+    {
         let count = self.input.len().min(buffer.len());
         buffer[..count].copy_from_slice(&self.input[..count]);
         self.input = &self.input[count..];

@@ -1,13 +1,13 @@
 //! Carrying out a script.
 ghost use Rattle.std.specs.Prelude.{◌≡◌, ◌+◌, ◌-◌, ◌*◌, ◌^◌, ◌<◌, ◌≤◌, ℕ, List, [], ◌∷◌, ◌++◌, Bool, length, is_err, OnOk, MatchResult};
 ghost use Rattle.std.specs.Bool.{OnTrue};
-ghost use Rattle.std.specs.Io.KnownBytes.{Appends, Consumes, IsAtEnd};
+ghost use Rattle.std.specs.Io.KnownBytes.{Appends, Consumes};
 ghost use Rattle.std.specs.Str.Lines.{lines};
 ghost use Rattle.hex.specs.Hex.{encode_upper};
 ghost use Rattle.jcard_script.specs.Failures.{failures_after};
 ghost use Rattle.jcard_script.specs.Texts.{AppendsCut};
 ghost use Rattle.jcard_script.specs.Line.{AsksFor};
-ghost use Rattle.jcard_script.specs.Script.{Ends, is_read_failed, is_write_failed, text_of, form_of, ended_lines};
+ghost use Rattle.jcard_script.specs.Script.{Ends, IsWholeScript, is_read_failed, is_write_failed, text_of, form_of, ended_lines};
 ghost use Rattle.jcard_script.specs.Session.{StandsAt, LineEnds, LinesEnd};
 
 use crate::line::{Asked, Line};
@@ -57,7 +57,7 @@ pub fn run_script<R: TextIn, W: TextOut>(reader: &mut R, writer: &mut W) -> Resu
     ensures script { (script text : List ℕ) × (at_end : Bool)
         × Consumes (R.remaining reader.old) (R.remaining reader.new) script
         × Appends (W.contents writer.old) (W.contents writer.new) text
-        × OnTrue at_end (IsAtEnd (R.remaining reader.new))
+        × OnTrue at_end (IsWholeScript (R.remaining reader.new) script)
         × Ends result at_end script text }
     ensures reads { R.failures reader.new ≡ failures_after (R.failures reader.old) (is_read_failed result) }
     ensures writes { W.failures writer.new ≡ failures_after (W.failures writer.old) (is_write_failed result) }

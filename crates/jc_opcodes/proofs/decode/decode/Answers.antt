@@ -1,5 +1,5 @@
 -- Each range of opcodes lies in one group of the table, and no row lies between the ranges.
-use Rattle.std.proofs.Common.{arith, refl, sym, true, ◌≡◌, ℕ, ◌≤◌, ◌<◌, ◌≢◌, [], ◌++◌, None}
+use Rattle.std.proofs.Common.{arith, refl, sym, true, ◌≡◌, ℕ, ◌≤◌, ◌≢◌, [], ◌++◌}
 use Rattle.std.specs.Prelude.{Bool, ◌&&◌, ◌==◌, not, nat_le}
 use Rattle.std.proofs.lemmas.Bool.Decides.{nat_tests}
 use Rattle.jc_opcodes.specs.Table.{constants, locals, stack, arithmetic, branches, returns, table, form_in}

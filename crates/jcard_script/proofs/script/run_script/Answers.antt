@@ -1,5 +1,4 @@
-use Rattle.std.proofs.Common.{Err, rules, arith, ◌≡◌, ◌+◌, ◌<◌, ◌≤◌, ◌∙◌, ℕ, true, false, List, ◌++◌, take, length, length-take, length-append, ap, sym, subst}
-use Rattle.std.specs.Io.KnownBytes.{Consumes}
+use Rattle.std.proofs.Common.{Err, rules, arith, ◌≡◌, ◌<◌, ◌≤◌, true, false, ◌++◌, take, length, length-take, length-append, sym, subst}
 use Rattle.std.proofs.lemmas.List.{take_all}
 use Rattle.std.proofs.lemmas.Result.{err_from_is_err_and}
 use Rattle.jcard_script.specs.Script.{AreCarriedOut, ended_lines, bound}
@@ -32,8 +31,8 @@ returns-then-count-eq0-clause-script g c =
       true,
       consumes_then_none _ _ _ s.0 c.read.new.buffer c.in-Ok.count c.if-count-eq0.true s.2 bytes.0,
       appends_then_appends _ _ _ s.1 went.0 s.3 went.1,
-      at_end,
-      ends_at_end c.finish.result s.0 (s.1 ++ went.0) (omega (arith, s.5)) went.2,
+      (at_end, omega (arith, s.5)),
+      ends_at_end c.finish.result s.0 (s.1 ++ went.0) went.2,
     )
 
 pub feed-requires : goal.feed-requires

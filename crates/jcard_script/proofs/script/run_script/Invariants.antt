@@ -1,4 +1,4 @@
-use Rattle.std.proofs.Common.{◌≡◌, ◌+◌, ◌≤◌, ℕ, List, length}
+use Rattle.std.proofs.Common.{◌≡◌, ◌+◌, ℕ, List, length}
 use Rattle.std.specs.Io.KnownBytes.{Appends, Consumes}
 use Rattle.jcard_script.specs.Session.{StandsAt}
 use Rattle.jcard_script.proofs.script.run_script.Given as goal

@@ -1,4 +1,4 @@
-use Rattle.std.proofs.Common.{rules, arith, ◌∙◌, ap, length-drop}
+use Rattle.std.proofs.Common.{rules, arith, length-drop}
 use Rattle.jcard_script.proofs.Known.{one_piece, whole_rest}
 use Rattle.jcard_script.proofs.streams.write_all.Goals as goal
 

@@ -1,4 +1,4 @@
-use Rattle.std.proofs.Common.{rules, ◌∙◌, sym}
+use Rattle.std.proofs.Common.{◌∙◌, sym}
 use Rattle.jcard_script.proofs.Decoding.{bad_digits, good_digits, some_digits}
 use Rattle.jcard_script.proofs.line.Content.asked.Goals as goal
 

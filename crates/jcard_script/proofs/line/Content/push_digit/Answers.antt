@@ -1,4 +1,4 @@
-use Rattle.std.proofs.Common.{rules, ◌∙◌, sym}
+use Rattle.std.proofs.Common.{◌∙◌, sym}
 use Rattle.std.proofs.lemmas.Bool.{ne_eqb}
 use Rattle.jcard_script.proofs.LineSteps.{digit_step, pushed_room, pushed_full}
 use Rattle.jcard_script.proofs.line.Content.push_digit.Goals as goal

@@ -1,4 +1,4 @@
-use Rattle.std.proofs.Common.{rules, ◌∙◌, refl}
+use Rattle.std.proofs.Common.{◌∙◌, refl}
 use Rattle.jcard_script.specs.Script.{text_of}
 use Rattle.jcard_script.proofs.Decoding.{command_bytes}
 use Rattle.jcard_script.proofs.LongCommands.{answers_whole}

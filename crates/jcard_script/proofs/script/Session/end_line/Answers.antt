@@ -1,4 +1,4 @@
-use Rattle.std.proofs.Common.{rules, ◌≡◌, ◌+◌, ◌∙◌, sym, ap, subst, [], ◌∷◌, ◌++◌, length, length-append}
+use Rattle.std.proofs.Common.{◌≡◌, ◌+◌, ◌∙◌, sym, ap, subst, [], ◌∷◌, ◌++◌, length, length-append}
 use Rattle.std.specs.Str.Lines.{strip_carriage_return}
 use Rattle.jcard_script.specs.Script.{ended_lines}
 use Rattle.jcard_script.specs.Session.{LinesEnd, IsKeptOf, begun_line}

@@ -1,4 +1,4 @@
-use Rattle.std.proofs.Common.{rules, arith, ◌++◌, take, refl}
+use Rattle.std.proofs.Common.{arith, ◌++◌, take, refl}
 use Rattle.std.proofs.lemmas.Result.{err_from_is_err_and}
 use Rattle.jcard_script.proofs.Known.{appends_then_appends}
 use Rattle.jcard_script.proofs.Ending.{fault_inside}

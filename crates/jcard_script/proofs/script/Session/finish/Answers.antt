@@ -1,4 +1,4 @@
-use Rattle.std.proofs.Common.{rules, ◌+◌, ap, length}
+use Rattle.std.proofs.Common.{◌+◌, ap}
 use Rattle.jcard_script.specs.Session.{begun_line}
 use Rattle.jcard_script.proofs.Ending.{script_done}
 use Rattle.jcard_script.proofs.script.Session.finish.Goals as goal

@@ -1,4 +1,4 @@
-use Rattle.std.proofs.Common.{rules, ◌∙◌, sym, ap, subst, [], ◌∷◌, ◌++◌, length, append-nil}
+use Rattle.std.proofs.Common.{◌∙◌, sym, ap, subst, [], ◌++◌, length, append-nil}
 use Rattle.std.proofs.lemmas.Bool.{ne_eqb}
 use Rattle.jcard_script.specs.Script.{ended_lines, AreCarriedOut}
 use Rattle.jcard_script.specs.Session.{IsKeptOf, begun_line}

@@ -1,0 +1,10 @@
+pub mod Words
+pub mod Steps
+pub mod Entries
+pub mod Counted
+pub mod Views
+pub mod InPlace
+pub mod Refusals
+pub mod Outside
+pub mod Stops
+pub mod Parts

@@ -1,0 +1,4 @@
+pub mod Image
+pub mod Replay
+pub mod Entries
+pub mod State

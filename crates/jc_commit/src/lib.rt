@@ -1,0 +1,16 @@
+//! A journal over a store of words: transactions that a loss of power takes back.
+#![tactic(auto)]
+
+mod check;
+mod journal;
+mod law;
+mod layout;
+mod log;
+mod refusal;
+#[cfg(test)]
+mod tests;
+mod undo;
+
+pub use journal::Journal;
+pub use law::recovery_may_be_interrupted;
+pub use refusal::{OpenRefusal, WriteRefusal};

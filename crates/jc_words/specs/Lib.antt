@@ -1,0 +1,4 @@
+pub mod Count
+pub mod Stores
+pub mod Files
+pub mod Image
