@@ -23,6 +23,10 @@ capacity = journal_capacity
 abbrev pub log_end : ℕ
 log_end = log_start + 2 * capacity
 
+-- the last of the words behind the top that entries may name: the end of the second transient area
+abbrev pub second_area_address : ℕ
+second_area_address = 9
+
 -- the first word of the registries, behind which the table text and the heap follow
 abbrev pub registry_start : ℕ
 registry_start = 528
@@ -81,7 +85,7 @@ touched_of w = map (λ entry. entry.0) (entries w)
 pub record IsPlace (n a : ℕ) : Type 0 where
   pub above : top_address ≤ a
   pub below : a < n
-  pub beside : 9 < a → registry_start ≤ a
+  pub beside : second_area_address < a → registry_start ≤ a
 
 -- an address of a word that isn't the journal's own, among n words
 pub record IsReadable (n a : ℕ) : Type 0 where

@@ -2,14 +2,14 @@
 ghost use Rattle.std.specs.Prelude.{◌≡◌, ◌<◌, ◌≤◌, ◌^◌, ◌↔◌, IsTrue, length};
 ghost use Rattle.jc_commit.specs.Image.{IsGoodLog, IsPlace, log_end};
 
-use crate::layout::{CAPACITY, COUNT, address_word};
+use crate::layout::{CAPACITY, COUNT, REGISTRY_START, SECOND_AREA, TOP, address_word};
 use jc_words::WordStore;
 
 // Whether an entry may name the address, among n words.
 fn is_place(address: u16, n: u16) -> bool
     ensures { IsTrue result ↔ IsPlace n address }
 {
-    5 <= address && address < n && (address < 10 || 528 <= address)
+    TOP <= address && address < n && (address <= SECOND_AREA || REGISTRY_START <= address)
 }
 
 // Whether there are not more entries than there can be and each that counts names a place.

@@ -1,4 +1,7 @@
 //! The command line.
+ghost use Rattle.std.specs.Prelude.{Err, IfErr};
+ghost use Rattle.jcard.specs.Faults.{IsEarly};
+
 use crate::fault::Fault;
 use clap::error::ErrorKind;
 use clap::{Arg, ArgAction, Command, Error};
@@ -12,7 +15,9 @@ pub enum Action<'a> {
 }
 
 /// What the words ask for, the program's name among them as the first.
-pub fn parse(alloc: Global, words: &[String]) -> Result<Action<'_>, Fault<'_>> {
+pub fn parse(alloc: Global, words: &[String]) -> Result<Action<'_>, Fault<'_>>
+    ensures { IfErr result (λ fault. IsEarly (Err fault)) }
+{
     match matched(alloc, words) {
         Ok(Some(action)) => Ok(action),
         Ok(None) => Err(Fault::BadCommandLine),

@@ -33,14 +33,14 @@ fn perform<'a, R: Files + AllocGlobal, W: TextOut>(
 ) -> Result<(), Fault<'a>>
     ensures { (text : List ℕ) × Appends (W.contents out.old) (W.contents out.new) text × IsPerformed result text }
 {
-    match parse(rt.alloc(), words)? {
-        Action::Run { image: _, script } => {
-            let Ok(file) = fs::open(rt, script) else {
-                return Err(Fault::CannotRead(script));
-            };
-            carry_out(script, &mut StdText::new(file), out)
-        }
-    }
+    let Action::Run { image: _, script } = match parse(rt.alloc(), words) {
+        Ok(action) => action,
+        Err(fault) => return Err(fault),
+    };
+    let Ok(file) = fs::open(rt, script) else {
+        return Err(Fault::CannotRead(script));
+    };
+    carry_out(script, &mut StdText::new(file), out)
 }
 
 // Carries out the script that comes from the file of this name.

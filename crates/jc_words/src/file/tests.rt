@@ -1,6 +1,6 @@
 ghost use Rattle.std.specs.Prelude.{◌≡◌, ◌≤◌, ◌*◌, length, vec_len, IfOk, false};
 
-use crate::{FileCreateFault, FileOpenFault, FileStore, StoreDown, WordStore};
+use crate::{FileCreateFault, FileOpenFault, FileStore, MemStore, StoreDown, WordStore};
 use std::alloc::{AllocError, Global};
 use std::io::{ErrorKind, Read, Seek, SeekFrom, Write};
 use std::test::Fail;
@@ -204,5 +204,34 @@ fn a_file_is_made_and_opened_again(rt: HostRuntime) -> Result<(), Fail> {
     assert!(rt; FileStore::open(&rt, path).err() == Some(FileOpenFault::CannotRead));
     let nowhere = FileStore::create(&rt, "no_such_folder/words.image", 4096).err();
     assert!(rt; nowhere == Some(FileCreateFault::CannotWrite));
+    Ok(())
+}
+
+// Run with each allocation failing in turn, it shows that a maker then answers want of memory.
+#[test]
+fn a_maker_without_memory_says_so(rt: HostRuntime) -> Result<(), Fail> {
+    if let Ok(store) = MemStore::new(rt.alloc(), 4) {
+        assert_eq!(rt; store.size(), 4);
+    }
+    let Ok(bytes) = counting(rt.alloc(), 8192) else {
+        return Ok(());
+    };
+    match FileStore::over(rt.alloc(), FailFile::of(bytes, None)) {
+        Ok(store) => assert_eq!(rt; store.size(), 4096),
+        Err(fault) => assert_eq!(rt; fault, FileOpenFault::NoMemory),
+    }
+    let path = "made_without_memory.image";
+    match FileStore::create(&rt, path, 4096) {
+        Ok(store) => assert_eq!(rt; store.size(), 4096),
+        Err(fault) => {
+            assert_eq!(rt; fault, FileCreateFault::NoMemory);
+            return Ok(());
+        }
+    }
+    match FileStore::open(&rt, path) {
+        Ok(store) => assert_eq!(rt; store.size(), 4096),
+        Err(fault) => assert_eq!(rt; fault, FileOpenFault::NoMemory),
+    }
+    fs::remove_file(&rt, path)?;
     Ok(())
 }

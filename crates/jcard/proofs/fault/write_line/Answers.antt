@@ -1,4 +1,4 @@
-use Rattle.std.proofs.Common.{rules, ◌∙◌}
+use Rattle.std.proofs.Common.{◌∙◌}
 use Rattle.jcard.proofs.fault.write_line.Goals as goal
 
 pub returns-in-ScriptTooLong : goal.returns-in-ScriptTooLong
