@@ -1,0 +1,24 @@
+-- Values of cells.
+use Rattle.std.specs.Prelude.{ℕ, ◌%◌, pos, nat_lt, if◌then◌else◌}
+use Rattle.std.specs.Int.{w16, cast_unsigned}
+use Rattle.jc_transient.specs.declared.cell.CellValue.{CellValue}
+use Rattle.jc_transient.specs.declared.cell.CellValue.TheVariants.{Short, Reference}
+
+-- the value of a cell once it is cleared
+abbrev pub cleared : CellValue → CellValue
+cleared (Short v) = Short (pos 0)
+cleared (Reference r) = Reference 0
+
+-- the value, or null where it refers to an object at or above the top
+abbrev pub without_dead : ℕ → CellValue → CellValue
+without_dead top (Short v) = Short v
+without_dead top (Reference r) = Reference (if nat_lt r top then r else 0)
+
+-- an element of a byte array
+abbrev pub byte_value : ℕ → CellValue
+byte_value byte = Short (pos byte)
+
+-- the low byte of a number, 0 for a reference
+abbrev pub low_byte : CellValue → ℕ
+low_byte (Short v) = cast_unsigned w16 v % 256
+low_byte (Reference r) = 0

@@ -1,0 +1,68 @@
+// Values of cells.
+ghost use Rattle.std.specs.Prelude.{◌≡◌};
+ghost use Rattle.jc_transient.specs.Cells.{cleared, without_dead, byte_value, low_byte};
+
+use crate::Ref;
+
+/// What a cell holds. Its kind does not change while it belongs to an object.
+#[derive(Clone, Copy, Debug, PartialEq, Eq)]
+pub enum CellValue {
+    /// A number. Elements of byte and boolean arrays are 0 to 255.
+    Short(i16),
+    /// The name of an object, or null.
+    Reference(Ref),
+}
+
+/// When the cells of a transient object are cleared.
+#[derive(Clone, Copy, Debug, PartialEq, Eq)]
+pub enum ClearEvent {
+    /// At a reset.
+    Reset,
+    /// When the applet is deselected, too.
+    Deselect,
+}
+
+impl CellValue {
+    /// The value of the cell once it is cleared: zero, or null.
+    pub const fn cleared(self) -> CellValue
+        ensures { result ≡ cleared self }
+    {
+        match self {
+            CellValue::Short(_) => CellValue::Short(0),
+            CellValue::Reference(_) => CellValue::Reference(Ref::null()),
+        }
+    }
+
+    /// The value, or null where it refers to an object at or above the top.
+    pub const fn without_dead(self, top: u16) -> CellValue
+        ensures { result ≡ without_dead top self }
+    {
+        match self {
+            CellValue::Short(v) => CellValue::Short(v),
+            CellValue::Reference(r) => {
+                if r.address() < top {
+                    CellValue::Reference(r)
+                } else {
+                    CellValue::Reference(Ref::null())
+                }
+            }
+        }
+    }
+
+    /// An element of a byte array.
+    pub const fn of_byte(byte: u8) -> CellValue
+        ensures { result ≡ byte_value byte }
+    {
+        CellValue::Short(byte as i16)
+    }
+
+    /// The low byte of a number; 0 for a reference.
+    pub const fn low_byte(self) -> u8
+        ensures { result ≡ low_byte self }
+    {
+        match self {
+            CellValue::Short(v) => (v.cast_unsigned() % 256) as u8,
+            CellValue::Reference(_) => 0,
+        }
+    }
+}

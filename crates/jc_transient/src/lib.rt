@@ -1,0 +1,13 @@
+//! What a card keeps in memory: cells of transient objects, flags of objects, the APDU buffer. None
+//! of it outlives a loss of power, and no abort of a transaction changes it.
+#![tactic(auto)]
+
+mod cell;
+mod ram;
+mod reference;
+#[cfg(test)]
+mod tests;
+
+pub use cell::{CellValue, ClearEvent};
+pub use ram::{AREA_CELLS, BUFFER_CELLS, BUFFER_PLACE, Ram};
+pub use reference::Ref;

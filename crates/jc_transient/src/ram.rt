@@ -1,0 +1,202 @@
+// The contents of memory.
+ghost use Rattle.std.specs.Prelude.{◌≡◌, ◌<◌, ◌≤◌, ◌+◌, Bool, ℕ, List, false, length, map, replicate, take, drop, ◌++◌, pos, IfOk, vec_len, slice_index_or, slice_set};
+ghost use Rattle.jc_transient.specs.Cells.{cleared, without_dead, byte_value, low_byte};
+ghost use Rattle.jc_transient.specs.State.{area_size, flag_count, buffer_size, buffer_place, HasSizes, IsBlank, area, with_area, cell_at, flag_of, with_cells, with_buffer_bytes};
+
+use crate::cell::{CellValue, ClearEvent};
+use crate::reference::Ref;
+use std::alloc::{AllocError, Global};
+use std::marker::Model;
+
+/// How many cells each of the two areas has.
+pub const AREA_CELLS: u16 = 2048;
+
+/// The place of the first cell of the APDU buffer, in the area that is cleared at a reset.
+pub const BUFFER_PLACE: u16 = 8;
+
+/// How many cells the APDU buffer has, one for each byte.
+pub const BUFFER_CELLS: u16 = 261;
+
+const FLAGS: usize = 65536;
+
+/// What a card keeps in memory: an area of cells for each event that clears transient objects, in
+/// one of which the APDU buffer lies, and a flag for each object.
+#[derive(Drop)]
+pub struct Ram {
+    reset_cells: Vec<CellValue>,
+    deselect_cells: Vec<CellValue>,
+    flags: Vec<bool>,
+}
+
+impl Model for Ram {
+    ghost use Rattle.jc_transient.specs.State.{RamState, HasSizes};
+
+    ghost Value = { RamState };
+
+    ghost view = { λ r. record { reset_cells = r.reset_cells.items; deselect_cells = r.deselect_cells.items; flags = r.flags.items } };
+
+    ghost invariant = { λ r. HasSizes (record { reset_cells = r.reset_cells.items; deselect_cells = r.deselect_cells.items; flags = r.flags.items }) };
+}
+
+impl Ram {
+    /// Memory in which each cell is zero and each flag is false. Nothing else here takes memory.
+    pub fn new(alloc: Global) -> Result<Ram, AllocError>
+        ensures { IfOk result IsBlank }
+    {
+        Ok(Ram {
+            reset_cells: zero_cells(alloc, AREA_CELLS as usize)?,
+            deselect_cells: zero_cells(alloc, AREA_CELLS as usize)?,
+            flags: false_flags(alloc, FLAGS)?,
+        })
+    }
+
+    /// The cell at a place of an event's area.
+    pub fn get(&self, event: ClearEvent, place: u16) -> CellValue
+        requires { place < area_size }
+        ensures { result ≡ cell_at self.now event place }
+    {
+        match event {
+            ClearEvent::Reset => self.reset_cells[place as usize],
+            ClearEvent::Deselect => self.deselect_cells[place as usize],
+        }
+    }
+
+    /// Sets the cell at a place of an event's area.
+    pub fn set(&mut self, event: ClearEvent, place: u16, value: CellValue)
+        requires { place < area_size }
+        ensures done { self.new ≡ with_area self.old event (slice_set (area self.old event) place value) }
+        ensures sizes { HasSizes self.new }
+    {
+        match event {
+            ClearEvent::Reset => self.reset_cells[place as usize] = value,
+            ClearEvent::Deselect => self.deselect_cells[place as usize] = value,
+        }
+    }
+
+    /// Sets so many cells from a place on, as the maker of a new object does.
+    pub fn fill(&mut self, event: ClearEvent, place: u16, count: u16, value: CellValue)
+        requires { place + count ≤ area_size }
+        ensures done { self.new ≡ with_area self.old event (with_cells (area self.old event) place (replicate count value)) }
+        ensures sizes { HasSizes self.new }
+    {
+        let (place, count) = (place as usize, count as usize);
+        match event {
+            ClearEvent::Reset => {
+                fill_cells(self.reset_cells.as_mut_slice(), place, count, &value);
+            }
+            ClearEvent::Deselect => {
+                fill_cells(self.deselect_cells.as_mut_slice(), place, count, &value);
+            }
+        }
+    }
+
+    /// The flag of an object.
+    pub fn flag(&self, object: Ref) -> bool
+        ensures { result ≡ flag_of self.now object }
+    {
+        self.flags[object.address() as usize]
+    }
+
+    /// Sets the flag of an object.
+    pub fn set_flag(&mut self, object: Ref, value: bool)
+        ensures done { self.new ≡ record self.old { flags = slice_set self.old.flags object value } }
+        ensures set { flag_of self.new object ≡ value }
+        ensures sizes { HasSizes self.new }
+    {
+        let address = object.address() as usize;
+        self.flags[address] = value;
+    }
+
+    /// Clears the cells of an event's area: numbers become zero and references null.
+    pub fn clear(&mut self, event: ClearEvent)
+        ensures done { self.new ≡ with_area self.old event (map cleared (area self.old event)) }
+        ensures sizes { HasSizes self.new }
+    {
+        match event {
+            ClearEvent::Reset => clear_cells(self.reset_cells.as_mut_slice()),
+            ClearEvent::Deselect => clear_cells(self.deselect_cells.as_mut_slice()),
+        }
+    }
+
+    /// Makes each reference null that refers to an object at or above the top. Nothing else changes.
+    pub fn null_dead(&mut self, top: u16)
+        ensures done { self.new ≡ record self.old {
+          reset_cells = map (without_dead top) self.old.reset_cells;
+          deselect_cells = map (without_dead top) self.old.deselect_cells;
+        } }
+        ensures sizes { HasSizes self.new }
+    {
+        null_dead_cells(self.reset_cells.as_mut_slice(), top);
+        null_dead_cells(self.deselect_cells.as_mut_slice(), top);
+    }
+
+    /// A byte of the APDU buffer.
+    pub fn buffer_byte(&self, index: u16) -> u8
+        requires { index < buffer_size }
+        ensures { result ≡ low_byte (cell_at self.now ClearEvent.Reset (buffer_place + index)) }
+    {
+        self.get(ClearEvent::Reset, BUFFER_PLACE + index).low_byte()
+    }
+
+    /// Puts bytes into the APDU buffer, from an index on.
+    pub fn put_in_buffer(&mut self, index: u16, bytes: &[u8])
+        requires { index + length bytes.now ≤ buffer_size }
+        ensures done { self.new ≡ with_buffer_bytes self.old index bytes.now }
+        ensures sizes { HasSizes self.new }
+    {
+        let place = (BUFFER_PLACE + index) as usize;
+        write_bytes(self.reset_cells.as_mut_slice(), place, bytes);
+    }
+}
+
+// So many cells, each zero.
+fn zero_cells(alloc: Global, count: usize) -> Result<Vec<CellValue>, AllocError>
+    ensures len { IfOk result (λ cells. vec_len cells ≡ count) }
+    ensures zero { IfOk result (λ cells. (k : ℕ) → slice_index_or cells.items k (CellValue.Short (pos 0)) ≡ CellValue.Short (pos 0)) }
+{
+    let cells = vec![in alloc; CellValue::Short(0); count]?;
+    Ok(cells)
+}
+
+// So many flags, each false.
+fn false_flags(alloc: Global, count: usize) -> Result<Vec<bool>, AllocError>
+    ensures len { IfOk result (λ flags. vec_len flags ≡ count) }
+    ensures unset { IfOk result (λ flags. (k : ℕ) → slice_index_or flags.items k false ≡ false) }
+{
+    let flags = vec![in alloc; false; count]?;
+    Ok(flags)
+}
+
+fn fill_cells(cells: &mut [CellValue], place: usize, count: usize, value: &CellValue)
+    requires { place + count ≤ length cells.old }
+    ensures { cells.new ≡ with_cells cells.old place (replicate count value.now) }
+{
+    for k in 0..count {
+        cells[place + k] = *value;
+    }
+}
+
+fn clear_cells(cells: &mut [CellValue])
+    ensures { cells.new ≡ map cleared cells.old }
+{
+    for cell in cells.iter_mut() {
+        *cell = cell.cleared();
+    }
+}
+
+fn null_dead_cells(cells: &mut [CellValue], top: u16)
+    ensures { cells.new ≡ map (without_dead top) cells.old }
+{
+    for cell in cells.iter_mut() {
+        *cell = cell.without_dead(top);
+    }
+}
+
+fn write_bytes(cells: &mut [CellValue], place: usize, bytes: &[u8])
+    requires { place + length bytes.now ≤ length cells.old }
+    ensures { cells.new ≡ with_cells cells.old place (map byte_value bytes.now) }
+{
+    for (k, byte) in bytes.iter().enumerate() {
+        cells[place + k] = CellValue::of_byte(*byte);
+    }
+}
