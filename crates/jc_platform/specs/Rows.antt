@@ -1,0 +1,174 @@
+-- What the lines of a platform table say.
+use Rattle.std.specs.Prelude.{ℕ, Bool, false, not, ◌&&◌, ◌==◌, nat_le, nat_lt, if◌then◌else◌, List, [], ◌∷◌, length, codes, Option, None, Some, is_some, unwrap_or, find}
+use Rattle.std.specs.List.{list_any, slice_split}
+use Rattle.std.specs.Option.{option_and_then}
+use Rattle.std.specs.Str.{bytes_eq, all_ascii_digits}
+use Rattle.std.specs.Str.Parse.{digits_value}
+use Rattle.jc_platform.specs.declared.names.PlatformPackage.{PlatformPackage}
+use Rattle.jc_platform.specs.declared.names.PlatformClass.{PlatformClass}
+use Rattle.jc_platform.specs.declared.names.MethodKind.{MethodKind}
+use Rattle.jc_platform.specs.declared.names.MethodKind.TheVariants.{Static, Virtual, Interface}
+use Rattle.jc_platform.specs.declared.names.PlatformMethod.{PlatformMethod}
+use Rattle.jc_platform.specs.declared.row.Version.{Version}
+use Rattle.jc_platform.specs.declared.row.Row.{Row}
+use Rattle.jc_platform.specs.declared.row.Row.TheVariants.{Package, Class, Method}
+use Rattle.jc_platform.specs.Names.{ClassEntry, MethodEntry, packages, classes, methods}
+use Rattle.jc_platform.specs.Numbers.{same_package, same_class, same_kind, same_method}
+
+-- ---- what stands above a line: rows from the nearest up
+
+-- the package that stands nearest above
+abbrev pub package_above : List Row → Option PlatformPackage
+package_above [] = None
+package_above (Package p version ∷ rows) = Some p
+package_above (Class c token ∷ rows) = package_above rows
+package_above (Method m token ∷ rows) = package_above rows
+
+-- the class that stands nearest above, in the package that does
+abbrev pub class_above : List Row → Option PlatformClass
+class_above [] = None
+class_above (Package p version ∷ rows) = None
+class_above (Class c token ∷ rows) = Some c
+class_above (Method m token ∷ rows) = class_above rows
+
+-- the package that stands first of all
+abbrev pub first_package : List Row → Option PlatformPackage
+first_package [] = None
+first_package (Package p version ∷ rows) = Some (unwrap_or (first_package rows) p)
+first_package (Class c token ∷ rows) = first_package rows
+first_package (Method m token ∷ rows) = first_package rows
+
+-- the version of a package that stands above
+abbrev pub version_in : List Row → PlatformPackage → Option Version
+version_in [] q = None
+version_in (Package p version ∷ rows) q = if same_package p q then Some version else version_in rows q
+version_in (Class c token ∷ rows) q = version_in rows q
+version_in (Method m token ∷ rows) q = version_in rows q
+
+-- the token of a class that stands above
+abbrev pub class_token_in : List Row → PlatformClass → Option ℕ
+class_token_in [] d = None
+class_token_in (Package p version ∷ rows) d = class_token_in rows d
+class_token_in (Class c token ∷ rows) d = if same_class c d then Some token else class_token_in rows d
+class_token_in (Method m token ∷ rows) d = class_token_in rows d
+
+-- the token of a method that stands above
+abbrev pub method_token_in : List Row → PlatformMethod → Option ℕ
+method_token_in [] n = None
+method_token_in (Package p version ∷ rows) n = method_token_in rows n
+method_token_in (Class c token ∷ rows) n = method_token_in rows n
+method_token_in (Method m token ∷ rows) n = if same_method m n then Some token else method_token_in rows n
+
+-- what a line has to fit
+pub record Above : Type 0 where
+  pub home : Option PlatformPackage
+  pub class : Option PlatformClass
+  pub first : Option PlatformPackage
+  pub version : PlatformPackage → Option Version
+  pub class_token : PlatformClass → Option ℕ
+  pub method_token : PlatformMethod → Option ℕ
+
+-- what is above a line that stands below these rows
+abbrev pub above : List Row → Above
+above rows = record {
+  home = package_above rows;
+  class = class_above rows;
+  first = first_package rows;
+  version = version_in rows;
+  class_token = class_token_in rows;
+  method_token = method_token_in rows;
+}
+
+-- ---- what a line says
+
+-- the parts between the bytes c
+abbrev pub parts_at : ℕ → List ℕ → List (List ℕ)
+parts_at c bytes = slice_split (λ b. b == c) bytes
+
+-- the number that a word of decimal digits writes, if it is at most 255
+abbrev pub number_of : List ℕ → Option ℕ
+number_of word = if nat_lt 0 (length word) && all_ascii_digits word && nat_lt (digits_value 10 word) 256 then Some (digits_value 10 word) else None
+
+-- the kind of method that a keyword begins
+abbrev pub kind_of : List ℕ → Option MethodKind
+kind_of word = if bytes_eq word (codes "static") then Some Static else (if bytes_eq word (codes "virtual") then Some Virtual else (if bytes_eq word (codes "interface") then Some Interface else None))
+
+-- the largest token of a kind
+abbrev pub largest_token : MethodKind → ℕ
+largest_token Static = 255
+largest_token Virtual = 127
+largest_token Interface = 127
+
+-- the token is this one
+abbrev pub is_token : Option ℕ → ℕ → Bool
+is_token None t = false
+is_token (Some token) t = token == t
+
+-- the package is this one
+abbrev pub is_package : Option PlatformPackage → PlatformPackage → Bool
+is_package None q = false
+is_package (Some p) q = same_package p q
+
+-- a class of the package has the token
+abbrev pub has_class_token : Above → PlatformPackage → ℕ → Bool
+has_class_token a p token = list_any (λ e. same_package e.home p && is_token (a.class_token e.class) token) classes
+
+-- a method of the class and the kind has the token
+abbrev pub has_method_token : Above → PlatformClass → MethodKind → ℕ → Bool
+has_method_token a c kind token = list_any (λ e. same_class e.class c && same_kind e.kind kind && is_token (a.method_token e.method) token) methods
+
+-- a package may stand here: it stands nowhere above
+abbrev pub may_be_package : Above → PlatformPackage → Bool
+may_be_package a p = not (is_some (a.version p))
+
+-- a class may stand here: in its own package, nowhere above, and with a token of its own
+abbrev pub may_be_class : Above → ClassEntry → ℕ → Bool
+may_be_class a e token = is_package a.home e.home && not (is_some (a.class_token e.class)) && not (has_class_token a e.home token)
+
+-- a method may stand here, in its own class: nowhere above, and with a token of its own that its kind may have
+abbrev pub may_be_method : Above → MethodEntry → ℕ → Bool
+may_be_method a e token = nat_le token (largest_token e.kind) && not (is_some (a.method_token e.method)) && not (has_method_token a e.class e.kind token)
+
+-- the row of a package with this AID and version
+abbrev pub package_row : Above → List ℕ → List ℕ → List ℕ → Option Row
+package_row a aid major minor =
+    option_and_then (λ e.
+    option_and_then (λ j.
+    option_and_then (λ n.
+    if may_be_package a e.package_id then Some (Package e.package_id (record { major = j; minor = n })) else None)
+    (number_of minor)) (number_of major)) (find (λ e. bytes_eq e.aid_text aid) packages)
+
+-- the row of a class with this token and name
+abbrev pub class_row : Above → List ℕ → List ℕ → Option Row
+class_row a token name =
+    option_and_then (λ t.
+    option_and_then (λ e.
+    if may_be_class a e t then Some (Class e.class t) else None)
+    (find (λ e. bytes_eq e.name name) classes)) (number_of token)
+
+-- the entry of a class's method of this kind and name
+abbrev pub method_named : PlatformClass → MethodKind → List ℕ → Option MethodEntry
+method_named c kind name = find (λ e. same_class e.class c && same_kind e.kind kind && bytes_eq e.name name) methods
+
+-- the row of a method with this kind, token and name
+abbrev pub method_row : Above → List ℕ → List ℕ → List ℕ → Option Row
+method_row a keyword token name =
+    option_and_then (λ kind.
+    option_and_then (λ t.
+    option_and_then (λ c.
+    option_and_then (λ e.
+    if may_be_method a e t then Some (Method e.method t) else None)
+    (method_named c kind name)) a.class) (number_of token)) (kind_of keyword)
+
+-- the row that a line of these words is; none where it may not stand there
+abbrev pub row_of : Above → List (List ℕ) → Option Row
+row_of a [] = None
+row_of a (keyword ∷ []) = None
+row_of a (keyword ∷ x ∷ []) = None
+row_of a (keyword ∷ x ∷ y ∷ []) = if bytes_eq keyword (codes "class") then class_row a x y else method_row a keyword x y
+row_of a (keyword ∷ x ∷ y ∷ z ∷ []) = if bytes_eq keyword (codes "package") then package_row a x y z else None
+row_of a (keyword ∷ x ∷ y ∷ z ∷ v ∷ more) = None
+
+-- the row that a line is
+abbrev pub row_of_line : Above → List ℕ → Option Row
+row_of_line a line = row_of a (parts_at 32 line)

@@ -1,0 +1,14 @@
+-- The code's lists of names, as the entries that they stand for.
+use Rattle.jc_platform.specs.declared.names.PackageName.{PackageName}
+use Rattle.jc_platform.specs.declared.names.ClassName.{ClassName}
+use Rattle.jc_platform.specs.declared.names.MethodName.{MethodName}
+use Rattle.jc_platform.specs.Names.{PackageEntry, ClassEntry, MethodEntry}
+
+abbrev pub seen_package : PackageName → PackageEntry
+seen_package e = record { package_id = e.package_id; aid_text = e.aid_text.now }
+
+abbrev pub seen_class : ClassName → ClassEntry
+seen_class e = record { class = e.class; home = e.home; name = e.name.now }
+
+abbrev pub seen_method : MethodName → MethodEntry
+seen_method e = record { method = e.method; class = e.class; kind = e.kind; name = e.name.now }

@@ -1,0 +1,58 @@
+-- The platform table: its text, and what it says.
+use Rattle.std.specs.Prelude.{ℕ, ◌≡◌, ◌≢◌, ◌+◌, ◌<◌, ◌≤◌, ◌⊎◌, List, [], ◌∷◌, ◌++◌, length, reverse, None, Some, Result, Ok, Err, slice_get, slice_index}
+use Rattle.jc_platform.specs.declared.names.PlatformPackage.{PlatformPackage}
+use Rattle.jc_platform.specs.declared.names.PlatformClass.{PlatformClass}
+use Rattle.jc_platform.specs.declared.names.PlatformMethod.{PlatformMethod}
+use Rattle.jc_platform.specs.declared.row.Row.{Row}
+use Rattle.jc_platform.specs.declared.fault.TableFault.{TableFault}
+use Rattle.jc_platform.specs.declared.fault.TableFault.TheVariants.{BadTable}
+use Rattle.jc_platform.specs.Numbers.{package_number, class_number, method_number}
+use Rattle.jc_platform.specs.Rows.{Above, above, parts_at, row_of_line}
+use Rattle.jc_platform.specs.Tokens.{Tokens}
+
+-- each line is its row below the rows above it; lines and rows from the last one up
+abbrev pub Say : List (List ℕ) → List Row → Type 0
+Say [] [] = Unit {0}
+Say [] (row ∷ rows) = ⊥
+Say (line ∷ lines) [] = ⊥
+Say (line ∷ lines) (row ∷ rows) = (row_of_line (above rows) line ≡ Some row) × Say lines rows
+
+-- the text is lines that are all ended by a line feed, and they say these rows
+abbrev pub Spells : List ℕ → List Row → Type 0
+Spells text rows = (lines : List (List ℕ)) × (parts_at 10 text ≡ reverse lines ++ [] ∷ []) × Say lines rows
+
+-- a part of a text is a bad line: there it is no row, or no line feed ends it
+abbrev pub IsBad : Above → List ℕ → List (List ℕ) → Type 0
+IsBad a part [] = part ≢ []
+IsBad a part (next ∷ more) = row_of_line a part ≡ None
+
+-- line n, counted from 1, is the first bad one
+abbrev pub IsFirstBad : List ℕ → ℕ → Type 0
+IsFirstBad text n = (lines : List (List ℕ)) × (rows : List Row) × (part : List ℕ) × (more : List (List ℕ))
+    × (parts_at 10 text ≡ reverse lines ++ part ∷ more) × Say lines rows × (n ≡ length lines + 1) × IsBad (above rows) part more
+
+-- no package stands, or some name is missing
+abbrev pub IsMissing : Above → Type 0
+IsMissing a = (a.first ≡ None) ⊎ ((p : PlatformPackage) × (a.version p ≡ None)) ⊎ ((c : PlatformClass) × (a.class_token c ≡ None)) ⊎ ((m : PlatformMethod) × (a.method_token m ≡ None))
+
+-- the tokens and versions are those that stand above, and all stand there
+pub record AreThoseOf (a : Above) (t : Tokens) : Type 0 where
+  pub first : a.first ≡ Some t.first
+  pub versions : (p : PlatformPackage) → a.version p ≡ slice_get t.versions (package_number p)
+  pub class_tokens : (c : PlatformClass) → a.class_token c ≡ Some (slice_index t.class_tokens (class_number c))
+  pub method_tokens : (m : PlatformMethod) → a.method_token m ≡ Some (slice_index t.method_tokens (method_number m))
+
+-- the most bytes of a table's text
+abbrev pub largest_text : ℕ
+largest_text = 16384
+
+-- the fault's number is one of these
+abbrev pub IsFault : TableFault → (ℕ → Type 0) → Type 0
+IsFault (BadTable n) Is = Is n
+
+-- what reading a text answers
+abbrev pub Reads : List ℕ → Result Tokens TableFault → Type 0
+Reads text (Ok t) = (length text ≤ largest_text) × ((rows : List Row) × Spells text rows × AreThoseOf (above rows) t)
+Reads text (Err (BadTable n)) = ((largest_text < length text) × (n ≡ 0))
+    ⊎ ((length text ≤ largest_text) × IsFirstBad text n)
+    ⊎ ((length text ≤ largest_text) × (n ≡ 0) × ((rows : List Row) × Spells text rows × IsMissing (above rows)))

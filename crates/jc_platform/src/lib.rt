@@ -1,0 +1,11 @@
+//! The platform's packages, classes and methods, and the tokens that a table gives them.
+#![tactic(auto)]
+
+pub mod fault;
+mod lookup;
+pub mod names;
+pub mod read;
+mod reading;
+pub mod row;
+pub mod table;
+mod words;

@@ -1,0 +1,67 @@
+//! Looking names up.
+
+ghost use Rattle.std.specs.Prelude.{◌≡◌, ◌&&◌, find, map};
+ghost use Rattle.std.specs.Option.{option_map};
+ghost use Rattle.std.specs.Str.{bytes_eq};
+ghost use Rattle.jc_platform.specs.Names.{classes, methods, packages};
+ghost use Rattle.jc_platform.specs.Rows.{method_named};
+ghost use Rattle.jc_platform.specs.Seen.{seen_class, seen_method, seen_package};
+
+use crate::names::{
+    CLASSES, ClassName, METHODS, MethodKind, MethodName, PACKAGES, PackageName, PlatformClass,
+};
+
+/// Every package.
+pub(crate) fn all_packages() -> &'static [PackageName]
+    ensures { map seen_package result.now ≡ packages }
+{
+    &PACKAGES
+}
+
+/// Every class.
+pub(crate) fn all_classes() -> &'static [ClassName]
+    ensures { map seen_class result.now ≡ classes }
+{
+    &CLASSES
+}
+
+/// Every method.
+pub(crate) fn all_methods() -> &'static [MethodName]
+    ensures { map seen_method result.now ≡ methods }
+{
+    &METHODS
+}
+
+/// The package whose AID this is, in upper case hexadecimal.
+pub(crate) fn package_with(aid: &[u8]) -> Option<PackageName>
+    ensures { option_map seen_package result ≡ find (λ e. bytes_eq e.aid_text aid.now) packages }
+{
+    all_packages()
+        .iter()
+        .find(|entry| entry.aid_text == aid)
+        .copied()
+}
+
+/// The class with this name.
+pub(crate) fn class_named(name: &[u8]) -> Option<ClassName>
+    ensures { option_map seen_class result ≡ find (λ e. bytes_eq e.name name.now) classes }
+{
+    all_classes()
+        .iter()
+        .find(|entry| entry.name == name)
+        .copied()
+}
+
+/// The method of the class with this kind and name.
+pub(crate) fn method_named(
+    class: PlatformClass,
+    kind: MethodKind,
+    name: &[u8],
+) -> Option<MethodName>
+    ensures { option_map seen_method result ≡ method_named class kind name.now }
+{
+    all_methods()
+        .iter()
+        .find(|entry| entry.is_of(class, kind) && entry.name == name)
+        .copied()
+}

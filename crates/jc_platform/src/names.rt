@@ -1,0 +1,401 @@
+//! The names of the platform: its packages, classes and methods.
+
+ghost use Rattle.std.specs.Prelude.{◌≡◌, ◌<◌, ◌&&◌};
+ghost use Rattle.jc_platform.specs.Numbers.{class_number, kind_number, method_number, package_number, same_class, same_kind};
+ghost use Rattle.jc_platform.specs.Rows.{largest_token};
+
+/// A package of the platform.
+#[derive(Clone, Copy, PartialEq, Eq, Debug)]
+pub enum PlatformPackage {
+    /// `java.lang`
+    JavaLang,
+    /// `javacard.framework`
+    JavacardFramework,
+}
+
+/// A class or an interface of the platform, in Rust's spelling of its name: `Pin` is `PIN`.
+#[derive(Clone, Copy, PartialEq, Eq, Debug)]
+pub enum PlatformClass {
+    Object,
+    Throwable,
+    Exception,
+    RuntimeException,
+    IndexOutOfBoundsException,
+    ArithmeticException,
+    ArrayIndexOutOfBoundsException,
+    ArrayStoreException,
+    ClassCastException,
+    NegativeArraySizeException,
+    NullPointerException,
+    SecurityException,
+    Shareable,
+    Pin,
+    Applet,
+    Apdu,
+    Aid,
+    JcSystem,
+    Util,
+    OwnerPin,
+    CardException,
+    CardRuntimeException,
+    IsoException,
+    PinException,
+    SystemException,
+    TransactionException,
+    ApduException,
+    UserException,
+}
+
+/// What kind of method a name stands for. Constructors are static here, as their tokens are.
+#[derive(Clone, Copy, PartialEq, Eq, Debug)]
+pub enum MethodKind {
+    Static,
+    Virtual,
+    Interface,
+}
+
+/// A method of the platform, by its class and its name: `OwnerPinCheck` is `check` of `OwnerPIN`, and
+/// `ObjectInit` the constructor `<init>` of `Object`.
+#[derive(Clone, Copy, PartialEq, Eq, Debug)]
+pub enum PlatformMethod {
+    ObjectInit,
+    ObjectEquals,
+    ThrowableInit,
+    ExceptionInit,
+    RuntimeExceptionInit,
+    IndexOutOfBoundsExceptionInit,
+    ArithmeticExceptionInit,
+    ArrayIndexOutOfBoundsExceptionInit,
+    ArrayStoreExceptionInit,
+    ClassCastExceptionInit,
+    NegativeArraySizeExceptionInit,
+    NullPointerExceptionInit,
+    SecurityExceptionInit,
+    PinCheck,
+    PinGetTriesRemaining,
+    PinIsValidated,
+    PinReset,
+    AppletInit,
+    AppletDeselect,
+    AppletGetShareableInterfaceObject,
+    AppletRegister,
+    AppletRegisterBytes,
+    AppletSelect,
+    AppletSelectingApplet,
+    AppletProcess,
+    ApduGetBuffer,
+    ApduReceiveBytes,
+    ApduSendBytes,
+    ApduSetIncomingAndReceive,
+    ApduSetOutgoing,
+    ApduSetOutgoingAndSend,
+    ApduSetOutgoingLength,
+    AidInit,
+    AidEquals,
+    AidEqualsBytes,
+    AidGetBytes,
+    JcSystemAbortTransaction,
+    JcSystemBeginTransaction,
+    JcSystemCommitTransaction,
+    JcSystemGetAid,
+    JcSystemGetAppletShareableInterfaceObject,
+    JcSystemGetMaxCommitCapacity,
+    JcSystemGetPreviousContextAid,
+    JcSystemGetTransactionDepth,
+    JcSystemGetUnusedCommitCapacity,
+    JcSystemIsTransient,
+    JcSystemLookupAid,
+    JcSystemMakeTransientBooleanArray,
+    JcSystemMakeTransientByteArray,
+    JcSystemMakeTransientObjectArray,
+    JcSystemMakeTransientShortArray,
+    UtilArrayCompare,
+    UtilArrayCopy,
+    UtilGetShort,
+    UtilMakeShort,
+    UtilSetShort,
+    OwnerPinInit,
+    OwnerPinCheck,
+    OwnerPinGetTriesRemaining,
+    OwnerPinIsValidated,
+    OwnerPinReset,
+    OwnerPinResetAndUnblock,
+    OwnerPinUpdate,
+    CardExceptionInit,
+    CardExceptionThrowIt,
+    CardExceptionGetReason,
+    CardExceptionSetReason,
+    CardRuntimeExceptionInit,
+    CardRuntimeExceptionThrowIt,
+    CardRuntimeExceptionGetReason,
+    CardRuntimeExceptionSetReason,
+    IsoExceptionInit,
+    IsoExceptionThrowIt,
+    PinExceptionInit,
+    PinExceptionThrowIt,
+    SystemExceptionInit,
+    SystemExceptionThrowIt,
+    TransactionExceptionInit,
+    TransactionExceptionThrowIt,
+    ApduExceptionInit,
+    ApduExceptionThrowIt,
+    UserExceptionInit,
+    UserExceptionThrowIt,
+}
+
+/// How many packages there are.
+pub(crate) const PACKAGE_COUNT: usize = 2;
+
+/// How many classes and interfaces there are.
+pub(crate) const CLASS_COUNT: usize = 28;
+
+/// How many methods there are.
+pub(crate) const METHOD_COUNT: usize = 83;
+
+impl PlatformPackage {
+    /// Its place among the packages.
+    pub(crate) const fn index(self) -> usize
+        ensures place { result ≡ package_number self }
+        ensures bound { result < PACKAGE_COUNT }
+    {
+        self as usize
+    }
+}
+
+impl PlatformClass {
+    /// The two are one, told by their places.
+    pub(crate) const fn is(self, other: PlatformClass) -> bool
+        ensures { result ≡ same_class self other }
+    {
+        self.index() == other.index()
+    }
+
+    /// Its place among the classes.
+    pub(crate) const fn index(self) -> usize
+        ensures place { result ≡ class_number self }
+        ensures bound { result < CLASS_COUNT }
+    {
+        self as usize
+    }
+}
+
+impl PlatformMethod {
+    /// Its place among the methods.
+    pub(crate) const fn index(self) -> usize
+        ensures place { result ≡ method_number self }
+        ensures bound { result < METHOD_COUNT }
+    {
+        self as usize
+    }
+}
+
+impl MethodKind {
+    /// The two are one, told by their places.
+    pub(crate) const fn is(self, other: MethodKind) -> bool
+        ensures { result ≡ same_kind self other }
+    {
+        self.index() == other.index()
+    }
+
+    /// Its place among the kinds.
+    const fn index(self) -> usize
+        ensures { result ≡ kind_number self }
+    {
+        self as usize
+    }
+
+    /// The largest token that a method of this kind may have.
+    pub(crate) const fn largest_token(self) -> u8
+        ensures { result ≡ largest_token self }
+    {
+        match self {
+            MethodKind::Static => 255,
+            MethodKind::Virtual | MethodKind::Interface => 127,
+        }
+    }
+}
+
+/// A package with the text of its AID, in upper case hexadecimal.
+#[derive(Clone, Copy)]
+pub(crate) struct PackageName {
+    pub(crate) package_id: PlatformPackage,
+    pub(crate) aid_text: &'static [u8],
+}
+
+/// A class with its package and its name.
+#[derive(Clone, Copy)]
+pub(crate) struct ClassName {
+    pub(crate) class: PlatformClass,
+    pub(crate) home: PlatformPackage,
+    pub(crate) name: &'static [u8],
+}
+
+/// A method with its class, its kind and its name.
+#[derive(Clone, Copy)]
+pub(crate) struct MethodName {
+    pub(crate) method: PlatformMethod,
+    pub(crate) class: PlatformClass,
+    pub(crate) kind: MethodKind,
+    pub(crate) name: &'static [u8],
+}
+
+impl MethodName {
+    /// It is in this class, and of this kind.
+    pub(crate) fn is_of(&self, class: PlatformClass, kind: MethodKind) -> bool
+        ensures { result ≡ (same_class self.now.class class && same_kind self.now.kind kind) }
+    {
+        self.class.is(class) && self.kind.is(kind)
+    }
+}
+
+macro_rules! class {
+    ($package:ident $class:ident $name:literal) => {
+        ClassName {
+            class: PlatformClass::$class,
+            home: PlatformPackage::$package,
+            name: $name,
+        }
+    };
+}
+
+macro_rules! method {
+    ($class:ident $kind:ident $method:ident $name:literal) => {
+        MethodName {
+            method: PlatformMethod::$method,
+            class: PlatformClass::$class,
+            kind: MethodKind::$kind,
+            name: $name,
+        }
+    };
+}
+
+/// Every package.
+pub(crate) static PACKAGES: [PackageName; PACKAGE_COUNT] = [
+    PackageName {
+        package_id: PlatformPackage::JavaLang,
+        aid_text: b"A0000000620001",
+    },
+    PackageName {
+        package_id: PlatformPackage::JavacardFramework,
+        aid_text: b"A0000000620101",
+    },
+];
+
+/// Every class, in the order of `PlatformClass`.
+pub(crate) static CLASSES: [ClassName; CLASS_COUNT] = [
+    class!(JavaLang Object b"Object"),
+    class!(JavaLang Throwable b"Throwable"),
+    class!(JavaLang Exception b"Exception"),
+    class!(JavaLang RuntimeException b"RuntimeException"),
+    class!(JavaLang IndexOutOfBoundsException b"IndexOutOfBoundsException"),
+    class!(JavaLang ArithmeticException b"ArithmeticException"),
+    class!(JavaLang ArrayIndexOutOfBoundsException b"ArrayIndexOutOfBoundsException"),
+    class!(JavaLang ArrayStoreException b"ArrayStoreException"),
+    class!(JavaLang ClassCastException b"ClassCastException"),
+    class!(JavaLang NegativeArraySizeException b"NegativeArraySizeException"),
+    class!(JavaLang NullPointerException b"NullPointerException"),
+    class!(JavaLang SecurityException b"SecurityException"),
+    class!(JavacardFramework Shareable b"Shareable"),
+    class!(JavacardFramework Pin b"PIN"),
+    class!(JavacardFramework Applet b"Applet"),
+    class!(JavacardFramework Apdu b"APDU"),
+    class!(JavacardFramework Aid b"AID"),
+    class!(JavacardFramework JcSystem b"JCSystem"),
+    class!(JavacardFramework Util b"Util"),
+    class!(JavacardFramework OwnerPin b"OwnerPIN"),
+    class!(JavacardFramework CardException b"CardException"),
+    class!(JavacardFramework CardRuntimeException b"CardRuntimeException"),
+    class!(JavacardFramework IsoException b"ISOException"),
+    class!(JavacardFramework PinException b"PINException"),
+    class!(JavacardFramework SystemException b"SystemException"),
+    class!(JavacardFramework TransactionException b"TransactionException"),
+    class!(JavacardFramework ApduException b"APDUException"),
+    class!(JavacardFramework UserException b"UserException"),
+];
+
+/// Every method, in the order of `PlatformMethod`.
+pub(crate) static METHODS: [MethodName; METHOD_COUNT] = [
+    method!(Object Static ObjectInit b"<init>"),
+    method!(Object Virtual ObjectEquals b"equals"),
+    method!(Throwable Static ThrowableInit b"<init>"),
+    method!(Exception Static ExceptionInit b"<init>"),
+    method!(RuntimeException Static RuntimeExceptionInit b"<init>"),
+    method!(IndexOutOfBoundsException Static IndexOutOfBoundsExceptionInit b"<init>"),
+    method!(ArithmeticException Static ArithmeticExceptionInit b"<init>"),
+    method!(ArrayIndexOutOfBoundsException Static ArrayIndexOutOfBoundsExceptionInit b"<init>"),
+    method!(ArrayStoreException Static ArrayStoreExceptionInit b"<init>"),
+    method!(ClassCastException Static ClassCastExceptionInit b"<init>"),
+    method!(NegativeArraySizeException Static NegativeArraySizeExceptionInit b"<init>"),
+    method!(NullPointerException Static NullPointerExceptionInit b"<init>"),
+    method!(SecurityException Static SecurityExceptionInit b"<init>"),
+    method!(Pin Interface PinCheck b"check"),
+    method!(Pin Interface PinGetTriesRemaining b"getTriesRemaining"),
+    method!(Pin Interface PinIsValidated b"isValidated"),
+    method!(Pin Interface PinReset b"reset"),
+    method!(Applet Static AppletInit b"<init>"),
+    method!(Applet Virtual AppletDeselect b"deselect"),
+    method!(Applet Virtual AppletGetShareableInterfaceObject b"getShareableInterfaceObject"),
+    method!(Applet Virtual AppletRegister b"register"),
+    method!(Applet Virtual AppletRegisterBytes b"registerBytes"),
+    method!(Applet Virtual AppletSelect b"select"),
+    method!(Applet Virtual AppletSelectingApplet b"selectingApplet"),
+    method!(Applet Virtual AppletProcess b"process"),
+    method!(Apdu Virtual ApduGetBuffer b"getBuffer"),
+    method!(Apdu Virtual ApduReceiveBytes b"receiveBytes"),
+    method!(Apdu Virtual ApduSendBytes b"sendBytes"),
+    method!(Apdu Virtual ApduSetIncomingAndReceive b"setIncomingAndReceive"),
+    method!(Apdu Virtual ApduSetOutgoing b"setOutgoing"),
+    method!(Apdu Virtual ApduSetOutgoingAndSend b"setOutgoingAndSend"),
+    method!(Apdu Virtual ApduSetOutgoingLength b"setOutgoingLength"),
+    method!(Aid Static AidInit b"<init>"),
+    method!(Aid Virtual AidEquals b"equals"),
+    method!(Aid Virtual AidEqualsBytes b"equalsBytes"),
+    method!(Aid Virtual AidGetBytes b"getBytes"),
+    method!(JcSystem Static JcSystemAbortTransaction b"abortTransaction"),
+    method!(JcSystem Static JcSystemBeginTransaction b"beginTransaction"),
+    method!(JcSystem Static JcSystemCommitTransaction b"commitTransaction"),
+    method!(JcSystem Static JcSystemGetAid b"getAID"),
+    method!(JcSystem Static JcSystemGetAppletShareableInterfaceObject b"getAppletShareableInterfaceObject"),
+    method!(JcSystem Static JcSystemGetMaxCommitCapacity b"getMaxCommitCapacity"),
+    method!(JcSystem Static JcSystemGetPreviousContextAid b"getPreviousContextAID"),
+    method!(JcSystem Static JcSystemGetTransactionDepth b"getTransactionDepth"),
+    method!(JcSystem Static JcSystemGetUnusedCommitCapacity b"getUnusedCommitCapacity"),
+    method!(JcSystem Static JcSystemIsTransient b"isTransient"),
+    method!(JcSystem Static JcSystemLookupAid b"lookupAID"),
+    method!(JcSystem Static JcSystemMakeTransientBooleanArray b"makeTransientBooleanArray"),
+    method!(JcSystem Static JcSystemMakeTransientByteArray b"makeTransientByteArray"),
+    method!(JcSystem Static JcSystemMakeTransientObjectArray b"makeTransientObjectArray"),
+    method!(JcSystem Static JcSystemMakeTransientShortArray b"makeTransientShortArray"),
+    method!(Util Static UtilArrayCompare b"arrayCompare"),
+    method!(Util Static UtilArrayCopy b"arrayCopy"),
+    method!(Util Static UtilGetShort b"getShort"),
+    method!(Util Static UtilMakeShort b"makeShort"),
+    method!(Util Static UtilSetShort b"setShort"),
+    method!(OwnerPin Static OwnerPinInit b"<init>"),
+    method!(OwnerPin Virtual OwnerPinCheck b"check"),
+    method!(OwnerPin Virtual OwnerPinGetTriesRemaining b"getTriesRemaining"),
+    method!(OwnerPin Virtual OwnerPinIsValidated b"isValidated"),
+    method!(OwnerPin Virtual OwnerPinReset b"reset"),
+    method!(OwnerPin Virtual OwnerPinResetAndUnblock b"resetAndUnblock"),
+    method!(OwnerPin Virtual OwnerPinUpdate b"update"),
+    method!(CardException Static CardExceptionInit b"<init>"),
+    method!(CardException Static CardExceptionThrowIt b"throwIt"),
+    method!(CardException Virtual CardExceptionGetReason b"getReason"),
+    method!(CardException Virtual CardExceptionSetReason b"setReason"),
+    method!(CardRuntimeException Static CardRuntimeExceptionInit b"<init>"),
+    method!(CardRuntimeException Static CardRuntimeExceptionThrowIt b"throwIt"),
+    method!(CardRuntimeException Virtual CardRuntimeExceptionGetReason b"getReason"),
+    method!(CardRuntimeException Virtual CardRuntimeExceptionSetReason b"setReason"),
+    method!(IsoException Static IsoExceptionInit b"<init>"),
+    method!(IsoException Static IsoExceptionThrowIt b"throwIt"),
+    method!(PinException Static PinExceptionInit b"<init>"),
+    method!(PinException Static PinExceptionThrowIt b"throwIt"),
+    method!(SystemException Static SystemExceptionInit b"<init>"),
+    method!(SystemException Static SystemExceptionThrowIt b"throwIt"),
+    method!(TransactionException Static TransactionExceptionInit b"<init>"),
+    method!(TransactionException Static TransactionExceptionThrowIt b"throwIt"),
+    method!(ApduException Static ApduExceptionInit b"<init>"),
+    method!(ApduException Static ApduExceptionThrowIt b"throwIt"),
+    method!(UserException Static UserExceptionInit b"<init>"),
+    method!(UserException Static UserExceptionThrowIt b"throwIt"),
+];

@@ -1,0 +1,21 @@
+//! What a line of the platform table says.
+
+use crate::names::{PlatformClass, PlatformMethod, PlatformPackage};
+
+/// The version of a package.
+#[derive(Clone, Copy, PartialEq, Eq, Debug)]
+pub struct Version {
+    pub major: u8,
+    pub minor: u8,
+}
+
+/// A line that says where a name of the platform stands.
+#[derive(Clone, Copy)]
+pub(crate) enum Row {
+    /// A package with its version.
+    Package(PlatformPackage, Version),
+    /// A class with its token.
+    Class(PlatformClass, u8),
+    /// A method with its token.
+    Method(PlatformMethod, u8),
+}
