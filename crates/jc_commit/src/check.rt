@@ -1,4 +1,4 @@
-// Whether the entries of an image can be taken back.
+//! Whether the entries of an image can be taken back.
 ghost use Rattle.std.specs.Prelude.{◌≡◌, ◌<◌, ◌≤◌, ◌^◌, ◌↔◌, IsTrue, length};
 ghost use Rattle.jc_commit.specs.Image.{IsGoodLog, IsPlace, log_end};
 

@@ -1,4 +1,4 @@
-// Transactions over a store of words.
+//! Transactions over a store of words.
 ghost use Rattle.std.specs.Prelude.{◌≡◌, ◌<◌, ◌≤◌, ◌+◌, ◌^◌, ◌==◌, ◌↔◌, Bool, true, false, [], ◌∷◌, length, slice_index, Ok, Err, OnOk, OnErr, IfOk, IfErr, is_ok, if◌then◌else◌};
 ghost use Rattle.jc_words.specs.Count.{raised};
 ghost use Rattle.jc_commit.specs.Image.{plain_of, recovered_of, top_of, log_end, registry_start, capacity, IsGoodLog, IsPlace, IsReadable, IsUnlogged, StillRecovers};

@@ -1,4 +1,4 @@
-// Where the journal's own words stand.
+//! Where the journal's own words stand.
 ghost use Rattle.std.specs.Prelude.{◌≡◌, ◌<◌, ◌+◌, ◌*◌};
 ghost use Rattle.jc_commit.specs.Image.{log_start, capacity};
 

@@ -1,4 +1,4 @@
-// Keeps the old values of words, and then writes them.
+//! Keeps the old values of words, and then writes them.
 ghost use Rattle.std.specs.Prelude.{◌≡◌, ◌<◌, ◌≤◌, ◌+◌, ◌*◌, OnOk, OnErr, is_ok, true, false, ◌++◌, if◌then◌else◌, length};
 ghost use Rattle.jc_words.specs.Count.{raised};
 ghost use Rattle.jc_commit.specs.Image.{plain_of, recovered_of, count_of, entries, touched_of, with_words, log_end, capacity, IsGoodLog};

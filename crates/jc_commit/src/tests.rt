@@ -1,3 +1,4 @@
+//! Transactions over stores that are stopped.
 ghost use Rattle.std.specs.Prelude.{◌≡◌, ◌≤◌, length, false, true, IfOk};
 
 use crate::{Journal, OpenRefusal, WriteRefusal};

@@ -1,4 +1,4 @@
-// Takes a transaction back, from its last entry to its first.
+//! Takes a transaction back, from its last entry to its first.
 ghost use Rattle.std.specs.Prelude.{◌≡◌, ◌<◌, ◌≤◌, ◌+◌, OnOk, OnErr, is_ok, true, slice_index, if◌then◌else◌, length, IsTrue, ◌↔◌, ◌==◌};
 ghost use Rattle.jc_words.specs.Count.{raised};
 ghost use Rattle.jc_commit.specs.Image.{plain_of, recovered_of, touched_of, count_of, entries, with_words, IsGoodLog};

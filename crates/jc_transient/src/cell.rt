@@ -1,4 +1,4 @@
-// Values of cells.
+//! Values of cells.
 ghost use Rattle.std.specs.Prelude.{◌≡◌};
 ghost use Rattle.jc_transient.specs.Cells.{cleared, without_dead, byte_value, low_byte};
 

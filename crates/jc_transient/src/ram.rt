@@ -1,4 +1,4 @@
-// The contents of memory.
+//! The contents of memory.
 ghost use Rattle.std.specs.Prelude.{◌≡◌, ◌<◌, ◌≤◌, ◌+◌, Bool, ℕ, List, false, length, map, replicate, take, drop, ◌++◌, pos, IfOk, vec_len, slice_index_or, slice_set};
 ghost use Rattle.jc_transient.specs.Cells.{cleared, without_dead, byte_value, low_byte};
 ghost use Rattle.jc_transient.specs.State.{area_size, flag_count, buffer_size, buffer_place, HasSizes, IsBlank, area, with_area, cell_at, flag_of, with_cells, with_buffer_bytes};

@@ -1,4 +1,4 @@
-// Names of objects.
+//! Names of objects.
 ghost use Rattle.std.specs.Prelude.{◌≡◌, ◌<◌, ◌^◌, ◌↔◌, IsTrue};
 
 use std::marker::Model;

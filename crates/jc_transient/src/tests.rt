@@ -1,4 +1,4 @@
-// What no clause says: that a call succeeds where there is memory, and the numbers of one worked case.
+//! What no clause says: that a call succeeds where there is memory, and the numbers of one worked case.
 use crate::{AREA_CELLS, BUFFER_CELLS, BUFFER_PLACE, CellValue, ClearEvent, Ram, Ref};
 use std::test::Fail;
 

@@ -1,4 +1,4 @@
-// Words in a file.
+//! Words in a file.
 ghost use Rattle.std.specs.Prelude.{◌≡◌, ◌<◌, ◌≤◌, ◌*◌, ◌^◌, ◌++◌, ◌↔◌, List, ℕ, true, false, length, replicate, slice_index, slice_set, take, IfOk, IfSome, OnOk, OnErr, IsTrue, IsErrOf, IsOkUnless, Ok, vec_len, is_ok, is_err, if◌then◌else◌};
 ghost use Rattle.jc_words.specs.Count.{raised};
 ghost use Rattle.jc_words.specs.Files.{AreWordsOf, IsImageSize, PutsWord};

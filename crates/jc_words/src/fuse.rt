@@ -1,4 +1,4 @@
-// A store whose power is cut after a number of writes.
+//! A store whose power is cut after a number of writes.
 ghost use Rattle.std.specs.Prelude.{◌≡◌, ◌≢◌, ◌-◌, ◌<◌, ◌==◌, ◌||◌, List, ℕ, Bool, true, false, Option, Some, None, Ok, Err, length, slice_index, slice_set, OnOk, OnErr, is_ok, is_err, IsErr, option_map, if◌then◌else◌};
 ghost use Rattle.jc_words.specs.Count.{raised};
 

@@ -1,4 +1,4 @@
-// The first words of an image.
+//! The first words of an image.
 ghost use Rattle.std.specs.Prelude.{◌≡◌, ◌≢◌, ◌<◌, ◌≤◌, ◌↔◌, ◌++◌, IsOk, IsErrOf, OnOk, OnErr, length, slice_index, drop, is_ok, true, if◌then◌else◌};
 ghost use Rattle.jc_words.specs.Count.{raised};
 ghost use Rattle.jc_words.specs.Image.{magic, version, least_size, text_start, HasSize, blank_head};

@@ -1,3 +1,4 @@
+//! Stores and blank images.
 ghost use Rattle.std.specs.Prelude.{◌≡◌, length, IfOk};
 
 use crate::{

@@ -1,4 +1,4 @@
-// The program's texts and exit statuses.
+//! The program's texts and exit statuses.
 use crate::run::run_words;
 use jcard_script::mem_text::MemText;
 use std::fs;

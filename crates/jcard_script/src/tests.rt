@@ -1,4 +1,4 @@
-// Scripts on bare cards, over good and failing streams.
+//! Scripts on bare cards, over good and failing streams.
 use crate::mem_text::MemText;
 use crate::script::{ScriptFault, run_script};
 use crate::std_text::StdText;

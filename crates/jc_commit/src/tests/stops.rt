@@ -1,4 +1,4 @@
-// Each story again, stopped after every number of its writes, with recoveries that are stopped too.
+//! Each story again, stopped after every number of its writes, with recoveries that are stopped too.
 ghost use Rattle.std.specs.Prelude.{◌≡◌, ◌≤◌, ◌<◌, length, false, true, IfOk};
 
 use super::{FIRST, SECOND, Store, image, opened, recovered, recovered_in_part};

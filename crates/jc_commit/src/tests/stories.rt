@@ -1,4 +1,4 @@
-// What each call leaves, with the word writes that it takes.
+//! What each call leaves, with the word writes that it takes.
 ghost use Rattle.std.specs.Prelude.{◌≡◌, ◌≤◌, length, false, true, IfOk};
 
 use super::{FIRST, SECOND, Store, image, opened, recovered, recovered_in_part};

@@ -1,4 +1,4 @@
-//! The rows' table, and each way in which a text is no table.
+//! The example table, and each way in which a text is no table.
 
 use super::read_table;
 use crate::fault::TableFault;

@@ -1,3 +1,4 @@
+//! Files that fail, and files that hold words.
 ghost use Rattle.std.specs.Prelude.{◌≡◌, ◌≤◌, ◌*◌, length, vec_len, IfOk, false};
 
 use crate::{FileCreateFault, FileOpenFault, FileStore, MemStore, StoreDown, WordStore};
