@@ -1,4 +1,4 @@
-use Rattle.std.proofs.Common.{◌≡◌, ◌++◌, ℕ, List, length, take, drop, set, get_or, ap, ◌∙◌, arith, rules}
+use Rattle.std.proofs.Common.{ℕ, List, length, drop, set, get_or, ap, ◌∙◌, arith, rules}
 use Rattle.std.proofs.lemmas.List.{drop-set-lt, length-set}
 use Rattle.jc_words.proofs.Fronts.{front_more}
 use Rattle.jc_words.proofs.image.write_head.Goals as goal

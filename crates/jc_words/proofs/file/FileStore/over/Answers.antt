@@ -1,4 +1,4 @@
-use Rattle.std.proofs.Common.{◌≡◌, ℕ, length, refl, subst, sym, arith, true, false}
+use Rattle.std.proofs.Common.{◌≡◌, ℕ, length, refl, subst, arith}
 use Rattle.std.proofs.lemmas.Bool.{false≢true}
 use Rattle.jc_words.specs.Files.{IsImageSize, AreWordsOf}
 use Rattle.jc_words.proofs.Streams.{too_much_to_hold, held_whole}
