@@ -2,7 +2,7 @@
 use Rattle.std.proofs.Common.{◌≡◌, ℕ, zero, suc, ◌+◌, ◌-◌, ◌*◌, ◌<◌, ◌≤◌, Bool, true, false, cond, List, [], ◌∷◌, ◌++◌, Option, Some, None, unwrap_or, IsSome, length, map, get_or, set, take, slice_index, eqb, refl, sym, ◌∙◌, ap, subst, arith, ⊎_elim, get_or-set_other, get_or-set_same, eq-eqb}
 use Rattle.std.proofs.lemmas.List.{length-set, map-append}
 use Rattle.std.proofs.lemmas.Bool.{cases_lt, false≢true, eqb-true}
-use Rattle.jc_commit.specs.Image.{is_log, words_by, IsPlace, IsReadable, IsGoodLog, entries_from, entries, old_value, count_of, address_at, old_at, plain_of, recovered_of, touched_of, with_words, log_start, log_end, capacity, count_address}
+use Rattle.jc_commit.specs.Image.{is_log, words_by, IsPlace, IsReadable, IsGoodLog, entries_from, entries, old_value, count_of, address_at, old_at, plain_of, recovered_of, touched_of, with_words, log_start, capacity, count_address}
 use Rattle.jc_commit.specs.Entries.{addresses_of, ArePlaces, AreNamed, SameBefore, HasEntries}
 use Rattle.jc_commit.proofs.Words.{words_by_same, not_entry, not_count, readable}
 use Rattle.jc_commit.proofs.Steps.{entries_same, entries-set_beside, entries-set_place, recovered_at, recovered-set_named, plain-set_place, plain-set_count, IsPlace-same, IsGoodLog-set_place}

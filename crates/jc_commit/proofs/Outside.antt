@@ -1,12 +1,12 @@
 -- Changes outside a transaction.
-use Rattle.std.specs.Prelude.{if◌then◌else◌, ◌==◌, Bool, true, false, MatchBool}
-use Rattle.std.proofs.Common.{◌≡◌, ◌<◌, ℕ, ◌+◌, ◌*◌, List, [], ◌∷◌, ◌++◌, length, map, set, get_or, refl, sym, ap, ◌∙◌, subst, arith}
-use Rattle.std.proofs.lemmas.List.{append-nil, nil_from_length, length-set, length-map}
+use Rattle.std.specs.Prelude.{if◌then◌else◌, Bool, true, false, MatchBool}
+use Rattle.std.proofs.Common.{◌≡◌, ◌<◌, ℕ, ◌+◌, ◌*◌, List, [], ◌∷◌, ◌++◌, length, set, get_or, refl, sym, ap, ◌∙◌, subst, arith}
+use Rattle.std.proofs.lemmas.List.{append-nil, nil_from_length, length-set}
 use Rattle.std.proofs.lemmas.Bool.Decides.{nat_tests}
 use Rattle.jc_words.specs.Count.{raised}
 use Rattle.jc_commit.specs.Image.{with_words, plain_of}
 use Rattle.jc_commit.specs.Entries.{addresses_of}
-use Rattle.jc_commit.specs.State.{State, Changes, IsStopped, added, writes_for, writes_inside, writes_outside, live}
+use Rattle.jc_commit.specs.State.{State, Changes, IsStopped, writes_for, writes_inside, writes_outside, live}
 use Rattle.std.proofs.lemmas.Bool.{ne_eqb}
 use Rattle.jc_commit.proofs.InPlace.{length-plain}
 use Rattle.jc_commit.proofs.Views.{raised_none, length-addresses}

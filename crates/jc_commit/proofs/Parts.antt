@@ -1,6 +1,6 @@
 -- The words that a replay leaves, write by write.
-use Rattle.std.specs.Prelude.{if◌then◌else◌, ◌==◌, Bool}
-use Rattle.std.proofs.Common.{◌≡◌, ◌<◌, ◌≤◌, ℕ, zero, suc, ◌+◌, ◌-◌, ◌*◌, true, false, List, [], ◌∷◌, ◌++◌, length, take, set, get_or, slice_index, refl, sym, ap, ◌∙◌, subst, arith, get_or-set_other, take_all, length-append}
+use Rattle.std.specs.Prelude.{if◌then◌else◌, Bool}
+use Rattle.std.proofs.Common.{◌≡◌, ◌<◌, ◌≤◌, ℕ, zero, suc, ◌+◌, ◌*◌, true, List, [], ◌∷◌, ◌++◌, length, take, set, get_or, slice_index, refl, sym, ap, ◌∙◌, arith, get_or-set_other, take_all, length-append}
 use Rattle.std.proofs.lemmas.List.{take-append-le}
 use Rattle.std.proofs.lemmas.Bool.{ne_eqb, false≢true}
 use Rattle.std.proofs.lemmas.Bool.Decides.{nat_tests}

@@ -1,6 +1,6 @@
 -- A replay that is stopped keeps what a recovery gives.
 use Rattle.std.specs.Prelude.{if◌then◌else◌, ◌==◌, Bool, true, false}
-use Rattle.std.proofs.Common.{◌≡◌, ◌<◌, ◌≤◌, ℕ, zero, suc, ◌+◌, ◌*◌, List, [], ◌∷◌, ◌++◌, take, set, refl, sym, ◌∙◌, subst, arith, get_or-set_other}
+use Rattle.std.proofs.Common.{◌≡◌, ◌≤◌, ℕ, zero, suc, ◌+◌, ◌*◌, List, [], ◌∷◌, ◌++◌, take, set, refl, sym, ◌∙◌, subst, arith, get_or-set_other}
 use Rattle.std.proofs.lemmas.List.{length-set}
 use Rattle.jc_commit.specs.Image.{count_of, address_at, old_at, with_words, IsGoodLog, StillRecovers, count_address, log_start, log_end, capacity}
 use Rattle.jc_commit.specs.Replay.{write_backs, stopped_after, after_replays}
