@@ -62,7 +62,7 @@ pub take_rest : (k : ℕ) (xs : List ℕ) → take (length xs - k) (drop k xs) �
 take_rest k xs = take_all (length xs - k) (drop k xs) (omega (arith, length-drop k xs))
 
 -- both tests pass
-and_true : (a b : Bool) → (a && b) ≡ true → (a ≡ true) × (b ≡ true)
+pub and_true : (a b : Bool) → (a && b) ≡ true → (a ≡ true) × (b ≡ true)
 and_true true b e = (refl, e)
 and_true false b e = absurd (false≢true e)
 

@@ -5,3 +5,4 @@ pub mod Rows
 pub mod Seen
 pub mod Table
 pub mod Tokens
+pub mod Distinct

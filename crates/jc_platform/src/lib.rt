@@ -2,6 +2,7 @@
 #![tactic(auto)]
 
 pub mod fault;
+pub mod laws;
 mod lookup;
 pub mod names;
 pub mod read;

@@ -130,33 +130,29 @@ fn an_open_transaction_may_be_stopped_anywhere(rt: HostRuntime) -> Result<(), Fa
     stop_everywhere(&rt, Story::ThreeWrites, 12)
 }
 
-// So many writes leave too many pairs of recoveries to run them all. Over each stop of the story,
-// recoveries are stopped one after the other over the same words, each after more of its writes than
-// the one before: after every fourth number, so that the four stops in one write of the story meet
-// every number.
+// So many writes leave too many pairs of recoveries to run them all. So after each stop of the story
+// recoveries follow one another over the same words, each stopped after one more of its writes than
+// the one before, from none to all.
 #[test]
 fn a_full_transaction_may_be_stopped_anywhere(rt: HostRuntime) -> Result<(), Fail> {
     for writes in 0..=1281u64 {
         let store = stopped(&rt, Story::FullAndAbort, writes)?;
         assert_eq!(rt; store.passed(), writes);
-        let store = stopped_ever_later(store, writes % 4)?;
+        let store = stopped_ever_later(store)?;
         check_recovers(&rt, store)?;
     }
     Ok(())
 }
 
-// Recoveries, each stopped after four more of its writes than the one before.
-fn stopped_ever_later(store: Store, least: u64) -> Result<Store, Fail>
-    requires size { length store.words ≡ 8192 }
-    requires small { least < 4 }
+// Recoveries, each stopped after one more of its writes than the one before.
+fn stopped_ever_later(store: Store) -> Result<Store, Fail>
+    requires { length store.words ≡ 8192 }
     ensures { IfOk result (λ store. length store.words ≡ 8192) }
 {
     let most = writes_to_recover(&store);
     let mut store = store;
-    for step in 0..=64u64 {
-        if 4 * step <= most {
-            store = recovered_in_part(store, 4 * step + least)?;
-        }
+    for step in 0..=most {
+        store = recovered_in_part(store, step)?;
     }
     Ok(store)
 }

@@ -1,4 +1,4 @@
-use Rattle.std.proofs.Common.{◌≡◌, ◌<◌, length, get_or, ap, arith}
+use Rattle.std.proofs.Common.{get_or, ap, arith}
 use Rattle.std.proofs.lemmas.List.Edits.{map_over_more}
 use Rattle.jc_transient.specs.Cells.{cleared}
 use Rattle.jc_transient.proofs.ram.clear_cells.Goals as goal

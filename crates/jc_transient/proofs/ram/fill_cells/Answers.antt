@@ -1,4 +1,4 @@
-use Rattle.std.proofs.Common.{◌≡◌, ◌<◌, ◌+◌, length, arith}
+use Rattle.std.proofs.Common.{◌<◌, ◌+◌, length, arith}
 use Rattle.std.proofs.lemmas.List.Edits.{fill_from_more}
 use Rattle.jc_transient.proofs.ram.fill_cells.Goals as goal
 

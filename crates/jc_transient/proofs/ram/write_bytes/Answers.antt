@@ -1,4 +1,4 @@
-use Rattle.std.proofs.Common.{◌≡◌, ◌<◌, ◌+◌, length, map, arith, get_or}
+use Rattle.std.proofs.Common.{◌≡◌, ◌<◌, ◌+◌, length, map, arith}
 use Rattle.std.proofs.lemmas.List.{length-map}
 use Rattle.std.proofs.Math.ListN.{get_or-map}
 use Rattle.std.proofs.lemmas.List.Edits.{paste_more}

@@ -1,0 +1,171 @@
+-- A record behind a whole table.
+use Rattle.std.proofs.Common.{◌≡◌, ℕ, zero, suc, ◌+◌, ◌-◌, ◌/◌, ◌<◌, ◌≤◌, Bool, true, false, List, [], ◌∷◌, ◌++◌, length, take, drop, set, get_or, map, refl, sym, ◌∙◌, ap, subst, arith, slice_index, if◌then◌else◌, ◌==◌, lit<}
+use Rattle.std.proofs.lemmas.List.{get_or_append_left, get_or-set_other, get_or-set_same, get_or-take, drop-set-lt, take-set-le, drop-append-le, take-append-le, length-drop, length-take, length-set, length-append, take_all, map-append, set-append_left, length-take-le, take-take}
+use Rattle.jc_heap.specs.Cut.{Sizes, cut, lacking}
+use Rattle.jc_heap.specs.Object.{Object, Item, AnObject, APackage, object_of, payload}
+use Rattle.jc_heap.specs.Image.{image, base, package_addresses, is_package, sizes, item, item_entry, records, missing, IsLaid}
+use Rattle.jc_heap.specs.Heap.{HeapState, read_image, heap_of, add_object}
+use Rattle.jc_heap.proofs.Records.{Tells, cut-append, lacking-append, take-set_comm}
+use Rattle.jc_heap.proofs.Images.{sizes_tell}
+
+-- a record alone
+cut-skip_all : (more : Sizes) (s at : ℕ) (ws : List ℕ) → length ws ≤ s → cut more s at ws ≡ []
+cut-skip_all more s at [] h = refl
+cut-skip_all more zero at (w ∷ ws) h = absurd (omega arith)
+cut-skip_all more (suc s) at (w ∷ ws) h = cut-skip_all more s (suc at) ws (omega arith)
+
+lacking-skip_all : (more : Sizes) (s at : ℕ) (ws : List ℕ) → length ws ≡ s → lacking more s at ws ≡ 0
+lacking-skip_all more s at [] h = sym h
+lacking-skip_all more zero at (w ∷ ws) h = absurd (omega arith)
+lacking-skip_all more (suc s) at (w ∷ ws) h = lacking-skip_all more s (suc at) ws (omega arith)
+
+cut-one : (more : Sizes) (at : ℕ) (ws : List ℕ) → more at ws + 1 ≡ length ws → cut more 0 at ws ≡ (at, ws) ∷ []
+cut-one more at [] h = absurd (omega arith)
+cut-one more at (w ∷ ws) h =
+    let fits : length ws ≤ more at (w ∷ ws) = omega arith in
+    rw (take_all (more at (w ∷ ws)) ws fits, cut-skip_all more (more at (w ∷ ws)) (suc at) ws fits) refl
+
+lacking-one : (more : Sizes) (at : ℕ) (ws : List ℕ) → more at ws + 1 ≡ length ws → lacking more 0 at ws ≡ 0
+lacking-one more at [] h = absurd (omega arith)
+lacking-one more at (w ∷ ws) h = lacking-skip_all more (more at (w ∷ ws)) (suc at) ws (omega arith)
+
+-- an image with its top moved over another record
+module _ (img rec : List ℕ) (long : 752 ≤ length img) where
+  abbrev top : ℕ
+  top = length img + length rec
+
+  abbrev grown : List ℕ
+  grown = set img 5 top ++ rec
+
+  word-grown : (k : ℕ) → k < 752 → (k ≡ 5 → ⊥) → get_or grown k 0 ≡ get_or img k 0
+  word-grown k h n = get_or_append_left (set img 5 top) rec 0 k (omega (arith, length-set img 5 top)) ∙ get_or-set_other img 5 k top 0 n
+
+  pub top-grown : get_or grown 5 0 ≡ top
+  top-grown = get_or_append_left (set img 5 top) rec 0 5 (omega (arith, length-set img 5 top)) ∙ get_or-set_same img 5 top 0 (omega arith)
+
+  tail-grown : (from : ℕ) → 5 < from → from ≤ length img → drop from grown ≡ drop from img ++ rec
+  tail-grown from h le = drop-append-le from (set img 5 top) rec (omega (arith, length-set img 5 top)) ∙ ap (λ l. l ++ rec) (drop-set-lt from img 5 top h)
+
+  range-grown : (from n : ℕ) → 5 < from → from + n ≤ length img → take n (drop from grown) ≡ take n (drop from img)
+  range-grown from n h le = ap (take n) (tail-grown from h (omega arith)) ∙ take-append-le n (drop from img) rec (omega (arith, length-drop from img))
+
+  pub packages-grown : package_addresses grown ≡ package_addresses img
+  packages-grown = rw (word-grown 6 (lit< tt) (λ e. omega arith), range-grown 528 32 (lit< tt) (omega arith)) refl
+
+  pub base-grown : base grown ≡ base img
+  base-grown = rw (word-grown 10 (lit< tt) (λ e. omega arith)) refl
+
+  module _ (based : base img ≤ length img) (whole : missing img ≡ 0) (free : is_package (package_addresses img) (length img) ≡ false) (own : 3 + payload (get_or rec 0 0) (get_or rec 3 0) + 1 ≡ length rec) where
+    abbrev more : Sizes
+    more = sizes (package_addresses img)
+
+    table-grown : {X : Type 0} (F : Sizes → ℕ → List ℕ → X) →
+        F (sizes (package_addresses grown)) (base grown) (drop (base grown) grown) ≡ F more (base img) (drop (base img) img ++ rec)
+    table-grown F =
+        ap (λ ps. F (sizes ps) (base grown) (drop (base grown) grown)) packages-grown
+        ∙ ap (λ b. F more b (drop b grown)) base-grown
+        ∙ ap (F more (base img)) (tail-grown (base img) (omega arith) based)
+
+    at_end : base img + length (drop (base img) img) ≡ length img
+    at_end = omega (arith, length-drop (base img) img)
+
+    fits_own : more (length img) rec + 1 ≡ length rec
+    fits_own = rw free own
+
+    records-grown : records grown ≡ records img ++ (length img, rec) ∷ []
+    unfolding missing
+    records-grown =
+        table-grown (λ m b ws. cut m 0 b ws)
+        ∙ cut-append more (sizes_tell (package_addresses img)) 0 (base img) (drop (base img) img) rec whole
+        ∙ ap (λ a. records img ++ cut more 0 a rec) at_end
+        ∙ ap (λ l. records img ++ l) (cut-one more (length img) rec fits_own)
+
+    pub missing-grown : missing grown ≡ 0
+    unfolding missing
+    missing-grown =
+        table-grown (λ m b ws. lacking m 0 b ws)
+        ∙ lacking-append more (sizes_tell (package_addresses img)) 0 (base img) (drop (base img) img) rec whole
+        ∙ ap (λ a. lacking more 0 a rec) at_end
+        ∙ lacking-one more (length img) rec fits_own
+
+    pub read-grown : read_image grown ≡ add_object (read_image img) (object_of rec) (length rec)
+    unfolding read_image add_object
+    read-grown =
+        let items : map (item_entry (package_addresses grown)) (records grown) ≡ map (item_entry (package_addresses img)) (records img) ++ (length img, AnObject (object_of rec)) ∷ [] =
+        ap (λ ps. map (item_entry ps) (records grown)) packages-grown
+        ∙ ap (map (item_entry (package_addresses img))) records-grown
+        ∙ map-append (item_entry (package_addresses img)) (records img) ((length img, rec) ∷ [])
+        ∙ ap (λ e. map (item_entry (package_addresses img)) (records img) ++ e ∷ []) (rw free refl) in
+        let applets : take 192 (drop 560 grown) ≡ take 192 (drop 560 img) = range-grown 560 192 (lit< tt) (omega arith) in
+        let top_is : length grown ≡ length img + length rec = omega (arith, length-append (set img 5 top) rec, length-set img 5 top) in
+        let first_end : get_or grown 8 0 ≡ get_or img 8 0 = word-grown 8 (lit< tt) (λ e. omega arith) in
+        let second_end : get_or grown 9 0 ≡ get_or img 9 0 = word-grown 9 (lit< tt) (λ e. omega arith) in
+        λ k. record { items = items k; packages = packages-grown k; applets = applets k; area_ends = (first_end k, second_end k); top = top_is k }
+
+-- words whose top moves over a record that stands there
+pub IsGrown_image : (old ws rec : List ℕ) → IsLaid old → take (get_or old 5 0 + length rec) ws ≡ take (get_or old 5 0) old ++ rec → get_or old 5 0 + length rec ≤ length ws →
+    image (set ws 5 (get_or old 5 0 + length rec)) ≡ set (image old) 5 (length (image old) + length rec) ++ rec
+IsGrown_image old ws rec laid e fits =
+    let t : ℕ = get_or old 5 0 in
+    let long : length (image old) ≡ get_or old 5 0 = length-take-le (get_or old 5 0) old laid.fits in
+    let based : 752 ≤ get_or old 5 0 = omega (arith, laid.based) in
+    let new_top : get_or (set ws 5 (get_or old 5 0 + length rec)) 5 0 ≡ get_or old 5 0 + length rec = get_or-set_same ws 5 (get_or old 5 0 + length rec) 0 (omega arith) in
+    ap (λ n. take n (set ws 5 (get_or old 5 0 + length rec))) new_top
+    ∙ take-set_comm (get_or old 5 0 + length rec) ws 5 (get_or old 5 0 + length rec)
+    ∙ ap (λ l. set l 5 (get_or old 5 0 + length rec)) e
+    ∙ set-append_left (image old) rec 5 (get_or old 5 0 + length rec) (omega arith)
+    ∙ ap (λ n. set (image old) 5 (n + length rec) ++ rec) (sym long)
+
+module _ (old ws rec : List ℕ) (laid : IsLaid old) (e : take (get_or old 5 0 + length rec) ws ≡ take (get_or old 5 0) old ++ rec) (fits : get_or old 5 0 + length rec ≤ length ws) (own : 3 + payload (get_or rec 0 0) (get_or rec 3 0) + 1 ≡ length rec) where
+  abbrev moved : List ℕ
+  moved = set ws 5 (get_or old 5 0 + length rec)
+
+  long_image : length (image old) ≡ get_or old 5 0
+  long_image = length-take-le (get_or old 5 0) old laid.fits
+
+  wide : 752 ≤ length (image old)
+  wide = omega (arith, long_image, laid.based)
+
+  based_image : base (image old) ≤ length (image old)
+  based_image = omega (arith, long_image, laid.based)
+
+  free_image : is_package (package_addresses (image old)) (length (image old)) ≡ false
+  free_image = laid.packages (length (image old)) (omega (arith, long_image))
+
+  is_grown : image moved ≡ set (image old) 5 (length (image old) + length rec) ++ rec
+  is_grown = IsGrown_image old ws rec laid e fits
+
+  -- the heap then has one object more
+  pub heap_of-grown : heap_of moved ≡ add_object (heap_of old) (object_of rec) (length rec)
+  heap_of-grown = ap read_image is_grown ∙ read-grown (image old) rec wide based_image laid.whole free_image own
+
+  pub top-moved : get_or moved 5 0 ≡ get_or old 5 0 + length rec
+  top-moved = get_or-set_same ws 5 (get_or old 5 0 + length rec) 0 (omega (arith, laid.based))
+
+  pub IsLaid-grown : IsLaid moved
+  IsLaid-grown = record {
+    based = let b : base (image moved) ≡ base (image old) = ap base is_grown ∙ base-grown (image old) rec wide in omega (arith, top-moved, laid.based);
+    fits = omega (arith, top-moved, length-set ws 5 (get_or old 5 0 + length rec));
+    whole = ap missing is_grown ∙ missing-grown (image old) rec wide based_image laid.whole free_image own;
+    packages = λ a le. ap (λ l. is_package (package_addresses l) a) is_grown ∙ ap (λ ps. is_package ps a) (packages-grown (image old) rec wide) ∙ laid.packages a (omega (arith, top-moved));
+  }
+
+-- words that agree below the top stand for the same image
+pub image-same_below : (ws us : List ℕ) (at : ℕ) → 5 < at → get_or ws 5 0 ≤ at → take at us ≡ take at ws → image us ≡ image ws
+image-same_below ws us at five h e =
+    let top : get_or us 5 0 ≡ get_or ws 5 0 = sym (get_or-take at us 5 0 five) ∙ ap (λ l. get_or l 5 0) e ∙ get_or-take at ws 5 0 five in
+    ap (λ n. take n us) top ∙ sym (take-take (get_or ws 5 0) at us h) ∙ ap (take (get_or ws 5 0)) e ∙ take-take (get_or ws 5 0) at ws h
+
+pub top-same_below : (ws us : List ℕ) (at : ℕ) → 5 < at → take at us ≡ take at ws → get_or us 5 0 ≡ get_or ws 5 0
+top-same_below ws us at five e = sym (get_or-take at us 5 0 five) ∙ ap (λ l. get_or l 5 0) e ∙ get_or-take at ws 5 0 five
+
+pub IsLaid-same_below : (ws us : List ℕ) (at : ℕ) → 5 < at → get_or ws 5 0 ≤ at → take at us ≡ take at ws → length us ≡ length ws → IsLaid ws → IsLaid us
+IsLaid-same_below ws us at five h e long laid =
+    let same : image us ≡ image ws = image-same_below ws us at five h e in
+    let top : get_or us 5 0 ≡ get_or ws 5 0 = top-same_below ws us at five e in
+    record {
+      based = let b : base (image us) ≡ base (image ws) = ap base same in omega (arith, laid.based);
+      fits = omega (arith, laid.fits);
+      whole = ap missing same ∙ laid.whole;
+      packages = λ a le. ap (λ l. is_package (package_addresses l) a) same ∙ laid.packages a (omega arith);
+    }

@@ -1,0 +1,106 @@
+-- The ends of the areas of transient cells.
+use Rattle.std.proofs.Common.{◌≡◌, ℕ, suc, ◌+◌, ◌/◌, ◌<◌, ◌≤◌, List, [], ◌∷◌, length, take, drop, set, get_or, map, refl, sym, ◌∙◌, ap, arith, lit<}
+use Rattle.std.proofs.lemmas.List.{get_or-set_other, get_or-set_same, get_or-take, drop-set-lt, length-set, length-take-le}
+use Rattle.jc_transient.specs.declared.cell.ClearEvent.{ClearEvent}
+use Rattle.jc_transient.specs.declared.cell.ClearEvent.TheVariants.{Reset, Deselect}
+use Rattle.jc_heap.specs.Cut.{cut, lacking}
+use Rattle.jc_heap.specs.Image.{image, base, package_addresses, is_package, sizes, item_entry, records, missing, IsLaid}
+use Rattle.jc_heap.specs.Heap.{HeapState, read_image, heap_of, area_end, with_area_end, area_place, SameShape, item_at, names}
+use Rattle.jc_heap.proofs.Images.{image-set}
+
+-- an image with another end of an area
+module _ (img : List ℕ) (a v : ℕ) (wide : 752 ≤ length img) (low : 7 < a) (high : a < 10) where
+  word : (k : ℕ) → (k ≡ a → ⊥) → get_or (set img a v) k 0 ≡ get_or img k 0
+  word k ne = get_or-set_other img a k v 0 ne
+
+  tail : (from : ℕ) → a < from → drop from (set img a v) ≡ drop from img
+  tail from h = drop-set-lt from img a v h
+
+  pub addresses-end : package_addresses (set img a v) ≡ package_addresses img
+  addresses-end = rw (word 6 (λ e. omega arith), tail 528 (omega arith)) refl
+
+  pub base-end : base (set img a v) ≡ base img
+  base-end = rw (word 10 (λ e. omega arith)) refl
+
+  records-end : records (set img a v) ≡ records img
+  records-end =
+      ap (λ ps. cut (sizes ps) 0 (base (set img a v)) (drop (base (set img a v)) (set img a v))) addresses-end
+      ∙ ap (λ b. cut (sizes (package_addresses img)) 0 b (drop b (set img a v))) base-end
+      ∙ ap (cut (sizes (package_addresses img)) 0 (base img)) (tail (base img) (omega arith))
+
+  pub missing-end : missing (set img a v) ≡ missing img
+  unfolding missing
+  missing-end =
+      ap (λ ps. lacking (sizes ps) 0 (base (set img a v)) (drop (base (set img a v)) (set img a v))) addresses-end
+      ∙ ap (λ b. lacking (sizes (package_addresses img)) 0 b (drop b (set img a v))) base-end
+      ∙ ap (lacking (sizes (package_addresses img)) 0 (base img)) (tail (base img) (omega arith))
+
+  pub items-end : map (item_entry (package_addresses (set img a v))) (records (set img a v)) ≡ map (item_entry (package_addresses img)) (records img)
+  items-end = ap (λ ps. map (item_entry ps) (records (set img a v))) addresses-end ∙ ap (map (item_entry (package_addresses img))) records-end
+
+  pub applets-end : take 192 (drop 560 (set img a v)) ≡ take 192 (drop 560 img)
+  applets-end = ap (take 192) (tail 560 (omega arith))
+
+  pub other-end : (k : ℕ) → (k ≡ a → ⊥) → get_or (set img a v) k 0 ≡ get_or img k 0
+  other-end k ne = word k ne
+
+  pub own-end : get_or (set img a v) a 0 ≡ v
+  own-end = get_or-set_same img a v 0 (omega arith)
+
+read-end : (img : List ℕ) (event : ClearEvent) (v : ℕ) → 752 ≤ length img → read_image (set img (area_place event) v) ≡ with_area_end (read_image img) event v
+unfolding read_image
+read-end img Reset v wide = λ k. record {
+  items = items-end img 8 v wide (lit< tt) (lit< tt) k;
+  packages = addresses-end img 8 v wide (lit< tt) (lit< tt) k;
+  applets = applets-end img 8 v wide (lit< tt) (lit< tt) k;
+  area_ends = (own-end img 8 v wide (lit< tt) (lit< tt) k, other-end img 8 v wide (lit< tt) (lit< tt) 9 (λ e. omega arith) k);
+  top = length-set img 8 v k;
+}
+read-end img Deselect v wide = λ k. record {
+  items = items-end img 9 v wide (lit< tt) (lit< tt) k;
+  packages = addresses-end img 9 v wide (lit< tt) (lit< tt) k;
+  applets = applets-end img 9 v wide (lit< tt) (lit< tt) k;
+  area_ends = (other-end img 9 v wide (lit< tt) (lit< tt) 8 (λ e. omega arith) k, own-end img 9 v wide (lit< tt) (lit< tt) k);
+  top = length-set img 9 v k;
+}
+
+place_low : (event : ClearEvent) → 7 < area_place event
+place_low Reset = lit< tt
+place_low Deselect = lit< tt
+
+place_high : (event : ClearEvent) → area_place event < 10
+place_high Reset = lit< tt
+place_high Deselect = lit< tt
+
+-- the end's word is the end
+pub area_read : (ws : List ℕ) (event : ClearEvent) → IsLaid ws → area_end (heap_of ws) event ≡ get_or ws (area_place event) 0
+unfolding read_image
+area_read ws Reset laid = get_or-take (get_or ws 5 0) ws 8 0 (omega (arith, laid.based))
+area_read ws Deselect laid = get_or-take (get_or ws 5 0) ws 9 0 (omega (arith, laid.based))
+
+pub top-end : (ws : List ℕ) (event : ClearEvent) (v : ℕ) → get_or (set ws (area_place event) v) 5 0 ≡ get_or ws 5 0
+top-end ws event v = get_or-set_other ws (area_place event) 5 v 0 (λ e. omega (arith, place_low event))
+
+pub with_area_end-heap_of : (ws : List ℕ) (event : ClearEvent) (v : ℕ) → IsLaid ws → heap_of (set ws (area_place event) v) ≡ with_area_end (heap_of ws) event v
+with_area_end-heap_of ws event v laid =
+    let wide : 752 ≤ length (image ws) = omega (arith, laid.based, length-take-le (get_or ws 5 0) ws laid.fits) in
+    ap read_image (image-set ws (area_place event) v (omega (arith, place_low event))) ∙ read-end (image ws) event v wide
+
+pub IsLaid-end : (ws : List ℕ) (event : ClearEvent) (v : ℕ) → IsLaid ws → IsLaid (set ws (area_place event) v)
+IsLaid-end ws event v laid =
+    let wide : 752 ≤ length (image ws) = omega (arith, laid.based, length-take-le (get_or ws 5 0) ws laid.fits) in
+    let a : ℕ = area_place event in
+    let img : image (set ws (area_place event) v) ≡ set (image ws) (area_place event) v = image-set ws (area_place event) v (omega (arith, place_low event)) in
+    let same_base : base (image (set ws (area_place event) v)) ≡ base (image ws) = ap base img ∙ base-end (image ws) (area_place event) v wide (place_low event) (place_high event) in
+    let top : get_or (set ws (area_place event) v) 5 0 ≡ get_or ws 5 0 = top-end ws event v in
+    record {
+      based = rw (same_base, top) laid.based;
+      fits = rw (top, length-set ws (area_place event) v) laid.fits;
+      whole = ap missing img ∙ missing-end (image ws) (area_place event) v wide (place_low event) (place_high event) ∙ laid.whole;
+      packages = λ b le. ap (λ ps. is_package ps b) (ap package_addresses img ∙ addresses-end (image ws) (area_place event) v wide (place_low event) (place_high event)) ∙ laid.packages b (rw top at le);
+    }
+
+pub shape-end : (d h : HeapState) (event : ClearEvent) (v : ℕ) → SameShape d h → SameShape d (with_area_end h event v)
+unfolding item_at names
+shape-end d h Reset v s = record { items = s.items; names = s.names }
+shape-end d h Deselect v s = record { items = s.items; names = s.names }

@@ -1,0 +1,16 @@
+pub mod Records
+pub mod Tables
+pub mod Images
+pub mod Added
+pub mod Packages
+pub mod Laws
+pub mod Walks
+pub mod FreshRuns
+pub mod Changing
+pub mod Views
+pub mod Reading
+pub mod NewObjects
+pub mod Following
+pub mod Runs
+pub mod AreaEnds
+pub mod MoveLaws

@@ -1,0 +1,73 @@
+-- Lists of moves, one after another, and the law of atomicity.
+use Rattle.std.proofs.Common.{◌≡◌, ℕ, Bool, true, false, List, [], ◌∷◌, ◌++◌, refl, sym, ◌∙◌, ap, subst, inl, inr, ◌⊎◌, if◌then◌else◌}
+use Rattle.jc_words.specs.Count.{raised}
+use Rattle.jc_heap.specs.Heap.{HeapState, HeapView, set_cell, is_touched}
+use Rattle.jc_heap.specs.Moves.{Move, SetCell, CountCell, SetCells, AddObject, AddTransient, Begin, Commit, Abort, apply, applied, Left, IsCut, IsInside, with_counts, KeepsDurable}
+
+pub applied-append : (a b : List Move) (h : HeapView) → applied (a ++ b) h ≡ applied b (applied a h)
+applied-append [] b h = refl
+applied-append (m ∷ ms) b h = applied-append ms b (apply m h)
+
+-- a loss within the first moves is one within all
+pub left-before : (a b : List Move) (h : HeapView) (d : HeapState) → Left a h d → Left (a ++ b) h d
+left-before [] b h d p = absurd p
+left-before (m ∷ ms) b h d p = elim p as (λ q. Left ((m ∷ ms) ++ b) h d) [ inl e ↦ inl e | inr q ↦ inr (left-before ms b (apply m h) d q) ]
+
+-- so is one within those that follow
+pub left-after : (a b : List Move) (h : HeapView) (d : HeapState) → Left b (applied a h) d → Left (a ++ b) h d
+left-after [] b h d p = p
+left-after (m ∷ ms) b h d p = inr (left-after ms b (apply m h) d p)
+
+-- moves neither clear nor set what is down or refused
+down-apply : (m : Move) (h : HeapView) → (apply m h).down ≡ h.down
+down-apply (SetCell r i v) h = refl
+down-apply (CountCell r i v) h = refl
+down-apply (SetCells r i vs) h = refl
+down-apply (AddObject o size) h = refl
+down-apply (AddTransient kind event class owner long) h = refl
+down-apply Begin h = refl
+down-apply Commit h = refl
+down-apply Abort h = refl
+
+refused-apply : (m : Move) (h : HeapView) → (apply m h).refused ≡ h.refused
+refused-apply (SetCell r i v) h = refl
+refused-apply (CountCell r i v) h = refl
+refused-apply (SetCells r i vs) h = refl
+refused-apply (AddObject o size) h = refl
+refused-apply (AddTransient kind event class owner long) h = refl
+refused-apply Begin h = refl
+refused-apply Commit h = refl
+refused-apply Abort h = refl
+
+pub down-applied : (ms : List Move) (h : HeapView) → (applied ms h).down ≡ h.down
+down-applied [] h = refl
+down-applied (m ∷ ms) h = down-applied ms (apply m h) ∙ down-apply m h
+
+pub refused-applied : (ms : List Move) (h : HeapView) → (applied ms h).refused ≡ h.refused
+refused-applied [] h = refl
+refused-applied (m ∷ ms) h = refused-applied ms (apply m h) ∙ refused-apply m h
+
+-- a cut within what follows
+pub cut-after : (a b : List Move) (h mid new : HeapView) → mid ≡ applied a h → IsCut b mid new → IsCut (a ++ b) h new
+cut-after a b h mid new e p =
+    let q : IsCut b (applied a h) new = subst (λ u. IsCut b u new) e p in
+    record { left = left-after a b h new.durable q.left; down = q.down; refused = q.refused ∙ ap (λ r. raised r 1) (refused-applied a h) }
+
+pub cut-before : (a b : List Move) (h new : HeapView) → IsCut a h new → IsCut (a ++ b) h new
+cut-before a b h new p = record { left = left-before a b h new.durable p.left; down = p.down; refused = p.refused }
+
+-- the durable heap of a change inside
+kept_inside : (h : HeapView) (x : HeapState) → h.begun ≡ true → (if h.begun then h.durable else x) ≡ h.durable
+kept_inside h x b = ap (λ g. if g then h.durable else x) b
+
+pub keeps_durable : KeepsDurable
+keeps_durable [] h b p = refl
+keeps_durable (SetCell r i v ∷ ms) h b p = keeps_durable ms (apply (SetCell r i v) h) b p ∙ ap (with_counts ms (apply (SetCell r i v) h)) (kept_inside h _ b)
+keeps_durable (CountCell r i v ∷ ms) h b p = keeps_durable ms (apply (CountCell r i v) h) b p
+keeps_durable (SetCells r i vs ∷ ms) h b p = keeps_durable ms (apply (SetCells r i vs) h) b p ∙ ap (with_counts ms (apply (SetCells r i vs) h)) (kept_inside h _ b)
+keeps_durable (AddObject o size ∷ ms) h b p = keeps_durable ms (apply (AddObject o size) h) b p ∙ ap (with_counts ms (apply (AddObject o size) h)) (kept_inside h _ b)
+keeps_durable (AddTransient kind event class owner long ∷ ms) h b p =
+    keeps_durable ms (apply (AddTransient kind event class owner long) h) b p ∙ ap (with_counts ms (apply (AddTransient kind event class owner long) h)) (kept_inside h _ b)
+keeps_durable (Begin ∷ ms) h b p = absurd p
+keeps_durable (Commit ∷ ms) h b p = absurd p
+keeps_durable (Abort ∷ ms) h b p = absurd p

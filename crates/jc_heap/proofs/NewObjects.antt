@@ -1,0 +1,265 @@
+-- A new object through the journal: fresh words, then the top.
+use Rattle.std.proofs.Common.{◌≡◌, ℕ, suc, ◌+◌, ◌*◌, ◌/◌, ◌%◌, ◌<◌, ◌≤◌, ◌⊎◌, inl, inr, Bool, true, false, List, [], ◌∷◌, ◌++◌, length, take, get_or, set, replicate, refl, sym, ◌∙◌, ap, subst, arith, if◌then◌else◌, ◌==◌, Some}
+use Rattle.std.specs.Prelude.{nat_le, IsTrue}
+use Rattle.std.proofs.lemmas.Bool.{false≢true}
+use Rattle.jc_commit.specs.Image.{capacity}
+use Rattle.jc_commit.specs.declared.refusal.WriteRefusal.{WriteRefusal}
+use Rattle.jc_commit.specs.declared.refusal.WriteRefusal.TheVariants.{StoreDown, Full}
+use Rattle.std.proofs.lemmas.List.{length-replicate, length-take-le}
+use Rattle.jc_words.specs.Count.{raised}
+use Rattle.jc_commit.specs.Image.{top_of, with_words}
+use Rattle.jc_commit.specs.Entries.{addresses_of}
+use Rattle.jc_commit.specs.State.{State, live, Changes, IsStopped as JournalStopped, writes_inside, writes_outside, has_room_for as journal_room}
+use Rattle.jc_heap.specs.declared.object.Kind.{Kind}
+use Rattle.jc_heap.specs.declared.object.Kind.TheVariants.{Instance, BooleanArray, ByteArray, ShortArray, ReferenceArray}
+use Rattle.jc_transient.specs.declared.cell.ClearEvent.{ClearEvent}
+use Rattle.jc_transient.specs.declared.cell.ClearEvent.TheVariants.{Reset, Deselect}
+use Rattle.jc_heap.specs.Object.{Object, AnObject, header_word, new_transient, kind_number, object_of, new_object, payload}
+use Rattle.jc_heap.specs.Image.{IsLaid, image, base}
+use Rattle.jc_heap.specs.Fresh.{IsFree, KeepsBelow, Fills, StopsFresh}
+use Rattle.jc_heap.specs.Heap.{HeapState, HeapView, heap_view, read_image, heap_of, add_object, end_place, changed, IsSound, IsStopped, LacksSpace, SameShape, has_room_for, names, item_at, add_transient, area_place, area_end, with_area_end}
+use Rattle.jc_heap.proofs.Laws.{shape-add, item_at-add_object}
+use Rattle.jc_heap.proofs.Added.{heap_of-grown, top-moved, IsLaid-grown, image-same_below, top-same_below, IsLaid-same_below}
+use Rattle.jc_heap.proofs.Changing.{change_view, change_sound, stopped_sound, stopped_view, top-live}
+use Rattle.jc_heap.proofs.Views.{view_top}
+use Rattle.jc_heap.proofs.AreaEnds.{area_read, with_area_end-heap_of, IsLaid-end, shape-end, top-end}
+
+-- the words from the top on are free
+pub free_above : (j : State) (n count : ℕ) → IsSound j n → j.down ≡ false → get_or j.plain 5 0 + count ≤ n → IsFree (get_or j.plain 5 0) count j
+free_above j n count s up fits = record {
+  up = up;
+  low = omega (arith, (s.now up).based);
+  above = omega arith;
+  above_recovered = s.order up;
+  fits = omega (arith, fits, s.size_now up);
+  small = omega (arith, s.small, s.size_now up);
+}
+
+pub lacks_space : (j : State) (v : HeapView) (n count : ℕ) → heap_view j n ≡ v → IsLaid j.plain → n < get_or j.plain 5 0 + count → LacksSpace v count
+lacks_space j v n count is laid h = subst (λ u. u.size < u.now.top + count) is (omega (arith, view_top j (heap_view j n) n refl laid, h))
+
+pub has_space : (j : State) (v : HeapView) (n count : ℕ) → heap_view j n ≡ v → IsLaid j.plain → get_or j.plain 5 0 + count ≤ n → LacksSpace v count → ⊥
+has_space j v n count is laid h = subst (λ u. u.size < u.now.top + count → ⊥) is (λ lacks. omega (arith, view_top j (heap_view j n) n refl laid, h, lacks))
+
+-- the words that a new object takes
+unfoldable pub new_record : ℕ → ℕ → ℕ → ℕ → List ℕ
+new_record word class owner length = (word ∷ class ∷ owner ∷ length ∷ []) ++ replicate length 0
+
+pub object_of-new_record : (kind : Kind) (class owner length : ℕ) → object_of (new_record (kind_number kind) class owner length) ≡ new_object kind class owner length
+unfolding new_record
+object_of-new_record Instance class owner length = refl
+object_of-new_record BooleanArray class owner length = refl
+object_of-new_record ByteArray class owner length = refl
+object_of-new_record ShortArray class owner length = refl
+object_of-new_record ReferenceArray class owner length = refl
+
+pub own-new_record : (kind : Kind) (class owner n : ℕ) → 3 + payload (get_or (new_record (kind_number kind) class owner n) 0 0) (get_or (new_record (kind_number kind) class owner n) 3 0) + 1 ≡ length (new_record (kind_number kind) class owner n)
+unfolding new_record
+own-new_record Instance class owner n = omega (arith, length-replicate {A = ℕ} n 0)
+own-new_record BooleanArray class owner n = omega (arith, length-replicate {A = ℕ} n 0)
+own-new_record ByteArray class owner n = omega (arith, length-replicate {A = ℕ} n 0)
+own-new_record ShortArray class owner n = omega (arith, length-replicate {A = ℕ} n 0)
+own-new_record ReferenceArray class owner n = omega (arith, length-replicate {A = ℕ} n 0)
+
+pub length-new_record : (word class owner n : ℕ) → length (new_record word class owner n) ≡ 4 + n
+unfolding new_record
+length-new_record word class owner n = omega (arith, length-replicate {A = ℕ} n 0)
+
+module _ (j k : State) (n : ℕ) (s : IsSound j n) (up : j.down ≡ false) (b : KeepsBelow (get_or j.plain 5 0) j k) where
+  far : 5 < get_or j.plain 5 0
+  far = omega (arith, (s.now up).based)
+
+  pub live_back : live k.recovered ≡ live j.recovered
+  live_back = image-same_below j.recovered k.recovered (get_or j.plain 5 0) far (s.order up) b.recovered
+
+  laid_back : IsLaid k.recovered
+  laid_back = IsLaid-same_below j.recovered k.recovered (get_or j.plain 5 0) far (s.order up) b.recovered b.size_recovered s.back
+
+  -- the store refused a fresh word
+  pub fresh_stopped_sound : StopsFresh j k → IsSound k n
+  fresh_stopped_sound st = stopped_sound j k n live_back b.size_recovered st.down s.back s.size_recovered s.small
+
+  pub fresh_stopped_view : (v : HeapView) → heap_view j n ≡ v → StopsFresh j k → IsStopped v (heap_view k n)
+  fresh_stopped_view v is st = stopped_view j k v n is live_back st.down st.refused
+
+  module _ (rec : List ℕ) (f : Fills (get_or j.plain 5 0) rec j k) where
+    -- the store refused the top's change
+    pub top_stopped_sound : (m : State) → JournalStopped k m → IsSound m n
+    top_stopped_sound m st = stopped_sound k m n st.recovered st.size_recovered st.down laid_back (b.size_recovered ∙ s.size_recovered) s.small
+
+    pub top_stopped_view : (m : State) (v : HeapView) → heap_view j n ≡ v → JournalStopped k m → IsStopped v (heap_view m n)
+    top_stopped_view m v is st = stopped_view j m v n is (st.recovered ∙ live_back) st.down (st.refused ∙ ap (λ r. raised r 1) f.refused)
+
+    abbrev kept_places : List ℕ → Bool → List ℕ
+    kept_places places g = if g then places else []
+
+    abbrev writes : List ℕ → Bool → ℕ
+    writes places g = if g then writes_inside (length places) (length (kept_places places g)) else writes_outside (length places)
+
+    raised_twice : (p q a w : ℕ) → q ≡ raised p a → raised q (0 + w) ≡ raised p (a + w)
+    raised_twice p q a w e = omega (arith, e)
+
+    -- a change of words behind the fresh ones is a change of the heap
+    pub view_then : (cs : List (ℕ × ℕ)) (h : HeapState) (m : State) → Changes cs k m → heap_of (with_words k.plain cs) ≡ h → heap_view m n ≡ changed (heap_view j n) h (addresses_of cs) (length rec)
+    view_then cs h m c now =
+        let made : heap_view m n ≡ changed (heap_view k n) h (addresses_of cs) 0 = change_view cs k m n h c now in
+        let durable : (if k.in_transaction then heap_of k.recovered else h) ≡ (if j.in_transaction then heap_of j.recovered else h) =
+        ap (λ d. if k.in_transaction then d else h) (ap read_image live_back) ∙ ap (λ g. if g then heap_of j.recovered else h) b.in_transaction in
+        let touched : k.touched ++ kept_places (addresses_of cs) k.in_transaction ≡ j.touched ++ kept_places (addresses_of cs) j.in_transaction =
+        ap (λ l. l ++ kept_places (addresses_of cs) k.in_transaction) b.touched ∙ ap (λ g. j.touched ++ kept_places (addresses_of cs) g) b.in_transaction in
+        let sum : raised k.passed (0 + writes (addresses_of cs) j.in_transaction) ≡ raised j.passed (length rec + writes (addresses_of cs) j.in_transaction) =
+        raised_twice j.passed k.passed (length rec) (writes (addresses_of cs) j.in_transaction) f.passed in
+        let passed : raised k.passed (0 + writes (addresses_of cs) k.in_transaction) ≡ raised j.passed (length rec + writes (addresses_of cs) j.in_transaction) =
+        ap (λ g. raised k.passed (0 + writes (addresses_of cs) g)) b.in_transaction ∙ sum in
+        made ∙ (λ i. record { now = h; durable = durable i; begun = b.in_transaction i; touched = touched i; down = f.down i; passed = passed i; refused = f.refused i; size = n })
+
+    pub sound_then : (cs : List (ℕ × ℕ)) (h : HeapState) (m : State) → Changes cs k m → heap_of (with_words k.plain cs) ≡ h → IsLaid (with_words k.plain cs) →
+        get_or j.plain 5 0 ≤ get_or (with_words k.plain cs) 5 0 → SameShape (heap_of j.recovered) h → IsSound m n
+    sound_then cs h m c now laid order shape = change_sound cs k m n c (f.down ∙ up) laid_back (b.size_recovered ∙ s.size_recovered) (b.size ∙ s.size_now up) s.small laid
+        (λ _. omega (arith, order, s.order up, top-live j.recovered k.recovered s.back live_back))
+        (λ _. subst (λ d. SameShape d (heap_of (with_words k.plain cs))) (ap read_image (sym live_back)) (subst (SameShape (heap_of j.recovered)) (sym now) shape))
+
+    module _ (own : 3 + payload (get_or rec 0 0) (get_or rec 3 0) + 1 ≡ length rec) (fits : get_or j.plain 5 0 + length rec ≤ n) where
+      fits_now : get_or j.plain 5 0 + length rec ≤ length k.plain
+      fits_now = omega (arith, fits, b.size, s.size_now up)
+
+      -- the top moved over the record
+      abbrev pub moved_top : List ℕ
+      moved_top = set k.plain 5 (get_or j.plain 5 0 + length rec)
+
+      pub laid_now : IsLaid moved_top
+      laid_now = IsLaid-grown j.plain k.plain rec (s.now up) f.words fits_now own
+
+      pub top_now : get_or moved_top 5 0 ≡ get_or j.plain 5 0 + length rec
+      top_now = top-moved j.plain k.plain rec (s.now up) f.words fits_now own
+
+      pub heap_now : heap_of moved_top ≡ add_object (heap_of j.plain) (object_of rec) (length rec)
+      heap_now = heap_of-grown j.plain k.plain rec (s.now up) f.words fits_now own
+
+      tops : (heap_of j.recovered).top ≤ (heap_of j.plain).top
+      unfolding read_image
+      tops = omega (arith, length-take-le (get_or j.plain 5 0) j.plain (s.now up).fits, length-take-le (get_or j.recovered 5 0) j.recovered s.back.fits, s.order up)
+
+      pub shape_now : SameShape (heap_of j.recovered) (add_object (heap_of j.plain) (object_of rec) (length rec))
+      shape_now = shape-add (heap_of j.recovered) (heap_of j.plain) (object_of rec) (length rec) tops (s.shape up)
+
+      pub sound_made_at : (m : State) → Changes ((5, get_or j.plain 5 0 + length rec) ∷ []) k m → IsSound m n
+      sound_made_at m c = sound_then ((5, get_or j.plain 5 0 + length rec) ∷ []) (add_object (heap_of j.plain) (object_of rec) (length rec)) m c heap_now laid_now (omega (arith, top_now)) shape_now
+
+      pub view_made_at : (m : State) → Changes ((5, get_or j.plain 5 0 + length rec) ∷ []) k m → heap_view m n ≡ changed (heap_view j n) (add_object (heap_of j.plain) (object_of rec) (length rec)) (5 ∷ []) (length rec)
+      view_made_at m c = view_then ((5, get_or j.plain 5 0 + length rec) ∷ []) (add_object (heap_of j.plain) (object_of rec) (length rec)) m c heap_now
+
+pub view_made : (j k m : State) (v : HeapView) (n : ℕ) (kind : Kind) (class owner count end : ℕ) → heap_view j n ≡ v → IsSound j n → j.down ≡ false → KeepsBelow (get_or j.plain 5 0) j k →
+    Fills (get_or j.plain 5 0) (new_record (kind_number kind) class owner count) j k → end ≡ get_or j.plain 5 0 + (4 + count) → end ≤ n → Changes ((5, end) ∷ []) k m →
+    heap_view m n ≡ changed v (add_object v.now (new_object kind class owner count) (4 + count)) (end_place ∷ []) (4 + count)
+unfolding end_place
+view_made j k m v n kind class owner count end is s up b f e fits c =
+    let long : length (new_record (kind_number kind) class owner count) ≡ 4 + count = length-new_record (kind_number kind) class owner count in
+    let there : Changes ((5, get_or j.plain 5 0 + length (new_record (kind_number kind) class owner count)) ∷ []) k m = subst (λ t. Changes ((5, t) ∷ []) k m) (e ∙ ap (λ l. get_or j.plain 5 0 + l) (sym long)) c in
+    subst (λ u. heap_view m n ≡ changed u (add_object (u.now) (new_object kind class owner count) (4 + count)) (5 ∷ []) (4 + count)) is
+    (subst (λ o. heap_view m n ≡ changed (heap_view j n) (add_object (heap_of j.plain) o (4 + count)) (5 ∷ []) (4 + count)) (object_of-new_record kind class owner count)
+    (subst (λ l. heap_view m n ≡ changed (heap_view j n) (add_object (heap_of j.plain) (object_of (new_record (kind_number kind) class owner count)) l) (5 ∷ []) l) long
+    (view_made_at j k n s up b (new_record (kind_number kind) class owner count) f (own-new_record kind class owner count) (omega (arith, long, e, fits)) m there)))
+
+pub sound_made : (j k m : State) (n : ℕ) (kind : Kind) (class owner count end : ℕ) → IsSound j n → j.down ≡ false → KeepsBelow (get_or j.plain 5 0) j k →
+    Fills (get_or j.plain 5 0) (new_record (kind_number kind) class owner count) j k → end ≡ get_or j.plain 5 0 + (4 + count) → end ≤ n → Changes ((5, end) ∷ []) k m → IsSound m n
+sound_made j k m n kind class owner count end s up b f e fits c =
+    let long : length (new_record (kind_number kind) class owner count) ≡ 4 + count = length-new_record (kind_number kind) class owner count in
+    let there : Changes ((5, get_or j.plain 5 0 + length (new_record (kind_number kind) class owner count)) ∷ []) k m = subst (λ t. Changes ((5, t) ∷ []) k m) (e ∙ ap (λ l. get_or j.plain 5 0 + l) (sym long)) c in
+    sound_made_at j k n s up b (new_record (kind_number kind) class owner count) f (own-new_record kind class owner count) (omega (arith, long, e, fits)) m there
+
+-- what stands at a new object's address
+pub made_object : (v : HeapView) (o : Object) (size fresh : ℕ) (places : List ℕ) → names v.now v.now.top ≡ false → item_at ((changed v (add_object v.now o size) places fresh).now) v.now.top ≡ AnObject o
+made_object v o size fresh places free = item_at-add_object v.now o size free
+
+-- the words that a new transient object takes
+abbrev pub transient_record : Kind → ClearEvent → ℕ → ℕ → ℕ → ℕ → List ℕ
+transient_record kind event class owner long place = header_word kind (Some event) ∷ class ∷ owner ∷ long ∷ place ∷ []
+
+object_of-transient : (kind : Kind) (event : ClearEvent) (class owner long place : ℕ) → object_of (transient_record kind event class owner long place) ≡ new_transient kind event class owner long place
+object_of-transient Instance Reset class owner long place = refl
+object_of-transient Instance Deselect class owner long place = refl
+object_of-transient BooleanArray Reset class owner long place = refl
+object_of-transient BooleanArray Deselect class owner long place = refl
+object_of-transient ByteArray Reset class owner long place = refl
+object_of-transient ByteArray Deselect class owner long place = refl
+object_of-transient ShortArray Reset class owner long place = refl
+object_of-transient ShortArray Deselect class owner long place = refl
+object_of-transient ReferenceArray Reset class owner long place = refl
+object_of-transient ReferenceArray Deselect class owner long place = refl
+
+own-transient : (kind : Kind) (event : ClearEvent) (class owner long place : ℕ) → 3 + payload (header_word kind (Some event)) long + 1 ≡ 5
+own-transient Instance Reset class owner long place = refl
+own-transient Instance Deselect class owner long place = refl
+own-transient BooleanArray Reset class owner long place = refl
+own-transient BooleanArray Deselect class owner long place = refl
+own-transient ByteArray Reset class owner long place = refl
+own-transient ByteArray Deselect class owner long place = refl
+own-transient ShortArray Reset class owner long place = refl
+own-transient ShortArray Deselect class owner long place = refl
+own-transient ReferenceArray Reset class owner long place = refl
+own-transient ReferenceArray Deselect class owner long place = refl
+
+-- a new transient object: the top and its area's end move together
+module _ (j k m : State) (n : ℕ) (kind : Kind) (event : ClearEvent) (class owner long place end : ℕ) (s : IsSound j n) (up : j.down ≡ false) (b : KeepsBelow (get_or j.plain 5 0) j k)
+    (f : Fills (get_or j.plain 5 0) (transient_record kind event class owner long place) j k) (at : place ≡ get_or j.plain (area_place event) 0) (e : end ≡ get_or j.plain 5 0 + 5) (fits : end ≤ n)
+    (c : Changes ((5, end) ∷ (area_place event, place + long) ∷ []) k m) where
+  own_fits : get_or j.plain 5 0 + 5 ≤ n
+  own_fits = omega (arith, e, fits)
+
+  abbrev first : List ℕ
+  first = set k.plain 5 (get_or j.plain 5 0 + 5)
+
+  laid_first : IsLaid first
+  laid_first = laid_now j k n s up b (transient_record kind event class owner long place) f (own-transient kind event class owner long place) own_fits
+
+  heap_first : heap_of first ≡ add_object (heap_of j.plain) (new_transient kind event class owner long place) 5
+  heap_first = heap_now j k n s up b (transient_record kind event class owner long place) f (own-transient kind event class owner long place) own_fits
+      ∙ ap (λ o. add_object (heap_of j.plain) o 5) (object_of-transient kind event class owner long place)
+
+  there : Changes ((5, get_or j.plain 5 0 + 5) ∷ (area_place event, place + long) ∷ []) k m
+  there = subst (λ t. Changes ((5, t) ∷ (area_place event, place + long) ∷ []) k m) e c
+
+  heap_both : heap_of (set first (area_place event) (place + long)) ≡ add_transient (heap_of j.plain) kind event class owner long
+  unfolding add_transient
+  heap_both =
+      let end_is : place ≡ area_end (heap_of j.plain) event = at ∙ sym (area_read j.plain event (s.now up)) in
+      with_area_end-heap_of first event (place + long) laid_first
+      ∙ ap (λ h. with_area_end h event (place + long)) heap_first
+      ∙ ap (λ p. with_area_end (add_object (heap_of j.plain) (new_transient kind event class owner long p) 5) event (p + long)) end_is
+
+  shape_both : SameShape (heap_of j.recovered) (add_transient (heap_of j.plain) kind event class owner long)
+  shape_both = subst (SameShape (heap_of j.recovered)) (sym (with_area_end-heap_of first event (place + long) laid_first) ∙ heap_both)
+      (shape-end (heap_of j.recovered) (heap_of first) event (place + long)
+      (subst (SameShape (heap_of j.recovered)) (sym (heap_now j k n s up b (transient_record kind event class owner long place) f (own-transient kind event class owner long place) own_fits))
+      (shape_now j k n s up b (transient_record kind event class owner long place) f (own-transient kind event class owner long place) own_fits)))
+
+  pub transient_sound : IsSound m n
+  transient_sound = sound_then j k n s up b (transient_record kind event class owner long place) f ((5, get_or j.plain 5 0 + 5) ∷ (area_place event, place + long) ∷ [])
+      (add_transient (heap_of j.plain) kind event class owner long) m there heap_both (IsLaid-end first event (place + long) laid_first)
+      (omega (arith, top-end first event (place + long), top_now j k n s up b (transient_record kind event class owner long place) f (own-transient kind event class owner long place) own_fits)) shape_both
+
+  pub transient_view : (v : HeapView) → heap_view j n ≡ v → heap_view m n ≡ changed v (add_transient v.now kind event class owner long) (end_place ∷ area_place event ∷ []) 5
+  unfolding end_place
+  transient_view v is = subst (λ u. heap_view m n ≡ changed u (add_transient (u.now) kind event class owner long) (5 ∷ area_place event ∷ []) 5) is
+      (view_then j k n s up b (transient_record kind event class owner long place) f ((5, get_or j.plain 5 0 + 5) ∷ (area_place event, place + long) ∷ []) (add_transient (heap_of j.plain) kind event class owner long) m there heap_both)
+
+-- of these places, those that a change keeps
+abbrev kept_of : List ℕ → Bool → List ℕ
+kept_of places g = if g then places else []
+
+-- fresh words leave the journal's room as it is
+room_kept : (at : ℕ) (j k : State) → KeepsBelow at j k → (places : List ℕ) → journal_room k places ≡ journal_room j places
+room_kept at j k b places = λ i. if b.in_transaction i then nat_le (length (b.touched i) + length (kept_of places (b.in_transaction i))) capacity else nat_le (length places) capacity
+
+pub room_there : (r b : Bool) → (IsTrue r → b ≡ false) × (b ≡ false → IsTrue r) → r ≡ false → b ≡ true
+room_there r true iff f = refl
+room_there r false iff f = absurd (false≢true (sym f ∙ iff.1 refl))
+
+-- where there was room, the store alone refuses
+pub only_down : (at : ℕ) (j k : State) → KeepsBelow at j k → (places : List ℕ) → journal_room j places ≡ true → (r : WriteRefusal) → (r ≡ Full → journal_room k places ≡ false) → r ≡ StoreDown
+only_down at j k b places fit StoreDown f = refl
+only_down at j k b places fit Full f = absurd (false≢true (sym (f refl) ∙ room_kept at j k b places ∙ fit))
+
+pub view_area : (j : State) (v : HeapView) (n : ℕ) (event : ClearEvent) → heap_view j n ≡ v → IsLaid j.plain → area_end v.now event ≡ get_or j.plain (area_place event) 0
+view_area j v n event is laid = subst (λ u. area_end (u.now) event ≡ get_or j.plain (area_place event) 0) is (area_read j.plain event laid)

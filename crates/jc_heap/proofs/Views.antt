@@ -1,0 +1,156 @@
+-- What a heap's view tells of its journal.
+use Rattle.std.proofs.Common.{◌≡◌, ℕ, suc, ◌+◌, ◌<◌, ◌≤◌, ◌&&◌, Bool, true, false, List, [], ◌∷◌, ◌++◌, length, get_or, set, take, refl, sym, ◌∙◌, ap, subst, arith, inl, inr, ◌⊎◌, if◌then◌else◌}
+use Rattle.std.proofs.lemmas.List.{length-set, length-take-le, take-set-le}
+use Rattle.std.proofs.lemmas.Bool.{cases_lt, false≢true}
+use Rattle.jc_words.specs.Count.{raised}
+use Rattle.jc_commit.specs.Image.{top_of, IsPlace, IsReadable, IsUnlogged}
+use Rattle.jc_commit.specs.State.{State, Changes, written_in_place, is_touched as is_kept}
+use Rattle.jc_heap.specs.Image.{IsLaid, image, base}
+use Rattle.jc_heap.specs.Heap.{HeapState, HeapView, heap_view, heap_of, cells, set_cell, cell_place, changed, counted, is_touched, IsSound, SameShape, KeepsBelowTop, read_image, item_at, names}
+use Rattle.jc_heap.proofs.Laws.{shape-set, shape-set_both, same_length, set_cell-absent, names-heap_of, keeps_below_top}
+use Rattle.jc_heap.proofs.Images.{cell_within-heap_of, cell_behind-heap_of, cell-heap_of, set_cell-heap_of, IsLaid-set, top-set}
+use Rattle.jc_heap.proofs.Added.{image-same_below, top-same_below, IsLaid-same_below}
+use Rattle.jc_heap.proofs.Changing.{change_view, change_sound, shape-same}
+
+-- a cell's word lies among the words, behind the registry
+pub cell_spot : (j : State) (v : HeapView) (n r i : ℕ) → heap_view j n ≡ v → i < length (cells v.now r) → (cell_place r i < length j.plain) × (752 ≤ cell_place r i)
+unfolding cell_place
+cell_spot j v n r i is h = (cell_within-heap_of j.plain r i (subst (λ u. i < length (cells (u.now) r)) (sym is) h), cell_behind-heap_of j.plain r i (subst (λ u. i < length (cells (u.now) r)) (sym is) h))
+
+pub readable : (n a : ℕ) → a < n → 752 ≤ a → IsReadable n a
+readable n a below high = record { below = below; not_count = λ e. omega arith; beside = λ _. omega arith }
+
+pub is_place : (n a : ℕ) → a < n → 752 ≤ a → IsPlace n a
+is_place n a below high = record { above = omega arith; below = below; beside = λ _. omega arith }
+
+pub is_unlogged : (n a : ℕ) → a < n → 752 ≤ a → IsUnlogged n a
+is_unlogged n a below high = record { below = below; not_top = λ e. omega arith; place = λ _. is_place n a below high }
+
+pub cell_read : (j : State) (v : HeapView) (n r i : ℕ) → heap_view j n ≡ v → i < length (cells v.now r) → get_or j.plain (cell_place r i) 0 ≡ get_or (cells v.now r) i 0
+unfolding cell_place
+cell_read j v n r i is h = subst (λ u. i < length (cells (u.now) r) → get_or j.plain (r + (4 + i)) 0 ≡ get_or (cells (u.now) r) i 0) is (λ k. sym (cell-heap_of j.plain r i k)) h
+
+-- a cell set through the journal is a cell set in the heap
+pub set_view : (j k : State) (v : HeapView) (n r i x : ℕ) → heap_view j n ≡ v → i < length (cells v.now r) → Changes ((cell_place r i, x) ∷ []) j k →
+    heap_view k n ≡ changed v (set_cell v.now r i x) (cell_place r i ∷ []) 0
+unfolding cell_place
+set_view j k v n r i x is h c = subst (λ u. i < length (cells (u.now) r) → heap_view k n ≡ changed u (set_cell (u.now) r i x) ((r + (4 + i)) ∷ []) 0) is
+    (λ there. change_view ((r + (4 + i), x) ∷ []) j k n (set_cell (heap_of j.plain) r i x) c (set_cell-heap_of j.plain r i x there)) h
+
+set_sound_at : (j k : State) (n r i x : ℕ) → i < length (cells (heap_of j.plain) r) → j.down ≡ false → IsSound j n → Changes ((r + (4 + i), x) ∷ []) j k → IsSound k n
+set_sound_at j k n r i x h up s c =
+    change_sound ((r + (4 + i), x) ∷ []) j k n c up s.back s.size_recovered (s.size_now up) s.small (IsLaid-set j.plain r i x h (s.now up))
+    (λ _. omega (arith, s.order up, top-set j.plain r i x h))
+    (λ _. subst (SameShape (heap_of j.recovered)) (sym (set_cell-heap_of j.plain r i x h)) (shape-set (heap_of j.recovered) (heap_of j.plain) r i x (s.shape up)))
+
+pub set_sound : (j k : State) (v : HeapView) (n r i x : ℕ) → heap_view j n ≡ v → i < length (cells v.now r) → j.down ≡ false → IsSound j n → Changes ((cell_place r i, x) ∷ []) j k → IsSound k n
+unfolding cell_place
+set_sound j k v n r i x is h up s c = set_sound_at j k n r i x (subst (λ u. i < length (cells (u.now) r)) (sym is) h) up s c
+
+top_is : (ws : List ℕ) (r : ℕ) → IsLaid ws → r < get_or ws 5 0 → r < (heap_of ws).top
+unfolding read_image
+top_is ws r laid h = omega (arith, length-take-le (get_or ws 5 0) ws laid.fits)
+
+-- the same cell set in the recovered words: there too, or above their top
+back_set : (j : State) (n r i x : ℕ) → i < length (cells (heap_of j.plain) r) → j.down ≡ false → IsSound j n →
+    (heap_of (set j.recovered (r + (4 + i)) x) ≡ set_cell (heap_of j.recovered) r i x) × IsLaid (set j.recovered (r + (4 + i)) x) × (get_or (set j.recovered (r + (4 + i)) x) 5 0 ≡ get_or j.recovered 5 0)
+back_set j n r i x h up s =
+    let long : length (image j.recovered) ≡ get_or j.recovered 5 0 = length-take-le (get_or j.recovered 5 0) j.recovered s.back.fits in
+    elim (cases_lt r (get_or j.recovered 5 0)) [
+      | inl below ↦
+          let there : i < length (cells (heap_of j.recovered) r) = omega (arith, same_length (item_at (heap_of j.plain) r) (item_at (heap_of j.recovered) r) ((s.shape up).items r (top_is j.recovered r s.back below))) in
+          (set_cell-heap_of j.recovered r i x there, IsLaid-set j.recovered r i x there s.back, top-set j.recovered r i x there)
+      | inr above ↦
+          let far : get_or j.recovered 5 0 ≤ r + (4 + i) = omega arith in
+          let same : take (get_or j.recovered 5 0) (set j.recovered (r + (4 + i)) x) ≡ take (get_or j.recovered 5 0) j.recovered = take-set-le (get_or j.recovered 5 0) j.recovered (r + (4 + i)) x far in
+          let based : 5 < get_or j.recovered 5 0 = omega (arith, s.back.based) in
+          let absent : names (heap_of j.recovered) r ≡ false = names-heap_of j.recovered r (omega (arith, s.back.based)) (omega arith) in (
+            ap read_image (image-same_below j.recovered (set j.recovered (r + (4 + i)) x) (get_or j.recovered 5 0) based (omega arith) same) ∙ sym (set_cell-absent (heap_of j.recovered) r i x absent),
+            IsLaid-same_below j.recovered (set j.recovered (r + (4 + i)) x) (get_or j.recovered 5 0) based (omega arith) same (length-set j.recovered (r + (4 + i)) x) s.back,
+            top-same_below j.recovered (set j.recovered (r + (4 + i)) x) (get_or j.recovered 5 0) based same,
+          )
+    ]
+
+if-map : {X Y : Type 0} (f : X → Y) (b : Bool) (x y : X) → f (if b then x else y) ≡ (if b then f x else f y)
+if-map f true x y = refl
+if-map f false x y = refl
+
+settled_both : (b c : Bool) (rec plain : List ℕ) (a x : ℕ) → b ≡ false → rec ≡ plain → (if b && c then rec else set rec a x) ≡ set plain a x
+settled_both true c rec plain a x f e = absurd (false≢true (sym f))
+settled_both false c rec plain a x f e = ap (λ l. set l a x) e
+
+both_at : (j : State) (n r i x : ℕ) → i < length (cells (heap_of j.plain) r) → j.down ≡ false → IsSound j n →
+    (heap_view (written_in_place j (r + (4 + i)) x) n ≡ record (heap_view j n) { now = set_cell (heap_of j.plain) r i x; durable = (if j.in_transaction && is_kept j (r + (4 + i)) then heap_of j.recovered else set_cell (heap_of j.recovered) r i x); passed = raised j.passed 1 })
+    × IsSound (written_in_place j (r + (4 + i)) x) n
+both_at j n r i x h up s =
+    let b : (heap_of (set j.recovered (r + (4 + i)) x) ≡ set_cell (heap_of j.recovered) r i x) × IsLaid (set j.recovered (r + (4 + i)) x) × (get_or (set j.recovered (r + (4 + i)) x) 5 0 ≡ get_or j.recovered 5 0) = back_set j n r i x h up s in
+    let now : heap_of (set j.plain (r + (4 + i)) x) ≡ set_cell (heap_of j.plain) r i x = set_cell-heap_of j.plain r i x h in
+    let laid : IsLaid (set j.plain (r + (4 + i)) x) = IsLaid-set j.plain r i x h (s.now up) in
+    let top : get_or (set j.plain (r + (4 + i)) x) 5 0 ≡ get_or j.plain 5 0 = top-set j.plain r i x h in
+    let size : length (set j.plain (r + (4 + i)) x) ≡ length j.plain = length-set j.plain (r + (4 + i)) x in
+    let durable : heap_of (if j.in_transaction && is_kept j (r + (4 + i)) then j.recovered else set j.recovered (r + (4 + i)) x) ≡ (if j.in_transaction && is_kept j (r + (4 + i)) then heap_of j.recovered else set_cell (heap_of j.recovered) r i x) =
+    if-map heap_of (j.in_transaction && is_kept j (r + (4 + i))) j.recovered (set j.recovered (r + (4 + i)) x) ∙ ap (λ t. if j.in_transaction && is_kept j (r + (4 + i)) then heap_of j.recovered else t) b.0 in (
+      (λ k. record { now = now k; durable = durable k; begun = j.in_transaction; touched = j.touched; down = j.down; passed = raised j.passed 1; refused = j.refused; size = n }),
+      record {
+        back = elim (j.in_transaction && is_kept j (r + (4 + i))) as (λ g. IsLaid (if g then j.recovered else set j.recovered (r + (4 + i)) x)) [ true ↦ s.back | false ↦ b.1 ];
+        size_recovered = elim (j.in_transaction && is_kept j (r + (4 + i))) as (λ g. length (if g then j.recovered else set j.recovered (r + (4 + i)) x) ≡ n) [ true ↦ s.size_recovered | false ↦ length-set j.recovered (r + (4 + i)) x ∙ s.size_recovered ];
+        small = s.small;
+        now = λ _. laid;
+        size_now = λ _. size ∙ s.size_now up;
+        order = λ _. elim (j.in_transaction && is_kept j (r + (4 + i))) as (λ g. get_or (if g then j.recovered else set j.recovered (r + (4 + i)) x) 5 0 ≤ get_or (set j.plain (r + (4 + i)) x) 5 0) [ true ↦ omega (arith, s.order up, top) | false ↦ omega (arith, s.order up, top, b.2) ];
+        shape = λ _. elim (j.in_transaction && is_kept j (r + (4 + i))) as (λ g. SameShape (heap_of (if g then j.recovered else set j.recovered (r + (4 + i)) x)) (heap_of (set j.plain (r + (4 + i)) x))) [
+          | true ↦ subst (SameShape (heap_of j.recovered)) (sym now) (shape-set (heap_of j.recovered) (heap_of j.plain) r i x (s.shape up))
+          | false ↦ subst (λ d. SameShape d (heap_of (set j.plain (r + (4 + i)) x))) (sym b.0) (subst (SameShape (set_cell (heap_of j.recovered) r i x)) (sym now) (shape-set_both (heap_of j.recovered) (heap_of j.plain) r i x (s.shape up)))
+        ];
+        settled = λ _ closed. settled_both j.in_transaction (is_kept j (r + (4 + i))) j.recovered j.plain (r + (4 + i)) x closed (s.settled up closed);
+      },
+    )
+
+pub both_view : (j : State) (v : HeapView) (n r i x : ℕ) → heap_view j n ≡ v → i < length (cells v.now r) → j.down ≡ false → IsSound j n → heap_view (written_in_place j (cell_place r i) x) n ≡ counted v r i x
+unfolding cell_place is_touched
+both_view j v n r i x is h up s = subst (λ u. i < length (cells (u.now) r) → heap_view (written_in_place j (r + (4 + i)) x) n ≡ counted u r i x) is (λ k. (both_at j n r i x k up s).0) h
+
+pub both_sound : (j : State) (v : HeapView) (n r i x : ℕ) → heap_view j n ≡ v → i < length (cells v.now r) → j.down ≡ false → IsSound j n → IsSound (written_in_place j (cell_place r i) x) n
+unfolding cell_place
+both_sound j v n r i x is h up s = (both_at j n r i x (subst (λ u. i < length (cells (u.now) r)) (sym is) h) up s).1
+
+-- what an abort leaves of the names
+pub abort_keeps : (j : State) (v : HeapView) (n : ℕ) → heap_view j n ≡ v → j.down ≡ false → IsSound j n → KeepsBelowTop v.now v.durable
+abort_keeps j v n is up s = subst (λ u. KeepsBelowTop (u.now) (u.durable)) is
+    (keeps_below_top (heap_of j.plain) j.recovered (s.shape up) (omega (arith, s.back.based, length-take-le (get_or j.recovered 5 0) j.recovered s.back.fits)))
+
+pub nothing_at_top : (j : State) (v : HeapView) (n : ℕ) → heap_view j n ≡ v → IsLaid j.plain → names v.now v.now.top ≡ false
+unfolding read_image
+nothing_at_top j v n is laid = subst (λ u. names (u.now) (u.now.top) ≡ false) is
+    (names-heap_of j.plain (length (image j.plain)) (omega (arith, laid.based, length-take-le (get_or j.plain 5 0) j.plain laid.fits)) (omega arith))
+
+-- the top's word
+pub view_top : (j : State) (v : HeapView) (n : ℕ) → heap_view j n ≡ v → IsLaid j.plain → v.now.top ≡ get_or j.plain 5 0
+unfolding read_image
+view_top j v n is laid = ap (λ u. u.now.top) (sym is) ∙ length-take-le (get_or j.plain 5 0) j.plain laid.fits
+
+-- an abort's journal is sound
+pub aborted_sound : (j : State) (n : ℕ) → IsSound j n → (m : State) → m.plain ≡ j.recovered → m.recovered ≡ j.recovered → IsSound m n
+aborted_sound j n s m plain recovered = record {
+  back = subst IsLaid (sym recovered) s.back;
+  size_recovered = ap length recovered ∙ s.size_recovered;
+  small = s.small;
+  now = λ _. subst IsLaid (sym plain) s.back;
+  size_now = λ _. ap length plain ∙ s.size_recovered;
+  order = λ _. omega (arith, ap (λ l. get_or l 5 0) plain, ap (λ l. get_or l 5 0) recovered);
+  shape = λ _. subst (λ l. SameShape (heap_of m.recovered) (heap_of l)) (recovered ∙ sym plain) (shape-same (heap_of m.recovered));
+  settled = λ _ _. recovered ∙ sym plain;
+}
+
+-- and a commit's
+pub committed_sound : (j : State) (n : ℕ) → IsSound j n → j.down ≡ false → (m : State) → m.plain ≡ j.plain → m.recovered ≡ j.plain → IsSound m n
+committed_sound j n s up m plain recovered = record {
+  back = subst IsLaid (sym recovered) (s.now up);
+  size_recovered = ap length recovered ∙ s.size_now up;
+  small = s.small;
+  now = λ _. subst IsLaid (sym plain) (s.now up);
+  size_now = λ _. ap length plain ∙ s.size_now up;
+  order = λ _. omega (arith, ap (λ l. get_or l 5 0) plain, ap (λ l. get_or l 5 0) recovered);
+  shape = λ _. subst (λ l. SameShape (heap_of m.recovered) (heap_of l)) (recovered ∙ sym plain) (shape-same (heap_of m.recovered));
+  settled = λ _ _. recovered ∙ sym plain;
+}

@@ -1,0 +1,7 @@
+-- The words before the index are written.
+use Rattle.std.proofs.Common.{take, length, ◌≤◌}
+use Rattle.jc_heap.specs.Fresh.{KeepsBelow, Fills}
+use Rattle.jc_heap.proofs.fresh.write_run.Given as goal
+
+abbrev pub invariant-loop-k : goal.invariant-loop-k
+invariant-loop-k g l = record { below : KeepsBelow l.at l.fn.journal l.journal; done : Fills l.at (take l.k l.words) l.fn.journal l.journal }

@@ -1,0 +1,125 @@
+use Rattle.std.proofs.Common.{◌≡◌, ◌<◌, ◌≤◌, ◌+◌, ◌∙◌, [], ◌∷◌, get_or, length, arith, refl, sym, ap, subst, true, Err}
+use Rattle.jc_commit.specs.State.{has_room_for, Changes}
+use Rattle.jc_commit.specs.declared.refusal.WriteRefusal.TheVariants.{StoreDown}
+use Rattle.jc_heap.specs.Fresh.{KeepsBelow, Fills}
+use Rattle.jc_heap.specs.Heap.{area_place, area_end}
+use Rattle.jc_heap.proofs.Changing.{up_is}
+use Rattle.jc_heap.proofs.Views.{nothing_at_top, view_top}
+use Rattle.jc_heap.proofs.NewObjects.{lacks_space, transient_record, room_there, only_down, fresh_stopped_sound, fresh_stopped_view, top_stopped_sound, top_stopped_view, transient_sound, transient_view, view_area}
+use Rattle.jc_heap.proofs.heap.Heap.new_transient.Goals as goal
+
+pub returns-then-area_end-from-clause-free : goal.returns-then-area_end-from-clause-free
+returns-then-area_end-from-clause-free g c = nothing_at_top c.self.inside.journal c.args.self.now c.self.inside.size c.self.view_is (c.self.invariant.now (up_is c.self.inside.journal c.args.self.now c.self.inside.size c.self.view_is c.requires))
+
+pub returns-then-area_end-from-clause-area_full : goal.returns-then-area_end-from-clause-area_full
+returns-then-area_end-from-clause-area_full g c =
+    let at : c.read-place.result ≡ get_or c.self.inside.journal.plain (area_place c.args.event) 0 = c.read-place.ensures ∙ ap (λ a. get_or c.self.inside.journal.plain a 0) c.area_word-end_word.ensures in
+    let va : area_end c.args.self.now.now c.args.event ≡ get_or c.self.inside.journal.plain (area_place c.args.event) 0 = view_area c.self.inside.journal c.args.self.now c.self.inside.size c.args.event c.self.view_is (c.self.invariant.now (up_is c.self.inside.journal c.args.self.now c.self.inside.size c.self.view_is c.requires)) in
+    ((λ _. omega (arith, va, at)), λ _. refl)
+
+pub returns-then-end-from-clause-free : goal.returns-then-end-from-clause-free
+returns-then-end-from-clause-free g c = nothing_at_top c.self.inside.journal c.args.self.now c.self.inside.size c.self.view_is (c.self.invariant.now (up_is c.self.inside.journal c.args.self.now c.self.inside.size c.self.view_is c.requires))
+
+pub returns-then-end-from-clause-area_full : goal.returns-then-end-from-clause-area_full
+returns-then-end-from-clause-area_full g c =
+    let at : c.read-place.result ≡ get_or c.self.inside.journal.plain (area_place c.args.event) 0 = c.read-place.ensures ∙ ap (λ a. get_or c.self.inside.journal.plain a 0) c.area_word-end_word.ensures in
+    let va : area_end c.args.self.now.now c.args.event ≡ get_or c.self.inside.journal.plain (area_place c.args.event) 0 = view_area c.self.inside.journal c.args.self.now c.self.inside.size c.args.event c.self.view_is (c.self.invariant.now (up_is c.self.inside.journal c.args.self.now c.self.inside.size c.self.view_is c.requires)) in
+    ((λ e. cc), λ l. absurd (omega (arith, l, va, at)))
+
+pub returns-then-end-from-clause-heap_full : goal.returns-then-end-from-clause-heap_full
+returns-then-end-from-clause-heap_full g c = λ _. (refl, lacks_space c.self.inside.journal c.args.self.now c.self.inside.size 5 c.self.view_is (c.self.invariant.now (up_is c.self.inside.journal c.args.self.now c.self.inside.size c.self.view_is c.requires)) (omega arith))
+
+pub returns-then-lacks_room-clause-free : goal.returns-then-lacks_room-clause-free
+returns-then-lacks_room-clause-free g c = nothing_at_top c.self.inside.journal c.args.self.now c.self.inside.size c.self.view_is (c.self.invariant.now (up_is c.self.inside.journal c.args.self.now c.self.inside.size c.self.view_is c.requires))
+
+pub returns-then-lacks_room-clause-area_full : goal.returns-then-lacks_room-clause-area_full
+returns-then-lacks_room-clause-area_full g c =
+    let at : c.read-place.result ≡ get_or c.self.inside.journal.plain (area_place c.args.event) 0 = c.read-place.ensures ∙ ap (λ a. get_or c.self.inside.journal.plain a 0) c.area_word-end_word.ensures in
+    let va : area_end c.args.self.now.now c.args.event ≡ get_or c.self.inside.journal.plain (area_place c.args.event) 0 = view_area c.self.inside.journal c.args.self.now c.self.inside.size c.args.event c.self.view_is (c.self.invariant.now (up_is c.self.inside.journal c.args.self.now c.self.inside.size c.self.view_is c.requires)) in
+    ((λ e. cc), λ l. absurd (omega (arith, l, va, at)))
+
+pub invariant_of-self : goal.invariant_of-self
+invariant_of-self g c =
+    let below : KeepsBelow (get_or c.self.inside.journal.plain 5 0) c.self.inside.journal c.write_run.new.journal = subst (λ t. KeepsBelow t c.self.inside.journal c.write_run.new.journal) c.read-top.ensures c.write_run.ensures.below in
+    fresh_stopped_sound c.self.inside.journal c.write_run.new.journal c.self.inside.size c.self.invariant (up_is c.self.inside.journal c.args.self.now c.self.inside.size c.self.view_is c.requires) below c.in_default.ensures.stopped
+
+pub returns-in_default-clause-free : goal.returns-in_default-clause-free
+returns-in_default-clause-free g c = nothing_at_top c.self.inside.journal c.args.self.now c.self.inside.size c.self.view_is (c.self.invariant.now (up_is c.self.inside.journal c.args.self.now c.self.inside.size c.self.view_is c.requires))
+
+pub returns-in_default-clause-area_full : goal.returns-in_default-clause-area_full
+returns-in_default-clause-area_full g c =
+    let at : c.read-place.result ≡ get_or c.self.inside.journal.plain (area_place c.args.event) 0 = c.read-place.ensures ∙ ap (λ a. get_or c.self.inside.journal.plain a 0) c.area_word-end_word.ensures in
+    let va : area_end c.args.self.now.now c.args.event ≡ get_or c.self.inside.journal.plain (area_place c.args.event) 0 = view_area c.self.inside.journal c.args.self.now c.self.inside.size c.args.event c.self.view_is (c.self.invariant.now (up_is c.self.inside.journal c.args.self.now c.self.inside.size c.self.view_is c.requires)) in
+    ((λ e. cc), λ l. absurd (omega (arith, l, va, at)))
+
+pub returns-in_default-clause-stopped : goal.returns-in_default-clause-stopped
+returns-in_default-clause-stopped g c =
+    let below : KeepsBelow (get_or c.self.inside.journal.plain 5 0) c.self.inside.journal c.write_run.new.journal = subst (λ t. KeepsBelow t c.self.inside.journal c.write_run.new.journal) c.read-top.ensures c.write_run.ensures.below in
+    λ _. fresh_stopped_view c.self.inside.journal c.write_run.new.journal c.self.inside.size c.self.invariant (up_is c.self.inside.journal c.args.self.now c.self.inside.size c.self.view_is c.requires) below c.args.self.now c.self.view_is c.in_default.ensures.stopped
+
+pub invariant_of-self-in_default-write_all : goal.invariant_of-self-in_default-write_all
+invariant_of-self-in_default-write_all g c =
+    let below : KeepsBelow (get_or c.self.inside.journal.plain 5 0) c.self.inside.journal c.write_run.new.journal = subst (λ t. KeepsBelow t c.self.inside.journal c.write_run.new.journal) c.read-top.ensures c.write_run.ensures.below in
+    let fills : Fills (get_or c.self.inside.journal.plain 5 0) (transient_record c.args.kind c.args.event c.args.class c.args.owner c.args.length c.read-place.result) c.self.inside.journal c.write_run.new.journal = subst (λ w. Fills (get_or c.self.inside.journal.plain 5 0) (w ∷ c.args.class ∷ c.args.owner ∷ c.args.length ∷ c.read-place.result ∷ []) c.self.inside.journal c.write_run.new.journal) c.header_of.ensures
+    (subst (λ t. Fills t (c.header_of.result ∷ c.args.class ∷ c.args.owner ∷ c.args.length ∷ c.read-place.result ∷ []) c.self.inside.journal c.write_run.new.journal) c.read-top.ensures c.in-Ok.ensures.done) in
+    let fit : has_room_for c.self.inside.journal (5 ∷ c.area_word-end_word.result ∷ []) ≡ true = room_there c.lacks_room.result (has_room_for c.self.inside.journal (5 ∷ c.area_word-end_word.result ∷ [])) c.lacks_room.ensures c.if-lacks_room.false in
+    let down : c.in_default-write_all.field-0 ≡ StoreDown = only_down (get_or c.self.inside.journal.plain 5 0) c.self.inside.journal c.write_run.new.journal below (5 ∷ c.area_word-end_word.result ∷ []) fit c.in_default-write_all.field-0 (λ e. c.in_default-write_all.ensures.full.0 (ap Err e)) in
+    top_stopped_sound c.self.inside.journal c.write_run.new.journal c.self.inside.size c.self.invariant (up_is c.self.inside.journal c.args.self.now c.self.inside.size c.self.view_is c.requires) below (transient_record c.args.kind c.args.event c.args.class c.args.owner c.args.length c.read-place.result) fills c.write_all.new.self (c.in_default-write_all.ensures.stopped (ap Err down))
+
+pub returns-in_default-write_all-clause-free : goal.returns-in_default-write_all-clause-free
+returns-in_default-write_all-clause-free g c = nothing_at_top c.self.inside.journal c.args.self.now c.self.inside.size c.self.view_is (c.self.invariant.now (up_is c.self.inside.journal c.args.self.now c.self.inside.size c.self.view_is c.requires))
+
+pub returns-in_default-write_all-clause-area_full : goal.returns-in_default-write_all-clause-area_full
+returns-in_default-write_all-clause-area_full g c =
+    let at : c.read-place.result ≡ get_or c.self.inside.journal.plain (area_place c.args.event) 0 = c.read-place.ensures ∙ ap (λ a. get_or c.self.inside.journal.plain a 0) c.area_word-end_word.ensures in
+    let va : area_end c.args.self.now.now c.args.event ≡ get_or c.self.inside.journal.plain (area_place c.args.event) 0 = view_area c.self.inside.journal c.args.self.now c.self.inside.size c.args.event c.self.view_is (c.self.invariant.now (up_is c.self.inside.journal c.args.self.now c.self.inside.size c.self.view_is c.requires)) in
+    ((λ e. cc), λ l. absurd (omega (arith, l, va, at)))
+
+pub returns-in_default-write_all-clause-stopped : goal.returns-in_default-write_all-clause-stopped
+returns-in_default-write_all-clause-stopped g c =
+    let below : KeepsBelow (get_or c.self.inside.journal.plain 5 0) c.self.inside.journal c.write_run.new.journal = subst (λ t. KeepsBelow t c.self.inside.journal c.write_run.new.journal) c.read-top.ensures c.write_run.ensures.below in
+    let fills : Fills (get_or c.self.inside.journal.plain 5 0) (transient_record c.args.kind c.args.event c.args.class c.args.owner c.args.length c.read-place.result) c.self.inside.journal c.write_run.new.journal = subst (λ w. Fills (get_or c.self.inside.journal.plain 5 0) (w ∷ c.args.class ∷ c.args.owner ∷ c.args.length ∷ c.read-place.result ∷ []) c.self.inside.journal c.write_run.new.journal) c.header_of.ensures
+    (subst (λ t. Fills t (c.header_of.result ∷ c.args.class ∷ c.args.owner ∷ c.args.length ∷ c.read-place.result ∷ []) c.self.inside.journal c.write_run.new.journal) c.read-top.ensures c.in-Ok.ensures.done) in
+    let fit : has_room_for c.self.inside.journal (5 ∷ c.area_word-end_word.result ∷ []) ≡ true = room_there c.lacks_room.result (has_room_for c.self.inside.journal (5 ∷ c.area_word-end_word.result ∷ [])) c.lacks_room.ensures c.if-lacks_room.false in
+    let down : c.in_default-write_all.field-0 ≡ StoreDown = only_down (get_or c.self.inside.journal.plain 5 0) c.self.inside.journal c.write_run.new.journal below (5 ∷ c.area_word-end_word.result ∷ []) fit c.in_default-write_all.field-0 (λ e. c.in_default-write_all.ensures.full.0 (ap Err e)) in
+    λ _. top_stopped_view c.self.inside.journal c.write_run.new.journal c.self.inside.size c.self.invariant (up_is c.self.inside.journal c.args.self.now c.self.inside.size c.self.view_is c.requires) below (transient_record c.args.kind c.args.event c.args.class c.args.owner c.args.length c.read-place.result) fills c.write_all.new.self c.args.self.now c.self.view_is (c.in_default-write_all.ensures.stopped (ap Err down))
+
+pub invariant_of-self-2 : goal.invariant_of-self-2
+invariant_of-self-2 g c =
+    let below : KeepsBelow (get_or c.self.inside.journal.plain 5 0) c.self.inside.journal c.write_run.new.journal = subst (λ t. KeepsBelow t c.self.inside.journal c.write_run.new.journal) c.read-top.ensures c.write_run.ensures.below in
+    let fills : Fills (get_or c.self.inside.journal.plain 5 0) (transient_record c.args.kind c.args.event c.args.class c.args.owner c.args.length c.read-place.result) c.self.inside.journal c.write_run.new.journal = subst (λ w. Fills (get_or c.self.inside.journal.plain 5 0) (w ∷ c.args.class ∷ c.args.owner ∷ c.args.length ∷ c.read-place.result ∷ []) c.self.inside.journal c.write_run.new.journal) c.header_of.ensures
+    (subst (λ t. Fills t (c.header_of.result ∷ c.args.class ∷ c.args.owner ∷ c.args.length ∷ c.read-place.result ∷ []) c.self.inside.journal c.write_run.new.journal) c.read-top.ensures c.in-Ok.ensures.done) in
+    let at : c.read-place.result ≡ get_or c.self.inside.journal.plain (area_place c.args.event) 0 = c.read-place.ensures ∙ ap (λ a. get_or c.self.inside.journal.plain a 0) c.area_word-end_word.ensures in
+    let end : (c.from-4.result + c.from-5.result + 1) ≡ (get_or c.self.inside.journal.plain 5 0) + 5 = omega arith in
+    let fits : (c.from-4.result + c.from-5.result + 1) ≤ c.self.inside.size = omega arith in
+    let area : (c.from.result + c.from-2.result) ≡ c.read-place.result + c.args.length = omega arith in
+    let both : Changes ((5, (c.from-4.result + c.from-5.result + 1)) ∷ (area_place c.args.event, c.read-place.result + c.args.length) ∷ []) c.write_run.new.journal c.write_all.new.self =
+    subst (λ a. Changes ((5, (c.from-4.result + c.from-5.result + 1)) ∷ (a, c.read-place.result + c.args.length) ∷ []) c.write_run.new.journal c.write_all.new.self) c.area_word-end_word.ensures
+    (subst (λ n. Changes ((5, (c.from-4.result + c.from-5.result + 1)) ∷ (c.area_word-end_word.result, n) ∷ []) c.write_run.new.journal c.write_all.new.self) area c.in-Ok-write_all.ensures.ok) in
+    transient_sound c.self.inside.journal c.write_run.new.journal c.write_all.new.self c.self.inside.size c.args.kind c.args.event c.args.class c.args.owner c.args.length c.read-place.result (c.from-4.result + c.from-5.result + 1) c.self.invariant (up_is c.self.inside.journal c.args.self.now c.self.inside.size c.self.view_is c.requires) below fills at end fits both
+
+pub returns-clause-named : goal.returns-clause-named
+returns-clause-named g c = c.at.ensures ∙ c.read-top.ensures ∙ sym (view_top c.self.inside.journal c.args.self.now c.self.inside.size c.self.view_is (c.self.invariant.now (up_is c.self.inside.journal c.args.self.now c.self.inside.size c.self.view_is c.requires)))
+
+pub returns-clause-free : goal.returns-clause-free
+returns-clause-free g c = nothing_at_top c.self.inside.journal c.args.self.now c.self.inside.size c.self.view_is (c.self.invariant.now (up_is c.self.inside.journal c.args.self.now c.self.inside.size c.self.view_is c.requires))
+
+pub returns-clause-done : goal.returns-clause-done
+returns-clause-done g c =
+    let below : KeepsBelow (get_or c.self.inside.journal.plain 5 0) c.self.inside.journal c.write_run.new.journal = subst (λ t. KeepsBelow t c.self.inside.journal c.write_run.new.journal) c.read-top.ensures c.write_run.ensures.below in
+    let fills : Fills (get_or c.self.inside.journal.plain 5 0) (transient_record c.args.kind c.args.event c.args.class c.args.owner c.args.length c.read-place.result) c.self.inside.journal c.write_run.new.journal = subst (λ w. Fills (get_or c.self.inside.journal.plain 5 0) (w ∷ c.args.class ∷ c.args.owner ∷ c.args.length ∷ c.read-place.result ∷ []) c.self.inside.journal c.write_run.new.journal) c.header_of.ensures
+    (subst (λ t. Fills t (c.header_of.result ∷ c.args.class ∷ c.args.owner ∷ c.args.length ∷ c.read-place.result ∷ []) c.self.inside.journal c.write_run.new.journal) c.read-top.ensures c.in-Ok.ensures.done) in
+    let at : c.read-place.result ≡ get_or c.self.inside.journal.plain (area_place c.args.event) 0 = c.read-place.ensures ∙ ap (λ a. get_or c.self.inside.journal.plain a 0) c.area_word-end_word.ensures in
+    let end : (c.from-4.result + c.from-5.result + 1) ≡ (get_or c.self.inside.journal.plain 5 0) + 5 = omega arith in
+    let fits : (c.from-4.result + c.from-5.result + 1) ≤ c.self.inside.size = omega arith in
+    let area : (c.from.result + c.from-2.result) ≡ c.read-place.result + c.args.length = omega arith in
+    let both : Changes ((5, (c.from-4.result + c.from-5.result + 1)) ∷ (area_place c.args.event, c.read-place.result + c.args.length) ∷ []) c.write_run.new.journal c.write_all.new.self =
+    subst (λ a. Changes ((5, (c.from-4.result + c.from-5.result + 1)) ∷ (a, c.read-place.result + c.args.length) ∷ []) c.write_run.new.journal c.write_all.new.self) c.area_word-end_word.ensures
+    (subst (λ n. Changes ((5, (c.from-4.result + c.from-5.result + 1)) ∷ (c.area_word-end_word.result, n) ∷ []) c.write_run.new.journal c.write_all.new.self) area c.in-Ok-write_all.ensures.ok) in
+    transient_view c.self.inside.journal c.write_run.new.journal c.write_all.new.self c.self.inside.size c.args.kind c.args.event c.args.class c.args.owner c.args.length c.read-place.result (c.from-4.result + c.from-5.result + 1) c.self.invariant (up_is c.self.inside.journal c.args.self.now c.self.inside.size c.self.view_is c.requires) below fills at end fits both c.args.self.now c.self.view_is
+
+pub returns-clause-area_full : goal.returns-clause-area_full
+returns-clause-area_full g c =
+    let at : c.read-place.result ≡ get_or c.self.inside.journal.plain (area_place c.args.event) 0 = c.read-place.ensures ∙ ap (λ a. get_or c.self.inside.journal.plain a 0) c.area_word-end_word.ensures in
+    let va : area_end c.args.self.now.now c.args.event ≡ get_or c.self.inside.journal.plain (area_place c.args.event) 0 = view_area c.self.inside.journal c.args.self.now c.self.inside.size c.args.event c.self.view_is (c.self.invariant.now (up_is c.self.inside.journal c.args.self.now c.self.inside.size c.self.view_is c.requires)) in
+    ((λ e. cc), λ l. absurd (omega (arith, l, va, at)))

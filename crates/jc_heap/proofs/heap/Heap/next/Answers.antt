@@ -1,0 +1,39 @@
+use Rattle.std.proofs.Common.{arith, ◌≡◌, ◌<◌, ◌≤◌, ◌+◌, ◌∙◌, ap, sym, subst, map, get_or, length, drop, true, false}
+use Rattle.std.proofs.lemmas.Bool.{false≢true}
+use Rattle.jc_heap.specs.Cut.{cut, lacking}
+use Rattle.jc_heap.specs.Image.{image, package_addresses, sizes, item_entry}
+use Rattle.jc_heap.specs.Heap.{first_above, next_object, heap_of, IsObject}
+use Rattle.jc_heap.proofs.Changing.{up_is}
+use Rattle.jc_heap.proofs.Reading.{object_spot}
+use Rattle.jc_heap.proofs.Following.{whole_from, next_from}
+use Rattle.jc_heap.proofs.heap.Heap.next.Goals as goal
+
+pub returns-then-is_null : goal.returns-then-is_null
+returns-then-is_null g c = c.first.ensures ∙ ap (next_object c.args.self.now.now) (sym (c.is_null.ensures.0 c.if-is_null.true))
+
+pub first_object-requires-clause-low : goal.first_object-requires-clause-low
+first_object-requires-clause-low g c =
+    let there : IsObject c.args.self.now.now c.args.object = c.requires.there (λ z. false≢true (sym c.if-is_null.false ∙ c.is_null.ensures.1 z)) in
+    let here : IsObject (heap_of c.self.inside.journal.plain) c.args.object = subst (λ v. IsObject (v.now) c.args.object) (sym c.self.view_is) there in
+    omega (arith, (object_spot c.self.inside.journal.plain c.args.object (c.self.invariant.now (up_is c.self.inside.journal c.args.self.now c.self.inside.size c.self.view_is c.requires.up)) here).0, c.address-at.ensures)
+
+pub first_object-requires-clause-high : goal.first_object-requires-clause-high
+first_object-requires-clause-high g c =
+    let there : IsObject c.args.self.now.now c.args.object = c.requires.there (λ z. false≢true (sym c.if-is_null.false ∙ c.is_null.ensures.1 z)) in
+    let here : IsObject (heap_of c.self.inside.journal.plain) c.args.object = subst (λ v. IsObject (v.now) c.args.object) (sym c.self.view_is) there in
+    omega (arith, (object_spot c.self.inside.journal.plain c.args.object (c.self.invariant.now (up_is c.self.inside.journal c.args.self.now c.self.inside.size c.self.view_is c.requires.up)) here).1, c.address-at.ensures)
+
+pub first_object-requires-clause-whole : goal.first_object-requires-clause-whole
+first_object-requires-clause-whole g c =
+    let there : IsObject c.args.self.now.now c.args.object = c.requires.there (λ z. false≢true (sym c.if-is_null.false ∙ c.is_null.ensures.1 z)) in
+    let here : IsObject (heap_of c.self.inside.journal.plain) c.args.object = subst (λ v. IsObject (v.now) c.args.object) (sym c.self.view_is) there in
+    subst (λ a. lacking (sizes (package_addresses (image c.self.inside.journal.plain))) 0 a (drop a (image c.self.inside.journal.plain)) ≡ 0) (sym c.address-at.ensures) (whole_from c.self.inside.journal.plain c.args.object (c.self.invariant.now (up_is c.self.inside.journal c.args.self.now c.self.inside.size c.self.view_is c.requires.up)) here)
+
+pub returns : goal.returns
+returns g c =
+    let there : IsObject c.args.self.now.now c.args.object = c.requires.there (λ z. false≢true (sym c.if-is_null.false ∙ c.is_null.ensures.1 z)) in
+    let here : IsObject (heap_of c.self.inside.journal.plain) c.args.object = subst (λ v. IsObject (v.now) c.args.object) (sym c.self.view_is) there in
+    c.first_object.ensures
+    ∙ ap (λ a. first_above (map (item_entry (package_addresses (image c.self.inside.journal.plain))) (cut (sizes (package_addresses (image c.self.inside.journal.plain))) 0 a (drop a (image c.self.inside.journal.plain)))) a) c.address-at.ensures
+    ∙ sym (next_from c.self.inside.journal.plain c.args.object (c.self.invariant.now (up_is c.self.inside.journal c.args.self.now c.self.inside.size c.self.view_is c.requires.up)) here)
+    ∙ ap (λ v. next_object (v.now) c.args.object) c.self.view_is

@@ -1,0 +1,18 @@
+-- What is left of the walk has the answer, and it is whole.
+use Rattle.std.proofs.Common.{◌≡◌, ◌≤◌, ◌-◌, drop, map, get_or}
+use Rattle.jc_heap.specs.Cut.{cut, lacking}
+use Rattle.jc_heap.specs.Image.{image, package_addresses, sizes, item_entry}
+use Rattle.jc_heap.specs.Heap.{first_above}
+use Rattle.jc_heap.proofs.walk.first_object.Given as goal
+
+abbrev pub invariant-loop-at : goal.invariant-loop-at
+invariant-loop-at g l = record {
+  low : 752 ≤ l.at;
+  high : l.at ≤ l.top;
+  whole : lacking (sizes (package_addresses (image l.journal.plain))) 0 l.at (drop l.at (image l.journal.plain)) ≡ 0;
+  left : first_above (map (item_entry (package_addresses (image l.journal.plain))) (cut (sizes (package_addresses (image l.journal.plain))) 0 l.at (drop l.at (image l.journal.plain)))) l.above
+      ≡ first_above (map (item_entry (package_addresses (image l.journal.plain))) (cut (sizes (package_addresses (image l.journal.plain))) 0 l.from (drop l.from (image l.journal.plain)))) l.above;
+}
+
+abbrev pub decreases-loop-at : goal.decreases-loop-at
+decreases-loop-at g l = l.top - l.at

@@ -1,0 +1,35 @@
+-- Words written at or above the top, which have no meaning until the top moves.
+use Rattle.std.specs.Prelude.{ℕ, ◌+◌, ◌≡◌, ◌≤◌, ◌<◌, List, ◌++◌, take, length, true, false}
+use Rattle.jc_words.specs.Count.{raised}
+use Rattle.jc_commit.specs.Image.{top_of, registry_start}
+use Rattle.jc_commit.specs.State.{State}
+
+-- so many words from this address on have no meaning: they lie above both tops
+pub record IsFree (at count : ℕ) (j : State) : Type 0 where
+  pub up : j.down ≡ false
+  pub low : registry_start ≤ at
+  pub above : top_of j.plain ≤ at
+  pub above_recovered : top_of j.recovered ≤ at
+  pub fits : at + count ≤ length j.plain
+  pub small : length j.plain < 65536
+
+-- words from this address on may have changed, and nothing else did
+pub record KeepsBelow (at : ℕ) (old new : State) : Type 0 where
+  pub plain : take at new.plain ≡ take at old.plain
+  pub recovered : take at new.recovered ≡ take at old.recovered
+  pub size : length new.plain ≡ length old.plain
+  pub size_recovered : length new.recovered ≡ length old.recovered
+  pub in_transaction : new.in_transaction ≡ old.in_transaction
+  pub touched : new.touched ≡ old.touched
+
+-- these words stand there
+pub record Fills (at : ℕ) (run : List ℕ) (old new : State) : Type 0 where
+  pub words : take (at + length run) new.plain ≡ take at old.plain ++ run
+  pub down : new.down ≡ old.down
+  pub passed : new.passed ≡ raised old.passed (length run)
+  pub refused : new.refused ≡ old.refused
+
+-- the store refused a write on the way
+pub record StopsFresh (old new : State) : Type 0 where
+  pub down : new.down ≡ true
+  pub refused : new.refused ≡ raised old.refused 1

@@ -1,0 +1,217 @@
+-- The heap that words stand for, and the changes of a heap.
+use Rattle.std.specs.Prelude.{ℕ, suc, ◌+◌, ◌≡◌, ◌<◌, ◌≤◌, ◌==◌, Bool, true, false, List, [], ◌∷◌, ◌++◌, map, take, drop, length, slice_index, Option, Some, None, if◌then◌else◌, ◌&&◌, nat_lt, nat_le}
+use Rattle.std.specs.List.{list_any}
+use Rattle.jc_words.specs.Count.{raised}
+use Rattle.jc_commit.specs.Image.{capacity, top_of}
+use Rattle.jc_commit.specs.State.{State, writes_inside, writes_outside, undo_writes}
+use Rattle.jc_heap.specs.declared.object.Facts.{Facts}
+use Rattle.jc_transient.specs.declared.cell.ClearEvent.{ClearEvent}
+use Rattle.jc_transient.specs.declared.cell.ClearEvent.TheVariants.{Reset, Deselect}
+use Rattle.jc_transient.specs.State.{area_size}
+use Rattle.jc_heap.specs.declared.object.Kind.{Kind}
+use Rattle.jc_heap.specs.Object.{Object, new_transient, Item, AnObject, APackage, cells_of, with_cell, bare, facts_of, is_object}
+use Rattle.jc_heap.specs.Table.{at_or, has, put}
+use Rattle.jc_heap.specs.Image.{image, package_addresses, item_entry, records, IsLaid}
+
+-- what stands at each address, in order; the addresses of the packages, by their numbers; the registry's
+-- words; the ends of the two transient areas; the first free word
+pub record HeapState : Type 0 where
+  pub items : List (ℕ × Item)
+  pub packages : List ℕ
+  pub applets : List ℕ
+  pub area_ends : ℕ × ℕ
+  pub top : ℕ
+
+unfoldable pub read_image : List ℕ → HeapState
+read_image image = record {
+  items = map (item_entry (package_addresses image)) (records image);
+  packages = package_addresses image;
+  applets = take 192 (drop 560 image);
+  area_ends = (slice_index image 8, slice_index image 9);
+  top = length image;
+}
+
+-- the heap that words stand for: words at or above the top don't matter
+abbrev pub heap_of : List ℕ → HeapState
+heap_of words = read_image (image words)
+
+unfoldable pub item_at : HeapState → ℕ → Item
+item_at h r = at_or (APackage []) h.items r
+
+-- the cells of a persistent object: none, where there is no such object
+abbrev pub cells : HeapState → ℕ → List ℕ
+cells h r = cells_of (item_at h r)
+
+-- what the header of an object says
+abbrev pub facts : HeapState → ℕ → Facts
+facts h r = facts_of (item_at h r)
+
+-- something stands at this address
+unfoldable pub names : HeapState → ℕ → Bool
+names h r = has h.items r
+
+-- an object stands at this address
+abbrev pub IsObject : HeapState → ℕ → Type 0
+IsObject h r = is_object (item_at h r) ≡ true
+
+unfoldable pub set_cell : HeapState → ℕ → ℕ → ℕ → HeapState
+set_cell h r i v = record h { items = put h.items r (with_cell (item_at h r) i v) }
+
+-- a new object behind the others
+unfoldable pub add_object : HeapState → Object → ℕ → HeapState
+add_object h o size = record h { items = h.items ++ (h.top, AnObject o) ∷ []; top = h.top + size }
+
+-- the first free cell of an event's area
+abbrev pub area_end : HeapState → ClearEvent → ℕ
+area_end h Reset = h.area_ends.0
+area_end h Deselect = h.area_ends.1
+
+abbrev pub with_area_end : HeapState → ClearEvent → ℕ → HeapState
+with_area_end h Reset end = record h { area_ends = (end, h.area_ends.1) }
+with_area_end h Deselect end = record h { area_ends = (h.area_ends.0, end) }
+
+-- the place of an area's end
+abbrev pub area_place : ClearEvent → ℕ
+area_place Reset = 8
+area_place Deselect = 9
+
+-- a new transient object behind the others, whose cells are the first free ones of its area
+unfoldable pub add_transient : HeapState → Kind → ClearEvent → ℕ → ℕ → ℕ → HeapState
+add_transient h kind event class owner long = with_area_end (add_object h (new_transient kind event class owner long (area_end h event)) 5) event (area_end h event + long)
+
+-- the cells of a persistent object from an index on are these
+abbrev pub set_cells : HeapState → ℕ → ℕ → List ℕ → HeapState
+set_cells h r i [] = h
+set_cells h r i (v ∷ vs) = set_cells (set_cell h r i v) r (suc i) vs
+
+-- the words of a run from an address on
+abbrev pub run_words : ℕ → List ℕ → List (ℕ × ℕ)
+run_words at [] = []
+run_words at (v ∷ vs) = (at, v) ∷ run_words (suc at) vs
+
+-- the first object above an address
+abbrev pub first_above : List (ℕ × Item) → ℕ → Option ℕ
+first_above [] r = None
+first_above (e ∷ es) r = if nat_lt r e.0 && is_object e.1 then Some e.0 else first_above es r
+
+-- the object behind another one, or the first one of all behind null
+unfoldable pub next_object : HeapState → ℕ → Option ℕ
+next_object h r = first_above h.items r
+
+-- below the old heap's top the same things stand in the new one, with the same headers
+pub record SameShape (old new : HeapState) : Type 0 where
+  pub items : (r : ℕ) → r < old.top → bare (item_at new r) ≡ bare (item_at old r)
+  pub names : (r : ℕ) → r < old.top → names new r ≡ names old r
+
+-- of what stood, what stands below the top is left, and nothing else
+abbrev pub KeepsBelowTop : HeapState → HeapState → Type 0
+KeepsBelowTop old new = (r : ℕ) → names new r ≡ (if nat_lt r new.top then names old r else false)
+
+-- what the layers above see: the heap now, the heap that a completed recovery would leave, whether a
+-- transaction is open, the places whose old values it keeps, the store's state and its number of words
+pub record HeapView : Type 0 where
+  pub now : HeapState
+  pub durable : HeapState
+  pub begun : Bool
+  pub touched : List ℕ
+  pub down : Bool
+  pub passed : ℕ
+  pub refused : ℕ
+  pub size : ℕ
+
+-- what the words of a journal stand for
+abbrev pub heap_view : State → ℕ → HeapView
+heap_view j size = record { now = heap_of j.plain; durable = heap_of j.recovered; begun = j.in_transaction; touched = j.touched; down = j.down; passed = j.passed; refused = j.refused; size = size }
+
+-- what the journal of each heap meets: both images are laid, and below the top of the recovered one they
+-- have the same shape. After a refused write only the recovered words count
+pub record IsSound (j : State) (size : ℕ) : Type 0 where
+  pub back : IsLaid j.recovered
+  pub size_recovered : length j.recovered ≡ size
+  pub small : size < 65536
+  pub now : j.down ≡ false → IsLaid j.plain
+  pub size_now : j.down ≡ false → length j.plain ≡ size
+  pub order : j.down ≡ false → top_of j.recovered ≤ top_of j.plain
+  pub shape : j.down ≡ false → SameShape (heap_of j.recovered) (heap_of j.plain)
+  -- outside a transaction there is nothing to recover
+  pub settled : j.down ≡ false → j.in_transaction ≡ false → j.recovered ≡ j.plain
+
+-- what the journal of a recovered image meets
+pub record IsOpen (j : State) (size : ℕ) : Type 0 where
+  pub up : j.down ≡ false
+  pub closed : j.in_transaction ≡ false
+  pub recovered : j.recovered ≡ j.plain
+  pub size_now : length j.plain ≡ size
+  pub small : size < 65536
+  pub wide : 752 ≤ size
+
+-- the heap as the open transaction found it
+abbrev pub saved : HeapView → Option HeapState
+saved v = if v.begun then Some v.durable else None
+
+-- of these places, those whose old values a change has to keep: its cost
+abbrev pub kept : HeapView → List ℕ → List ℕ
+kept v places = if v.begun then places else []
+
+-- how many word writes it is to change these places
+abbrev pub writes_for : HeapView → List ℕ → ℕ
+writes_for v places = if v.begun then writes_inside (length places) (length (kept v places)) else writes_outside (length places)
+
+-- there is room for a change of these places, in the open transaction or in one of its own
+abbrev pub has_room_for : HeapView → List ℕ → Bool
+has_room_for v places = if v.begun then nat_le (length v.touched + length (kept v places)) capacity else nat_le (length places) capacity
+
+-- one change, to another heap, by writes to these places and to so many fresh words
+abbrev pub changed : HeapView → HeapState → List ℕ → ℕ → HeapView
+changed v h places fresh = record v {
+  now = h;
+  durable = (if v.begun then v.durable else h);
+  touched = v.touched ++ kept v places;
+  passed = raised v.passed (fresh + writes_for v places);
+}
+
+-- the place of a cell
+unfoldable pub cell_place : ℕ → ℕ → ℕ
+cell_place r i = r + (4 + i)
+
+-- the place of the heap's end
+unfoldable pub end_place : ℕ
+end_place = 5
+
+-- the open transaction keeps the old value of a place
+unfoldable pub is_touched : HeapView → ℕ → Bool
+is_touched v place = v.begun && list_any (λ b. b == place) v.touched
+
+-- a cell set for good, where no earlier change of the open transaction has touched it
+abbrev pub counted : HeapView → ℕ → ℕ → ℕ → HeapView
+counted v r i x = record v {
+  now = set_cell v.now r i x;
+  durable = (if is_touched v (cell_place r i) then v.durable else set_cell v.durable r i x);
+  passed = raised v.passed 1;
+}
+
+-- a transaction is open, and what it finds is kept
+abbrev pub begun : HeapView → HeapView
+begun v = record v { begun = true; durable = v.now }
+
+-- its changes stay
+abbrev pub committed : HeapView → HeapView
+committed v = record v { begun = false; durable = v.now; touched = []; passed = raised v.passed (if length v.touched == 0 then 0 else 1) }
+
+-- its changes are taken back
+abbrev pub aborted : HeapView → HeapView
+aborted v = record v { begun = false; now = v.durable; touched = []; passed = raised v.passed (undo_writes (length v.touched)) }
+
+-- the store refused a write: a recovery leaves what it would have left before
+pub record IsStopped (old new : HeapView) : Type 0 where
+  pub durable : new.durable ≡ old.durable
+  pub down : new.down ≡ true
+  pub refused : new.refused ≡ raised old.refused 1
+
+-- an event's area has no space for so many cells
+abbrev pub LacksCells : HeapState → ClearEvent → ℕ → Type 0
+LacksCells h event n = area_size < area_end h event + n
+
+-- there is no space for so many words
+abbrev pub LacksSpace : HeapView → ℕ → Type 0
+LacksSpace v n = v.size < v.now.top + n

@@ -1,0 +1,49 @@
+-- Where an image keeps what.
+use Rattle.std.specs.Prelude.{ℕ, ◌+◌, ◌-◌, ◌/◌, ◌%◌, ◌==◌, Bool, false, List, [], ◌∷◌, map, take, drop, slice_index, length, ◌≤◌, ◌≡◌, if◌then◌else◌}
+use Rattle.std.specs.List.{list_any}
+use Rattle.jc_heap.specs.Cut.{Sizes, cut, lacking}
+use Rattle.jc_heap.specs.Object.{Item, AnObject, APackage, object_of, payload}
+
+-- the words below the top: the others have no meaning
+abbrev pub image : List ℕ → List ℕ
+image words = take (slice_index words 5) words
+
+-- the first word after the table text
+abbrev pub base : List ℕ → ℕ
+base image = 752 + (slice_index image 10 + 1) / 2
+
+abbrev pub package_addresses : List ℕ → List ℕ
+package_addresses image = take (slice_index image 6) (take 32 (drop 528 image))
+
+abbrev pub is_package : List ℕ → ℕ → Bool
+is_package packages at = list_any (λ p. p == at) packages
+
+-- how many words a record has after its first
+abbrev pub sizes : List ℕ → Sizes
+sizes packages at words = if is_package packages at then slice_index words 0 - 1 else 3 + payload (slice_index words 0) (slice_index words 3)
+
+abbrev pub item : List ℕ → ℕ → List ℕ → Item
+item packages at words = if is_package packages at then APackage words else AnObject (object_of words)
+
+abbrev pub item_entry : List ℕ → ℕ × List ℕ → ℕ × Item
+item_entry packages e = (e.0, item packages e.0 e.1)
+
+-- the records of an image
+abbrev pub records : List ℕ → List (ℕ × List ℕ)
+records image = cut (sizes (package_addresses image)) 0 (base image) (drop (base image) image)
+
+-- how many words the last record of an image lacks: none, where the table is whole
+unfoldable pub missing : List ℕ → ℕ
+missing image = lacking (sizes (package_addresses image)) 0 (base image) (drop (base image) image)
+
+-- a byte of the table text: two in a word, the high one first
+abbrev pub text_byte : List ℕ → ℕ → ℕ
+text_byte words i = if i % 2 == 0 then slice_index words (752 + i / 2) / 256 else slice_index words (752 + i / 2) % 256
+
+-- words as the heap lays them: the top lies between the table's begin and the words' end, and the table ends there
+pub record IsLaid (words : List ℕ) : Type 0 where
+  pub based : base (image words) ≤ slice_index words 5
+  pub fits : slice_index words 5 ≤ length words
+  pub whole : missing (image words) ≡ 0
+  -- no package begins at or above the top
+  pub packages : (a : ℕ) → slice_index words 5 ≤ a → is_package (package_addresses (image words)) a ≡ false

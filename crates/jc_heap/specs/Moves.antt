@@ -1,0 +1,89 @@
+-- Moves of a heap as data: what a power loss within some of them leaves.
+use Rattle.std.specs.Prelude.{ℕ, ◌≡◌, ◌+◌, ◌<◌, ◌⊎◌, if◌then◌else◌, Bool, true, false, List, [], ◌∷◌, ◌++◌, Result, Ok, Err}
+use Rattle.jc_words.specs.Count.{raised}
+use Rattle.jc_commit.specs.Entries.{addresses_of}
+use Rattle.jc_transient.specs.declared.cell.ClearEvent.{ClearEvent}
+use Rattle.jc_heap.specs.declared.object.Kind.{Kind}
+use Rattle.jc_heap.specs.Object.{Object}
+use Rattle.jc_heap.specs.Heap.{HeapState, HeapView, names, set_cell, set_cells, run_words, add_object, add_transient, area_place, is_touched, changed, counted, begun, committed, aborted, cell_place, end_place}
+use Rattle.jc_heap.specs.declared.refusal.HeapRefusal.{HeapRefusal}
+use Rattle.jc_heap.specs.declared.refusal.HeapRefusal.TheVariants.{StoreDown, CommitFull, HeapFull, NoTransientSpace}
+
+-- one change of the heap, or one step of its transaction. A new object names its address, which is the
+-- one free choice, and how many words it takes
+pub data Move : Type 0 where
+  SetCell : ℕ → ℕ → ℕ → Move
+  CountCell : ℕ → ℕ → ℕ → Move
+  SetCells : ℕ → ℕ → List ℕ → Move
+  AddObject : Object → ℕ → Move
+  AddTransient : Kind → ClearEvent → ℕ → ℕ → ℕ → Move
+  Begin : Move
+  Commit : Move
+  Abort : Move
+
+-- the heap after a move
+abbrev pub apply : Move → HeapView → HeapView
+apply (SetCell r i v) h = changed h (set_cell h.now r i v) (cell_place r i ∷ []) 0
+apply (CountCell r i v) h = counted h r i v
+apply (SetCells r i vs) h = changed h (set_cells h.now r i vs) (addresses_of (run_words (cell_place r i) vs)) 0
+apply (AddTransient kind event class owner long) h = changed h (add_transient h.now kind event class owner long) (end_place ∷ area_place event ∷ []) 5
+apply (AddObject o size) h = changed h (add_object h.now o size) (end_place ∷ []) size
+apply Begin h = begun h
+apply Commit h = committed h
+apply Abort h = aborted h
+
+-- the heap after these moves
+abbrev pub applied : List Move → HeapView → HeapView
+applied [] h = h
+applied (m ∷ ms) h = applied ms (apply m h)
+
+-- these moves stay within the open transaction
+abbrev pub IsInside : List Move → Type 0
+IsInside [] = Unit {0}
+IsInside (Begin ∷ ms) = ⊥
+IsInside (Commit ∷ ms) = ⊥
+IsInside (Abort ∷ ms) = ⊥
+IsInside (m ∷ ms) = IsInside ms
+
+-- what the counted cells among these moves make of a durable heap: those that no earlier change touched
+abbrev pub with_counts : List Move → HeapView → HeapState → HeapState
+with_counts [] h d = d
+with_counts (CountCell r i v ∷ ms) h d = with_counts ms (apply (CountCell r i v) h) (if is_touched h (cell_place r i) then d else set_cell d r i v)
+with_counts (m ∷ ms) h d = with_counts ms (apply m h) d
+
+-- inside a transaction the durable heap stays as it is but for counted cells, whatever the moves are
+abbrev pub KeepsDurable : Type 0
+KeepsDurable = (moves : List Move) (h : HeapView) → h.begun ≡ true → IsInside moves → (applied moves h).durable ≡ with_counts moves h h.durable
+
+-- a loss of power within these moves may leave this durable heap: that before one of them
+abbrev pub Left : List Move → HeapView → HeapState → Type 0
+Left [] h d = ⊥
+Left (m ∷ ms) h d = (d ≡ h.durable) ⊎ Left ms (apply m h) d
+
+-- the store refused a write within these moves
+pub record IsCut (moves : List Move) (old new : HeapView) : Type 0 where
+  pub left : Left moves old new.durable
+  pub down : new.down ≡ true
+  pub refused : new.refused ≡ raised old.refused 1
+
+-- how a call ends: with an answer, or cut by the store
+pub data After (A : Type 0) : Type 0 where
+  Made : A → HeapView → After A
+  Cut : HeapView → After A
+
+-- a refusal but StoreDown is an answer
+pub data Answer (A : Type 0) : Type 0 where
+  Done : A → Answer A
+  Refused : HeapRefusal → Answer A
+
+abbrev pub after_of : {A : Type 0} → Result A HeapRefusal → HeapView → After (Answer A)
+after_of (Ok a) h = Made (Done a) h
+after_of (Err StoreDown) h = Cut h
+after_of (Err CommitFull) h = Made (Refused CommitFull) h
+after_of (Err HeapFull) h = Made (Refused HeapFull) h
+after_of (Err NoTransientSpace) h = Made (Refused NoTransientSpace) h
+
+-- all these moves were made and the answer is this one; or the call was cut within them
+abbrev pub Makes : {A : Type 0} → HeapView → After A → List Move → A → Type 0
+Makes old (Made a new) moves answer = (a ≡ answer) × (new ≡ applied moves old)
+Makes old (Cut new) moves answer = IsCut moves old new

@@ -1,0 +1,269 @@
+//! A heap: reading, cells, transactions.
+ghost use Rattle.std.specs.Prelude.{ℕ, take, ◌≡◌, ◌<◌, ◌≤◌, [], ◌∷◌, true, false, Ok, Err, length, slice_index, OnOk, OnErr, ◌+◌, ◌/◌, ◌==◌, if◌then◌else◌, ◌↔◌, None};
+ghost use Rattle.jc_commit.specs.Image.{capacity, recovered_of, IsGoodLog};
+ghost use Rattle.jc_commit.specs.Entries.{addresses_of};
+ghost use Rattle.jc_heap.specs.Object.{IsElement};
+ghost use Rattle.jc_heap.specs.Image.{IsLaid};
+ghost use Rattle.jc_heap.specs.Heap.{HeapView, HeapState, heap_of, cells, facts, IsObject, next_object, set_cell, set_cells, run_words, changed, counted, cell_place, IsStopped, has_room_for, begun, committed, aborted, KeepsBelowTop};
+
+use crate::layout::{HEADER, TEXT_LENGTH, TEXT_START, TOP};
+use crate::object::{Facts, Kind, event_of_number};
+use crate::refusal::HeapRefusal;
+use crate::walk::first_object;
+use jc_commit::Journal;
+use jc_transient::Ref;
+use jc_words::{JOURNAL_CAPACITY, WordStore};
+use std::marker::Model;
+
+// How many words one change may have.
+const MOST_CHANGES: usize = JOURNAL_CAPACITY as usize;
+
+/// Objects by reference, with transactions.
+///
+/// A contract sees two heaps: the heap as it is, and the heap that a completed recovery would leave.
+/// After a refused write nothing but a power up may follow.
+#[derive(Drop)]
+pub struct Heap<S: WordStore> {
+    pub(crate) journal: Journal<S>,
+    // The number of words of the store.
+    pub(crate) size: u16,
+}
+
+impl<S: WordStore> Model for Heap<S> {
+    ghost use Rattle.jc_heap.specs.Heap.{HeapView, heap_view, IsSound};
+
+    ghost Value = { HeapView };
+
+    ghost view = { λ h. heap_view h.journal h.size };
+
+    ghost invariant = { λ h. IsSound h.journal h.size };
+}
+
+// The word behind a transient object's header, 0 where there is none.
+fn place_word<S: WordStore>(journal: &Journal<S>, at: u16, word: u16) -> u16
+    requires behind { 752 ≤ at }
+    requires there { (word / 256 ≡ 0 → ⊥) → at + 4 < length journal.now.plain }
+    requires small { length journal.now.plain < 65536 }
+    ensures { result ≡ (if word / 256 == 0 then 0 else slice_index journal.now.plain (at + 4)) }
+{
+    if word / 256 == 0 {
+        return 0;
+    }
+    journal.read(at + HEADER)
+}
+
+// The words of a run from an address on, with their values.
+fn words_of_run(changes: &mut [(u16, u16)], at: u16, values: &[u16])
+    requires room { length values.now ≤ length changes.old }
+    requires fits { at + length values.now ≤ 65536 }
+    ensures { take (length values.now) changes.new ≡ run_words at values.now }
+{
+    for (k, value) in values.iter().enumerate() {
+        changes[k] = (at + k as u16, *value);
+    }
+}
+
+impl<S: WordStore> Heap<S> {
+    // The word of a cell.
+    fn cell_word(&self, object: Ref, i: u16) -> u16
+        requires up { self.now.down ≡ false }
+        requires cell { i < length (cells self.now.now object) }
+        ensures { result ≡ cell_place object i }
+    {
+        let _ = &self.journal;
+        let offset = u32::from(HEADER) + u32::from(i);
+        (u32::from(object.address()) + offset) as u16
+    }
+
+    // The word of the first of so many cells; any word, where there are none.
+    fn run_word(&self, object: Ref, i: u16, values: &[u16]) -> u16
+        requires up { self.now.down ≡ false }
+        requires cells { i + length values.now ≤ length (cells self.now.now object) }
+        ensures words { run_words result values.now ≡ run_words (cell_place object i) values.now }
+        ensures fits { result + length values.now ≤ 65536 }
+    {
+        if values.is_empty() {
+            return 0;
+        }
+        let _ = &self.journal;
+        self.cell_word(object, i)
+    }
+
+    // The first object of all.
+    fn first(&self) -> Option<Ref>
+        requires { self.now.down ≡ false }
+        ensures { result ≡ next_object self.now.now 0 }
+    {
+        let text = u32::from(self.journal.read(TEXT_LENGTH));
+        let from = TEXT_START + (text + 1) / 2;
+        first_object(&self.journal, from as u16, 0)
+    }
+
+    /// A cell of a persistent object.
+    pub fn get(&self, object: Ref, i: u16) -> u16
+        requires up { self.now.down ≡ false }
+        requires cell { i < length (cells self.now.now object) }
+        ensures { result ≡ slice_index (cells self.now.now object) i }
+    {
+        let word = self.cell_word(object, i);
+        self.journal.read(word)
+    }
+
+    /// What an object's header says.
+    pub fn facts(&self, object: Ref) -> Facts
+        requires up { self.now.down ≡ false }
+        requires there { IsObject self.now.now object }
+        ensures facts { result ≡ facts self.now.now object }
+        ensures cells { result.event ≡ None → length (cells self.now.now object) ≡ result.length }
+    {
+        let at = object.address();
+        let word = self.journal.read(at);
+        let place = place_word(&self.journal, at, word);
+        Facts {
+            kind: Kind::of(word % 256),
+            event: event_of_number(word / 256),
+            class: self.journal.read(at + 1),
+            owner: self.journal.read(at + 2),
+            length: self.journal.read(at + 3),
+            place,
+        }
+    }
+
+    /// The address that the next object gets: each object lies below it.
+    pub fn top(&self) -> u16
+        requires { self.now.down ≡ false }
+        ensures { result ≡ self.now.now.top }
+    {
+        self.journal.read(TOP)
+    }
+
+    /// The object behind another one in the order of addresses, or the first one of all behind null.
+    pub fn next(&self, object: Ref) -> Option<Ref>
+        requires up { self.now.down ≡ false }
+        requires there { (object ≡ 0 → ⊥) → IsObject self.now.now object }
+        ensures { result ≡ next_object self.now.now object }
+    {
+        if object.is_null() {
+            return self.first();
+        }
+        let at = object.address();
+        first_object(&self.journal, at, at)
+    }
+
+    /// Sets a cell of a persistent object.
+    pub fn set(&mut self, object: Ref, i: u16, v: u16) -> Result<(), HeapRefusal>
+        requires up { self.old.down ≡ false }
+        requires cell { i < length (cells self.old.now object) }
+        requires value { IsElement (facts self.old.now object).kind v }
+        ensures done { OnOk result (self.new ≡ changed self.old (set_cell self.old.now object i v) (cell_place object i ∷ []) 0) }
+        ensures full { (result ≡ Err HeapRefusal.CommitFull) ↔ (has_room_for self.old (cell_place object i ∷ []) ≡ false) }
+        ensures kept { result ≡ Err HeapRefusal.CommitFull → self.new ≡ self.old }
+        ensures stopped { result ≡ Err HeapRefusal.StoreDown → IsStopped self.old self.new }
+        ensures space { result ≡ Err HeapRefusal.HeapFull → ⊥ }
+        ensures area { result ≡ Err HeapRefusal.NoTransientSpace → ⊥ }
+    {
+        let word = self.cell_word(object, i);
+        self.journal.write(word, v)?;
+        Ok(())
+    }
+
+    /// Sets a cell for good: no abort takes it back, unless an earlier change of the transaction has
+    /// touched it.
+    pub fn set_both(&mut self, object: Ref, i: u16, v: u16) -> Result<(), HeapRefusal>
+        requires up { self.old.down ≡ false }
+        requires cell { i < length (cells self.old.now object) }
+        requires value { IsElement (facts self.old.now object).kind v }
+        ensures done { OnOk result (self.new ≡ counted self.old object i v) }
+        ensures stopped { OnErr result (IsStopped self.old self.new) }
+        ensures only_down { OnErr result (result ≡ Err HeapRefusal.StoreDown) }
+    {
+        let word = self.cell_word(object, i);
+        self.journal.write_both(word, v)?;
+        Ok(())
+    }
+
+    /// Sets the cells of a persistent object from an index on, as one change.
+    pub fn set_run(&mut self, object: Ref, i: u16, values: &[u16]) -> Result<(), HeapRefusal>
+        requires up { self.old.down ≡ false }
+        requires cells { i + length values.now ≤ length (cells self.old.now object) }
+        requires values { (k : ℕ) → k < length values.now → IsElement (facts self.old.now object).kind (slice_index values.now k) }
+        ensures done { OnOk result (self.new ≡ changed self.old (set_cells self.old.now object i values.now) (addresses_of (run_words (cell_place object i) values.now)) 0) }
+        ensures full { (result ≡ Err HeapRefusal.CommitFull) ↔ (has_room_for self.old (addresses_of (run_words (cell_place object i) values.now)) ≡ false) }
+        ensures kept { result ≡ Err HeapRefusal.CommitFull → self.new ≡ self.old }
+        ensures stopped { result ≡ Err HeapRefusal.StoreDown → IsStopped self.old self.new }
+        ensures space { result ≡ Err HeapRefusal.HeapFull → ⊥ }
+        ensures area { result ≡ Err HeapRefusal.NoTransientSpace → ⊥ }
+    {
+        if values.len() > MOST_CHANGES {
+            return Err(HeapRefusal::CommitFull);
+        }
+        let mut changes = [(0, 0); MOST_CHANGES];
+        let at = self.run_word(object, i, values);
+        words_of_run(&mut changes, at, values);
+        self.journal.write_all(&changes[..values.len()])?;
+        Ok(())
+    }
+
+    /// Whether a transaction is open.
+    pub fn is_open(&self) -> bool
+        ensures { result ≡ self.now.begun }
+    {
+        self.journal.is_open()
+    }
+
+    /// How many more places' old values the transaction can keep.
+    pub fn room(&self) -> u16
+        ensures { result + length self.now.touched ≡ capacity }
+    {
+        self.journal.room()
+    }
+
+    /// Begins a transaction. Nothing is written.
+    pub fn begin(&mut self)
+        requires up { self.old.down ≡ false }
+        requires outside { self.old.begun ≡ false }
+        ensures done { self.new ≡ begun self.old }
+        ensures none { self.old.touched ≡ [] }
+    {
+        self.journal.begin();
+    }
+
+    /// Ends the transaction, whose changes then stay.
+    pub fn commit(&mut self) -> Result<(), HeapRefusal>
+        requires up { self.old.down ≡ false }
+        requires inside { self.old.begun ≡ true }
+        ensures done { OnOk result (self.new ≡ committed self.old) }
+        ensures stopped { OnErr result (IsStopped self.old self.new) }
+        ensures only_down { OnErr result (result ≡ Err HeapRefusal.StoreDown) }
+    {
+        self.journal.commit()?;
+        Ok(())
+    }
+
+    /// Takes the transaction back. Of what stood, what stands below the new top is left.
+    pub fn abort(&mut self) -> Result<(), HeapRefusal>
+        requires up { self.old.down ≡ false }
+        requires inside { self.old.begun ≡ true }
+        ensures done { OnOk result (self.new ≡ aborted self.old) }
+        ensures names { OnOk result (KeepsBelowTop self.old.now self.new.now) }
+        ensures stopped { OnErr result (IsStopped self.old self.new) }
+        ensures only_down { OnErr result (result ≡ Err HeapRefusal.StoreDown) }
+    {
+        self.journal.abort()?;
+        Ok(())
+    }
+
+    /// The store, for a power up.
+    pub fn into_store(self) -> S
+        ensures good { IsGoodLog (S.words result) }
+        ensures durable { heap_of (recovered_of (S.words result)) ≡ self.durable }
+        ensures laid { IsLaid (recovered_of (S.words result)) }
+        ensures size { length (S.words result) ≡ self.size }
+        ensures down { S.down result ≡ self.down }
+        ensures passed { S.passed result ≡ self.passed }
+        ensures refused { S.refused result ≡ self.refused }
+    {
+        let Heap { journal, size: _ } = self;
+        journal.into_store()
+    }
+}

@@ -1,0 +1,128 @@
+//! New objects.
+ghost use Rattle.std.specs.Prelude.{IsTrue, ◌≡◌, ◌<◌, ◌≤◌, [], ◌∷◌, true, false, Ok, Err, length, OnOk, OnErr, IfOk, Some, replicate, ◌+◌, ◌↔◌};
+ghost use Rattle.jc_commit.specs.State.{has_room_for as journal_has_room};
+ghost use Rattle.jc_heap.specs.Object.{new_object, header_word};
+ghost use Rattle.jc_heap.specs.Heap.{changed, add_object, end_place, IsStopped, has_room_for, LacksSpace, names, IsObject, cells, add_transient, area_place, LacksCells};
+
+use crate::fresh::{write_record, write_run};
+use crate::heap::Heap;
+use crate::layout::{DESELECT_END, HEADER, RESET_END, TOP};
+use crate::object::Kind;
+use crate::refusal::HeapRefusal;
+use jc_commit::Journal;
+use jc_transient::{AREA_CELLS, ClearEvent, Ref};
+use jc_words::WordStore;
+
+// The journal has no room for a change of these words.
+fn lacks_room<S: WordStore>(journal: &Journal<S>, addresses: &[u16]) -> bool
+    ensures { IsTrue result ↔ (journal_has_room journal.now addresses.now ≡ false) }
+{
+    !journal.fits(addresses)
+}
+
+impl<S: WordStore> Heap<S> {
+    /// Makes a persistent object whose cells are zero.
+    pub fn new_persistent(
+        &mut self,
+        kind: Kind,
+        class: u16,
+        owner: u16,
+        length: u16,
+    ) -> Result<Ref, HeapRefusal>
+        requires { self.old.down ≡ false }
+        ensures object { IfOk result (λ r. IsObject self.new.now r) }
+        ensures cells { IfOk result (λ r. cells self.new.now r ≡ replicate length 0) }
+        ensures named { IfOk result (λ r. r ≡ self.old.now.top) }
+        ensures free { names self.old.now self.old.now.top ≡ false }
+        ensures done { OnOk result (self.new ≡ changed self.old (add_object self.old.now (new_object kind class owner length) (4 + length)) (end_place ∷ []) (4 + length)) }
+        ensures heap_full { (result ≡ Err HeapRefusal.HeapFull) ↔ LacksSpace self.old (4 + length) }
+        ensures heap_full_kept { result ≡ Err HeapRefusal.HeapFull → self.new ≡ self.old }
+        ensures full { result ≡ Err HeapRefusal.CommitFull → (self.new ≡ self.old) × (has_room_for self.old (end_place ∷ []) ≡ false) }
+        ensures stopped { result ≡ Err HeapRefusal.StoreDown → IsStopped self.old self.new }
+        ensures area { result ≡ Err HeapRefusal.NoTransientSpace → ⊥ }
+    {
+        let top = self.journal.read(TOP);
+        let end = u32::from(top) + u32::from(HEADER) + u32::from(length);
+        if end > u32::from(self.size) {
+            return Err(HeapRefusal::HeapFull);
+        }
+        if lacks_room(&self.journal, &[TOP]) {
+            return Err(HeapRefusal::CommitFull);
+        }
+        let header = [kind.number(), class, owner, length];
+        let Ok(()) = write_record(&mut self.journal, top, &header, length) else {
+            return Err(HeapRefusal::StoreDown);
+        };
+        // There is room for the top's old value, so the store alone can refuse.
+        let Ok(()) = self.journal.write(TOP, end as u16) else {
+            return Err(HeapRefusal::StoreDown);
+        };
+        Ok(Ref::at(top))
+    }
+
+    /// Makes a transient object. Its cells are the first free ones of its event's area; whoever keeps
+    /// the area gives them their values.
+    pub fn new_transient(
+        &mut self,
+        kind: Kind,
+        event: ClearEvent,
+        class: u16,
+        owner: u16,
+        length: u16,
+    ) -> Result<Ref, HeapRefusal>
+        requires { self.old.down ≡ false }
+        ensures named { IfOk result (λ r. r ≡ self.old.now.top) }
+        ensures free { names self.old.now self.old.now.top ≡ false }
+        ensures done { OnOk result (self.new ≡ changed self.old (add_transient self.old.now kind event class owner length) (end_place ∷ area_place event ∷ []) 5) }
+        ensures area_full { (result ≡ Err HeapRefusal.NoTransientSpace) ↔ LacksCells self.old.now event length }
+        ensures area_full_kept { result ≡ Err HeapRefusal.NoTransientSpace → self.new ≡ self.old }
+        ensures heap_full { result ≡ Err HeapRefusal.HeapFull → (self.new ≡ self.old) × LacksSpace self.old 5 }
+        ensures full { result ≡ Err HeapRefusal.CommitFull → (self.new ≡ self.old) × (has_room_for self.old (end_place ∷ area_place event ∷ []) ≡ false) }
+        ensures stopped { result ≡ Err HeapRefusal.StoreDown → IsStopped self.old self.new }
+    {
+        let end_word = area_word(event);
+        let place = self.journal.read(end_word);
+        let area_end = u32::from(place) + u32::from(length);
+        if area_end > u32::from(AREA_CELLS) {
+            return Err(HeapRefusal::NoTransientSpace);
+        }
+        let top = self.journal.read(TOP);
+        let end = u32::from(top) + u32::from(HEADER) + 1;
+        if end > u32::from(self.size) {
+            return Err(HeapRefusal::HeapFull);
+        }
+        if lacks_room(&self.journal, &[TOP, end_word]) {
+            return Err(HeapRefusal::CommitFull);
+        }
+        let record = [header_of(kind, event), class, owner, length, place];
+        let Ok(()) = write_run(&mut self.journal, top, &record) else {
+            return Err(HeapRefusal::StoreDown);
+        };
+        // There is room for both old values, so the store alone can refuse.
+        let changes = [(TOP, end as u16), (end_word, area_end as u16)];
+        let Ok(()) = self.journal.write_all(&changes) else {
+            return Err(HeapRefusal::StoreDown);
+        };
+        Ok(Ref::at(top))
+    }
+}
+
+// The word with the end of an event's area.
+fn area_word(event: ClearEvent) -> u16
+    ensures { result ≡ area_place event }
+{
+    match event {
+        ClearEvent::Reset => RESET_END,
+        ClearEvent::Deselect => DESELECT_END,
+    }
+}
+
+// The first word of a transient object's header.
+fn header_of(kind: Kind, event: ClearEvent) -> u16
+    ensures { result ≡ header_word kind (Some event) }
+{
+    match event {
+        ClearEvent::Reset => kind.number() + 256,
+        ClearEvent::Deselect => kind.number() + 512,
+    }
+}

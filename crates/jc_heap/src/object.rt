@@ -1,0 +1,70 @@
+//! What an object is.
+ghost use Rattle.std.specs.Prelude.{◌≡◌};
+ghost use Rattle.jc_heap.specs.Object.{kind_number, kind_of, event_of};
+
+use jc_transient::ClearEvent;
+
+/// What an object holds.
+#[derive(Clone, Copy, Debug, PartialEq, Eq)]
+pub enum Kind {
+    Instance,
+    BooleanArray,
+    ByteArray,
+    ShortArray,
+    ReferenceArray,
+}
+
+impl Kind {
+    // The kind as a number of the image.
+    pub(crate) fn number(self) -> u16
+        ensures { result ≡ kind_number self }
+    {
+        match self {
+            Kind::Instance => 1,
+            Kind::BooleanArray => 2,
+            Kind::ByteArray => 3,
+            Kind::ShortArray => 4,
+            Kind::ReferenceArray => 5,
+        }
+    }
+
+    // The kind of a number of the image.
+    pub(crate) fn of(number: u16) -> Kind
+        ensures { result ≡ kind_of number }
+    {
+        match number {
+            2 => Kind::BooleanArray,
+            3 => Kind::ByteArray,
+            4 => Kind::ShortArray,
+            5 => Kind::ReferenceArray,
+            _ => Kind::Instance,
+        }
+    }
+}
+
+// The event of a number of the image.
+pub(crate) fn event_of_number(number: u16) -> Option<ClearEvent>
+    ensures { result ≡ event_of number }
+{
+    match number {
+        0 => None,
+        1 => Some(ClearEvent::Reset),
+        _ => Some(ClearEvent::Deselect),
+    }
+}
+
+/// What an object's header says.
+#[derive(Clone, Copy, Debug, PartialEq, Eq)]
+pub struct Facts {
+    pub kind: Kind,
+    /// What clears the object's cells; none, where it is persistent.
+    pub event: Option<ClearEvent>,
+    /// The package number times 256 and the class number, or 0.
+    pub class: u16,
+    /// 0 is the runtime environment, 1 to 64 an applet, 256 and more a package.
+    pub owner: u16,
+    /// The number of cells.
+    pub length: u16,
+    /// The first cell of a transient object in its area, 0 of a persistent one.
+    pub place: u16,
+}

@@ -1,0 +1,116 @@
+//! Opening an image, and whether its heap is whole.
+ghost use Rattle.std.specs.Prelude.{ℕ, ◌+◌, ◌/◌, ◌≡◌, ◌<◌, ◌≤◌, ◌^◌, ◌↔◌, IsTrue, IsOk, IfOk, IfErr, OnOk, true, false, length, slice_index};
+ghost use Rattle.jc_words.specs.Count.{raised};
+ghost use Rattle.jc_commit.specs.Image.{plain_of, recovered_of, IsGoodLog, StillRecovers};
+ghost use Rattle.jc_commit.specs.State.{opened};
+ghost use Rattle.jc_heap.specs.Image.{text_byte, IsLaid, image, base, package_addresses, is_package};
+ghost use Rattle.jc_heap.specs.Heap.{heap_view};
+
+use crate::heap::Heap;
+use crate::layout::{ADDRESSES, MOST_PACKAGES, PACKAGES, TEXT_LENGTH, TEXT_START, TOP};
+use crate::walk::is_whole;
+use jc_commit::{Journal, OpenRefusal};
+use jc_words::WordStore;
+use std::marker::Model;
+
+/// A recovered image whose heap is not checked yet.
+#[derive(Drop)]
+pub struct OpenImage<S: WordStore> {
+    journal: Journal<S>,
+    size: u16,
+}
+
+impl<S: WordStore> Model for OpenImage<S> {
+    ghost use Rattle.jc_commit.specs.State.{State};
+    ghost use Rattle.jc_heap.specs.Heap.{IsOpen};
+
+    ghost Value = { State };
+
+    ghost view = { λ o. o.journal };
+
+    ghost invariant = { λ o. IsOpen o.journal o.size };
+}
+
+// No package begins at or above the top.
+fn packages_below<S: WordStore>(journal: &Journal<S>, top: u16) -> bool
+    requires wide { 752 ≤ slice_index journal.now.plain 5 }
+    requires fits { slice_index journal.now.plain 5 ≤ length journal.now.plain }
+    requires small { length journal.now.plain < 65536 }
+    ensures { IsTrue result ↔ ((a : ℕ) → top ≤ a → is_package (package_addresses (image journal.now.plain)) a ≡ false) }
+{
+    let count = journal.read(PACKAGES).min(MOST_PACKAGES);
+    for k in 0..count {
+        if journal.read(ADDRESSES + k) >= top {
+            return false;
+        }
+    }
+    true
+}
+
+// The heap's records end where the top says.
+fn is_laid<S: WordStore>(journal: &Journal<S>, size: u16) -> bool
+    requires size { size ≡ length journal.now.plain }
+    requires wide { 752 ≤ size }
+    ensures { IsTrue result ↔ IsLaid journal.now.plain }
+{
+    let top = journal.read(TOP);
+    let text = u32::from(journal.read(TEXT_LENGTH));
+    if u32::from(top) < TEXT_START + (text + 1) / 2 || top > size {
+        return false;
+    }
+    if packages_below(journal, top) {
+        return is_whole(journal);
+    }
+    false
+}
+
+impl<S: WordStore> OpenImage<S> {
+    /// Opens a store, and first takes back what a loss of power left open.
+    pub fn open(store: S) -> Result<OpenImage<S>, (OpenRefusal, S)>
+        requires { 752 ≤ length (S.words store) }
+        ensures ok { IfOk result (λ o. o ≡ opened (S.words store) (S.passed store) (S.refused store)) }
+        ensures good { OnOk result (IsGoodLog (S.words store)) }
+        ensures bad_log { IfErr result (λ e. e.0 ≡ OpenRefusal.BadLog → (IsGoodLog (S.words store) → ⊥) × (e.1 ≡ store)) }
+        ensures stopped { IfErr result (λ e. e.0 ≡ OpenRefusal.StoreDown → StillRecovers (S.words store) (S.words e.1) × (S.down e.1 ≡ true)) }
+    {
+        let size = store.size();
+        match Journal::open(store) {
+            Ok(journal) => Ok(OpenImage { journal, size }),
+            Err(refused) => Err(refused),
+        }
+    }
+
+    /// How many bytes the table text has, as the image says.
+    pub fn text_length(&self) -> u16
+        ensures { result ≡ slice_index self.now.plain 10 }
+    {
+        self.journal.read(TEXT_LENGTH)
+    }
+
+    /// A byte of the table text.
+    pub fn text_byte(&self, i: u16) -> u8
+        requires { 752 + i / 2 < length self.now.plain }
+        ensures { result ≡ text_byte self.now.plain i }
+    {
+        let word = self.journal.read((TEXT_START + u32::from(i / 2)) as u16);
+        if i % 2 == 0 {
+            return (word / 256) as u8;
+        }
+        (word % 256) as u8
+    }
+
+    /// The heap; where it is not whole, the store, with its recovered words.
+    pub fn check(self) -> Result<Heap<S>, S>
+        ensures exact { IsOk result ↔ IsLaid self.plain }
+        ensures heap { IfOk result (λ h. h ≡ heap_view self (length self.plain)) }
+        ensures words { IfErr result (λ s. plain_of (S.words s) ≡ self.plain) }
+        ensures recovered { IfErr result (λ s. recovered_of (S.words s) ≡ self.plain) }
+        ensures up { IfErr result (λ s. S.down s ≡ false) }
+    {
+        let OpenImage { journal, size } = self;
+        if is_laid(&journal, size) {
+            return Ok(Heap { journal, size });
+        }
+        Err(journal.into_store())
+    }
+}
