@@ -1,11 +1,11 @@
 -- A record behind a whole table.
-use Rattle.std.proofs.Common.{◌≡◌, ℕ, zero, suc, ◌+◌, ◌-◌, ◌/◌, ◌<◌, ◌≤◌, Bool, true, false, List, [], ◌∷◌, ◌++◌, length, take, drop, set, get_or, map, refl, sym, ◌∙◌, ap, subst, arith, slice_index, if◌then◌else◌, ◌==◌, lit<}
-use Rattle.std.proofs.lemmas.List.{get_or_append_left, get_or-set_other, get_or-set_same, get_or-take, drop-set-lt, take-set-le, drop-append-le, take-append-le, length-drop, length-take, length-set, length-append, take_all, map-append, set-append_left, length-take-le, take-take}
+use Rattle.std.proofs.Common.{◌≡◌, ℕ, zero, suc, ◌+◌, ◌<◌, ◌≤◌, false, List, [], ◌∷◌, ◌++◌, length, take, drop, set, get_or, map, refl, sym, ◌∙◌, ap, arith, lit<}
+use Rattle.std.proofs.lemmas.List.{get_or_append_left, get_or-set_other, get_or-set_same, get_or-take, drop-set-lt, drop-append-le, take-append-le, length-drop, length-set, length-append, take_all, map-append, set-append_left, length-take-le, take-take}
 use Rattle.jc_heap.specs.Cut.{Sizes, cut, lacking}
-use Rattle.jc_heap.specs.Object.{Object, Item, AnObject, APackage, object_of, payload}
-use Rattle.jc_heap.specs.Image.{image, base, package_addresses, is_package, sizes, item, item_entry, records, missing, IsLaid}
-use Rattle.jc_heap.specs.Heap.{HeapState, read_image, heap_of, add_object}
-use Rattle.jc_heap.proofs.Records.{Tells, cut-append, lacking-append, take-set_comm}
+use Rattle.jc_heap.specs.Object.{AnObject, object_of, payload}
+use Rattle.jc_heap.specs.Image.{image, base, package_addresses, is_package, sizes, item_entry, records, missing, IsLaid}
+use Rattle.jc_heap.specs.Heap.{read_image, heap_of, add_object}
+use Rattle.jc_heap.proofs.Records.{cut-append, lacking-append, take-set_comm}
 use Rattle.jc_heap.proofs.Images.{sizes_tell}
 
 -- a record alone

@@ -1,16 +1,16 @@
 -- What a heap is after the journal changed words of it, and after a store stopped it.
-use Rattle.std.proofs.Common.{◌≡◌, ℕ, ◌+◌, ◌<◌, ◌≤◌, Bool, true, false, List, [], ◌∷◌, ◌++◌, length, get_or, set, take, refl, sym, ◌∙◌, ap, subst, arith, if◌then◌else◌, ◌⊎◌, inl, inr}
+use Rattle.std.proofs.Common.{◌≡◌, ℕ, ◌+◌, ◌<◌, ◌≤◌, Bool, true, false, List, length, get_or, take, refl, sym, ◌∙◌, ap, subst, arith, if◌then◌else◌, ◌⊎◌, inl, inr}
 use Rattle.std.specs.Prelude.{MatchBool}
 use Rattle.std.proofs.lemmas.List.{length-take, length-take-le, get_or-take}
 use Rattle.std.proofs.lemmas.Bool.{false≢true}
 use Rattle.jc_words.specs.Count.{raised}
 use Rattle.jc_commit.specs.Image.{with_words, top_of}
 use Rattle.jc_commit.specs.Entries.{addresses_of}
-use Rattle.jc_commit.specs.State.{State, live, Changes, IsStopped as JournalStopped, writes_for as journal_writes, added, writes_inside, writes_outside}
+use Rattle.jc_commit.specs.State.{State, live, Changes, IsStopped as JournalStopped, writes_for as journal_writes}
 use Rattle.jc_commit.specs.declared.refusal.WriteRefusal.{WriteRefusal}
 use Rattle.jc_commit.specs.declared.refusal.WriteRefusal.TheVariants.{StoreDown, Full}
 use Rattle.jc_heap.specs.Image.{image, base, missing, package_addresses, is_package, IsLaid}
-use Rattle.jc_heap.specs.Heap.{HeapState, HeapView, heap_view, heap_of, read_image, changed, kept, writes_for, IsSound, IsStopped, SameShape}
+use Rattle.jc_heap.specs.Heap.{HeapState, HeapView, heap_view, heap_of, read_image, changed, IsSound, IsStopped, SameShape}
 
 -- words that are live in the same way have the same top
 pub top-live : (ws us : List ℕ) → IsLaid ws → live us ≡ live ws → get_or us 5 0 ≡ get_or ws 5 0

@@ -1,11 +1,11 @@
 -- Walks over the records of a heap.
-use Rattle.std.proofs.Common.{◌≡◌, ℕ, zero, suc, ◌+◌, ◌-◌, ◌/◌, ◌<◌, ◌≤◌, ◌&&◌, get_or, nat_lt, not, Bool, true, false, ◌⊎◌, inl, inr, List, [], ◌∷◌, length, take, drop, map, refl, sym, ◌∙◌, ap, arith, add-zero, Option, Some, None, if◌then◌else◌}
+use Rattle.std.proofs.Common.{◌≡◌, ℕ, zero, suc, ◌+◌, ◌-◌, ◌/◌, ◌<◌, ◌≤◌, ◌&&◌, get_or, nat_lt, not, Bool, true, false, inl, inr, List, [], ◌∷◌, length, take, drop, map, refl, sym, ◌∙◌, ap, arith, add-zero, Some, None, if◌then◌else◌}
 use Rattle.std.proofs.lemmas.List.{length-drop, length-take-le, get_or-take, drop-drop, drop_all}
-use Rattle.std.proofs.lemmas.Bool.{cases_eq, cases_lt, cases_Bool, eq-eqb, ne_eqb, le-ltb, lt-ltb, false≢true}
+use Rattle.std.proofs.lemmas.Bool.{cases_lt, cases_Bool, ne_eqb, le-ltb, lt-ltb, false≢true}
 use Rattle.jc_heap.specs.Cut.{Sizes, cut, lacking}
 use Rattle.jc_heap.specs.Table.{has}
 use Rattle.jc_heap.specs.Object.{Item, AnObject, APackage, object_of, is_object}
-use Rattle.jc_heap.specs.Image.{item_entry, item, image, package_addresses, is_package, sizes, base, records, missing, IsLaid}
+use Rattle.jc_heap.specs.Image.{item_entry, item, image, package_addresses, is_package, sizes, base, missing, IsLaid}
 use Rattle.jc_heap.specs.Heap.{first_above, next_object, heap_of, read_image, IsObject}
 use Rattle.jc_heap.proofs.Records.{has_behind}
 use Rattle.jc_heap.proofs.Reading.{named, behind}

@@ -1,10 +1,8 @@
 -- A run of fresh words, a word at a time.
-use Rattle.std.proofs.Common.{◌≡◌, ℕ, suc, ◌+◌, ◌<◌, ◌≤◌, ◌&&◌, Bool, List, [], ◌∷◌, ◌++◌, length, take, set, get_or, replicate, refl, sym, ◌∙◌, ap, subst, true, false, arith, append_assoc, add-zero, if◌then◌else◌}
-use Rattle.std.proofs.lemmas.List.{take-set-le, take_more_set, take_more, length-set, length_push, append-nil, take-take, length-append}
-use Rattle.jc_words.specs.Count.{raised}
-use Rattle.jc_commit.specs.Image.{top_of}
+use Rattle.std.proofs.Common.{◌≡◌, ℕ, ◌+◌, ◌<◌, ◌≤◌, ◌&&◌, List, [], ◌∷◌, ◌++◌, length, take, set, refl, sym, ◌∙◌, ap, true, false, arith, append_assoc, add-zero, if◌then◌else◌}
+use Rattle.std.proofs.lemmas.List.{take-set-le, take_more_set, length-set, length_push, append-nil, take-take, length-append}
 use Rattle.jc_commit.specs.State.{State, written_in_place, refusing, is_touched}
-use Rattle.jc_heap.specs.Fresh.{IsFree, KeepsBelow, Fills, StopsFresh}
+use Rattle.jc_heap.specs.Fresh.{IsFree, KeepsBelow, Fills}
 use Rattle.jc_heap.proofs.Added.{top-same_below}
 
 pub keeps_nothing : (at : ℕ) (j : State) → KeepsBelow at j j

@@ -1,14 +1,13 @@
 -- What a heap is after words of its image change.
-use Rattle.std.proofs.Common.{◌≡◌, ◌≢◌, ℕ, zero, suc, ◌+◌, ◌-◌, ◌/◌, ◌%◌, ◌<◌, ◌≤◌, Bool, true, false, cond, ◌⊎◌, inl, inr, List, [], ◌∷◌, ◌++◌, length, take, drop, set, get_or, map, refl, sym, ◌∙◌, ap, subst, arith, slice_index, if◌then◌else◌, ◌==◌}
-use Rattle.std.proofs.lemmas.List.{get_or_append_left, get_or-set_other, get_or-take, get_or-drop, drop-set-add, take-set-le, drop-append-le, take-append-le, length-drop, length-take, length-set, length-append}
-use Rattle.std.proofs.lemmas.Bool.{cases_Bool, false≢true}
-use Rattle.std.proofs.lemmas.Grind.{common_steps}
+use Rattle.std.proofs.Common.{◌≡◌, ℕ, suc, ◌+◌, ◌-◌, ◌/◌, ◌<◌, ◌≤◌, true, false, inl, inr, List, [], ◌∷◌, ◌++◌, length, take, drop, set, get_or, map, refl, sym, ◌∙◌, ap, subst, arith, if◌then◌else◌, ◌==◌}
+use Rattle.std.proofs.lemmas.List.{get_or_append_left, get_or-set_other, get_or-take, get_or-drop, drop-set-add, take-set-le, length-drop, length-take, length-set}
+use Rattle.std.proofs.lemmas.Bool.{cases_Bool}
 use Rattle.jc_heap.specs.Cut.{Sizes, cut, lacking}
 use Rattle.jc_heap.specs.Table.{at_or, has, put}
-use Rattle.jc_heap.specs.Object.{Object, Item, AnObject, APackage, object_of, cells_of, with_cell, payload}
+use Rattle.jc_heap.specs.Object.{AnObject, APackage, object_of, cells_of, with_cell, payload}
 use Rattle.jc_heap.specs.Image.{image, base, package_addresses, is_package, sizes, item, item_entry, records, missing, IsLaid}
-use Rattle.jc_heap.specs.Heap.{HeapState, read_image, heap_of, item_at, cells, set_cell, add_object}
-use Rattle.jc_heap.proofs.Records.{Tells, cut-set, named_behind, at_or-cut, has-cut_below, cut-append, cut-same_sizes, lacking-set, lacking-append, take-set_comm}
+use Rattle.jc_heap.specs.Heap.{read_image, heap_of, item_at, cells, set_cell}
+use Rattle.jc_heap.proofs.Records.{Tells, cut-set, named_behind, at_or-cut, lacking-set, take-set_comm}
 use Rattle.jc_heap.proofs.Tables.{map-put, at_or-map, at_or-map_absent}
 
 pub sizes_tell : (ps : List ℕ) → Tells (sizes ps)

@@ -1,11 +1,10 @@
 -- What a heap answers after a change.
-use Rattle.std.proofs.Common.{◌≡◌, ℕ, suc, ◌+◌, ◌-◌, ◌<◌, ◌≤◌, Bool, true, false, ◌⊎◌, inl, inr, List, [], ◌∷◌, ◌++◌, length, take, drop, get_or, set, map, replicate, refl, sym, ◌∙◌, ap, subst, arith, if◌then◌else◌}
+use Rattle.std.proofs.Common.{◌≡◌, ℕ, ◌+◌, ◌<◌, ◌≤◌, true, false, inl, inr, List, [], length, drop, set, replicate, refl, sym, ◌∙◌, ap, subst, arith, if◌then◌else◌}
 use Rattle.std.proofs.lemmas.List.{length-set, length-replicate, length-drop}
-use Rattle.std.proofs.lemmas.Bool.{cases_Bool, cases_eq, cases_lt, lt-ltb, le-ltb, false≢true, true≢false}
-use Rattle.jc_heap.specs.declared.object.Facts.{Facts}
-use Rattle.jc_heap.specs.Table.{at_or, has, put}
+use Rattle.std.proofs.lemmas.Bool.{cases_Bool, cases_eq, cases_lt, lt-ltb, le-ltb}
+use Rattle.jc_heap.specs.Table.{at_or, has}
 use Rattle.jc_heap.specs.Object.{Object, Item, AnObject, APackage, cells_of, with_cell, bare, facts_of}
-use Rattle.jc_heap.specs.Image.{image, base, package_addresses, sizes, records, item, item_entry, IsLaid}
+use Rattle.jc_heap.specs.Image.{image, base, package_addresses, sizes, records, item}
 use Rattle.jc_heap.specs.Heap.{HeapState, read_image, heap_of, item_at, cells, facts, names, set_cell, add_object, SameShape, KeepsBelowTop}
 use Rattle.jc_heap.proofs.Tables.{at_or-put_same, at_or-put_other, has-put, at_or-push_same, at_or-push_other, has-push, has-map, at_or-absent, put-absent}
 use Rattle.jc_heap.proofs.Records.{has-cut_below}

@@ -1,8 +1,8 @@
 -- Lists of moves, one after another, and the law of atomicity.
-use Rattle.std.proofs.Common.{◌≡◌, ℕ, Bool, true, false, List, [], ◌∷◌, ◌++◌, refl, sym, ◌∙◌, ap, subst, inl, inr, ◌⊎◌, if◌then◌else◌}
+use Rattle.std.proofs.Common.{◌≡◌, true, List, [], ◌∷◌, ◌++◌, refl, ◌∙◌, ap, subst, inl, inr, if◌then◌else◌}
 use Rattle.jc_words.specs.Count.{raised}
-use Rattle.jc_heap.specs.Heap.{HeapState, HeapView, set_cell, is_touched}
-use Rattle.jc_heap.specs.Moves.{Move, SetCell, CountCell, SetCells, AddObject, AddTransient, Begin, Commit, Abort, apply, applied, Left, IsCut, IsInside, with_counts, KeepsDurable}
+use Rattle.jc_heap.specs.Heap.{HeapState, HeapView}
+use Rattle.jc_heap.specs.Moves.{Move, SetCell, CountCell, SetCells, AddObject, AddTransient, Begin, Commit, Abort, apply, applied, Left, IsCut, with_counts, KeepsDurable}
 
 pub applied-append : (a b : List Move) (h : HeapView) → applied (a ++ b) h ≡ applied b (applied a h)
 applied-append [] b h = refl

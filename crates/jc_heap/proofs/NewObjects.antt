@@ -1,5 +1,5 @@
 -- A new object through the journal: fresh words, then the top.
-use Rattle.std.proofs.Common.{◌≡◌, ℕ, suc, ◌+◌, ◌*◌, ◌/◌, ◌%◌, ◌<◌, ◌≤◌, ◌⊎◌, inl, inr, Bool, true, false, List, [], ◌∷◌, ◌++◌, length, take, get_or, set, replicate, refl, sym, ◌∙◌, ap, subst, arith, if◌then◌else◌, ◌==◌, Some}
+use Rattle.std.proofs.Common.{◌≡◌, ℕ, ◌+◌, ◌<◌, ◌≤◌, Bool, true, false, List, [], ◌∷◌, ◌++◌, length, get_or, set, replicate, refl, sym, ◌∙◌, ap, subst, arith, if◌then◌else◌, Some}
 use Rattle.std.specs.Prelude.{nat_le, IsTrue}
 use Rattle.std.proofs.lemmas.Bool.{false≢true}
 use Rattle.jc_commit.specs.Image.{capacity}
@@ -7,7 +7,7 @@ use Rattle.jc_commit.specs.declared.refusal.WriteRefusal.{WriteRefusal}
 use Rattle.jc_commit.specs.declared.refusal.WriteRefusal.TheVariants.{StoreDown, Full}
 use Rattle.std.proofs.lemmas.List.{length-replicate, length-take-le}
 use Rattle.jc_words.specs.Count.{raised}
-use Rattle.jc_commit.specs.Image.{top_of, with_words}
+use Rattle.jc_commit.specs.Image.{with_words}
 use Rattle.jc_commit.specs.Entries.{addresses_of}
 use Rattle.jc_commit.specs.State.{State, live, Changes, IsStopped as JournalStopped, writes_inside, writes_outside, has_room_for as journal_room}
 use Rattle.jc_heap.specs.declared.object.Kind.{Kind}
@@ -15,11 +15,11 @@ use Rattle.jc_heap.specs.declared.object.Kind.TheVariants.{Instance, BooleanArra
 use Rattle.jc_transient.specs.declared.cell.ClearEvent.{ClearEvent}
 use Rattle.jc_transient.specs.declared.cell.ClearEvent.TheVariants.{Reset, Deselect}
 use Rattle.jc_heap.specs.Object.{Object, AnObject, header_word, new_transient, kind_number, object_of, new_object, payload}
-use Rattle.jc_heap.specs.Image.{IsLaid, image, base}
+use Rattle.jc_heap.specs.Image.{IsLaid}
 use Rattle.jc_heap.specs.Fresh.{IsFree, KeepsBelow, Fills, StopsFresh}
-use Rattle.jc_heap.specs.Heap.{HeapState, HeapView, heap_view, read_image, heap_of, add_object, end_place, changed, IsSound, IsStopped, LacksSpace, SameShape, has_room_for, names, item_at, add_transient, area_place, area_end, with_area_end}
+use Rattle.jc_heap.specs.Heap.{HeapState, HeapView, heap_view, read_image, heap_of, add_object, end_place, changed, IsSound, IsStopped, LacksSpace, SameShape, names, item_at, add_transient, area_place, area_end, with_area_end}
 use Rattle.jc_heap.proofs.Laws.{shape-add, item_at-add_object}
-use Rattle.jc_heap.proofs.Added.{heap_of-grown, top-moved, IsLaid-grown, image-same_below, top-same_below, IsLaid-same_below}
+use Rattle.jc_heap.proofs.Added.{heap_of-grown, top-moved, IsLaid-grown, image-same_below, IsLaid-same_below}
 use Rattle.jc_heap.proofs.Changing.{change_view, change_sound, stopped_sound, stopped_view, top-live}
 use Rattle.jc_heap.proofs.Views.{view_top}
 use Rattle.jc_heap.proofs.AreaEnds.{area_read, with_area_end-heap_of, IsLaid-end, shape-end, top-end}

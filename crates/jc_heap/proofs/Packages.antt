@@ -1,13 +1,12 @@
 -- A package's record behind a whole table: its address, the number of packages and the top change together.
-use Rattle.std.proofs.Common.{◌≡◌, ℕ, zero, suc, ◌+◌, ◌-◌, ◌/◌, ◌<◌, ◌≤◌, Bool, true, false, ◌||◌, List, [], ◌∷◌, ◌++◌, length, take, drop, set, get_or, map, refl, sym, ◌∙◌, ap, subst, arith, slice_index, if◌then◌else◌, ◌==◌, lit<, lit≤}
-use Rattle.std.specs.List.{list_any}
-use Rattle.std.proofs.lemmas.List.{get_or-set_other, get_or-set_same, drop-set-lt, drop-set-add, take-set-le, length-drop, length-take, length-set, length-append, map-append, take_more_set, take-append-le, set_split, take-take}
-use Rattle.std.proofs.lemmas.Bool.{ne_eqb, cases_eq, eq-eqb}
+use Rattle.std.proofs.Common.{◌≡◌, ℕ, zero, suc, ◌+◌, ◌-◌, ◌<◌, ◌≤◌, ◌||◌, List, [], ◌∷◌, ◌++◌, length, take, drop, set, get_or, map, refl, ◌∙◌, ap, arith, slice_index, if◌then◌else◌, ◌==◌, lit<, lit≤}
+use Rattle.std.proofs.lemmas.List.{get_or-set_other, get_or-set_same, drop-set-lt, drop-set-add, take-set-le, length-drop, length-take, length-set, take_more_set}
+use Rattle.std.proofs.lemmas.Bool.{ne_eqb}
 use Rattle.jc_heap.specs.Cut.{Sizes, cut, lacking}
-use Rattle.jc_heap.specs.Object.{Object, Item, AnObject, APackage, object_of, payload}
-use Rattle.jc_heap.specs.Image.{image, base, package_addresses, is_package, sizes, item, item_entry, records, missing, IsLaid}
-use Rattle.jc_heap.specs.Heap.{HeapState, read_image, heap_of}
-use Rattle.jc_heap.proofs.Records.{Tells, cut-append, lacking-append, take-set_comm, cut-same_sizes, lacking-same_sizes}
+use Rattle.jc_heap.specs.Object.{AnObject, APackage, object_of, payload}
+use Rattle.jc_heap.specs.Image.{base, package_addresses, is_package, sizes, item, item_entry, records, missing}
+use Rattle.jc_heap.specs.Heap.{read_image}
+use Rattle.jc_heap.proofs.Records.{take-set_comm, cut-same_sizes, lacking-same_sizes}
 
 -- one package more is another answer at its own address alone
 is_package-push : (ps : List ℕ) (p a : ℕ) → (p ≡ a → ⊥) → is_package (ps ++ p ∷ []) a ≡ is_package ps a

@@ -1,17 +1,16 @@
 -- What the words of an object's record say.
-use Rattle.std.proofs.Common.{◌≡◌, ℕ, zero, suc, ◌+◌, ◌-◌, ◌/◌, ◌%◌, ◌<◌, ◌≤◌, ◌==◌, Bool, true, false, ◌⊎◌, inl, inr, List, [], ◌∷◌, length, get_or, drop, take, refl, sym, ◌∙◌, ap, subst, arith, if◌then◌else◌, Option, Some, None, is_some}
+use Rattle.std.proofs.Common.{◌≡◌, ℕ, suc, ◌+◌, ◌-◌, ◌/◌, ◌%◌, ◌<◌, ◌≤◌, ◌==◌, Bool, true, false, inl, inr, List, [], ◌∷◌, length, get_or, drop, refl, sym, ◌∙◌, ap, subst, arith, if◌then◌else◌, Option, Some, None, is_some}
 use Rattle.jc_transient.specs.declared.cell.ClearEvent.{ClearEvent}
 use Rattle.jc_transient.specs.declared.cell.ClearEvent.TheVariants.{Reset, Deselect}
 use Rattle.jc_heap.specs.declared.object.Kind.{Kind}
-use Rattle.std.proofs.lemmas.List.{get_or-take, get_or-drop, length-drop, length-take, length-take-le, drop-drop}
+use Rattle.std.proofs.lemmas.List.{get_or-take, get_or-drop, length-drop, length-take}
 use Rattle.std.proofs.lemmas.Bool.{cases_Bool, cases_eq, false≢true, eq-eqb, ne_eqb}
 use Rattle.jc_commit.specs.State.{State}
 use Rattle.jc_heap.specs.declared.object.Facts.{Facts}
-use Rattle.jc_heap.specs.Cut.{cut}
 use Rattle.jc_heap.specs.Table.{at_or, has}
-use Rattle.jc_heap.specs.Object.{Object, Item, AnObject, APackage, object_of, cells_of, facts_of, is_object, payload, kind_of, event_of}
-use Rattle.jc_heap.specs.Image.{image, base, package_addresses, is_package, sizes, item, item_entry, records, missing, IsLaid}
-use Rattle.jc_heap.specs.Heap.{HeapState, HeapView, heap_view, heap_of, read_image, item_at, cells, facts, IsObject, IsSound}
+use Rattle.jc_heap.specs.Object.{AnObject, APackage, object_of, cells_of, facts_of, is_object, payload, kind_of, event_of}
+use Rattle.jc_heap.specs.Image.{image, base, package_addresses, is_package, sizes, item, records, missing, IsLaid}
+use Rattle.jc_heap.specs.Heap.{HeapView, heap_view, heap_of, read_image, item_at, cells, facts, IsObject, IsSound}
 use Rattle.jc_heap.proofs.Records.{at_or-cut, has_behind, length-record}
 use Rattle.jc_heap.proofs.Tables.{at_or-map, at_or-map_absent}
 use Rattle.jc_heap.proofs.Changing.{up_is}

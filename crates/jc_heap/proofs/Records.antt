@@ -1,7 +1,6 @@
 -- What stays of a cut when words change or are added.
-use Rattle.std.proofs.Common.{Bool, true, false, ◌≡◌, ◌≢◌, ℕ, zero, suc, ◌+◌, ◌-◌, ◌<◌, ◌≤◌, ◌⊎◌, inl, inr, List, [], ◌∷◌, ◌++◌, length, take, drop, set, get_or, refl, sym, ◌∙◌, ap, subst, arith, add-one, add-zero}
-use Rattle.std.proofs.lemmas.List.{take-append-le, length-append, take-set-le, length-set, length-take, length-take-le, get_or-take}
-use Rattle.std.proofs.lemmas.Grind.{common_steps}
+use Rattle.std.proofs.Common.{true, false, ◌≡◌, ℕ, zero, suc, ◌+◌, ◌<◌, ◌≤◌, inl, inr, List, [], ◌∷◌, ◌++◌, length, take, drop, set, get_or, refl, ◌∙◌, ap, arith, add-zero}
+use Rattle.std.proofs.lemmas.List.{take-append-le, take-set-le, length-take, length-take-le, get_or-take}
 use Rattle.std.proofs.lemmas.Bool.{cases_eq, eq-eqb, ne_eqb, false≢true}
 use Rattle.jc_heap.specs.Cut.{Sizes, cut, lacking}
 use Rattle.jc_heap.specs.Table.{at_or, has, put}

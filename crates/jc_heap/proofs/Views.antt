@@ -1,12 +1,12 @@
 -- What a heap's view tells of its journal.
-use Rattle.std.proofs.Common.{◌≡◌, ℕ, suc, ◌+◌, ◌<◌, ◌≤◌, ◌&&◌, Bool, true, false, List, [], ◌∷◌, ◌++◌, length, get_or, set, take, refl, sym, ◌∙◌, ap, subst, arith, inl, inr, ◌⊎◌, if◌then◌else◌}
+use Rattle.std.proofs.Common.{◌≡◌, ℕ, ◌+◌, ◌<◌, ◌≤◌, ◌&&◌, Bool, true, false, List, [], ◌∷◌, length, get_or, set, take, refl, sym, ◌∙◌, ap, subst, arith, inl, inr, if◌then◌else◌}
 use Rattle.std.proofs.lemmas.List.{length-set, length-take-le, take-set-le}
 use Rattle.std.proofs.lemmas.Bool.{cases_lt, false≢true}
 use Rattle.jc_words.specs.Count.{raised}
-use Rattle.jc_commit.specs.Image.{top_of, IsPlace, IsReadable, IsUnlogged}
+use Rattle.jc_commit.specs.Image.{IsPlace, IsReadable, IsUnlogged}
 use Rattle.jc_commit.specs.State.{State, Changes, written_in_place, is_touched as is_kept}
-use Rattle.jc_heap.specs.Image.{IsLaid, image, base}
-use Rattle.jc_heap.specs.Heap.{HeapState, HeapView, heap_view, heap_of, cells, set_cell, cell_place, changed, counted, is_touched, IsSound, SameShape, KeepsBelowTop, read_image, item_at, names}
+use Rattle.jc_heap.specs.Image.{IsLaid, image}
+use Rattle.jc_heap.specs.Heap.{HeapView, heap_view, heap_of, cells, set_cell, cell_place, changed, counted, is_touched, IsSound, SameShape, KeepsBelowTop, read_image, item_at, names}
 use Rattle.jc_heap.proofs.Laws.{shape-set, shape-set_both, same_length, set_cell-absent, names-heap_of, keeps_below_top}
 use Rattle.jc_heap.proofs.Images.{cell_within-heap_of, cell_behind-heap_of, cell-heap_of, set_cell-heap_of, IsLaid-set, top-set}
 use Rattle.jc_heap.proofs.Added.{image-same_below, top-same_below, IsLaid-same_below}

@@ -1,7 +1,7 @@
 -- One step of the walk over a table.
-use Rattle.std.proofs.Common.{◌≡◌, ℕ, zero, suc, ◌+◌, ◌-◌, ◌<◌, ◌≤◌, List, [], ◌∷◌, ◌++◌, length, take, drop, get_or, refl, sym, ◌∙◌, ap, subst, arith, add-zero, zero-add, min, ◌==◌, ◌||◌}
-use Rattle.std.proofs.lemmas.List.{drop_more, drop-drop, length-drop, drop_all, length-take, length-take-le, get_or-take, get_or-drop}
-use Rattle.jc_heap.specs.Cut.{Sizes, cut, lacking}
+use Rattle.std.proofs.Common.{◌≡◌, ℕ, zero, suc, ◌+◌, ◌-◌, ◌<◌, ◌≤◌, List, [], ◌∷◌, length, take, drop, get_or, sym, ◌∙◌, ap, arith, add-zero, min, ◌==◌, ◌||◌}
+use Rattle.std.proofs.lemmas.List.{drop_more, length-drop, length-take, length-take-le, get_or-take, get_or-drop}
+use Rattle.jc_heap.specs.Cut.{Sizes, lacking}
 use Rattle.jc_heap.specs.Image.{image, package_addresses, is_package}
 
 pub lacking-skip : (more : Sizes) (s at : ℕ) (ws : List ℕ) → s ≤ length ws → lacking more s at ws ≡ lacking more 0 (at + s) (drop s ws)

@@ -1,11 +1,11 @@
 -- Moves of a heap as data: what a power loss within some of them leaves.
-use Rattle.std.specs.Prelude.{ℕ, ◌≡◌, ◌+◌, ◌<◌, ◌⊎◌, if◌then◌else◌, Bool, true, false, List, [], ◌∷◌, ◌++◌, Result, Ok, Err}
+use Rattle.std.specs.Prelude.{ℕ, ◌≡◌, ◌⊎◌, if◌then◌else◌, true, List, [], ◌∷◌, Result, Ok, Err}
 use Rattle.jc_words.specs.Count.{raised}
 use Rattle.jc_commit.specs.Entries.{addresses_of}
 use Rattle.jc_transient.specs.declared.cell.ClearEvent.{ClearEvent}
 use Rattle.jc_heap.specs.declared.object.Kind.{Kind}
 use Rattle.jc_heap.specs.Object.{Object}
-use Rattle.jc_heap.specs.Heap.{HeapState, HeapView, names, set_cell, set_cells, run_words, add_object, add_transient, area_place, is_touched, changed, counted, begun, committed, aborted, cell_place, end_place}
+use Rattle.jc_heap.specs.Heap.{HeapState, HeapView, set_cell, set_cells, run_words, add_object, add_transient, area_place, is_touched, changed, counted, begun, committed, aborted, cell_place, end_place}
 use Rattle.jc_heap.specs.declared.refusal.HeapRefusal.{HeapRefusal}
 use Rattle.jc_heap.specs.declared.refusal.HeapRefusal.TheVariants.{StoreDown, CommitFull, HeapFull, NoTransientSpace}
 

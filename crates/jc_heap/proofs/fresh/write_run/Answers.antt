@@ -1,7 +1,7 @@
 use Rattle.std.proofs.Common.{◌≡◌, ◌+◌, ◌<◌, ◌++◌, [], ◌∷◌, length, take, get_or, subst, arith}
 use Rattle.std.proofs.lemmas.List.{take_more, length-take-le}
 use Rattle.jc_commit.specs.State.{written_in_place}
-use Rattle.jc_heap.specs.Fresh.{KeepsBelow, Fills}
+use Rattle.jc_heap.specs.Fresh.{Fills}
 use Rattle.jc_heap.proofs.FreshRuns.{keeps_more, fills_more}
 use Rattle.jc_heap.proofs.fresh.write_run.Goals as goal
 

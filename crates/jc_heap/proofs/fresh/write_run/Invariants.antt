@@ -1,5 +1,5 @@
 -- The words before the index are written.
-use Rattle.std.proofs.Common.{take, length, ◌≤◌}
+use Rattle.std.proofs.Common.{take}
 use Rattle.jc_heap.specs.Fresh.{KeepsBelow, Fills}
 use Rattle.jc_heap.proofs.fresh.write_run.Given as goal
 

@@ -1,7 +1,7 @@
 use Rattle.std.proofs.Common.{◌≡◌, ◌+◌, ◌<◌, ◌++◌, [], ◌∷◌, ℕ, length, replicate, subst, sym, arith}
 use Rattle.std.proofs.lemmas.List.{replicate_more, length-replicate}
 use Rattle.jc_commit.specs.State.{written_in_place}
-use Rattle.jc_heap.specs.Fresh.{KeepsBelow, Fills}
+use Rattle.jc_heap.specs.Fresh.{Fills}
 use Rattle.jc_heap.proofs.FreshRuns.{keeps_more, fills_more}
 use Rattle.jc_heap.proofs.fresh.write_zeros.Goals as goal
 

@@ -1,7 +1,7 @@
-use Rattle.std.proofs.Common.{arith, ◌≡◌, ◌<◌, ◌≤◌, ◌+◌, ◌/◌, ◌∙◌, ap, sym, length, get_or, true, false}
+use Rattle.std.proofs.Common.{arith, ◌≡◌, ◌+◌, ◌/◌, ◌∙◌, ap, sym, get_or}
 use Rattle.std.proofs.lemmas.Bool.{false≢true}
 use Rattle.std.proofs.lemmas.List.{get_or-take}
-use Rattle.jc_heap.specs.Image.{IsLaid, image, base}
+use Rattle.jc_heap.specs.Image.{image, base}
 use Rattle.jc_heap.proofs.opening.is_laid.Goals as goal
 
 pub returns-then-packages_below : goal.returns-then-packages_below

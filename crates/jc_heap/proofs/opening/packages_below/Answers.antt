@@ -1,4 +1,4 @@
-use Rattle.std.proofs.Common.{arith, ◌≡◌, ◌<◌, ◌≤◌, ◌∙◌, ap, sym, refl, length, get_or, ◌+◌, true, false, drop, ◌||◌, ◌==◌, min}
+use Rattle.std.proofs.Common.{arith, ◌≡◌, ◌<◌, ◌≤◌, ◌∙◌, ap, sym, refl, length, get_or, ◌+◌, true, drop, ◌||◌, min}
 use Rattle.std.proofs.lemmas.Bool.{eq-eqb, ne_eqb, false≢true}
 use Rattle.std.proofs.lemmas.List.{drop_all}
 use Rattle.jc_heap.specs.Image.{image, package_addresses, is_package}

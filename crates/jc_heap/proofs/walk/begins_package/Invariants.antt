@@ -1,4 +1,4 @@
-use Rattle.std.proofs.Common.{◌≡◌, drop, take, get_or}
+use Rattle.std.proofs.Common.{◌≡◌, drop}
 use Rattle.jc_heap.specs.Image.{image, package_addresses, is_package}
 use Rattle.jc_heap.proofs.walk.begins_package.Given as goal
 

@@ -1,4 +1,4 @@
-use Rattle.std.proofs.Common.{arith, ◌≡◌, ◌<◌, ◌≤◌, ◌+◌, ◌∙◌, ap, sym, refl, length, get_or, drop, Some}
+use Rattle.std.proofs.Common.{arith, ◌<◌, ◌+◌, ◌∙◌, ap, sym, refl, get_or, drop, Some}
 use Rattle.jc_heap.specs.Image.{image, package_addresses, sizes}
 use Rattle.jc_heap.proofs.Following.{step_fits, step_whole, step_is, step_is_not}
 use Rattle.jc_heap.proofs.walk.first_object.Goals as goal

@@ -1,5 +1,5 @@
 -- What is left of the walk has the answer, and it is whole.
-use Rattle.std.proofs.Common.{◌≡◌, ◌≤◌, ◌-◌, drop, map, get_or}
+use Rattle.std.proofs.Common.{◌≡◌, ◌≤◌, ◌-◌, drop, map}
 use Rattle.jc_heap.specs.Cut.{cut, lacking}
 use Rattle.jc_heap.specs.Image.{image, package_addresses, sizes, item_entry}
 use Rattle.jc_heap.specs.Heap.{first_above}

@@ -1,4 +1,4 @@
-use Rattle.std.proofs.Common.{arith, rules, ◌≡◌, ◌<◌, ◌≤◌, ◌+◌, ◌-◌, ◌/◌, ◌∙◌, ap, sym, refl, length, get_or, true, false, drop, take}
+use Rattle.std.proofs.Common.{arith, ◌≡◌, ◌+◌, ◌-◌, ◌/◌, ◌∙◌, ap, sym, length, get_or, drop}
 use Rattle.std.proofs.lemmas.List.{drop-drop, length-drop, length-take-le, get_or-take}
 use Rattle.std.proofs.lemmas.Bool.{false≢true}
 use Rattle.jc_heap.specs.Cut.{lacking}

@@ -1,6 +1,6 @@
-use Rattle.std.proofs.Common.{◌≡◌, ◌≤◌, ◌-◌, drop, get_or}
+use Rattle.std.proofs.Common.{◌≡◌, ◌≤◌, ◌-◌, drop}
 use Rattle.jc_heap.specs.Cut.{lacking}
-use Rattle.jc_heap.specs.Image.{image, base, missing, package_addresses, sizes}
+use Rattle.jc_heap.specs.Image.{image, missing, package_addresses, sizes}
 use Rattle.jc_heap.proofs.walk.is_whole.Given as goal
 
 abbrev pub invariant-loop-at : goal.invariant-loop-at

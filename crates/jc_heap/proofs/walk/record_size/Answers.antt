@@ -1,4 +1,4 @@
-use Rattle.std.proofs.Common.{arith, ◌≡◌, ◌<◌, ◌+◌, ◌/◌, ◌∙◌, ◌==◌, ap, sym, length, get_or, true, false, drop}
+use Rattle.std.proofs.Common.{arith, ◌≡◌, ◌/◌, ◌∙◌, ◌==◌, ap, sym, get_or, true, false, drop}
 use Rattle.std.proofs.lemmas.Bool.{ne_eqb}
 use Rattle.jc_heap.specs.Image.{image, package_addresses, is_package}
 use Rattle.jc_heap.proofs.Walks.{word_at}

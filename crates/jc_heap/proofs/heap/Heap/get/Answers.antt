@@ -1,4 +1,4 @@
-use Rattle.std.proofs.Common.{◌<◌, ◌≤◌, ◌≡◌, length}
+use Rattle.std.proofs.Common.{◌<◌, ◌≤◌, length}
 use Rattle.jc_heap.specs.Heap.{cell_place}
 use Rattle.jc_heap.proofs.Views.{cell_spot, cell_read, readable}
 use Rattle.jc_heap.proofs.heap.Heap.get.Goals as goal

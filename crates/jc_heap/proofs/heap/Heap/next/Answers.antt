@@ -1,4 +1,4 @@
-use Rattle.std.proofs.Common.{arith, ◌≡◌, ◌<◌, ◌≤◌, ◌+◌, ◌∙◌, ap, sym, subst, map, get_or, length, drop, true, false}
+use Rattle.std.proofs.Common.{arith, ◌≡◌, ◌∙◌, ap, sym, subst, map, drop}
 use Rattle.std.proofs.lemmas.Bool.{false≢true}
 use Rattle.jc_heap.specs.Cut.{cut, lacking}
 use Rattle.jc_heap.specs.Image.{image, package_addresses, sizes, item_entry}

@@ -1,4 +1,4 @@
-use Rattle.std.proofs.Common.{◌<◌, ◌≤◌, ◌≡◌, [], ◌∷◌, length, subst, sym, ap, inl, inr, Err}
+use Rattle.std.proofs.Common.{◌<◌, ◌≤◌, [], ◌∷◌, length, subst, sym, ap, inl, inr, Err}
 use Rattle.jc_commit.specs.State.{Changes}
 use Rattle.jc_heap.specs.Heap.{cell_place, IsSound}
 use Rattle.jc_heap.proofs.Changing.{up_is, refusal_cases, journal_stopped_sound}

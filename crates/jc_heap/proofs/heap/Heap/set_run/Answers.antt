@@ -1,4 +1,4 @@
-use Rattle.std.proofs.Common.{arith, ◌≡◌, ◌<◌, ◌≤◌, ◌∙◌, take, length, get_or, subst, sym, ap, refl, inl, inr, Err, ℕ}
+use Rattle.std.proofs.Common.{arith, ◌≡◌, ◌<◌, ◌∙◌, take, length, get_or, subst, sym, ap, refl, inl, inr, Err, ℕ}
 use Rattle.jc_commit.specs.Entries.{addresses_of, ArePlaces}
 use Rattle.jc_commit.specs.State.{Changes}
 use Rattle.jc_heap.specs.Heap.{cell_place, run_words, IsSound}
