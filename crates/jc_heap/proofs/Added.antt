@@ -1,12 +1,12 @@
 -- A record behind a whole table.
-use Rattle.std.proofs.Common.{◌≡◌, ℕ, zero, suc, ◌+◌, ◌<◌, ◌≤◌, false, List, [], ◌∷◌, ◌++◌, length, take, drop, set, get_or, map, refl, sym, ◌∙◌, ap, arith, lit<}
-use Rattle.std.proofs.lemmas.List.{get_or_append_left, get_or-set_other, get_or-set_same, get_or-take, drop-set-lt, drop-append-le, take-append-le, length-drop, length-set, length-append, take_all, map-append, set-append_left, length-take-le, take-take}
+use Rattle.std.proofs.Common.{◌≡◌, ℕ, zero, suc, ◌+◌, ◌/◌, ◌<◌, ◌≤◌, false, List, [], ◌∷◌, ◌++◌, length, take, drop, set, get_or, map, refl, sym, ◌∙◌, ap, arith, lit<}
+use Rattle.std.proofs.lemmas.List.{get_or_append_left, get_or-set_other, get_or-set_same, get_or-take, take-set-le, drop-set-lt, drop-append-le, take-append-le, length-drop, length-set, length-append, take_all, map-append, set-append_left, length-take-le, take-take}
 use Rattle.jc_heap.specs.Cut.{Sizes, cut, lacking}
 use Rattle.jc_heap.specs.Object.{AnObject, object_of, payload}
-use Rattle.jc_heap.specs.Image.{image, base, package_addresses, is_package, sizes, item_entry, records, missing, IsLaid}
+use Rattle.jc_heap.specs.Image.{image, base, package_addresses, is_package, sizes, item_entry, records, missing, table_text, IsLaid}
 use Rattle.jc_heap.specs.Heap.{read_image, heap_of, add_object}
 use Rattle.jc_heap.proofs.Records.{cut-append, lacking-append, take-set_comm}
-use Rattle.jc_heap.proofs.Images.{sizes_tell}
+use Rattle.jc_heap.proofs.Images.{sizes_tell, text-same}
 
 -- a record alone
 cut-skip_all : (more : Sizes) (s at : ℕ) (ws : List ℕ) → length ws ≤ s → cut more s at ws ≡ []
@@ -100,7 +100,11 @@ module _ (img rec : List ℕ) (long : 752 ≤ length img) where
         let top_is : length grown ≡ length img + length rec = omega (arith, length-append (set img 5 top) rec, length-set img 5 top) in
         let first_end : get_or grown 8 0 ≡ get_or img 8 0 = word-grown 8 (lit< tt) (λ e. omega arith) in
         let second_end : get_or grown 9 0 ≡ get_or img 9 0 = word-grown 9 (lit< tt) (λ e. omega arith) in
-        λ k. record { items = items k; packages = packages-grown k; applets = applets k; area_ends = (first_end k, second_end k); top = top_is k }
+        let head : take 3 grown ≡ take 3 img = take-append-le 3 (set img 5 top) rec (omega (arith, length-set img 5 top)) ∙ take-set-le 3 img 5 top (omega arith) in
+        let text : table_text grown ≡ table_text img = text-same img grown (word-grown 10 (lit< tt) (λ e. omega arith)) (range-grown 752 ((get_or img 10 0 + 1) / 2) (lit< tt) (omega (arith, based))) in
+        let first_count : get_or grown 6 0 ≡ get_or img 6 0 = word-grown 6 (lit< tt) (λ e. omega arith) in
+        let second_count : get_or grown 7 0 ≡ get_or img 7 0 = word-grown 7 (lit< tt) (λ e. omega arith) in
+        λ k. record { head = head k; text = text k; items = items k; counts = (first_count k, second_count k); packages = packages-grown k; applets = applets k; area_ends = (first_end k, second_end k); top = top_is k }
 
 -- words whose top moves over a record that stands there
 pub IsGrown_image : (old ws rec : List ℕ) → IsLaid old → take (get_or old 5 0 + length rec) ws ≡ take (get_or old 5 0) old ++ rec → get_or old 5 0 + length rec ≤ length ws →

@@ -1,12 +1,12 @@
 -- The ends of the areas of transient cells.
-use Rattle.std.proofs.Common.{◌≡◌, ℕ, ◌<◌, ◌≤◌, List, length, take, drop, set, get_or, map, refl, ◌∙◌, ap, arith, lit<}
-use Rattle.std.proofs.lemmas.List.{get_or-set_other, get_or-set_same, get_or-take, drop-set-lt, length-set, length-take-le}
+use Rattle.std.proofs.Common.{◌≡◌, ℕ, ◌+◌, ◌/◌, ◌<◌, ◌≤◌, List, length, take, drop, set, get_or, map, refl, ◌∙◌, ap, arith, lit<}
+use Rattle.std.proofs.lemmas.List.{get_or-set_other, get_or-set_same, get_or-take, take-set-le, drop-set-lt, length-set, length-take-le}
 use Rattle.jc_transient.specs.declared.cell.ClearEvent.{ClearEvent}
 use Rattle.jc_transient.specs.declared.cell.ClearEvent.TheVariants.{Reset, Deselect}
 use Rattle.jc_heap.specs.Cut.{cut, lacking}
-use Rattle.jc_heap.specs.Image.{image, base, package_addresses, is_package, sizes, item_entry, records, missing, IsLaid}
+use Rattle.jc_heap.specs.Image.{image, base, package_addresses, is_package, sizes, item_entry, records, missing, table_text, IsLaid}
 use Rattle.jc_heap.specs.Heap.{HeapState, read_image, heap_of, area_end, with_area_end, area_place, SameShape, item_at, names}
-use Rattle.jc_heap.proofs.Images.{image-set}
+use Rattle.jc_heap.proofs.Images.{image-set, text-same}
 
 -- an image with another end of an area
 module _ (img : List ℕ) (a v : ℕ) (wide : 752 ≤ length img) (low : 7 < a) (high : a < 10) where
@@ -41,6 +41,12 @@ module _ (img : List ℕ) (a v : ℕ) (wide : 752 ≤ length img) (low : 7 < a) 
   pub applets-end : take 192 (drop 560 (set img a v)) ≡ take 192 (drop 560 img)
   applets-end = ap (take 192) (tail 560 (omega arith))
 
+  pub head-end : take 3 (set img a v) ≡ take 3 img
+  head-end = take-set-le 3 img a v (omega arith)
+
+  pub text-end : table_text (set img a v) ≡ table_text img
+  text-end = text-same img (set img a v) (word 10 (λ e. omega arith)) (ap (take ((get_or img 10 0 + 1) / 2)) (tail 752 (omega arith)))
+
   pub other-end : (k : ℕ) → (k ≡ a → ⊥) → get_or (set img a v) k 0 ≡ get_or img k 0
   other-end k ne = word k ne
 
@@ -50,6 +56,9 @@ module _ (img : List ℕ) (a v : ℕ) (wide : 752 ≤ length img) (low : 7 < a) 
 read-end : (img : List ℕ) (event : ClearEvent) (v : ℕ) → 752 ≤ length img → read_image (set img (area_place event) v) ≡ with_area_end (read_image img) event v
 unfolding read_image
 read-end img Reset v wide = λ k. record {
+  head = head-end img 8 v wide (lit< tt) (lit< tt) k;
+  text = text-end img 8 v wide (lit< tt) (lit< tt) k;
+  counts = (other-end img 8 v wide (lit< tt) (lit< tt) 6 (λ e. omega arith) k, other-end img 8 v wide (lit< tt) (lit< tt) 7 (λ e. omega arith) k);
   items = items-end img 8 v wide (lit< tt) (lit< tt) k;
   packages = addresses-end img 8 v wide (lit< tt) (lit< tt) k;
   applets = applets-end img 8 v wide (lit< tt) (lit< tt) k;
@@ -57,6 +66,9 @@ read-end img Reset v wide = λ k. record {
   top = length-set img 8 v k;
 }
 read-end img Deselect v wide = λ k. record {
+  head = head-end img 9 v wide (lit< tt) (lit< tt) k;
+  text = text-end img 9 v wide (lit< tt) (lit< tt) k;
+  counts = (other-end img 9 v wide (lit< tt) (lit< tt) 6 (λ e. omega arith) k, other-end img 9 v wide (lit< tt) (lit< tt) 7 (λ e. omega arith) k);
   items = items-end img 9 v wide (lit< tt) (lit< tt) k;
   packages = addresses-end img 9 v wide (lit< tt) (lit< tt) k;
   applets = applets-end img 9 v wide (lit< tt) (lit< tt) k;

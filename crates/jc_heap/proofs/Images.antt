@@ -5,7 +5,7 @@ use Rattle.std.proofs.lemmas.Bool.{cases_Bool}
 use Rattle.jc_heap.specs.Cut.{Sizes, cut, lacking}
 use Rattle.jc_heap.specs.Table.{at_or, has, put}
 use Rattle.jc_heap.specs.Object.{AnObject, APackage, object_of, cells_of, with_cell, payload}
-use Rattle.jc_heap.specs.Image.{image, base, package_addresses, is_package, sizes, item, item_entry, records, missing, IsLaid}
+use Rattle.jc_heap.specs.Image.{image, base, package_addresses, is_package, sizes, item, item_entry, records, missing, table_text, unpacked, IsLaid}
 use Rattle.jc_heap.specs.Heap.{read_image, heap_of, item_at, cells, set_cell}
 use Rattle.jc_heap.proofs.Records.{Tells, cut-set, named_behind, at_or-cut, lacking-set, take-set_comm}
 use Rattle.jc_heap.proofs.Tables.{map-put, at_or-map, at_or-map_absent}
@@ -58,6 +58,10 @@ range_front ws from n a v h =
 
 pub package_addresses-set : (ws : List ℕ) (a v : ℕ) → 560 ≤ a → package_addresses (set ws a v) ≡ package_addresses ws
 package_addresses-set ws a v h = rw (get_or_front ws a 6 v (omega arith), range_front ws 528 32 a v h) refl
+
+-- the table text hangs on its length and its words alone
+pub text-same : (a b : List ℕ) → get_or b 10 0 ≡ get_or a 10 0 → take ((get_or a 10 0 + 1) / 2) (drop 752 b) ≡ take ((get_or a 10 0 + 1) / 2) (drop 752 a) → table_text b ≡ table_text a
+text-same a b long words = ap (λ n. unpacked n (take ((n + 1) / 2) (drop 752 b))) long ∙ ap (unpacked (get_or a 10 0)) words
 
 pub base-set : (ws : List ℕ) (a v : ℕ) → 560 ≤ a → base (set ws a v) ≡ base ws
 base-set ws a v h = rw (get_or_front ws a 10 v (omega arith)) refl
@@ -138,7 +142,12 @@ module _ (img : List ℕ) (r i v : ℕ) where
         let first_end : get_or (set img (r + (4 + i)) v) 8 0 ≡ get_or img 8 0 = get_or_front img (r + (4 + i)) 8 v (omega arith) in
         let second_end : get_or (set img (r + (4 + i)) v) 9 0 ≡ get_or img 9 0 = get_or_front img (r + (4 + i)) 9 v (omega arith) in
         let top : length (set img (r + (4 + i)) v) ≡ length img = length-set img (r + (4 + i)) v in
-        λ k. record { items = items k; packages = same_packages k; applets = applets k; area_ends = (first_end k, second_end k); top = top k }
+        let head : take 3 (set img (r + (4 + i)) v) ≡ take 3 img = take-set-le 3 img (r + (4 + i)) v (omega (arith, registry)) in
+        let text : table_text (set img (r + (4 + i)) v) ≡ table_text img =
+        text-same img (set img (r + (4 + i)) v) (get_or_front img (r + (4 + i)) 10 v (omega (arith, registry))) (range_front img 752 ((get_or img 10 0 + 1) / 2) (r + (4 + i)) v (omega (arith, cell_behind))) in
+        let first_count : get_or (set img (r + (4 + i)) v) 6 0 ≡ get_or img 6 0 = get_or_front img (r + (4 + i)) 6 v (omega arith) in
+        let second_count : get_or (set img (r + (4 + i)) v) 7 0 ≡ get_or img 7 0 = get_or_front img (r + (4 + i)) 7 v (omega arith) in
+        λ k. record { head = head k; text = text k; items = items k; counts = (first_count k, second_count k); packages = same_packages k; applets = applets k; area_ends = (first_end k, second_end k); top = top k }
 
 -- an image's own cell, in all the words
 pub image-set : (ws : List ℕ) (a v : ℕ) → 5 < a → image (set ws a v) ≡ set (image ws) a v

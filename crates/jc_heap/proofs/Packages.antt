@@ -1,11 +1,12 @@
 -- A package's record behind a whole table: its address, the number of packages and the top change together.
-use Rattle.std.proofs.Common.{◌≡◌, ℕ, zero, suc, ◌+◌, ◌-◌, ◌<◌, ◌≤◌, ◌||◌, List, [], ◌∷◌, ◌++◌, length, take, drop, set, get_or, map, refl, ◌∙◌, ap, arith, slice_index, if◌then◌else◌, ◌==◌, lit<, lit≤}
+use Rattle.std.proofs.Common.{◌≡◌, ℕ, zero, suc, ◌+◌, ◌-◌, ◌/◌, ◌<◌, ◌≤◌, ◌||◌, List, [], ◌∷◌, ◌++◌, length, take, drop, set, get_or, map, refl, ◌∙◌, ap, arith, slice_index, if◌then◌else◌, ◌==◌, lit<, lit≤}
 use Rattle.std.proofs.lemmas.List.{get_or-set_other, get_or-set_same, drop-set-lt, drop-set-add, take-set-le, length-drop, length-take, length-set, take_more_set}
 use Rattle.std.proofs.lemmas.Bool.{ne_eqb}
 use Rattle.jc_heap.specs.Cut.{Sizes, cut, lacking}
 use Rattle.jc_heap.specs.Object.{AnObject, APackage, object_of, payload}
-use Rattle.jc_heap.specs.Image.{base, package_addresses, is_package, sizes, item, item_entry, records, missing}
+use Rattle.jc_heap.specs.Image.{table_text, base, package_addresses, is_package, sizes, item, item_entry, records, missing}
 use Rattle.jc_heap.specs.Heap.{read_image}
+use Rattle.jc_heap.proofs.Images.{text-same}
 use Rattle.jc_heap.proofs.Records.{take-set_comm, cut-same_sizes, lacking-same_sizes}
 
 -- one package more is another answer at its own address alone
@@ -82,7 +83,7 @@ module _ (img : List ℕ) (wide : 752 ≤ length img) (few : get_or img 6 0 < 32
       (λ a w us h. sizes-push (package_addresses img) (length img) a (w ∷ us) (λ e. omega (arith, at_end)))
 
   -- one name more, and nothing else
-  pub read-named : read_image named ≡ record (read_image img) { packages = package_addresses img ++ length img ∷ [] }
+  pub read-named : read_image named ≡ record (read_image img) { counts = (n + 1, (read_image img).counts.1); packages = package_addresses img ++ length img ∷ [] }
   unfolding read_image
   read-named =
       let items : map (item_entry (package_addresses named)) (records named) ≡ map (item_entry (package_addresses img)) (records img) =
@@ -92,7 +93,10 @@ module _ (img : List ℕ) (wide : 752 ≤ length img) (few : get_or img 6 0 < 32
       let applets : take 192 (drop 560 named) ≡ take 192 (drop 560 img) = ap (take 192) (tail-named 560 (lit≤ tt)) in
       let first_end : get_or named 8 0 ≡ get_or img 8 0 = word-named 8 (lit< tt) (λ e. omega arith) in
       let second_end : get_or named 9 0 ≡ get_or img 9 0 = word-named 9 (lit< tt) (λ e. omega arith) in
-      λ k. record { items = items k; packages = packages-named k; applets = applets k; area_ends = (first_end k, second_end k); top = length-named k }
+      let head : take 3 named ≡ take 3 img = take-set-le 3 (set img (528 + n) (length img)) 6 (n + 1) (lit≤ tt) ∙ take-set-le 3 img (528 + n) (length img) (omega arith) in
+      let text : table_text named ≡ table_text img = text-same img named (word-named 10 (lit< tt) (λ e. omega arith)) (ap (take ((get_or img 10 0 + 1) / 2)) (tail-named 752 (lit≤ tt))) in
+      let second_count : get_or named 7 0 ≡ get_or img 7 0 = word-named 7 (lit< tt) (λ e. omega arith) in
+      λ k. record { head = head k; text = text k; items = items k; counts = (count-named k, second_count k); packages = packages-named k; applets = applets k; area_ends = (first_end k, second_end k); top = length-named k }
 
 -- words of the fixed area that say where nothing stands
 pub read-area_end : (img : List ℕ) (v : ℕ) → 752 ≤ length img → read_image (set img 8 v) ≡ record (read_image img) { area_ends = (v, (read_image img).area_ends.1) }
@@ -111,7 +115,11 @@ read-area_end img v wide =
     let first_end : get_or (set img 8 v) 8 0 ≡ v = get_or-set_same img 8 v 0 (omega arith) in
     let second_end : get_or (set img 8 v) 9 0 ≡ get_or img 9 0 = word 9 (λ e. omega arith) in
     let top : length (set img 8 v) ≡ length img = length-set img 8 v in
-    λ k. record { items = items k; packages = addresses k; applets = applets k; area_ends = (first_end k, second_end k); top = top k }
+    let head : take 3 (set img 8 v) ≡ take 3 img = take-set-le 3 img 8 v (lit≤ tt) in
+    let text : table_text (set img 8 v) ≡ table_text img = text-same img (set img 8 v) (word 10 (λ e. omega arith)) (ap (take ((get_or img 10 0 + 1) / 2)) (drop-set-lt 752 img 8 v (lit< tt))) in
+    let first_count : get_or (set img 8 v) 6 0 ≡ get_or img 6 0 = word 6 (λ e. omega arith) in
+    let second_count : get_or (set img 8 v) 7 0 ≡ get_or img 7 0 = word 7 (λ e. omega arith) in
+    λ k. record { head = head k; text = text k; counts = (first_count k, second_count k); items = items k; packages = addresses k; applets = applets k; area_ends = (first_end k, second_end k); top = top k }
 
 pub read-applet : (img : List ℕ) (a v : ℕ) → 752 ≤ length img → a < 192 → read_image (set img (560 + a) v) ≡ record (read_image img) { applets = set ((read_image img).applets) a v }
 unfolding read_image
@@ -131,4 +139,8 @@ read-applet img a v wide h =
     let first_end : get_or (set img (560 + a) v) 8 0 ≡ get_or img 8 0 = word 8 (lit< tt) in
     let second_end : get_or (set img (560 + a) v) 9 0 ≡ get_or img 9 0 = word 9 (lit< tt) in
     let top : length (set img (560 + a) v) ≡ length img = length-set img (560 + a) v in
-    λ k. record { items = items k; packages = addresses k; applets = applets k; area_ends = (first_end k, second_end k); top = top k }
+    let head : take 3 (set img (560 + a) v) ≡ take 3 img = take-set-le 3 img (560 + a) v (omega arith) in
+    let text : table_text (set img (560 + a) v) ≡ table_text img = text-same img (set img (560 + a) v) (word 10 (lit< tt)) (ap (take ((get_or img 10 0 + 1) / 2)) (drop-set-lt 752 img (560 + a) v (omega arith))) in
+    let first_count : get_or (set img (560 + a) v) 6 0 ≡ get_or img 6 0 = word 6 (lit< tt) in
+    let second_count : get_or (set img (560 + a) v) 7 0 ≡ get_or img 7 0 = word 7 (lit< tt) in
+    λ k. record { head = head k; text = text k; counts = (first_count k, second_count k); items = items k; packages = addresses k; applets = applets k; area_ends = (first_end k, second_end k); top = top k }

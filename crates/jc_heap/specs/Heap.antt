@@ -11,12 +11,16 @@ use Rattle.jc_transient.specs.State.{area_size}
 use Rattle.jc_heap.specs.declared.object.Kind.{Kind}
 use Rattle.jc_heap.specs.Object.{Object, new_transient, Item, AnObject, APackage, cells_of, with_cell, bare, facts_of, is_object}
 use Rattle.jc_heap.specs.Table.{at_or, has, put}
-use Rattle.jc_heap.specs.Image.{image, package_addresses, item_entry, records, IsLaid}
+use Rattle.jc_heap.specs.Image.{image, package_addresses, item_entry, records, table_text, IsLaid}
 
--- what stands at each address, in order; the addresses of the packages, by their numbers; the registry's
--- words; the ends of the two transient areas; the first free word
+-- the first three words (the magic word, the version, the number of words); the table text; what stands at
+-- each address, in order; the numbers of packages and of applets; the addresses of the packages, by their
+-- numbers; the registry's words; the ends of the two transient areas; the first free word
 pub record HeapState : Type 0 where
+  pub head : List ℕ
+  pub text : List ℕ
   pub items : List (ℕ × Item)
+  pub counts : ℕ × ℕ
   pub packages : List ℕ
   pub applets : List ℕ
   pub area_ends : ℕ × ℕ
@@ -24,7 +28,10 @@ pub record HeapState : Type 0 where
 
 unfoldable pub read_image : List ℕ → HeapState
 read_image image = record {
+  head = take 3 image;
+  text = table_text image;
   items = map (item_entry (package_addresses image)) (records image);
+  counts = (slice_index image 6, slice_index image 7);
   packages = package_addresses image;
   applets = take 192 (drop 560 image);
   area_ends = (slice_index image 8, slice_index image 9);

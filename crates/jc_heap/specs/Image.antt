@@ -1,6 +1,6 @@
 -- Where an image keeps what.
-use Rattle.std.specs.Prelude.{ℕ, ◌+◌, ◌-◌, ◌/◌, ◌%◌, ◌==◌, Bool, false, List, take, drop, slice_index, length, ◌≤◌, ◌≡◌, if◌then◌else◌}
-use Rattle.std.specs.List.{list_any}
+use Rattle.std.specs.Prelude.{ℕ, ◌+◌, ◌-◌, ◌/◌, ◌%◌, ◌==◌, Bool, false, List, map, take, drop, slice_index, length, ◌≤◌, ◌≡◌, if◌then◌else◌}
+use Rattle.std.specs.List.{list_any, range_with_len}
 use Rattle.jc_heap.specs.Cut.{Sizes, cut, lacking}
 use Rattle.jc_heap.specs.Object.{Item, AnObject, APackage, object_of, payload}
 
@@ -36,7 +36,23 @@ records image = cut (sizes (package_addresses image)) 0 (base image) (drop (base
 unfoldable pub missing : List ℕ → ℕ
 missing image = lacking (sizes (package_addresses image)) 0 (base image) (drop (base image) image)
 
--- a byte of the table text: two in a word, the high one first
+-- a byte of packed words: two in a word, the high one first
+abbrev pub packed_byte : List ℕ → ℕ → ℕ
+packed_byte words i = if i % 2 == 0 then slice_index words (i / 2) / 256 else slice_index words (i / 2) % 256
+
+-- so many bytes of packed words
+unfoldable pub unpacked : ℕ → List ℕ → List ℕ
+unpacked count words = map (packed_byte words) (range_with_len 0 count)
+
+-- the words of the table text
+abbrev pub text_words : List ℕ → List ℕ
+text_words words = take ((slice_index words 10 + 1) / 2) (drop 752 words)
+
+-- the table text
+abbrev pub table_text : List ℕ → List ℕ
+table_text words = unpacked (slice_index words 10) (text_words words)
+
+-- a byte of the table text
 abbrev pub text_byte : List ℕ → ℕ → ℕ
 text_byte words i = if i % 2 == 0 then slice_index words (752 + i / 2) / 256 else slice_index words (752 + i / 2) % 256
 
