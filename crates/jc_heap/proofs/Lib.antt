@@ -11,6 +11,7 @@ pub mod Views
 pub mod Reading
 pub mod NewObjects
 pub mod Following
+pub mod NextObjects
 pub mod Runs
 pub mod AreaEnds
 pub mod MoveLaws

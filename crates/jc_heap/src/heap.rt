@@ -1,5 +1,5 @@
 //! A heap: reading, cells, transactions.
-ghost use Rattle.std.specs.Prelude.{ℕ, take, ◌≡◌, ◌<◌, ◌≤◌, [], ◌∷◌, true, false, Ok, Err, length, slice_index, OnOk, OnErr, ◌+◌, ◌/◌, ◌==◌, if◌then◌else◌, ◌↔◌, None};
+ghost use Rattle.std.specs.Prelude.{ℕ, take, ◌≡◌, ◌<◌, ◌≤◌, [], ◌∷◌, true, false, Ok, Err, length, slice_index, OnOk, OnErr, ◌+◌, ◌/◌, ◌==◌, if◌then◌else◌, ◌↔◌, None, IfSome};
 ghost use Rattle.jc_commit.specs.Image.{capacity, recovered_of, IsGoodLog};
 ghost use Rattle.jc_commit.specs.Entries.{addresses_of};
 ghost use Rattle.jc_heap.specs.Object.{IsElement};
@@ -92,7 +92,8 @@ impl<S: WordStore> Heap<S> {
     // The first object of all.
     fn first(&self) -> Option<Ref>
         requires { self.now.down ≡ false }
-        ensures { result ≡ next_object self.now.now 0 }
+        ensures next { result ≡ next_object self.now.now 0 }
+        ensures object { IfSome result (λ q. IsObject self.now.now q) }
     {
         let text = u32::from(self.journal.read(TEXT_LENGTH));
         let from = TEXT_START + (text + 1) / 2;
@@ -141,7 +142,8 @@ impl<S: WordStore> Heap<S> {
     pub fn next(&self, object: Ref) -> Option<Ref>
         requires up { self.now.down ≡ false }
         requires there { (object ≡ 0 → ⊥) → IsObject self.now.now object }
-        ensures { result ≡ next_object self.now.now object }
+        ensures next { result ≡ next_object self.now.now object }
+        ensures object { IfSome result (λ q. IsObject self.now.now q) }
     {
         if object.is_null() {
             return self.first();

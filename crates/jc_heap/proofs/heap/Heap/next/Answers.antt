@@ -6,10 +6,14 @@ use Rattle.jc_heap.specs.Heap.{first_above, next_object, heap_of, IsObject}
 use Rattle.jc_heap.proofs.Changing.{up_is}
 use Rattle.jc_heap.proofs.Reading.{object_spot}
 use Rattle.jc_heap.proofs.Following.{whole_from, next_from}
+use Rattle.jc_heap.proofs.NextObjects.{next_is_object}
 use Rattle.jc_heap.proofs.heap.Heap.next.Goals as goal
 
-pub returns-then-is_null : goal.returns-then-is_null
-returns-then-is_null g c = c.first.ensures ∙ ap (next_object c.args.self.now.now) (sym (c.is_null.ensures.0 c.if-is_null.true))
+pub returns-then-is_null-clause-next : goal.returns-then-is_null-clause-next
+returns-then-is_null-clause-next g c = c.first.ensures.next ∙ ap (next_object c.args.self.now.now) (sym (c.is_null.ensures.0 c.if-is_null.true))
+
+pub returns-then-is_null-clause-object : goal.returns-then-is_null-clause-object
+returns-then-is_null-clause-object g c = c.first.ensures.object
 
 pub first_object-requires-clause-low : goal.first_object-requires-clause-low
 first_object-requires-clause-low g c =
@@ -29,11 +33,21 @@ first_object-requires-clause-whole g c =
     let here : IsObject (heap_of c.self.inside.journal.plain) c.args.object = subst (λ v. IsObject (v.now) c.args.object) (sym c.self.view_is) there in
     subst (λ a. lacking (sizes (package_addresses (image c.self.inside.journal.plain))) 0 a (drop a (image c.self.inside.journal.plain)) ≡ 0) (sym c.address-at.ensures) (whole_from c.self.inside.journal.plain c.args.object (c.self.invariant.now (up_is c.self.inside.journal c.args.self.now c.self.inside.size c.self.view_is c.requires.up)) here)
 
-pub returns : goal.returns
-returns g c =
+pub returns-clause-next : goal.returns-clause-next
+returns-clause-next g c =
     let there : IsObject c.args.self.now.now c.args.object = c.requires.there (λ z. false≢true (sym c.if-is_null.false ∙ c.is_null.ensures.1 z)) in
     let here : IsObject (heap_of c.self.inside.journal.plain) c.args.object = subst (λ v. IsObject (v.now) c.args.object) (sym c.self.view_is) there in
     c.first_object.ensures
     ∙ ap (λ a. first_above (map (item_entry (package_addresses (image c.self.inside.journal.plain))) (cut (sizes (package_addresses (image c.self.inside.journal.plain))) 0 a (drop a (image c.self.inside.journal.plain)))) a) c.address-at.ensures
     ∙ sym (next_from c.self.inside.journal.plain c.args.object (c.self.invariant.now (up_is c.self.inside.journal c.args.self.now c.self.inside.size c.self.view_is c.requires.up)) here)
     ∙ ap (λ v. next_object (v.now) c.args.object) c.self.view_is
+
+pub returns-clause-object : goal.returns-clause-object
+returns-clause-object g c =
+    let there : IsObject c.args.self.now.now c.args.object = c.requires.there (λ z. false≢true (sym c.if-is_null.false ∙ c.is_null.ensures.1 z)) in
+    let here : IsObject (heap_of c.self.inside.journal.plain) c.args.object = subst (λ v. IsObject (v.now) c.args.object) (sym c.self.view_is) there in
+    next_is_object c.self.inside.journal.plain c.args.self.now c.args.object (ap (λ v. v.now) c.self.view_is) c.first_object.result (
+    c.first_object.ensures
+    ∙ ap (λ a. first_above (map (item_entry (package_addresses (image c.self.inside.journal.plain))) (cut (sizes (package_addresses (image c.self.inside.journal.plain))) 0 a (drop a (image c.self.inside.journal.plain)))) a) c.address-at.ensures
+    ∙ sym (next_from c.self.inside.journal.plain c.args.object (c.self.invariant.now (up_is c.self.inside.journal c.args.self.now c.self.inside.size c.self.view_is c.requires.up)) here)
+    ∙ ap (λ v. next_object (v.now) c.args.object) c.self.view_is)
