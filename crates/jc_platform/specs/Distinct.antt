@@ -1,5 +1,5 @@
--- Tokens that tell names apart.
-use Rattle.std.specs.Prelude.{ℕ, ◌≡◌, [], slice_index, slice_index_or}
+-- Where names stand, and tokens that tell them apart.
+use Rattle.std.specs.Prelude.{ℕ, ◌≡◌, ◌+◌, ◌*◌, [], slice_index, slice_index_or}
 use Rattle.jc_platform.specs.declared.names.PlatformPackage.{PlatformPackage}
 use Rattle.jc_platform.specs.declared.names.PlatformPackage.TheVariants.{JavaLang}
 use Rattle.jc_platform.specs.declared.names.PlatformClass.{PlatformClass}
@@ -10,7 +10,7 @@ use Rattle.jc_platform.specs.declared.names.PlatformMethod.{PlatformMethod}
 use Rattle.jc_platform.specs.declared.names.PlatformMethod.TheVariants.{ObjectInit}
 use Rattle.jc_platform.specs.Names.{ClassEntry, MethodEntry, class_entry, method_entry, classes, methods}
 use Rattle.jc_platform.specs.Numbers.{class_number, method_number}
-use Rattle.jc_platform.specs.Tokens.{Tokens}
+use Rattle.jc_platform.specs.Tokens.{Tokens, number_in}
 
 -- the entry of a class
 abbrev pub entry_of_class : ℕ → ClassEntry
@@ -23,6 +23,10 @@ entry_of_method n = slice_index_or methods n (method_entry Object Static ObjectI
 -- the package that a class is in
 abbrev pub home_of : PlatformClass → PlatformPackage
 home_of c = (entry_of_class (class_number c)).home
+
+-- a class as an object's header names it: the number of its package times 256, and its token
+abbrev pub class_word : Tokens → PlatformClass → ℕ
+class_word t c = 256 * number_in t (home_of c) + slice_index t.class_tokens (class_number c)
 
 -- the class that a method is in
 abbrev pub class_of : PlatformMethod → PlatformClass

@@ -1,6 +1,7 @@
 //! The names of the platform: its packages, classes and methods.
 
 ghost use Rattle.std.specs.Prelude.{◌≡◌, ◌<◌, ◌&&◌};
+ghost use Rattle.jc_platform.specs.Distinct.{home_of};
 ghost use Rattle.jc_platform.specs.Numbers.{class_number, kind_number, method_number, package_number, same_class, same_kind};
 ghost use Rattle.jc_platform.specs.Rows.{largest_token};
 
@@ -163,6 +164,28 @@ impl PlatformPackage {
 }
 
 impl PlatformClass {
+    /// The package that it is in.
+    #[tactic(auto, unfolding(crate::specs::Names::classes))]
+    pub const fn home(self) -> PlatformPackage
+        ensures { result ≡ home_of self }
+    {
+        match self {
+            PlatformClass::Object
+            | PlatformClass::Throwable
+            | PlatformClass::Exception
+            | PlatformClass::RuntimeException
+            | PlatformClass::IndexOutOfBoundsException
+            | PlatformClass::ArithmeticException
+            | PlatformClass::ArrayIndexOutOfBoundsException
+            | PlatformClass::ArrayStoreException
+            | PlatformClass::ClassCastException
+            | PlatformClass::NegativeArraySizeException
+            | PlatformClass::NullPointerException
+            | PlatformClass::SecurityException => PlatformPackage::JavaLang,
+            _ => PlatformPackage::JavacardFramework,
+        }
+    }
+
     /// The two are one, told by their places.
     pub(crate) const fn is(self, other: PlatformClass) -> bool
         ensures { result ≡ same_class self other }

@@ -1,6 +1,7 @@
 //! The platform table.
 
 ghost use Rattle.std.specs.Prelude.{◌≡◌, Some, slice_get, slice_index};
+ghost use Rattle.jc_platform.specs.Distinct.{class_word};
 ghost use Rattle.jc_platform.specs.Numbers.{class_number, method_number, package_number};
 ghost use Rattle.jc_platform.specs.Tokens.{Tokens, number_in};
 
@@ -76,5 +77,13 @@ impl Table {
         } else {
             Self::FIRST_PACKAGE + 1
         }
+    }
+
+    /// The class as an object's header names it: the number of its package times 256, and its token.
+    pub fn class_word(&self, class: PlatformClass) -> u16
+        ensures { result ≡ class_word self.now class }
+    {
+        let number = u16::from(self.package_number(class.home()));
+        256 * number + u16::from(self.class_token(class))
     }
 }
