@@ -1,0 +1,67 @@
+-- The objects that the runtime environment owns from an image's making on: one exception of each class that it
+-- throws itself, the APDU object and the APDU buffer. All are cleared at a reset.
+use Rattle.std.specs.Prelude.{ℕ, ◌+◌, ◌*◌, ◌≡◌, List, [], ◌∷◌, length, Option, Some, None}
+use Rattle.jc_transient.specs.State.{buffer_size}
+use Rattle.jc_transient.specs.declared.cell.ClearEvent.TheVariants.{Reset}
+use Rattle.jc_heap.specs.declared.object.Kind.TheVariants.{Instance, ByteArray}
+use Rattle.jc_heap.specs.declared.object.Facts.{Facts}
+use Rattle.jc_heap.specs.Heap.{HeapState, facts, next_object, add_transient}
+use Rattle.jc_platform.specs.Tokens.{Tokens}
+use Rattle.jc_platform.specs.Distinct.{class_word}
+use Rattle.jc_platform.specs.declared.names.PlatformClass.{PlatformClass}
+use Rattle.jc_platform.specs.declared.names.PlatformClass.TheVariants.{ArithmeticException, ArrayIndexOutOfBoundsException, ArrayStoreException, ClassCastException, NegativeArraySizeException, NullPointerException, SecurityException, CardException, CardRuntimeException, IsoException, PinException, SystemException, TransactionException, ApduException, UserException, Apdu}
+use Rattle.jc_card.specs.declared.fixed.FixedObject.{FixedObject}
+
+-- an instance of a class with so many cells
+abbrev pub instance : PlatformClass → ℕ → FixedObject
+instance class cells = record { kind = Instance; class = Some class; cells = cells }
+
+-- the objects, in their order; the exceptions of javacard.framework have one cell, the reason
+unfoldable pub fixed_objects : List FixedObject
+fixed_objects =
+    instance ArithmeticException 0 ∷
+    instance ArrayIndexOutOfBoundsException 0 ∷
+    instance ArrayStoreException 0 ∷
+    instance ClassCastException 0 ∷
+    instance NegativeArraySizeException 0 ∷
+    instance NullPointerException 0 ∷
+    instance SecurityException 0 ∷
+    instance CardException 1 ∷
+    instance CardRuntimeException 1 ∷
+    instance IsoException 1 ∷
+    instance PinException 1 ∷
+    instance SystemException 1 ∷
+    instance TransactionException 1 ∷
+    instance ApduException 1 ∷
+    instance UserException 1 ∷
+    instance Apdu 0 ∷
+    record { kind = ByteArray; class = None; cells = buffer_size } ∷
+    []
+
+-- the class as a header names it; an array of numbers has none
+abbrev pub class_number_of : Tokens → Option PlatformClass → ℕ
+class_number_of t None = 0
+class_number_of t (Some class) = class_word t class
+
+-- what the header of such an object says, whose cells stand from a place on
+abbrev pub facts_of_fixed : Tokens → FixedObject → ℕ → Facts
+facts_of_fixed t o place = record { kind = o.kind; event = Some Reset; class = class_number_of t o.class; owner = 0; length = o.cells; place = place }
+
+-- how many cells these objects have together
+abbrev pub cells_of_all : List FixedObject → ℕ
+cells_of_all [] = 0
+cells_of_all (o ∷ more) = o.cells + cells_of_all more
+
+-- behind an address these objects stand, one after another, with their cells from a place on
+abbrev pub Follow : Tokens → HeapState → ℕ → ℕ → List FixedObject → Type 0
+Follow t h r place [] = Unit {0}
+Follow t h r place (o ∷ more) = (q : ℕ) × (next_object h r ≡ Some q) × (facts h q ≡ facts_of_fixed t o place) × Follow t h q (place + o.cells) more
+
+-- the heap begins with the objects of the runtime environment
+abbrev pub BeginsWithFixed : Tokens → HeapState → Type 0
+BeginsWithFixed t h = Follow t h 0 0 fixed_objects
+
+-- the heap with these objects behind the others
+abbrev pub with_objects : Tokens → HeapState → List FixedObject → HeapState
+with_objects t h [] = h
+with_objects t h (o ∷ more) = with_objects t (add_transient h o.kind Reset (class_number_of t o.class) 0 o.cells) more

@@ -1,0 +1,204 @@
+//! The objects that the runtime environment owns from an image's making on.
+ghost use Rattle.std.specs.Prelude.{◌≡◌, ◌≤◌, ◌<◌, ◌+◌, ◌*◌, ◌↔◌, false, true, IsTrue, OnOk, OnErr, Ok, Err, length, [], ◌∷◌};
+ghost use Rattle.jc_transient.specs.State.{area_size};
+ghost use Rattle.jc_transient.specs.declared.cell.ClearEvent.TheVariants.{Reset};
+ghost use Rattle.jc_heap.specs.Heap.{IsObject, area_end};
+ghost use Rattle.jc_card.specs.Fixed.{fixed_objects, class_number_of, facts_of_fixed, cells_of_all, Follow, BeginsWithFixed, with_objects};
+
+use jc_heap::{Facts, Heap, HeapRefusal, Kind};
+use jc_platform::names::PlatformClass;
+use jc_platform::table::Table;
+use jc_transient::{BUFFER_CELLS, ClearEvent, Ref};
+use jc_words::{StoreDown, WordStore};
+
+/// The owner's number of the runtime environment.
+const RUNTIME_ENVIRONMENT: u16 = 0;
+
+/// An object that the runtime environment owns.
+#[derive(Clone, Copy, Debug)]
+pub(crate) struct FixedObject {
+    pub(crate) kind: Kind,
+    /// The class of an instance; none of an array.
+    pub(crate) class: Option<PlatformClass>,
+    pub(crate) cells: u16,
+}
+
+// An instance of a class, with so many cells.
+macro_rules! instance {
+    ($class:ident $cells:literal) => {
+        FixedObject {
+            kind: Kind::Instance,
+            class: Some(PlatformClass::$class),
+            cells: $cells,
+        }
+    };
+}
+
+/// All of them, in their order.
+const FIXED_OBJECTS: [FixedObject; 17] = [
+    instance!(ArithmeticException 0),
+    instance!(ArrayIndexOutOfBoundsException 0),
+    instance!(ArrayStoreException 0),
+    instance!(ClassCastException 0),
+    instance!(NegativeArraySizeException 0),
+    instance!(NullPointerException 0),
+    instance!(SecurityException 0),
+    instance!(CardException 1),
+    instance!(CardRuntimeException 1),
+    instance!(IsoException 1),
+    instance!(PinException 1),
+    instance!(SystemException 1),
+    instance!(TransactionException 1),
+    instance!(ApduException 1),
+    instance!(UserException 1),
+    instance!(Apdu 0),
+    FixedObject {
+        kind: Kind::ByteArray,
+        class: None,
+        cells: BUFFER_CELLS,
+    },
+];
+
+#[tactic(auto, unfolding(crate::specs::Fixed::fixed_objects))]
+fn all_fixed() -> &'static [FixedObject]
+    ensures all { result.now ≡ fixed_objects }
+    ensures count { length result.now ≡ 17 }
+    ensures cells { cells_of_all result.now ≡ 269 }
+{
+    &FIXED_OBJECTS
+}
+
+impl FixedObject {
+    // What the object's header says, whose first cell has this place.
+    fn facts(&self, table: &Table, place: u16) -> Facts
+        ensures { result ≡ facts_of_fixed table.now self.now place }
+    {
+        Facts {
+            kind: self.kind,
+            event: Some(ClearEvent::Reset),
+            class: class_number(table, self.class),
+            owner: RUNTIME_ENVIRONMENT,
+            length: self.cells,
+            place,
+        }
+    }
+}
+
+fn class_number(table: &Table, class: Option<PlatformClass>) -> u16
+    ensures { result ≡ class_number_of table.now class }
+{
+    match class {
+        Some(class) => table.class_word(class),
+        None => 0,
+    }
+}
+
+/// Whether the heap begins with the objects of the runtime environment.
+pub(crate) fn begins_with_fixed<S: WordStore>(heap: &Heap<S>, table: &Table) -> bool
+    requires { heap.now.down ≡ false }
+    ensures { IsTrue result ↔ BeginsWithFixed table.now heap.now.now }
+{
+    follow(heap, table, Ref::null(), 0, all_fixed())
+}
+
+// Whether behind an object these stand, one after another, with their cells from a place on.
+fn follow<S: WordStore>(
+    heap: &Heap<S>,
+    table: &Table,
+    from: Ref,
+    place: u16,
+    objects: &[FixedObject],
+) -> bool
+    requires up { heap.now.down ≡ false }
+    requires there { (from ≡ 0 → ⊥) → IsObject heap.now.now from }
+    requires places { place + cells_of_all objects.now < 65536 }
+    ensures { IsTrue result ↔ Follow table.now heap.now.now from place objects.now }
+{
+    let Some((first, more)) = objects.split_first() else {
+        return true;
+    };
+    let Some(next) = heap.next(from) else {
+        return false;
+    };
+    if heap.facts(next) != first.facts(table, place) {
+        return false;
+    }
+    follow(heap, table, next, place + first.cells, more)
+}
+
+/// Makes the objects of the runtime environment in a heap that has space for them.
+pub(crate) fn make_fixed<S: WordStore>(heap: &mut Heap<S>, table: &Table) -> Result<(), StoreDown>
+    requires up { heap.old.down ≡ false }
+    requires outside { heap.old.begun ≡ false }
+    requires settled { heap.old.durable ≡ heap.old.now }
+    requires space { heap.old.now.top + 85 ≤ heap.old.size }
+    requires area { area_end heap.old.now Reset + 269 ≤ area_size }
+    ensures made { OnOk result (heap.new.now ≡ with_objects table.now heap.old.now fixed_objects) }
+    ensures up { OnOk result (heap.new.down ≡ false) }
+    ensures outside { OnOk result (heap.new.begun ≡ false) }
+    ensures settled { OnOk result (heap.new.durable ≡ heap.new.now) }
+    ensures stopped { OnErr result (heap.new.down ≡ true) }
+    ensures head { heap.new.durable.head ≡ heap.old.durable.head }
+{
+    make_all(heap, table, all_fixed())
+}
+
+// Makes these objects behind those that stand.
+fn make_all<S: WordStore>(
+    heap: &mut Heap<S>,
+    table: &Table,
+    objects: &[FixedObject],
+) -> Result<(), StoreDown>
+    requires up { heap.old.down ≡ false }
+    requires outside { heap.old.begun ≡ false }
+    requires settled { heap.old.durable ≡ heap.old.now }
+    requires space { heap.old.now.top + 5 * length objects.now ≤ heap.old.size }
+    requires area { area_end heap.old.now Reset + cells_of_all objects.now ≤ area_size }
+    ensures made { OnOk result (heap.new.now ≡ with_objects table.now heap.old.now objects.now) }
+    ensures up { OnOk result (heap.new.down ≡ false) }
+    ensures outside { OnOk result (heap.new.begun ≡ false) }
+    ensures settled { OnOk result (heap.new.durable ≡ heap.new.now) }
+    ensures stopped { OnErr result (heap.new.down ≡ true) }
+    ensures head { heap.new.durable.head ≡ heap.old.durable.head }
+{
+    let Some((first, more)) = objects.split_first() else {
+        return Ok(());
+    };
+    make(heap, table, first)?;
+    make_all(heap, table, more)
+}
+
+// Makes an object behind those that stand.
+fn make<S: WordStore>(
+    heap: &mut Heap<S>,
+    table: &Table,
+    object: &FixedObject,
+) -> Result<(), StoreDown>
+    requires up { heap.old.down ≡ false }
+    requires outside { heap.old.begun ≡ false }
+    requires settled { heap.old.durable ≡ heap.old.now }
+    requires space { heap.old.now.top + 5 ≤ heap.old.size }
+    requires area { area_end heap.old.now Reset + object.now.cells ≤ area_size }
+    ensures made { OnOk result (heap.new.now ≡ with_objects table.now heap.old.now (object.now ∷ [])) }
+    ensures up { OnOk result (heap.new.down ≡ false) }
+    ensures outside { OnOk result (heap.new.begun ≡ false) }
+    ensures settled { OnOk result (heap.new.durable ≡ heap.new.now) }
+    ensures size { OnOk result (heap.new.size ≡ heap.old.size) }
+    ensures top { OnOk result (heap.new.now.top ≡ heap.old.now.top + 5) }
+    ensures end { OnOk result (area_end heap.new.now Reset ≡ area_end heap.old.now Reset + object.now.cells) }
+    ensures stopped { OnErr result (heap.new.down ≡ true) }
+    ensures head { heap.new.durable.head ≡ heap.old.durable.head }
+{
+    let class = class_number(table, object.class);
+    match heap.new_transient(
+        object.kind,
+        ClearEvent::Reset,
+        class,
+        RUNTIME_ENVIRONMENT,
+        object.cells,
+    ) {
+        Ok(_) => Ok(()),
+        // There is space and room, so the store alone can refuse.
+        Err(_) => Err(StoreDown),
+    }
+}
