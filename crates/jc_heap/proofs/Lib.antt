@@ -14,3 +14,7 @@ pub mod Following
 pub mod Runs
 pub mod AreaEnds
 pub mod MoveLaws
+pub mod RawWords
+pub mod LaidImages
+pub mod LaidStores
+pub mod Sealing
