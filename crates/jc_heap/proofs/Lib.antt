@@ -15,3 +15,7 @@ pub mod NextObjects
 pub mod Runs
 pub mod AreaEnds
 pub mod MoveLaws
+pub mod RawWords
+pub mod LaidImages
+pub mod LaidStores
+pub mod Sealing

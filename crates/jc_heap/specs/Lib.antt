@@ -6,3 +6,4 @@ pub mod Heap
 pub mod Fresh
 pub mod Refusals
 pub mod Moves
+pub mod Laying

@@ -1,6 +1,6 @@
 //! A heap: reading, cells, transactions.
 ghost use Rattle.std.specs.Prelude.{ℕ, take, ◌≡◌, ◌<◌, ◌≤◌, [], ◌∷◌, true, false, Ok, Err, length, slice_index, OnOk, OnErr, ◌+◌, ◌/◌, ◌==◌, if◌then◌else◌, ◌↔◌, None, IfSome};
-ghost use Rattle.jc_commit.specs.Image.{capacity, recovered_of, IsGoodLog};
+ghost use Rattle.jc_commit.specs.Image.{capacity, plain_of, recovered_of, IsGoodLog};
 ghost use Rattle.jc_commit.specs.Entries.{addresses_of};
 ghost use Rattle.jc_heap.specs.Object.{IsElement};
 ghost use Rattle.jc_heap.specs.Image.{IsLaid};
@@ -260,6 +260,8 @@ impl<S: WordStore> Heap<S> {
         ensures good { IsGoodLog (S.words result) }
         ensures durable { heap_of (recovered_of (S.words result)) ≡ self.durable }
         ensures laid { IsLaid (recovered_of (S.words result)) }
+        ensures now { heap_of (plain_of (S.words result)) ≡ self.now }
+        ensures head { take 3 (S.words result) ≡ self.durable.head }
         ensures size { length (S.words result) ≡ self.size }
         ensures down { S.down result ≡ self.down }
         ensures passed { S.passed result ≡ self.passed }

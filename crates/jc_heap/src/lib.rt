@@ -4,6 +4,7 @@
 mod fresh;
 mod heap;
 mod law;
+mod laying;
 mod layout;
 mod making;
 mod object;

@@ -1,0 +1,58 @@
+use Rattle.std.proofs.Common.{◌≡◌, ◌+◌, ◌∙◌, ℕ, List, sym, ap, subst, length, get_or, false, arith, inl, inr}
+use Rattle.jc_words.specs.Count.{raised}
+use Rattle.jc_commit.specs.Image.{IsGoodLog}
+use Rattle.jc_commit.specs.State.{State, opened}
+use Rattle.jc_commit.specs.declared.refusal.OpenRefusal.TheVariants.{StoreDown}
+use Rattle.jc_heap.specs.Heap.{heap_view, IsSound}
+use Rattle.jc_heap.specs.Laying.{IsPartlyLaid, laid_view, first_free}
+use Rattle.jc_heap.proofs.LaidStores.{unmarked, only_down, length_all, good_all, sound_all, view_all, part_after}
+use Rattle.jc_heap.proofs.heap.Heap.lay.Goals as goal
+
+pub returns-in_default-clause-unmarked : goal.returns-in_default-clause-unmarked
+returns-in_default-clause-unmarked g c = unmarked c.args.text.now (g.S.WordStore.words c.args.store) (g.S.WordStore.words c.write_image.new.store) c.write_image.ensures.part
+
+pub open-requires : goal.open-requires
+open-requires g c = omega (arith, length_all c.args.text.now (g.S.WordStore.words c.args.store) (g.S.WordStore.words c.write_image.new.store) c.in-Ok.ensures.bytes c.requires.fits c.in-Ok.ensures.done)
+
+pub invariant_of-result : goal.invariant_of-result
+invariant_of-result g c =
+    let w = g.S.WordStore.words c.write_image.new.store in
+    let old = g.S.WordStore.words c.args.store in
+    let here : IsSound (opened w (g.S.WordStore.passed c.write_image.new.store) (g.S.WordStore.refused c.write_image.new.store)) (length old) =
+    sound_all c.args.text.now old w c.in-Ok.ensures.bytes c.requires.fits c.in-Ok.ensures.done (g.S.WordStore.passed c.write_image.new.store) (g.S.WordStore.refused c.write_image.new.store) (omega (arith, c.size-size.ensures)) in
+    subst (λ (j : State). IsSound j c.size-size.result) (sym c.in-Ok-open.ensures.ok) (subst (IsSound _) (sym c.size-size.ensures) here)
+
+pub returns-in-Ok-open-clause-done : goal.returns-in-Ok-open-clause-done
+returns-in-Ok-open-clause-done g c =
+    let w = g.S.WordStore.words c.write_image.new.store in
+    let old = g.S.WordStore.words c.args.store in
+    ap (λ (j : State). heap_view j c.size-size.result) c.in-Ok-open.ensures.ok
+    ∙ ap (heap_view (opened w (g.S.WordStore.passed c.write_image.new.store) (g.S.WordStore.refused c.write_image.new.store))) c.size-size.ensures
+    ∙ view_all c.args.text.now old w c.in-Ok.ensures.bytes c.requires.fits c.in-Ok.ensures.done (g.S.WordStore.passed c.write_image.new.store) (g.S.WordStore.refused c.write_image.new.store)
+    ∙ ap (λ p. laid_view (length old) c.args.text.now p (g.S.WordStore.refused c.write_image.new.store)) c.in-Ok.ensures.passed
+    ∙ ap (laid_view (length old) c.args.text.now (raised (g.S.WordStore.passed c.args.store) (first_free (length c.args.text.now)))) c.in-Ok.ensures.refused
+
+pub returns-in-Err-clause-down : goal.returns-in-Err-clause-down
+returns-in-Err-clause-down g c =
+    let good : IsGoodLog (g.S.WordStore.words c.write_image.new.store) = good_all c.args.text.now (g.S.WordStore.words c.args.store) (g.S.WordStore.words c.write_image.new.store) c.in-Ok.ensures.bytes c.requires.fits c.in-Ok.ensures.done in
+    let down : c.in-Err.field-0-0 ≡ StoreDown = only_down (g.S.WordStore.words c.write_image.new.store) c.in-Err.field-0-0 good (λ e. (c.in-Err.ensures.bad_log e).0) in
+    (c.in-Err.ensures.stopped down).2
+
+pub returns-in-Err-clause-refused : goal.returns-in-Err-clause-refused
+returns-in-Err-clause-refused g c =
+    let good : IsGoodLog (g.S.WordStore.words c.write_image.new.store) = good_all c.args.text.now (g.S.WordStore.words c.args.store) (g.S.WordStore.words c.write_image.new.store) c.in-Ok.ensures.bytes c.requires.fits c.in-Ok.ensures.done in
+    let down : c.in-Err.field-0-0 ≡ StoreDown = only_down (g.S.WordStore.words c.write_image.new.store) c.in-Err.field-0-0 good (λ e. (c.in-Err.ensures.bad_log e).0) in
+    c.in-Err.ensures.refused down c.in-Ok.ensures.up ∙ ap (λ r. raised r 1) c.in-Ok.ensures.refused
+
+pub returns-in-Err-clause-part : goal.returns-in-Err-clause-part
+returns-in-Err-clause-part g c =
+    let good : IsGoodLog (g.S.WordStore.words c.write_image.new.store) = good_all c.args.text.now (g.S.WordStore.words c.args.store) (g.S.WordStore.words c.write_image.new.store) c.in-Ok.ensures.bytes c.requires.fits c.in-Ok.ensures.done in
+    let down : c.in-Err.field-0-0 ≡ StoreDown = only_down (g.S.WordStore.words c.write_image.new.store) c.in-Err.field-0-0 good (λ e. (c.in-Err.ensures.bad_log e).0) in
+    part_after c.args.text.now (g.S.WordStore.words c.args.store) (g.S.WordStore.words c.write_image.new.store) c.in-Ok.ensures.bytes c.requires.fits c.in-Ok.ensures.done (g.S.WordStore.words c.in-Err.store) (c.in-Err.ensures.part down).0 (c.in-Err.ensures.part down).1
+
+pub returns-in-Err-clause-unmarked : goal.returns-in-Err-clause-unmarked
+returns-in-Err-clause-unmarked g c =
+    let good : IsGoodLog (g.S.WordStore.words c.write_image.new.store) = good_all c.args.text.now (g.S.WordStore.words c.args.store) (g.S.WordStore.words c.write_image.new.store) c.in-Ok.ensures.bytes c.requires.fits c.in-Ok.ensures.done in
+    let down : c.in-Err.field-0-0 ≡ StoreDown = only_down (g.S.WordStore.words c.write_image.new.store) c.in-Err.field-0-0 good (λ e. (c.in-Err.ensures.bad_log e).0) in
+    unmarked c.args.text.now (g.S.WordStore.words c.args.store) (g.S.WordStore.words c.in-Err.store)
+    (part_after c.args.text.now (g.S.WordStore.words c.args.store) (g.S.WordStore.words c.write_image.new.store) c.in-Ok.ensures.bytes c.requires.fits c.in-Ok.ensures.done (g.S.WordStore.words c.in-Err.store) (c.in-Err.ensures.part down).0 (c.in-Err.ensures.part down).1)
