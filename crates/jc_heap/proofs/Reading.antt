@@ -1,5 +1,5 @@
 -- What the words of an object's record say.
-use Rattle.std.proofs.Common.{◌≡◌, ℕ, suc, ◌+◌, ◌-◌, ◌/◌, ◌%◌, ◌<◌, ◌≤◌, ◌==◌, Bool, true, false, inl, inr, List, [], ◌∷◌, length, get_or, drop, refl, sym, ◌∙◌, ap, subst, arith, if◌then◌else◌, Option, Some, None, is_some}
+use Rattle.std.proofs.Common.{◌≡◌, ℕ, suc, ◌+◌, ◌-◌, ◌/◌, ◌%◌, ◌<◌, ◌≤◌, ◌==◌, Bool, true, false, inl, inr, List, [], ◌∷◌, length, get_or, drop, refl, sym, ◌∙◌, ap, subst, arith, if◌then◌else◌, Option, Some, None, is_some, lit≤}
 use Rattle.jc_transient.specs.declared.cell.ClearEvent.{ClearEvent}
 use Rattle.jc_transient.specs.declared.cell.ClearEvent.TheVariants.{Reset, Deselect}
 use Rattle.jc_heap.specs.declared.object.Kind.{Kind}
@@ -8,7 +8,7 @@ use Rattle.std.proofs.lemmas.Bool.{cases_Bool, cases_eq, false≢true, eq-eqb, n
 use Rattle.jc_commit.specs.State.{State}
 use Rattle.jc_heap.specs.declared.object.Facts.{Facts}
 use Rattle.jc_heap.specs.Table.{at_or, has}
-use Rattle.jc_heap.specs.Object.{AnObject, APackage, object_of, cells_of, facts_of, is_object, payload, kind_of, event_of}
+use Rattle.jc_heap.specs.Object.{AnObject, APackage, object_of, cells_of, facts_of, is_object, is_header, payload, kind_of, event_of}
 use Rattle.jc_heap.specs.Image.{image, base, package_addresses, is_package, sizes, item, records, missing, IsLaid}
 use Rattle.jc_heap.specs.Heap.{HeapView, heap_view, heap_of, read_image, item_at, cells, facts, IsObject, IsSound}
 use Rattle.jc_heap.proofs.Records.{at_or-cut, has_behind, length-record}
@@ -34,15 +34,21 @@ said-object_of (a ∷ b ∷ c ∷ []) h = absurd (omega arith)
 said-object_of (a ∷ b ∷ c ∷ d ∷ []) h = refl
 said-object_of (a ∷ b ∷ c ∷ d ∷ e ∷ rest) h = refl
 
-cells-object_of : (rec : List ℕ) → length rec ≡ 4 + payload (get_or rec 0 0) (get_or rec 3 0) → get_or rec 0 0 / 256 ≡ 0 → length ((object_of rec).cells) ≡ get_or rec 3 0
-cells-object_of [] h e = absurd (omega arith)
-cells-object_of (a ∷ []) h e = absurd (omega arith)
-cells-object_of (a ∷ b ∷ []) h e = absurd (omega arith)
-cells-object_of (a ∷ b ∷ c ∷ []) h e = absurd (omega arith)
-cells-object_of (a ∷ b ∷ c ∷ d ∷ rest) h e =
+cells-object_of : (rec : List ℕ) → length rec ≡ 4 + payload (get_or rec 0 0) (get_or rec 3 0) → length rec < 65536 → get_or rec 0 0 / 256 ≡ 0 → length ((object_of rec).cells) ≡ get_or rec 3 0
+cells-object_of [] h small e = absurd (omega arith)
+cells-object_of (a ∷ []) h small e = absurd (omega arith)
+cells-object_of (a ∷ b ∷ []) h small e = absurd (omega arith)
+cells-object_of (a ∷ b ∷ c ∷ []) h small e = absurd (omega arith)
+cells-object_of (a ∷ b ∷ c ∷ d ∷ rest) h small e =
     let t : (a / 256 == 0) ≡ true = eq-eqb (a / 256) 0 e in
-    let n : length (a ∷ b ∷ c ∷ d ∷ rest) ≡ 4 + d = rw t at h in
-    rw t (omega arith)
+    elim (cases_Bool (is_header a)) [
+      | inl y ↦ let n : length (a ∷ b ∷ c ∷ d ∷ rest) ≡ 4 + d = h ∙ ap (λ g. 4 + (if g then (if a / 256 == 0 then d else 1) else 65536)) y ∙ ap (λ g. 4 + (if g then d else 1)) t in rw t (omega arith)
+      | inr y ↦ let n : length (a ∷ b ∷ c ∷ d ∷ rest) ≡ 4 + 65536 = h ∙ ap (λ g. 4 + (if g then (if a / 256 == 0 then d else 1) else 65536)) y in absurd (omega arith)
+    ]
+
+at_least_one : (b : Bool) → 1 ≤ (if b then 1 else 65536)
+at_least_one true = lit≤ tt
+at_least_one false = lit≤ tt
 
 module _ (ws : List ℕ) (r : ℕ) (laid : IsLaid ws) (there : IsObject (heap_of ws) r) where
   abbrev img : List ℕ
@@ -115,7 +121,7 @@ module _ (ws : List ℕ) (r : ℕ) (laid : IsLaid ws) (there : IsObject (heap_of
   first_word = (word_is 0 (omega (arith, four))).1 ∙ ap (λ k. get_or ws k 0) (omega arith)
 
   five_words : (get_or rec 0 0 / 256 ≡ 0 → ⊥) → 4 < length rec
-  five_words n = omega (arith, whole_record ∙ ap (λ b. 4 + (if b then get_or rec 3 0 else 1)) (ne_eqb (get_or rec 0 0 / 256) 0 n))
+  five_words n = omega (arith, at_least_one (is_header (get_or rec 0 0)), whole_record ∙ ap (λ b. 4 + (if is_header (get_or rec 0 0) then (if b then get_or rec 3 0 else 1) else 65536)) (ne_eqb (get_or rec 0 0 / 256) 0 n))
 
   -- the word behind a transient object's header
   pub place_spot : (get_or ws r 0 / 256 ≡ 0 → ⊥) → r + 4 < get_or ws 5 0
@@ -132,10 +138,13 @@ module _ (ws : List ℕ) (r : ℕ) (laid : IsLaid ws) (there : IsObject (heap_of
       ap facts_of item_is ∙ said-object_of rec four ∙ last_word
       ∙ (λ k. said (first_word k) ((word_is 1 (omega (arith, four))).1 k) ((word_is 2 (omega (arith, four))).1 k) ((word_is 3 (omega (arith, four))).1 k) (get_or ws (r + 4) 0))
 
-  pub cells_are : get_or ws r 0 / 256 ≡ 0 → length (cells (heap_of ws) r) ≡ get_or ws (r + 3) 0
-  cells_are e =
+  pub record_within : r + length rec ≤ get_or ws 5 0
+  record_within = omega (arith, four, (word_is (length rec - 1) (omega (arith, four))).0)
+
+  pub cells_are : length ws < 65536 → get_or ws r 0 / 256 ≡ 0 → length (cells (heap_of ws) r) ≡ get_or ws (r + 3) 0
+  cells_are small e =
       ap (λ t. length (cells_of t)) item_is
-      ∙ cells-object_of rec whole_record (ap (λ w. w / 256) first_word ∙ e)
+      ∙ cells-object_of rec whole_record (omega (arith, record_within, laid.fits)) (ap (λ w. w / 256) first_word ∙ e)
       ∙ (word_is 3 (omega (arith, four))).1
 
 -- the same through a heap's view
@@ -148,8 +157,8 @@ pub view_facts : (j : State) (v : HeapView) (n r : ℕ) → heap_view j n ≡ v 
     facts v.now r ≡ said (get_or j.plain r 0) (get_or j.plain (r + 1) 0) (get_or j.plain (r + 2) 0) (get_or j.plain (r + 3) 0) (get_or j.plain (r + 4) 0)
 view_facts j v n r is laid there = subst (λ u. IsObject (u.now) r → facts (u.now) r ≡ said (get_or j.plain r 0) (get_or j.plain (r + 1) 0) (get_or j.plain (r + 2) 0) (get_or j.plain (r + 3) 0) (get_or j.plain (r + 4) 0)) is (λ here. facts_are j.plain r laid here) there
 
-pub view_cells : (j : State) (v : HeapView) (n r : ℕ) → heap_view j n ≡ v → IsLaid j.plain → IsObject v.now r → get_or j.plain r 0 / 256 ≡ 0 → length (cells v.now r) ≡ get_or j.plain (r + 3) 0
-view_cells j v n r is laid there e = subst (λ u. IsObject (u.now) r → length (cells (u.now) r) ≡ get_or j.plain (r + 3) 0) is (λ here. cells_are j.plain r laid here e) there
+pub view_cells : (j : State) (v : HeapView) (n r : ℕ) → heap_view j n ≡ v → IsLaid j.plain → length j.plain < 65536 → IsObject v.now r → get_or j.plain r 0 / 256 ≡ 0 → length (cells v.now r) ≡ get_or j.plain (r + 3) 0
+view_cells j v n r is laid small there e = subst (λ u. IsObject (u.now) r → length (cells (u.now) r) ≡ get_or j.plain (r + 3) 0) is (λ here. cells_are j.plain r laid here small e) there
 
 -- where an object's header stands
 pub record Spot (j : State) (r : ℕ) : Type 0 where

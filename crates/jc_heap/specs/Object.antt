@@ -1,5 +1,5 @@
 -- An object, and how a record's words say it.
-use Rattle.std.specs.Prelude.{ℕ, ◌+◌, ◌*◌, ◌/◌, ◌%◌, ◌≡◌, ◌<◌, ◌==◌, Bool, true, false, List, [], ◌∷◌, set, length, replicate, if◌then◌else◌, Option, Some, None}
+use Rattle.std.specs.Prelude.{ℕ, ◌+◌, ◌*◌, ◌/◌, ◌%◌, ◌≡◌, ◌<◌, ◌==◌, ◌&&◌, nat_lt, Bool, true, false, List, [], ◌∷◌, set, length, replicate, if◌then◌else◌, Option, Some, None}
 use Rattle.jc_transient.specs.declared.cell.ClearEvent.{ClearEvent}
 use Rattle.jc_transient.specs.declared.cell.ClearEvent.TheVariants.{Reset, Deselect}
 use Rattle.jc_heap.specs.declared.object.Kind.{Kind}
@@ -35,9 +35,14 @@ event_of n = if n == 0 then None else (if n == 1 then Some Reset else Some Desel
 abbrev pub header_word : Kind → Option ClearEvent → ℕ
 header_word kind event = kind_number kind + 256 * event_number event
 
--- how many words follow the header: the cells, or the place of the first one
+-- it is the first word of a header: it has a kind and an event
+abbrev pub is_header : ℕ → Bool
+is_header word = nat_lt 0 (word % 256) && (nat_lt (word % 256) 6 && nat_lt (word / 256) 3)
+
+-- how many words follow the header: the cells, or the place of the first one. Behind a word that begins no
+-- header more words are missing than there can be
 abbrev pub payload : ℕ → ℕ → ℕ
-payload word long = if word / 256 == 0 then long else 1
+payload word long = if is_header word then (if word / 256 == 0 then long else 1) else 65536
 
 -- the object of a record's words
 abbrev pub object_of : List ℕ → Object

@@ -1,6 +1,6 @@
 //! What an object is.
 ghost use Rattle.std.specs.Prelude.{◌≡◌};
-ghost use Rattle.jc_heap.specs.Object.{kind_number, kind_of, event_of};
+ghost use Rattle.jc_heap.specs.Object.{kind_number, kind_of, event_of, is_header};
 
 use jc_transient::ClearEvent;
 
@@ -40,6 +40,14 @@ impl Kind {
             _ => Kind::Instance,
         }
     }
+}
+
+// The word has a kind and an event, as the first one of a header.
+pub(crate) fn begins_header(word: u16) -> bool
+    ensures { result ≡ is_header word }
+{
+    let kind = word % 256;
+    kind > 0 && kind < 6 && word / 256 < 3
 }
 
 // The event of a number of the image.

@@ -6,9 +6,13 @@ ghost use Rattle.jc_heap.specs.Image.{item_entry};
 ghost use Rattle.jc_heap.specs.Heap.{first_above};
 
 use crate::layout::{ADDRESSES, MOST_PACKAGES, PACKAGES, TEXT_LENGTH, TEXT_START, TOP};
+use crate::object::begins_header;
 use jc_commit::Journal;
 use jc_transient::Ref;
 use jc_words::WordStore;
+
+// The size of a record that begins with no header: no image has so many words.
+const NO_HEADER: u32 = 65540;
 
 // A package's record begins at the address.
 fn begins_package<S: WordStore>(journal: &Journal<S>, at: u16) -> bool
@@ -39,6 +43,9 @@ fn record_size<S: WordStore>(journal: &Journal<S>, at: u16, top: u16) -> u32
     let word = journal.read(at);
     if begins_package(journal, at) {
         return u32::from(word).max(1);
+    }
+    if !begins_header(word) {
+        return NO_HEADER;
     }
     if word / 256 != 0 {
         return 5;

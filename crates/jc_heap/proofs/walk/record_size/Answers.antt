@@ -1,7 +1,9 @@
-use Rattle.std.proofs.Common.{arith, ◌≡◌, ◌/◌, ◌∙◌, ◌==◌, ap, sym, get_or, true, false, drop}
-use Rattle.std.proofs.lemmas.Bool.{ne_eqb}
+use Rattle.std.proofs.Common.{arith, refl, ◌+◌, ◌≡◌, ◌/◌, ◌∙◌, ◌==◌, ap, sym, get_or, true, false, drop}
+use Rattle.std.proofs.lemmas.Bool.{ne_eqb, eq-eqb}
+use Rattle.std.proofs.lemmas.List.{length-drop, length-take, get_or_past}
+use Rattle.jc_heap.specs.Object.{is_header}
 use Rattle.jc_heap.specs.Image.{image, package_addresses, is_package}
-use Rattle.jc_heap.proofs.Walks.{word_at}
+use Rattle.jc_heap.proofs.Walks.{word_at, word_from}
 use Rattle.jc_heap.proofs.walk.record_size.Goals as goal
 
 pub returns-then-begins_package : goal.returns-then-begins_package
@@ -9,9 +11,35 @@ returns-then-begins_package g c =
     let is : is_package (package_addresses (image c.args.journal.now.plain)) c.args.at ≡ true = sym c.begins_package.ensures ∙ c.if-begins_package.true in
     rw is (omega (arith, word_at c.args.journal.now.plain c.args.at c.requires.inside))
 
+pub returns-then-not-begins_header : goal.returns-then-not-begins_header
+returns-then-not-begins_header g c =
+    let is : is_package (package_addresses (image c.args.journal.now.plain)) c.args.at ≡ false = sym c.begins_package.ensures ∙ c.if-begins_package.false in
+    let word : c.read-word.result ≡ get_or (drop c.args.at (image c.args.journal.now.plain)) 0 0 = c.read-word.ensures ∙ sym (word_at c.args.journal.now.plain c.args.at c.requires.inside) in
+    let none : is_header (get_or (drop c.args.at (image c.args.journal.now.plain)) 0 0) ≡ false = ap is_header (sym word) ∙ sym c.begins_header.ensures ∙ c.if-not-begins_header.true in
+    rw (is, none) refl
+
 pub returns-then-word-ne0 : goal.returns-then-word-ne0
 returns-then-word-ne0 g c =
     let is : is_package (package_addresses (image c.args.journal.now.plain)) c.args.at ≡ false = sym c.begins_package.ensures ∙ c.if-begins_package.false in
     let word : c.read-word.result ≡ get_or (drop c.args.at (image c.args.journal.now.plain)) 0 0 = c.read-word.ensures ∙ sym (word_at c.args.journal.now.plain c.args.at c.requires.inside) in
+    let header : is_header (get_or (drop c.args.at (image c.args.journal.now.plain)) 0 0) ≡ true = ap is_header (sym word) ∙ sym c.begins_header.ensures ∙ c.if-not-begins_header.false in
     let transient : (get_or (drop c.args.at (image c.args.journal.now.plain)) 0 0 / 256 == 0) ≡ false = ne_eqb _ _ (λ e. c.if-word-ne0.true (ap (λ w. w / 256) word ∙ e)) in
-    rw (is, transient) (omega arith)
+    rw (is, header, transient) (omega arith)
+
+pub returns-then-top-at-lt4 : goal.returns-then-top-at-lt4
+returns-then-top-at-lt4 g c =
+    let is : is_package (package_addresses (image c.args.journal.now.plain)) c.args.at ≡ false = sym c.begins_package.ensures ∙ c.if-begins_package.false in
+    let word : c.read-word.result ≡ get_or (drop c.args.at (image c.args.journal.now.plain)) 0 0 = c.read-word.ensures ∙ sym (word_at c.args.journal.now.plain c.args.at c.requires.inside) in
+    let header : is_header (get_or (drop c.args.at (image c.args.journal.now.plain)) 0 0) ≡ true = ap is_header (sym word) ∙ sym c.begins_header.ensures ∙ c.if-not-begins_header.false in
+    let persistent : (get_or (drop c.args.at (image c.args.journal.now.plain)) 0 0 / 256 == 0) ≡ true = eq-eqb _ _ (ap (λ w. w / 256) (sym word) ∙ (omega arith)) in
+    let behind : get_or (drop c.args.at (image c.args.journal.now.plain)) 3 0 ≡ 0 = get_or_past (drop c.args.at (image c.args.journal.now.plain)) 3 0 (omega (arith, length-drop c.args.at (image c.args.journal.now.plain), length-take (get_or c.args.journal.now.plain 5 0) c.args.journal.now.plain)) in
+    rw (is, header, persistent, behind) refl
+
+pub returns : goal.returns
+returns g c =
+    let is : is_package (package_addresses (image c.args.journal.now.plain)) c.args.at ≡ false = sym c.begins_package.ensures ∙ c.if-begins_package.false in
+    let word : c.read-word.result ≡ get_or (drop c.args.at (image c.args.journal.now.plain)) 0 0 = c.read-word.ensures ∙ sym (word_at c.args.journal.now.plain c.args.at c.requires.inside) in
+    let header : is_header (get_or (drop c.args.at (image c.args.journal.now.plain)) 0 0) ≡ true = ap is_header (sym word) ∙ sym c.begins_header.ensures ∙ c.if-not-begins_header.false in
+    let persistent : (get_or (drop c.args.at (image c.args.journal.now.plain)) 0 0 / 256 == 0) ≡ true = eq-eqb _ _ (ap (λ w. w / 256) (sym word) ∙ (omega arith)) in
+    let fourth : get_or (drop c.args.at (image c.args.journal.now.plain)) 3 0 ≡ get_or c.args.journal.now.plain (c.args.at + 3) 0 = word_from c.args.journal.now.plain c.args.at 3 (omega arith) in
+    rw (is, header, persistent, fourth) (omega arith)

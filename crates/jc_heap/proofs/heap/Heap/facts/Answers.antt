@@ -60,7 +60,8 @@ returns-clause-facts g c =
 pub returns-clause-cells : goal.returns-clause-cells
 returns-clause-cells g c = λ e.
     let there : IsObject c.args.self.now.now c.address-at.result = subst (IsObject c.args.self.now.now) (sym c.address-at.ensures) c.requires.there in
+    let s : Spot c.self.inside.journal c.address-at.result = spot_of c.self.inside.journal c.args.self.now c.self.inside.size c.args.object c.address-at.result c.self.view_is c.self.invariant c.requires.up c.requires.there c.address-at.ensures in
     let zero : c.read-word.result / 256 ≡ 0 = persistent_of (c.read-word.result / 256) (sym c.event_of_number.ensures ∙ e) in
     ap (λ r. length (cells c.args.self.now.now r)) (sym c.address-at.ensures)
-    ∙ view_cells c.self.inside.journal c.args.self.now c.self.inside.size c.address-at.result c.self.view_is (c.self.invariant.now (up_is c.self.inside.journal c.args.self.now c.self.inside.size c.self.view_is c.requires.up)) there (ap (λ w. w / 256) (sym c.read-word.ensures) ∙ zero)
+    ∙ view_cells c.self.inside.journal c.args.self.now c.self.inside.size c.address-at.result c.self.view_is (c.self.invariant.now (up_is c.self.inside.journal c.args.self.now c.self.inside.size c.self.view_is c.requires.up)) s.small there (ap (λ w. w / 256) (sym c.read-word.ensures) ∙ zero)
     ∙ sym c.read-3.ensures
