@@ -35,8 +35,8 @@ fn packed_word(text: &[u8], k: u16) -> u16
     256 * byte_or_zero(text, i) + byte_or_zero(text, i + 1)
 }
 
-// The first free word over a text of so many bytes.
-fn first_free(text: u16) -> u32
+/// How many words an image without objects takes, whose table text has so many bytes.
+pub fn first_free(text: u16) -> u32
     ensures { result ≡ first_free text }
 {
     TEXT_START + (u32::from(text) + 1) / 2

@@ -13,6 +13,7 @@ mod refusal;
 mod walk;
 
 pub use heap::Heap;
+pub use laying::first_free;
 pub use law::transactions_keep_what_is_durable;
 pub use object::{Facts, Kind};
 pub use opening::OpenImage;

@@ -15,8 +15,8 @@ pub const VERSION: u16 = 1;
 /// How many entries the journal of an image has.
 pub const JOURNAL_CAPACITY: u16 = 256;
 
-// The fewest words that an image may have.
-const LEAST_SIZE: u16 = 4096;
+/// The fewest words that an image may have.
+pub const LEAST_SIZE: u16 = 4096;
 
 /// Why words are no image.
 #[derive(Clone, Copy, Debug, PartialEq, Eq, Error)]

@@ -11,6 +11,8 @@ mod tests;
 
 pub use file::{FileCreateFault, FileOpenFault, FileStore};
 pub use fuse::FuseStore;
-pub use image::{BlankFault, ImageFault, JOURNAL_CAPACITY, MAGIC, VERSION, blank, check_image};
+pub use image::{
+    BlankFault, ImageFault, JOURNAL_CAPACITY, LEAST_SIZE, MAGIC, VERSION, blank, check_image,
+};
 pub use memory::MemStore;
 pub use store::{StoreDown, WordStore};

@@ -1,0 +1,39 @@
+-- A new image is one that the product makes.
+use Rattle.std.proofs.Common.{◌≡◌, ℕ, ◌≤◌, List, [], ◌∷◌, length, refl, sym, ◌∙◌, ap, subst, arith, Ok, Err}
+use Rattle.std.specs.Prelude.{Result, IfOk}
+use Rattle.jc_words.specs.Image.{magic, version, least_size}
+use Rattle.jc_commit.specs.Image.{IsGoodLog, recovered_of}
+use Rattle.jc_heap.specs.Image.{IsLaid}
+use Rattle.jc_heap.specs.Heap.{HeapState, heap_of}
+use Rattle.jc_heap.specs.Whole.{IsWhole}
+use Rattle.jc_platform.specs.Tokens.{Tokens}
+use Rattle.jc_platform.specs.Table.{Reads}
+use Rattle.jc_card.specs.Made.{IsCardHeap, IsMade, formatted}
+use Rattle.jc_card.proofs.FixedObjects.{begins-formatted, head-formatted, text-formatted}
+
+whole-formatted : (n : ℕ) (text : List ℕ) (t : Tokens) → IsWhole (formatted n text t)
+whole-formatted n text t = ?
+
+card-formatted : (n : ℕ) (text : List ℕ) (t : Tokens) → least_size ≤ n → Reads text (Ok t) → IsCardHeap n (formatted n text t)
+card-formatted n text t enough reads = record {
+  head = head-formatted n text t;
+  enough = enough;
+  platform = (t, subst (λ l. Reads l (Ok t)) (sym (text-formatted n text t)) reads, begins-formatted n text t);
+  whole = whole-formatted n text t;
+}
+
+pub made-formatted : (w : List ℕ) (n : ℕ) (text : List ℕ) (t : Tokens) → IsGoodLog w → IsLaid (recovered_of w) → heap_of (recovered_of w) ≡ formatted n text t → length w ≡ n → least_size ≤ n → Reads text (Ok t) → IsMade w
+made-formatted w n text t log laid heap size enough reads = record {
+  log = log;
+  laid = laid;
+  heap = subst (λ k. IsCardHeap k (heap_of (recovered_of w))) (sym size) (subst (IsCardHeap n) (sym heap) (card-formatted n text t enough reads));
+}
+
+pub made_if : {A E : Type 0} (words : A → List ℕ) (r : Result A E) (n : ℕ) (text : List ℕ) (t : Tokens) → IfOk r (λ s. IsGoodLog (words s)) → IfOk r (λ s. IsLaid (recovered_of (words s))) →
+    IfOk r (λ s. heap_of (recovered_of (words s)) ≡ formatted n text t) → IfOk r (λ s. length (words s) ≡ n) → least_size ≤ n → Reads text (Ok t) → IfOk r (λ s. IsMade (words s))
+made_if words (Ok s) n text t log laid heap size enough reads = made-formatted (words s) n text t log laid heap size enough reads
+made_if words (Err e) n text t log laid heap size enough reads = tt
+
+pub mapped_if : {A E : Type 0} (r : Result A E) (P Q : A → Type 0) → ((a : A) → P a → Q a) → IfOk r P → IfOk r Q
+mapped_if (Ok a) P Q f p = f a p
+mapped_if (Err e) P Q f p = tt

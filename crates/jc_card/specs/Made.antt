@@ -1,0 +1,32 @@
+-- The images that the product makes.
+use Rattle.std.specs.Prelude.{ℕ, ◌≡◌, ◌≤◌, List, [], ◌∷◌, length, Result, Ok}
+use Rattle.jc_words.specs.Image.{magic, version, least_size}
+use Rattle.jc_commit.specs.Image.{IsGoodLog, recovered_of}
+use Rattle.jc_heap.specs.Image.{IsLaid}
+use Rattle.jc_heap.specs.Heap.{HeapState, heap_of}
+use Rattle.jc_heap.specs.Whole.{IsWhole}
+use Rattle.jc_heap.specs.Laying.{laid_heap, sealed}
+use Rattle.jc_platform.specs.Tokens.{Tokens}
+use Rattle.jc_platform.specs.Table.{Reads}
+use Rattle.jc_card.specs.Fixed.{fixed_objects, BeginsWithFixed, with_objects}
+
+-- a heap that begins with the objects of the runtime environment, whose classes its own table names
+abbrev pub HasPlatform : HeapState → Type 0
+HasPlatform h = (t : Tokens) × Reads h.text (Ok t) × BeginsWithFixed t h
+
+-- the heap of a card with an image of n words
+pub record IsCardHeap (n : ℕ) (h : HeapState) : Type 0 where
+  pub head : h.head ≡ magic ∷ version ∷ n ∷ []
+  pub enough : least_size ≤ n
+  pub platform : HasPlatform h
+  pub whole : IsWhole h
+
+-- words that the product makes: a recovery leaves the heap of a card
+pub record IsMade (w : List ℕ) : Type 0 where
+  pub log : IsGoodLog w
+  pub laid : IsLaid (recovered_of w)
+  pub heap : IsCardHeap (length w) (heap_of (recovered_of w))
+
+-- the heap of a new image
+abbrev pub formatted : ℕ → List ℕ → Tokens → HeapState
+formatted n text t = sealed (with_objects t (laid_heap n text) fixed_objects)

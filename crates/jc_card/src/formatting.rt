@@ -1,0 +1,86 @@
+//! Making an image.
+ghost use Rattle.std.specs.Prelude.{ℕ, ◌≡◌, ◌≢◌, ◌<◌, ◌≤◌, ◌+◌, ◌⊎◌, ◌↔◌, true, false, length, slice_index, Ok, Err, IfOk, IfErr, OnOk, OnErr, IsErrOf, Result};
+ghost use Rattle.jc_words.specs.Image.{least_size, magic};
+ghost use Rattle.jc_heap.specs.Laying.{first_free};
+ghost use Rattle.jc_heap.specs.Heap.{heap_of};
+ghost use Rattle.jc_commit.specs.Image.{recovered_of};
+ghost use Rattle.jc_platform.specs.Tokens.{Tokens};
+ghost use Rattle.jc_platform.specs.Table.{Reads};
+ghost use Rattle.jc_card.specs.Made.{IsMade, formatted};
+
+use crate::fixed::make_fixed;
+use jc_heap::{Heap, first_free};
+use jc_platform::fault::TableFault;
+use jc_platform::read::read_table;
+use jc_platform::table::Table;
+use jc_words::{LEAST_SIZE, WordStore};
+use thiserror::Error;
+
+/// How many words the objects of the runtime environment take.
+const FIXED_WORDS: u32 = 85;
+
+/// Why no image was made.
+#[derive(Clone, Copy, Debug, PartialEq, Eq, Error)]
+pub enum FormatFault {
+    /// The store refused a write. It is as it was, or its first word is not the magic word.
+    #[error("the store is down")]
+    StoreDown,
+    /// The store has less than 4096 words.
+    #[error("an image has at least 4096 words")]
+    BadSize,
+    /// The text is no platform table: the number of its first bad line, or 0.
+    #[error("line {0} of the table is bad")]
+    BadTable(u16),
+    /// The table and the objects of the runtime environment don't fit.
+    #[error("the image is too small for the table")]
+    TooSmall,
+}
+
+/// Makes an image of a store: the platform table with this text, the objects of the runtime
+/// environment, and last the magic word. So an image that was not made to its end has none.
+pub fn format<S: WordStore>(store: S, text: &[u8]) -> (S, Result<(), FormatFault>)
+    ensures made { OnOk result.1 (IsMade (S.words result.0)) }
+    ensures heap { OnOk result.1 ((t : Tokens) × Reads text.now (Ok t) × (heap_of (recovered_of (S.words result.0)) ≡ formatted (length (S.words store)) text.now t)) }
+    ensures size { OnOk result.1 (length (S.words result.0) ≡ length (S.words store)) }
+    ensures up { OnOk result.1 (S.down result.0 ≡ false) }
+    ensures bad_size { (result.1 ≡ Err FormatFault.BadSize) ↔ (length (S.words store) < least_size) }
+    ensures bad_table { (line : ℕ) → result.1 ≡ Err (FormatFault.BadTable line) → (least_size ≤ length (S.words store)) × Reads text.now (Err (TableFault.BadTable line)) }
+    ensures too_small { result.1 ≡ Err FormatFault.TooSmall → (least_size ≤ length (S.words store)) × (length (S.words store) < first_free (length text.now) + 85) × ((t : Tokens) × Reads text.now (Ok t)) }
+    ensures kept { OnErr result.1 ((result.1 ≡ Err FormatFault.StoreDown → ⊥) → result.0 ≡ store) }
+    ensures stopped { result.1 ≡ Err FormatFault.StoreDown → (S.down result.0 ≡ true) × ((S.words result.0 ≡ S.words store) ⊎ (slice_index (S.words result.0) 0 ≢ magic)) }
+{
+    let size = store.size();
+    if size < LEAST_SIZE {
+        return (store, Err(FormatFault::BadSize));
+    }
+    let table = match read_table(text) {
+        Ok(table) => table,
+        Err(TableFault::BadTable(line)) => return (store, Err(FormatFault::BadTable(line))),
+    };
+    if u32::from(size) < first_free(text.len() as u16) + FIXED_WORDS {
+        return (store, Err(FormatFault::TooSmall));
+    }
+    match make_image(store, text, &table) {
+        Ok(store) => (store, Ok(())),
+        Err(store) => (store, Err(FormatFault::StoreDown)),
+    }
+}
+
+// Makes an image that fits. Where the store refuses a write it is given back.
+fn make_image<S: WordStore>(store: S, text: &[u8], table: &Table) -> Result<S, S>
+    requires enough { least_size ≤ length (S.words store) }
+    requires fits { first_free (length text.now) + 85 ≤ length (S.words store) }
+    requires reads { Reads text.now (Ok table.now) }
+    ensures made { IfOk result (λ s. IsMade (S.words s)) }
+    ensures heap { IfOk result (λ s. heap_of (recovered_of (S.words s)) ≡ formatted (length (S.words store)) text.now table.now) }
+    ensures size { IfOk result (λ s. length (S.words s) ≡ length (S.words store)) }
+    ensures up { IfOk result (λ s. S.down s ≡ false) }
+    ensures down { IfErr result (λ s. S.down s ≡ true) }
+    ensures unmarked { IfErr result (λ s. (S.words s ≡ S.words store) ⊎ (slice_index (S.words s) 0 ≢ magic)) }
+{
+    let mut heap = Heap::lay(store, text)?;
+    let Ok(()) = make_fixed(&mut heap, table) else {
+        return Err(heap.into_store());
+    };
+    heap.seal()
+}
