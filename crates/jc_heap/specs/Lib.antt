@@ -2,7 +2,6 @@ pub mod Cut
 pub mod Table
 pub mod Object
 pub mod Image
-pub mod Whole
 pub mod Heap
 pub mod Fresh
 pub mod Refusals
