@@ -18,3 +18,4 @@ pub mod RawWords
 pub mod LaidImages
 pub mod LaidStores
 pub mod Sealing
+pub mod TextBytes
