@@ -1,11 +1,10 @@
 -- What the words of an image without objects stand for.
-use Rattle.std.proofs.Common.{◌≡◌, ℕ, zero, suc, ◌+◌, ◌-◌, ◌*◌, ◌/◌, ◌%◌, ◌<◌, ◌≤◌, ◌==◌, Bool, true, false, inl, inr, List, [], ◌∷◌, ◌++◌, length, take, drop, set, get_or, map, replicate, refl, sym, ◌∙◌, ap, subst, arith, if◌then◌else◌, lit<, lit≤}
-use Rattle.std.specs.Prelude.{slice_index}
-use Rattle.std.proofs.lemmas.List.{ext_get_or, drop_at, drop_all, drop-drop, drop-append-le, take_all, take-append-le, length-append, length-replicate, length-drop, length-take-le, get_or_append_left, get_or-append_right, get_or-replicate, get_or-take, drop-replicate}
+use Rattle.std.proofs.Common.{◌≡◌, ℕ, zero, suc, ◌+◌, ◌-◌, ◌*◌, ◌/◌, ◌%◌, ◌<◌, ◌≤◌, inl, inr, List, [], ◌∷◌, ◌++◌, length, take, drop, get_or, map, replicate, refl, sym, ◌∙◌, ap, arith, lit<}
+use Rattle.std.proofs.lemmas.List.{ext_get_or, drop_at, drop_all, drop-drop, drop-append-le, take_all, take-append-le, length-append, length-replicate, length-take-le, get_or_append_left, get_or-append_right, get_or-replicate, get_or-take, drop-replicate}
 use Rattle.std.proofs.lemmas.List.FromFn.{length-map-range_with_len, get_or-map-range_with_len}
 use Rattle.std.proofs.lemmas.Bool.{cases_eq, cases_lt, eq-eqb, ne_eqb}
 use Rattle.jc_words.specs.Image.{version}
-use Rattle.jc_commit.specs.Image.{count_of, is_log, plain_of, recovered_of, words_by, IsReadable}
+use Rattle.jc_commit.specs.Image.{count_of, plain_of}
 use Rattle.jc_commit.proofs.InPlace.{length-plain, plain_word}
 use Rattle.jc_heap.specs.Cut.{cut, lacking}
 use Rattle.jc_heap.specs.Heap.{read_image, heap_of}

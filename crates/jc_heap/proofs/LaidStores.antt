@@ -1,10 +1,10 @@
 -- A store with the words of an image without objects, and the journal over it.
-use Rattle.std.proofs.Common.{◌≡◌, ℕ, zero, suc, ◌+◌, ◌-◌, ◌/◌, ◌<◌, ◌≤◌, ◌==◌, ◌⊎◌, inl, inr, false, List, [], ◌∷◌, ◌++◌, length, take, drop, get_or, refl, sym, ◌∙◌, ap, subst, arith, if◌then◌else◌, lit<}
+use Rattle.std.proofs.Common.{◌≡◌, ℕ, zero, suc, ◌+◌, ◌<◌, ◌≤◌, ◌==◌, ◌⊎◌, inl, inr, false, List, [], ◌∷◌, ◌++◌, length, take, drop, get_or, refl, sym, ◌∙◌, ap, subst, arith, if◌then◌else◌, lit<}
 use Rattle.std.proofs.lemmas.List.{take_all, length-append, length-drop, length-take-le, get_or_append_left, get_or-take}
-use Rattle.std.proofs.lemmas.Bool.{eq-eqb, false≢true}
+use Rattle.std.proofs.lemmas.Bool.{eq-eqb}
 use Rattle.jc_words.specs.Count.{raised}
-use Rattle.jc_commit.specs.Image.{count_of, plain_of, recovered_of, touched_of, with_words, log_end, IsGoodLog}
-use Rattle.jc_commit.specs.Replay.{write_backs, replay_writes, stopped_after}
+use Rattle.jc_commit.specs.Image.{count_of, plain_of, recovered_of, touched_of, with_words, IsGoodLog}
+use Rattle.jc_commit.specs.Replay.{write_backs, stopped_after}
 use Rattle.jc_commit.specs.State.{State, opened}
 use Rattle.jc_commit.specs.declared.refusal.OpenRefusal.{OpenRefusal}
 use Rattle.jc_commit.specs.declared.refusal.OpenRefusal.TheVariants.{StoreDown, BadLog}
@@ -12,7 +12,7 @@ use Rattle.jc_commit.proofs.InPlace.{length-plain}
 use Rattle.jc_commit.proofs.Steps.{recovered_plain}
 use Rattle.jc_commit.proofs.Views.{touched_none}
 use Rattle.jc_heap.specs.Image.{IsLaid}
-use Rattle.jc_heap.specs.Heap.{HeapView, heap_of, heap_view, IsSound, SameShape}
+use Rattle.jc_heap.specs.Heap.{heap_of, heap_view, IsSound, SameShape}
 use Rattle.jc_heap.specs.Laying.{AreBytes, first_free, laid_words, laid_to, laid_heap, laid_view, IsPartlyLaid}
 use Rattle.jc_heap.proofs.Changing.{shape-same}
 use Rattle.jc_heap.proofs.LaidImages.{length-laid, front-word, heap_of-laid, IsLaid-laid, count-laid}

@@ -19,3 +19,4 @@ pub mod RawWords
 pub mod LaidImages
 pub mod LaidStores
 pub mod Sealing
+pub mod TextBytes

@@ -1,12 +1,12 @@
 -- The words of a store under a heap: the first three stand for themselves.
-use Rattle.std.proofs.Common.{◌≡◌, ℕ, zero, suc, ◌+◌, ◌-◌, ◌/◌, ◌<◌, ◌≤◌, Bool, true, false, List, [], ◌∷◌, length, take, drop, get_or, Option, None, unwrap_or, refl, sym, ◌∙◌, ap, arith, if◌then◌else◌, lit≤}
+use Rattle.std.proofs.Common.{◌≡◌, ℕ, zero, suc, ◌+◌, ◌-◌, ◌/◌, ◌<◌, ◌≤◌, true, false, List, length, take, drop, get_or, None, unwrap_or, refl, sym, ◌∙◌, ap, arith, if◌then◌else◌}
 use Rattle.std.proofs.lemmas.List.{ext_get_or, get_or-take, length-take, take-take, drop-take}
 use Rattle.std.proofs.lemmas.List.FromFn.{get_or-map-range_with_len}
 use Rattle.std.proofs.lemmas.Bool.{ne_eqb}
 use Rattle.jc_commit.specs.Image.{address_at, entries, entries_from, old_value, is_log, plain_of, recovered_of, words_by, IsGoodLog, IsReadable}
 use Rattle.jc_commit.proofs.Words.{get_or-words_by, is_log-readable}
 use Rattle.jc_commit.proofs.InPlace.{length-plain, length-recovered, plain_word}
-use Rattle.jc_heap.specs.Image.{image, base, table_text, IsLaid}
+use Rattle.jc_heap.specs.Image.{image, table_text, IsLaid}
 use Rattle.jc_heap.specs.Heap.{read_image, heap_of}
 use Rattle.jc_heap.proofs.Images.{text-same}
 

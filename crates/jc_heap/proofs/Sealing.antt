@@ -1,5 +1,5 @@
 -- The magic word, written in place.
-use Rattle.std.proofs.Common.{◌≡◌, ℕ, ◌+◌, ◌/◌, ◌<◌, ◌≤◌, ◌&&◌, Bool, true, false, List, [], ◌∷◌, length, take, drop, set, get_or, map, refl, sym, ◌∙◌, ap, subst, arith, if◌then◌else◌, lit<}
+use Rattle.std.proofs.Common.{◌≡◌, ℕ, ◌+◌, ◌/◌, ◌<◌, ◌&&◌, Bool, true, false, List, [], ◌∷◌, length, take, drop, set, get_or, map, refl, ◌∙◌, ap, arith, if◌then◌else◌, lit<}
 use Rattle.std.proofs.lemmas.List.{get_or-set_other, drop-set-lt, length-set, length-take-le}
 use Rattle.std.proofs.lemmas.Bool.{true≢false}
 use Rattle.jc_words.specs.Image.{magic}

@@ -49,9 +49,9 @@ fn front_of(size: u16, text: u16) -> [u16; FRONT]
 {
     let top = first_free(text) as u16;
     [
-        0,
+        0, // no magic word yet
         VERSION,
-        size,
+        size, // of the store
         0,
         JOURNAL_CAPACITY,
         top,

@@ -1,9 +1,9 @@
 //! Opening an image, and whether its heap is whole.
-ghost use Rattle.std.specs.Prelude.{ℕ, ◌+◌, ◌/◌, ◌≡◌, ◌<◌, ◌≤◌, ◌^◌, ◌↔◌, IsTrue, IsOk, IfOk, IfErr, OnOk, true, false, length, slice_index};
+ghost use Rattle.std.specs.Prelude.{ℕ, ◌+◌, ◌/◌, ◌≡◌, ◌<◌, ◌≤◌, ◌^◌, ◌↔◌, IsTrue, IsOk, IfOk, IfErr, OnOk, true, false, length, slice_index, take};
 ghost use Rattle.jc_words.specs.Count.{raised};
 ghost use Rattle.jc_commit.specs.Image.{plain_of, recovered_of, IsGoodLog, StillRecovers};
 ghost use Rattle.jc_commit.specs.State.{opened};
-ghost use Rattle.jc_heap.specs.Image.{text_byte, IsLaid, image, base, package_addresses, is_package};
+ghost use Rattle.jc_heap.specs.Image.{text_byte, table_text, IsLaid, image, base, package_addresses, is_package};
 ghost use Rattle.jc_heap.specs.Heap.{heap_view};
 
 use crate::heap::Heap;
@@ -97,6 +97,39 @@ impl<S: WordStore> OpenImage<S> {
             return (word / 256) as u8;
         }
         (word % 256) as u8
+    }
+
+    /// The table text, into a slice that is as long.
+    pub fn read_text(&self, into: &mut [u8])
+        requires long { length into.old ≡ slice_index self.now.plain 10 }
+        requires there { 752 + (length into.old + 1) / 2 ≤ length self.now.plain }
+        ensures { into.new ≡ table_text self.now.plain }
+    {
+        for i in 0..self.text_length() {
+            into[i as usize] = self.text_byte(i);
+        }
+    }
+
+    /// The number of words of the store.
+    pub fn size(&self) -> u16
+        ensures { result ≡ length self.now.plain }
+    {
+        self.size
+    }
+
+    /// The store, with its recovered words.
+    pub fn into_store(self) -> S
+        ensures good { IsGoodLog (S.words result) }
+        ensures words { plain_of (S.words result) ≡ self.plain }
+        ensures recovered { recovered_of (S.words result) ≡ self.plain }
+        ensures head { take 3 (S.words result) ≡ take 3 self.plain }
+        ensures size { length (S.words result) ≡ length self.plain }
+        ensures up { S.down result ≡ false }
+        ensures passed { S.passed result ≡ self.passed }
+        ensures refused { S.refused result ≡ self.refused }
+    {
+        let OpenImage { journal, size: _ } = self;
+        journal.into_store()
     }
 
     /// The heap; where it is not whole, the store, with its recovered words.

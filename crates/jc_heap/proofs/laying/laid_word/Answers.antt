@@ -1,5 +1,4 @@
-use Rattle.std.proofs.Common.{◌≡◌, ◌-◌, ◌∙◌, sym, ap, get_or, length, arith}
-use Rattle.jc_heap.specs.Laying.{packed}
+use Rattle.std.proofs.Common.{◌∙◌, sym, ap, get_or, arith}
 use Rattle.jc_heap.proofs.LaidImages.{front-word, zero-word, text-word}
 use Rattle.jc_heap.proofs.laying.laid_word.Goals as goal
 

@@ -1,4 +1,4 @@
-use Rattle.std.proofs.Common.{◌≡◌, ◌+◌, ◌*◌, get_or, sym, ◌∙◌, arith}
+use Rattle.std.proofs.Common.{arith}
 use Rattle.jc_heap.proofs.LaidImages.{packed-word}
 use Rattle.jc_heap.proofs.laying.packed_word.Goals as goal
 

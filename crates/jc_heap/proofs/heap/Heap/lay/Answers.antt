@@ -1,10 +1,10 @@
-use Rattle.std.proofs.Common.{◌≡◌, ◌+◌, ◌∙◌, ℕ, List, sym, ap, subst, length, get_or, false, arith, inl, inr}
+use Rattle.std.proofs.Common.{◌≡◌, ◌∙◌, sym, ap, subst, length, arith}
 use Rattle.jc_words.specs.Count.{raised}
 use Rattle.jc_commit.specs.Image.{IsGoodLog}
 use Rattle.jc_commit.specs.State.{State, opened}
 use Rattle.jc_commit.specs.declared.refusal.OpenRefusal.TheVariants.{StoreDown}
 use Rattle.jc_heap.specs.Heap.{heap_view, IsSound}
-use Rattle.jc_heap.specs.Laying.{IsPartlyLaid, laid_view, first_free}
+use Rattle.jc_heap.specs.Laying.{laid_view, first_free}
 use Rattle.jc_heap.proofs.LaidStores.{unmarked, only_down, length_all, good_all, sound_all, view_all, part_after}
 use Rattle.jc_heap.proofs.heap.Heap.lay.Goals as goal
 
