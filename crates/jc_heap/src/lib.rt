@@ -1,15 +1,19 @@
 //! Objects by reference over the words of a journal: what a card keeps without power.
 #![tactic(auto)]
 
+mod areas;
 mod fresh;
 mod heap;
 mod law;
 mod layout;
 mod making;
+mod marks;
 mod object;
 mod opening;
 mod refusal;
+mod steps;
 mod walk;
+mod whole;
 
 pub use heap::Heap;
 pub use law::transactions_keep_what_is_durable;
