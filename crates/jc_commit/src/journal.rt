@@ -1,7 +1,7 @@
 //! Transactions over a store of words.
 ghost use Rattle.std.specs.Prelude.{◌≡◌, ◌<◌, ◌≤◌, ◌+◌, ◌^◌, ◌==◌, ◌↔◌, Bool, true, false, [], ◌∷◌, length, slice_index, Ok, Err, OnOk, OnErr, IfOk, IfErr, is_ok, if◌then◌else◌};
 ghost use Rattle.jc_words.specs.Count.{raised};
-ghost use Rattle.jc_commit.specs.Image.{plain_of, recovered_of, top_of, log_end, registry_start, capacity, IsGoodLog, IsPlace, IsReadable, IsUnlogged, StillRecovers};
+ghost use Rattle.jc_commit.specs.Image.{count_of, plain_of, recovered_of, top_of, log_end, registry_start, capacity, IsGoodLog, IsPlace, IsReadable, IsUnlogged, StillRecovers};
 ghost use Rattle.jc_commit.specs.Entries.{addresses_of, AreDistinct, ArePlaces};
 ghost use Rattle.jc_commit.specs.Replay.{IsPartOfReplay};
 ghost use Rattle.jc_commit.specs.State.{State, live, undo_writes, refusing, written_in_place, opened, has_room_for, Changes, IsStopped, IsPartlyReplayed};
@@ -90,6 +90,8 @@ impl<S: WordStore> Journal<S> {
         ensures down { S.down result ≡ self.down }
         ensures passed { S.passed result ≡ self.passed }
         ensures refused { S.refused result ≡ self.refused }
+        // Outside a transaction no entry counts.
+        ensures closed { self.down ≡ false → self.in_transaction ≡ false → count_of (S.words result) ≡ 0 }
     {
         let Journal {
             store,

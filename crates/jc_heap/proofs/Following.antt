@@ -102,7 +102,7 @@ module _ (ws : List ℕ) (at size : ℕ) (laid : IsLaid ws) (below : at < get_or
   abbrev pub items_from : ℕ → List (ℕ × Item)
   items_from a = map (item_entry (package_addresses (image ws))) (cut (sizes (package_addresses (image ws))) 0 a (drop a (image ws)))
 
-  item_here : items_from at ≡ (at, item ps at (take size tail)) ∷ items_from (at + size)
+  pub item_here : items_from at ≡ (at, item ps at (take size tail)) ∷ items_from (at + size)
   item_here = ap (map (item_entry ps)) step_cut
 
   -- it is passed where it lies below, or where it is a package

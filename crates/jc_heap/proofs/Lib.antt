@@ -12,6 +12,10 @@ pub mod Reading
 pub mod NewObjects
 pub mod Following
 pub mod NextObjects
+pub mod Stepping
+pub mod Filling
+pub mod Wholes
+pub mod Marking
 pub mod Runs
 pub mod AreaEnds
 pub mod MoveLaws

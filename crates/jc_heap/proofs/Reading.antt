@@ -26,7 +26,7 @@ said word class owner long place = record {
   place = (if word / 256 == 0 then 0 else place);
 }
 
-said-object_of : (rec : List ℕ) → 4 ≤ length rec → (object_of rec).facts ≡ said (get_or rec 0 0) (get_or rec 1 0) (get_or rec 2 0) (get_or rec 3 0) (get_or rec 4 0)
+pub said-object_of : (rec : List ℕ) → 4 ≤ length rec → (object_of rec).facts ≡ said (get_or rec 0 0) (get_or rec 1 0) (get_or rec 2 0) (get_or rec 3 0) (get_or rec 4 0)
 said-object_of [] h = absurd (omega arith)
 said-object_of (a ∷ []) h = absurd (omega arith)
 said-object_of (a ∷ b ∷ []) h = absurd (omega arith)

@@ -2,7 +2,9 @@ pub mod Cut
 pub mod Table
 pub mod Object
 pub mod Image
+pub mod Steps
 pub mod Heap
+pub mod Whole
 pub mod Fresh
 pub mod Refusals
 pub mod Moves

@@ -1,6 +1,6 @@
 //! A heap: reading, cells, transactions.
 ghost use Rattle.std.specs.Prelude.{ℕ, take, ◌≡◌, ◌<◌, ◌≤◌, [], ◌∷◌, true, false, Ok, Err, length, slice_index, OnOk, OnErr, ◌+◌, ◌/◌, ◌==◌, if◌then◌else◌, ◌↔◌, None, IfSome};
-ghost use Rattle.jc_commit.specs.Image.{capacity, plain_of, recovered_of, IsGoodLog};
+ghost use Rattle.jc_commit.specs.Image.{capacity, count_of, plain_of, recovered_of, IsGoodLog};
 ghost use Rattle.jc_commit.specs.Entries.{addresses_of};
 ghost use Rattle.jc_heap.specs.Object.{IsElement};
 ghost use Rattle.jc_heap.specs.Image.{IsLaid};
@@ -266,6 +266,7 @@ impl<S: WordStore> Heap<S> {
         ensures down { S.down result ≡ self.down }
         ensures passed { S.passed result ≡ self.passed }
         ensures refused { S.refused result ≡ self.refused }
+        ensures closed { self.down ≡ false → self.begun ≡ false → count_of (S.words result) ≡ 0 }
     {
         let Heap { journal, size: _ } = self;
         journal.into_store()

@@ -6,6 +6,11 @@ pub(crate) const TOP: u16 = 5;
 // The word with the number of packages.
 pub(crate) const PACKAGES: u16 = 6;
 
+// The word with the number of applets, and how many there can be.
+pub(crate) const APPLETS: u16 = 7;
+
+pub(crate) const MOST_APPLETS: u16 = 64;
+
 // The words with the ends of the areas of transient cells.
 pub(crate) const RESET_END: u16 = 8;
 
@@ -24,3 +29,6 @@ pub(crate) const TEXT_START: u32 = 752;
 
 // How many words an object's header has.
 pub(crate) const HEADER: u16 = 4;
+
+// The word of a header with the number of cells.
+pub(crate) const LENGTH: u16 = 3;

@@ -1,16 +1,20 @@
 //! Objects by reference over the words of a journal: what a card keeps without power.
 #![tactic(auto)]
 
+mod areas;
 mod fresh;
 mod heap;
 mod law;
 mod laying;
 mod layout;
 mod making;
+mod marks;
 mod object;
 mod opening;
 mod refusal;
+mod steps;
 mod walk;
+mod whole;
 
 pub use heap::Heap;
 pub use laying::first_free;

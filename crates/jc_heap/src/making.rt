@@ -108,7 +108,7 @@ impl<S: WordStore> Heap<S> {
 }
 
 // The word with the end of an event's area.
-fn area_word(event: ClearEvent) -> u16
+pub(crate) fn area_word(event: ClearEvent) -> u16
     ensures { result ≡ area_place event }
 {
     match event {

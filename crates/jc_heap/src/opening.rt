@@ -1,14 +1,16 @@
 //! Opening an image, and whether its heap is whole.
 ghost use Rattle.std.specs.Prelude.{ℕ, ◌+◌, ◌/◌, ◌≡◌, ◌<◌, ◌≤◌, ◌^◌, ◌↔◌, IsTrue, IsOk, IfOk, IfErr, OnOk, true, false, length, slice_index, take};
 ghost use Rattle.jc_words.specs.Count.{raised};
-ghost use Rattle.jc_commit.specs.Image.{plain_of, recovered_of, IsGoodLog, StillRecovers};
+ghost use Rattle.jc_commit.specs.Image.{count_of, plain_of, recovered_of, IsGoodLog, StillRecovers};
 ghost use Rattle.jc_commit.specs.State.{opened};
 ghost use Rattle.jc_heap.specs.Image.{text_byte, table_text, IsLaid, image, base, package_addresses, is_package};
-ghost use Rattle.jc_heap.specs.Heap.{heap_view};
+ghost use Rattle.jc_heap.specs.Heap.{heap_view, heap_of};
+ghost use Rattle.jc_heap.specs.Whole.{IsWhole};
 
 use crate::heap::Heap;
 use crate::layout::{ADDRESSES, MOST_PACKAGES, PACKAGES, TEXT_LENGTH, TEXT_START, TOP};
 use crate::walk::is_whole;
+use crate::whole::words_agree;
 use jc_commit::{Journal, OpenRefusal};
 use jc_words::WordStore;
 use std::marker::Model;
@@ -64,6 +66,15 @@ fn is_laid<S: WordStore>(journal: &Journal<S>, size: u16) -> bool
     false
 }
 
+// The words are a heap, and it is whole.
+fn is_heap<S: WordStore>(journal: &Journal<S>, size: u16) -> bool
+    requires size { size ≡ length journal.now.plain }
+    requires wide { 752 ≤ size }
+    ensures { IsTrue result ↔ (IsLaid journal.now.plain × IsWhole (heap_of journal.now.plain)) }
+{
+    is_laid(journal, size) && words_agree(journal)
+}
+
 impl<S: WordStore> OpenImage<S> {
     /// Opens a store, and first takes back what a loss of power left open.
     pub fn open(store: S) -> Result<OpenImage<S>, (OpenRefusal, S)>
@@ -99,6 +110,14 @@ impl<S: WordStore> OpenImage<S> {
         (word % 256) as u8
     }
 
+    /// Whether the store has the words of a table text of that length.
+    pub fn has_text(&self) -> bool
+        ensures { IsTrue result ↔ (752 + (slice_index self.now.plain 10 + 1) / 2 ≤ length self.now.plain) }
+    {
+        let text = u32::from(self.text_length());
+        TEXT_START + (text + 1) / 2 <= u32::from(self.size)
+    }
+
     /// The table text, into a slice that is as long.
     pub fn read_text(&self, into: &mut [u8])
         requires long { length into.old ≡ slice_index self.now.plain 10 }
@@ -125,6 +144,7 @@ impl<S: WordStore> OpenImage<S> {
         ensures head { take 3 (S.words result) ≡ take 3 self.plain }
         ensures size { length (S.words result) ≡ length self.plain }
         ensures up { S.down result ≡ false }
+        ensures closed { count_of (S.words result) ≡ 0 }
         ensures passed { S.passed result ≡ self.passed }
         ensures refused { S.refused result ≡ self.refused }
     {
@@ -134,14 +154,17 @@ impl<S: WordStore> OpenImage<S> {
 
     /// The heap; where it is not whole, the store, with its recovered words.
     pub fn check(self) -> Result<Heap<S>, S>
-        ensures exact { IsOk result ↔ IsLaid self.plain }
+        ensures exact { IsOk result ↔ (IsLaid self.plain × IsWhole (heap_of self.plain)) }
+        ensures whole { IfOk result (λ h. IsWhole h.now) }
         ensures heap { IfOk result (λ h. h ≡ heap_view self (length self.plain)) }
         ensures words { IfErr result (λ s. plain_of (S.words s) ≡ self.plain) }
         ensures recovered { IfErr result (λ s. recovered_of (S.words s) ≡ self.plain) }
         ensures up { IfErr result (λ s. S.down s ≡ false) }
+        ensures good { IfErr result (λ s. IsGoodLog (S.words s)) }
+        ensures closed { IfErr result (λ s. count_of (S.words s) ≡ 0) }
     {
         let OpenImage { journal, size } = self;
-        if is_laid(&journal, size) {
+        if is_heap(&journal, size) {
             return Ok(Heap { journal, size });
         }
         Err(journal.into_store())

@@ -15,7 +15,7 @@ use jc_words::WordStore;
 const NO_HEADER: u32 = 65540;
 
 // A package's record begins at the address.
-fn begins_package<S: WordStore>(journal: &Journal<S>, at: u16) -> bool
+pub(crate) fn begins_package<S: WordStore>(journal: &Journal<S>, at: u16) -> bool
     requires wide { 752 ≤ slice_index journal.now.plain 5 }
     requires fits { slice_index journal.now.plain 5 ≤ length journal.now.plain }
     requires small { length journal.now.plain < 65536 }
@@ -31,7 +31,7 @@ fn begins_package<S: WordStore>(journal: &Journal<S>, at: u16) -> bool
 }
 
 // How many words the record at an address has.
-fn record_size<S: WordStore>(journal: &Journal<S>, at: u16, top: u16) -> u32
+pub(crate) fn record_size<S: WordStore>(journal: &Journal<S>, at: u16, top: u16) -> u32
     requires wide { 752 ≤ slice_index journal.now.plain 5 }
     requires fits { slice_index journal.now.plain 5 ≤ length journal.now.plain }
     requires small { length journal.now.plain < 65536 }

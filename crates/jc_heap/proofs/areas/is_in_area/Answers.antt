@@ -1,0 +1,13 @@
+use Rattle.std.proofs.Common.{arith, ◌≡◌, ◌/◌, ◌==◌, ◌∙◌, ap, sym, get_or, Some, true, false}
+use Rattle.jc_heap.specs.Object.{event_number}
+use Rattle.jc_heap.specs.Image.{image, package_addresses, is_package}
+use Rattle.jc_heap.proofs.Filling.{package_lies, object_lies}
+use Rattle.jc_heap.proofs.areas.is_in_area.Goals as goal
+
+pub returns-then-begins_package : goal.returns-then-begins_package
+returns-then-begins_package g c = sym (package_lies c.args.journal.now.plain c.args.at c.args.event c.requires.laid c.requires.begins c.requires.inside (sym c.begins_package.ensures ∙ c.if-begins_package.true))
+
+pub returns : goal.returns
+returns g c =
+    (λ i. (c.read.ensures i) / 256 == c.number_of.ensures i)
+    ∙ sym (object_lies c.args.journal.now.plain c.args.at c.args.event c.requires.laid c.requires.begins c.requires.inside c.requires.small (sym c.begins_package.ensures ∙ c.if-begins_package.false))

@@ -1,0 +1,37 @@
+-- Whether a heap is whole: what its words say of one another holds.
+use Rattle.std.specs.Prelude.{ℕ, ◌+◌, ◌≡◌, ◌≤◌, ◌==◌, Bool, true, List, [], ◌∷◌, ◌++◌, if◌then◌else◌, Some}
+use Rattle.jc_transient.specs.declared.cell.ClearEvent.{ClearEvent}
+use Rattle.jc_transient.specs.State.{area_size}
+use Rattle.jc_heap.specs.Object.{Item, facts_of, event_number}
+use Rattle.jc_heap.specs.Heap.{HeapState, area_end}
+
+-- the item is an object whose cells lie in the area of this event
+abbrev pub lies_in : ClearEvent → Item → Bool
+lies_in event t = event_number (facts_of t).event == event_number (Some event)
+
+-- how many cells of an event's area an item has
+abbrev pub cells_in : ClearEvent → Item → ℕ
+cells_in event t = if lies_in event t then (facts_of t).length else 0
+
+-- and these items have together
+abbrev pub all_cells_in : ClearEvent → List (ℕ × Item) → ℕ
+all_cells_in event [] = 0
+all_cells_in event (e ∷ es) = cells_in event e.1 + all_cells_in event es
+
+-- an item's cells in an event's area, where it has any, begin at this place and end within the area
+pub record FitsAt (event : ClearEvent) (place : ℕ) (t : Item) : Type 0 where
+  pub begins : lies_in event t ≡ true → (facts_of t).place ≡ place
+  pub ends : place + cells_in event t ≤ area_size
+
+-- the objects of an event have the cells of its area: each begins where those before it end, the area ends where
+-- they all end, and they have no more cells than there are
+pub record IsFilled (h : HeapState) (event : ClearEvent) : Type 0 where
+  pub places : (before after : List (ℕ × Item)) (r : ℕ) (t : Item) → h.items ≡ before ++ (r, t) ∷ after → lies_in event t ≡ true → (facts_of t).place ≡ all_cells_in event before
+  pub end : area_end h event ≡ all_cells_in event h.items
+  pub fits : area_end h event ≤ area_size
+
+-- what a heap's words say of one another
+pub record IsWhole (h : HeapState) : Type 0 where
+  pub packages : h.counts.0 ≤ 32
+  pub applets : h.counts.1 ≤ 64
+  pub areas : (event : ClearEvent) → IsFilled h event

@@ -1,0 +1,43 @@
+//! Whether the words of a heap agree with one another.
+ghost use Rattle.std.specs.Prelude.{◌≤◌, ◌<◌, ◌↔◌, IsTrue, length};
+ghost use Rattle.jc_transient.specs.declared.cell.ClearEvent.{ClearEvent};
+ghost use Rattle.jc_heap.specs.Image.{IsLaid};
+ghost use Rattle.jc_heap.specs.Heap.{heap_of};
+ghost use Rattle.jc_heap.specs.Whole.{IsFilled, IsWhole};
+
+use crate::areas::is_filled;
+use crate::layout::{APPLETS, MOST_APPLETS, MOST_PACKAGES, PACKAGES};
+use jc_commit::Journal;
+use jc_transient::ClearEvent;
+use jc_words::WordStore;
+
+// There is a place for each package and each applet.
+fn are_few<S: WordStore>(journal: &Journal<S>) -> bool
+    requires laid { IsLaid journal.now.plain }
+    ensures { IsTrue result ↔ (((heap_of journal.now.plain).counts.0 ≤ 32) × ((heap_of journal.now.plain).counts.1 ≤ 64)) }
+{
+    let packages = journal.read(PACKAGES);
+    let applets = journal.read(APPLETS);
+    packages <= MOST_PACKAGES && applets <= MOST_APPLETS
+}
+
+// The objects fill both areas.
+fn are_filled<S: WordStore>(journal: &Journal<S>) -> bool
+    requires laid { IsLaid journal.now.plain }
+    requires small { length journal.now.plain < 65536 }
+    ensures { IsTrue result ↔ ((event : ClearEvent) → IsFilled (heap_of journal.now.plain) event) }
+{
+    is_filled(journal, ClearEvent::Reset) && is_filled(journal, ClearEvent::Deselect)
+}
+
+// The heap is whole.
+pub(crate) fn words_agree<S: WordStore>(journal: &Journal<S>) -> bool
+    requires laid { IsLaid journal.now.plain }
+    requires small { length journal.now.plain < 65536 }
+    ensures { IsTrue result ↔ IsWhole (heap_of journal.now.plain) }
+{
+    if !are_few(journal) {
+        return false;
+    }
+    are_filled(journal)
+}
