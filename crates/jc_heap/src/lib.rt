@@ -17,8 +17,8 @@ mod walk;
 mod whole;
 
 pub use heap::Heap;
-pub use laying::first_free;
 pub use law::transactions_keep_what_is_durable;
+pub use laying::first_free;
 pub use object::{Facts, Kind};
 pub use opening::OpenImage;
 pub use refusal::HeapRefusal;
