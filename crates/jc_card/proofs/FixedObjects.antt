@@ -12,9 +12,11 @@ use Rattle.jc_heap.specs.Table.{at_or, has}
 use Rattle.jc_heap.specs.Object.{Item, AnObject, APackage, is_object, facts_of, new_transient}
 use Rattle.jc_heap.specs.Heap.{HeapState, HeapView, add_transient, add_object, area_end, changed, first_above, next_object, item_at, facts}
 use Rattle.jc_heap.specs.Laying.{laid_heap, sealed}
+use Rattle.jc_heap.specs.Beginning.{Follow, BeginsWith}
+use Rattle.jc_heap.specs.declared.object.Facts.{Facts}
 use Rattle.jc_platform.specs.Tokens.{Tokens}
 use Rattle.jc_card.specs.declared.fixed.FixedObject.{FixedObject}
-use Rattle.jc_card.specs.Fixed.{fixed_objects, class_number_of, cells_of_all, Follow, BeginsWithFixed, with_objects}
+use Rattle.jc_card.specs.Fixed.{fixed_objects, class_number_of, fixed_facts, BeginsWithFixed, with_objects}
 use Rattle.jc_card.specs.Made.{formatted}
 
 -- what a new transient object changes
@@ -106,7 +108,7 @@ facts_are : (k : HeapState) (q : ℕ) → facts k q ≡ facts_of (at_or (APackag
 unfolding item_at
 facts_are k q = refl
 
-follow-made : (t : Tokens) (h : HeapState) (r : ℕ) (os : List FixedObject) → IsBelow h → first_above h.items r ≡ None → r < h.top → Follow t (with_objects t h os) r (area_end h Reset) os
+follow-made : (t : Tokens) (h : HeapState) (r : ℕ) (os : List FixedObject) → IsBelow h → first_above h.items r ≡ None → r < h.top → Follow (with_objects t h os) r (fixed_facts t (area_end h Reset) os)
 follow-made t h r [] b none below = tt
 follow-made t h r (o ∷ os) b none below =
     let rest : (rest : List (ℕ × Item)) × ((with_objects t h (o ∷ os)).items ≡ (with_one t h o).items ++ rest) = items-all t (with_one t h o) os in
@@ -115,7 +117,7 @@ follow-made t h r (o ∷ os) b none below =
       h.top,
       next_is (with_objects t h (o ∷ os)) r ∙ ap (λ l. first_above l r) items ∙ found-first h.items (h.top, AnObject (new_transient o.kind Reset (class_number_of t o.class) 0 o.cells (area_end h Reset))) rest.0 r none below refl,
       facts_are (with_objects t h (o ∷ os)) h.top ∙ ap (λ l. facts_of (at_or (APackage []) l h.top)) items ∙ ap facts_of (looked-up h.items h.top (AnObject (new_transient o.kind Reset (class_number_of t o.class) 0 o.cells (area_end h Reset))) rest.0 (b.absent h.top (omega arith))),
-      subst (λ p. Follow t (with_objects t h (o ∷ os)) h.top p os) (end-add h o.kind (class_number_of t o.class) 0 o.cells)
+      subst (λ p. Follow (with_objects t h (o ∷ os)) h.top (fixed_facts t p os)) (end-add h o.kind (class_number_of t o.class) 0 o.cells)
           (follow-made t (with_one t h o) h.top os (below-one t h o b)
           (ap (λ l. first_above l h.top) (items-one t h o) ∙ none-push h.items (h.top, AnObject (new_transient o.kind Reset (class_number_of t o.class) 0 o.cells (area_end h Reset))) h.top (b.none h.top (omega arith)) (omega arith))
           (omega (arith, top-add h o.kind (class_number_of t o.class) 0 o.cells))),
@@ -143,12 +145,13 @@ facts_sealed : (k : HeapState) (q : ℕ) → facts (sealed k) q ≡ facts k q
 unfolding item_at
 facts_sealed k q = refl
 
-sealed-follow : (t : Tokens) (h : HeapState) (r place : ℕ) (os : List FixedObject) → Follow t h r place os → Follow t (sealed h) r place os
-sealed-follow t h r place [] f = tt
-sealed-follow t h r place (o ∷ os) f = (f.0, next_sealed h r ∙ f.1, facts_sealed h f.0 ∙ f.2, sealed-follow t h f.0 (place + o.cells) os f.3)
+sealed-follow : (h : HeapState) (r : ℕ) (fs : List Facts) → Follow h r fs → Follow (sealed h) r fs
+sealed-follow h r [] f = tt
+sealed-follow h r (d ∷ fs) f = (f.0, next_sealed h r ∙ f.1, facts_sealed h f.0 ∙ f.2, sealed-follow h f.0 fs f.3)
 
 pub begins-formatted : (n : ℕ) (text : List ℕ) (t : Tokens) → BeginsWithFixed t (formatted n text t)
-begins-formatted n text t = sealed-follow t (with_objects t (laid_heap n text) fixed_objects) 0 0 fixed_objects
+unfolding BeginsWith
+begins-formatted n text t = sealed-follow (with_objects t (laid_heap n text) fixed_objects) 0 (fixed_facts t 0 fixed_objects)
     (follow-made t (laid_heap n text) 0 fixed_objects (record { absent = λ q le. refl; none = λ q le. refl }) refl (omega arith))
 
 pub head-formatted : (n : ℕ) (text : List ℕ) (t : Tokens) → (formatted n text t).head ≡ magic ∷ version ∷ n ∷ []

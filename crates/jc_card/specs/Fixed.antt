@@ -1,11 +1,12 @@
 -- The objects that the runtime environment owns from an image's making on: one exception of each class that it
 -- throws itself, the APDU object and the APDU buffer. All are cleared at a reset.
-use Rattle.std.specs.Prelude.{ℕ, ◌+◌, ◌*◌, ◌≡◌, List, [], ◌∷◌, length, Option, Some, None}
+use Rattle.std.specs.Prelude.{ℕ, ◌+◌, List, [], ◌∷◌, Option, Some, None}
 use Rattle.jc_transient.specs.State.{buffer_size}
 use Rattle.jc_transient.specs.declared.cell.ClearEvent.TheVariants.{Reset}
 use Rattle.jc_heap.specs.declared.object.Kind.TheVariants.{Instance, ByteArray}
 use Rattle.jc_heap.specs.declared.object.Facts.{Facts}
-use Rattle.jc_heap.specs.Heap.{HeapState, facts, next_object, add_transient}
+use Rattle.jc_heap.specs.Beginning.{BeginsWith}
+use Rattle.jc_heap.specs.Heap.{HeapState, add_transient}
 use Rattle.jc_platform.specs.Tokens.{Tokens}
 use Rattle.jc_platform.specs.Distinct.{class_word}
 use Rattle.jc_platform.specs.declared.names.PlatformClass.{PlatformClass}
@@ -52,14 +53,14 @@ abbrev pub cells_of_all : List FixedObject → ℕ
 cells_of_all [] = 0
 cells_of_all (o ∷ more) = o.cells + cells_of_all more
 
--- behind an address these objects stand, one after another, with their cells from a place on
-abbrev pub Follow : Tokens → HeapState → ℕ → ℕ → List FixedObject → Type 0
-Follow t h r place [] = Unit {0}
-Follow t h r place (o ∷ more) = (q : ℕ) × (next_object h r ≡ Some q) × (facts h q ≡ facts_of_fixed t o place) × Follow t h q (place + o.cells) more
+-- what the headers of these objects say, whose cells stand one after another from a place on
+abbrev pub fixed_facts : Tokens → ℕ → List FixedObject → List Facts
+fixed_facts t place [] = []
+fixed_facts t place (o ∷ more) = facts_of_fixed t o place ∷ fixed_facts t (place + o.cells) more
 
 -- the heap begins with the objects of the runtime environment
 abbrev pub BeginsWithFixed : Tokens → HeapState → Type 0
-BeginsWithFixed t h = Follow t h 0 0 fixed_objects
+BeginsWithFixed t h = BeginsWith h (fixed_facts t 0 fixed_objects)
 
 -- the heap with these objects behind the others
 abbrev pub with_objects : Tokens → HeapState → List FixedObject → HeapState

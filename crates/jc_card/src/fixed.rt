@@ -1,15 +1,19 @@
 //! The objects that the runtime environment owns from an image's making on.
-ghost use Rattle.std.specs.Prelude.{◌≡◌, ◌≤◌, ◌<◌, ◌+◌, ◌*◌, ◌↔◌, false, true, IsTrue, OnOk, OnErr, Ok, Err, length, [], ◌∷◌};
+ghost use Rattle.std.specs.Prelude.{◌≡◌, ◌≤◌, ◌<◌, ◌+◌, ◌*◌, false, true, OnOk, OnErr, length, [], ◌∷◌, ◌++◌};
 ghost use Rattle.jc_transient.specs.State.{area_size};
 ghost use Rattle.jc_transient.specs.declared.cell.ClearEvent.TheVariants.{Reset};
-ghost use Rattle.jc_heap.specs.Heap.{IsObject, area_end};
-ghost use Rattle.jc_card.specs.Fixed.{fixed_objects, class_number_of, facts_of_fixed, cells_of_all, Follow, BeginsWithFixed, with_objects};
+ghost use Rattle.jc_heap.specs.Heap.{area_end};
+ghost use Rattle.jc_card.specs.Fixed.{fixed_objects, class_number_of, facts_of_fixed, cells_of_all, fixed_facts, with_objects};
 
-use jc_heap::{Facts, Heap, HeapRefusal, Kind};
+use arrayvec::ArrayVec;
+use jc_heap::{Facts, Heap, Kind};
 use jc_platform::names::PlatformClass;
 use jc_platform::table::Table;
-use jc_transient::{BUFFER_CELLS, ClearEvent, Ref};
+use jc_transient::{BUFFER_CELLS, ClearEvent};
 use jc_words::{StoreDown, WordStore};
+
+/// How many objects the runtime environment owns from the beginning.
+pub(crate) const FIXED_COUNT: usize = 17;
 
 /// The owner's number of the runtime environment.
 const RUNTIME_ENVIRONMENT: u16 = 0;
@@ -35,7 +39,7 @@ macro_rules! instance {
 }
 
 /// All of them, in their order.
-const FIXED_OBJECTS: [FixedObject; 17] = [
+const FIXED_OBJECTS: [FixedObject; FIXED_COUNT] = [
     instance!(ArithmeticException 0),
     instance!(ArrayIndexOutOfBoundsException 0),
     instance!(ArrayStoreException 0),
@@ -93,37 +97,31 @@ fn class_number(table: &Table, class: Option<PlatformClass>) -> u16
     }
 }
 
-/// Whether the heap begins with the objects of the runtime environment.
-pub(crate) fn begins_with_fixed<S: WordStore>(heap: &Heap<S>, table: &Table) -> bool
-    requires { heap.now.down ≡ false }
-    ensures { IsTrue result ↔ BeginsWithFixed table.now heap.now.now }
+/// What the headers of all of them say.
+pub(crate) fn fixed_headers(table: &Table) -> ArrayVec<Facts, FIXED_COUNT>
+    ensures { result.items ≡ fixed_facts table.now 0 fixed_objects }
 {
-    follow(heap, table, Ref::null(), 0, all_fixed())
+    let mut headers = ArrayVec::new();
+    add_headers(table, 0, all_fixed(), &mut headers);
+    headers
 }
 
-// Whether behind an object these stand, one after another, with their cells from a place on.
-fn follow<S: WordStore>(
-    heap: &Heap<S>,
+// Adds what the headers of these say, whose cells stand one after another from a place on.
+fn add_headers(
     table: &Table,
-    from: Ref,
     place: u16,
     objects: &[FixedObject],
-) -> bool
-    requires up { heap.now.down ≡ false }
-    requires there { (from ≡ 0 → ⊥) → IsObject heap.now.now from }
+    headers: &mut ArrayVec<Facts, FIXED_COUNT>,
+)
     requires places { place + cells_of_all objects.now < 65536 }
-    ensures { IsTrue result ↔ Follow table.now heap.now.now from place objects.now }
+    requires room { length headers.old.items + length objects.now ≤ 17 }
+    ensures { headers.new.items ≡ headers.old.items ++ fixed_facts table.now place objects.now }
 {
     let Some((first, more)) = objects.split_first() else {
-        return true;
+        return;
     };
-    let Some(next) = heap.next(from) else {
-        return false;
-    };
-    if heap.facts(next) != first.facts(table, place) {
-        return false;
-    }
-    follow(heap, table, next, place + first.cells, more)
+    headers.push(first.facts(table, place));
+    add_headers(table, place + first.cells, more, headers);
 }
 
 /// Makes the objects of the runtime environment in a heap that has space for them.

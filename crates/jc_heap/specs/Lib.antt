@@ -9,3 +9,4 @@ pub mod Fresh
 pub mod Refusals
 pub mod Moves
 pub mod Laying
+pub mod Beginning

@@ -2,6 +2,7 @@
 #![tactic(auto)]
 
 mod areas;
+mod beginning;
 mod fresh;
 mod heap;
 mod law;

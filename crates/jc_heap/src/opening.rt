@@ -6,9 +6,11 @@ ghost use Rattle.jc_commit.specs.State.{opened};
 ghost use Rattle.jc_heap.specs.Image.{text_byte, table_text, IsLaid, image, base, package_addresses, is_package};
 ghost use Rattle.jc_heap.specs.Heap.{heap_view, heap_of};
 ghost use Rattle.jc_heap.specs.Whole.{IsWhole};
+ghost use Rattle.jc_heap.specs.Beginning.{BeginsWith};
 
 use crate::heap::Heap;
 use crate::layout::{ADDRESSES, MOST_PACKAGES, PACKAGES, TEXT_LENGTH, TEXT_START, TOP};
+use crate::object::Facts;
 use crate::walk::is_whole;
 use crate::whole::words_agree;
 use jc_commit::{Journal, OpenRefusal};
@@ -152,9 +154,11 @@ impl<S: WordStore> OpenImage<S> {
         journal.into_store()
     }
 
-    /// The heap; where it is not whole, the store, with its recovered words.
-    pub fn check(self) -> Result<Heap<S>, S>
-        ensures exact { IsOk result ↔ (IsLaid self.plain × IsWhole (heap_of self.plain)) }
+    /// The heap, where it is whole and its first objects have these headers; else the store, with its
+    /// recovered words.
+    pub fn check(self, first: &[Facts]) -> Result<Heap<S>, S>
+        requires { self.down ≡ false }
+        ensures exact { IsOk result ↔ (IsLaid self.plain × IsWhole (heap_of self.plain) × BeginsWith (heap_of self.plain) first.now) }
         ensures whole { IfOk result (λ h. IsWhole h.now) }
         ensures heap { IfOk result (λ h. h ≡ heap_view self (length self.plain)) }
         ensures words { IfErr result (λ s. plain_of (S.words s) ≡ self.plain) }
@@ -164,9 +168,14 @@ impl<S: WordStore> OpenImage<S> {
         ensures closed { IfErr result (λ s. count_of (S.words s) ≡ 0) }
     {
         let OpenImage { journal, size } = self;
-        if is_heap(&journal, size) {
-            return Ok(Heap { journal, size });
+        if !is_heap(&journal, size) {
+            return Err(journal.into_store());
         }
+        let heap = Heap { journal, size };
+        if heap.begins_with(first) {
+            return Ok(heap);
+        }
+        let Heap { journal, size: _ } = heap;
         Err(journal.into_store())
     }
 }

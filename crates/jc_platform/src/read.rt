@@ -12,7 +12,7 @@ use crate::table::Table;
 use crate::words::split_once;
 
 /// The most bytes of a table's text.
-const LARGEST_TEXT: usize = 16384;
+pub const LARGEST_TEXT: usize = 16384;
 
 /// Reads the text of a platform table: its lines, from the first one on, each ended by a line feed.
 ///

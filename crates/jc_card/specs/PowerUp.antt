@@ -1,0 +1,73 @@
+-- Powering up: why words don't, and what a refusal leaves.
+use Rattle.std.specs.Prelude.{ℕ, ◌≡◌, ◌≢◌, ◌+◌, ◌/◌, ◌≤◌, List, length, slice_index, Ok}
+use Rattle.jc_words.specs.Image.{magic, version, HasSize}
+use Rattle.jc_words.specs.declared.image.ImageFault.{ImageFault}
+use Rattle.jc_words.specs.declared.image.ImageFault.TheVariants.{BadMagic as NoMagic, BadVersion as OtherVersion, BadSize as NoSize}
+use Rattle.jc_commit.specs.Image.{IsGoodLog, StillRecovers, plain_of, recovered_of, count_of}
+use Rattle.jc_heap.specs.Image.{IsLaid, table_text}
+use Rattle.jc_heap.specs.Heap.{heap_of}
+use Rattle.jc_heap.specs.Whole.{IsWhole}
+use Rattle.jc_platform.specs.Tokens.{Tokens}
+use Rattle.jc_platform.specs.Table.{Reads}
+use Rattle.jc_card.specs.Fixed.{BeginsWithFixed}
+use Rattle.jc_card.specs.declared.power_up.PowerFault.{PowerFault}
+use Rattle.jc_card.specs.declared.power_up.PowerFault.TheVariants.{BadMagic, BadVersion, BadSize, BadLog, BadTable, BadPackage, NoMemory, StoreDown}
+
+-- the first words' fault as a fault of powering up
+abbrev pub fault_of : ImageFault → PowerFault
+fault_of NoMagic = BadMagic
+fault_of OtherVersion = BadVersion
+fault_of NoSize = BadSize
+
+-- the first words are those of an image
+pub record HasHead (w : List ℕ) : Type 0 where
+  pub magic : slice_index w 0 ≡ magic
+  pub version : slice_index w 1 ≡ version
+  pub size : HasSize w
+
+-- the table text is there, and this is the table that it spells
+abbrev pub HasTable : List ℕ → Tokens → Type 0
+HasTable w t = (752 + (slice_index w 10 + 1) / 2 ≤ length w) × Reads (table_text w) (Ok t)
+
+-- a whole heap that begins with the objects of the runtime environment
+abbrev pub HasHeap : Tokens → List ℕ → Type 0
+HasHeap t w = IsLaid w × IsWhole (heap_of w) × BeginsWithFixed t (heap_of w)
+
+-- why recovered words don't power up: their table first, then their heap; or memory was refused
+abbrev pub Fails : PowerFault → List ℕ → Type 0
+Fails BadMagic w = ⊥
+Fails BadVersion w = ⊥
+Fails BadSize w = ⊥
+Fails BadLog w = ⊥
+Fails BadTable w = (t : Tokens) → HasTable w t → ⊥
+Fails BadPackage w = (t : Tokens) × HasTable w t × (HasHeap t w → ⊥)
+Fails NoMemory w = Unit {0}
+Fails StoreDown w = ⊥
+
+-- why words don't power up, each cause before the next
+abbrev pub Refuses : PowerFault → List ℕ → Type 0
+Refuses BadMagic w = slice_index w 0 ≢ magic
+Refuses BadVersion w = (slice_index w 0 ≡ magic) × (slice_index w 1 ≢ version)
+Refuses BadSize w = (slice_index w 0 ≡ magic) × (slice_index w 1 ≡ version) × (HasSize w → ⊥)
+Refuses BadLog w = HasHead w × (IsGoodLog w → ⊥)
+Refuses BadTable w = HasHead w × IsGoodLog w × Fails BadTable (recovered_of w)
+Refuses BadPackage w = HasHead w × IsGoodLog w × Fails BadPackage (recovered_of w)
+Refuses NoMemory w = HasHead w × IsGoodLog w
+Refuses StoreDown w = HasHead w × IsGoodLog w
+
+-- the words are these recovered ones, and no entry counts
+pub record IsRecovered (recovered new : List ℕ) : Type 0 where
+  pub plain : plain_of new ≡ recovered
+  pub recovered : recovered_of new ≡ recovered
+  pub closed : count_of new ≡ 0
+
+-- what a refusal leaves of the words
+abbrev pub Stands : PowerFault → List ℕ → List ℕ → Type 0
+Stands BadMagic old new = new ≡ old
+Stands BadVersion old new = new ≡ old
+Stands BadSize old new = new ≡ old
+Stands BadLog old new = new ≡ old
+Stands BadTable old new = IsRecovered (recovered_of old) new
+Stands BadPackage old new = IsRecovered (recovered_of old) new
+Stands NoMemory old new = IsRecovered (recovered_of old) new
+Stands StoreDown old new = StillRecovers old new

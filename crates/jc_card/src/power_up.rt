@@ -1,0 +1,126 @@
+//! Powering a card up over the words of its image.
+ghost use Rattle.std.specs.Prelude.{ℕ, List, ◌≡◌, ◌⊎◌, ◌≤◌, length, IfOk, IfErr, OnOk, false, true, MatchResult};
+ghost use Rattle.jc_commit.specs.State.{opened};
+ghost use Rattle.jc_heap.specs.Heap.{heap_view};
+ghost use Rattle.jc_transient.specs.State.{IsBlank};
+ghost use Rattle.jc_platform.specs.Tokens.{Tokens};
+ghost use Rattle.jc_card.specs.Made.{IsMade};
+ghost use Rattle.jc_card.specs.PowerUp.{Refuses, Fails, Stands, HasTable, HasHeap, IsRecovered, fault_of};
+
+use crate::card::Card;
+use crate::fixed::fixed_headers;
+use jc_commit::OpenRefusal;
+use jc_heap::OpenImage;
+use jc_platform::read::{LARGEST_TEXT, read_table};
+use jc_platform::table::Table;
+use jc_transient::Ram;
+use jc_words::{ImageFault, WordStore, check_image};
+use std::alloc::{AllocError, Global};
+use thiserror::Error;
+
+/// Why a card doesn't power up, in the order in which it is asked.
+#[derive(Clone, Copy, Debug, PartialEq, Eq, Error)]
+pub enum PowerFault {
+    #[error("the image does not begin with its magic word")]
+    BadMagic,
+    #[error("the image has a version that is not known")]
+    BadVersion,
+    #[error("the image does not tell its own size, or it is too small")]
+    BadSize,
+    /// The journal has more entries than it can have, or one names no word that a change may touch.
+    #[error("the journal is damaged")]
+    BadLog,
+    /// The platform table is not there, or its text is none.
+    #[error("the platform table is damaged")]
+    BadTable,
+    /// The words of the heap don't agree with one another, or the heap doesn't begin with the objects
+    /// of the runtime environment.
+    #[error("the heap is damaged")]
+    BadPackage,
+    #[error("there is no memory")]
+    NoMemory,
+    #[error("the store is down")]
+    StoreDown,
+}
+
+impl From<ImageFault> for PowerFault {
+    ghost from_gives = { λ f e. e ≡ fault_of f };
+
+    fn from(fault: ImageFault) -> Self {
+        match fault {
+            ImageFault::BadMagic => PowerFault::BadMagic,
+            ImageFault::BadVersion => PowerFault::BadVersion,
+            ImageFault::BadSize => PowerFault::BadSize,
+        }
+    }
+}
+
+impl<S: WordStore> Card<S> {
+    /// The card of a store, after a reset: first takes back what a loss of power left open, then
+    /// asks for memory. Where it refuses, it gives the store back.
+    pub fn power_up(alloc: Global, store: S) -> Result<Card<S>, (PowerFault, S)>
+        ensures made { OnOk result (IsMade (S.words store)) }
+        ensures heap { IfOk result (λ card. card.heap ≡ heap_view (opened (S.words store) (S.passed store) (S.refused store)) (length (S.words store))) }
+        ensures blank { IfOk result (λ card. IsBlank card.ram) }
+        ensures cause { IfErr result (λ e. Refuses e.0 (S.words store)) }
+        ensures stands { IfErr result (λ e. Stands e.0 (S.words store) (S.words e.1)) }
+        ensures down { IfErr result (λ e. e.0 ≡ PowerFault.StoreDown → S.down e.1 ≡ true) }
+    {
+        if let Err(fault) = check_image(&store) {
+            return Err((PowerFault::from(fault), store));
+        }
+        match OpenImage::open(store) {
+            Ok(image) => start(alloc, image),
+            Err((OpenRefusal::BadLog, store)) => Err((PowerFault::BadLog, store)),
+            Err((OpenRefusal::StoreDown, store)) => Err((PowerFault::StoreDown, store)),
+        }
+    }
+}
+
+// The card of a recovered image.
+fn start<S: WordStore>(alloc: Global, image: OpenImage<S>) -> Result<Card<S>, (PowerFault, S)>
+    requires { image.down ≡ false }
+    ensures ok { OnOk result ((t : Tokens) × HasTable image.plain t × HasHeap t image.plain) }
+    ensures heap { IfOk result (λ card. card.heap ≡ heap_view image (length image.plain)) }
+    ensures blank { IfOk result (λ card. IsBlank card.ram) }
+    ensures cause { IfErr result (λ e. Fails e.0 image.plain) }
+    ensures stands { IfErr result (λ e. IsRecovered image.plain (S.words e.1)) }
+{
+    let table = match platform_of(alloc, &image) {
+        Ok(table) => table,
+        Err(fault) => return Err((fault, image.into_store())),
+    };
+    let Ok(ram) = Ram::new(alloc) else {
+        return Err((PowerFault::NoMemory, image.into_store()));
+    };
+    match image.check(&fixed_headers(&table)) {
+        Ok(heap) => Ok(Card { heap, ram }),
+        Err(store) => Err((PowerFault::BadPackage, store)),
+    }
+}
+
+// The platform that the table text of an image tells.
+fn platform_of<S: WordStore>(alloc: Global, image: &OpenImage<S>) -> Result<Table, PowerFault>
+    ensures { MatchResult result (λ t. HasTable image.now.plain t) (λ fault. Fails fault image.now.plain) }
+{
+    let long = usize::from(image.text_length());
+    if long > LARGEST_TEXT || !image.has_text() {
+        return Err(PowerFault::BadTable);
+    }
+    let Ok(mut text) = zeros(alloc, long) else {
+        return Err(PowerFault::NoMemory);
+    };
+    image.read_text(text.as_mut_slice());
+    match read_table(text.as_slice()) {
+        Ok(table) => Ok(table),
+        Err(_) => Err(PowerFault::BadTable),
+    }
+}
+
+// So many zero bytes.
+fn zeros(alloc: Global, count: usize) -> Result<Vec<u8>, AllocError>
+    ensures { IfOk result (λ bytes. length bytes.items ≡ count) }
+{
+    let bytes = vec![in alloc; 0u8; count]?;
+    Ok(bytes)
+}
