@@ -56,9 +56,9 @@ Refuses NoMemory w = HasHead w × IsGoodLog w
 Refuses StoreDown w = HasHead w × IsGoodLog w
 
 -- the words are these recovered ones, and no entry counts
-pub record IsRecovered (recovered new : List ℕ) : Type 0 where
-  pub plain : plain_of new ≡ recovered
-  pub recovered : recovered_of new ≡ recovered
+pub record IsRecovered (to new : List ℕ) : Type 0 where
+  pub plain : plain_of new ≡ to
+  pub recovered : recovered_of new ≡ to
   pub closed : count_of new ≡ 0
 
 -- what a refusal leaves of the words

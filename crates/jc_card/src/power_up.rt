@@ -1,5 +1,6 @@
 //! Powering a card up over the words of its image.
 ghost use Rattle.std.specs.Prelude.{ℕ, List, ◌≡◌, ◌⊎◌, ◌≤◌, length, IfOk, IfErr, OnOk, false, true, MatchResult};
+ghost use Rattle.jc_words.specs.Count.{raised};
 ghost use Rattle.jc_commit.specs.State.{opened};
 ghost use Rattle.jc_heap.specs.Heap.{heap_view};
 ghost use Rattle.jc_transient.specs.State.{IsBlank};
@@ -64,7 +65,11 @@ impl<S: WordStore> Card<S> {
         ensures blank { IfOk result (λ card. IsBlank card.ram) }
         ensures cause { IfErr result (λ e. Refuses e.0 (S.words store)) }
         ensures stands { IfErr result (λ e. Stands e.0 (S.words store) (S.words e.1)) }
+        ensures of_made { IsMade (S.words store) → IfErr result (λ e. (e.0 ≡ PowerFault.NoMemory) ⊎ (e.0 ≡ PowerFault.StoreDown)) }
+        ensures was_up { OnOk result (S.down store ≡ false) }
         ensures down { IfErr result (λ e. e.0 ≡ PowerFault.StoreDown → S.down e.1 ≡ true) }
+        ensures was_down { IfErr result (λ e. S.down store ≡ true → e.1 ≡ store) }
+        ensures refused { IfErr result (λ e. e.0 ≡ PowerFault.StoreDown → S.down store ≡ false → S.refused e.1 ≡ raised (S.refused store) 1) }
     {
         if let Err(fault) = check_image(&store) {
             return Err((PowerFault::from(fault), store));
@@ -111,10 +116,10 @@ fn platform_of<S: WordStore>(alloc: Global, image: &OpenImage<S>) -> Result<Tabl
         return Err(PowerFault::NoMemory);
     };
     image.read_text(text.as_mut_slice());
-    match read_table(text.as_slice()) {
-        Ok(table) => Ok(table),
-        Err(_) => Err(PowerFault::BadTable),
-    }
+    let Ok(table) = read_table(text.as_slice()) else {
+        return Err(PowerFault::BadTable);
+    };
+    Ok(table)
 }
 
 // So many zero bytes.

@@ -84,7 +84,10 @@ impl<S: WordStore> OpenImage<S> {
         ensures ok { IfOk result (λ o. o ≡ opened (S.words store) (S.passed store) (S.refused store)) }
         ensures good { OnOk result (IsGoodLog (S.words store)) }
         ensures bad_log { IfErr result (λ e. e.0 ≡ OpenRefusal.BadLog → (IsGoodLog (S.words store) → ⊥) × (e.1 ≡ store)) }
-        ensures stopped { IfErr result (λ e. e.0 ≡ OpenRefusal.StoreDown → StillRecovers (S.words store) (S.words e.1) × (S.down e.1 ≡ true)) }
+        ensures stopped { IfErr result (λ e. e.0 ≡ OpenRefusal.StoreDown → IsGoodLog (S.words store) × StillRecovers (S.words store) (S.words e.1) × (S.down e.1 ≡ true)) }
+        ensures was_up { OnOk result (S.down store ≡ false) }
+        ensures was_down { IfErr result (λ e. S.down store ≡ true → e.1 ≡ store) }
+        ensures refused { IfErr result (λ e. e.0 ≡ OpenRefusal.StoreDown → S.down store ≡ false → S.refused e.1 ≡ raised (S.refused store) 1) }
     {
         let size = store.size();
         match Journal::open(store) {

@@ -3,4 +3,4 @@ use Rattle.std.proofs.Common.{length}
 use Rattle.jc_card.proofs.fixed.+add_headers.Given as goal
 
 abbrev pub decreases-add_headers : goal.decreases-add_headers
-decreases-add_headers g l = length l.objects.now
+decreases-add_headers l = length l.objects.now

@@ -1,0 +1,126 @@
+-- What power up finds.
+use Rattle.std.proofs.Common.{◌≡◌, ℕ, ◌+◌, ◌/◌, ◌≤◌, ◌<◌, ◌⊎◌, inl, inr, List, [], ◌∷◌, take, length, get_or, lit<, refl, sym, ◌∙◌, ap, subst, arith, Ok, Err}
+use Rattle.std.specs.Prelude.{Result, IsOk, IfErr, OnOk, Some, None}
+use Rattle.std.proofs.lemmas.List.{get_or-take}
+use Rattle.jc_words.specs.Image.{magic, version, least_size, HasSize}
+use Rattle.jc_words.specs.declared.image.ImageFault.{ImageFault}
+use Rattle.jc_commit.specs.Image.{IsGoodLog, recovered_of}
+use Rattle.jc_heap.specs.Image.{IsLaid, base, image, table_text}
+use Rattle.jc_heap.specs.Heap.{heap_of}
+use Rattle.jc_heap.specs.Beginning.{BeginsWith}
+use Rattle.jc_heap.proofs.RawWords.{recovered-front, head_is, text_is}
+use Rattle.jc_heap.proofs.Following.{base_is}
+use Rattle.jc_transient.specs.declared.cell.ClearEvent.TheVariants.{Reset}
+use Rattle.jc_heap.proofs.TextBytes.{length-table_text}
+use Rattle.jc_platform.specs.Tokens.{Tokens}
+use Rattle.jc_platform.specs.Table.{Reads}
+use Rattle.jc_platform.specs.Distinct.{class_word}
+use Rattle.jc_platform.specs.declared.names.PlatformClass.{PlatformClass}
+use Rattle.jc_platform.proofs.OneAnswer.{same_words}
+use Rattle.jc_card.specs.declared.fixed.FixedObject.{FixedObject}
+use Rattle.jc_card.specs.Fixed.{BeginsWithFixed, class_number_of, facts_of_fixed, fixed_facts, fixed_objects}
+use Rattle.jc_card.specs.Made.{IsMade}
+use Rattle.jc_card.specs.PowerUp.{HasHead, HasTable, HasHeap, Refuses, Fails, Stands, IsRecovered}
+use Rattle.jc_card.specs.declared.power_up.PowerFault.{PowerFault}
+use Rattle.jc_card.specs.declared.power_up.PowerFault.TheVariants.{BadMagic, BadVersion, BadSize, BadLog, BadTable, BadPackage, NoMemory, StoreDown}
+
+-- the first words were asked for
+pub head_found : (r : Result Unit ImageFault) (w : List ℕ) → ((f : ImageFault) → r ≡ Err f → ⊥) →
+    (IsOk r → (get_or w 0 0 ≡ magic) × (get_or w 1 0 ≡ version) × HasSize w) → HasHead w
+head_found (Ok u) w n f = let h : (get_or w 0 0 ≡ magic) × (get_or w 1 0 ≡ version) × HasSize w = f tt in record { magic = h.0; version = h.1; size = h.2 }
+head_found (Err e) w n f = absurd (n e refl)
+
+three : (w : List ℕ) → 3 ≤ length w → take 3 w ≡ get_or w 0 0 ∷ get_or w 1 0 ∷ get_or w 2 0 ∷ []
+three [] h = absurd (omega arith)
+three (a ∷ []) h = absurd (omega arith)
+three (a ∷ b ∷ []) h = absurd (omega arith)
+three (a ∷ b ∷ c ∷ ws) h = refl
+
+pub made_found : (w : List ℕ) → HasHead w → IsGoodLog w → (t : Tokens) → HasTable (recovered_of w) t → HasHeap t (recovered_of w) → IsMade w
+made_found w head log t table heap = record {
+  log = log;
+  laid = heap.0;
+  heap = record {
+    head = head_is (recovered_of w) heap.0 ∙ recovered-front w log ∙ three w (omega (arith, head.size.enough))
+    ∙ (λ i. head.magic i ∷ head.version i ∷ head.size.told i ∷ []);
+    enough = head.size.enough;
+    platform = (t, subst (λ l. Reads l (Ok t)) (sym (text_is (recovered_of w) heap.0)) table.1, heap.2);
+    whole = heap.1;
+  };
+}
+
+-- a table's text is not longer than a table may be
+pub too_long : (w : List ℕ) → 16384 < get_or w 10 0 → (t : Tokens) → HasTable w t → ⊥
+too_long w h t table = omega (arith, table.1.0, length-table_text w)
+
+same_class : (t u : Tokens) → ((c : PlatformClass) → class_word t c ≡ class_word u c) → (o : FixedObject) (place : ℕ) → facts_of_fixed t o place ≡ facts_of_fixed u o place
+same_class t u same (record { kind = k; class = None; cells = n }) place = refl
+same_class t u same (record { kind = k; class = Some c; cells = n }) place = λ i. record { kind = k; event = Some Reset; class = same c i; owner = 0; length = n; place = place }
+
+same_facts : (t u : Tokens) → ((c : PlatformClass) → class_word t c ≡ class_word u c) → (place : ℕ) (os : List FixedObject) → fixed_facts t place os ≡ fixed_facts u place os
+same_facts t u same place [] = refl
+same_facts t u same place (o ∷ os) = λ i. same_class t u same o place i ∷ same_facts t u same (place + o.cells) os i
+
+-- an image that the product made has a head and a table
+head_made : (w : List ℕ) → IsMade w → take 3 w ≡ magic ∷ version ∷ length w ∷ []
+head_made w made = sym (recovered-front w made.log) ∙ sym (head_is (recovered_of w) made.laid) ∙ made.heap.head
+
+pub has_head : (w : List ℕ) → IsMade w → HasHead w
+has_head w made =
+    let word : (k : ℕ) → k < 3 → get_or w k 0 ≡ get_or (magic ∷ version ∷ length w ∷ []) k 0 = λ k h. sym (get_or-take 3 w k 0 h) ∙ ap (λ l. get_or l k 0) (head_made w made) in
+    record { magic = word 0 (lit< tt); version = word 1 (lit< tt); size = record { told = word 2 (lit< tt); enough = made.heap.enough } }
+
+text_fits : (w : List ℕ) → IsLaid w → 752 + (get_or w 10 0 + 1) / 2 ≤ length w
+text_fits w laid =
+    let b : base (image w) ≡ 752 + (get_or w 10 0 + 1) / 2 = base_is w laid in
+    omega (arith, laid.based, laid.fits, b)
+
+has_table : (w : List ℕ) (t : Tokens) → IsLaid w → Reads (heap_of w).text (Ok t) → HasTable w t
+has_table w t laid reads = (text_fits w laid, subst (λ l. Reads l (Ok t)) (text_is w laid) reads)
+
+-- what the product made is refused for want of memory alone, or by the store
+pub refused_made : (w : List ℕ) (f : PowerFault) → IsMade w → Refuses f w → (f ≡ NoMemory) ⊎ (f ≡ StoreDown)
+refused_made w BadMagic made r = absurd (r (has_head w made).magic)
+refused_made w BadVersion made r = absurd (r.1 (has_head w made).version)
+refused_made w BadSize made r = absurd (r.2 (has_head w made).size)
+refused_made w BadLog made r = absurd (r.1 made.log)
+refused_made w BadTable made r = absurd (r.2 made.heap.platform.0 (has_table (recovered_of w) made.heap.platform.0 made.laid made.heap.platform.1))
+refused_made w BadPackage made r =
+    let words : (c : PlatformClass) → class_word made.heap.platform.0 c ≡ class_word r.2.0 c =
+    same_words (heap_of (recovered_of w)).text made.heap.platform.0 r.2.0 made.heap.platform.1 (subst (λ l. Reads l (Ok r.2.0)) (sym (text_is (recovered_of w) made.laid)) r.2.1.1) in
+    absurd (r.2.2 (made.laid, made.heap.whole, subst (BeginsWith (heap_of (recovered_of w))) (same_facts made.heap.platform.0 r.2.0 words 0 fixed_objects) made.heap.platform.2))
+refused_made w NoMemory made r = inl refl
+refused_made w StoreDown made r = inr refl
+
+pub refused_if : {A E : Type 0} (r : Result A E) (fault : E → PowerFault) (w : List ℕ) → IsMade w → IfErr r (λ e. Refuses (fault e) w) → IfErr r (λ e. (fault e ≡ NoMemory) ⊎ (fault e ≡ StoreDown))
+refused_if (Ok a) fault w made f = tt
+refused_if (Err e) fault w made f = refused_made w (fault e) made f
+
+-- the same for the parts of a recovered image
+pub refuses_from : (w : List ℕ) (f : PowerFault) → HasHead w → IsGoodLog w → Fails f (recovered_of w) → Refuses f w
+refuses_from w BadMagic head log r = absurd r
+refuses_from w BadVersion head log r = absurd r
+refuses_from w BadSize head log r = absurd r
+refuses_from w BadLog head log r = absurd r
+refuses_from w BadTable head log r = (head, log, r)
+refuses_from w BadPackage head log r = (head, log, r)
+refuses_from w NoMemory head log r = (head, log)
+refuses_from w StoreDown head log r = absurd r
+
+pub stands_from : (w new : List ℕ) (f : PowerFault) → Fails f (recovered_of w) → IsRecovered (recovered_of w) new → Stands f w new
+stands_from w new BadMagic r s = absurd r
+stands_from w new BadVersion r s = absurd r
+stands_from w new BadSize r s = absurd r
+stands_from w new BadLog r s = absurd r
+stands_from w new BadTable r s = s
+stands_from w new BadPackage r s = s
+stands_from w new NoMemory r s = s
+stands_from w new StoreDown r s = absurd r
+
+pub mapped_err : {A E : Type 0} (r : Result A E) (P Q : E → Type 0) → ((e : E) → P e → Q e) → IfErr r P → IfErr r Q
+mapped_err (Ok a) P Q f p = tt
+mapped_err (Err e) P Q f p = f e p
+
+pub mapped_on : {A E : Type 0} (r : Result A E) (P Q : Type 0) → (P → Q) → OnOk r P → OnOk r Q
+mapped_on (Ok a) P Q f p = f p
+mapped_on (Err e) P Q f p = tt
