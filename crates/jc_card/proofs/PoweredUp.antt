@@ -1,6 +1,7 @@
 -- What power up finds.
 use Rattle.std.proofs.Common.{◌≡◌, ℕ, ◌+◌, ◌/◌, ◌≤◌, ◌<◌, ◌⊎◌, inl, inr, List, [], ◌∷◌, take, length, get_or, lit<, refl, sym, ◌∙◌, ap, subst, arith, Ok, Err}
-use Rattle.std.specs.Prelude.{Result, IsOk, IfErr, OnOk, Some, None}
+use Rattle.std.specs.Prelude.{Result, IsOk, IfErr, OnOk, Option, Some, None}
+use Rattle.std.proofs.lemmas.Bool.{false≢true}
 use Rattle.std.proofs.lemmas.List.{get_or-take}
 use Rattle.jc_words.specs.Image.{magic, version, least_size, HasSize}
 use Rattle.jc_words.specs.declared.image.ImageFault.{ImageFault}
@@ -16,7 +17,7 @@ use Rattle.jc_platform.specs.Tokens.{Tokens}
 use Rattle.jc_platform.specs.Table.{Reads}
 use Rattle.jc_platform.specs.Distinct.{class_word}
 use Rattle.jc_platform.specs.declared.names.PlatformClass.{PlatformClass}
-use Rattle.jc_platform.proofs.OneAnswer.{same_words}
+use Rattle.jc_card.proofs.OneAnswer.{same_words}
 use Rattle.jc_card.specs.declared.fixed.FixedObject.{FixedObject}
 use Rattle.jc_card.specs.Fixed.{BeginsWithFixed, class_number_of, facts_of_fixed, fixed_facts, fixed_objects}
 use Rattle.jc_card.specs.Made.{IsMade}
@@ -27,7 +28,7 @@ use Rattle.jc_card.specs.declared.power_up.PowerFault.TheVariants.{BadMagic, Bad
 -- the first words were asked for
 pub head_found : (r : Result Unit ImageFault) (w : List ℕ) → ((f : ImageFault) → r ≡ Err f → ⊥) →
     (IsOk r → (get_or w 0 0 ≡ magic) × (get_or w 1 0 ≡ version) × HasSize w) → HasHead w
-head_found (Ok u) w n f = let h : (get_or w 0 0 ≡ magic) × (get_or w 1 0 ≡ version) × HasSize w = f tt in record { magic = h.0; version = h.1; size = h.2 }
+head_found (Ok u) w n f = let h : (get_or w 0 0 ≡ magic) × (get_or w 1 0 ≡ version) × HasSize w = f refl in record { magic = h.0; version = h.1; size = h.2 }
 head_found (Err e) w n f = absurd (n e refl)
 
 three : (w : List ℕ) → 3 ≤ length w → take 3 w ≡ get_or w 0 0 ∷ get_or w 1 0 ∷ get_or w 2 0 ∷ []
@@ -53,13 +54,13 @@ made_found w head log t table heap = record {
 pub too_long : (w : List ℕ) → 16384 < get_or w 10 0 → (t : Tokens) → HasTable w t → ⊥
 too_long w h t table = omega (arith, table.1.0, length-table_text w)
 
-same_class : (t u : Tokens) → ((c : PlatformClass) → class_word t c ≡ class_word u c) → (o : FixedObject) (place : ℕ) → facts_of_fixed t o place ≡ facts_of_fixed u o place
-same_class t u same (record { kind = k; class = None; cells = n }) place = refl
-same_class t u same (record { kind = k; class = Some c; cells = n }) place = λ i. record { kind = k; event = Some Reset; class = same c i; owner = 0; length = n; place = place }
+same_class : (t u : Tokens) → ((c : PlatformClass) → class_word t c ≡ class_word u c) → (class : Option PlatformClass) → class_number_of t class ≡ class_number_of u class
+same_class t u same None = refl
+same_class t u same (Some c) = same c
 
 same_facts : (t u : Tokens) → ((c : PlatformClass) → class_word t c ≡ class_word u c) → (place : ℕ) (os : List FixedObject) → fixed_facts t place os ≡ fixed_facts u place os
 same_facts t u same place [] = refl
-same_facts t u same place (o ∷ os) = λ i. same_class t u same o place i ∷ same_facts t u same (place + o.cells) os i
+same_facts t u same place (o ∷ os) = λ i. record { kind = o.kind; event = Some Reset; class = same_class t u same o.class i; owner = 0; length = o.cells; place = place } ∷ same_facts t u same (place + o.cells) os i
 
 -- an image that the product made has a head and a table
 head_made : (w : List ℕ) → IsMade w → take 3 w ≡ magic ∷ version ∷ length w ∷ []
@@ -124,3 +125,9 @@ mapped_err (Err e) P Q f p = f e p
 pub mapped_on : {A E : Type 0} (r : Result A E) (P Q : Type 0) → (P → Q) → OnOk r P → OnOk r Q
 mapped_on (Ok a) P Q f p = f p
 mapped_on (Err e) P Q f p = tt
+
+-- no fault of the first words where they are an image's
+pub no_image_fault : (r : Result Unit ImageFault) (f : ImageFault) (w : List ℕ) → r ≡ Err f → ((get_or w 0 0 ≡ magic) × (get_or w 1 0 ≡ version) × HasSize w → IsOk r) → IsMade w → ⊥
+no_image_fault r f w is ok made =
+    let h : HasHead w = has_head w made in
+    false≢true (subst IsOk is (ok (h.magic, h.version, h.size)))

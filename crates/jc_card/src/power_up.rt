@@ -1,8 +1,9 @@
 //! Powering a card up over the words of its image.
-ghost use Rattle.std.specs.Prelude.{ℕ, List, ◌≡◌, ◌⊎◌, ◌≤◌, length, IfOk, IfErr, OnOk, false, true, MatchResult};
+ghost use Rattle.std.specs.Prelude.{ℕ, List, ◌≡◌, ◌⊎◌, ◌+◌, ◌/◌, ◌≤◌, length, slice_index, IfOk, IfErr, OnOk, false, true, MatchResult};
 ghost use Rattle.jc_words.specs.Count.{raised};
 ghost use Rattle.jc_commit.specs.State.{opened};
 ghost use Rattle.jc_heap.specs.Heap.{heap_view};
+ghost use Rattle.jc_heap.specs.Image.{table_text};
 ghost use Rattle.jc_transient.specs.State.{IsBlank};
 ghost use Rattle.jc_platform.specs.Tokens.{Tokens};
 ghost use Rattle.jc_card.specs.Made.{IsMade};
@@ -109,17 +110,29 @@ fn platform_of<S: WordStore>(alloc: Global, image: &OpenImage<S>) -> Result<Tabl
     ensures { MatchResult result (λ t. HasTable image.now.plain t) (λ fault. Fails fault image.now.plain) }
 {
     let long = usize::from(image.text_length());
-    if long > LARGEST_TEXT || !image.has_text() {
+    if long > LARGEST_TEXT {
         return Err(PowerFault::BadTable);
     }
-    let Ok(mut text) = zeros(alloc, long) else {
+    if !image.has_text() {
+        return Err(PowerFault::BadTable);
+    }
+    let Ok(text) = text_of(alloc, image) else {
         return Err(PowerFault::NoMemory);
     };
-    image.read_text(text.as_mut_slice());
     let Ok(table) = read_table(text.as_slice()) else {
         return Err(PowerFault::BadTable);
     };
     Ok(table)
+}
+
+// The table text of an image that has its words.
+fn text_of<S: WordStore>(alloc: Global, image: &OpenImage<S>) -> Result<Vec<u8>, AllocError>
+    requires { 752 + (slice_index image.now.plain 10 + 1) / 2 ≤ length image.now.plain }
+    ensures { IfOk result (λ text. text.items ≡ table_text image.now.plain) }
+{
+    let mut text = zeros(alloc, usize::from(image.text_length()))?;
+    image.read_text(text.as_mut_slice());
+    Ok(text)
 }
 
 // So many zero bytes.
