@@ -15,6 +15,7 @@ pub mod Stepping
 pub mod Filling
 pub mod Wholes
 pub mod Marking
+pub mod PackageTable
 pub mod Runs
 pub mod AreaEnds
 pub mod MoveLaws

@@ -34,7 +34,7 @@ said-object_of (a ∷ b ∷ c ∷ []) h = absurd (omega arith)
 said-object_of (a ∷ b ∷ c ∷ d ∷ []) h = refl
 said-object_of (a ∷ b ∷ c ∷ d ∷ e ∷ rest) h = refl
 
-cells-object_of : (rec : List ℕ) → length rec ≡ 4 + payload (get_or rec 0 0) (get_or rec 3 0) → length rec < 65536 → get_or rec 0 0 / 256 ≡ 0 → length ((object_of rec).cells) ≡ get_or rec 3 0
+pub cells-object_of : (rec : List ℕ) → length rec ≡ 4 + payload (get_or rec 0 0) (get_or rec 3 0) → length rec < 65536 → get_or rec 0 0 / 256 ≡ 0 → length ((object_of rec).cells) ≡ get_or rec 3 0
 cells-object_of [] h small e = absurd (omega arith)
 cells-object_of (a ∷ []) h small e = absurd (omega arith)
 cells-object_of (a ∷ b ∷ []) h small e = absurd (omega arith)

@@ -10,6 +10,8 @@ mod making;
 mod marks;
 mod object;
 mod opening;
+mod package_table;
+mod references;
 mod refusal;
 mod steps;
 mod walk;
