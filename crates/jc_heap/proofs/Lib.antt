@@ -16,6 +16,7 @@ pub mod Filling
 pub mod Wholes
 pub mod Marking
 pub mod PackageTable
+pub mod Referring
 pub mod Runs
 pub mod AreaEnds
 pub mod MoveLaws

@@ -68,7 +68,7 @@ module _ (ws : List ℕ) (r : ℕ) (laid : IsLaid ws) (there : IsObject (heap_of
   unfolding read_image item_at
   is_item = at_or-map (item (package_addresses (image ws))) [] (APackage []) (records (image ws)) r named
 
-  no_package : is_package (package_addresses (image ws)) r ≡ false
+  pub no_package : is_package (package_addresses (image ws)) r ≡ false
   no_package = elim (cases_Bool (is_package (package_addresses (image ws)) r)) [
     | inl e ↦ absurd (false≢true (ap (λ b. is_object (if b then APackage rec else AnObject (object_of rec))) (sym e) ∙ ap is_object (sym is_item) ∙ there))
     | inr e ↦ e

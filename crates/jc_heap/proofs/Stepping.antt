@@ -33,6 +33,13 @@ pub nothing_from : (ws : List ℕ) (at : ℕ) → get_or ws 5 0 ≤ at → items
 unfolding items_from
 nothing_from ws at h = ap (λ l. map (item_entry (package_addresses (image ws))) (cut (sizes (package_addresses (image ws))) 0 at l)) (drop_all at (image ws) (omega (arith, length-take (get_or ws 5 0) ws)))
 
+no_cells : (rec : List ℕ) → (get_or rec 0 0 / 256 ≡ 0 → ⊥) → length ((object_of rec).cells) ≡ 0
+no_cells [] n = refl
+no_cells (a ∷ []) n = refl
+no_cells (a ∷ b ∷ []) n = refl
+no_cells (a ∷ b ∷ c ∷ []) n = refl
+no_cells (a ∷ b ∷ c ∷ d ∷ rest) n = rw (ne_eqb (a / 256) 0 n) refl
+
 module _ (ws : List ℕ) (at : ℕ) (laid : IsLaid ws) (here : IsAt ws at) (below : at < get_or ws 5 0) where
   pub size_is : size_from ws at ≡ sizes (package_addresses (image ws)) at (drop at (image ws)) + 1
   unfolding size_from
@@ -120,6 +127,12 @@ module _ (ws : List ℕ) (at : ℕ) (laid : IsLaid ws) (here : IsAt ws at) (belo
         let zeroth : get_or rec 0 0 ≡ get_or ws at 0 = rec_word 0 (omega (arith, four)) ∙ ap (λ k. get_or ws k 0) (add-zero at) in
         ap facts_of object_here ∙ said-object_of rec (omega (arith, rec_long, four)) ∙ last_word
         ∙ (λ k. said (zeroth k) (rec_word 1 (omega (arith, four)) k) (rec_word 2 (omega (arith, four)) k) (rec_word 3 (omega (arith, four)) k) (get_or ws (at + 4) 0))
+
+    -- a transient object's record has no cells
+    pub transient_cells : (get_or ws at 0 / 256 ≡ 0 → ⊥) → length (cells_of (item_from ws at)) ≡ 0
+    transient_cells n =
+        let zeroth : get_or rec 0 0 ≡ get_or ws at 0 = rec_word 0 (omega (arith, four)) ∙ ap (λ k. get_or ws k 0) (add-zero at) in
+        ap (λ t. length (cells_of t)) object_here ∙ no_cells rec (λ e. n (ap (λ w. w / 256) (sym zeroth) ∙ e))
 
   -- a package's record
   pub package_here : is_package (package_addresses (image ws)) at ≡ true → item_from ws at ≡ APackage rec

@@ -10,7 +10,7 @@ use jc_commit::Journal;
 use jc_words::WordStore;
 
 // At each package's address something stands.
-pub(crate) fn are_met<S: WordStore>(journal: &Journal<S>, marks: &[bool; ALL]) -> bool
+fn are_met<S: WordStore>(journal: &Journal<S>, marks: &[bool; ALL]) -> bool
     requires laid { IsLaid journal.now.plain }
     requires small { length journal.now.plain < 65536 }
     requires few { (heap_of journal.now.plain).counts.0 ≤ 32 }
@@ -42,7 +42,7 @@ fn is_new<S: WordStore>(journal: &Journal<S>, k: u16) -> bool
 }
 
 // No package's address is repeated.
-pub(crate) fn are_distinct<S: WordStore>(journal: &Journal<S>) -> bool
+fn are_distinct<S: WordStore>(journal: &Journal<S>) -> bool
     requires laid { IsLaid journal.now.plain }
     requires few { (heap_of journal.now.plain).counts.0 ≤ 32 }
     ensures { IsTrue result ↔ AreDistinct (heap_of journal.now.plain).packages }
@@ -54,4 +54,15 @@ pub(crate) fn are_distinct<S: WordStore>(journal: &Journal<S>) -> bool
         }
     }
     true
+}
+
+// Each package has a record of its own.
+pub(crate) fn table_agrees<S: WordStore>(journal: &Journal<S>, marks: &[bool; ALL]) -> bool
+    requires laid { IsLaid journal.now.plain }
+    requires small { length journal.now.plain < 65536 }
+    requires few { (heap_of journal.now.plain).counts.0 ≤ 32 }
+    requires marks { (r : ℕ) → slice_index_or marks.now r false ≡ names (heap_of journal.now.plain) r }
+    ensures { IsTrue result ↔ (AreMet (heap_of journal.now.plain) (heap_of journal.now.plain).packages × AreDistinct (heap_of journal.now.plain).packages) }
+{
+    are_met(journal, marks) && are_distinct(journal)
 }
