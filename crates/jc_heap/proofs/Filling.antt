@@ -4,9 +4,9 @@ use Rattle.std.proofs.lemmas.Bool.{cases_eq, cases_Bool, eq-eqb, ne_eqb, falseâ‰
 use Rattle.jc_transient.specs.declared.cell.ClearEvent.{ClearEvent}
 use Rattle.jc_transient.specs.declared.cell.ClearEvent.TheVariants.{Reset, Deselect}
 use Rattle.jc_transient.specs.State.{area_size}
-use Rattle.jc_heap.specs.Object.{Item, AnObject, APackage, facts_of, is_header, event_of, event_number, object_of}
+use Rattle.jc_heap.specs.Object.{Item, APackage, facts_of, is_header, event_of, event_number}
 use Rattle.jc_heap.specs.Image.{image, package_addresses, is_package, IsLaid}
-use Rattle.jc_heap.specs.Heap.{HeapState, heap_of, area_end}
+use Rattle.jc_heap.specs.Heap.{HeapState, area_end}
 use Rattle.jc_heap.specs.Steps.{IsAt, size_from, item_from}
 use Rattle.jc_heap.specs.Whole.{lies_in, cells_in, all_cells_in, FitsAt, IsFilled}
 use Rattle.jc_heap.proofs.Stepping.{header_here, facts_here, package_here, place_within}

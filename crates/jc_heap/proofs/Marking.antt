@@ -1,11 +1,10 @@
 -- Marks at addresses.
-use Rattle.std.proofs.Common.{ℕ, zero, suc, ◌≡◌, ◌<◌, ◌||◌, ◌==◌, Bool, true, false, inl, inr, List, [], ◌∷◌, length, replicate, get_or, set, refl, sym, ◌∙◌, ap}
+use Rattle.std.proofs.Common.{ℕ, zero, suc, ◌≡◌, ◌<◌, ◌||◌, Bool, true, false, inl, inr, List, [], ◌∷◌, length, replicate, get_or, set, refl, sym, ◌∙◌, ap}
 use Rattle.std.proofs.lemmas.List.{get_or-set_same, get_or-set_other}
 use Rattle.std.proofs.lemmas.Bool.{cases_eq, eq-eqb, ne_eqb}
 use Rattle.jc_heap.specs.Object.{Item}
 use Rattle.jc_heap.specs.Table.{has}
 use Rattle.jc_heap.specs.Heap.{heap_of, names}
-use Rattle.jc_heap.specs.Steps.{items_from}
 
 pub none_marked : (n k : ℕ) → get_or (replicate n false) k false ≡ false
 none_marked zero k = refl

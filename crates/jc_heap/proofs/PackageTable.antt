@@ -2,7 +2,7 @@
 use Rattle.std.proofs.Common.{◌≡◌, ℕ, ◌+◌, ◌<◌, ◌≤◌, List, length, get_or, sym, subst, arith, min, inl, inr}
 use Rattle.std.proofs.lemmas.Bool.{cases_eq}
 use Rattle.jc_commit.specs.Image.{IsReadable}
-use Rattle.jc_heap.specs.Image.{image, base, IsLaid}
+use Rattle.jc_heap.specs.Image.{IsLaid}
 use Rattle.jc_heap.specs.Heap.{heap_of, read_image}
 use Rattle.jc_heap.proofs.Walks.{length-packages, package_read}
 use Rattle.jc_heap.proofs.Wholes.{counts_read}

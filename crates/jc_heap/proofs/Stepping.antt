@@ -1,10 +1,10 @@
 -- One step over the records of a heap's words.
-use Rattle.std.proofs.Common.{◌≡◌, ℕ, ◌+◌, ◌-◌, add-zero, ◌/◌, ◌<◌, ◌≤◌, Bool, true, false, inl, inr, List, [], ◌∷◌, length, get_or, set, take, drop, map, refl, sym, ◌∙◌, ap, arith, if◌then◌else◌, ◌==◌, lit≤}
-use Rattle.std.proofs.lemmas.List.{length-drop, length-take, length-take-le, get_or-take, get_or-drop, drop_all}
+use Rattle.std.proofs.Common.{◌≡◌, ℕ, ◌+◌, ◌-◌, add-zero, ◌/◌, ◌<◌, ◌≤◌, true, false, inl, inr, List, [], ◌∷◌, length, get_or, set, take, drop, map, refl, sym, ◌∙◌, ap, arith, if◌then◌else◌, ◌==◌}
+use Rattle.std.proofs.lemmas.List.{length-drop, length-take, length-take-le, get_or-take, drop_all}
 use Rattle.std.proofs.lemmas.Bool.{cases_Bool, cases_eq, eq-eqb, ne_eqb}
 use Rattle.jc_heap.specs.Cut.{cut, lacking}
-use Rattle.jc_heap.specs.Object.{Item, AnObject, APackage, object_of, facts_of, cells_of, is_header, payload}
-use Rattle.jc_heap.specs.Image.{image, base, package_addresses, is_package, sizes, item, item_entry, missing, IsLaid}
+use Rattle.jc_heap.specs.Object.{AnObject, APackage, object_of, facts_of, cells_of, is_header, payload}
+use Rattle.jc_heap.specs.Image.{image, base, package_addresses, is_package, sizes, item_entry, IsLaid}
 use Rattle.jc_heap.specs.Heap.{heap_of, read_image}
 use Rattle.jc_heap.specs.Steps.{IsAt, items_from, size_from, item_from}
 use Rattle.jc_heap.proofs.Walks.{word_from, word_at}

@@ -1,4 +1,4 @@
-use Rattle.std.proofs.Common.{arith, ◌+◌, ◌≡◌, ◌∙◌, [], ◌∷◌, sym, subst, refl, get_or, ◌<◌, ◌≤◌}
+use Rattle.std.proofs.Common.{arith, ◌+◌, ◌≡◌, ◌∙◌, [], ◌∷◌, sym, subst, refl, get_or, ◌<◌}
 use Rattle.std.proofs.lemmas.Bool.{false≢true}
 use Rattle.jc_heap.specs.Heap.{heap_of}
 use Rattle.jc_heap.specs.Steps.{items_from, item_from, size_from}
