@@ -16,7 +16,7 @@ abbrev pub Run : ClearEvent → ℕ → List (ℕ × Item) → ℕ → Type 0
 Run event place [] end = (end ≡ place) × (place ≤ area_size)
 Run event place (e ∷ es) end = FitsAt event place e.1 × Run event (place + cells_in event e.1) es end
 
-run_end : (event : ClearEvent) (place : ℕ) (es : List (ℕ × Item)) (end : ℕ) → Run event place es end → (end ≡ place + all_cells_in event es) × (end ≤ area_size)
+pub run_end : (event : ClearEvent) (place : ℕ) (es : List (ℕ × Item)) (end : ℕ) → Run event place es end → (end ≡ place + all_cells_in event es) × (end ≤ area_size)
 run_end event place [] end r = (omega (arith, r.0), omega (arith, r.0, r.1))
 run_end event place (e ∷ es) end r =
     let ih : (end ≡ place + cells_in event e.1 + all_cells_in event es) × (end ≤ area_size) = run_end event (place + cells_in event e.1) es end r.1 in

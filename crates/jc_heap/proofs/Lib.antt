@@ -17,6 +17,7 @@ pub mod Wholes
 pub mod Marking
 pub mod PackageTable
 pub mod Referring
+pub mod Keeping
 pub mod Runs
 pub mod AreaEnds
 pub mod MoveLaws

@@ -18,7 +18,7 @@ mod walk;
 mod whole;
 
 pub use heap::Heap;
-pub use law::transactions_keep_what_is_durable;
+pub use law::{changes_keep_a_heap_whole, transactions_keep_what_is_durable};
 pub use object::{Facts, Kind};
 pub use opening::OpenImage;
 pub use refusal::HeapRefusal;
