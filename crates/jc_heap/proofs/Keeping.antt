@@ -1,5 +1,5 @@
 -- What keeps a heap whole.
-use Rattle.std.proofs.Common.{◌≡◌, ℕ, ◌+◌, ◌<◌, ◌≤◌, ◌==◌, Bool, true, false, inl, inr, List, [], ◌∷◌, ◌++◌, length, get_or, set, replicate, refl, sym, ◌∙◌, ap, subst, arith, Some, None, if◌then◌else◌}
+use Rattle.std.proofs.Common.{◌≡◌, ℕ, suc, ◌+◌, ◌<◌, ◌≤◌, ◌==◌, Bool, true, false, inl, inr, List, [], ◌∷◌, ◌++◌, length, get_or, set, replicate, refl, sym, ◌∙◌, ap, subst, arith, Some, None, if◌then◌else◌}
 use Rattle.std.proofs.lemmas.List.{get_or-replicate, length-replicate, get_or-set_same, get_or-set_other}
 use Rattle.std.proofs.lemmas.Bool.{cases_eq, cases_lt, cases_Bool, eq-eqb, ne_eqb, false≢true}
 use Rattle.jc_transient.specs.declared.cell.ClearEvent.{ClearEvent}
@@ -9,10 +9,10 @@ use Rattle.jc_heap.specs.declared.object.Kind.{Kind}
 use Rattle.jc_heap.specs.declared.object.Kind.TheVariants.{ReferenceArray}
 use Rattle.jc_heap.specs.Table.{at_or, put}
 use Rattle.jc_heap.specs.Object.{Object, Item, AnObject, APackage, facts_of, cells_of, is_object, with_cell, bare, new_object, new_transient}
-use Rattle.jc_heap.specs.Heap.{HeapState, item_at, names, cells, facts, IsObject, area_end, with_area_end, set_cell, add_object, add_transient, LacksCells}
+use Rattle.jc_heap.specs.Heap.{HeapState, item_at, names, cells, facts, IsObject, area_end, with_area_end, set_cell, set_cells, add_object, add_transient, LacksCells}
 use Rattle.jc_heap.specs.Whole.{lies_in, cells_in, FitsAt, IsFilled, IsReference, HoldsReferences, AreMet, AreDistinct, IsWhole}
-use Rattle.jc_heap.specs.Keeping.{NothingAbove, KeepsWhole}
-use Rattle.jc_heap.proofs.Laws.{item_at-add_object, item_at-add_other, names-add_other, names-set_cell, facts-set_cell, length-cells-set_cell, cells-set_cell, cells-set_other, bare-set_cell}
+use Rattle.jc_heap.specs.Keeping.{KeepsWhole}
+use Rattle.jc_heap.proofs.Laws.{item_at-add_object, item_at-add_other, names-add_other, names-set_cell, item_at-set_cell, cells-with_cell, set_cell-absent, facts-set_cell, length-cells-set_cell, cells-set_other, bare-set_cell}
 use Rattle.jc_heap.proofs.Filling.{Run, run_end, filled_of, run_of}
 use Rattle.jc_heap.proofs.Referring.{object_named}
 
@@ -103,10 +103,10 @@ persistent_out : (kind : Kind) (class owner long : ℕ) (event : ClearEvent) →
 persistent_out kind class owner long Reset = refl
 persistent_out kind class owner long Deselect = refl
 
-pub persistent_whole : (h : HeapState) (kind : Kind) (class owner long size : ℕ) → NothingAbove h → IsWhole h → IsWhole (add_object h (new_object kind class owner long) size)
+pub persistent_whole : (h : HeapState) (kind : Kind) (class owner long size : ℕ) → names h h.top ≡ false → IsWhole h → IsWhole (add_object h (new_object kind class owner long) size)
 persistent_whole h kind class owner long size none w =
     whole_of (add_object h (new_object kind class owner long) size)
-    (referring-add h (new_object kind class owner long) size (none h.top (omega arith)) (λ k i lt. inl (get_or-replicate long i 0 0 (omega (arith, lt, length-replicate {A = ℕ} long 0)))) (referring_of h w))
+    (referring-add h (new_object kind class owner long) size none (λ k i lt. inl (get_or-replicate long i 0 0 (omega (arith, lt, length-replicate {A = ℕ} long 0)))) (referring_of h w))
     (λ event. filled-add h (new_object kind class owner long) size event (persistent_out kind class owner long event) (w.areas event))
 
 -- a transient one
@@ -142,13 +142,13 @@ filled-transient h kind Deselect class owner long room f Reset =
 filled-transient h kind Deselect class owner long room f Deselect =
     filled_of (add_transient h kind Deselect class owner long) Deselect (run-own h Deselect (new_transient kind Deselect class owner long (h.area_ends.1)) refl refl room (f Deselect))
 
-pub transient_whole : (h : HeapState) (kind : Kind) (event : ClearEvent) (class owner long : ℕ) → NothingAbove h → (LacksCells h event long → ⊥) → IsWhole h → IsWhole (add_transient h kind event class owner long)
+pub transient_whole : (h : HeapState) (kind : Kind) (event : ClearEvent) (class owner long : ℕ) → names h h.top ≡ false → (LacksCells h event long → ⊥) → IsWhole h → IsWhole (add_transient h kind event class owner long)
 unfolding add_transient
 transient_whole h kind event class owner long none room w =
     let fits : area_end h event + long ≤ area_size = omega (arith, room) in
     whole_of (add_transient h kind event class owner long)
     (referring-end (add_object h (new_transient kind event class owner long (area_end h event)) 5) event (area_end h event + long)
-    (referring-add h (new_transient kind event class owner long (area_end h event)) 5 (none h.top (omega arith)) (λ k i lt. absurd (omega arith)) (referring_of h w)))
+    (referring-add h (new_transient kind event class owner long (area_end h event)) 5 none (λ k i lt. absurd (omega arith)) (referring_of h w)))
     (filled-transient h kind event class owner long fits w.areas)
 
 -- another value of a cell
@@ -190,41 +190,57 @@ unfolding set_cell item_at
 filled-set h r i v Reset f = filled_of (set_cell h r i v) Reset (run_put Reset 0 h.items (h.area_ends.0) r (with_cell (at_or (APackage []) h.items r) i v) (facts-with_cell (at_or (APackage []) h.items r) i v) (run_of h Reset f))
 filled-set h r i v Deselect f = filled_of (set_cell h r i v) Deselect (run_put Deselect 0 h.items (h.area_ends.1) r (with_cell (at_or (APackage []) h.items r) i v) (facts-with_cell (at_or (APackage []) h.items r) i v) (run_of h Deselect f))
 
-module _ (h : HeapState) (r i v : ℕ) (within : i < length (cells h r)) (right : (facts h r).kind ≡ ReferenceArray → IsReference h v) where
+module _ (h : HeapState) (r i v : ℕ) where
   reference-set : (q : ℕ) → IsReference h q → IsReference (set_cell h r i v) q
   reference-set q ref = elim ref [
     | inl z ↦ inl z
     | inr there ↦ inr (sym (object-bare (item_at (set_cell h r i v) q)) ∙ ap is_object (bare-set_cell h r i v q) ∙ object-bare (item_at h q) ∙ there)
   ]
 
-  references-set : ((q : ℕ) → HoldsReferences h (item_at h q)) → (q : ℕ) → HoldsReferences (set_cell h r i v) (item_at (set_cell h r i v) q)
-  references-set all q kind k lt =
-      let old_kind : (facts h q).kind ≡ ReferenceArray = ap (λ f. f.kind) (sym (facts-set_cell h r i v q)) ∙ kind in
-      let old_lt : k < length (cells h q) = omega (arith, lt, length-cells-set_cell h r i v q) in
-      elim (cases_eq r q) [
-        | inl e ↦ elim (cases_eq k i) [
-          | inl ki ↦
-              let is : get_or (cells (set_cell h r i v) q) k 0 ≡ v =
-              ap (λ a. get_or (cells (set_cell h r i v) a) k 0) (sym e) ∙ ap (λ l. get_or l k 0) (cells-set_cell h r i v within) ∙ ap (λ n. get_or (set (cells h r) i v) n 0) ki ∙ get_or-set_same (cells h r) i v 0 within in
-              subst (IsReference (set_cell h r i v)) (sym is) (reference-set v (right (ap (λ a. (facts h a).kind) e ∙ old_kind)))
-          | inr ne ↦
-              let is : get_or (cells (set_cell h r i v) q) k 0 ≡ get_or (cells h q) k 0 =
-              ap (λ a. get_or (cells (set_cell h r i v) a) k 0) (sym e) ∙ ap (λ l. get_or l k 0) (cells-set_cell h r i v within) ∙ get_or-set_other (cells h r) i k v 0 ne ∙ ap (λ a. get_or (cells h a) k 0) e in
-              subst (IsReference (set_cell h r i v)) (sym is) (reference-set (get_or (cells h q) k 0) (all q old_kind k old_lt))
+  module _ (right : (facts h r).kind ≡ ReferenceArray → IsReference h v) where
+    references-set : names h r ≡ true → ((q : ℕ) → HoldsReferences h (item_at h q)) → (q : ℕ) → HoldsReferences (set_cell h r i v) (item_at (set_cell h r i v) q)
+    references-set there all q kind k lt =
+        let old_kind : (facts h q).kind ≡ ReferenceArray = ap (λ f. f.kind) (sym (facts-set_cell h r i v q)) ∙ kind in
+        let old_lt : k < length (cells h q) = omega (arith, lt, length-cells-set_cell h r i v q) in
+        let cells_new : cells (set_cell h r i v) r ≡ set (cells h r) i v = ap cells_of (item_at-set_cell h r i v there) ∙ cells-with_cell (item_at h r) i v in
+        elim (cases_eq r q) [
+          | inl e ↦ elim (cases_eq k i) [
+            | inl ki ↦
+                let within : i < length (cells h r) = omega (arith, old_lt, ap (λ a. length (cells h a)) e) in
+                let is : get_or (cells (set_cell h r i v) q) k 0 ≡ v =
+                ap (λ a. get_or (cells (set_cell h r i v) a) k 0) (sym e) ∙ ap (λ l. get_or l k 0) cells_new ∙ ap (λ n. get_or (set (cells h r) i v) n 0) ki ∙ get_or-set_same (cells h r) i v 0 within in
+                subst (IsReference (set_cell h r i v)) (sym is) (reference-set v (right (ap (λ a. (facts h a).kind) e ∙ old_kind)))
+            | inr ne ↦
+                let is : get_or (cells (set_cell h r i v) q) k 0 ≡ get_or (cells h q) k 0 =
+                ap (λ a. get_or (cells (set_cell h r i v) a) k 0) (sym e) ∙ ap (λ l. get_or l k 0) cells_new ∙ get_or-set_other (cells h r) i k v 0 ne ∙ ap (λ a. get_or (cells h a) k 0) e in
+                subst (IsReference (set_cell h r i v)) (sym is) (reference-set (get_or (cells h q) k 0) (all q old_kind k old_lt))
+          ]
+          | inr ne ↦ subst (IsReference (set_cell h r i v)) (sym (ap (λ l. get_or l k 0) (cells-set_other h r i v q ne))) (reference-set (get_or (cells h q) k 0) (all q old_kind k old_lt))
         ]
-        | inr ne ↦ subst (IsReference (set_cell h r i v)) (sym (ap (λ l. get_or l k 0) (cells-set_other h r i v q ne))) (reference-set (get_or (cells h q) k 0) (all q old_kind k old_lt))
-      ]
 
-  pub cell_whole : IsWhole h → IsWhole (set_cell h r i v)
-  unfolding set_cell
-  cell_whole w = record {
-    few_packages = w.few_packages;
-    few_applets = w.few_applets;
-    met = λ k lt. names-set_cell h r i v (get_or h.packages k 0) ∙ w.met k lt;
-    distinct = w.distinct;
-    references = references-set w.references;
-    areas = λ event. filled-set h r i v event (w.areas event);
-  }
+    named_whole : names h r ≡ true → IsWhole h → IsWhole (set_cell h r i v)
+    unfolding set_cell
+    named_whole there w = record {
+      few_packages = w.few_packages;
+      few_applets = w.few_applets;
+      met = λ k lt. names-set_cell h r i v (get_or h.packages k 0) ∙ w.met k lt;
+      distinct = w.distinct;
+      references = references-set there w.references;
+      areas = λ event. filled-set h r i v event (w.areas event);
+    }
+
+    pub cell_whole : IsWhole h → IsWhole (set_cell h r i v)
+    cell_whole w = elim (cases_Bool (names h r)) [
+      | inl there ↦ named_whole there w
+      | inr none ↦ subst IsWhole (sym (set_cell-absent h r i v none)) w
+    ]
+
+pub run_whole : (h : HeapState) (r i : ℕ) (vs : List ℕ) → ((facts h r).kind ≡ ReferenceArray → (k : ℕ) → k < length vs → IsReference h (get_or vs k 0)) → IsWhole h → IsWhole (set_cells h r i vs)
+run_whole h r i [] right w = w
+run_whole h r i (v ∷ vs) right w =
+    run_whole (set_cell h r i v) r (suc i) vs
+    (λ kind k lt. reference-set h r i v (get_or vs k 0) (right (ap (λ f. f.kind) (sym (facts-set_cell h r i v r)) ∙ kind) (suc k) (omega arith)))
+    (cell_whole h r i v (λ kind. right kind 0 (omega arith)) w)
 
 pub keeps_whole : KeepsWhole
-keeps_whole = record { empty = empty_whole; persistent = persistent_whole; transient = transient_whole; cell = cell_whole }
+keeps_whole = record { empty = empty_whole; persistent = persistent_whole; transient = transient_whole; cell = cell_whole; run = run_whole }
