@@ -4,9 +4,9 @@ use Rattle.std.proofs.lemmas.Bool.{cases_eq, cases_Bool, eq-eqb, ne_eqb, false�
 use Rattle.jc_transient.specs.declared.cell.ClearEvent.{ClearEvent}
 use Rattle.jc_transient.specs.declared.cell.ClearEvent.TheVariants.{Reset, Deselect}
 use Rattle.jc_transient.specs.State.{area_size}
-use Rattle.jc_heap.specs.Object.{Item, AnObject, APackage, facts_of, is_header, event_of, event_number, object_of}
+use Rattle.jc_heap.specs.Object.{Item, APackage, facts_of, is_header, event_of, event_number}
 use Rattle.jc_heap.specs.Image.{image, package_addresses, is_package, IsLaid}
-use Rattle.jc_heap.specs.Heap.{HeapState, heap_of, area_end}
+use Rattle.jc_heap.specs.Heap.{HeapState, area_end}
 use Rattle.jc_heap.specs.Steps.{IsAt, size_from, item_from}
 use Rattle.jc_heap.specs.Whole.{lies_in, cells_in, all_cells_in, FitsAt, IsFilled}
 use Rattle.jc_heap.proofs.Stepping.{header_here, facts_here, package_here, place_within}
@@ -16,7 +16,7 @@ abbrev pub Run : ClearEvent → ℕ → List (ℕ × Item) → ℕ → Type 0
 Run event place [] end = (end ≡ place) × (place ≤ area_size)
 Run event place (e ∷ es) end = FitsAt event place e.1 × Run event (place + cells_in event e.1) es end
 
-run_end : (event : ClearEvent) (place : ℕ) (es : List (ℕ × Item)) (end : ℕ) → Run event place es end → (end ≡ place + all_cells_in event es) × (end ≤ area_size)
+pub run_end : (event : ClearEvent) (place : ℕ) (es : List (ℕ × Item)) (end : ℕ) → Run event place es end → (end ≡ place + all_cells_in event es) × (end ≤ area_size)
 run_end event place [] end r = (omega (arith, r.0), omega (arith, r.0, r.1))
 run_end event place (e ∷ es) end r =
     let ih : (end ≡ place + cells_in event e.1 + all_cells_in event es) × (end ≤ area_size) = run_end event (place + cells_in event e.1) es end r.1 in

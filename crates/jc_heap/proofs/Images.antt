@@ -23,7 +23,7 @@ sizes_tell ps = record {
 }
 
 -- a cell's word, in its record
-object_cell : (rec : List ℕ) (i v : ℕ) → i < length ((object_of rec).cells) →
+pub object_cell : (rec : List ℕ) (i v : ℕ) → i < length ((object_of rec).cells) →
     (4 + i < length rec) × (get_or ((object_of rec).cells) i 0 ≡ get_or rec (4 + i) 0) × (object_of (set rec (4 + i) v) ≡ record (object_of rec) { cells = set ((object_of rec).cells) i v })
 object_cell [] i v h = absurd (omega arith)
 object_cell (a ∷ []) i v h = absurd (omega arith)

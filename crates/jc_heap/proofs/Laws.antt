@@ -69,7 +69,7 @@ bare-set_cell h r i v q = elim (cases_eq r q) [
   | inr n ↦ ap bare (item_at-set_other h r i v q n)
 ]
 
-cells-with_cell : (t : Item) (i v : ℕ) → cells_of (with_cell t i v) ≡ set (cells_of t) i v
+pub cells-with_cell : (t : Item) (i v : ℕ) → cells_of (with_cell t i v) ≡ set (cells_of t) i v
 cells-with_cell (AnObject o) i v = refl
 cells-with_cell (APackage ws) i v = refl
 

@@ -16,6 +16,9 @@ pub mod Stepping
 pub mod Filling
 pub mod Wholes
 pub mod Marking
+pub mod PackageTable
+pub mod Referring
+pub mod Keeping
 pub mod Runs
 pub mod AreaEnds
 pub mod MoveLaws

@@ -34,7 +34,7 @@ said-object_of (a ∷ b ∷ c ∷ []) h = absurd (omega arith)
 said-object_of (a ∷ b ∷ c ∷ d ∷ []) h = refl
 said-object_of (a ∷ b ∷ c ∷ d ∷ e ∷ rest) h = refl
 
-cells-object_of : (rec : List ℕ) → length rec ≡ 4 + payload (get_or rec 0 0) (get_or rec 3 0) → length rec < 65536 → get_or rec 0 0 / 256 ≡ 0 → length ((object_of rec).cells) ≡ get_or rec 3 0
+pub cells-object_of : (rec : List ℕ) → length rec ≡ 4 + payload (get_or rec 0 0) (get_or rec 3 0) → length rec < 65536 → get_or rec 0 0 / 256 ≡ 0 → length ((object_of rec).cells) ≡ get_or rec 3 0
 cells-object_of [] h small e = absurd (omega arith)
 cells-object_of (a ∷ []) h small e = absurd (omega arith)
 cells-object_of (a ∷ b ∷ []) h small e = absurd (omega arith)
@@ -68,7 +68,7 @@ module _ (ws : List ℕ) (r : ℕ) (laid : IsLaid ws) (there : IsObject (heap_of
   unfolding read_image item_at
   is_item = at_or-map (item (package_addresses (image ws))) [] (APackage []) (records (image ws)) r named
 
-  no_package : is_package (package_addresses (image ws)) r ≡ false
+  pub no_package : is_package (package_addresses (image ws)) r ≡ false
   no_package = elim (cases_Bool (is_package (package_addresses (image ws)) r)) [
     | inl e ↦ absurd (false≢true (ap (λ b. is_object (if b then APackage rec else AnObject (object_of rec))) (sym e) ∙ ap is_object (sym is_item) ∙ there))
     | inr e ↦ e

@@ -5,6 +5,7 @@ pub mod Image
 pub mod Steps
 pub mod Heap
 pub mod Whole
+pub mod Keeping
 pub mod Fresh
 pub mod Refusals
 pub mod Moves

@@ -1,9 +1,10 @@
 -- Whether a heap is whole: what its words say of one another holds.
-use Rattle.std.specs.Prelude.{ℕ, ◌+◌, ◌≡◌, ◌≤◌, ◌==◌, Bool, true, List, [], ◌∷◌, ◌++◌, if◌then◌else◌, Some}
+use Rattle.std.specs.Prelude.{ℕ, ◌+◌, ◌≡◌, ◌≤◌, ◌<◌, ◌==◌, ◌⊎◌, Bool, true, List, [], ◌∷◌, ◌++◌, length, slice_index, if◌then◌else◌, Some}
 use Rattle.jc_transient.specs.declared.cell.ClearEvent.{ClearEvent}
 use Rattle.jc_transient.specs.State.{area_size}
-use Rattle.jc_heap.specs.Object.{Item, facts_of, event_number}
-use Rattle.jc_heap.specs.Heap.{HeapState, area_end}
+use Rattle.jc_heap.specs.declared.object.Kind.TheVariants.{ReferenceArray}
+use Rattle.jc_heap.specs.Object.{Item, facts_of, cells_of, event_number}
+use Rattle.jc_heap.specs.Heap.{HeapState, area_end, item_at, names, IsObject}
 
 -- the item is an object whose cells lie in the area of this event
 abbrev pub lies_in : ClearEvent → Item → Bool
@@ -30,8 +31,28 @@ pub record IsFilled (h : HeapState) (event : ClearEvent) : Type 0 where
   pub end : area_end h event ≡ all_cells_in event h.items
   pub fits : area_end h event ≤ area_size
 
--- what a heap's words say of one another
+-- null or an object
+abbrev pub IsReference : HeapState → ℕ → Type 0
+IsReference h v = (v ≡ 0) ⊎ IsObject h v
+
+-- the cells of a persistent array of references are references
+abbrev pub HoldsReferences : HeapState → Item → Type 0
+HoldsReferences h t = (facts_of t).kind ≡ ReferenceArray → (i : ℕ) → i < length (cells_of t) → IsReference h (slice_index (cells_of t) i)
+
+-- at each of these addresses something stands
+abbrev pub AreMet : HeapState → List ℕ → Type 0
+AreMet h addresses = (k : ℕ) → k < length addresses → names h (slice_index addresses k) ≡ true
+
+-- none of these addresses is repeated
+abbrev pub AreDistinct : List ℕ → Type 0
+AreDistinct addresses = (j k : ℕ) → j < k → k < length addresses → slice_index addresses j ≡ slice_index addresses k → ⊥
+
+-- what a heap's words say of one another: there are places for the packages and the applets, the packages'
+-- addresses are those of their records, references are references, and the transient objects have their cells
 pub record IsWhole (h : HeapState) : Type 0 where
-  pub packages : h.counts.0 ≤ 32
-  pub applets : h.counts.1 ≤ 64
+  pub few_packages : h.counts.0 ≤ 32
+  pub few_applets : h.counts.1 ≤ 64
+  pub met : AreMet h h.packages
+  pub distinct : AreDistinct h.packages
+  pub references : (r : ℕ) → HoldsReferences h (item_at h r)
   pub areas : (event : ClearEvent) → IsFilled h event

@@ -1,4 +1,5 @@
-//! The first law of atomicity.
+//! Laws of the definitions: the first law of atomicity, and what keeps a heap whole.
+ghost use Rattle.jc_heap.specs.Keeping.{KeepsWhole};
 ghost use Rattle.jc_heap.specs.Moves.{KeepsDurable};
 
 /// A law of the definitions, for every heap and every list of moves: while a transaction is open,
@@ -6,4 +7,10 @@ ghost use Rattle.jc_heap.specs.Moves.{KeepsDurable};
 /// set for good and that no earlier change of it had touched.
 pub fn transactions_keep_what_is_durable()
     ensures { KeepsDurable }
+{}
+
+/// A law of the definitions, for every heap: one in which nothing stands is whole, and a whole one
+/// stays whole when it gets another object or another value of a cell.
+pub fn changes_keep_a_heap_whole()
+    ensures { KeepsWhole }
 {}

@@ -12,13 +12,15 @@ mod making;
 mod marks;
 mod object;
 mod opening;
+mod package_table;
+mod references;
 mod refusal;
 mod steps;
 mod walk;
 mod whole;
 
 pub use heap::Heap;
-pub use law::transactions_keep_what_is_durable;
+pub use law::{changes_keep_a_heap_whole, transactions_keep_what_is_durable};
 pub use laying::first_free;
 pub use object::{Facts, Kind};
 pub use opening::OpenImage;

@@ -7,6 +7,9 @@ ghost use Rattle.jc_heap.specs.Whole.{IsFilled, IsWhole};
 
 use crate::areas::is_filled;
 use crate::layout::{APPLETS, MOST_APPLETS, MOST_PACKAGES, PACKAGES};
+use crate::marks::marks_of;
+use crate::package_table::table_agrees;
+use crate::references::all_hold;
 use jc_commit::Journal;
 use jc_transient::ClearEvent;
 use jc_words::WordStore;
@@ -39,5 +42,9 @@ pub(crate) fn words_agree<S: WordStore>(journal: &Journal<S>) -> bool
     if !are_few(journal) {
         return false;
     }
-    are_filled(journal)
+    let marks = marks_of(journal);
+    if !table_agrees(journal, &marks) {
+        return false;
+    }
+    all_hold(journal, &marks) && are_filled(journal)
 }

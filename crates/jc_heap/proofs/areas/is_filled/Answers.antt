@@ -1,6 +1,6 @@
-use Rattle.std.proofs.Common.{arith, ◌≡◌, ◌<◌, ◌≤◌, ◌+◌, ◌∙◌, [], ◌∷◌, ap, sym, subst, get_or}
+use Rattle.std.proofs.Common.{arith, ◌≡◌, ◌<◌, ◌+◌, ◌∙◌, [], ◌∷◌, ap, sym, subst, get_or}
 use Rattle.std.proofs.lemmas.Bool.{false≢true, eq-eqb, eqb-true}
-use Rattle.jc_heap.specs.Heap.{heap_of, area_end, area_place}
+use Rattle.jc_heap.specs.Heap.{heap_of, area_end}
 use Rattle.jc_heap.specs.Steps.{items_from, item_from, size_from}
 use Rattle.jc_heap.proofs.AreaEnds.{area_read}
 use Rattle.jc_heap.proofs.Stepping.{step_items, nothing_from}

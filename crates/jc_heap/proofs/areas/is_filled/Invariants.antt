@@ -1,5 +1,5 @@
 -- From the address on, the items fit from the place on just if all of them fit from 0 on.
-use Rattle.std.proofs.Common.{◌≤◌, ◌-◌, ◌↔◌, slice_index}
+use Rattle.std.proofs.Common.{◌≤◌, ◌-◌, ◌↔◌}
 use Rattle.jc_transient.specs.State.{area_size}
 use Rattle.jc_heap.specs.Heap.{heap_of, area_end}
 use Rattle.jc_heap.specs.Steps.{IsAt, items_from}

@@ -1,6 +1,4 @@
-use Rattle.std.proofs.Common.{arith, ◌≡◌, ◌/◌, ◌==◌, ◌∙◌, ap, sym, get_or, Some, true, false}
-use Rattle.jc_heap.specs.Object.{event_number}
-use Rattle.jc_heap.specs.Image.{image, package_addresses, is_package}
+use Rattle.std.proofs.Common.{◌/◌, ◌==◌, ◌∙◌, sym}
 use Rattle.jc_heap.proofs.Filling.{package_lies, object_lies}
 use Rattle.jc_heap.proofs.areas.is_in_area.Goals as goal
 

@@ -1,7 +1,6 @@
-use Rattle.std.proofs.Common.{arith, length, ◌≡◌, ◌<◌, ◌≤◌, ◌+◌, ◌∙◌, ap, sym, get_or, true, slice_index}
-use Rattle.jc_heap.specs.Object.{facts_of}
+use Rattle.std.proofs.Common.{arith, length, ◌≡◌, ◌<◌, ◌+◌, ◌∙◌, ap, sym, get_or, true, slice_index}
 use Rattle.jc_heap.specs.Steps.{item_from}
-use Rattle.jc_heap.specs.Whole.{lies_in, cells_in, FitsAt}
+use Rattle.jc_heap.specs.Whole.{lies_in, cells_in}
 use Rattle.jc_heap.proofs.Views.{readable}
 use Rattle.jc_heap.proofs.Filling.{lies_within, lies_place, lies_cells}
 use Rattle.jc_heap.proofs.areas.place_behind.Goals as goal

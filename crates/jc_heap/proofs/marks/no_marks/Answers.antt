@@ -1,6 +1,7 @@
-use Rattle.std.proofs.Common.{ℕ, ◌≡◌, ◌<◌, ◌≤◌, false, replicate, get_or, arith, length}
+use Rattle.std.proofs.Common.{false}
+use Rattle.std.proofs.lemmas.List.{length-replicate}
 use Rattle.jc_heap.proofs.Marking.{none_marked}
 use Rattle.jc_heap.proofs.marks.no_marks.Goals as goal
 
 pub returns : goal.returns
-returns c = none_marked 65536
+returns c = record { none = none_marked 65536; long = length-replicate 65536 false }

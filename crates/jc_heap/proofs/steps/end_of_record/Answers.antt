@@ -1,4 +1,4 @@
-use Rattle.std.proofs.Common.{arith, refl, ◌≡◌, ◌+◌, ◌≤◌, ◌∙◌, ◌∷◌, ap, subst, sym, get_or}
+use Rattle.std.proofs.Common.{arith, ◌≡◌, ◌+◌, ◌∙◌, ◌∷◌, ap, subst, sym}
 use Rattle.jc_heap.specs.Steps.{IsAt, size_from, items_from, item_from}
 use Rattle.jc_heap.proofs.Stepping.{size_fits, size_is, step_at, step_items}
 use Rattle.jc_heap.proofs.steps.end_of_record.Goals as goal

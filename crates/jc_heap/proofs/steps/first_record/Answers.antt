@@ -1,4 +1,4 @@
-use Rattle.std.proofs.Common.{arith, ◌≡◌, ◌+◌, ◌/◌, ◌∙◌, ap, get_or}
+use Rattle.std.proofs.Common.{arith}
 use Rattle.jc_heap.proofs.Following.{base_is}
 use Rattle.jc_heap.proofs.Stepping.{first_at, first_items}
 use Rattle.jc_heap.proofs.steps.first_record.Goals as goal

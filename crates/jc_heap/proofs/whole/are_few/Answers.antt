@@ -1,4 +1,4 @@
-use Rattle.std.proofs.Common.{arith, ◌≡◌, ◌≤◌, ◌∙◌, sym, get_or}
+use Rattle.std.proofs.Common.{arith, ◌≡◌, get_or}
 use Rattle.std.proofs.lemmas.Bool.{leb-true, le-leb}
 use Rattle.jc_heap.specs.Heap.{heap_of}
 use Rattle.jc_heap.proofs.Wholes.{counts_read}
