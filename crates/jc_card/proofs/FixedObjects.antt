@@ -1,5 +1,5 @@
 -- The objects of the runtime environment, as they are made.
-use Rattle.std.proofs.Common.{◌≡◌, ℕ, Bool, ◌+◌, ◌*◌, ◌<◌, ◌≤◌, ◌&&◌, ◌||◌, ◌==◌, nat_lt, false, true, List, [], ◌∷◌, ◌++◌, drop, length, Option, Some, None, refl, sym, ◌∙◌, ap, subst, arith, if◌then◌else◌}
+use Rattle.std.proofs.Common.{◌≡◌, ℕ, Bool, ◌+◌, ◌*◌, ◌<◌, ◌≤◌, ◌&&◌, ◌||◌, ◌==◌, nat_lt, false, true, List, [], ◌∷◌, ◌++◌, drop, length, Option, Some, None, refl, sym, ◌∙◌, ap, subst, arith, lit≤, if◌then◌else◌}
 use Rattle.std.proofs.lemmas.Bool.{lt-ltb, le-ltb, eq-eqb, ne_eqb, true≢false}
 use Rattle.std.proofs.lemmas.List.{append-nil, append_assoc}
 use Rattle.std.proofs.lemmas.Option.{none-some}
@@ -10,13 +10,15 @@ use Rattle.jc_transient.specs.declared.cell.ClearEvent.TheVariants.{Reset, Desel
 use Rattle.jc_heap.specs.declared.object.Kind.{Kind}
 use Rattle.jc_heap.specs.Table.{at_or, has}
 use Rattle.jc_heap.specs.Object.{Item, AnObject, APackage, is_object, facts_of, new_transient}
-use Rattle.jc_heap.specs.Heap.{HeapState, HeapView, add_transient, add_object, area_end, changed, first_above, next_object, item_at, facts}
+use Rattle.jc_heap.specs.Heap.{HeapState, HeapView, add_transient, add_object, area_end, changed, first_above, next_object, item_at, facts, names}
+use Rattle.jc_heap.specs.Whole.{IsWhole, IsFilled}
+use Rattle.jc_heap.proofs.Keeping.{empty_whole, transient_whole}
 use Rattle.jc_heap.specs.Laying.{laid_heap, sealed}
 use Rattle.jc_heap.specs.Beginning.{Follow, BeginsWith}
 use Rattle.jc_heap.specs.declared.object.Facts.{Facts}
 use Rattle.jc_platform.specs.Tokens.{Tokens}
 use Rattle.jc_card.specs.declared.fixed.FixedObject.{FixedObject}
-use Rattle.jc_card.specs.Fixed.{fixed_objects, class_number_of, fixed_facts, BeginsWithFixed, with_objects}
+use Rattle.jc_card.specs.Fixed.{fixed_objects, class_number_of, cells_of_all, fixed_facts, BeginsWithFixed, with_objects}
 use Rattle.jc_card.specs.Made.{formatted}
 
 -- what a new transient object changes
@@ -57,9 +59,9 @@ looked-up (d ∷ es) q x rest f = go (d.0 == q) refl f (looked-up es q x rest)
     go false is g more = rw is (more g)
 
 -- nothing stands at or above the top
-record IsBelow (h : HeapState) : Type 0 where
-  absent : (q : ℕ) → h.top ≤ q → has h.items q ≡ false
-  none : (q : ℕ) → h.top ≤ q → first_above h.items q ≡ None
+pub record IsBelow (h : HeapState) : Type 0 where
+  pub absent : (q : ℕ) → h.top ≤ q → has h.items q ≡ false
+  pub none : (q : ℕ) → h.top ≤ q → first_above h.items q ≡ None
 
 has-push : (es : List (ℕ × Item)) (e : ℕ × Item) (q : ℕ) → has es q ≡ false → (e.0 ≡ q → ⊥) → has (es ++ e ∷ []) q ≡ false
 has-push [] e q f n = rw (ne_eqb e.0 q n) refl
@@ -124,6 +126,35 @@ follow-made t h r (o ∷ os) b none below =
     )
 
 -- ---- a new image's heap
+
+names-top : (h : HeapState) → IsBelow h → names h h.top ≡ false
+unfolding names
+names-top h b = b.absent h.top (omega arith)
+
+all_whole : (t : Tokens) (h : HeapState) (os : List FixedObject) → IsBelow h → area_end h Reset + cells_of_all os ≤ area_size → IsWhole h → IsWhole (with_objects t h os)
+all_whole t h [] b room w = w
+all_whole t h (o ∷ os) b room w = all_whole t (with_one t h o) os (below-one t h o b) (omega (arith, end-add h o.kind (class_number_of t o.class) 0 o.cells))
+    (transient_whole h o.kind Reset (class_number_of t o.class) 0 o.cells (names-top h b) (λ lacks. omega arith) w)
+
+filled-sealed : (h : HeapState) (event : ClearEvent) → IsFilled h event → IsFilled (sealed h) event
+filled-sealed h Reset f = record { places = f.places; end = f.end; fits = f.fits }
+filled-sealed h Deselect f = record { places = f.places; end = f.end; fits = f.fits }
+
+whole-sealed : (h : HeapState) → IsWhole h → IsWhole (sealed h)
+unfolding item_at names
+whole-sealed h w = record {
+  few_packages = w.few_packages;
+  few_applets = w.few_applets;
+  met = w.met;
+  distinct = w.distinct;
+  references = w.references;
+  areas = λ event. filled-sealed h event (w.areas event);
+}
+
+pub whole-formatted : (n : ℕ) (text : List ℕ) (t : Tokens) → IsWhole (formatted n text t)
+unfolding fixed_objects
+whole-formatted n text t = whole-sealed (with_objects t (laid_heap n text) fixed_objects)
+    (all_whole t (laid_heap n text) fixed_objects (record { absent = λ q le. refl; none = λ q le. refl }) (lit≤ tt) (empty_whole (laid_heap n text) refl refl refl refl))
 
 head-all : (t : Tokens) (h : HeapState) (os : List FixedObject) → (with_objects t h os).head ≡ h.head
 head-all t h [] = refl

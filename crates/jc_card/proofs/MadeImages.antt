@@ -9,10 +9,7 @@ use Rattle.jc_heap.specs.Whole.{IsWhole}
 use Rattle.jc_platform.specs.Tokens.{Tokens}
 use Rattle.jc_platform.specs.Table.{Reads}
 use Rattle.jc_card.specs.Made.{IsCardHeap, IsMade, formatted}
-use Rattle.jc_card.proofs.FixedObjects.{begins-formatted, head-formatted, text-formatted}
-
-whole-formatted : (n : ℕ) (text : List ℕ) (t : Tokens) → IsWhole (formatted n text t)
-whole-formatted n text t = ?
+use Rattle.jc_card.proofs.FixedObjects.{begins-formatted, head-formatted, text-formatted, whole-formatted}
 
 card-formatted : (n : ℕ) (text : List ℕ) (t : Tokens) → least_size ≤ n → Reads text (Ok t) → IsCardHeap n (formatted n text t)
 card-formatted n text t enough reads = record {

@@ -17,7 +17,7 @@ use Rattle.jc_platform.specs.Tokens.{Tokens}
 use Rattle.jc_platform.specs.Table.{Reads}
 use Rattle.jc_platform.specs.Distinct.{class_word}
 use Rattle.jc_platform.specs.declared.names.PlatformClass.{PlatformClass}
-use Rattle.jc_card.proofs.OneAnswer.{same_words}
+use Rattle.jc_platform.proofs.OneAnswer.{same_words}
 use Rattle.jc_card.specs.declared.fixed.FixedObject.{FixedObject}
 use Rattle.jc_card.specs.Fixed.{BeginsWithFixed, class_number_of, facts_of_fixed, fixed_facts, fixed_objects}
 use Rattle.jc_card.specs.Made.{IsMade}

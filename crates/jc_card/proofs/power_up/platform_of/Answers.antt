@@ -1,6 +1,6 @@
 use Rattle.std.proofs.Common.{◌≡◌, ◌∙◌, ◌<◌, arith, subst, Ok, Err, List, ℕ}
 use Rattle.jc_platform.specs.Table.{Reads}
-use Rattle.jc_card.proofs.OneAnswer.{no_fault}
+use Rattle.jc_platform.proofs.OneAnswer.{no_fault}
 use Rattle.jc_heap.specs.Image.{table_text}
 use Rattle.jc_card.proofs.PoweredUp.{too_long}
 use Rattle.jc_card.proofs.power_up.platform_of.Goals as goal
