@@ -8,7 +8,7 @@ use Rattle.jc_platform.specs.declared.names.PlatformClass.{PlatformClass}
 use Rattle.jc_platform.specs.declared.names.PlatformPackage.{PlatformPackage}
 use Rattle.jc_platform.specs.declared.row.Row.{Row}
 use Rattle.jc_platform.specs.Distinct.{class_word, home_of}
-use Rattle.jc_platform.specs.Numbers.{class_number, method_number, package_number}
+use Rattle.jc_platform.specs.Numbers.{class_number, package_number}
 use Rattle.jc_platform.specs.Rows.{Above, above, row_of_line}
 use Rattle.jc_platform.specs.Table.{AreThoseOf, IsBad, IsFirstBad, IsMissing, Reads, Say, Spells, largest_text}
 use Rattle.jc_platform.specs.Tokens.{TellTheSame, Tokens, number_in}
