@@ -50,7 +50,7 @@ found_case q p x xs e true here later h = let g : Some x ≡ Some e = h in let s
 found_case q p x xs e false here later h = later h
 
 -- what every element has, a found one has
-found_has : {X : Type 0} (q p : X → Bool) (xs : List X) (e : X) → list_all q xs ≡ true → find p xs ≡ Some e → q e ≡ true
+pub found_has : {X : Type 0} (q p : X → Bool) (xs : List X) (e : X) → list_all q xs ≡ true → find p xs ≡ Some e → q e ≡ true
 found_has q p [] e all h = absurd (let g : None ≡ Some e = h in cc)
 found_has q p (x ∷ xs) e all h =
     let parts = and_true (q x) (list_all q xs) all in
@@ -74,7 +74,7 @@ method_places : length methods ≡ 83
 unfolding methods
 method_places = refl
 
-homes : list_all (λ e. same_package (home_of e.class) e.home) classes ≡ true
+pub homes : list_all (λ e. same_package (home_of e.class) e.home) classes ≡ true
 unfolding classes
 homes = refl
 
@@ -82,7 +82,7 @@ method_homes : list_all (λ e. same_class (class_of e.method) e.class && same_ki
 unfolding methods
 method_homes = refl
 
-class_by_number : (c d : PlatformClass) → class_number c ≡ class_number d → c ≡ d
+pub class_by_number : (c d : PlatformClass) → class_number c ≡ class_number d → c ≡ d
 class_by_number c d e = sym (class_at_place c) ∙ ap (λ (n : ℕ). (entry_of_class n).class) e ∙ class_at_place d
 
 method_by_number : (m n : PlatformMethod) → method_number m ≡ method_number n → m ≡ n

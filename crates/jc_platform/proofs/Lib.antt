@@ -6,3 +6,5 @@ pub mod Fitting
 pub mod Lines
 pub mod Lists
 pub mod Numbers
+pub mod OneAnswer
+pub mod Versions

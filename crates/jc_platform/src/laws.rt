@@ -1,12 +1,24 @@
 //! What holds of every table.
 
-ghost use Rattle.std.specs.Prelude.{List, ℕ};
-ghost use Rattle.jc_platform.specs.Distinct.{AreDistinct};
+ghost use Rattle.std.specs.Prelude.{List, ℕ, ◌≡◌};
+ghost use Rattle.jc_platform.specs.Distinct.{AreDistinct, class_word};
 ghost use Rattle.jc_platform.specs.Table.{Reads};
-ghost use Rattle.jc_platform.specs.Tokens.{Tokens};
+ghost use Rattle.jc_platform.specs.Tokens.{TellTheSame, Tokens};
+
+use crate::fault::TableFault;
+use crate::names::PlatformClass;
 
 /// Law: in a table that was read, a token tells a class among those of its package, and a method among those
 /// of its class and kind. It does nothing.
 pub fn tokens_are_distinct()
     ensures { (text : List ℕ) (t : Tokens) → Reads text (Ok t) → AreDistinct t }
+{}
+
+/// Law: a text has one answer. It is read as a table or refused, never both; two tables that it is read as tell
+/// the same, and name each class by the same word; two faults are one. It does nothing.
+pub fn a_text_has_one_answer()
+    ensures table_or_fault { (text : List ℕ) (t : Tokens) (f : TableFault) → Reads text (Ok t) → Reads text (Err f) → ⊥ }
+    ensures one_table { (text : List ℕ) (t u : Tokens) → Reads text (Ok t) → Reads text (Ok u) → TellTheSame t u }
+    ensures same_words { (text : List ℕ) (t u : Tokens) → Reads text (Ok t) → Reads text (Ok u) → (c : PlatformClass) → class_word t c ≡ class_word u c }
+    ensures one_fault { (text : List ℕ) (f g : TableFault) → Reads text (Err f) → Reads text (Err g) → f ≡ g }
 {}

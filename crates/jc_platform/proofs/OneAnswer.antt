@@ -1,0 +1,165 @@
+-- A text has one answer.
+use Rattle.std.proofs.Common.{◌≡◌, ◌+◌, ◌*◌, ◌<◌, ◌≤◌, ℕ, cond, ◌==◌, List, [], ◌∷◌, ◌++◌, Option, Some, None, Ok, Err, length, reverse, refl, ap, sym, subst, ◌∙◌, arith, ⊎_elim}
+use Rattle.std.specs.Prelude.{slice_index}
+use Rattle.std.proofs.lemmas.Bool.{cases_lt}
+use Rattle.jc_platform.specs.declared.fault.TableFault.{TableFault}
+use Rattle.jc_platform.specs.declared.fault.TableFault.TheVariants.{BadTable}
+use Rattle.jc_platform.specs.declared.names.PlatformClass.{PlatformClass}
+use Rattle.jc_platform.specs.declared.names.PlatformPackage.{PlatformPackage}
+use Rattle.jc_platform.specs.declared.row.Row.{Row}
+use Rattle.jc_platform.specs.Distinct.{class_word, home_of}
+use Rattle.jc_platform.specs.Numbers.{class_number, package_number}
+use Rattle.jc_platform.specs.Rows.{Above, above, row_of_line}
+use Rattle.jc_platform.specs.Table.{AreThoseOf, IsBad, IsFirstBad, IsMissing, Reads, Say, Spells, largest_text}
+use Rattle.jc_platform.specs.Tokens.{TellTheSame, Tokens, number_in}
+use Rattle.jc_platform.proofs.Lines.{reverse-cons}
+use Rattle.jc_platform.proofs.Versions.{packages_have_versions}
+
+-- ---- lines say one list of rows
+
+by_order : {G : Type 0} (m n : ℕ) → (m < n → G) → (n < m → G) → (m ≡ n → G) → G
+by_order m n below above same = ⊎_elim below (λ h. ⊎_elim above (λ k. same (omega arith)) (cases_lt n m)) (cases_lt m n)
+
+same_parts : {A : Type 0} (l m xs ys : List A) → length l ≡ length m → reverse l ++ xs ≡ reverse m ++ ys → (l ≡ m) × (xs ≡ ys)
+same_parts [] [] xs ys n e = (refl, e)
+same_parts [] (b ∷ m) xs ys n e = absurd (omega (arith, n))
+same_parts (a ∷ l) [] xs ys n e = absurd (omega (arith, n))
+same_parts (a ∷ l) (b ∷ m) xs ys n e =
+    let w = same_parts l m (a ∷ xs) (b ∷ ys) (omega (arith, n)) (sym (reverse-cons a l xs) ∙ e ∙ reverse-cons b m ys) in
+    let heads : l ≡ m = w.0 in
+    let tails : a ∷ xs ≡ b ∷ ys = w.1 in
+    (cc, cc)
+
+same_rows : (lines : List (List ℕ)) (rs ss : List Row) → Say lines rs → Say lines ss → rs ≡ ss
+same_rows [] [] [] s t = refl
+same_rows [] [] (x ∷ ss) s t = absurd t
+same_rows [] (r ∷ rs) ss s t = absurd s
+same_rows (line ∷ lines) [] ss s t = absurd s
+same_rows (line ∷ lines) (r ∷ rs) [] s t = absurd t
+same_rows (line ∷ lines) (r ∷ rs) (x ∷ ss) s t =
+    let below : rs ≡ ss = same_rows lines rs ss s.1 t.1 in
+    let both : Some r ≡ Some x = sym (subst (λ (rows : List Row). row_of_line (above rows) line ≡ Some r) below s.0) ∙ t.0 in
+    cc
+
+-- ---- good lines and bad ones
+
+-- a part of a text is a good line: a row there, and a line feed ends it
+abbrev IsGood : Above → List ℕ → List (List ℕ) → Type 0
+IsGood a part more = (row : Row) × (row_of_line a part ≡ Some row) × (next : List ℕ) × (rest : List (List ℕ)) × (more ≡ next ∷ rest)
+
+-- where more lines say rows, the part that follows fewer is a good line
+goes_on : (l m : List (List ℕ)) (rs ss : List Row) (p q : List ℕ) (ps qs : List (List ℕ)) → length l < length m → reverse l ++ p ∷ ps ≡ reverse m ++ q ∷ qs → Say l rs → Say m ss → IsGood (above rs) p ps
+goes_on l [] rs ss p q ps qs h e s t = absurd (omega (arith, h))
+goes_on l (line ∷ m) rs [] p q ps qs h e s t = absurd t
+goes_on l (line ∷ m) rs (row ∷ ss) p q ps qs h e s t =
+    let cut : reverse l ++ p ∷ ps ≡ reverse m ++ line ∷ q ∷ qs = e ∙ reverse-cons line m (q ∷ qs) in
+    ⊎_elim (λ before. goes_on l m rs ss p line ps (q ∷ qs) before cut s t.1) (here cut) (cases_lt (length l) (length m))
+  where
+    here : reverse l ++ p ∷ ps ≡ reverse m ++ line ∷ q ∷ qs → length m ≤ length l → IsGood (above rs) p ps
+    here cut last =
+        let w = same_parts l m (p ∷ ps) (line ∷ q ∷ qs) (omega (arith, h, last)) cut in
+        let lines : p ∷ ps ≡ line ∷ q ∷ qs = w.1 in
+        let first : line ≡ p = cc in
+        let rows : ss ≡ rs = same_rows l ss rs (subst (λ (x : List (List ℕ)). Say x ss) (sym w.0) t.1) s in
+        let is_row : row_of_line (above rs) line ≡ Some row = subst (λ (x : List Row). row_of_line (above x) line ≡ Some row) rows t.0 in
+        (row, subst (λ (x : List ℕ). row_of_line (above rs) x ≡ Some row) first is_row, q, qs, cc)
+
+not_at_end : (a : Above) (part : List ℕ) → IsGood a part [] → ⊥
+not_at_end a part good = absurd (let e : [] ≡ good.2 ∷ good.3 = good.4 in cc)
+
+not_bad : (a : Above) (part : List ℕ) (more : List (List ℕ)) → IsGood a part more → IsBad a part more → ⊥
+not_bad a part [] good bad = not_at_end a part good
+not_bad a part (next ∷ rest) good bad = absurd (let e : None ≡ Some good.0 = sym bad ∙ good.1 in cc)
+
+spelt_once : (text : List ℕ) (rs ss : List Row) → Spells text rs → Spells text ss → rs ≡ ss
+spelt_once text rs ss s t =
+    let e = sym s.1 ∙ t.1 in
+    by_order (length s.0) (length t.0)
+    (λ h. absurd (not_at_end (above rs) [] (goes_on s.0 t.0 rs ss [] [] [] [] h e s.2 t.2)))
+    (λ h. absurd (not_at_end (above ss) [] (goes_on t.0 s.0 ss rs [] [] [] [] h (sym e) t.2 s.2)))
+    (λ h. same_rows t.0 rs ss (subst (λ (x : List (List ℕ)). Say x rs) (same_parts s.0 t.0 ([] ∷ []) ([] ∷ []) h e).0 s.2) t.2)
+
+not_spelt : (text : List ℕ) (rs : List Row) (n : ℕ) → Spells text rs → IsFirstBad text n → ⊥
+not_spelt text rs n s b =
+    let part = b.2 in
+    let more = b.3 in
+    let e : reverse s.0 ++ [] ∷ [] ≡ reverse b.0 ++ part ∷ more = sym s.1 ∙ b.4 in
+    by_order (length s.0) (length b.0)
+    (λ h. not_at_end (above rs) [] (goes_on s.0 b.0 rs b.1 [] part [] more h e s.2 b.5))
+    (λ h. not_bad (above b.1) part more (goes_on b.0 s.0 b.1 rs part [] more [] h (sym e) b.5 s.2) b.7)
+    (λ h.
+    let ends : [] ∷ [] ≡ part ∷ more = (same_parts s.0 b.0 ([] ∷ []) (part ∷ more) h e).1 in
+    let empty : part ≡ [] = cc in
+    let last : more ≡ [] = cc in
+    subst (λ (x : List (List ℕ)). IsBad (above b.1) part x) last b.7 empty)
+
+one_first_bad : (text : List ℕ) (m n : ℕ) → IsFirstBad text m → IsFirstBad text n → m ≡ n
+one_first_bad text m n a b =
+    let e : reverse a.0 ++ a.2 ∷ a.3 ≡ reverse b.0 ++ b.2 ∷ b.3 = sym a.4 ∙ b.4 in
+    by_order (length a.0) (length b.0)
+    (λ h. absurd (not_bad (above a.1) a.2 a.3 (goes_on a.0 b.0 a.1 b.1 a.2 b.2 a.3 b.3 h e a.5 b.5) a.7))
+    (λ h. absurd (not_bad (above b.1) b.2 b.3 (goes_on b.0 a.0 b.1 a.1 b.2 a.2 b.3 a.3 h (sym e) b.5 a.5) b.7))
+    (λ h. a.6 ∙ ap (λ (k : ℕ). k + 1) h ∙ sym b.6)
+
+-- ---- what is told is not missing
+
+not_none : {A : Type 0} (o : Option A) (x : A) → o ≡ Some x → o ≡ None → ⊥
+not_none o x e n = absurd (let g : None ≡ Some x = sym n ∙ e in cc)
+
+not_missing : (lines : List (List ℕ)) (rows : List Row) (t : Tokens) → Say lines rows → AreThoseOf (above rows) t → IsMissing (above rows) → ⊥
+not_missing lines rows t said those = ⊎_elim
+    (λ e. not_none (above rows).first t.first those.first e)
+    (⊎_elim
+    (λ v. packages_have_versions lines rows (λ c. slice_index t.class_tokens (class_number c)) said those.class_tokens v.0 v.1)
+    (⊎_elim
+    (λ c. not_none ((above rows).class_token c.0) _ (those.class_tokens c.0) c.1)
+    (λ m. not_none ((above rows).method_token m.0) _ (those.method_tokens m.0) m.1)))
+
+-- ---- one answer
+
+too_long : (n : ℕ) → largest_text < n → n ≤ largest_text → ⊥
+too_long n long short = omega (arith, long, short)
+
+-- a table or a fault, never both
+pub no_fault : (text : List ℕ) (t : Tokens) (f : TableFault) → Reads text (Ok t) → Reads text (Err f) → ⊥
+no_fault text t (BadTable n) read = ⊎_elim
+    (λ long. too_long (length text) long.0 read.0)
+    (⊎_elim
+    (λ bad. not_spelt text read.1.0 n read.1.1 bad.1)
+    (λ lacks.
+    let same : lacks.2.0 ≡ read.1.0 = spelt_once text lacks.2.0 read.1.0 lacks.2.1 read.1.1 in
+    not_missing read.1.1.0 read.1.0 t read.1.1.2 read.1.2 (subst (λ (x : List Row). IsMissing (above x)) same lacks.2.2)))
+
+some_once : {A : Type 0} (o : Option A) (x y : A) → o ≡ Some x → o ≡ Some y → x ≡ y
+some_once o x y e f = let g : Some x ≡ Some y = sym e ∙ f in cc
+
+-- two tables of one text tell the same
+pub one_table : (text : List ℕ) (t u : Tokens) → Reads text (Ok t) → Reads text (Ok u) → TellTheSame t u
+one_table text t u a b =
+    let same : b.1.0 ≡ a.1.0 = spelt_once text b.1.0 a.1.0 b.1.1 a.1.1 in
+    let x = a.1.2 in
+    let y : AreThoseOf (above a.1.0) u = subst (λ (rows : List Row). AreThoseOf (above rows) u) same b.1.2 in
+    record {
+      first = some_once (above a.1.0).first t.first u.first x.first y.first;
+      versions = λ p. sym (x.versions p) ∙ y.versions p;
+      class_tokens = λ c. some_once ((above a.1.0).class_token c) _ _ (x.class_tokens c) (y.class_tokens c);
+      method_tokens = λ m. some_once ((above a.1.0).method_token m) _ _ (x.method_tokens m) (y.method_tokens m);
+    }
+
+-- and name each class by the same word
+pub same_words : (text : List ℕ) (t u : Tokens) → Reads text (Ok t) → Reads text (Ok u) → (c : PlatformClass) → class_word t c ≡ class_word u c
+same_words text t u a b c =
+    let w = one_table text t u a b in
+    let number : number_in t (home_of c) ≡ number_in u (home_of c) = ap (λ (p : PlatformPackage). cond (package_number (home_of c) == package_number p) 64 65) w.first in
+    ap (λ (n : ℕ). 256 * n + slice_index t.class_tokens (class_number c)) number ∙ ap (λ (n : ℕ). 256 * number_in u (home_of c) + n) (w.class_tokens c)
+
+-- two faults of one text are one
+pub one_fault : (text : List ℕ) (f g : TableFault) → Reads text (Err f) → Reads text (Err g) → f ≡ g
+one_fault text (BadTable m) (BadTable n) a b = ap BadTable (numbers a b)
+  where
+    numbers : Reads text (Err (BadTable m)) → Reads text (Err (BadTable n)) → m ≡ n
+    numbers = ⊎_elim
+        (λ long. ⊎_elim (λ other. long.1 ∙ sym other.1) (⊎_elim (λ bad. absurd (too_long (length text) long.0 bad.0)) (λ lacks. long.1 ∙ sym lacks.1)))
+        (⊎_elim
+        (λ bad. ⊎_elim (λ long. absurd (too_long (length text) long.0 bad.0)) (⊎_elim (λ other. one_first_bad text m n bad.1 other.1) (λ lacks. absurd (not_spelt text lacks.2.0 m lacks.2.1 bad.1))))
+        (λ lacks. ⊎_elim (λ long. lacks.1 ∙ sym long.1) (⊎_elim (λ bad. absurd (not_spelt text lacks.2.0 n lacks.2.1 bad.1)) (λ other. lacks.1 ∙ sym other.1))))
