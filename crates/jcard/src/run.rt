@@ -41,11 +41,7 @@ fn perform<'a, R: Files + AllocGlobal, W: TextOut>(
     }
 }
 
-fn act<'a, R: Files, W: TextOut>(
-    rt: &R,
-    action: Action<'a>,
-    out: &mut W,
-) -> Result<(), Fault<'a>>
+fn act<'a, R: Files, W: TextOut>(rt: &R, action: Action<'a>, out: &mut W) -> Result<(), Fault<'a>>
     ensures { (text : List ℕ) × Appends (W.contents out.old) (W.contents out.new) text × IsDone (Some (request_by action.entry)) result text }
 {
     match action {
@@ -54,11 +50,7 @@ fn act<'a, R: Files, W: TextOut>(
 }
 
 // Carries out the script in the file of this name.
-fn run_file<'a, R: Files, W: TextOut>(
-    rt: &R,
-    path: &'a str,
-    out: &mut W,
-) -> Result<(), Fault<'a>>
+fn run_file<'a, R: Files, W: TextOut>(rt: &R, path: &'a str, out: &mut W) -> Result<(), Fault<'a>>
     ensures { (text : List ℕ) × Appends (W.contents out.old) (W.contents out.new) text × IsRun path.now result text }
 {
     let Ok(file) = fs::open(rt, path) else {
