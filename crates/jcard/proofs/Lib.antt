@@ -1,3 +1,4 @@
 pub mod Acts
 pub mod CommandLine
 pub mod Runs
+pub mod Exact

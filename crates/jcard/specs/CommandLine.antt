@@ -1,6 +1,7 @@
 -- What a command line is taken for: the program's commands, in the grammar that clap's definitions give to them.
-use Rattle.std.specs.Prelude.{◌≡◌, ℕ, true, List, [], ◌∷◌, map, codes, Option, Some, None, if◌then◌else◌, option_and_then, slice_get, Result, Ok, Err}
-use Rattle.std.specs.Str.{bytes_eq}
+use Rattle.std.specs.Prelude.{◌≡◌, ◌==◌, ◌&&◌, ℕ, Bool, true, false, not, List, [], ◌∷◌, map, codes, Option, Some, None, if◌then◌else◌, option_map, option_and_then, slice_get, Result, Ok, Err}
+use Rattle.std.specs.Str.{bytes_eq, chars}
+use Rattle.clap.specs.Walk.{is_empty}
 use Rattle.clap.specs.Words.{App, Kinds, Row, Rule, Text, fault_of, first_of, new_app, new_rule, subcommand_of, with_rule, with_subcommand}
 use Rattle.clap.specs.declared.builder.action.ArgAction.TheVariants.{Set}
 use Rattle.jcard.specs.declared.arguments.Action.{Action}
@@ -59,6 +60,31 @@ IsNoFlag word = slice_get word 0 ≡ Some 45 → ⊥
 abbrev pub TakesRuns : Type 0
 TakesRuns = (name image script : Text) → IsNoFlag image → IsNoFlag script
     → taken_for (name ∷ codes "run" ∷ image ∷ script ∷ []) ≡ Some (ToRun image script)
+
+-- ---- every line of a command
+
+-- a hyphen and a character after it
+abbrev pub is_flag : Text → Bool
+is_flag [] = false
+is_flag (x ∷ xs) = (x == 45) && not (is_empty (chars xs))
+
+-- the words, where none is a flag; `--` stands before the last of them, and ends the flags
+abbrev pub operands : List Text → Option (List Text)
+operands [] = Some []
+operands (word ∷ words) = if bytes_eq word (codes "--") then Some words
+    else (if is_flag word then None else option_map (λ rest. word ∷ rest) (operands words))
+
+-- a run asks for an image and a script
+abbrev pub run_with : Option (List Text) → Option Request
+run_with None = None
+run_with (Some []) = None
+run_with (Some (image ∷ [])) = None
+run_with (Some (image ∷ script ∷ [])) = Some (ToRun image script)
+run_with (Some (image ∷ script ∷ more ∷ words)) = None
+
+-- what follows `NAME run` is taken for a run exactly where its operands are two
+abbrev pub TakesRunLines : Type 0
+TakesRunLines = (name : Text) (words : List Text) → taken_for (name ∷ codes "run" ∷ words) ≡ run_with (operands words)
 
 -- ---- the parse
 
