@@ -1,7 +1,6 @@
 -- What a command line is taken for: the program's commands, in the grammar that clap's definitions give to them.
-use Rattle.std.specs.Prelude.{◌≡◌, ◌==◌, ◌&&◌, ℕ, Bool, true, false, not, List, [], ◌∷◌, map, codes, Option, Some, None, if◌then◌else◌, option_map, option_and_then, slice_get, Result, Ok, Err}
+use Rattle.std.specs.Prelude.{◌≡◌, ◌==◌, ◌&&◌, ℕ, Bool, true, false, is_some, List, [], ◌∷◌, map, codes, Option, Some, None, if◌then◌else◌, option_map, option_and_then, slice_get, Result, Ok, Err}
 use Rattle.std.specs.Str.{bytes_eq, chars}
-use Rattle.clap.specs.Walk.{is_empty}
 use Rattle.clap.specs.Words.{App, Kinds, Row, Rule, Text, fault_of, first_of, new_app, new_rule, subcommand_of, with_rule, with_subcommand}
 use Rattle.clap.specs.declared.builder.action.ArgAction.TheVariants.{Set}
 use Rattle.jcard.specs.declared.arguments.Action.{Action}
@@ -66,7 +65,7 @@ TakesRuns = (name image script : Text) → IsNoFlag image → IsNoFlag script
 -- a hyphen and a character after it
 abbrev pub is_flag : Text → Bool
 is_flag [] = false
-is_flag (x ∷ xs) = (x == 45) && not (is_empty (chars xs))
+is_flag (x ∷ xs) = (x == 45) && is_some (slice_get (chars xs) 0)
 
 -- the words, where none is a flag; `--` stands before the last of them, and ends the flags
 abbrev pub operands : List Text → Option (List Text)
