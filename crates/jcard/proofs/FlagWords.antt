@@ -7,9 +7,10 @@ use Rattle.std.proofs.lemmas.Slice.Eq.{bytes_eq-Decides}
 use Rattle.clap.specs.Words.{Kinds, Row, Text}
 use Rattle.clap.specs.Kinds.{or_else}
 use Rattle.clap.specs.Lexer.{long_of, name_and_value}
-use Rattle.clap.specs.Walk.{Held, Rule, Walk, arg_by_index, bundle_met, has_long, has_short, idle, reacted, settled, to_positional, value, walked}
+use Rattle.clap.specs.Walk.{Held, Rule, Walk, arg_by_index, bundle_met, has_long, has_short, idle, reacted, settled, to_positional, value, walked, word_met}
 use Rattle.clap.specs.Simple.{Shape, built_leaf, filled, help_rule, inherited, marked_built, on_top, with_index, with_leaf_noted}
-use Rattle.clap.specs.Faults.{flag_word_fault, flags_fault, long_fault, react_fault, settle_fault, short_fault, step_fault, turn_fault, use_fault}
+use Rattle.clap.specs.Faults.{flag_word_fault, flags_fault, long_fault, other_fault, react_fault, settle_fault, short_fault, step_fault, turn_fault, use_fault}
+use Rattle.clap.proofs.WalkLemmas.{both}
 use Rattle.jcard.specs.CommandLine.{is_flag, program_grammar, run_grammar}
 
 -- `run`, as the build leaves it
@@ -127,6 +128,50 @@ short_refused held y c ys none other first =
     (flags_fault shape.rules false (length ys) (drop (length (encode_utf8 c)) (y ∷ ys)) 0) in
     simp (other, none, first) full
 
+empty_spells : is_some (slice_get (chars []) 0) ≡ false
+unfolding chars
+empty_spells = refl
+
+-- a word that is refused for itself
+turn_full : (position : ℕ) (rows : List Row) (pending : Option (Text × List Text)) (word : Text)
+    → (other_fault shape None word (stands position rows pending false).held ≡ [] → ⊥) → turn_fault shape [] (stands position rows pending false) word ≡ [] → ⊥
+turn_full position rows pending word full =
+    let held = (stands position rows pending false).held in
+    or_else_full (other_fault shape None word held)
+    (step_fault shape position (word_met shape.rules [] false idle position word held).0 (word_met shape.rules [] false idle position word held).1) full
+
+gated : (b : Bool) (k : Kinds) → b ≡ false → (k ≡ [] → ⊥) → cond b [] k ≡ [] → ⊥
+gated false k e full = full
+gated true k e full = λ h. cc
+
+two_refused : (position : ℕ) (rows : List Row) (pending : Option (Text × List Text)) (ys : Text) → bytes_eq (45 ∷ 45 ∷ ys) (codes "--") ≡ false
+    → turn_fault shape [] (stands position rows pending false) (45 ∷ 45 ∷ ys) ≡ [] → ⊥
+two_refused position rows pending [] dashes = cc
+two_refused position rows pending (z ∷ zs) dashes = turn_full position rows pending (45 ∷ 45 ∷ z ∷ zs) (long_refused (stands position rows pending false).held z zs)
+
+hyphen_refused : (position : ℕ) (rows : List Row) (pending : Option (Text × List Text)) (xs : Text) → bytes_eq (45 ∷ xs) (codes "--") ≡ false
+    → is_some (slice_get (chars xs) 0) ≡ true → turn_fault shape [] (stands position rows pending false) (45 ∷ xs) ≡ [] → ⊥
+hyphen_refused position rows pending [] dashes spells =
+    let bad : false ≡ true = sym empty_spells ∙ spells in
+    λ e. cc
+hyphen_refused position rows pending (y ∷ ys) dashes spells = elim (bool_cases (nat_eq y 45)) [
+  | inl hyphen ↦
+      let same : y ≡ 45 = eqb-true y 45 hyphen in
+      let two : bytes_eq (45 ∷ 45 ∷ ys) (codes "--") ≡ false = subst (λ (k : ℕ). bytes_eq (45 ∷ k ∷ ys) (codes "--") ≡ false) same dashes in
+      subst (λ (k : ℕ). turn_fault shape [] (stands position rows pending false) (45 ∷ k ∷ ys) ≡ [] → ⊥) (sym same) (two_refused position rows pending ys two)
+  | inr other ↦
+      let held = (stands position rows pending false).held in
+      let first = some_of (slice_get (chars (y ∷ ys)) 0) spells in
+      turn_full position rows pending (45 ∷ y ∷ ys) (gated (bytes_eq (45 ∷ y ∷ ys) (codes "--"))
+      (flag_word_fault shape.rules false (long_of (45 ∷ y ∷ ys)) (45 ∷ y ∷ ys) held) dashes (short_refused held y first.0 ys refl other first.1))
+]
+
+-- a flag is refused
 pub flag_refused : (position : ℕ) (rows : List Row) (pending : Option (Text × List Text)) (word : Text) → bytes_eq word (codes "--") ≡ false → is_flag word ≡ true
     → turn_fault shape [] (stands position rows pending false) word ≡ [] → ⊥
-flag_refused position rows pending word dashes flag = ?
+flag_refused position rows pending [] dashes flag = cc
+flag_refused position rows pending (x ∷ xs) dashes flag =
+    let parts = both (nat_eq x 45) (is_some (slice_get (chars xs) 0)) flag in
+    let same : x ≡ 45 = eqb-true x 45 parts.0 in
+    let hyphen : bytes_eq (45 ∷ xs) (codes "--") ≡ false = subst (λ (k : ℕ). bytes_eq (k ∷ xs) (codes "--") ≡ false) same dashes in
+    subst (λ (k : ℕ). turn_fault shape [] (stands position rows pending false) (k ∷ xs) ≡ [] → ⊥) (sym same) (hyphen_refused position rows pending xs hyphen parts.1)

@@ -1,10 +1,9 @@
 use Rattle.jcard.proofs.Runs.{runs}
-use Rattle.jcard.proofs.Exact.{opened}
-use Rattle.jcard.proofs.FlagWords.{flag_refused, goes_on}
+use Rattle.jcard.proofs.Exact.{run_lines}
 use Rattle.jcard.proofs.arguments.parse.Goals as goal
 
 pub returns-in-Ok-Some-clause-runs : goal.returns-in-Ok-Some-clause-runs
-returns-in-Ok-Some-clause-runs c = let x = opened in let y = goes_on in let z = flag_refused in runs
+returns-in-Ok-Some-clause-runs c = let x = run_lines in runs
 
 pub returns-in-Ok-None-clause-runs : goal.returns-in-Ok-None-clause-runs
 returns-in-Ok-None-clause-runs c = runs
