@@ -2,7 +2,7 @@
 ghost use Rattle.std.specs.Prelude.{◌≡◌, ◌⊎◌, None, false, map, option_map, option_and_then, IfErr, IfOk};
 ghost use Rattle.std.specs.String.{string_bytes};
 ghost use Rattle.clap.specs.Words.{app_of, found_of, kind_of, rows_of, rule_of, subcommand_rows_of};
-ghost use Rattle.jcard.specs.CommandLine.{IsTakenAs, TakesRuns, operand, program_grammar, request_by, request_of, run_grammar, run_of, taken_for};
+ghost use Rattle.jcard.specs.CommandLine.{IsTakenAs, TakesRunLines, TakesRuns, operand, program_grammar, request_by, request_of, run_grammar, run_of, taken_for};
 
 use crate::fault::Fault;
 use clap::error::ErrorKind;
@@ -18,9 +18,11 @@ pub enum Action<'a> {
 
 /// What the words ask for, the program's name among them as the first. BadCommandLine comes only for
 /// words that ask for nothing, and NoMemory where memory was refused.
+#[tactic(auto, using(crate::proofs::RunLines::run_lines, crate::proofs::Runs::runs))]
 pub fn parse(alloc: Global, words: &[String]) -> Result<Action<'_>, Fault<'_>>
     ensures taken { IsTakenAs (taken_for (map string_bytes words.now)) result }
-    ensures runs { TakesRuns }
+    ensures run_lines { TakesRunLines }
+    ensures plain_runs { TakesRuns }
 {
     match matched(alloc, words) {
         Ok(Some(action)) => Ok(action),

@@ -5,7 +5,7 @@ use Rattle.std.specs.Str.{chars}
 use Rattle.std.proofs.lemmas.Bool.{ne_eqb}
 use Rattle.clap.specs.Words.{Kinds, Row, Text}
 use Rattle.clap.specs.Kinds.{or_else}
-use Rattle.clap.specs.Walk.{Held, Names, Rule, Walk, finished, idle, nothing_held, settled, walk_from, walked}
+use Rattle.clap.specs.Walk.{Held, Names, Rule, Walk, finished, idle, nothing_held, settled, value, walk_from, walked}
 use Rattle.clap.specs.Simple.{App, Shape, built, built_leaf, entered, inherited, marked_built, names_of, on_top, with_leaf_noted}
 use Rattle.clap.specs.Faults.{check_fault, defaults_fault, entered_fault, settle_fault, step_fault, turn_fault, walk_fault}
 use Rattle.clap.proofs.OnLiterals.{clap_on_literals}
@@ -61,7 +61,7 @@ by_command words = none_more (causes_of (walk_from nothing_held) words) (run_of 
 pub opened : (name : Text) (words : List Text) → taken_for (name ∷ codes "run" ∷ words) ≡ after (walk_from nothing_held) words
 opened name words = by_walk name words
     ∙ (ap₂ as_ended (sym (walk_stopped whole.top.rules (names_of whole) (walk_from nothing_held) (codes "run") [] words))
-      (stopped_fault whole.top (names_of whole) (walk_from nothing_held) (codes "run", []) words)
+    (stopped_fault whole.top (names_of whole) (walk_from nothing_held) (codes "run", []) words)
     ∙ by_command words)
 
 -- ---- one word more
@@ -130,24 +130,82 @@ unfolding after clap_on_literals
 first_only [] = refl
 first_only (image ∷ words) = after_next (first true) (second image true) image words refl refl ∙ second_only image words
 
-too_many : (image script word : Text) (o : Option (List Text)) → run_with (option_map (λ rest. image ∷ script ∷ rest) (option_map (λ rest. word ∷ rest) o)) ≡ None
+-- ---- the lines, by what the next word is
+
+-- with these operands before the words
+abbrev with_script : Text → Text → Option (List Text) → Option Request
+with_script image script rest = run_with (option_map (λ words. image ∷ script ∷ words) rest)
+
+abbrev with_image : Text → Option (List Text) → Option Request
+with_image image rest = run_with (option_map (λ words. image ∷ words) rest)
+
+too_many : (image script word : Text) (o : Option (List Text)) → None ≡ with_script image script (option_map (λ rest. word ∷ rest) o)
 too_many image script word None = refl
 too_many image script word (Some rest) = refl
 
-at_third : (image script : Text) (words : List Text) → after (third image script false) words ≡ run_with (option_map (λ rest. image ∷ script ∷ rest) (operands words))
+script_next : (image script : Text) (o : Option (List Text)) → with_script image script o ≡ with_image image (option_map (λ rest. script ∷ rest) o)
+script_next image script None = refl
+script_next image script (Some rest) = refl
+
+third_flag : (image script word : Text) (words : List Text) → bytes_eq word (codes "--") ≡ false → is_flag word ≡ true → after (third image script false) (word ∷ words) ≡ None
+third_flag image script word words other flag =
+    after_refused (third image script false) word words
+    (flag_refused 3 (settled shape.rules (second image false).held).rows (Some (codes "script", script ∷ [])) word other flag)
+
+third_plain : (image script word : Text) (words : List Text) → is_flag word ≡ false → after (third image script false) (word ∷ words) ≡ None
+third_plain image script word words plain =
+    let goes = goes_on 3 (settled shape.rules (second image false).held).rows (Some (codes "script", script ∷ [])) word plain in
+    after_refused (third image script false) word words (λ e. let bad : step_fault shape 3 (third image script false).held value ≡ [] = sym goes.1 ∙ e in cc)
+
+at_third : (image script : Text) (words : List Text) → after (third image script false) words ≡ with_script image script (operands words)
 unfolding after clap_on_literals
 at_third image script [] = refl
-at_third image script (word ∷ words) = ?
+at_third image script (word ∷ words) = elim (bool_cases (bytes_eq word (codes "--"))) [
+  | inl dashes ↦ after_dashes 3 (settled shape.rules (second image false).held).rows (Some (codes "script", script ∷ [])) word words dashes
+      ∙ (third_only image script words ∙ ap (with_script image script) (sym (operands_dashes word words dashes)))
+  | inr other ↦ elim (bool_cases (is_flag word)) [
+    | inl flag ↦ third_flag image script word words other flag ∙ ap (with_script image script) (sym (operands_flag word words other flag))
+    | inr plain ↦ third_plain image script word words plain
+        ∙ (too_many image script word (operands words) ∙ ap (with_script image script) (sym (operands_plain word words other plain)))
+  ]
+]
 
-at_second : (image : Text) (words : List Text) → after (second image false) words ≡ run_with (option_map (λ rest. image ∷ rest) (operands words))
+second_plain : (image script : Text) (words : List Text) → is_flag script ≡ false → after (second image false) (script ∷ words) ≡ after (third image script false) words
+unfolding clap_on_literals
+second_plain image script words plain =
+    let goes = goes_on 2 [] (Some (codes "image", image ∷ [])) script plain in
+    after_next (second image false) (third image script false) script words goes.1 goes.0
+
+at_second : (image : Text) (words : List Text) → after (second image false) words ≡ with_image image (operands words)
 unfolding after clap_on_literals
 at_second image [] = refl
-at_second image (word ∷ words) = ?
+at_second image (word ∷ words) = elim (bool_cases (bytes_eq word (codes "--"))) [
+  | inl dashes ↦ after_dashes 2 [] (Some (codes "image", image ∷ [])) word words dashes
+      ∙ (second_only image words ∙ ap (with_image image) (sym (operands_dashes word words dashes)))
+  | inr other ↦ elim (bool_cases (is_flag word)) [
+    | inl flag ↦ after_refused (second image false) word words (flag_refused 2 [] (Some (codes "image", image ∷ [])) word other flag)
+        ∙ ap (with_image image) (sym (operands_flag word words other flag))
+    | inr plain ↦ second_plain image word words plain
+        ∙ (at_third image word words ∙ (script_next image word (operands words) ∙ ap (with_image image) (sym (operands_plain word words other plain))))
+  ]
+]
+
+first_plain : (image : Text) (words : List Text) → is_flag image ≡ false → after (first false) (image ∷ words) ≡ after (second image false) words
+unfolding clap_on_literals
+first_plain image words plain =
+    let goes = goes_on 1 [] None image plain in
+    after_next (first false) (second image false) image words goes.1 goes.0
 
 at_first : (words : List Text) → after (first false) words ≡ run_with (operands words)
 unfolding after clap_on_literals
 at_first [] = refl
-at_first (word ∷ words) = ?
+at_first (word ∷ words) = elim (bool_cases (bytes_eq word (codes "--"))) [
+  | inl dashes ↦ after_dashes 1 [] None word words dashes ∙ (first_only words ∙ ap run_with (sym (operands_dashes word words dashes)))
+  | inr other ↦ elim (bool_cases (is_flag word)) [
+    | inl flag ↦ after_refused (first false) word words (flag_refused 1 [] None word other flag) ∙ ap run_with (sym (operands_flag word words other flag))
+    | inr plain ↦ first_plain word words plain ∙ (at_second word words ∙ ap run_with (sym (operands_plain word words other plain)))
+  ]
+]
 
 pub run_lines : TakesRunLines
 run_lines name words = opened name words ∙ at_first words
