@@ -1,12 +1,10 @@
 -- Every line of the command `run`.
-use Rattle.std.proofs.Common.{◌≡◌, ◌∙◌, inl, inr, ℕ, zero, suc, Bool, true, false, List, [], ◌∷◌, ◌++◌, Option, Some, None, refl, sym, ap, ap₂, is_some, codes, length}
-use Rattle.std.specs.Prelude.{slice_get, nat_eq, fold, option_and_then}
-use Rattle.std.specs.Str.{chars}
-use Rattle.std.proofs.lemmas.Bool.{ne_eqb}
+use Rattle.std.proofs.Common.{◌≡◌, ◌∙◌, inl, inr, ℕ, Bool, true, false, List, [], ◌∷◌, Option, Some, None, refl, sym, ap, ap₂, is_some, codes}
+use Rattle.std.specs.Prelude.{fold, option_and_then}
 use Rattle.clap.specs.Words.{Kinds, Row, Text}
 use Rattle.clap.specs.Kinds.{or_else}
-use Rattle.clap.specs.Walk.{Held, Names, Rule, Walk, finished, idle, nothing_held, settled, value, walk_from, walked}
-use Rattle.clap.specs.Simple.{App, Shape, built, built_leaf, entered, inherited, marked_built, names_of, on_top, with_leaf_noted}
+use Rattle.clap.specs.Walk.{Held, Walk, finished, nothing_held, settled, value, walk_from, walked}
+use Rattle.clap.specs.Simple.{App, built, entered, names_of}
 use Rattle.clap.specs.Faults.{check_fault, defaults_fault, entered_fault, settle_fault, step_fault, turn_fault, walk_fault}
 use Rattle.clap.proofs.OnLiterals.{clap_on_literals}
 use Rattle.clap.proofs.WalkLemmas.{walk_stopped}
@@ -15,7 +13,7 @@ use Rattle.std.specs.Str.{bytes_eq}
 use Rattle.std.specs.Prelude.{option_map}
 use Rattle.std.proofs.lemmas.Slice.Eq.{bytes_eq-Decides}
 use Rattle.jcard.proofs.FlagWords.{bool_cases, flag_refused, goes_on, shape, stands}
-use Rattle.jcard.specs.CommandLine.{TakesRunLines, is_flag, operands, run_with, Request, ToRun, program_grammar, request_of, run_grammar, run_of, taken_for, unless_refused}
+use Rattle.jcard.specs.CommandLine.{TakesRunLines, is_flag, operands, run_with, Request, program_grammar, request_of, run_of, taken_for, unless_refused}
 
 -- ---- the words before those of the command
 

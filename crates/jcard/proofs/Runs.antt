@@ -1,10 +1,10 @@
 -- A plain line of the command `run`.
-use Rattle.std.proofs.Common.{◌≡◌, ℕ, Bool, true, false, List, [], ◌∷◌, Option, Some, None, refl, ap, codes}
-use Rattle.std.specs.Prelude.{slice_get, nat_eq}
+use Rattle.std.proofs.Common.{◌≡◌, ℕ, false, [], ◌∷◌, Some, refl, ap}
+use Rattle.std.specs.Prelude.{nat_eq}
 use Rattle.std.proofs.lemmas.Bool.{ne_eqb}
 use Rattle.clap.specs.Words.{Text}
 use Rattle.clap.proofs.OnLiterals.{clap_on_literals}
-use Rattle.jcard.specs.CommandLine.{IsNoFlag, TakesRuns, ToRun, taken_for}
+use Rattle.jcard.specs.CommandLine.{IsNoFlag, TakesRuns, taken_for}
 
 no_hyphen : (x : ℕ) (xs : Text) → IsNoFlag (x ∷ xs) → nat_eq x 45 ≡ false
 no_hyphen x xs h = ne_eqb x 45 (λ e. h (ap Some e))

@@ -1,4 +1,4 @@
-use Rattle.std.proofs.Common.{◌∙◌, Some, None, refl, codes}
+use Rattle.std.proofs.Common.{Some, None, refl, codes}
 use Rattle.clap.specs.Words.{first_value, found_of}
 use Rattle.jcard.proofs.CommandLine.{run_read}
 use Rattle.jcard.proofs.arguments.run_asked.Goals as goal
