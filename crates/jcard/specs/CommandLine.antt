@@ -67,7 +67,7 @@ abbrev pub is_flag : Text → Bool
 is_flag [] = false
 is_flag (x ∷ xs) = (x == 45) && is_some (slice_get (chars xs) 0)
 
--- the words, where none is a flag; `--` stands before the last of them, and ends the flags
+-- the words, if none of them is a flag. The first `--` is no operand, and what follows it is no flag, however it begins
 abbrev pub operands : List Text → Option (List Text)
 operands [] = Some []
 operands (word ∷ words) = if bytes_eq word (codes "--") then Some words
