@@ -1,10 +1,11 @@
 -- How the program ends: its exit status and its last line.
-use Rattle.std.specs.Prelude.{ℕ, Bool, ◌≡◌, ◌⊎◌, List, [], ◌++◌, codes, decimal, Result, Ok, Err}
+use Rattle.std.specs.Prelude.{ℕ, Bool, ◌≡◌, ◌⊎◌, List, [], ◌++◌, codes, decimal, Result, Ok, Err, Option, Some, None}
 use Rattle.std.specs.Borrow.{Bor}
 use Rattle.jcard_script.specs.Script.{Ends}
 use Rattle.jcard_script.specs.Texts.{IsCutOf}
 use Rattle.jcard_script.specs.declared.script.ScriptFault.{ScriptFault}
 use Rattle.jcard_script.specs.declared.script.ScriptFault.TheVariants.{ReadFailed, WriteFailed as CannotWrite, BadLine, TooLong}
+use Rattle.jcard.specs.CommandLine.{Request, ToRun, taken_for}
 use Rattle.jcard.specs.declared.fault.Fault.{Fault}
 use Rattle.jcard.specs.declared.fault.Fault.TheVariants.{BadCommandLine, NoMemory, CannotRead, BadCommand, ScriptTooLong, WriteFailed}
 
@@ -36,16 +37,6 @@ abbrev pub IsLastLine : Result Unit Fault → List ℕ → Type 0
 IsLastLine (Ok done) text = text ≡ []
 IsLastLine (Err fault) text = IsWritten (line_of fault) text
 
--- a fault that comes before any script is begun
-abbrev pub IsEarly : Result Unit Fault → Type 0
-IsEarly (Ok done) = ⊥
-IsEarly (Err BadCommandLine) = Unit {0}
-IsEarly (Err NoMemory) = Unit {0}
-IsEarly (Err (CannotRead path)) = Unit {0}
-IsEarly (Err (BadCommand n)) = ⊥
-IsEarly (Err ScriptTooLong) = ⊥
-IsEarly (Err WriteFailed) = ⊥
-
 -- how the carrying out of the script in a file of this name ended
 abbrev pub IsOutcomeOf : List ℕ → Result Unit ScriptFault → Result Unit Fault → Type 0
 IsOutcomeOf path (Ok done) result = result ≡ Ok done
@@ -54,8 +45,18 @@ IsOutcomeOf path (Err TooLong) result = result ≡ Err ScriptTooLong
 IsOutcomeOf path (Err CannotWrite) result = result ≡ Err WriteFailed
 IsOutcomeOf path (Err ReadFailed) result = (name : Bor (List ℕ)) × (result ≡ Err (CannotRead name)) × (name.now ≡ path)
 
--- the program came to this end and wrote this text: it was refused before a script was begun and wrote nothing, or it carried
--- out the lines of a script
-abbrev pub IsPerformed : Result Unit Fault → List ℕ → Type 0
-IsPerformed ended text = (IsEarly ended × (text ≡ []))
-    ⊎ ((path bytes : List ℕ) × (at_end : Bool) × (script : Result Unit ScriptFault) × Ends script at_end bytes text × IsOutcomeOf path script ended)
+-- the script in the file of this name was carried out to this end, and this text was written; or the file could not be opened,
+-- and nothing was
+abbrev pub IsRun : List ℕ → Result Unit Fault → List ℕ → Type 0
+IsRun path ended text = (IsOutcomeOf path (Err ReadFailed) ended × (text ≡ []))
+    ⊎ ((bytes : List ℕ) × (at_end : Bool) × (script : Result Unit ScriptFault) × Ends script at_end bytes text × IsOutcomeOf path script ended)
+
+-- what is asked for was done to this end, and this text was written; where nothing is, the command line is bad
+abbrev pub IsDone : Option Request → Result Unit Fault → List ℕ → Type 0
+IsDone None ended text = (ended ≡ Err BadCommandLine) × (text ≡ [])
+IsDone (Some (ToRun image script)) ended text = IsRun script ended text
+
+-- on these words the program came to this end and wrote this text: memory was refused before anything was done, or what the words
+-- are taken for was done
+abbrev pub IsPerformed : List (List ℕ) → Result Unit Fault → List ℕ → Type 0
+IsPerformed words ended text = ((ended ≡ Err NoMemory) × (text ≡ [])) ⊎ IsDone (taken_for words) ended text

@@ -1,10 +1,12 @@
 //! What the program does.
-ghost use Rattle.std.specs.Prelude.{◌≡◌, ◌++◌, ℕ, List, Bool, Result};
+ghost use Rattle.std.specs.Prelude.{◌≡◌, ◌++◌, ℕ, List, Bool, Result, Some, map};
 ghost use Rattle.std.specs.Bool.{OnTrue};
+ghost use Rattle.std.specs.String.{string_bytes};
 ghost use Rattle.std.specs.Io.KnownBytes.{Appends, Consumes};
 ghost use Rattle.jcard_script.specs.Script.{Ends, IsWholeScript};
 ghost use Rattle.jcard_script.specs.declared.script.ScriptFault.{ScriptFault};
-ghost use Rattle.jcard.specs.Faults.{status_of, IsLastLine, IsOutcomeOf, IsPerformed};
+ghost use Rattle.jcard.specs.CommandLine.{request_by};
+ghost use Rattle.jcard.specs.Faults.{status_of, IsDone, IsLastLine, IsOutcomeOf, IsPerformed, IsRun};
 ghost use Rattle.jcard.specs.declared.fault.Fault.{Fault};
 
 use crate::arguments::{Action, parse};
@@ -20,7 +22,7 @@ use std::rt::Files;
 pub fn run_words<R: Files + AllocGlobal, W: TextOut>(rt: &R, words: &[String], out: &mut W) -> u8
     ensures { (text last : List ℕ) × (ended : Result Unit Fault)
         × Appends (W.contents out.old) (W.contents out.new) (text ++ last)
-        × IsPerformed ended text × IsLastLine ended last × (result ≡ status_of ended) }
+        × IsPerformed (map string_bytes words.now) ended text × IsLastLine ended last × (result ≡ status_of ended) }
 {
     let ended = perform(rt, words, out);
     tell(ended, out)
@@ -31,16 +33,30 @@ fn perform<'a, R: Files + AllocGlobal, W: TextOut>(
     words: &'a [String],
     out: &mut W,
 ) -> Result<(), Fault<'a>>
-    ensures { (text : List ℕ) × Appends (W.contents out.old) (W.contents out.new) text × IsPerformed result text }
+    ensures { (text : List ℕ) × Appends (W.contents out.old) (W.contents out.new) text × IsPerformed (map string_bytes words.now) result text }
 {
-    let Action::Run { image: _, script } = match parse(rt.alloc(), words) {
-        Ok(action) => action,
-        Err(fault) => return Err(fault),
+    match parse(rt.alloc(), words) {
+        Ok(action) => act(rt, action, out),
+        Err(fault) => Err(fault),
+    }
+}
+
+fn act<'a, R: Files, W: TextOut>(rt: &R, action: Action<'a>, out: &mut W) -> Result<(), Fault<'a>>
+    ensures { (text : List ℕ) × Appends (W.contents out.old) (W.contents out.new) text × IsDone (Some (request_by action.entry)) result text }
+{
+    match action {
+        Action::Run { image: _, script } => run_file(rt, script, out),
+    }
+}
+
+// Carries out the script in the file of this name.
+fn run_file<'a, R: Files, W: TextOut>(rt: &R, path: &'a str, out: &mut W) -> Result<(), Fault<'a>>
+    ensures { (text : List ℕ) × Appends (W.contents out.old) (W.contents out.new) text × IsRun path.now result text }
+{
+    let Ok(file) = fs::open(rt, path) else {
+        return Err(Fault::CannotRead(path));
     };
-    let Ok(file) = fs::open(rt, script) else {
-        return Err(Fault::CannotRead(script));
-    };
-    carry_out(script, &mut StdText::new(file), out)
+    carry_out(path, &mut StdText::new(file), out)
 }
 
 // Carries out the script that comes from the file of this name.

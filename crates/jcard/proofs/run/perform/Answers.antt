@@ -1,8 +1,7 @@
-use Rattle.std.proofs.Common.{[], refl, inl, inr}
-use Rattle.jcard_script.proofs.Known.{appends_same}
+use Rattle.std.proofs.Common.{inr}
 use Rattle.jcard.proofs.run.perform.Goals as goal
 
-pub returns : goal.returns
-returns g c =
-    let done = c.carry_out.ensures in
-    (done.1, done.5, inr (_, done.0, done.2, done.3, done.7, done.8))
+pub returns-in-Ok : goal.returns-in-Ok
+returns-in-Ok g c =
+    let done = c.act.ensures in
+    (done.0, done.1, inr (rw c.in-Ok.ensures.taken done.2))
