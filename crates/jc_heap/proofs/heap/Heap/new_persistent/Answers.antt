@@ -2,7 +2,7 @@ use Rattle.std.proofs.Common.{◌≡◌, ◌≤◌, ◌+◌, ◌∙◌, [], ◌�
 use Rattle.jc_commit.specs.State.{has_room_for}
 use Rattle.jc_commit.specs.declared.refusal.WriteRefusal.TheVariants.{StoreDown}
 use Rattle.jc_heap.specs.Fresh.{KeepsBelow, Fills}
-use Rattle.jc_heap.specs.Object.{kind_number, new_object, AnObject, is_object, cells_of}
+use Rattle.jc_heap.specs.Object.{kind_number, new_object, AnObject, is_object, cells_of, facts_of}
 use Rattle.jc_heap.specs.Heap.{heap_view, changed, add_object, end_place, item_at}
 use Rattle.jc_heap.proofs.Changing.{up_is}
 use Rattle.jc_heap.proofs.Views.{nothing_at_top, view_top}
@@ -111,3 +111,10 @@ returns-clause-done g c =
 
 pub returns-clause-heap_full : goal.returns-clause-heap_full
 returns-clause-heap_full g c = ((λ e. cc), λ l. absurd (has_space c.self.inside.journal c.args.self.now c.self.inside.size (4 + c.args.length) c.self.view_is (c.self.invariant.now (up_is c.self.inside.journal c.args.self.now c.self.inside.size c.self.view_is c.requires)) (omega arith) l))
+
+pub returns-clause-facts : goal.returns-clause-facts
+returns-clause-facts g c =
+    let there : item_at ((heap_view c.write.new.self c.self.inside.size).now) c.at.result ≡ AnObject (new_object c.args.kind c.args.class c.args.owner c.args.length) =
+    ap (item_at ((heap_view c.write.new.self c.self.inside.size).now)) (returns-clause-named g c) ∙ ap (λ v. item_at (v.now) c.args.self.now.now.top) (returns-clause-done g c)
+    ∙ made_object c.args.self.now (new_object c.args.kind c.args.class c.args.owner c.args.length) (4 + c.args.length) (4 + c.args.length) (end_place ∷ []) (returns-clause-free g c) in
+    ap facts_of there
