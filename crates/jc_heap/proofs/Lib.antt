@@ -13,6 +13,7 @@ pub mod NewObjects
 pub mod Following
 pub mod Runs
 pub mod AreaEnds
+pub mod Places
 pub mod MoveLaws
 pub mod RawWords
 pub mod LaidImages

@@ -3,6 +3,7 @@ pub mod Table
 pub mod Object
 pub mod Image
 pub mod Heap
+pub mod Places
 pub mod Fresh
 pub mod Refusals
 pub mod Moves

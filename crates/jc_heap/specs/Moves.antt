@@ -5,15 +5,17 @@ use Rattle.jc_commit.specs.Entries.{addresses_of}
 use Rattle.jc_transient.specs.declared.cell.ClearEvent.{ClearEvent}
 use Rattle.jc_heap.specs.declared.object.Kind.{Kind}
 use Rattle.jc_heap.specs.Object.{Object}
-use Rattle.jc_heap.specs.Heap.{HeapState, HeapView, set_cell, set_cells, run_words, add_object, add_transient, area_place, is_touched, changed, counted, begun, committed, aborted, cell_place, end_place}
+use Rattle.jc_heap.specs.Heap.{HeapState, HeapView, set_cells, run_words, add_object, add_transient, area_place, is_touched, changed, begun, committed, aborted, cell_place, end_place}
+use Rattle.jc_heap.specs.declared.place.Place.{Place}
+use Rattle.jc_heap.specs.Places.{place_word, set_place, written, counted}
 use Rattle.jc_heap.specs.declared.refusal.HeapRefusal.{HeapRefusal}
 use Rattle.jc_heap.specs.declared.refusal.HeapRefusal.TheVariants.{StoreDown, CommitFull, HeapFull, NoTransientSpace}
 
 -- one change of the heap, or one step of its transaction. A new object names its address, which is the
 -- one free choice, and how many words it takes
 pub data Move : Type 0 where
-  SetCell : ℕ → ℕ → ℕ → Move
-  CountCell : ℕ → ℕ → ℕ → Move
+  Write : Place → ℕ → Move
+  Count : Place → ℕ → Move
   SetCells : ℕ → ℕ → List ℕ → Move
   AddObject : Object → ℕ → Move
   AddTransient : Kind → ClearEvent → ℕ → ℕ → ℕ → Move
@@ -23,8 +25,8 @@ pub data Move : Type 0 where
 
 -- the heap after a move
 abbrev pub apply : Move → HeapView → HeapView
-apply (SetCell r i v) h = changed h (set_cell h.now r i v) (cell_place r i ∷ []) 0
-apply (CountCell r i v) h = counted h r i v
+apply (Write p v) h = written h p v
+apply (Count p v) h = counted h p v
 apply (SetCells r i vs) h = changed h (set_cells h.now r i vs) (addresses_of (run_words (cell_place r i) vs)) 0
 apply (AddTransient kind event class owner long) h = changed h (add_transient h.now kind event class owner long) (end_place ∷ area_place event ∷ []) 5
 apply (AddObject o size) h = changed h (add_object h.now o size) (end_place ∷ []) size
@@ -45,13 +47,13 @@ IsInside (Commit ∷ ms) = ⊥
 IsInside (Abort ∷ ms) = ⊥
 IsInside (m ∷ ms) = IsInside ms
 
--- what the counted cells among these moves make of a durable heap: those that no earlier change touched
+-- what the places counted among these moves make of a durable heap: those that no earlier change touched
 abbrev pub with_counts : List Move → HeapView → HeapState → HeapState
 with_counts [] h d = d
-with_counts (CountCell r i v ∷ ms) h d = with_counts ms (apply (CountCell r i v) h) (if is_touched h (cell_place r i) then d else set_cell d r i v)
+with_counts (Count p v ∷ ms) h d = with_counts ms (apply (Count p v) h) (if is_touched h (place_word p) then d else set_place d p v)
 with_counts (m ∷ ms) h d = with_counts ms (apply m h) d
 
--- inside a transaction the durable heap stays as it is but for counted cells, whatever the moves are
+-- inside a transaction the durable heap stays as it is but for counted places, whatever the moves are
 abbrev pub KeepsDurable : Type 0
 KeepsDurable = (moves : List Move) (h : HeapView) → h.begun ≡ true → IsInside moves → (applied moves h).durable ≡ with_counts moves h h.durable
 

@@ -4,10 +4,11 @@ ghost use Rattle.jc_commit.specs.Image.{capacity, plain_of, recovered_of, IsGood
 ghost use Rattle.jc_commit.specs.Entries.{addresses_of};
 ghost use Rattle.jc_heap.specs.Object.{IsElement};
 ghost use Rattle.jc_heap.specs.Image.{IsLaid};
-ghost use Rattle.jc_heap.specs.Heap.{HeapView, HeapState, heap_of, cells, facts, IsObject, next_object, set_cell, set_cells, run_words, changed, counted, cell_place, IsStopped, has_room_for, begun, committed, aborted, KeepsBelowTop};
+ghost use Rattle.jc_heap.specs.Heap.{HeapView, HeapState, heap_of, cells, facts, IsObject, next_object, set_cell, set_cells, run_words, changed, cell_place, IsStopped, has_room_for, begun, committed, aborted, KeepsBelowTop};
 
 use crate::layout::{HEADER, TEXT_LENGTH, TEXT_START, TOP};
 use crate::object::{Facts, Kind, event_of_number};
+use crate::place::Place;
 use crate::refusal::HeapRefusal;
 use crate::walk::first_object;
 use jc_commit::Journal;
@@ -16,7 +17,7 @@ use jc_words::{JOURNAL_CAPACITY, WordStore};
 use std::marker::Model;
 
 // How many words one change may have.
-const MOST_CHANGES: usize = JOURNAL_CAPACITY as usize;
+pub(crate) const MOST_CHANGES: usize = JOURNAL_CAPACITY as usize;
 
 /// Objects by reference, with transactions.
 ///
@@ -65,7 +66,7 @@ fn words_of_run(changes: &mut [(u16, u16)], at: u16, values: &[u16])
 
 impl<S: WordStore> Heap<S> {
     // The word of a cell.
-    fn cell_word(&self, object: Ref, i: u16) -> u16
+    pub(crate) fn cell_word(&self, object: Ref, i: u16) -> u16
         requires up { self.now.down ≡ false }
         requires cell { i < length (cells self.now.now object) }
         ensures { result ≡ cell_place object i }
@@ -162,24 +163,7 @@ impl<S: WordStore> Heap<S> {
         ensures space { result ≡ Err HeapRefusal.HeapFull → ⊥ }
         ensures area { result ≡ Err HeapRefusal.NoTransientSpace → ⊥ }
     {
-        let word = self.cell_word(object, i);
-        self.journal.write(word, v)?;
-        Ok(())
-    }
-
-    /// Sets a cell for good: no abort takes it back, unless an earlier change of the transaction has
-    /// touched it.
-    pub fn set_both(&mut self, object: Ref, i: u16, v: u16) -> Result<(), HeapRefusal>
-        requires up { self.old.down ≡ false }
-        requires cell { i < length (cells self.old.now object) }
-        requires value { IsElement (facts self.old.now object).kind v }
-        ensures done { OnOk result (self.new ≡ counted self.old object i v) }
-        ensures stopped { OnErr result (IsStopped self.old self.new) }
-        ensures only_down { OnErr result (result ≡ Err HeapRefusal.StoreDown) }
-    {
-        let word = self.cell_word(object, i);
-        self.journal.write_both(word, v)?;
-        Ok(())
+        self.write(Place::Cell(object, i), v)
     }
 
     /// Sets the cells of a persistent object from an index on, as one change.

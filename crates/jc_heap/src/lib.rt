@@ -9,6 +9,7 @@ mod layout;
 mod making;
 mod object;
 mod opening;
+mod place;
 mod refusal;
 mod walk;
 
@@ -16,4 +17,5 @@ pub use heap::Heap;
 pub use law::transactions_keep_what_is_durable;
 pub use object::{Facts, Kind};
 pub use opening::OpenImage;
+pub use place::Place;
 pub use refusal::HeapRefusal;
