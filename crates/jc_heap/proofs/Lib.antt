@@ -15,6 +15,7 @@ pub mod Runs
 pub mod AreaEnds
 pub mod Places
 pub mod MoveLaws
+pub mod Calls
 pub mod RawWords
 pub mod LaidImages
 pub mod LaidStores

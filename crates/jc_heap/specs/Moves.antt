@@ -1,11 +1,12 @@
 -- Moves of a heap as data: what a power loss within some of them leaves.
-use Rattle.std.specs.Prelude.{ℕ, ◌≡◌, ◌⊎◌, if◌then◌else◌, true, List, [], ◌∷◌, Result, Ok, Err}
+use Rattle.std.specs.Prelude.{ℕ, ◌+◌, ◌≡◌, ◌⊎◌, if◌then◌else◌, true, List, [], ◌∷◌, Option, Some, None, Result, Ok, Err, nat_lt}
+use Rattle.jc_transient.specs.State.{area_size}
 use Rattle.jc_words.specs.Count.{raised}
 use Rattle.jc_commit.specs.Entries.{addresses_of}
 use Rattle.jc_transient.specs.declared.cell.ClearEvent.{ClearEvent}
 use Rattle.jc_heap.specs.declared.object.Kind.{Kind}
 use Rattle.jc_heap.specs.Object.{Object}
-use Rattle.jc_heap.specs.Heap.{HeapState, HeapView, set_cells, run_words, add_object, add_transient, area_place, is_touched, changed, begun, committed, aborted, cell_place, end_place}
+use Rattle.jc_heap.specs.Heap.{HeapState, HeapView, set_cells, run_words, add_object, add_transient, area_place, area_end, is_touched, has_room_for, changed, begun, committed, aborted, cell_place, end_place}
 use Rattle.jc_heap.specs.declared.place.Place.{Place}
 use Rattle.jc_heap.specs.Places.{place_word, set_place, written, counted}
 use Rattle.jc_heap.specs.declared.refusal.HeapRefusal.{HeapRefusal}
@@ -89,3 +90,20 @@ after_of (Err NoTransientSpace) h = Made (Refused NoTransientSpace) h
 abbrev pub Makes : {A : Type 0} → HeapView → After A → List Move → A → Type 0
 Makes old (Made a new) moves answer = (a ≡ answer) × (new ≡ applied moves old)
 Makes old (Cut new) moves answer = IsCut moves old new
+
+-- why a change of these places is refused before anything is written: there is no room
+abbrev pub full_at : HeapView → List ℕ → Option HeapRefusal
+full_at v places = if has_room_for v places then None else Some CommitFull
+
+-- why a new object of so many words is: first there is no space
+abbrev pub no_object : HeapView → ℕ → List ℕ → Option HeapRefusal
+no_object v size places = if nat_lt v.size (v.now.top + size) then Some HeapFull else full_at v places
+
+-- why a new transient object with so many cells is: first its area has no space
+abbrev pub no_transient : HeapView → ClearEvent → ℕ → Option HeapRefusal
+no_transient v event n = if nat_lt area_size (area_end v.now event + n) then Some NoTransientSpace else no_object v 5 (end_place ∷ area_place event ∷ [])
+
+-- a call makes these moves and answers this; where there is a reason it makes none and answers the reason
+abbrev pub MakesUnless : {A : Type 0} → Option HeapRefusal → HeapView → After (Answer A) → List Move → A → Type 0
+MakesUnless None old after moves answer = Makes old after moves (Done answer)
+MakesUnless (Some reason) old after moves answer = Makes old after [] (Refused reason)

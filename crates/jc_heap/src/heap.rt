@@ -5,6 +5,8 @@ ghost use Rattle.jc_commit.specs.Entries.{addresses_of};
 ghost use Rattle.jc_heap.specs.Object.{IsElement};
 ghost use Rattle.jc_heap.specs.Image.{IsLaid};
 ghost use Rattle.jc_heap.specs.Heap.{HeapView, HeapState, heap_of, cells, facts, IsObject, next_object, set_cell, set_cells, run_words, changed, cell_place, IsStopped, has_room_for, begun, committed, aborted, KeepsBelowTop};
+ghost use Rattle.jc_heap.specs.declared.place.Place.TheVariants.{Cell};
+ghost use Rattle.jc_heap.specs.Moves.{Write, SetCells, Begin, Commit, Abort, Made, Done, Makes, MakesUnless, after_of, full_at};
 
 use crate::layout::{HEADER, TEXT_LENGTH, TEXT_START, TOP};
 use crate::object::{Facts, Kind, event_of_number};
@@ -156,6 +158,7 @@ impl<S: WordStore> Heap<S> {
         requires up { self.old.down ≡ false }
         requires cell { i < length (cells self.old.now object) }
         requires value { IsElement (facts self.old.now object).kind v }
+        ensures moves { MakesUnless (full_at self.old (cell_place object i ∷ [])) self.old (after_of result self.new) (Write (Cell object i) v ∷ []) tt }
         ensures done { OnOk result (self.new ≡ changed self.old (set_cell self.old.now object i v) (cell_place object i ∷ []) 0) }
         ensures full { (result ≡ Err HeapRefusal.CommitFull) ↔ (has_room_for self.old (cell_place object i ∷ []) ≡ false) }
         ensures kept { result ≡ Err HeapRefusal.CommitFull → self.new ≡ self.old }
@@ -171,6 +174,7 @@ impl<S: WordStore> Heap<S> {
         requires up { self.old.down ≡ false }
         requires cells { i + length values.now ≤ length (cells self.old.now object) }
         requires values { (k : ℕ) → k < length values.now → IsElement (facts self.old.now object).kind (slice_index values.now k) }
+        ensures moves { MakesUnless (full_at self.old (addresses_of (run_words (cell_place object i) values.now))) self.old (after_of result self.new) (SetCells object i values.now ∷ []) tt }
         ensures done { OnOk result (self.new ≡ changed self.old (set_cells self.old.now object i values.now) (addresses_of (run_words (cell_place object i) values.now)) 0) }
         ensures full { (result ≡ Err HeapRefusal.CommitFull) ↔ (has_room_for self.old (addresses_of (run_words (cell_place object i) values.now)) ≡ false) }
         ensures kept { result ≡ Err HeapRefusal.CommitFull → self.new ≡ self.old }
@@ -206,6 +210,7 @@ impl<S: WordStore> Heap<S> {
     pub fn begin(&mut self)
         requires up { self.old.down ≡ false }
         requires outside { self.old.begun ≡ false }
+        ensures moves { Makes {A = Unit {0}} self.old (Made tt self.new) (Begin ∷ []) tt }
         ensures done { self.new ≡ begun self.old }
         ensures none { self.old.touched ≡ [] }
     {
@@ -216,6 +221,7 @@ impl<S: WordStore> Heap<S> {
     pub fn commit(&mut self) -> Result<(), HeapRefusal>
         requires up { self.old.down ≡ false }
         requires inside { self.old.begun ≡ true }
+        ensures moves { Makes self.old (after_of result self.new) (Commit ∷ []) (Done tt) }
         ensures done { OnOk result (self.new ≡ committed self.old) }
         ensures stopped { OnErr result (IsStopped self.old self.new) }
         ensures only_down { OnErr result (result ≡ Err HeapRefusal.StoreDown) }
@@ -228,6 +234,7 @@ impl<S: WordStore> Heap<S> {
     pub fn abort(&mut self) -> Result<(), HeapRefusal>
         requires up { self.old.down ≡ false }
         requires inside { self.old.begun ≡ true }
+        ensures moves { Makes self.old (after_of result self.new) (Abort ∷ []) (Done tt) }
         ensures done { OnOk result (self.new ≡ aborted self.old) }
         ensures names { OnOk result (KeepsBelowTop self.old.now self.new.now) }
         ensures stopped { OnErr result (IsStopped self.old self.new) }

@@ -1,6 +1,7 @@
 //! Words that a change names: cells and the words of the registry.
 ghost use Rattle.std.specs.Prelude.{◌≡◌, ◌<◌, ◌↔◌, false, [], ◌∷◌, Err, map, length, slice_index, OnOk, OnErr};
 ghost use Rattle.jc_heap.specs.Heap.{HeapState, IsStopped, has_room_for, kept};
+ghost use Rattle.jc_heap.specs.Moves.{Write, Count, Done, Makes, MakesUnless, after_of, full_at};
 ghost use Rattle.jc_heap.specs.Places.{HasPlace, MayHold, place_word, written, counted};
 
 use crate::heap::{Heap, MOST_CHANGES};
@@ -45,6 +46,7 @@ impl<S: WordStore> Heap<S> {
         requires up { self.old.down ≡ false }
         requires there { HasPlace self.old.now place }
         requires value { MayHold self.old.now place v }
+        ensures moves { MakesUnless (full_at self.old (place_word place ∷ [])) self.old (after_of result self.new) (Write place v ∷ []) tt }
         ensures done { OnOk result (self.new ≡ written self.old place v) }
         ensures full { (result ≡ Err HeapRefusal.CommitFull) ↔ (has_room_for self.old (place_word place ∷ []) ≡ false) }
         ensures kept { result ≡ Err HeapRefusal.CommitFull → self.new ≡ self.old }
@@ -63,6 +65,7 @@ impl<S: WordStore> Heap<S> {
         requires up { self.old.down ≡ false }
         requires there { HasPlace self.old.now place }
         requires value { MayHold self.old.now place v }
+        ensures moves { Makes self.old (after_of result self.new) (Count place v ∷ []) (Done tt) }
         ensures done { OnOk result (self.new ≡ counted self.old place v) }
         ensures stopped { OnErr result (IsStopped self.old self.new) }
         ensures only_down { OnErr result (result ≡ Err HeapRefusal.StoreDown) }

@@ -1,4 +1,4 @@
-use Rattle.std.proofs.Common.{◌<◌, ◌≤◌, length}
+use Rattle.std.proofs.Common.{◌<◌, ◌≤◌, length, refl}
 use Rattle.jc_heap.specs.Places.{place_word}
 use Rattle.jc_heap.proofs.Changing.{up_is}
 use Rattle.jc_heap.proofs.Places.{place_spot, place_unlogged, both_view, both_sound}
@@ -16,3 +16,6 @@ invariant_of-self-2 g c =
 pub returns-clause-done : goal.returns-clause-done
 returns-clause-done g c =
     rw (c.in_ok-write_both.ensures.ok, c.place_word-word.ensures) (both_view c.self.inside.journal c.args.self.now c.self.inside.size c.args.place c.args.v c.self.view_is c.requires.there (up_is c.self.inside.journal c.args.self.now c.self.inside.size c.self.view_is c.requires.up) c.self.invariant)
+
+pub returns-clause-moves : goal.returns-clause-moves
+returns-clause-moves g c = (refl, returns-clause-done g c)
