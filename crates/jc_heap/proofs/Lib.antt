@@ -21,7 +21,9 @@ pub mod Referring
 pub mod Keeping
 pub mod Runs
 pub mod AreaEnds
+pub mod Places
 pub mod MoveLaws
+pub mod Calls
 pub mod RawWords
 pub mod LaidImages
 pub mod LaidStores

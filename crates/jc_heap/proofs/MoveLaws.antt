@@ -2,7 +2,7 @@
 use Rattle.std.proofs.Common.{◌≡◌, true, List, [], ◌∷◌, ◌++◌, refl, ◌∙◌, ap, subst, inl, inr, if◌then◌else◌}
 use Rattle.jc_words.specs.Count.{raised}
 use Rattle.jc_heap.specs.Heap.{HeapState, HeapView}
-use Rattle.jc_heap.specs.Moves.{Move, SetCell, CountCell, SetCells, AddObject, AddTransient, Begin, Commit, Abort, apply, applied, Left, IsCut, with_counts, KeepsDurable}
+use Rattle.jc_heap.specs.Moves.{Move, Write, Count, SetCells, AddObject, AddTransient, Begin, Commit, Abort, apply, applied, Left, IsCut, with_counts, KeepsDurable}
 
 pub applied-append : (a b : List Move) (h : HeapView) → applied (a ++ b) h ≡ applied b (applied a h)
 applied-append [] b h = refl
@@ -20,8 +20,8 @@ left-after (m ∷ ms) b h d p = inr (left-after ms b (apply m h) d p)
 
 -- moves neither clear nor set what is down or refused
 down-apply : (m : Move) (h : HeapView) → (apply m h).down ≡ h.down
-down-apply (SetCell r i v) h = refl
-down-apply (CountCell r i v) h = refl
+down-apply (Write p v) h = refl
+down-apply (Count p v) h = refl
 down-apply (SetCells r i vs) h = refl
 down-apply (AddObject o size) h = refl
 down-apply (AddTransient kind event class owner long) h = refl
@@ -30,8 +30,8 @@ down-apply Commit h = refl
 down-apply Abort h = refl
 
 refused-apply : (m : Move) (h : HeapView) → (apply m h).refused ≡ h.refused
-refused-apply (SetCell r i v) h = refl
-refused-apply (CountCell r i v) h = refl
+refused-apply (Write p v) h = refl
+refused-apply (Count p v) h = refl
 refused-apply (SetCells r i vs) h = refl
 refused-apply (AddObject o size) h = refl
 refused-apply (AddTransient kind event class owner long) h = refl
@@ -62,8 +62,8 @@ kept_inside h x b = ap (λ g. if g then h.durable else x) b
 
 pub keeps_durable : KeepsDurable
 keeps_durable [] h b p = refl
-keeps_durable (SetCell r i v ∷ ms) h b p = keeps_durable ms (apply (SetCell r i v) h) b p ∙ ap (with_counts ms (apply (SetCell r i v) h)) (kept_inside h _ b)
-keeps_durable (CountCell r i v ∷ ms) h b p = keeps_durable ms (apply (CountCell r i v) h) b p
+keeps_durable (Write p v ∷ ms) h b q = keeps_durable ms (apply (Write p v) h) b q ∙ ap (with_counts ms (apply (Write p v) h)) (kept_inside h _ b)
+keeps_durable (Count p v ∷ ms) h b q = keeps_durable ms (apply (Count p v) h) b q
 keeps_durable (SetCells r i vs ∷ ms) h b p = keeps_durable ms (apply (SetCells r i vs) h) b p ∙ ap (with_counts ms (apply (SetCells r i vs) h)) (kept_inside h _ b)
 keeps_durable (AddObject o size ∷ ms) h b p = keeps_durable ms (apply (AddObject o size) h) b p ∙ ap (with_counts ms (apply (AddObject o size) h)) (kept_inside h _ b)
 keeps_durable (AddTransient kind event class owner long ∷ ms) h b p =

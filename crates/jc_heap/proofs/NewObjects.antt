@@ -172,6 +172,16 @@ sound_made j k m n kind class owner count end s up b f e fits c =
 pub made_object : (v : HeapView) (o : Object) (size fresh : ℕ) (places : List ℕ) → names v.now v.now.top ≡ false → item_at ((changed v (add_object v.now o size) places fresh).now) v.now.top ≡ AnObject o
 made_object v o size fresh places free = item_at-add_object v.now o size free
 
+transient_there : (h : HeapState) (kind : Kind) (event : ClearEvent) (class owner long : ℕ) → names h h.top ≡ false → item_at (add_transient h kind event class owner long) h.top ≡ AnObject (new_transient kind event class owner long (area_end h event))
+unfolding add_transient item_at
+transient_there h kind Reset class owner long free = item_at-add_object h (new_transient kind Reset class owner long (area_end h Reset)) 5 free
+transient_there h kind Deselect class owner long free = item_at-add_object h (new_transient kind Deselect class owner long (area_end h Deselect)) 5 free
+
+-- the same of a new transient object
+pub made_transient : (v w : HeapView) (r fresh : ℕ) (places : List ℕ) (kind : Kind) (event : ClearEvent) (class owner long : ℕ) → r ≡ v.now.top → w ≡ changed v (add_transient v.now kind event class owner long) places fresh → names v.now v.now.top ≡ false →
+    item_at w.now r ≡ AnObject (new_transient kind event class owner long (area_end v.now event))
+made_transient v w r fresh places kind event class owner long named is free = ap (item_at (w.now)) named ∙ ap (λ u. item_at (u.now) v.now.top) is ∙ transient_there v.now kind event class owner long free
+
 -- the words that a new transient object takes
 abbrev pub transient_record : Kind → ClearEvent → ℕ → ℕ → ℕ → ℕ → List ℕ
 transient_record kind event class owner long place = header_word kind (Some event) ∷ class ∷ owner ∷ long ∷ place ∷ []

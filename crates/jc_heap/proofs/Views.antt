@@ -1,16 +1,15 @@
 -- What a heap's view tells of its journal.
-use Rattle.std.proofs.Common.{◌≡◌, ℕ, ◌+◌, ◌<◌, ◌≤◌, ◌&&◌, Bool, true, false, List, [], ◌∷◌, length, get_or, set, take, refl, sym, ◌∙◌, ap, subst, arith, inl, inr, if◌then◌else◌}
+use Rattle.std.proofs.Common.{◌≡◌, ℕ, ◌+◌, ◌<◌, ◌≤◌, false, List, length, get_or, set, take, sym, ◌∙◌, ap, subst, arith, inl, inr}
 use Rattle.std.proofs.lemmas.List.{length-set, length-take-le, take-set-le}
-use Rattle.std.proofs.lemmas.Bool.{cases_lt, false≢true}
-use Rattle.jc_words.specs.Count.{raised}
+use Rattle.std.proofs.lemmas.Bool.{cases_lt}
 use Rattle.jc_commit.specs.Image.{IsPlace, IsReadable, IsUnlogged}
-use Rattle.jc_commit.specs.State.{State, Changes, written_in_place, is_touched as is_kept}
+use Rattle.jc_commit.specs.State.{State}
 use Rattle.jc_heap.specs.Image.{IsLaid, image}
-use Rattle.jc_heap.specs.Heap.{HeapView, heap_view, heap_of, cells, set_cell, cell_place, changed, counted, is_touched, IsSound, SameShape, KeepsBelowTop, read_image, item_at, names}
-use Rattle.jc_heap.proofs.Laws.{shape-set, shape-set_both, same_length, set_cell-absent, names-heap_of, keeps_below_top}
+use Rattle.jc_heap.specs.Heap.{HeapView, heap_view, heap_of, cells, set_cell, cell_place, IsSound, SameShape, KeepsBelowTop, read_image, item_at, names}
+use Rattle.jc_heap.proofs.Laws.{same_length, set_cell-absent, names-heap_of, keeps_below_top}
 use Rattle.jc_heap.proofs.Images.{cell_within-heap_of, cell_behind-heap_of, cell-heap_of, set_cell-heap_of, IsLaid-set, top-set}
 use Rattle.jc_heap.proofs.Added.{image-same_below, top-same_below, IsLaid-same_below}
-use Rattle.jc_heap.proofs.Changing.{change_view, change_sound, shape-same}
+use Rattle.jc_heap.proofs.Changing.{shape-same}
 
 -- a cell's word lies among the words, behind the registry
 pub cell_spot : (j : State) (v : HeapView) (n r i : ℕ) → heap_view j n ≡ v → i < length (cells v.now r) → (cell_place r i < length j.plain) × (752 ≤ cell_place r i)
@@ -30,29 +29,12 @@ pub cell_read : (j : State) (v : HeapView) (n r i : ℕ) → heap_view j n ≡ v
 unfolding cell_place
 cell_read j v n r i is h = subst (λ u. i < length (cells (u.now) r) → get_or j.plain (r + (4 + i)) 0 ≡ get_or (cells (u.now) r) i 0) is (λ k. sym (cell-heap_of j.plain r i k)) h
 
--- a cell set through the journal is a cell set in the heap
-pub set_view : (j k : State) (v : HeapView) (n r i x : ℕ) → heap_view j n ≡ v → i < length (cells v.now r) → Changes ((cell_place r i, x) ∷ []) j k →
-    heap_view k n ≡ changed v (set_cell v.now r i x) (cell_place r i ∷ []) 0
-unfolding cell_place
-set_view j k v n r i x is h c = subst (λ u. i < length (cells (u.now) r) → heap_view k n ≡ changed u (set_cell (u.now) r i x) ((r + (4 + i)) ∷ []) 0) is
-    (λ there. change_view ((r + (4 + i), x) ∷ []) j k n (set_cell (heap_of j.plain) r i x) c (set_cell-heap_of j.plain r i x there)) h
-
-set_sound_at : (j k : State) (n r i x : ℕ) → i < length (cells (heap_of j.plain) r) → j.down ≡ false → IsSound j n → Changes ((r + (4 + i), x) ∷ []) j k → IsSound k n
-set_sound_at j k n r i x h up s c =
-    change_sound ((r + (4 + i), x) ∷ []) j k n c up s.back s.size_recovered (s.size_now up) s.small (IsLaid-set j.plain r i x h (s.now up))
-    (λ _. omega (arith, s.order up, top-set j.plain r i x h))
-    (λ _. subst (SameShape (heap_of j.recovered)) (sym (set_cell-heap_of j.plain r i x h)) (shape-set (heap_of j.recovered) (heap_of j.plain) r i x (s.shape up)))
-
-pub set_sound : (j k : State) (v : HeapView) (n r i x : ℕ) → heap_view j n ≡ v → i < length (cells v.now r) → j.down ≡ false → IsSound j n → Changes ((cell_place r i, x) ∷ []) j k → IsSound k n
-unfolding cell_place
-set_sound j k v n r i x is h up s c = set_sound_at j k n r i x (subst (λ u. i < length (cells (u.now) r)) (sym is) h) up s c
-
 top_is : (ws : List ℕ) (r : ℕ) → IsLaid ws → r < get_or ws 5 0 → r < (heap_of ws).top
 unfolding read_image
 top_is ws r laid h = omega (arith, length-take-le (get_or ws 5 0) ws laid.fits)
 
 -- the same cell set in the recovered words: there too, or above their top
-back_set : (j : State) (n r i x : ℕ) → i < length (cells (heap_of j.plain) r) → j.down ≡ false → IsSound j n →
+pub back_set : (j : State) (n r i x : ℕ) → i < length (cells (heap_of j.plain) r) → j.down ≡ false → IsSound j n →
     (heap_of (set j.recovered (r + (4 + i)) x) ≡ set_cell (heap_of j.recovered) r i x) × IsLaid (set j.recovered (r + (4 + i)) x) × (get_or (set j.recovered (r + (4 + i)) x) 5 0 ≡ get_or j.recovered 5 0)
 back_set j n r i x h up s =
     let long : length (image j.recovered) ≡ get_or j.recovered 5 0 = length-take-le (get_or j.recovered 5 0) j.recovered s.back.fits in
@@ -70,49 +52,6 @@ back_set j n r i x h up s =
             top-same_below j.recovered (set j.recovered (r + (4 + i)) x) (get_or j.recovered 5 0) based same,
           )
     ]
-
-if-map : {X Y : Type 0} (f : X → Y) (b : Bool) (x y : X) → f (if b then x else y) ≡ (if b then f x else f y)
-if-map f true x y = refl
-if-map f false x y = refl
-
-settled_both : (b c : Bool) (rec plain : List ℕ) (a x : ℕ) → b ≡ false → rec ≡ plain → (if b && c then rec else set rec a x) ≡ set plain a x
-settled_both true c rec plain a x f e = absurd (false≢true (sym f))
-settled_both false c rec plain a x f e = ap (λ l. set l a x) e
-
-both_at : (j : State) (n r i x : ℕ) → i < length (cells (heap_of j.plain) r) → j.down ≡ false → IsSound j n →
-    (heap_view (written_in_place j (r + (4 + i)) x) n ≡ record (heap_view j n) { now = set_cell (heap_of j.plain) r i x; durable = (if j.in_transaction && is_kept j (r + (4 + i)) then heap_of j.recovered else set_cell (heap_of j.recovered) r i x); passed = raised j.passed 1 })
-    × IsSound (written_in_place j (r + (4 + i)) x) n
-both_at j n r i x h up s =
-    let b : (heap_of (set j.recovered (r + (4 + i)) x) ≡ set_cell (heap_of j.recovered) r i x) × IsLaid (set j.recovered (r + (4 + i)) x) × (get_or (set j.recovered (r + (4 + i)) x) 5 0 ≡ get_or j.recovered 5 0) = back_set j n r i x h up s in
-    let now : heap_of (set j.plain (r + (4 + i)) x) ≡ set_cell (heap_of j.plain) r i x = set_cell-heap_of j.plain r i x h in
-    let laid : IsLaid (set j.plain (r + (4 + i)) x) = IsLaid-set j.plain r i x h (s.now up) in
-    let top : get_or (set j.plain (r + (4 + i)) x) 5 0 ≡ get_or j.plain 5 0 = top-set j.plain r i x h in
-    let size : length (set j.plain (r + (4 + i)) x) ≡ length j.plain = length-set j.plain (r + (4 + i)) x in
-    let durable : heap_of (if j.in_transaction && is_kept j (r + (4 + i)) then j.recovered else set j.recovered (r + (4 + i)) x) ≡ (if j.in_transaction && is_kept j (r + (4 + i)) then heap_of j.recovered else set_cell (heap_of j.recovered) r i x) =
-    if-map heap_of (j.in_transaction && is_kept j (r + (4 + i))) j.recovered (set j.recovered (r + (4 + i)) x) ∙ ap (λ t. if j.in_transaction && is_kept j (r + (4 + i)) then heap_of j.recovered else t) b.0 in (
-      (λ k. record { now = now k; durable = durable k; begun = j.in_transaction; touched = j.touched; down = j.down; passed = raised j.passed 1; refused = j.refused; size = n }),
-      record {
-        back = elim (j.in_transaction && is_kept j (r + (4 + i))) as (λ g. IsLaid (if g then j.recovered else set j.recovered (r + (4 + i)) x)) [ true ↦ s.back | false ↦ b.1 ];
-        size_recovered = elim (j.in_transaction && is_kept j (r + (4 + i))) as (λ g. length (if g then j.recovered else set j.recovered (r + (4 + i)) x) ≡ n) [ true ↦ s.size_recovered | false ↦ length-set j.recovered (r + (4 + i)) x ∙ s.size_recovered ];
-        small = s.small;
-        now = λ _. laid;
-        size_now = λ _. size ∙ s.size_now up;
-        order = λ _. elim (j.in_transaction && is_kept j (r + (4 + i))) as (λ g. get_or (if g then j.recovered else set j.recovered (r + (4 + i)) x) 5 0 ≤ get_or (set j.plain (r + (4 + i)) x) 5 0) [ true ↦ omega (arith, s.order up, top) | false ↦ omega (arith, s.order up, top, b.2) ];
-        shape = λ _. elim (j.in_transaction && is_kept j (r + (4 + i))) as (λ g. SameShape (heap_of (if g then j.recovered else set j.recovered (r + (4 + i)) x)) (heap_of (set j.plain (r + (4 + i)) x))) [
-          | true ↦ subst (SameShape (heap_of j.recovered)) (sym now) (shape-set (heap_of j.recovered) (heap_of j.plain) r i x (s.shape up))
-          | false ↦ subst (λ d. SameShape d (heap_of (set j.plain (r + (4 + i)) x))) (sym b.0) (subst (SameShape (set_cell (heap_of j.recovered) r i x)) (sym now) (shape-set_both (heap_of j.recovered) (heap_of j.plain) r i x (s.shape up)))
-        ];
-        settled = λ _ closed. settled_both j.in_transaction (is_kept j (r + (4 + i))) j.recovered j.plain (r + (4 + i)) x closed (s.settled up closed);
-      },
-    )
-
-pub both_view : (j : State) (v : HeapView) (n r i x : ℕ) → heap_view j n ≡ v → i < length (cells v.now r) → j.down ≡ false → IsSound j n → heap_view (written_in_place j (cell_place r i) x) n ≡ counted v r i x
-unfolding cell_place is_touched
-both_view j v n r i x is h up s = subst (λ u. i < length (cells (u.now) r) → heap_view (written_in_place j (r + (4 + i)) x) n ≡ counted u r i x) is (λ k. (both_at j n r i x k up s).0) h
-
-pub both_sound : (j : State) (v : HeapView) (n r i x : ℕ) → heap_view j n ≡ v → i < length (cells v.now r) → j.down ≡ false → IsSound j n → IsSound (written_in_place j (cell_place r i) x) n
-unfolding cell_place
-both_sound j v n r i x is h up s = (both_at j n r i x (subst (λ u. i < length (cells (u.now) r)) (sym is) h) up s).1
 
 -- what an abort leaves of the names
 pub abort_keeps : (j : State) (v : HeapView) (n : ℕ) → heap_view j n ≡ v → j.down ≡ false → IsSound j n → KeepsBelowTop v.now v.durable

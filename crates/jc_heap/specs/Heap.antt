@@ -189,14 +189,6 @@ end_place = 5
 unfoldable pub is_touched : HeapView → ℕ → Bool
 is_touched v place = v.begun && list_any (λ b. b == place) v.touched
 
--- a cell set for good, where no earlier change of the open transaction has touched it
-abbrev pub counted : HeapView → ℕ → ℕ → ℕ → HeapView
-counted v r i x = record v {
-  now = set_cell v.now r i x;
-  durable = (if is_touched v (cell_place r i) then v.durable else set_cell v.durable r i x);
-  passed = raised v.passed 1;
-}
-
 -- a transaction is open, and what it finds is kept
 abbrev pub begun : HeapView → HeapView
 begun v = record v { begun = true; durable = v.now }

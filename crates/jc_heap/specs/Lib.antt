@@ -6,6 +6,7 @@ pub mod Steps
 pub mod Heap
 pub mod Whole
 pub mod Keeping
+pub mod Places
 pub mod Fresh
 pub mod Refusals
 pub mod Moves

@@ -1,19 +1,22 @@
 -- Moves of a heap as data: what a power loss within some of them leaves.
-use Rattle.std.specs.Prelude.{ℕ, ◌≡◌, ◌⊎◌, if◌then◌else◌, true, List, [], ◌∷◌, Result, Ok, Err}
+use Rattle.std.specs.Prelude.{ℕ, ◌+◌, ◌≡◌, ◌⊎◌, if◌then◌else◌, true, List, [], ◌∷◌, Option, Some, None, Result, Ok, Err, nat_lt}
+use Rattle.jc_transient.specs.State.{area_size}
 use Rattle.jc_words.specs.Count.{raised}
 use Rattle.jc_commit.specs.Entries.{addresses_of}
 use Rattle.jc_transient.specs.declared.cell.ClearEvent.{ClearEvent}
 use Rattle.jc_heap.specs.declared.object.Kind.{Kind}
 use Rattle.jc_heap.specs.Object.{Object}
-use Rattle.jc_heap.specs.Heap.{HeapState, HeapView, set_cell, set_cells, run_words, add_object, add_transient, area_place, is_touched, changed, counted, begun, committed, aborted, cell_place, end_place}
+use Rattle.jc_heap.specs.Heap.{HeapState, HeapView, set_cells, run_words, add_object, add_transient, area_place, area_end, is_touched, has_room_for, changed, begun, committed, aborted, cell_place, end_place}
+use Rattle.jc_heap.specs.declared.place.Place.{Place}
+use Rattle.jc_heap.specs.Places.{place_word, set_place, written, counted}
 use Rattle.jc_heap.specs.declared.refusal.HeapRefusal.{HeapRefusal}
 use Rattle.jc_heap.specs.declared.refusal.HeapRefusal.TheVariants.{StoreDown, CommitFull, HeapFull, NoTransientSpace}
 
 -- one change of the heap, or one step of its transaction. A new object names its address, which is the
 -- one free choice, and how many words it takes
 pub data Move : Type 0 where
-  SetCell : ℕ → ℕ → ℕ → Move
-  CountCell : ℕ → ℕ → ℕ → Move
+  Write : Place → ℕ → Move
+  Count : Place → ℕ → Move
   SetCells : ℕ → ℕ → List ℕ → Move
   AddObject : Object → ℕ → Move
   AddTransient : Kind → ClearEvent → ℕ → ℕ → ℕ → Move
@@ -23,8 +26,8 @@ pub data Move : Type 0 where
 
 -- the heap after a move
 abbrev pub apply : Move → HeapView → HeapView
-apply (SetCell r i v) h = changed h (set_cell h.now r i v) (cell_place r i ∷ []) 0
-apply (CountCell r i v) h = counted h r i v
+apply (Write p v) h = written h p v
+apply (Count p v) h = counted h p v
 apply (SetCells r i vs) h = changed h (set_cells h.now r i vs) (addresses_of (run_words (cell_place r i) vs)) 0
 apply (AddTransient kind event class owner long) h = changed h (add_transient h.now kind event class owner long) (end_place ∷ area_place event ∷ []) 5
 apply (AddObject o size) h = changed h (add_object h.now o size) (end_place ∷ []) size
@@ -45,13 +48,13 @@ IsInside (Commit ∷ ms) = ⊥
 IsInside (Abort ∷ ms) = ⊥
 IsInside (m ∷ ms) = IsInside ms
 
--- what the counted cells among these moves make of a durable heap: those that no earlier change touched
+-- what the places counted among these moves make of a durable heap: those that no earlier change touched
 abbrev pub with_counts : List Move → HeapView → HeapState → HeapState
 with_counts [] h d = d
-with_counts (CountCell r i v ∷ ms) h d = with_counts ms (apply (CountCell r i v) h) (if is_touched h (cell_place r i) then d else set_cell d r i v)
+with_counts (Count p v ∷ ms) h d = with_counts ms (apply (Count p v) h) (if is_touched h (place_word p) then d else set_place d p v)
 with_counts (m ∷ ms) h d = with_counts ms (apply m h) d
 
--- inside a transaction the durable heap stays as it is but for counted cells, whatever the moves are
+-- inside a transaction the durable heap stays as it is but for counted places, whatever the moves are
 abbrev pub KeepsDurable : Type 0
 KeepsDurable = (moves : List Move) (h : HeapView) → h.begun ≡ true → IsInside moves → (applied moves h).durable ≡ with_counts moves h h.durable
 
@@ -87,3 +90,20 @@ after_of (Err NoTransientSpace) h = Made (Refused NoTransientSpace) h
 abbrev pub Makes : {A : Type 0} → HeapView → After A → List Move → A → Type 0
 Makes old (Made a new) moves answer = (a ≡ answer) × (new ≡ applied moves old)
 Makes old (Cut new) moves answer = IsCut moves old new
+
+-- why a change of these places is refused before anything is written: there is no room
+abbrev pub full_at : HeapView → List ℕ → Option HeapRefusal
+full_at v places = if has_room_for v places then None else Some CommitFull
+
+-- why a new object of so many words is: first there is no space
+abbrev pub no_object : HeapView → ℕ → List ℕ → Option HeapRefusal
+no_object v size places = if nat_lt v.size (v.now.top + size) then Some HeapFull else full_at v places
+
+-- why a new transient object with so many cells is: first its area has no space
+abbrev pub no_transient : HeapView → ClearEvent → ℕ → Option HeapRefusal
+no_transient v event n = if nat_lt area_size (area_end v.now event + n) then Some NoTransientSpace else no_object v 5 (end_place ∷ area_place event ∷ [])
+
+-- a call makes these moves and answers this; where there is a reason it makes none and answers the reason
+abbrev pub MakesUnless : {A : Type 0} → Option HeapRefusal → HeapView → After (Answer A) → List Move → A → Type 0
+MakesUnless None old after moves answer = Makes old after moves (Done answer)
+MakesUnless (Some reason) old after moves answer = Makes old after [] (Refused reason)

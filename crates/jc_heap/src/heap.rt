@@ -4,10 +4,13 @@ ghost use Rattle.jc_commit.specs.Image.{capacity, count_of, plain_of, recovered_
 ghost use Rattle.jc_commit.specs.Entries.{addresses_of};
 ghost use Rattle.jc_heap.specs.Object.{IsElement};
 ghost use Rattle.jc_heap.specs.Image.{IsLaid};
-ghost use Rattle.jc_heap.specs.Heap.{HeapView, HeapState, heap_of, cells, facts, IsObject, next_object, set_cell, set_cells, run_words, changed, counted, cell_place, IsStopped, has_room_for, begun, committed, aborted, KeepsBelowTop};
+ghost use Rattle.jc_heap.specs.Heap.{HeapView, HeapState, heap_of, cells, facts, IsObject, next_object, set_cell, set_cells, run_words, changed, cell_place, IsStopped, has_room_for, begun, committed, aborted, KeepsBelowTop};
+ghost use Rattle.jc_heap.specs.declared.place.Place.TheVariants.{Cell};
+ghost use Rattle.jc_heap.specs.Moves.{Write, SetCells, Begin, Commit, Abort, Made, Done, Makes, MakesUnless, after_of, full_at};
 
 use crate::layout::{HEADER, TEXT_LENGTH, TEXT_START, TOP};
 use crate::object::{Facts, Kind, event_of_number};
+use crate::place::Place;
 use crate::refusal::HeapRefusal;
 use crate::walk::first_object;
 use jc_commit::Journal;
@@ -16,7 +19,7 @@ use jc_words::{JOURNAL_CAPACITY, WordStore};
 use std::marker::Model;
 
 // How many words one change may have.
-const MOST_CHANGES: usize = JOURNAL_CAPACITY as usize;
+pub(crate) const MOST_CHANGES: usize = JOURNAL_CAPACITY as usize;
 
 /// Objects by reference, with transactions.
 ///
@@ -65,7 +68,7 @@ fn words_of_run(changes: &mut [(u16, u16)], at: u16, values: &[u16])
 
 impl<S: WordStore> Heap<S> {
     // The word of a cell.
-    fn cell_word(&self, object: Ref, i: u16) -> u16
+    pub(crate) fn cell_word(&self, object: Ref, i: u16) -> u16
         requires up { self.now.down ≡ false }
         requires cell { i < length (cells self.now.now object) }
         ensures { result ≡ cell_place object i }
@@ -157,6 +160,7 @@ impl<S: WordStore> Heap<S> {
         requires up { self.old.down ≡ false }
         requires cell { i < length (cells self.old.now object) }
         requires value { IsElement (facts self.old.now object).kind v }
+        ensures moves { MakesUnless (full_at self.old (cell_place object i ∷ [])) self.old (after_of result self.new) (Write (Cell object i) v ∷ []) tt }
         ensures done { OnOk result (self.new ≡ changed self.old (set_cell self.old.now object i v) (cell_place object i ∷ []) 0) }
         ensures full { (result ≡ Err HeapRefusal.CommitFull) ↔ (has_room_for self.old (cell_place object i ∷ []) ≡ false) }
         ensures kept { result ≡ Err HeapRefusal.CommitFull → self.new ≡ self.old }
@@ -164,24 +168,7 @@ impl<S: WordStore> Heap<S> {
         ensures space { result ≡ Err HeapRefusal.HeapFull → ⊥ }
         ensures area { result ≡ Err HeapRefusal.NoTransientSpace → ⊥ }
     {
-        let word = self.cell_word(object, i);
-        self.journal.write(word, v)?;
-        Ok(())
-    }
-
-    /// Sets a cell for good: no abort takes it back, unless an earlier change of the transaction has
-    /// touched it.
-    pub fn set_both(&mut self, object: Ref, i: u16, v: u16) -> Result<(), HeapRefusal>
-        requires up { self.old.down ≡ false }
-        requires cell { i < length (cells self.old.now object) }
-        requires value { IsElement (facts self.old.now object).kind v }
-        ensures done { OnOk result (self.new ≡ counted self.old object i v) }
-        ensures stopped { OnErr result (IsStopped self.old self.new) }
-        ensures only_down { OnErr result (result ≡ Err HeapRefusal.StoreDown) }
-    {
-        let word = self.cell_word(object, i);
-        self.journal.write_both(word, v)?;
-        Ok(())
+        self.write(Place::Cell(object, i), v)
     }
 
     /// Sets the cells of a persistent object from an index on, as one change.
@@ -189,6 +176,7 @@ impl<S: WordStore> Heap<S> {
         requires up { self.old.down ≡ false }
         requires cells { i + length values.now ≤ length (cells self.old.now object) }
         requires values { (k : ℕ) → k < length values.now → IsElement (facts self.old.now object).kind (slice_index values.now k) }
+        ensures moves { MakesUnless (full_at self.old (addresses_of (run_words (cell_place object i) values.now))) self.old (after_of result self.new) (SetCells object i values.now ∷ []) tt }
         ensures done { OnOk result (self.new ≡ changed self.old (set_cells self.old.now object i values.now) (addresses_of (run_words (cell_place object i) values.now)) 0) }
         ensures full { (result ≡ Err HeapRefusal.CommitFull) ↔ (has_room_for self.old (addresses_of (run_words (cell_place object i) values.now)) ≡ false) }
         ensures kept { result ≡ Err HeapRefusal.CommitFull → self.new ≡ self.old }
@@ -224,6 +212,7 @@ impl<S: WordStore> Heap<S> {
     pub fn begin(&mut self)
         requires up { self.old.down ≡ false }
         requires outside { self.old.begun ≡ false }
+        ensures moves { Makes {A = Unit {0}} self.old (Made tt self.new) (Begin ∷ []) tt }
         ensures done { self.new ≡ begun self.old }
         ensures none { self.old.touched ≡ [] }
     {
@@ -234,6 +223,7 @@ impl<S: WordStore> Heap<S> {
     pub fn commit(&mut self) -> Result<(), HeapRefusal>
         requires up { self.old.down ≡ false }
         requires inside { self.old.begun ≡ true }
+        ensures moves { Makes self.old (after_of result self.new) (Commit ∷ []) (Done tt) }
         ensures done { OnOk result (self.new ≡ committed self.old) }
         ensures stopped { OnErr result (IsStopped self.old self.new) }
         ensures only_down { OnErr result (result ≡ Err HeapRefusal.StoreDown) }
@@ -246,6 +236,7 @@ impl<S: WordStore> Heap<S> {
     pub fn abort(&mut self) -> Result<(), HeapRefusal>
         requires up { self.old.down ≡ false }
         requires inside { self.old.begun ≡ true }
+        ensures moves { Makes self.old (after_of result self.new) (Abort ∷ []) (Done tt) }
         ensures done { OnOk result (self.new ≡ aborted self.old) }
         ensures names { OnOk result (KeepsBelowTop self.old.now self.new.now) }
         ensures stopped { OnErr result (IsStopped self.old self.new) }

@@ -159,3 +159,6 @@ impl<S: WordStore> Heap<S> {
         }
     }
 }
+
+#[cfg(test)]
+mod tests;

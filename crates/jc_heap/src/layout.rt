@@ -24,6 +24,9 @@ pub(crate) const ADDRESSES: u16 = 528;
 
 pub(crate) const MOST_PACKAGES: u16 = 32;
 
+// The first word of the registry.
+pub(crate) const REGISTRY: u16 = 560;
+
 // The first word of the table text.
 pub(crate) const TEXT_START: u32 = 752;
 

@@ -1,8 +1,9 @@
 //! New objects.
 ghost use Rattle.std.specs.Prelude.{IsTrue, ◌≡◌, ◌<◌, ◌≤◌, [], ◌∷◌, true, false, Ok, Err, length, OnOk, OnErr, IfOk, Some, replicate, ◌+◌, ◌↔◌};
 ghost use Rattle.jc_commit.specs.State.{has_room_for as journal_has_room};
-ghost use Rattle.jc_heap.specs.Object.{new_object, header_word};
-ghost use Rattle.jc_heap.specs.Heap.{changed, add_object, end_place, IsStopped, has_room_for, LacksSpace, names, IsObject, cells, add_transient, area_place, LacksCells};
+ghost use Rattle.jc_heap.specs.Object.{new_object, new_transient, header_word};
+ghost use Rattle.jc_heap.specs.Heap.{changed, add_object, end_place, IsStopped, has_room_for, LacksSpace, names, IsObject, cells, facts, add_transient, area_end, area_place, LacksCells};
+ghost use Rattle.jc_heap.specs.Moves.{AddObject, AddTransient, MakesUnless, after_of, no_object, no_transient};
 
 use crate::fresh::{write_record, write_run};
 use crate::heap::Heap;
@@ -30,8 +31,10 @@ impl<S: WordStore> Heap<S> {
         length: u16,
     ) -> Result<Ref, HeapRefusal>
         requires { self.old.down ≡ false }
+        ensures moves { MakesUnless (no_object self.old (4 + length) (end_place ∷ [])) self.old (after_of result self.new) (AddObject (new_object kind class owner length) (4 + length) ∷ []) self.old.now.top }
         ensures object { IfOk result (λ r. IsObject self.new.now r) }
         ensures cells { IfOk result (λ r. cells self.new.now r ≡ replicate length 0) }
+        ensures facts { IfOk result (λ r. facts self.new.now r ≡ (new_object kind class owner length).facts) }
         ensures named { IfOk result (λ r. r ≡ self.old.now.top) }
         ensures free { names self.old.now self.old.now.top ≡ false }
         ensures done { OnOk result (self.new ≡ changed self.old (add_object self.old.now (new_object kind class owner length) (4 + length)) (end_place ∷ []) (4 + length)) }
@@ -71,6 +74,9 @@ impl<S: WordStore> Heap<S> {
         length: u16,
     ) -> Result<Ref, HeapRefusal>
         requires { self.old.down ≡ false }
+        ensures moves { MakesUnless (no_transient self.old event length) self.old (after_of result self.new) (AddTransient kind event class owner length ∷ []) self.old.now.top }
+        ensures object { IfOk result (λ r. IsObject self.new.now r) }
+        ensures facts { IfOk result (λ r. facts self.new.now r ≡ (new_transient kind event class owner length (area_end self.old.now event)).facts) }
         ensures named { IfOk result (λ r. r ≡ self.old.now.top) }
         ensures free { names self.old.now self.old.now.top ≡ false }
         ensures done { OnOk result (self.new ≡ changed self.old (add_transient self.old.now kind event class owner length) (end_place ∷ area_place event ∷ []) 5) }

@@ -2,11 +2,14 @@ use Rattle.std.proofs.Common.{◌≡◌, ◌≤◌, ◌+◌, ◌∙◌, [], ◌�
 use Rattle.jc_commit.specs.State.{has_room_for}
 use Rattle.jc_commit.specs.declared.refusal.WriteRefusal.TheVariants.{StoreDown}
 use Rattle.jc_heap.specs.Fresh.{KeepsBelow, Fills}
-use Rattle.jc_heap.specs.Object.{kind_number, new_object, AnObject, is_object, cells_of}
+use Rattle.jc_heap.specs.Object.{kind_number, new_object, AnObject, is_object, cells_of, facts_of}
 use Rattle.jc_heap.specs.Heap.{heap_view, changed, add_object, end_place, item_at}
 use Rattle.jc_heap.proofs.Changing.{up_is}
 use Rattle.jc_heap.proofs.Views.{nothing_at_top, view_top}
 use Rattle.jc_heap.proofs.NewObjects.{lacks_space, has_space, new_record, room_there, only_down, fresh_stopped_sound, fresh_stopped_view, top_stopped_sound, top_stopped_view, view_made, sound_made, made_object}
+use Rattle.jc_heap.specs.declared.refusal.HeapRefusal.TheVariants.{HeapFull, CommitFull}
+use Rattle.jc_heap.specs.Moves.{AddObject, no_object}
+use Rattle.jc_heap.proofs.Calls.{unless_refused, unless_cut, unless_done, has_no_space, object_full, object_fits, end_room}
 use Rattle.jc_heap.proofs.heap.Heap.new_persistent.Goals as goal
 
 pub returns-then-end-from-clause-free : goal.returns-then-end-from-clause-free
@@ -111,3 +114,35 @@ returns-clause-done g c =
 
 pub returns-clause-heap_full : goal.returns-clause-heap_full
 returns-clause-heap_full g c = ((λ e. cc), λ l. absurd (has_space c.self.inside.journal c.args.self.now c.self.inside.size (4 + c.args.length) c.self.view_is (c.self.invariant.now (up_is c.self.inside.journal c.args.self.now c.self.inside.size c.self.view_is c.requires)) (omega arith) l))
+
+pub returns-clause-facts : goal.returns-clause-facts
+returns-clause-facts g c =
+    let there : item_at ((heap_view c.write.new.self c.self.inside.size).now) c.at.result ≡ AnObject (new_object c.args.kind c.args.class c.args.owner c.args.length) =
+    ap (item_at ((heap_view c.write.new.self c.self.inside.size).now)) (returns-clause-named g c) ∙ ap (λ v. item_at (v.now) c.args.self.now.now.top) (returns-clause-done g c)
+    ∙ made_object c.args.self.now (new_object c.args.kind c.args.class c.args.owner c.args.length) (4 + c.args.length) (4 + c.args.length) (end_place ∷ []) (returns-clause-free g c) in
+    ap facts_of there
+
+pub returns-then-end-from-clause-moves : goal.returns-then-end-from-clause-moves
+returns-then-end-from-clause-moves g c =
+    unless_refused (no_object c.args.self.now (4 + c.args.length) (end_place ∷ [])) c.args.self.now c.args.self.now HeapFull (AddObject (new_object c.args.kind c.args.class c.args.owner c.args.length) (4 + c.args.length) ∷ []) c.args.self.now.now.top
+    (has_no_space c.args.self.now (4 + c.args.length) (end_place ∷ []) (lacks_space c.self.inside.journal c.args.self.now c.self.inside.size (4 + c.args.length) c.self.view_is (c.self.invariant.now (up_is c.self.inside.journal c.args.self.now c.self.inside.size c.self.view_is c.requires)) (omega arith))) refl
+
+pub returns-then-lacks_room-clause-moves : goal.returns-then-lacks_room-clause-moves
+returns-then-lacks_room-clause-moves g c =
+    unless_refused (no_object c.args.self.now (4 + c.args.length) (end_place ∷ [])) c.args.self.now c.args.self.now CommitFull (AddObject (new_object c.args.kind c.args.class c.args.owner c.args.length) (4 + c.args.length) ∷ []) c.args.self.now.now.top
+    (object_full c.args.self.now (4 + c.args.length) (end_place ∷ []) (has_space c.self.inside.journal c.args.self.now c.self.inside.size (4 + c.args.length) c.self.view_is (c.self.invariant.now (up_is c.self.inside.journal c.args.self.now c.self.inside.size c.self.view_is c.requires)) (omega arith)) (end_room c.self.inside.journal c.args.self.now c.self.inside.size c.self.view_is ∙ c.lacks_room.ensures.0 c.if-lacks_room.true)) refl
+
+pub returns-in_default-clause-moves : goal.returns-in_default-clause-moves
+returns-in_default-clause-moves g c =
+    unless_cut (no_object c.args.self.now (4 + c.args.length) (end_place ∷ [])) c.args.self.now (heap_view c.write_record.new.journal c.self.inside.size) (AddObject (new_object c.args.kind c.args.class c.args.owner c.args.length) (4 + c.args.length)) c.args.self.now.now.top
+    (object_fits c.args.self.now (4 + c.args.length) (end_place ∷ []) (has_space c.self.inside.journal c.args.self.now c.self.inside.size (4 + c.args.length) c.self.view_is (c.self.invariant.now (up_is c.self.inside.journal c.args.self.now c.self.inside.size c.self.view_is c.requires)) (omega arith)) (end_room c.self.inside.journal c.args.self.now c.self.inside.size c.self.view_is ∙ room_there c.lacks_room.result (has_room_for c.self.inside.journal (5 ∷ [])) c.lacks_room.ensures c.if-lacks_room.false)) (returns-in_default-clause-stopped g c refl)
+
+pub returns-in_default-write-clause-moves : goal.returns-in_default-write-clause-moves
+returns-in_default-write-clause-moves g c =
+    unless_cut (no_object c.args.self.now (4 + c.args.length) (end_place ∷ [])) c.args.self.now (heap_view c.write.new.self c.self.inside.size) (AddObject (new_object c.args.kind c.args.class c.args.owner c.args.length) (4 + c.args.length)) c.args.self.now.now.top
+    (object_fits c.args.self.now (4 + c.args.length) (end_place ∷ []) (has_space c.self.inside.journal c.args.self.now c.self.inside.size (4 + c.args.length) c.self.view_is (c.self.invariant.now (up_is c.self.inside.journal c.args.self.now c.self.inside.size c.self.view_is c.requires)) (omega arith)) (end_room c.self.inside.journal c.args.self.now c.self.inside.size c.self.view_is ∙ room_there c.lacks_room.result (has_room_for c.self.inside.journal (5 ∷ [])) c.lacks_room.ensures c.if-lacks_room.false)) (returns-in_default-write-clause-stopped g c refl)
+
+pub returns-clause-moves : goal.returns-clause-moves
+returns-clause-moves g c =
+    unless_done (no_object c.args.self.now (4 + c.args.length) (end_place ∷ [])) c.args.self.now (heap_view c.write.new.self c.self.inside.size) (AddObject (new_object c.args.kind c.args.class c.args.owner c.args.length) (4 + c.args.length)) c.at.result c.args.self.now.now.top
+    (object_fits c.args.self.now (4 + c.args.length) (end_place ∷ []) (has_space c.self.inside.journal c.args.self.now c.self.inside.size (4 + c.args.length) c.self.view_is (c.self.invariant.now (up_is c.self.inside.journal c.args.self.now c.self.inside.size c.self.view_is c.requires)) (omega arith)) (end_room c.self.inside.journal c.args.self.now c.self.inside.size c.self.view_is ∙ room_there c.lacks_room.result (has_room_for c.self.inside.journal (5 ∷ [])) c.lacks_room.ensures c.if-lacks_room.false)) (returns-clause-named g c) (returns-clause-done g c)

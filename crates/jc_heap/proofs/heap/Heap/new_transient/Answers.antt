@@ -2,10 +2,14 @@ use Rattle.std.proofs.Common.{◌≡◌, ◌≤◌, ◌+◌, ◌∙◌, [], ◌�
 use Rattle.jc_commit.specs.State.{has_room_for, Changes}
 use Rattle.jc_commit.specs.declared.refusal.WriteRefusal.TheVariants.{StoreDown}
 use Rattle.jc_heap.specs.Fresh.{KeepsBelow, Fills}
-use Rattle.jc_heap.specs.Heap.{area_place, area_end}
+use Rattle.jc_heap.specs.Object.{is_object, facts_of}
+use Rattle.jc_heap.specs.Heap.{area_place, area_end, end_place, heap_view}
 use Rattle.jc_heap.proofs.Changing.{up_is}
 use Rattle.jc_heap.proofs.Views.{nothing_at_top, view_top}
-use Rattle.jc_heap.proofs.NewObjects.{lacks_space, transient_record, room_there, only_down, fresh_stopped_sound, fresh_stopped_view, top_stopped_sound, top_stopped_view, transient_sound, transient_view, view_area}
+use Rattle.jc_heap.proofs.NewObjects.{lacks_space, has_space, transient_record, room_there, only_down, fresh_stopped_sound, fresh_stopped_view, top_stopped_sound, top_stopped_view, transient_sound, transient_view, view_area, made_transient}
+use Rattle.jc_heap.specs.declared.refusal.HeapRefusal.TheVariants.{HeapFull, CommitFull, NoTransientSpace}
+use Rattle.jc_heap.specs.Moves.{AddTransient, no_transient}
+use Rattle.jc_heap.proofs.Calls.{unless_refused, unless_cut, unless_done, has_no_cells, has_some_cells, has_no_space, object_full, object_fits, ends_room}
 use Rattle.jc_heap.proofs.heap.Heap.new_transient.Goals as goal
 
 pub returns-then-area_end-from-clause-free : goal.returns-then-area_end-from-clause-free
@@ -123,3 +127,55 @@ returns-clause-area_full g c =
     let at : c.read-place.result ≡ get_or c.self.inside.journal.plain (area_place c.args.event) 0 = c.read-place.ensures ∙ ap (λ a. get_or c.self.inside.journal.plain a 0) c.area_word-end_word.ensures in
     let va : area_end c.args.self.now.now c.args.event ≡ get_or c.self.inside.journal.plain (area_place c.args.event) 0 = view_area c.self.inside.journal c.args.self.now c.self.inside.size c.args.event c.self.view_is (c.self.invariant.now (up_is c.self.inside.journal c.args.self.now c.self.inside.size c.self.view_is c.requires)) in
     ((λ e. cc), λ l. absurd (omega (arith, l, va, at)))
+
+pub returns-clause-object : goal.returns-clause-object
+returns-clause-object g c =
+    ap is_object (made_transient c.args.self.now (heap_view c.write_all.new.self c.self.inside.size) c.at.result 5 (end_place ∷ area_place c.args.event ∷ []) c.args.kind c.args.event c.args.class c.args.owner c.args.length
+    (returns-clause-named g c) (returns-clause-done g c) (returns-clause-free g c))
+
+pub returns-clause-facts : goal.returns-clause-facts
+returns-clause-facts g c =
+    ap facts_of (made_transient c.args.self.now (heap_view c.write_all.new.self c.self.inside.size) c.at.result 5 (end_place ∷ area_place c.args.event ∷ []) c.args.kind c.args.event c.args.class c.args.owner c.args.length
+    (returns-clause-named g c) (returns-clause-done g c) (returns-clause-free g c))
+
+pub returns-then-area_end-from-clause-moves : goal.returns-then-area_end-from-clause-moves
+returns-then-area_end-from-clause-moves g c =
+    let at : c.read-place.result ≡ get_or c.self.inside.journal.plain (area_place c.args.event) 0 = c.read-place.ensures ∙ ap (λ a. get_or c.self.inside.journal.plain a 0) c.area_word-end_word.ensures in
+    let va : area_end c.args.self.now.now c.args.event ≡ get_or c.self.inside.journal.plain (area_place c.args.event) 0 = view_area c.self.inside.journal c.args.self.now c.self.inside.size c.args.event c.self.view_is (c.self.invariant.now (up_is c.self.inside.journal c.args.self.now c.self.inside.size c.self.view_is c.requires)) in
+    unless_refused (no_transient c.args.self.now c.args.event c.args.length) c.args.self.now c.args.self.now NoTransientSpace (AddTransient c.args.kind c.args.event c.args.class c.args.owner c.args.length ∷ []) c.args.self.now.now.top
+    (has_no_cells c.args.self.now c.args.event c.args.length (omega (arith, va, at))) refl
+
+pub returns-then-end-from-clause-moves : goal.returns-then-end-from-clause-moves
+returns-then-end-from-clause-moves g c =
+    let at : c.read-place.result ≡ get_or c.self.inside.journal.plain (area_place c.args.event) 0 = c.read-place.ensures ∙ ap (λ a. get_or c.self.inside.journal.plain a 0) c.area_word-end_word.ensures in
+    let va : area_end c.args.self.now.now c.args.event ≡ get_or c.self.inside.journal.plain (area_place c.args.event) 0 = view_area c.self.inside.journal c.args.self.now c.self.inside.size c.args.event c.self.view_is (c.self.invariant.now (up_is c.self.inside.journal c.args.self.now c.self.inside.size c.self.view_is c.requires)) in
+    unless_refused (no_transient c.args.self.now c.args.event c.args.length) c.args.self.now c.args.self.now HeapFull (AddTransient c.args.kind c.args.event c.args.class c.args.owner c.args.length ∷ []) c.args.self.now.now.top
+    (has_some_cells c.args.self.now c.args.event c.args.length (λ l. omega (arith, l, va, at)) ∙ has_no_space c.args.self.now 5 (end_place ∷ area_place c.args.event ∷ []) (lacks_space c.self.inside.journal c.args.self.now c.self.inside.size 5 c.self.view_is (c.self.invariant.now (up_is c.self.inside.journal c.args.self.now c.self.inside.size c.self.view_is c.requires)) (omega arith))) refl
+
+pub returns-then-lacks_room-clause-moves : goal.returns-then-lacks_room-clause-moves
+returns-then-lacks_room-clause-moves g c =
+    let at : c.read-place.result ≡ get_or c.self.inside.journal.plain (area_place c.args.event) 0 = c.read-place.ensures ∙ ap (λ a. get_or c.self.inside.journal.plain a 0) c.area_word-end_word.ensures in
+    let va : area_end c.args.self.now.now c.args.event ≡ get_or c.self.inside.journal.plain (area_place c.args.event) 0 = view_area c.self.inside.journal c.args.self.now c.self.inside.size c.args.event c.self.view_is (c.self.invariant.now (up_is c.self.inside.journal c.args.self.now c.self.inside.size c.self.view_is c.requires)) in
+    unless_refused (no_transient c.args.self.now c.args.event c.args.length) c.args.self.now c.args.self.now CommitFull (AddTransient c.args.kind c.args.event c.args.class c.args.owner c.args.length ∷ []) c.args.self.now.now.top
+    (has_some_cells c.args.self.now c.args.event c.args.length (λ l. omega (arith, l, va, at)) ∙ object_full c.args.self.now 5 (end_place ∷ area_place c.args.event ∷ []) (has_space c.self.inside.journal c.args.self.now c.self.inside.size 5 c.self.view_is (c.self.invariant.now (up_is c.self.inside.journal c.args.self.now c.self.inside.size c.self.view_is c.requires)) (omega arith)) (ends_room c.self.inside.journal c.args.self.now c.self.inside.size c.args.event c.area_word-end_word.result c.self.view_is c.area_word-end_word.ensures ∙ c.lacks_room.ensures.0 c.if-lacks_room.true)) refl
+
+pub returns-in_default-clause-moves : goal.returns-in_default-clause-moves
+returns-in_default-clause-moves g c =
+    let at : c.read-place.result ≡ get_or c.self.inside.journal.plain (area_place c.args.event) 0 = c.read-place.ensures ∙ ap (λ a. get_or c.self.inside.journal.plain a 0) c.area_word-end_word.ensures in
+    let va : area_end c.args.self.now.now c.args.event ≡ get_or c.self.inside.journal.plain (area_place c.args.event) 0 = view_area c.self.inside.journal c.args.self.now c.self.inside.size c.args.event c.self.view_is (c.self.invariant.now (up_is c.self.inside.journal c.args.self.now c.self.inside.size c.self.view_is c.requires)) in
+    unless_cut (no_transient c.args.self.now c.args.event c.args.length) c.args.self.now (heap_view c.write_run.new.journal c.self.inside.size) (AddTransient c.args.kind c.args.event c.args.class c.args.owner c.args.length) c.args.self.now.now.top
+    (has_some_cells c.args.self.now c.args.event c.args.length (λ l. omega (arith, l, va, at)) ∙ object_fits c.args.self.now 5 (end_place ∷ area_place c.args.event ∷ []) (has_space c.self.inside.journal c.args.self.now c.self.inside.size 5 c.self.view_is (c.self.invariant.now (up_is c.self.inside.journal c.args.self.now c.self.inside.size c.self.view_is c.requires)) (omega arith)) (ends_room c.self.inside.journal c.args.self.now c.self.inside.size c.args.event c.area_word-end_word.result c.self.view_is c.area_word-end_word.ensures ∙ room_there c.lacks_room.result (has_room_for c.self.inside.journal (5 ∷ c.area_word-end_word.result ∷ [])) c.lacks_room.ensures c.if-lacks_room.false)) (returns-in_default-clause-stopped g c refl)
+
+pub returns-in_default-write_all-clause-moves : goal.returns-in_default-write_all-clause-moves
+returns-in_default-write_all-clause-moves g c =
+    let at : c.read-place.result ≡ get_or c.self.inside.journal.plain (area_place c.args.event) 0 = c.read-place.ensures ∙ ap (λ a. get_or c.self.inside.journal.plain a 0) c.area_word-end_word.ensures in
+    let va : area_end c.args.self.now.now c.args.event ≡ get_or c.self.inside.journal.plain (area_place c.args.event) 0 = view_area c.self.inside.journal c.args.self.now c.self.inside.size c.args.event c.self.view_is (c.self.invariant.now (up_is c.self.inside.journal c.args.self.now c.self.inside.size c.self.view_is c.requires)) in
+    unless_cut (no_transient c.args.self.now c.args.event c.args.length) c.args.self.now (heap_view c.write_all.new.self c.self.inside.size) (AddTransient c.args.kind c.args.event c.args.class c.args.owner c.args.length) c.args.self.now.now.top
+    (has_some_cells c.args.self.now c.args.event c.args.length (λ l. omega (arith, l, va, at)) ∙ object_fits c.args.self.now 5 (end_place ∷ area_place c.args.event ∷ []) (has_space c.self.inside.journal c.args.self.now c.self.inside.size 5 c.self.view_is (c.self.invariant.now (up_is c.self.inside.journal c.args.self.now c.self.inside.size c.self.view_is c.requires)) (omega arith)) (ends_room c.self.inside.journal c.args.self.now c.self.inside.size c.args.event c.area_word-end_word.result c.self.view_is c.area_word-end_word.ensures ∙ room_there c.lacks_room.result (has_room_for c.self.inside.journal (5 ∷ c.area_word-end_word.result ∷ [])) c.lacks_room.ensures c.if-lacks_room.false)) (returns-in_default-write_all-clause-stopped g c refl)
+
+pub returns-clause-moves : goal.returns-clause-moves
+returns-clause-moves g c =
+    let at : c.read-place.result ≡ get_or c.self.inside.journal.plain (area_place c.args.event) 0 = c.read-place.ensures ∙ ap (λ a. get_or c.self.inside.journal.plain a 0) c.area_word-end_word.ensures in
+    let va : area_end c.args.self.now.now c.args.event ≡ get_or c.self.inside.journal.plain (area_place c.args.event) 0 = view_area c.self.inside.journal c.args.self.now c.self.inside.size c.args.event c.self.view_is (c.self.invariant.now (up_is c.self.inside.journal c.args.self.now c.self.inside.size c.self.view_is c.requires)) in
+    unless_done (no_transient c.args.self.now c.args.event c.args.length) c.args.self.now (heap_view c.write_all.new.self c.self.inside.size) (AddTransient c.args.kind c.args.event c.args.class c.args.owner c.args.length) c.at.result c.args.self.now.now.top
+    (has_some_cells c.args.self.now c.args.event c.args.length (λ l. omega (arith, l, va, at)) ∙ object_fits c.args.self.now 5 (end_place ∷ area_place c.args.event ∷ []) (has_space c.self.inside.journal c.args.self.now c.self.inside.size 5 c.self.view_is (c.self.invariant.now (up_is c.self.inside.journal c.args.self.now c.self.inside.size c.self.view_is c.requires)) (omega arith)) (ends_room c.self.inside.journal c.args.self.now c.self.inside.size c.args.event c.area_word-end_word.result c.self.view_is c.area_word-end_word.ensures ∙ room_there c.lacks_room.result (has_room_for c.self.inside.journal (5 ∷ c.area_word-end_word.result ∷ [])) c.lacks_room.ensures c.if-lacks_room.false)) (returns-clause-named g c) (returns-clause-done g c)

@@ -1,0 +1,146 @@
+-- A place set, in the words and in the heap.
+use Rattle.std.proofs.Common.{◌≡◌, ℕ, ◌+◌, ◌<◌, ◌≤◌, ◌&&◌, Bool, true, false, List, [], ◌∷◌, length, get_or, set, drop, refl, sym, ◌∙◌, ap, subst, arith, if◌then◌else◌}
+use Rattle.std.proofs.lemmas.List.{length-set, length-take-le, get_or-set_other, get_or-take, get_or-drop, drop-set-lt}
+use Rattle.std.proofs.lemmas.Bool.{false≢true}
+use Rattle.jc_words.specs.Count.{raised}
+use Rattle.jc_commit.specs.Image.{IsPlace, IsReadable, IsUnlogged}
+use Rattle.jc_commit.specs.State.{State, Changes, written_in_place, is_touched as is_kept}
+use Rattle.jc_heap.specs.declared.place.Place.{Place}
+use Rattle.jc_heap.specs.declared.place.Place.TheVariants.{Cell, Registry}
+use Rattle.jc_heap.specs.Cut.{lacking}
+use Rattle.jc_heap.specs.Image.{IsLaid, image, base, package_addresses, is_package, sizes, missing}
+use Rattle.jc_heap.specs.Heap.{HeapState, HeapView, heap_view, heap_of, cell_place, is_touched, IsSound, SameShape, read_image, item_at, names}
+use Rattle.jc_heap.specs.Places.{place_word, HasPlace, set_place, written, counted}
+use Rattle.jc_heap.proofs.Laws.{shape-set, shape-set_both}
+use Rattle.jc_heap.proofs.Images.{image-set, set_cell-heap_of, IsLaid-set, top-set, package_addresses-set, base-set}
+use Rattle.jc_heap.proofs.Packages.{read-applet}
+use Rattle.jc_heap.proofs.Views.{cell_spot, back_set}
+use Rattle.jc_heap.proofs.Changing.{change_view, change_sound}
+
+-- a word of the registry
+missing-registry : (img : List ℕ) (a v : ℕ) → a < 192 → missing (set img (560 + a) v) ≡ missing img
+unfolding missing
+missing-registry img a v h =
+    ap (λ ps. lacking (sizes ps) 0 (base (set img (560 + a) v)) (drop (base (set img (560 + a) v)) (set img (560 + a) v))) (package_addresses-set img (560 + a) v (omega arith))
+    ∙ ap (λ b. lacking (sizes (package_addresses img)) 0 b (drop b (set img (560 + a) v))) (base-set img (560 + a) v (omega arith))
+    ∙ ap (lacking (sizes (package_addresses img)) 0 (base img)) (drop-set-lt (base img) img (560 + a) v (omega arith))
+
+wide_image : (ws : List ℕ) → IsLaid ws → 752 ≤ length (image ws)
+wide_image ws laid = omega (arith, laid.based, length-take-le (get_or ws 5 0) ws laid.fits)
+
+top-registry : (ws : List ℕ) (a v : ℕ) → get_or (set ws (560 + a) v) 5 0 ≡ get_or ws 5 0
+top-registry ws a v = get_or-set_other ws (560 + a) 5 v 0 (λ e. omega arith)
+
+registry-heap_of : (ws : List ℕ) (a v : ℕ) → IsLaid ws → a < 192 → heap_of (set ws (560 + a) v) ≡ set_place (heap_of ws) (Registry a) v
+registry-heap_of ws a v laid h = ap read_image (image-set ws (560 + a) v (omega arith)) ∙ read-applet (image ws) a v (wide_image ws laid) h
+
+IsLaid-registry : (ws : List ℕ) (a v : ℕ) → IsLaid ws → a < 192 → IsLaid (set ws (560 + a) v)
+IsLaid-registry ws a v laid h =
+    let img : image (set ws (560 + a) v) ≡ set (image ws) (560 + a) v = image-set ws (560 + a) v (omega arith) in
+    let same_base : base (image (set ws (560 + a) v)) ≡ base (image ws) = ap base img ∙ base-set (image ws) (560 + a) v (omega arith) in
+    let top : get_or (set ws (560 + a) v) 5 0 ≡ get_or ws 5 0 = top-registry ws a v in
+    record {
+      based = omega (arith, same_base, top, laid.based);
+      fits = omega (arith, top, length-set ws (560 + a) v, laid.fits);
+      whole = ap missing img ∙ missing-registry (image ws) a v h ∙ laid.whole;
+      packages = λ b le. ap (λ ps. is_package ps b) (ap package_addresses img ∙ package_addresses-set (image ws) (560 + a) v (omega arith)) ∙ laid.packages b (omega (arith, top, le));
+    }
+
+pub registry_read : (j : State) (v : HeapView) (n a : ℕ) → heap_view j n ≡ v → IsLaid j.plain → a < 192 → get_or j.plain (560 + a) 0 ≡ get_or (v.now.applets) a 0
+unfolding read_image
+registry_read j v n a is laid h = subst (λ u. get_or j.plain (560 + a) 0 ≡ get_or (u.now.applets) a 0) is
+    (sym (get_or-take 192 (drop 560 (image j.plain)) a 0 h ∙ get_or-drop 560 (image j.plain) a 0 ∙ get_or-take (get_or j.plain 5 0) j.plain (560 + a) 0 (omega (arith, laid.based))))
+
+-- words with a place set stand for the heap with it set
+pub place_set : (ws : List ℕ) (p : Place) (x : ℕ) → IsLaid ws → HasPlace (heap_of ws) p →
+    (heap_of (set ws (place_word p) x) ≡ set_place (heap_of ws) p x) × IsLaid (set ws (place_word p) x) × (get_or (set ws (place_word p) x) 5 0 ≡ get_or ws 5 0)
+unfolding cell_place
+place_set ws (Cell r i) x laid h = (set_cell-heap_of ws r i x h, IsLaid-set ws r i x h laid, top-set ws r i x h)
+place_set ws (Registry a) x laid h = (registry-heap_of ws a x laid h, IsLaid-registry ws a x laid h, top-registry ws a x)
+
+-- in the recovered words too, or the place lies above their top
+place_back : (j : State) (n : ℕ) (p : Place) (x : ℕ) → HasPlace (heap_of j.plain) p → j.down ≡ false → IsSound j n →
+    (heap_of (set j.recovered (place_word p) x) ≡ set_place (heap_of j.recovered) p x) × IsLaid (set j.recovered (place_word p) x) × (get_or (set j.recovered (place_word p) x) 5 0 ≡ get_or j.recovered 5 0)
+unfolding cell_place
+place_back j n (Cell r i) x h up s = back_set j n r i x h up s
+place_back j n (Registry a) x h up s = (registry-heap_of j.recovered a x s.back h, IsLaid-registry j.recovered a x s.back h, top-registry j.recovered a x)
+
+place_shape : (d h : HeapState) (p : Place) (x : ℕ) → SameShape d h → SameShape d (set_place h p x)
+unfolding item_at names
+place_shape d h (Cell r i) x s = shape-set d h r i x s
+place_shape d h (Registry a) x s = record { items = s.items; names = s.names }
+
+place_shape_both : (d h : HeapState) (p : Place) (x : ℕ) → SameShape d h → SameShape (set_place d p x) (set_place h p x)
+unfolding item_at names
+place_shape_both d h (Cell r i) x s = shape-set_both d h r i x s
+place_shape_both d h (Registry a) x s = record { items = s.items; names = s.names }
+
+-- a place's word lies among the words, behind the packages' addresses
+pub place_spot : (j : State) (v : HeapView) (n : ℕ) (p : Place) → heap_view j n ≡ v → IsLaid j.plain → HasPlace v.now p → (place_word p < length j.plain) × (560 ≤ place_word p)
+place_spot j v n (Cell r i) is laid h = let spot : (cell_place r i < length j.plain) × (752 ≤ cell_place r i) = cell_spot j v n r i is h in (spot.0, omega (arith, spot.1))
+place_spot j v n (Registry a) is laid h = (omega (arith, laid.based, laid.fits), omega arith)
+
+pub place_readable : (n a : ℕ) → a < n → 560 ≤ a → IsReadable n a
+place_readable n a below high = record { below = below; not_count = λ e. omega arith; beside = λ _. omega arith }
+
+pub place_logged : (n a : ℕ) → a < n → 560 ≤ a → IsPlace n a
+place_logged n a below high = record { above = omega arith; below = below; beside = λ _. omega arith }
+
+pub place_unlogged : (n a : ℕ) → a < n → 560 ≤ a → IsUnlogged n a
+place_unlogged n a below high = record { below = below; not_top = λ e. omega arith; place = λ _. place_logged n a below high }
+
+-- a place set through the journal is a place set in the heap
+pub place_view : (j k : State) (v : HeapView) (n : ℕ) (p : Place) (x : ℕ) → heap_view j n ≡ v → IsLaid j.plain → HasPlace v.now p → Changes ((place_word p, x) ∷ []) j k → heap_view k n ≡ written v p x
+place_view j k v n p x is laid h c = subst (λ u. HasPlace (u.now) p → heap_view k n ≡ written u p x) is
+    (λ there. change_view ((place_word p, x) ∷ []) j k n (set_place (heap_of j.plain) p x) c (place_set j.plain p x laid there).0) h
+
+pub place_sound : (j k : State) (v : HeapView) (n : ℕ) (p : Place) (x : ℕ) → heap_view j n ≡ v → HasPlace v.now p → j.down ≡ false → IsSound j n → Changes ((place_word p, x) ∷ []) j k → IsSound k n
+place_sound j k v n p x is h up s c =
+    let t : (heap_of (set j.plain (place_word p) x) ≡ set_place (heap_of j.plain) p x) × IsLaid (set j.plain (place_word p) x) × (get_or (set j.plain (place_word p) x) 5 0 ≡ get_or j.plain 5 0) =
+    place_set j.plain p x (s.now up) (subst (λ u. HasPlace (u.now) p) (sym is) h) in
+    change_sound ((place_word p, x) ∷ []) j k n c up s.back s.size_recovered (s.size_now up) s.small t.1
+    (λ _. omega (arith, s.order up, t.2))
+    (λ _. subst (SameShape (heap_of j.recovered)) (sym t.0) (place_shape (heap_of j.recovered) (heap_of j.plain) p x (s.shape up)))
+
+if-map : {X Y : Type 0} (f : X → Y) (b : Bool) (x y : X) → f (if b then x else y) ≡ (if b then f x else f y)
+if-map f true x y = refl
+if-map f false x y = refl
+
+settled_both : (b c : Bool) (rec plain : List ℕ) (a x : ℕ) → b ≡ false → rec ≡ plain → (if b && c then rec else set rec a x) ≡ set plain a x
+settled_both true c rec plain a x f e = absurd (false≢true (sym f))
+settled_both false c rec plain a x f e = ap (λ l. set l a x) e
+
+both_at : (j : State) (n : ℕ) (p : Place) (x : ℕ) → HasPlace (heap_of j.plain) p → j.down ≡ false → IsSound j n →
+    (heap_view (written_in_place j (place_word p) x) n ≡ record (heap_view j n) { now = set_place (heap_of j.plain) p x; durable = (if j.in_transaction && is_kept j (place_word p) then heap_of j.recovered else set_place (heap_of j.recovered) p x); passed = raised j.passed 1 })
+    × IsSound (written_in_place j (place_word p) x) n
+both_at j n p x h up s =
+    let b : (heap_of (set j.recovered (place_word p) x) ≡ set_place (heap_of j.recovered) p x) × IsLaid (set j.recovered (place_word p) x) × (get_or (set j.recovered (place_word p) x) 5 0 ≡ get_or j.recovered 5 0) = place_back j n p x h up s in
+    let t : (heap_of (set j.plain (place_word p) x) ≡ set_place (heap_of j.plain) p x) × IsLaid (set j.plain (place_word p) x) × (get_or (set j.plain (place_word p) x) 5 0 ≡ get_or j.plain 5 0) = place_set j.plain p x (s.now up) h in
+    let now : heap_of (set j.plain (place_word p) x) ≡ set_place (heap_of j.plain) p x = t.0 in
+    let laid : IsLaid (set j.plain (place_word p) x) = t.1 in
+    let top : get_or (set j.plain (place_word p) x) 5 0 ≡ get_or j.plain 5 0 = t.2 in
+    let size : length (set j.plain (place_word p) x) ≡ length j.plain = length-set j.plain (place_word p) x in
+    let durable : heap_of (if j.in_transaction && is_kept j (place_word p) then j.recovered else set j.recovered (place_word p) x) ≡ (if j.in_transaction && is_kept j (place_word p) then heap_of j.recovered else set_place (heap_of j.recovered) p x) =
+    if-map heap_of (j.in_transaction && is_kept j (place_word p)) j.recovered (set j.recovered (place_word p) x) ∙ ap (λ t. if j.in_transaction && is_kept j (place_word p) then heap_of j.recovered else t) b.0 in (
+      (λ k. record { now = now k; durable = durable k; begun = j.in_transaction; touched = j.touched; down = j.down; passed = raised j.passed 1; refused = j.refused; size = n }),
+      record {
+        back = elim (j.in_transaction && is_kept j (place_word p)) as (λ g. IsLaid (if g then j.recovered else set j.recovered (place_word p) x)) [ true ↦ s.back | false ↦ b.1 ];
+        size_recovered = elim (j.in_transaction && is_kept j (place_word p)) as (λ g. length (if g then j.recovered else set j.recovered (place_word p) x) ≡ n) [ true ↦ s.size_recovered | false ↦ length-set j.recovered (place_word p) x ∙ s.size_recovered ];
+        small = s.small;
+        now = λ _. laid;
+        size_now = λ _. size ∙ s.size_now up;
+        order = λ _. elim (j.in_transaction && is_kept j (place_word p)) as (λ g. get_or (if g then j.recovered else set j.recovered (place_word p) x) 5 0 ≤ get_or (set j.plain (place_word p) x) 5 0) [ true ↦ omega (arith, s.order up, top) | false ↦ omega (arith, s.order up, top, b.2) ];
+        shape = λ _. elim (j.in_transaction && is_kept j (place_word p)) as (λ g. SameShape (heap_of (if g then j.recovered else set j.recovered (place_word p) x)) (heap_of (set j.plain (place_word p) x))) [
+          | true ↦ subst (SameShape (heap_of j.recovered)) (sym now) (place_shape (heap_of j.recovered) (heap_of j.plain) p x (s.shape up))
+          | false ↦ subst (λ d. SameShape d (heap_of (set j.plain (place_word p) x))) (sym b.0) (subst (SameShape (set_place (heap_of j.recovered) p x)) (sym now) (place_shape_both (heap_of j.recovered) (heap_of j.plain) p x (s.shape up)))
+        ];
+        settled = λ _ closed. settled_both j.in_transaction (is_kept j (place_word p)) j.recovered j.plain (place_word p) x closed (s.settled up closed);
+      },
+    )
+
+pub both_view : (j : State) (v : HeapView) (n : ℕ) (p : Place) (x : ℕ) → heap_view j n ≡ v → HasPlace v.now p → j.down ≡ false → IsSound j n → heap_view (written_in_place j (place_word p) x) n ≡ counted v p x
+unfolding is_touched
+both_view j v n p x is h up s = subst (λ u. HasPlace (u.now) p → heap_view (written_in_place j (place_word p) x) n ≡ counted u p x) is (λ k. (both_at j n p x k up s).0) h
+
+pub both_sound : (j : State) (v : HeapView) (n : ℕ) (p : Place) (x : ℕ) → heap_view j n ≡ v → HasPlace v.now p → j.down ≡ false → IsSound j n → IsSound (written_in_place j (place_word p) x) n
+both_sound j v n p x is h up s = (both_at j n p x (subst (λ u. HasPlace (u.now) p) (sym is) h) up s).1
