@@ -10,6 +10,7 @@ pub mod Changing
 pub mod Views
 pub mod Reading
 pub mod NewObjects
+pub mod Packing
 pub mod Following
 pub mod Runs
 pub mod AreaEnds

@@ -5,4 +5,5 @@ pub mod Image
 pub mod Heap
 pub mod Fresh
 pub mod Refusals
+pub mod Packages
 pub mod Moves

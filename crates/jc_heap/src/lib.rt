@@ -8,6 +8,8 @@ mod layout;
 mod making;
 mod object;
 mod opening;
+mod package;
+mod record;
 mod refusal;
 mod walk;
 
@@ -15,4 +17,5 @@ pub use heap::Heap;
 pub use law::transactions_keep_what_is_durable;
 pub use object::{Facts, Kind};
 pub use opening::OpenImage;
+pub use package::{Component, StaticArray};
 pub use refusal::HeapRefusal;
