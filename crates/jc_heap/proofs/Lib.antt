@@ -11,6 +11,7 @@ pub mod Views
 pub mod Reading
 pub mod NewObjects
 pub mod Packing
+pub mod Streams
 pub mod Following
 pub mod Runs
 pub mod AreaEnds

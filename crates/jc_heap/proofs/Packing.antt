@@ -1,12 +1,12 @@
 -- Lists of words that a package is made from.
-use Rattle.std.proofs.Common.{◌≡◌, ℕ, true, false, if◌then◌else◌, zero, suc, ◌+◌, ◌*◌, ◌/◌, ◌%◌, ◌<◌, ◌≤◌, List, [], ◌∷◌, ◌++◌, length, take, map, get_or, refl, sym, ◌∙◌, ap, arith, add-zero, append_assoc}
-use Rattle.std.proofs.lemmas.List.{take_more, map-append, length-append, append-nil}
+use Rattle.std.proofs.Common.{◌≡◌, ℕ, true, false, if◌then◌else◌, zero, suc, ◌+◌, ◌*◌, ◌/◌, ◌%◌, ◌<◌, ◌≤◌, List, [], ◌∷◌, ◌++◌, length, take, drop, map, get_or, refl, sym, ◌∙◌, ap, arith, add-zero, append_assoc}
+use Rattle.std.proofs.lemmas.List.{take_more, map-append, length-append, append-nil, length-take-le, take-append-drop}
 use Rattle.jc_heap.specs.declared.object.Kind.{Kind}
 use Rattle.jc_heap.specs.declared.object.Kind.TheVariants.{Instance}
 use Rattle.jc_heap.specs.declared.package.Component.{Component}
 use Rattle.jc_heap.specs.declared.package.StaticArray.{StaticArray}
 use Rattle.jc_heap.specs.Object.{has_bytes}
-use Rattle.jc_heap.specs.Packages.{part, parts, initial, initials, packed, component_words, components_words, elements, array_object, array_size, AreComponents, AreStatics, arrays_size, array_addresses}
+use Rattle.jc_heap.specs.Packages.{part, parts, initial, initials, packed, component_words, components_words, elements, array_words, arrays_words, array_size, AreComponents, AreArrays, arrays_size, array_addresses}
 
 pub length-packed : (bs : List ℕ) → length (packed bs) ≡ length bs / 2 + length bs % 2
 length-packed [] = refl
@@ -95,13 +95,10 @@ info_words cs k a h = omega (arith, length-packed ((get_or cs k no_component).in
 length_elements : (a : Kind × List ℕ) → length a.1 < 65536 → length (elements a) < 65536
 length_elements a h = elim (has_bytes a.0) as (λ b. length (if b then a.1 else packed a.1) < 65536) [ true ↦ h | false ↦ omega (arith, length-packed a.1, h) ]
 
-pub values_small : (xs : List StaticArray) (rest : List ℕ) (k : ℕ) → AreStatics (initials xs) rest → k < length xs → length (elements (initial (get_or xs k no_array))) < 65536
-values_small xs rest k a h =
-    let small : length ((get_or xs k no_array).values.now) < 65536 = omega (arith, a.lengths k (omega (arith, length-initials xs)), ap (λ p. length (p.1)) (initial-at xs k)) in
+pub values_small : (xs : List StaticArray) (k : ℕ) → AreArrays (initials xs) → k < length xs → length (elements (initial (get_or xs k no_array))) < 65536
+values_small xs k a h =
+    let small : length ((get_or xs k no_array).values.now) < 65536 = omega (arith, a.sizes k (omega (arith, length-initials xs)), ap (λ p. length (p.1)) (initial-at xs k)) in
     length_elements (initial (get_or xs k no_array)) small
-
-pub few_arrays : (xs : List StaticArray) (rest : List ℕ) → AreStatics (initials xs) rest → 2 * length xs + length rest < 65536
-few_arrays xs rest a = omega (arith, a.size, length-initials xs)
 
 -- one more is counted
 pub components-counted : (cs : List Component) (k : ℕ) → k < length cs →
@@ -117,3 +114,79 @@ pub arrays-counted : (xs : List StaticArray) (k : ℕ) → k < length xs →
     arrays_size (initials (take (k + 1) xs)) ≡ arrays_size (initials (take k xs)) + (4 + length (elements (initial (get_or xs k no_array))))
 arrays-counted xs k h =
     ap arrays_size (initials-push xs k no_array h) ∙ arrays_size-append (initials (take k xs)) (initial (get_or xs k no_array) ∷ []) ∙ (omega arith)
+
+-- one more is written
+pub components-step : (cs : List Component) (k : ℕ) → k < length cs →
+    components_words (parts (take (k + 1) cs)) ≡ components_words (parts (take k cs)) ++ component_words (part (get_or cs k no_component))
+components-step cs k h =
+    ap components_words (parts-push cs k no_component h)
+    ∙ components_words-append (parts (take k cs)) (part (get_or cs k no_component) ∷ [])
+    ∙ ap (λ l. components_words (parts (take k cs)) ++ l) (append-nil (component_words (part (get_or cs k no_component))))
+
+pub arrays_words-append : (owner : ℕ) (xs ys : List (Kind × List ℕ)) → arrays_words owner (xs ++ ys) ≡ arrays_words owner xs ++ arrays_words owner ys
+arrays_words-append owner [] ys = refl
+arrays_words-append owner (x ∷ xs) ys = ap (λ l. array_words owner x ++ l) (arrays_words-append owner xs ys) ∙ sym (append_assoc (array_words owner x) (arrays_words owner xs) (arrays_words owner ys))
+
+pub arrays-step : (owner : ℕ) (xs : List StaticArray) (k : ℕ) → k < length xs →
+    arrays_words owner (initials (take (k + 1) xs)) ≡ arrays_words owner (initials (take k xs)) ++ array_words owner (initial (get_or xs k no_array))
+arrays-step owner xs k h =
+    ap (arrays_words owner) (initials-push xs k no_array h)
+    ∙ arrays_words-append owner (initials (take k xs)) (initial (get_or xs k no_array) ∷ [])
+    ∙ ap (λ l. arrays_words owner (initials (take k xs)) ++ l) (append-nil (array_words owner (initial (get_or xs k no_array))))
+
+pub addresses-step : (first address : ℕ) (xs : List StaticArray) (k : ℕ) → k < length xs → address ≡ first + arrays_size (initials (take k xs)) →
+    array_addresses first (initials (take (k + 1) xs)) ≡ array_addresses first (initials (take k xs)) ++ address ∷ []
+addresses-step first address xs k h e =
+    ap (array_addresses first) (initials-push xs k no_array h)
+    ∙ addresses-append first (initials (take k xs)) (initial (get_or xs k no_array) ∷ [])
+    ∙ ap (λ a. array_addresses first (initials (take k xs)) ++ a ∷ []) (sym e)
+
+-- what is written so far is a part of all
+components-all : (cs : List Component) (k : ℕ) → components_words (parts cs) ≡ components_words (parts (take k cs)) ++ components_words (parts (drop k cs))
+components-all cs k =
+    ap (λ l. components_words (parts l)) (sym (take-append-drop k cs))
+    ∙ ap components_words (map-append part (take k cs) (drop k cs))
+    ∙ components_words-append (parts (take k cs)) (parts (drop k cs))
+
+pub components-within : (cs : List Component) (k : ℕ) → k < length cs →
+    length (components_words (parts (take k cs))) + length (component_words (part (get_or cs k no_component))) ≤ length (components_words (parts cs))
+components-within cs k h =
+    omega (arith, components-counted cs k h, ap length (components-all cs (k + 1)), length-append (components_words (parts (take (k + 1) cs))) (components_words (parts (drop (k + 1) cs))))
+
+arrays_words-all : (owner : ℕ) (xs : List StaticArray) (k : ℕ) → arrays_words owner (initials xs) ≡ arrays_words owner (initials (take k xs)) ++ arrays_words owner (initials (drop k xs))
+arrays_words-all owner xs k =
+    ap (λ l. arrays_words owner (initials l)) (sym (take-append-drop k xs))
+    ∙ ap (arrays_words owner) (map-append initial (take k xs) (drop k xs))
+    ∙ arrays_words-append owner (initials (take k xs)) (initials (drop k xs))
+
+pub arrays-within : (owner : ℕ) (xs : List StaticArray) (k : ℕ) → k < length xs →
+    length (arrays_words owner (initials (take k xs))) + length (array_words owner (initial (get_or xs k no_array))) ≤ length (arrays_words owner (initials xs))
+arrays-within owner xs k h =
+    omega (
+      arith,
+      ap length (arrays-step owner xs k h),
+      length-append (arrays_words owner (initials (take k xs))) (array_words owner (initial (get_or xs k no_array))),
+      ap length (arrays_words-all owner xs (k + 1)),
+      length-append (arrays_words owner (initials (take (k + 1) xs))) (arrays_words owner (initials (drop (k + 1) xs))),
+    )
+
+pub arrays-below : (xs : List StaticArray) (k : ℕ) → arrays_size (initials (take k xs)) ≤ arrays_size (initials xs)
+arrays-below xs k =
+    let all : arrays_size (initials xs) ≡ arrays_size (initials (take k xs)) + arrays_size (initials (drop k xs)) =
+    ap (λ l. arrays_size (initials l)) (sym (take-append-drop k xs)) ∙ ap arrays_size (map-append initial (take k xs) (drop k xs)) ∙ arrays_size-append (initials (take k xs)) (initials (drop k xs)) in
+    omega arith
+
+length-array_addresses : (at : ℕ) (xs : List (Kind × List ℕ)) → length (array_addresses at xs) ≡ length xs
+length-array_addresses at [] = refl
+length-array_addresses at (x ∷ xs) = ap suc (length-array_addresses (at + array_size x) xs)
+
+pub length-addresses : (at : ℕ) (xs : List StaticArray) → length (array_addresses at (initials xs)) ≡ length xs
+length-addresses at xs = length-array_addresses at (initials xs) ∙ length-initials xs
+
+pub length-addresses_taken : (at : ℕ) (xs : List StaticArray) (k : ℕ) → k < length xs → length (array_addresses at (initials (take k xs))) ≡ k
+length-addresses_taken at xs k h = length-addresses at (take k xs) ∙ length-take-le k xs (omega arith)
+
+-- the words of objects are as many as their sizes
+pub length-arrays_words : (owner : ℕ) (xs : List (Kind × List ℕ)) → length (arrays_words owner xs) ≡ arrays_size xs
+length-arrays_words owner [] = refl
+length-arrays_words owner (x ∷ xs) = length-append (array_words owner x) (arrays_words owner xs) ∙ (omega (arith, length-arrays_words owner xs))

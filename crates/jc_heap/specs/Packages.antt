@@ -128,8 +128,11 @@ is_initial Instance = false
 is_initial ReferenceArray = false
 is_initial _ = true
 
--- initialised arrays and the bytes behind their references, as a static image may have them
-pub record AreStatics (xs : List (Kind × List ℕ)) (rest : List ℕ) : Type 0 where
+-- initialised arrays as a package may have them: of booleans, bytes or shorts, and below 65,536 bytes each
+pub record AreArrays (xs : List (Kind × List ℕ)) : Type 0 where
   pub kinds : (k : ℕ) → k < length xs → is_initial ((slice_index_or xs k (Instance, [])).0) ≡ true
-  pub lengths : (k : ℕ) → k < length xs → length ((slice_index_or xs k (Instance, [])).1) < 65536
-  pub size : 2 * length xs + length rest < 65536
+  pub sizes : (k : ℕ) → k < length xs → length ((slice_index_or xs k (Instance, [])).1) < 65536
+
+-- how many bytes a static image has
+abbrev pub image_size : List (Kind × List ℕ) → List ℕ → ℕ
+image_size xs rest = 2 * length xs + length rest

@@ -1,6 +1,6 @@
 //! What a package is made from, and how many words it takes.
 ghost use Rattle.std.specs.Prelude.{ℕ, ◌≡◌, ◌<◌, ◌+◌, ◌*◌, [], length, slice_index};
-ghost use Rattle.jc_heap.specs.Packages.{part, parts, initial, initials, packed, elements, component_words, components_words, arrays_size, AreComponents, AreStatics, record_size};
+ghost use Rattle.jc_heap.specs.Packages.{part, parts, initial, initials, packed, elements, component_words, components_words, arrays_size, AreComponents, AreArrays, record_size, image_size};
 
 use crate::object::Kind;
 
@@ -65,8 +65,9 @@ fn components_size(components: &[Component]) -> u32
 }
 
 // How many words arrays take.
-pub(crate) fn size_of_arrays(arrays: &[StaticArray], image: &[u8]) -> u32
-    requires { AreStatics (initials arrays.now) image.now }
+pub(crate) fn size_of_arrays(arrays: &[StaticArray]) -> u32
+    requires arrays { AreArrays (initials arrays.now) }
+    requires few { length arrays.now < 32768 }
     ensures exact { result ≡ arrays_size (initials arrays.now) }
     ensures small { result < 2_500_000_000 }
 {
@@ -74,14 +75,13 @@ pub(crate) fn size_of_arrays(arrays: &[StaticArray], image: &[u8]) -> u32
     for array in arrays {
         size += 4 + cell_count(array) as u32;
     }
-    let _ = image;
     size
 }
 
 // How many words a package's record has.
 pub(crate) fn size_of_record(components: &[Component], arrays: &[StaticArray], image: &[u8]) -> u32
     requires components { AreComponents (parts components.now) }
-    requires statics { AreStatics (initials arrays.now) image.now }
+    requires image { image_size (initials arrays.now) image.now < 65536 }
     ensures exact { result ≡ record_size (parts components.now) (initials arrays.now) image.now }
     ensures small { result < 1_500_000 }
 {
