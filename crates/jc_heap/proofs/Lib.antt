@@ -12,6 +12,7 @@ pub mod Reading
 pub mod NewObjects
 pub mod Packing
 pub mod Streams
+pub mod PackageAdded
 pub mod Following
 pub mod Runs
 pub mod AreaEnds

@@ -46,3 +46,25 @@ free_left at next n m xs a b free k f e le =
 
 pub free_fewer : (at n m : ℕ) (a : State) → IsFree at n a → m ≤ n → IsFree at m a
 free_fewer at n m a s le = record { up = s.up; low = s.low; above = s.above; above_recovered = s.above_recovered; fits = omega (arith, s.fits); small = s.small }
+
+-- what stands after some pieces, and the address behind it
+pub record Stands (at next : ℕ) (xs : List ℕ) (a b : State) : Type 0 where
+  pub below : KeepsBelow at a b
+  pub words : Fills at xs a b
+  pub behind : next ≡ at + length xs
+
+pub first_piece : (at next : ℕ) (xs : List ℕ) (a b : State) → KeepsBelow at a b → Fills at xs a b → next ≡ at + length xs → Stands at next xs a b
+first_piece at next xs a b k f e = record { below = k; words = f; behind = e }
+
+pub next_piece : (at next after : ℕ) (xs ys : List ℕ) (a b c : State) → Stands at next xs a b → KeepsBelow next b c → Fills next ys b c → after ≡ next + length ys → Stands at after (xs ++ ys) a c
+next_piece at next after xs ys a b c s k f e = record {
+  below = piece_below at next xs a b c s.below s.behind k;
+  words = (piece_more at next xs ys (xs ++ ys) a b c s.words s.behind f refl).0;
+  behind = omega (arith, e, s.behind, length-append xs ys);
+}
+
+pub stands_below : (at next : ℕ) (xs : List ℕ) (a b c : State) → Stands at next xs a b → KeepsBelow next b c → KeepsBelow at a c
+stands_below at next xs a b c s k = piece_below at next xs a b c s.below s.behind k
+
+pub stands_free : (at next n m : ℕ) (xs : List ℕ) (a b : State) → IsFree at n a → Stands at next xs a b → length xs + m ≤ n → IsFree next m b
+stands_free at next n m xs a b free s le = free_left at next n m xs a b free s.below s.words s.behind le
