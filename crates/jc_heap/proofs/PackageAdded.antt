@@ -86,3 +86,173 @@ arrays-grown ws t owner (x ∷ xs) is laid e fits =
     arrays-grown moved (t + length rec) owner xs top_one laid_one rest_one (omega (arith, all, length-set ws 5 (t + length rec))) in
     let last : set moved 5 (t + length rec + length rest) ≡ set ws 5 (t + length (rec ++ rest)) = set-set ws 5 (t + length rec) (t + length rec + length rest) ∙ ap (set ws 5) (omega (arith, all)) in
     (ap heap_of (sym last) ∙ ih.0 ∙ ap (λ h. add_arrays h owner xs) one, subst IsLaid last ih.1)
+
+-- three words of the fixed area, in a run in front of other words
+take-three : (n : ℕ) (ws : List ℕ) (a b c x y z : ℕ) → take n (set (set (set ws a x) b y) c z) ≡ set (set (set (take n ws) a x) b y) c z
+take-three n ws a b c x y z =
+    take-set_comm n (set (set ws a x) b y) c z
+    ∙ ap (λ l. set l c z) (take-set_comm n (set ws a x) b y)
+    ∙ ap (λ l. set (set l b y) c z) (take-set_comm n ws a x)
+
+three-append : (front xs : List ℕ) (a b c x y z : ℕ) → a < length front → b < length front → c < length front → set (set (set (front ++ xs) a x) b y) c z ≡ set (set (set front a x) b y) c z ++ xs
+three-append front xs a b c x y z ha hb hc =
+    ap (λ l. set (set l b y) c z) (set-append_left front xs a x ha)
+    ∙ ap (λ l. set l c z) (set-append_left (set front a x) xs b y (omega (arith, length-set front a x)))
+    ∙ set-append_left (set (set front a x) b y) xs c z (omega (arith, length-set front a x, length-set (set front a x) b y))
+
+-- a record is named as a package's, and the top moves over it
+module _ (old ws rec : List ℕ) (laid : IsLaid old) (few : get_or old 6 0 < 32) (e : take (get_or old 5 0 + length rec) ws ≡ take (get_or old 5 0) old ++ rec) (fits : get_or old 5 0 + length rec ≤ length ws) (own : get_or rec 0 0 ≡ length rec) (some : 0 < length rec) where
+  -- the words after the change
+  abbrev pub pushed : List ℕ
+  pushed = set (set (set ws (528 + get_or old 6 0) (get_or old 5 0)) 6 (get_or old 6 0 + 1)) 5 (get_or old 5 0 + length rec)
+
+  abbrev img : List ℕ
+  img = image old
+
+  long : length (image old) ≡ get_or old 5 0
+  long = length-take-le (get_or old 5 0) old laid.fits
+
+  wide : 752 ≤ length (image old)
+  wide = omega (arith, long, laid.based)
+
+  based : base (image old) ≤ length (image old)
+  based = omega (arith, long, laid.based)
+
+  count : get_or (image old) 6 0 ≡ get_or old 6 0
+  count = get_or-take (get_or old 5 0) old 6 0 (omega (arith, laid.based))
+
+  few_there : get_or (image old) 6 0 < 32
+  few_there = omega (arith, count, few)
+
+  -- the image with the name, before the top moves
+  abbrev nm : List ℕ
+  nm = set (set (image old) (528 + get_or (image old) 6 0) (length (image old))) 6 (get_or (image old) 6 0 + 1)
+
+  long_named : length nm ≡ length (image old)
+  long_named = length-named (image old) wide few_there based
+
+  names_named : package_addresses nm ≡ package_addresses (image old) ++ length (image old) ∷ []
+  names_named = packages-named (image old) wide few_there based
+
+  top_pushed : get_or pushed 5 0 ≡ get_or old 5 0 + length rec
+  top_pushed = get_or-set_same (set (set ws (528 + get_or old 6 0) (get_or old 5 0)) 6 (get_or old 6 0 + 1)) 5 (get_or old 5 0 + length rec) 0
+      (omega (arith, length-set ws (528 + get_or old 6 0) (get_or old 5 0), length-set (set ws (528 + get_or old 6 0) (get_or old 5 0)) 6 (get_or old 6 0 + 1), laid.based))
+
+  is_pushed : image pushed ≡ set nm 5 (length nm + length rec) ++ rec
+  is_pushed =
+      ap (λ n. take n pushed) top_pushed
+      ∙ take-three (get_or old 5 0 + length rec) ws (528 + get_or old 6 0) 6 5 (get_or old 5 0) (get_or old 6 0 + 1) (get_or old 5 0 + length rec)
+      ∙ ap (λ l. set (set (set l (528 + get_or old 6 0) (get_or old 5 0)) 6 (get_or old 6 0 + 1)) 5 (get_or old 5 0 + length rec)) e
+      ∙ three-append (image old) rec (528 + get_or old 6 0) 6 5 (get_or old 5 0) (get_or old 6 0 + 1) (get_or old 5 0 + length rec) (omega (arith, wide, few)) (omega (arith, wide)) (omega (arith, wide))
+      ∙ ap (λ k. set (set (set (image old) (528 + k) (get_or old 5 0)) 6 (k + 1)) 5 (get_or old 5 0 + length rec) ++ rec) (sym count)
+      ∙ ap (λ t. set (set (set (image old) (528 + get_or (image old) 6 0) t) 6 (get_or (image old) 6 0 + 1)) 5 (t + length rec) ++ rec) (sym long)
+      ∙ ap (λ t. set nm 5 (t + length rec) ++ rec) (sym long_named)
+
+  wide_named : 752 ≤ length nm
+  wide_named = omega (arith, long_named, wide)
+
+  base_named : base nm ≡ base (image old)
+  base_named = base-named (image old) wide few_there based
+
+  based_named : base nm ≤ length nm
+  based_named = omega (arith, base_named, long_named, based)
+
+  whole_named : missing nm ≡ 0
+  whole_named = missing-named (image old) wide few_there based ∙ laid.whole
+
+  is_named : is_package (package_addresses nm) (length nm) ≡ true
+  is_named = ap (is_package (package_addresses nm)) long_named ∙ ap (λ ps. is_package ps (length (image old))) names_named ∙ is_package-last (package_addresses (image old)) (length (image old))
+
+  own_named : sizes (package_addresses nm) (length nm) rec + 1 ≡ length rec
+  own_named = ap (λ b. (if b then get_or rec 0 0 - 1 else 3 + payload (get_or rec 0 0) (get_or rec 3 0)) + 1) is_named ∙ (omega (arith, own, some))
+
+  item_named : item (package_addresses nm) (length nm) rec ≡ APackage rec
+  item_named = ap (λ b. if b then APackage rec else AnObject (object_of rec)) is_named
+
+  pub heap_of-pushed : heap_of pushed ≡ push_package (heap_of old) rec
+  unfolding read_image push_package
+  heap_of-pushed =
+      ap read_image is_pushed
+      ∙ read-grown nm rec wide_named based_named whole_named own_named
+      ∙ ap (λ t. add_item (read_image nm) t (length rec)) item_named
+      ∙ ap (λ h. add_item h (APackage rec) (length rec)) (read-named (image old) wide few_there based)
+
+  pub laid-pushed : IsLaid pushed
+  laid-pushed = record {
+    based = let b : base (image pushed) ≡ base (image old) = ap base is_pushed ∙ base-grown nm rec wide_named ∙ base_named in omega (arith, top_pushed, laid.based);
+    fits = omega (arith, top_pushed, fits, length-set ws (528 + get_or old 6 0) (get_or old 5 0), length-set (set ws (528 + get_or old 6 0) (get_or old 5 0)) 6 (get_or old 6 0 + 1), length-set (set (set ws (528 + get_or old 6 0) (get_or old 5 0)) 6 (get_or old 6 0 + 1)) 5 (get_or old 5 0 + length rec));
+    whole = ap missing is_pushed ∙ missing-grown nm rec wide_named based_named whole_named own_named;
+    packages = λ a le.
+        ap (λ l. is_package (package_addresses l) a) is_pushed
+        ∙ ap (λ ps. is_package ps a) (packages-grown nm rec wide_named ∙ names_named)
+        ∙ is_package-push (package_addresses (image old)) (length (image old)) a (λ f. omega (arith, f, long, le, top_pushed, some))
+        ∙ laid.packages a (omega (arith, le, top_pushed));
+  }
+
+-- the same with arrays behind the record, which get their owner
+module _ (old ws rec : List ℕ) (owner : ℕ) (xs : List (Kind × List ℕ)) (laid : IsLaid old) (few : get_or old 6 0 < 32)
+    (e : take (get_or old 5 0 + length (rec ++ arrays_words owner xs)) ws ≡ take (get_or old 5 0) old ++ (rec ++ arrays_words owner xs)) (fits : get_or old 5 0 + length (rec ++ arrays_words owner xs) ≤ length ws)
+    (own : get_or rec 0 0 ≡ length rec) (some : 0 < length rec) where
+  -- the words after the change
+  abbrev pub packaged : List ℕ
+  packaged = set (set (set ws (528 + get_or old 6 0) (get_or old 5 0)) 6 (get_or old 6 0 + 1)) 5 (get_or old 5 0 + length (rec ++ arrays_words owner xs))
+
+  all : length (rec ++ arrays_words owner xs) ≡ length rec + length (arrays_words owner xs)
+  all = length-append rec (arrays_words owner xs)
+
+  front : length (take (get_or old 5 0) old) ≡ get_or old 5 0
+  front = length-take-le (get_or old 5 0) old laid.fits
+
+  first : take (get_or old 5 0 + length rec) ws ≡ take (get_or old 5 0) old ++ rec
+  first = front_part ws (take (get_or old 5 0) old) rec (arrays_words owner xs) (get_or old 5 0) e front
+
+  second : take (get_or old 5 0 + length rec + length (arrays_words owner xs)) ws ≡ take (get_or old 5 0 + length rec) ws ++ arrays_words owner xs
+  second = back_part ws (take (get_or old 5 0) old) rec (arrays_words owner xs) (get_or old 5 0) e front
+
+  fits_first : get_or old 5 0 + length rec ≤ length ws
+  fits_first = omega (arith, all, fits)
+
+  far : 752 ≤ get_or old 5 0
+  far = omega (arith, laid.based)
+
+  -- the words with the record alone
+  abbrev one : List ℕ
+  one = set (set (set ws (528 + get_or old 6 0) (get_or old 5 0)) 6 (get_or old 6 0 + 1)) 5 (get_or old 5 0 + length rec)
+
+  size_one : length (set (set ws (528 + get_or old 6 0) (get_or old 5 0)) 6 (get_or old 6 0 + 1)) ≡ length ws
+  size_one = length-set (set ws (528 + get_or old 6 0) (get_or old 5 0)) 6 (get_or old 6 0 + 1) ∙ length-set ws (528 + get_or old 6 0) (get_or old 5 0)
+
+  heap_one : heap_of one ≡ push_package (heap_of old) rec
+  heap_one = heap_of-pushed old ws rec laid few first fits_first own some
+
+  laid_one : IsLaid one
+  laid_one = laid-pushed old ws rec laid few first fits_first own some
+
+  top_one : get_or one 5 0 ≡ get_or old 5 0 + length rec
+  top_one = get_or-set_same (set (set ws (528 + get_or old 6 0) (get_or old 5 0)) 6 (get_or old 6 0 + 1)) 5 (get_or old 5 0 + length rec) 0 (omega (arith, size_one, far, fits_first))
+
+  behind_one : take (get_or old 5 0 + length rec + length (arrays_words owner xs)) one ≡ take (get_or old 5 0 + length rec) one ++ arrays_words owner xs
+  behind_one =
+      let m : ℕ = get_or old 5 0 + length rec in
+      let w1 : List ℕ = set ws (528 + get_or old 6 0) (get_or old 5 0) in
+      let w2 : List ℕ = set w1 6 (get_or old 6 0 + 1) in
+      let b1 : take (m + length (arrays_words owner xs)) w1 ≡ take m w1 ++ arrays_words owner xs = behind_set ws (arrays_words owner xs) m (528 + get_or old 6 0) (get_or old 5 0) second (omega (arith, few, far)) fits_first in
+      let b2 : take (m + length (arrays_words owner xs)) w2 ≡ take m w2 ++ arrays_words owner xs = behind_set w1 (arrays_words owner xs) m 6 (get_or old 6 0 + 1) b1 (omega (arith, far)) (omega (arith, fits_first, length-set ws (528 + get_or old 6 0) (get_or old 5 0))) in
+      behind_set w2 (arrays_words owner xs) m 5 (get_or old 5 0 + length rec) b2 (omega (arith, far)) (omega (arith, fits_first, size_one))
+
+  both : (heap_of (set one 5 (get_or old 5 0 + length rec + length (arrays_words owner xs))) ≡ add_arrays (heap_of one) owner xs) × IsLaid (set one 5 (get_or old 5 0 + length rec + length (arrays_words owner xs)))
+  both = arrays-grown one (get_or old 5 0 + length rec) owner xs top_one laid_one behind_one
+      (omega (arith, all, fits, size_one, length-set (set (set ws (528 + get_or old 6 0) (get_or old 5 0)) 6 (get_or old 6 0 + 1)) 5 (get_or old 5 0 + length rec)))
+
+  same : set one 5 (get_or old 5 0 + length rec + length (arrays_words owner xs)) ≡ packaged
+  same = set-set (set (set ws (528 + get_or old 6 0) (get_or old 5 0)) 6 (get_or old 6 0 + 1)) 5 (get_or old 5 0 + length rec) (get_or old 5 0 + length rec + length (arrays_words owner xs))
+      ∙ ap (set (set (set ws (528 + get_or old 6 0) (get_or old 5 0)) 6 (get_or old 6 0 + 1)) 5) (omega (arith, all))
+
+  pub heap_of-packaged : heap_of packaged ≡ add_arrays (push_package (heap_of old) rec) owner xs
+  heap_of-packaged = ap heap_of (sym same) ∙ both.0 ∙ ap (λ h. add_arrays h owner xs) heap_one
+
+  pub laid-packaged : IsLaid packaged
+  laid-packaged = subst IsLaid same both.1
+
+  pub top-packaged : get_or packaged 5 0 ≡ get_or old 5 0 + length (rec ++ arrays_words owner xs)
+  top-packaged = get_or-set_same (set (set ws (528 + get_or old 6 0) (get_or old 5 0)) 6 (get_or old 6 0 + 1)) 5 (get_or old 5 0 + length (rec ++ arrays_words owner xs)) 0 (omega (arith, size_one, far, fits))
