@@ -13,6 +13,7 @@ pub mod NewObjects
 pub mod Packing
 pub mod Streams
 pub mod PackageAdded
+pub mod NewPackages
 pub mod Following
 pub mod Runs
 pub mod AreaEnds

@@ -176,7 +176,7 @@ arrays-below xs k =
     ap (λ l. arrays_size (initials l)) (sym (take-append-drop k xs)) ∙ ap arrays_size (map-append initial (take k xs) (drop k xs)) ∙ arrays_size-append (initials (take k xs)) (initials (drop k xs)) in
     omega arith
 
-length-array_addresses : (at : ℕ) (xs : List (Kind × List ℕ)) → length (array_addresses at xs) ≡ length xs
+pub length-array_addresses : (at : ℕ) (xs : List (Kind × List ℕ)) → length (array_addresses at xs) ≡ length xs
 length-array_addresses at [] = refl
 length-array_addresses at (x ∷ xs) = ap suc (length-array_addresses (at + array_size x) xs)
 

@@ -86,6 +86,14 @@ package_record at cs xs rest = record_size cs xs rest ∷ (components_words cs +
 abbrev pub package_size : List (ℕ × List ℕ) → List (Kind × List ℕ) → List ℕ → ℕ
 package_size cs xs rest = record_size cs xs rest + arrays_size xs
 
+-- what owns the objects of a package
+abbrev pub package_owner : ℕ → ℕ
+package_owner number = 256 + number
+
+-- the words that a package with a number takes: its record, then its arrays
+abbrev pub package_words : ℕ → ℕ → List (ℕ × List ℕ) → List (Kind × List ℕ) → List ℕ → List ℕ
+package_words at number cs xs rest = package_record at cs xs rest ++ arrays_words (package_owner number) xs
+
 -- a record behind the others, under the next package number
 unfoldable pub push_package : HeapState → List ℕ → HeapState
 push_package h words = record h {
@@ -99,10 +107,6 @@ push_package h words = record h {
 abbrev pub add_arrays : HeapState → ℕ → List (Kind × List ℕ) → HeapState
 add_arrays h owner [] = h
 add_arrays h owner (a ∷ xs) = add_arrays (add_object h (array_object owner a) (array_size a)) owner xs
-
--- what owns the objects of a package
-abbrev pub package_owner : ℕ → ℕ
-package_owner number = 256 + number
 
 -- one package more: its record, and its arrays behind it
 abbrev pub add_package : HeapState → List (ℕ × List ℕ) → List (Kind × List ℕ) → List ℕ → HeapState

@@ -1,6 +1,7 @@
 //! Objects by reference over the words of a journal: what a card keeps without power.
 #![tactic(auto)]
 
+mod adding;
 mod fresh;
 mod heap;
 mod law;
