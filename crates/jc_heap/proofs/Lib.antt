@@ -15,6 +15,7 @@ pub mod Streams
 pub mod PackageAdded
 pub mod NewPackages
 pub mod Following
+pub mod RecordReading
 pub mod Runs
 pub mod AreaEnds
 pub mod MoveLaws

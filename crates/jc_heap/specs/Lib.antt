@@ -6,4 +6,5 @@ pub mod Heap
 pub mod Fresh
 pub mod Refusals
 pub mod Packages
+pub mod Components
 pub mod Moves

@@ -2,6 +2,7 @@
 #![tactic(auto)]
 
 mod adding;
+mod component;
 mod fresh;
 mod heap;
 mod law;
@@ -14,6 +15,7 @@ mod record;
 mod refusal;
 mod walk;
 
+pub use component::Span;
 pub use heap::Heap;
 pub use law::transactions_keep_what_is_durable;
 pub use object::{Facts, Kind};
