@@ -13,6 +13,7 @@ mod opening;
 mod package;
 mod record;
 mod refusal;
+mod registered;
 mod walk;
 
 pub use component::Span;
