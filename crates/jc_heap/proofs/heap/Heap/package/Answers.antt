@@ -9,8 +9,8 @@ use Rattle.jc_heap.proofs.Following.{whole_first, base_is}
 use Rattle.jc_heap.proofs.RecordReading.{view_packages, view_package, view_names, package_there}
 use Rattle.jc_heap.proofs.heap.Heap.package.Goals as goal
 
-pub overflow_add-address : goal.overflow_add-address
-overflow_add-address g c = omega (arith, c.requires.below, view_packages c.self.inside.journal c.args.self.now c.self.inside.size c.self.view_is (c.self.invariant.now (up_is c.self.inside.journal c.args.self.now c.self.inside.size c.self.view_is c.requires.up)))
+pub overflow_add-k : goal.overflow_add-k
+overflow_add-k g c = omega (arith, c.requires.below, view_packages c.self.inside.journal c.args.self.now c.self.inside.size c.self.view_is (c.self.invariant.now (up_is c.self.inside.journal c.args.self.now c.self.inside.size c.self.view_is c.requires.up)))
 
 pub read-address-requires : goal.read-address-requires
 read-address-requires g c =
