@@ -18,7 +18,6 @@ is_package-last : (ps : List ℕ) (p : ℕ) → is_package (ps ++ p ∷ []) p �
 is_package-last [] p = rw (eq-eqb p p refl) refl
 is_package-last (q ∷ ps) p = ap (λ b. (q == p) || b) (is_package-last ps p) ∙ or-true (q == p)
 
-
 -- a run in two parts
 pub front_part : (ws front xs ys : List ℕ) (t : ℕ) → take (t + length (xs ++ ys)) ws ≡ front ++ (xs ++ ys) → length front ≡ t → take (t + length xs) ws ≡ front ++ xs
 front_part ws front xs ys t e long =

@@ -77,7 +77,15 @@ impl<S: WordStore> Heap<S> {
             return Err(HeapRefusal::CommitFull);
         }
         let number = count + 1;
-        let written = write_package(&mut self.journal, top, size as u16, number, components, arrays, image);
+        let written = write_package(
+            &mut self.journal,
+            top,
+            size as u16,
+            number,
+            components,
+            arrays,
+            image,
+        );
         let Ok(()) = written else {
             return Err(HeapRefusal::StoreDown);
         };
