@@ -1,12 +1,16 @@
 -- A record behind a whole table.
-use Rattle.std.proofs.Common.{◌≡◌, ℕ, zero, suc, ◌+◌, ◌/◌, ◌<◌, ◌≤◌, false, List, [], ◌∷◌, ◌++◌, length, take, drop, set, get_or, map, refl, sym, ◌∙◌, ap, arith, lit<}
+use Rattle.std.proofs.Common.{◌≡◌, ℕ, zero, suc, ◌+◌, ◌/◌, ◌<◌, ◌≤◌, false, List, [], ◌∷◌, ◌++◌, length, take, drop, set, get_or, map, refl, sym, ◌∙◌, ap, arith, lit<, if◌then◌else◌}
 use Rattle.std.proofs.lemmas.List.{get_or_append_left, get_or-set_other, get_or-set_same, get_or-take, take-set-le, drop-set-lt, drop-append-le, take-append-le, length-drop, length-set, length-append, take_all, map-append, set-append_left, length-take-le, take-take}
 use Rattle.jc_heap.specs.Cut.{Sizes, cut, lacking}
-use Rattle.jc_heap.specs.Object.{AnObject, object_of, payload}
-use Rattle.jc_heap.specs.Image.{image, base, package_addresses, is_package, sizes, item_entry, records, missing, table_text, IsLaid}
-use Rattle.jc_heap.specs.Heap.{read_image, heap_of, add_object}
+use Rattle.jc_heap.specs.Object.{Item, AnObject, APackage, object_of, payload}
+use Rattle.jc_heap.specs.Image.{image, base, package_addresses, is_package, sizes, item, item_entry, records, missing, table_text, IsLaid}
+use Rattle.jc_heap.specs.Heap.{HeapState, read_image, heap_of, add_object}
 use Rattle.jc_heap.proofs.Records.{cut-append, lacking-append, take-set_comm}
 use Rattle.jc_heap.proofs.Images.{sizes_tell, text-same}
+
+-- one thing more, behind the others
+abbrev pub add_item : HeapState → Item → ℕ → HeapState
+add_item h t size = record h { items = h.items ++ (h.top, t) ∷ []; top = h.top + size }
 
 -- a record alone
 cut-skip_all : (more : Sizes) (s at : ℕ) (ws : List ℕ) → length ws ≤ s → cut more s at ws ≡ []
@@ -55,7 +59,7 @@ module _ (img rec : List ℕ) (long : 752 ≤ length img) where
   pub base-grown : base grown ≡ base img
   base-grown = rw (word-grown 10 (lit< tt) (λ e. omega arith)) refl
 
-  module _ (based : base img ≤ length img) (whole : missing img ≡ 0) (free : is_package (package_addresses img) (length img) ≡ false) (own : 3 + payload (get_or rec 0 0) (get_or rec 3 0) + 1 ≡ length rec) where
+  module _ (based : base img ≤ length img) (whole : missing img ≡ 0) (own : sizes (package_addresses img) (length img) rec + 1 ≡ length rec) where
     abbrev more : Sizes
     more = sizes (package_addresses img)
 
@@ -69,16 +73,13 @@ module _ (img rec : List ℕ) (long : 752 ≤ length img) where
     at_end : base img + length (drop (base img) img) ≡ length img
     at_end = omega (arith, length-drop (base img) img)
 
-    fits_own : more (length img) rec + 1 ≡ length rec
-    fits_own = rw free own
-
     records-grown : records grown ≡ records img ++ (length img, rec) ∷ []
     unfolding missing
     records-grown =
         table-grown (λ m b ws. cut m 0 b ws)
         ∙ cut-append more (sizes_tell (package_addresses img)) 0 (base img) (drop (base img) img) rec whole
         ∙ ap (λ a. records img ++ cut more 0 a rec) at_end
-        ∙ ap (λ l. records img ++ l) (cut-one more (length img) rec fits_own)
+        ∙ ap (λ l. records img ++ l) (cut-one more (length img) rec own)
 
     pub missing-grown : missing grown ≡ 0
     unfolding missing
@@ -86,16 +87,15 @@ module _ (img rec : List ℕ) (long : 752 ≤ length img) where
         table-grown (λ m b ws. lacking m 0 b ws)
         ∙ lacking-append more (sizes_tell (package_addresses img)) 0 (base img) (drop (base img) img) rec whole
         ∙ ap (λ a. lacking more 0 a rec) at_end
-        ∙ lacking-one more (length img) rec fits_own
+        ∙ lacking-one more (length img) rec own
 
-    pub read-grown : read_image grown ≡ add_object (read_image img) (object_of rec) (length rec)
-    unfolding read_image add_object
+    pub read-grown : read_image grown ≡ add_item (read_image img) (item (package_addresses img) (length img) rec) (length rec)
+    unfolding read_image
     read-grown =
-        let items : map (item_entry (package_addresses grown)) (records grown) ≡ map (item_entry (package_addresses img)) (records img) ++ (length img, AnObject (object_of rec)) ∷ [] =
+        let items : map (item_entry (package_addresses grown)) (records grown) ≡ map (item_entry (package_addresses img)) (records img) ++ (length img, item (package_addresses img) (length img) rec) ∷ [] =
         ap (λ ps. map (item_entry ps) (records grown)) packages-grown
         ∙ ap (map (item_entry (package_addresses img))) records-grown
-        ∙ map-append (item_entry (package_addresses img)) (records img) ((length img, rec) ∷ [])
-        ∙ ap (λ e. map (item_entry (package_addresses img)) (records img) ++ e ∷ []) (rw free refl) in
+        ∙ map-append (item_entry (package_addresses img)) (records img) ((length img, rec) ∷ []) in
         let applets : take 192 (drop 560 grown) ≡ take 192 (drop 560 img) = range-grown 560 192 (lit< tt) (omega arith) in
         let top_is : length grown ≡ length img + length rec = omega (arith, length-append (set img 5 top) rec, length-set img 5 top) in
         let first_end : get_or grown 8 0 ≡ get_or img 8 0 = word-grown 8 (lit< tt) (λ e. omega arith) in
@@ -136,12 +136,19 @@ module _ (old ws rec : List ℕ) (laid : IsLaid old) (e : take (get_or old 5 0 +
   free_image : is_package (package_addresses (image old)) (length (image old)) ≡ false
   free_image = laid.packages (length (image old)) (omega (arith, long_image))
 
+  own_image : sizes (package_addresses (image old)) (length (image old)) rec + 1 ≡ length rec
+  own_image = rw free_image own
+
+  as_object : add_item (heap_of old) (item (package_addresses (image old)) (length (image old)) rec) (length rec) ≡ add_object (heap_of old) (object_of rec) (length rec)
+  unfolding add_object
+  as_object = ap (λ b. add_item (heap_of old) (if b then APackage rec else AnObject (object_of rec)) (length rec)) free_image
+
   is_grown : image moved ≡ set (image old) 5 (length (image old) + length rec) ++ rec
   is_grown = IsGrown_image old ws rec laid e fits
 
   -- the heap then has one object more
   pub heap_of-grown : heap_of moved ≡ add_object (heap_of old) (object_of rec) (length rec)
-  heap_of-grown = ap read_image is_grown ∙ read-grown (image old) rec wide based_image laid.whole free_image own
+  heap_of-grown = ap read_image is_grown ∙ read-grown (image old) rec wide based_image laid.whole own_image ∙ as_object
 
   pub top-moved : get_or moved 5 0 ≡ get_or old 5 0 + length rec
   top-moved = get_or-set_same ws 5 (get_or old 5 0 + length rec) 0 (omega (arith, laid.based))
@@ -150,7 +157,7 @@ module _ (old ws rec : List ℕ) (laid : IsLaid old) (e : take (get_or old 5 0 +
   IsLaid-grown = record {
     based = let b : base (image moved) ≡ base (image old) = ap base is_grown ∙ base-grown (image old) rec wide in omega (arith, top-moved, laid.based);
     fits = omega (arith, top-moved, length-set ws 5 (get_or old 5 0 + length rec));
-    whole = ap missing is_grown ∙ missing-grown (image old) rec wide based_image laid.whole free_image own;
+    whole = ap missing is_grown ∙ missing-grown (image old) rec wide based_image laid.whole own_image;
     packages = λ a le. ap (λ l. is_package (package_addresses l) a) is_grown ∙ ap (λ ps. is_package ps a) (packages-grown (image old) rec wide) ∙ laid.packages a (omega (arith, top-moved));
   }
 

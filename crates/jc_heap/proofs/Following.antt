@@ -92,7 +92,7 @@ module _ (ws : List ℕ) (at size : ℕ) (laid : IsLaid ws) (below : at < get_or
       ∙ sym (walk_step (sizes ps) at tail fits)
       ∙ whole
 
-  step_cut : cut (sizes (package_addresses (image ws))) 0 at (drop at (image ws)) ≡ (at, take size (drop at (image ws))) ∷ cut (sizes (package_addresses (image ws))) 0 (at + size) (drop (at + size) (image ws))
+  pub step_cut : cut (sizes (package_addresses (image ws))) 0 at (drop at (image ws)) ≡ (at, take size (drop at (image ws))) ∷ cut (sizes (package_addresses (image ws))) 0 (at + size) (drop (at + size) (image ws))
   step_cut =
       cut-step (sizes ps) at tail (omega (arith, long))
       ∙ ap (λ n. (at, take n tail) ∷ cut (sizes ps) 0 (at + n) (drop n tail)) (sym is)

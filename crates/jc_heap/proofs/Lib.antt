@@ -10,6 +10,10 @@ pub mod Changing
 pub mod Views
 pub mod Reading
 pub mod NewObjects
+pub mod Packing
+pub mod Streams
+pub mod PackageAdded
+pub mod NewPackages
 pub mod Following
 pub mod NextObjects
 pub mod Stepping
@@ -19,6 +23,7 @@ pub mod Marking
 pub mod PackageTable
 pub mod Referring
 pub mod Keeping
+pub mod RecordReading
 pub mod Runs
 pub mod AreaEnds
 pub mod Places

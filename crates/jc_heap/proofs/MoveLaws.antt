@@ -2,7 +2,7 @@
 use Rattle.std.proofs.Common.{◌≡◌, true, List, [], ◌∷◌, ◌++◌, refl, ◌∙◌, ap, subst, inl, inr, if◌then◌else◌}
 use Rattle.jc_words.specs.Count.{raised}
 use Rattle.jc_heap.specs.Heap.{HeapState, HeapView}
-use Rattle.jc_heap.specs.Moves.{Move, Write, Count, SetCells, AddObject, AddTransient, Begin, Commit, Abort, apply, applied, Left, IsCut, with_counts, KeepsDurable}
+use Rattle.jc_heap.specs.Moves.{Move, Write, Count, SetCells, AddObject, AddTransient, AddPackage, Begin, Commit, Abort, apply, applied, Left, IsCut, with_counts, KeepsDurable}
 
 pub applied-append : (a b : List Move) (h : HeapView) → applied (a ++ b) h ≡ applied b (applied a h)
 applied-append [] b h = refl
@@ -25,6 +25,7 @@ down-apply (Count p v) h = refl
 down-apply (SetCells r i vs) h = refl
 down-apply (AddObject o size) h = refl
 down-apply (AddTransient kind event class owner long) h = refl
+down-apply (AddPackage components arrays rest) h = refl
 down-apply Begin h = refl
 down-apply Commit h = refl
 down-apply Abort h = refl
@@ -35,6 +36,7 @@ refused-apply (Count p v) h = refl
 refused-apply (SetCells r i vs) h = refl
 refused-apply (AddObject o size) h = refl
 refused-apply (AddTransient kind event class owner long) h = refl
+refused-apply (AddPackage components arrays rest) h = refl
 refused-apply Begin h = refl
 refused-apply Commit h = refl
 refused-apply Abort h = refl
@@ -68,6 +70,8 @@ keeps_durable (SetCells r i vs ∷ ms) h b p = keeps_durable ms (apply (SetCells
 keeps_durable (AddObject o size ∷ ms) h b p = keeps_durable ms (apply (AddObject o size) h) b p ∙ ap (with_counts ms (apply (AddObject o size) h)) (kept_inside h _ b)
 keeps_durable (AddTransient kind event class owner long ∷ ms) h b p =
     keeps_durable ms (apply (AddTransient kind event class owner long) h) b p ∙ ap (with_counts ms (apply (AddTransient kind event class owner long) h)) (kept_inside h _ b)
+keeps_durable (AddPackage components arrays rest ∷ ms) h b p =
+    keeps_durable ms (apply (AddPackage components arrays rest) h) b p ∙ ap (with_counts ms (apply (AddPackage components arrays rest) h)) (kept_inside h _ b)
 keeps_durable (Begin ∷ ms) h b p = absurd p
 keeps_durable (Commit ∷ ms) h b p = absurd p
 keeps_durable (Abort ∷ ms) h b p = absurd p

@@ -10,7 +10,7 @@ use Rattle.jc_heap.proofs.Images.{text-same}
 use Rattle.jc_heap.proofs.Records.{take-set_comm, cut-same_sizes, lacking-same_sizes}
 
 -- one package more is another answer at its own address alone
-is_package-push : (ps : List ℕ) (p a : ℕ) → (p ≡ a → ⊥) → is_package (ps ++ p ∷ []) a ≡ is_package ps a
+pub is_package-push : (ps : List ℕ) (p a : ℕ) → (p ≡ a → ⊥) → is_package (ps ++ p ∷ []) a ≡ is_package ps a
 is_package-push [] p a n = rw (ne_eqb p a n) refl
 is_package-push (q ∷ ps) p a n = ap (λ b. (q == a) || b) (is_package-push ps p a n)
 
@@ -30,10 +30,10 @@ items-push ps p more zero at (w ∷ ws) le =
 
 -- the image with one package more, at its end
 module _ (img : List ℕ) (wide : 752 ≤ length img) (few : get_or img 6 0 < 32) (based : base img ≤ length img) where
-  abbrev n : ℕ
+  abbrev pub n : ℕ
   n = get_or img 6 0
 
-  abbrev named : List ℕ
+  abbrev pub named : List ℕ
   named = set (set img (528 + n) (length img)) 6 (n + 1)
 
   word-named : (k : ℕ) → k < 528 → (k ≡ 6 → ⊥) → get_or named k 0 ≡ get_or img k 0
@@ -56,10 +56,10 @@ module _ (img : List ℕ) (wide : 752 ≤ length img) (few : get_or img 6 0 < 32
       ∙ ap (take (n + 1)) addresses-named
       ∙ take_more_set (take 32 (drop 528 img)) n (length img) (omega (arith, length-take 32 (drop 528 img), length-drop 528 img))
 
-  base-named : base named ≡ base img
+  pub base-named : base named ≡ base img
   base-named = rw (word-named 10 (lit< tt) (λ e. omega arith)) refl
 
-  length-named : length named ≡ length img
+  pub length-named : length named ≡ length img
   length-named = length-set (set img (528 + n) (length img)) 6 (n + 1) ∙ length-set img (528 + n) (length img)
 
   at_end : base img + length (drop (base img) img) ≡ length img

@@ -9,6 +9,8 @@ pub mod Keeping
 pub mod Places
 pub mod Fresh
 pub mod Refusals
+pub mod Packages
+pub mod Components
 pub mod Moves
 pub mod Laying
 pub mod Beginning

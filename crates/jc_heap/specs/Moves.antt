@@ -9,6 +9,7 @@ use Rattle.jc_heap.specs.Object.{Object}
 use Rattle.jc_heap.specs.Heap.{HeapState, HeapView, set_cells, run_words, add_object, add_transient, area_place, area_end, is_touched, has_room_for, changed, begun, committed, aborted, cell_place, end_place}
 use Rattle.jc_heap.specs.declared.place.Place.{Place}
 use Rattle.jc_heap.specs.Places.{place_word, set_place, written, counted}
+use Rattle.jc_heap.specs.Packages.{add_package, package_places, package_size}
 use Rattle.jc_heap.specs.declared.refusal.HeapRefusal.{HeapRefusal}
 use Rattle.jc_heap.specs.declared.refusal.HeapRefusal.TheVariants.{StoreDown, CommitFull, HeapFull, NoTransientSpace}
 
@@ -20,6 +21,7 @@ pub data Move : Type 0 where
   SetCells : ℕ → ℕ → List ℕ → Move
   AddObject : Object → ℕ → Move
   AddTransient : Kind → ClearEvent → ℕ → ℕ → ℕ → Move
+  AddPackage : List (ℕ × List ℕ) → List (Kind × List ℕ) → List ℕ → Move
   Begin : Move
   Commit : Move
   Abort : Move
@@ -30,6 +32,7 @@ apply (Write p v) h = written h p v
 apply (Count p v) h = counted h p v
 apply (SetCells r i vs) h = changed h (set_cells h.now r i vs) (addresses_of (run_words (cell_place r i) vs)) 0
 apply (AddTransient kind event class owner long) h = changed h (add_transient h.now kind event class owner long) (end_place ∷ area_place event ∷ []) 5
+apply (AddPackage components arrays rest) h = changed h (add_package h.now components arrays rest) (package_places h.now) (package_size components arrays rest)
 apply (AddObject o size) h = changed h (add_object h.now o size) (end_place ∷ []) size
 apply Begin h = begun h
 apply Commit h = committed h

@@ -15,7 +15,7 @@ use jc_transient::{AREA_CELLS, ClearEvent, Ref};
 use jc_words::WordStore;
 
 // The journal has no room for a change of these words.
-fn lacks_room<S: WordStore>(journal: &Journal<S>, addresses: &[u16]) -> bool
+pub(crate) fn lacks_room<S: WordStore>(journal: &Journal<S>, addresses: &[u16]) -> bool
     ensures { IsTrue result ↔ (journal_has_room journal.now addresses.now ≡ false) }
 {
     !journal.fits(addresses)

@@ -2,6 +2,7 @@
 ghost use Rattle.std.specs.Prelude.{◌≡◌, ◌<◌, ◌&&◌, nat_lt, not, map, ◌≤◌, ◌+◌, ◌↔◌, IsTrue, length, slice_index, drop, take};
 ghost use Rattle.jc_heap.specs.Image.{IsLaid, image, base, missing, package_addresses, is_package, sizes};
 ghost use Rattle.jc_heap.specs.Cut.{cut, lacking};
+ghost use Rattle.jc_heap.specs.Table.{has};
 ghost use Rattle.jc_heap.specs.Image.{item_entry};
 ghost use Rattle.jc_heap.specs.Heap.{first_above};
 
@@ -107,4 +108,25 @@ pub(crate) fn first_object<S: WordStore>(journal: &Journal<S>, from: u16, above:
         at += size as u16;
     }
     None
+}
+
+// A record begins at the address, among the records from another address on.
+pub(crate) fn begins_record<S: WordStore>(journal: &Journal<S>, from: u16, address: u16) -> bool
+    requires laid { IsLaid journal.now.plain }
+    requires small { length journal.now.plain < 65536 }
+    requires low { 752 ≤ from }
+    requires high { from ≤ slice_index journal.now.plain 5 }
+    requires whole { lacking (sizes (package_addresses (image journal.now.plain))) 0 from (drop from (image journal.now.plain)) ≡ 0 }
+    ensures { result ≡ has (cut (sizes (package_addresses (image journal.now.plain))) 0 from (drop from (image journal.now.plain))) address }
+{
+    let top = journal.read(TOP);
+    let mut at = from;
+    while at < top {
+        if at == address {
+            return true;
+        }
+        let size = record_size(journal, at, top);
+        at += size as u16;
+    }
+    false
 }

@@ -1,0 +1,18 @@
+-- What is left of the walk has the answer, and it is whole.
+use Rattle.std.proofs.Common.{◌≡◌, ◌≤◌, ◌-◌, drop}
+use Rattle.jc_heap.specs.Cut.{cut, lacking}
+use Rattle.jc_heap.specs.Table.{has}
+use Rattle.jc_heap.specs.Image.{image, package_addresses, sizes}
+use Rattle.jc_heap.proofs.walk.begins_record.Given as goal
+
+abbrev pub invariant-loop-at : goal.invariant-loop-at
+invariant-loop-at g l = record {
+  low : 752 ≤ l.at;
+  high : l.at ≤ l.top;
+  whole : lacking (sizes (package_addresses (image l.journal.plain))) 0 l.at (drop l.at (image l.journal.plain)) ≡ 0;
+  left : has (cut (sizes (package_addresses (image l.journal.plain))) 0 l.at (drop l.at (image l.journal.plain))) l.address
+      ≡ has (cut (sizes (package_addresses (image l.journal.plain))) 0 l.from (drop l.from (image l.journal.plain))) l.address;
+}
+
+abbrev pub decreases-loop-at : goal.decreases-loop-at
+decreases-loop-at g l = l.top - l.at

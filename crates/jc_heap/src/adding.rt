@@ -1,0 +1,99 @@
+//! New packages.
+ghost use Rattle.std.specs.Prelude.{◌≡◌, ◌<◌, ◌+◌, false, length, Err, OnOk, OnErr, IfOk, ◌↔◌};
+ghost use Rattle.jc_heap.specs.Fresh.{IsFree, KeepsBelow, Fills, StopsFresh};
+ghost use Rattle.jc_heap.specs.Object.{APackage};
+ghost use Rattle.jc_heap.specs.Heap.{changed, IsStopped, has_room_for, LacksSpace, names, item_at};
+ghost use Rattle.jc_heap.specs.Packages.{parts, initials, AreComponents, AreArrays, image_size, record_size, package_record, package_size, package_words, add_package, package_places};
+
+use crate::heap::Heap;
+use crate::layout::{ADDRESSES, PACKAGES, TOP};
+use crate::making::lacks_room;
+use crate::package::{Component, StaticArray, size_of_arrays, size_of_record};
+use crate::record::{write_arrays, write_package_record};
+use crate::refusal::HeapRefusal;
+use jc_commit::Journal;
+use jc_transient::Ref;
+use jc_words::{StoreDown, WordStore};
+
+// The owner of the objects of package 0; there is none, since packages count from 1.
+const FIRST_OWNER: u16 = 256;
+
+// Writes a package with a number: its record, of so many words, and its arrays.
+fn write_package<S: WordStore>(
+    journal: &mut Journal<S>,
+    at: u16,
+    size: u16,
+    number: u16,
+    components: &[Component],
+    arrays: &[StaticArray],
+    image: &[u8],
+) -> Result<(), StoreDown>
+    requires free { IsFree at (package_size (parts components.now) (initials arrays.now) image.now) journal.old }
+    requires size { size ≡ record_size (parts components.now) (initials arrays.now) image.now }
+    requires components { AreComponents (parts components.now) }
+    requires number { number < 256 }
+    ensures below { KeepsBelow at journal.old journal.new }
+    ensures done { OnOk result (Fills at (package_words at number (parts components.now) (initials arrays.now) image.now) journal.old journal.new) }
+    ensures stopped { OnErr result (StopsFresh journal.old journal.new) }
+{
+    write_package_record(journal, at, size, components, arrays, image)?;
+    write_arrays(journal, at + size, arrays, FIRST_OWNER + number)?;
+    Ok(())
+}
+
+impl<S: WordStore> Heap<S> {
+    /// Adds a package: a record with its components and its static image, and its initialised arrays.
+    /// The image's first words become the references to the arrays; `image` is what stands behind them.
+    pub fn add_package(
+        &mut self,
+        components: &[Component],
+        arrays: &[StaticArray],
+        image: &[u8],
+    ) -> Result<Ref, HeapRefusal>
+        requires up { self.old.down ≡ false }
+        requires few { self.old.now.counts.0 < 32 }
+        requires components { AreComponents (parts components.now) }
+        requires arrays { AreArrays (initials arrays.now) }
+        requires image { image_size (initials arrays.now) image.now < 65536 }
+        ensures record { IfOk result (λ r. item_at self.new.now r ≡ APackage (package_record r (parts components.now) (initials arrays.now) image.now)) }
+        ensures named { IfOk result (λ r. r ≡ self.old.now.top) }
+        ensures free { names self.old.now self.old.now.top ≡ false }
+        ensures done { OnOk result (self.new ≡ changed self.old (add_package self.old.now (parts components.now) (initials arrays.now) image.now) (package_places self.old.now) (package_size (parts components.now) (initials arrays.now) image.now)) }
+        ensures heap_full { (result ≡ Err HeapRefusal.HeapFull) ↔ LacksSpace self.old (package_size (parts components.now) (initials arrays.now) image.now) }
+        ensures heap_full_kept { result ≡ Err HeapRefusal.HeapFull → self.new ≡ self.old }
+        ensures full { result ≡ Err HeapRefusal.CommitFull → (self.new ≡ self.old) × (has_room_for self.old (package_places self.old.now) ≡ false) }
+        ensures stopped { result ≡ Err HeapRefusal.StoreDown → IsStopped self.old self.new }
+        ensures area { result ≡ Err HeapRefusal.NoTransientSpace → ⊥ }
+    {
+        let top = self.journal.read(TOP);
+        let size = size_of_record(components, arrays, image);
+        let end = u32::from(top) + size + size_of_arrays(arrays);
+        if end > u32::from(self.size) {
+            return Err(HeapRefusal::HeapFull);
+        }
+        let count = self.journal.read(PACKAGES);
+        let place = ADDRESSES + count;
+        if lacks_room(&self.journal, &[place, PACKAGES, TOP]) {
+            return Err(HeapRefusal::CommitFull);
+        }
+        let number = count + 1;
+        let written = write_package(
+            &mut self.journal,
+            top,
+            size as u16,
+            number,
+            components,
+            arrays,
+            image,
+        );
+        let Ok(()) = written else {
+            return Err(HeapRefusal::StoreDown);
+        };
+        // There is room for the three old values, so the store alone can refuse.
+        let changes = [(place, top), (PACKAGES, number), (TOP, end as u16)];
+        let Ok(()) = self.journal.write_all(&changes) else {
+            return Err(HeapRefusal::StoreDown);
+        };
+        Ok(Ref::at(top))
+    }
+}

@@ -1,0 +1,90 @@
+//! What a package is made from, and how many words it takes.
+ghost use Rattle.std.specs.Prelude.{ℕ, ◌≡◌, ◌<◌, ◌+◌, ◌*◌, [], length, slice_index};
+ghost use Rattle.jc_heap.specs.Packages.{part, parts, initial, initials, packed, elements, component_words, components_words, arrays_size, AreComponents, AreArrays, record_size, image_size};
+
+use crate::object::Kind;
+
+/// A component of a package.
+#[derive(Clone, Copy)]
+pub struct Component<'a> {
+    /// 1 to 8, or 10.
+    pub tag: u8,
+    /// What stands behind the component's tag and size.
+    pub info: &'a [u8],
+}
+
+/// An initialised array of a package's static image.
+#[derive(Clone, Copy)]
+pub struct StaticArray<'a> {
+    /// A boolean, byte or short array.
+    pub kind: Kind,
+    /// The elements: two bytes each of a short array, the high one first.
+    pub values: &'a [u8],
+}
+
+// How many words hold so many bytes.
+pub(crate) fn packed_size(bytes: &[u8]) -> usize
+    ensures { result ≡ length (packed bytes.now) }
+{
+    bytes.len() / 2 + bytes.len() % 2
+}
+
+// A word of packed bytes.
+pub(crate) fn packed_word(bytes: &[u8], k: usize) -> u16
+    requires { k < length (packed bytes.now) }
+    ensures { result ≡ slice_index (packed bytes.now) k }
+{
+    let high = u16::from(bytes[2 * k]) * 256;
+    if 2 * k + 1 == bytes.len() {
+        return high;
+    }
+    high + u16::from(bytes[2 * k + 1])
+}
+
+// The number of an array's cells.
+pub(crate) fn cell_count(array: &StaticArray) -> usize
+    ensures { result ≡ length (elements (initial array.now)) }
+{
+    match array.kind {
+        Kind::BooleanArray | Kind::ByteArray => array.values.len(),
+        _ => packed_size(array.values),
+    }
+}
+
+// How many words components take in a record.
+fn components_size(components: &[Component]) -> u32
+    requires { AreComponents (parts components.now) }
+    ensures exact { result ≡ length (components_words (parts components.now)) }
+    ensures small { result < 1_000_000 }
+{
+    let mut size = 0;
+    for component in components {
+        size += 2 + packed_size(component.info) as u32;
+    }
+    size
+}
+
+// How many words arrays take.
+pub(crate) fn size_of_arrays(arrays: &[StaticArray]) -> u32
+    requires arrays { AreArrays (initials arrays.now) }
+    requires few { length arrays.now < 32768 }
+    ensures exact { result ≡ arrays_size (initials arrays.now) }
+    ensures small { result < 2_500_000_000 }
+{
+    let mut size = 0;
+    for array in arrays {
+        size += 4 + cell_count(array) as u32;
+    }
+    size
+}
+
+// How many words a package's record has.
+pub(crate) fn size_of_record(components: &[Component], arrays: &[StaticArray], image: &[u8]) -> u32
+    requires components { AreComponents (parts components.now) }
+    requires image { image_size (initials arrays.now) image.now < 65536 }
+    ensures exact { result ≡ record_size (parts components.now) (initials arrays.now) image.now }
+    ensures small { result < 1_500_000 }
+{
+    let statics = arrays.len() + packed_size(image);
+    components_size(components) + statics as u32 + 2
+}

@@ -1,0 +1,204 @@
+//! The words of a package above the top: its record and its initialised arrays.
+ghost use Rattle.std.specs.Prelude.{ℕ, ◌≡◌, ◌<◌, ◌+◌, ◌*◌, [], ◌∷◌, ◌++◌, length, slice_index, slice_index_or, OnOk, OnErr, IfOk};
+ghost use Rattle.jc_heap.specs.Fresh.{IsFree, KeepsBelow, Fills, StopsFresh};
+ghost use Rattle.jc_heap.specs.Packages.{part, parts, initial, initials, packed, elements, component_words, components_words, array_addresses, arrays_size, image_words, record_size, package_record, AreComponents, array_words, arrays_words};
+
+use crate::fresh::write_run;
+use crate::layout::HEADER;
+use crate::object::Kind;
+use crate::package::{Component, StaticArray, cell_count, packed_size, packed_word};
+use jc_commit::Journal;
+use jc_words::{StoreDown, WordStore};
+
+// Writes bytes from an address on, two a word.
+fn write_packed<S: WordStore>(
+    journal: &mut Journal<S>,
+    at: u16,
+    bytes: &[u8],
+) -> Result<(), StoreDown>
+    requires { IsFree at (length (packed bytes.now)) journal.old }
+    ensures below { KeepsBelow at journal.old journal.new }
+    ensures done { OnOk result (Fills at (packed bytes.now) journal.old journal.new) }
+    ensures stopped { OnErr result (StopsFresh journal.old journal.new) }
+{
+    for k in 0..packed_size(bytes) {
+        journal.write_fresh(at + k as u16, packed_word(bytes, k))?;
+    }
+    Ok(())
+}
+
+// Writes bytes from an address on, one a word.
+fn write_bytes<S: WordStore>(
+    journal: &mut Journal<S>,
+    at: u16,
+    bytes: &[u8],
+) -> Result<(), StoreDown>
+    requires { IsFree at (length bytes.now) journal.old }
+    ensures below { KeepsBelow at journal.old journal.new }
+    ensures done { OnOk result (Fills at bytes.now journal.old journal.new) }
+    ensures stopped { OnErr result (StopsFresh journal.old journal.new) }
+{
+    for (k, byte) in bytes.iter().enumerate() {
+        journal.write_fresh(at + k as u16, u16::from(*byte))?;
+    }
+    Ok(())
+}
+
+// Writes a component: its tag, its size, its info.
+fn write_component<S: WordStore>(
+    journal: &mut Journal<S>,
+    at: u16,
+    component: &Component,
+) -> Result<(), StoreDown>
+    requires free { IsFree at (length (component_words (part component.now))) journal.old }
+    requires small { length component.now.info.now < 65536 }
+    ensures below { KeepsBelow at journal.old journal.new }
+    ensures done { OnOk result (Fills at (component_words (part component.now)) journal.old journal.new) }
+    ensures stopped { OnErr result (StopsFresh journal.old journal.new) }
+{
+    let info = component.info;
+    write_run(journal, at, &[u16::from(component.tag), info.len() as u16])?;
+    write_packed(journal, at + 2, info)?;
+    Ok(())
+}
+
+// Writes components one behind another, and gives the address behind them.
+fn write_components<S: WordStore>(
+    journal: &mut Journal<S>,
+    at: u16,
+    components: &[Component],
+) -> Result<u16, StoreDown>
+    requires free { IsFree at (length (components_words (parts components.now))) journal.old }
+    requires small { AreComponents (parts components.now) }
+    ensures behind { IfOk result (λ next. next ≡ at + length (components_words (parts components.now))) }
+    ensures below { KeepsBelow at journal.old journal.new }
+    ensures done { OnOk result (Fills at (components_words (parts components.now)) journal.old journal.new) }
+    ensures stopped { OnErr result (StopsFresh journal.old journal.new) }
+{
+    let mut next = at;
+    for component in components {
+        write_component(journal, next, component)?;
+        next += 2 + packed_size(component.info) as u16;
+    }
+    Ok(next)
+}
+
+// Writes the addresses of arrays, the first of which begins at an address.
+fn write_references<S: WordStore>(
+    journal: &mut Journal<S>,
+    at: u16,
+    arrays: &[StaticArray],
+    first: u16,
+) -> Result<(), StoreDown>
+    requires free { IsFree at (length arrays.now) journal.old }
+    requires small { first + arrays_size (initials arrays.now) < 65536 }
+    ensures below { KeepsBelow at journal.old journal.new }
+    ensures done { OnOk result (Fills at (array_addresses first (initials arrays.now)) journal.old journal.new) }
+    ensures stopped { OnErr result (StopsFresh journal.old journal.new) }
+{
+    let mut address = first;
+    for (k, array) in arrays.iter().enumerate() {
+        journal.write_fresh(at + k as u16, address)?;
+        address += HEADER + cell_count(array) as u16;
+    }
+    Ok(())
+}
+
+// Writes a static image: references to the arrays, then the other bytes.
+fn write_image<S: WordStore>(
+    journal: &mut Journal<S>,
+    at: u16,
+    arrays: &[StaticArray],
+    first: u16,
+    image: &[u8],
+) -> Result<(), StoreDown>
+    requires free { IsFree at (length arrays.now + length (packed image.now)) journal.old }
+    requires small { first + arrays_size (initials arrays.now) < 65536 }
+    ensures below { KeepsBelow at journal.old journal.new }
+    ensures done { OnOk result (Fills at (image_words first (initials arrays.now) image.now) journal.old journal.new) }
+    ensures stopped { OnErr result (StopsFresh journal.old journal.new) }
+{
+    write_references(journal, at, arrays, first)?;
+    write_packed(journal, at + arrays.len() as u16, image)?;
+    Ok(())
+}
+
+// Writes the cells of an initialised array.
+fn write_elements<S: WordStore>(
+    journal: &mut Journal<S>,
+    at: u16,
+    array: &StaticArray,
+) -> Result<(), StoreDown>
+    requires { IsFree at (length (elements (initial array.now))) journal.old }
+    ensures below { KeepsBelow at journal.old journal.new }
+    ensures done { OnOk result (Fills at (elements (initial array.now)) journal.old journal.new) }
+    ensures stopped { OnErr result (StopsFresh journal.old journal.new) }
+{
+    match array.kind {
+        Kind::BooleanArray | Kind::ByteArray => write_bytes(journal, at, array.values)?,
+        _ => write_packed(journal, at, array.values)?,
+    }
+    Ok(())
+}
+
+// Writes an initialised array: its header, its cells.
+fn write_array<S: WordStore>(
+    journal: &mut Journal<S>,
+    at: u16,
+    array: &StaticArray,
+    owner: u16,
+) -> Result<(), StoreDown>
+    requires { IsFree at (length (array_words owner (initial array.now))) journal.old }
+    ensures below { KeepsBelow at journal.old journal.new }
+    ensures done { OnOk result (Fills at (array_words owner (initial array.now)) journal.old journal.new) }
+    ensures stopped { OnErr result (StopsFresh journal.old journal.new) }
+{
+    let cells = cell_count(array) as u16;
+    write_run(journal, at, &[array.kind.number(), 0, owner, cells])?;
+    write_elements(journal, at + HEADER, array)?;
+    Ok(())
+}
+
+// Writes initialised arrays one behind another.
+pub(crate) fn write_arrays<S: WordStore>(
+    journal: &mut Journal<S>,
+    at: u16,
+    arrays: &[StaticArray],
+    owner: u16,
+) -> Result<(), StoreDown>
+    requires { IsFree at (length (arrays_words owner (initials arrays.now))) journal.old }
+    ensures below { KeepsBelow at journal.old journal.new }
+    ensures done { OnOk result (Fills at (arrays_words owner (initials arrays.now)) journal.old journal.new) }
+    ensures stopped { OnErr result (StopsFresh journal.old journal.new) }
+{
+    let mut next = at;
+    for array in arrays {
+        write_array(journal, next, array, owner)?;
+        next += HEADER + cell_count(array) as u16;
+    }
+    Ok(())
+}
+
+// Writes a package's record, of so many words.
+pub(crate) fn write_package_record<S: WordStore>(
+    journal: &mut Journal<S>,
+    at: u16,
+    size: u16,
+    components: &[Component],
+    arrays: &[StaticArray],
+    image: &[u8],
+) -> Result<(), StoreDown>
+    requires free { IsFree at size journal.old }
+    requires size { size ≡ record_size (parts components.now) (initials arrays.now) image.now }
+    requires components { AreComponents (parts components.now) }
+    requires behind { at + size + arrays_size (initials arrays.now) < 65536 }
+    ensures below { KeepsBelow at journal.old journal.new }
+    ensures done { OnOk result (Fills at (package_record at (parts components.now) (initials arrays.now) image.now) journal.old journal.new) }
+    ensures stopped { OnErr result (StopsFresh journal.old journal.new) }
+{
+    write_run(journal, at, &[size])?;
+    let next = write_components(journal, at + 1, components)?;
+    write_run(journal, next, &[0])?;
+    write_image(journal, next + 1, arrays, at + size, image)?;
+    Ok(())
+}
