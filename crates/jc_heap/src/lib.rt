@@ -1,9 +1,9 @@
 //! Objects by reference over the words of a journal: what a card keeps without power.
 #![tactic(auto)]
 
+mod adding;
 mod areas;
 mod beginning;
-mod adding;
 mod component;
 mod fresh;
 mod heap;
@@ -14,14 +14,14 @@ mod making;
 mod marks;
 mod object;
 mod opening;
-mod package_table;
-mod references;
-mod place;
-mod refusal;
-mod steps;
 mod package;
+mod package_table;
+mod place;
 mod record;
+mod references;
+mod refusal;
 mod registered;
+mod steps;
 mod walk;
 mod whole;
 
@@ -31,6 +31,6 @@ pub use law::{changes_keep_a_heap_whole, transactions_keep_what_is_durable};
 pub use laying::first_free;
 pub use object::{Facts, Kind};
 pub use opening::OpenImage;
-pub use place::Place;
 pub use package::{Component, StaticArray};
+pub use place::Place;
 pub use refusal::HeapRefusal;
