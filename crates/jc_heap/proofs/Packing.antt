@@ -6,7 +6,8 @@ use Rattle.jc_heap.specs.declared.object.Kind.TheVariants.{Instance}
 use Rattle.jc_heap.specs.declared.package.Component.{Component}
 use Rattle.jc_heap.specs.declared.package.StaticArray.{StaticArray}
 use Rattle.jc_heap.specs.Object.{has_bytes}
-use Rattle.jc_heap.specs.Packages.{part, parts, initial, initials, packed, component_words, components_words, elements, array_words, arrays_words, array_size, AreComponents, AreArrays, arrays_size, array_addresses}
+use Rattle.jc_heap.specs.Packages.{part, parts, initial, initials, component_words, components_words, elements, array_words, arrays_words, array_size, AreComponents, AreArrays, arrays_size, array_addresses}
+use Rattle.jc_heap.specs.Laying.{packed}
 
 pub length-packed : (bs : List ℕ) → length (packed bs) ≡ length bs / 2 + length bs % 2
 length-packed [] = refl
@@ -17,7 +18,7 @@ pub packed-at : (bs : List ℕ) (k : ℕ) → k < length (packed bs) → get_or 
 packed-at [] k h = absurd (omega arith)
 packed-at (b ∷ []) zero h = omega arith
 packed-at (b ∷ []) (suc k) h = absurd (omega arith)
-packed-at (b ∷ c ∷ bs) zero h = refl
+packed-at (b ∷ c ∷ bs) zero h = omega arith
 packed-at (b ∷ c ∷ bs) (suc k) h =
     let even : 2 * suc k ≡ suc (suc (2 * k)) = omega arith in
     let odd : 2 * suc k + 1 ≡ suc (suc (2 * k + 1)) = omega arith in

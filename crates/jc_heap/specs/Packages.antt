@@ -6,6 +6,7 @@ use Rattle.jc_heap.specs.declared.package.Component.{Component}
 use Rattle.jc_heap.specs.declared.package.StaticArray.{StaticArray}
 use Rattle.jc_heap.specs.Object.{Object, APackage, kind_number, has_bytes}
 use Rattle.jc_heap.specs.Heap.{HeapState, HeapView, add_object, changed, end_place}
+use Rattle.jc_heap.specs.Laying.{packed}
 
 -- a component as values: its tag and its info
 abbrev pub part : Component → ℕ × List ℕ
@@ -20,12 +21,6 @@ initial a = (a.kind, a.values.now)
 
 abbrev pub initials : List StaticArray → List (Kind × List ℕ)
 initials xs = map initial xs
-
--- two bytes a word, the high one first; beside an odd last byte stands 0
-abbrev pub packed : List ℕ → List ℕ
-packed [] = []
-packed (b ∷ []) = b * 256 ∷ []
-packed (b ∷ c ∷ bs) = (b * 256 + c) ∷ packed bs
 
 -- a component in a record: its tag, its size in bytes, its info
 abbrev pub component_words : ℕ × List ℕ → List ℕ

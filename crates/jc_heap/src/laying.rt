@@ -26,7 +26,7 @@ fn byte_or_zero(text: &[u8], i: usize) -> u16
 }
 
 // A word of the packed text.
-fn packed_word(text: &[u8], k: u16) -> u16
+fn text_word(text: &[u8], k: u16) -> u16
     ensures word { result ≡ slice_index (packed text.now) k }
     ensures high { slice_index text.now (2 * k) < 256 }
     ensures low { slice_index text.now (2 * k + 1) < 256 }
@@ -82,7 +82,7 @@ fn laid_word(n: u16, text: &[u8], i: u16) -> u16
     if u32::from(i) < TEXT_START {
         return 0;
     }
-    packed_word(text, i - TEXT_START as u16)
+    text_word(text, i - TEXT_START as u16)
 }
 
 // Writes the words of an image without objects, from word 0 on.

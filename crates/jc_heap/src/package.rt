@@ -1,6 +1,7 @@
 //! What a package is made from, and how many words it takes.
 ghost use Rattle.std.specs.Prelude.{ℕ, ◌≡◌, ◌<◌, ◌+◌, ◌*◌, [], length, slice_index};
-ghost use Rattle.jc_heap.specs.Packages.{part, parts, initial, initials, packed, elements, component_words, components_words, arrays_size, AreComponents, AreArrays, record_size, image_size};
+ghost use Rattle.jc_heap.specs.Packages.{part, parts, initial, initials, elements, component_words, components_words, arrays_size, AreComponents, AreArrays, record_size, image_size};
+ghost use Rattle.jc_heap.specs.Laying.{packed};
 
 use crate::object::Kind;
 
