@@ -18,6 +18,7 @@ pub mod Marking
 pub mod PackageTable
 pub mod Referring
 pub mod Keeping
+pub mod OwnCells
 pub mod Runs
 pub mod AreaEnds
 pub mod MoveLaws

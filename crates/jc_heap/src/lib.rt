@@ -18,7 +18,9 @@ mod walk;
 mod whole;
 
 pub use heap::Heap;
-pub use law::{changes_keep_a_heap_whole, transactions_keep_what_is_durable};
+pub use law::{
+    changes_keep_a_heap_whole, transactions_keep_what_is_durable, transient_objects_own_their_cells,
+};
 pub use object::{Facts, Kind};
 pub use opening::OpenImage;
 pub use refusal::HeapRefusal;
