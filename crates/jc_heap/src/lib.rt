@@ -2,6 +2,8 @@
 #![tactic(auto)]
 
 mod areas;
+#[cfg(test)]
+mod check_tests;
 mod fresh;
 mod heap;
 mod law;
