@@ -1,7 +1,7 @@
 -- What keeps a heap whole.
-use Rattle.std.proofs.Common.{◌≡◌, ℕ, suc, ◌+◌, ◌<◌, ◌≤◌, ◌==◌, Bool, true, false, inl, inr, List, [], ◌∷◌, ◌++◌, length, get_or, set, replicate, refl, sym, ◌∙◌, ap, subst, arith, Some, None, if◌then◌else◌}
+use Rattle.std.proofs.Common.{◌≡◌, ℕ, suc, ◌+◌, ◌<◌, ◌≤◌, true, false, inl, inr, List, [], ◌∷◌, ◌++◌, length, get_or, set, refl, sym, ◌∙◌, ap, subst, arith, if◌then◌else◌}
 use Rattle.std.proofs.lemmas.List.{get_or-replicate, length-replicate, get_or-set_same, get_or-set_other}
-use Rattle.std.proofs.lemmas.Bool.{cases_eq, cases_lt, cases_Bool, eq-eqb, ne_eqb, false≢true}
+use Rattle.std.proofs.lemmas.Bool.{cases_eq, cases_Bool, eq-eqb, ne_eqb, false≢true}
 use Rattle.jc_transient.specs.declared.cell.ClearEvent.{ClearEvent}
 use Rattle.jc_transient.specs.declared.cell.ClearEvent.TheVariants.{Reset, Deselect}
 use Rattle.jc_transient.specs.State.{area_size}
@@ -9,11 +9,11 @@ use Rattle.jc_heap.specs.declared.object.Kind.{Kind}
 use Rattle.jc_heap.specs.declared.object.Kind.TheVariants.{ReferenceArray}
 use Rattle.jc_heap.specs.Table.{at_or, put}
 use Rattle.jc_heap.specs.Object.{Object, Item, AnObject, APackage, facts_of, cells_of, is_object, with_cell, bare, new_object, new_transient}
-use Rattle.jc_heap.specs.Heap.{HeapState, item_at, names, cells, facts, IsObject, area_end, with_area_end, set_cell, set_cells, add_object, add_transient, LacksCells}
+use Rattle.jc_heap.specs.Heap.{HeapState, item_at, names, cells, facts, area_end, with_area_end, set_cell, set_cells, add_object, add_transient, LacksCells}
 use Rattle.jc_heap.specs.Whole.{lies_in, cells_in, FitsAt, IsFilled, IsReference, HoldsReferences, AreMet, AreDistinct, IsWhole}
 use Rattle.jc_heap.specs.Keeping.{KeepsWhole}
 use Rattle.jc_heap.proofs.Laws.{item_at-add_object, item_at-add_other, names-add_other, names-set_cell, item_at-set_cell, cells-with_cell, set_cell-absent, facts-set_cell, length-cells-set_cell, cells-set_other, bare-set_cell}
-use Rattle.jc_heap.proofs.Filling.{Run, run_end, filled_of, run_of}
+use Rattle.jc_heap.proofs.Filling.{Run, filled_of, run_of}
 use Rattle.jc_heap.proofs.Referring.{object_named}
 
 -- what a whole heap's words say but of the areas

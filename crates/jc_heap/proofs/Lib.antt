@@ -24,6 +24,7 @@ pub mod PackageTable
 pub mod Referring
 pub mod Keeping
 pub mod RecordReading
+pub mod OwnCells
 pub mod Runs
 pub mod AreaEnds
 pub mod Places

@@ -56,7 +56,8 @@ table_text words = unpacked (slice_index words 10) (text_words words)
 abbrev pub text_byte : List ℕ → ℕ → ℕ
 text_byte words i = if i % 2 == 0 then slice_index words (752 + i / 2) / 256 else slice_index words (752 + i / 2) % 256
 
--- words as the heap lays them: the top lies between the table's begin and the words' end, and the table ends there
+-- words as the heap lays them: the top lies between the table's begin and the words' end, and the table ends there;
+-- a record that is no package's and begins with no header lacks words, so there is none
 pub record IsLaid (words : List ℕ) : Type 0 where
   pub based : base (image words) ≤ slice_index words 5
   pub fits : slice_index words 5 ≤ length words

@@ -4,7 +4,7 @@ use Rattle.jc_transient.specs.declared.cell.ClearEvent.{ClearEvent}
 use Rattle.jc_transient.specs.State.{area_size}
 use Rattle.jc_heap.specs.declared.object.Kind.TheVariants.{ReferenceArray}
 use Rattle.jc_heap.specs.Object.{Item, facts_of, cells_of, event_number}
-use Rattle.jc_heap.specs.Heap.{HeapState, area_end, item_at, names, IsObject}
+use Rattle.jc_heap.specs.Heap.{HeapState, area_end, item_at, facts, names, IsObject}
 
 -- the item is an object whose cells lie in the area of this event
 abbrev pub lies_in : ClearEvent → Item → Bool
@@ -56,3 +56,9 @@ pub record IsWhole (h : HeapState) : Type 0 where
   pub distinct : AreDistinct h.packages
   pub references : (r : ℕ) → HoldsReferences h (item_at h r)
   pub areas : (event : ClearEvent) → IsFilled h event
+
+-- in a whole heap a transient object's cells lie below the end of its event's area, and no two objects share one
+pub record OwnsCells (h : HeapState) : Type 0 where
+  pub below : (r : ℕ) (event : ClearEvent) → (facts h r).event ≡ Some event → (facts h r).place + (facts h r).length ≤ area_end h event
+  pub apart : (r q : ℕ) (event : ClearEvent) → (r ≡ q → ⊥) → (facts h r).event ≡ Some event → (facts h q).event ≡ Some event →
+      ((facts h r).place + (facts h r).length ≤ (facts h q).place) ⊎ ((facts h q).place + (facts h q).length ≤ (facts h r).place)

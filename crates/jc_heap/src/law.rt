@@ -1,6 +1,8 @@
 //! Laws of the definitions: the first law of atomicity, and what keeps a heap whole.
+ghost use Rattle.jc_heap.specs.Heap.{HeapState};
 ghost use Rattle.jc_heap.specs.Keeping.{KeepsWhole};
 ghost use Rattle.jc_heap.specs.Moves.{KeepsDurable};
+ghost use Rattle.jc_heap.specs.Whole.{IsWhole, OwnsCells};
 
 /// A law of the definitions, for every heap and every list of moves: while a transaction is open,
 /// what a loss of power leaves is the heap as the transaction found it, but for the cells that were
@@ -13,4 +15,9 @@ pub fn transactions_keep_what_is_durable()
 /// stays whole when it gets another object or another value of a cell.
 pub fn changes_keep_a_heap_whole()
     ensures { KeepsWhole }
+{}
+
+/// A law of the definitions: in a whole heap each transient object has cells of its own.
+pub fn transient_objects_own_their_cells()
+    ensures { (h : HeapState) → IsWhole h → OwnsCells h }
 {}
