@@ -16,6 +16,7 @@ pub mod PackageAdded
 pub mod NewPackages
 pub mod Following
 pub mod RecordReading
+pub mod ReadBack
 pub mod Runs
 pub mod AreaEnds
 pub mod MoveLaws

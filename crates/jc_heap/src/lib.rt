@@ -16,7 +16,7 @@ mod refusal;
 mod registered;
 mod walk;
 
-pub use component::Span;
+pub use component::{Span, components_are_read_back};
 pub use heap::Heap;
 pub use law::transactions_keep_what_is_durable;
 pub use object::{Facts, Kind};
