@@ -25,6 +25,7 @@ pub mod Referring
 pub mod Keeping
 pub mod RecordReading
 pub mod OwnCells
+pub mod ReadBack
 pub mod Runs
 pub mod AreaEnds
 pub mod Places

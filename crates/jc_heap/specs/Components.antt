@@ -1,9 +1,12 @@
 -- What a package's record says of its components.
-use Rattle.std.specs.Prelude.{ℕ, ◌+◌, ◌-◌, ◌/◌, ◌==◌, ◌≤◌, List, [], ◌∷◌, length, drop, slice_index, Option, Some, None, if◌then◌else◌, nat_lt}
+use Rattle.std.specs.Prelude.{ℕ, ◌≡◌, ◌+◌, ◌-◌, ◌/◌, ◌==◌, ◌<◌, ◌≤◌, List, [], ◌∷◌, length, drop, slice_index, slice_index_or, Option, Some, None, if◌then◌else◌, nat_lt}
 use Rattle.jc_heap.specs.declared.component.Span.{Span}
 use Rattle.jc_heap.specs.Cut.{Sizes, cut}
 use Rattle.jc_heap.specs.Object.{Item, AnObject, APackage}
+use Rattle.jc_heap.specs.declared.object.Kind.{Kind}
+use Rattle.jc_heap.specs.Image.{packed_byte}
 use Rattle.jc_heap.specs.Heap.{HeapState, item_at}
+use Rattle.jc_heap.specs.Packages.{AreComponents, package_record}
 
 -- the words of a package's record; none, where no package's record stands
 abbrev pub words_of : Item → List ℕ
@@ -41,3 +44,19 @@ info_of words tag = info_span (record_parts words) tag
 -- a span lies within a record
 abbrev pub IsWithin : Span → List ℕ → Type 0
 IsWithin s words = s.at + words_for s.size ≤ length words
+
+-- each info is of bytes
+abbrev pub AreBytes : List (ℕ × List ℕ) → Type 0
+AreBytes cs = (k i : ℕ) → k < length cs → slice_index ((slice_index_or cs k (0, [])).1) i < 256
+
+-- a span of a record has these bytes
+pub record HasBytes (s : Span) (words info : List ℕ) : Type 0 where
+  pub size : s.size ≡ length info
+  pub bytes : (i : ℕ) → i < length info → packed_byte (drop s.at words) i ≡ slice_index info i
+
+-- from a package's record each of its components is read, byte by byte, and no other one
+pub record ReadsBack : Type 0 where
+  pub each : (at : ℕ) (cs : List (ℕ × List ℕ)) (xs : List (Kind × List ℕ)) (rest : List ℕ) → AreComponents cs → AreBytes cs → (k : ℕ) → k < length cs →
+      (s : Span) × ((info_of (package_record at cs xs rest) ((slice_index_or cs k (0, [])).0) ≡ Some s) × HasBytes s (package_record at cs xs rest) ((slice_index_or cs k (0, [])).1))
+  pub no_other : (at : ℕ) (cs : List (ℕ × List ℕ)) (xs : List (Kind × List ℕ)) (rest : List ℕ) → AreComponents cs → (tag : ℕ) → 0 < tag →
+      ((k : ℕ) → k < length cs → (slice_index_or cs k (0, [])).0 ≡ tag → ⊥) → info_of (package_record at cs xs rest) tag ≡ None

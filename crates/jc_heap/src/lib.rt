@@ -27,7 +27,7 @@ mod steps;
 mod walk;
 mod whole;
 
-pub use component::Span;
+pub use component::{Span, components_are_read_back};
 pub use heap::Heap;
 pub use law::{changes_keep_a_heap_whole, transactions_keep_what_is_durable};
 pub use laying::first_free;
