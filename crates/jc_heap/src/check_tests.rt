@@ -48,7 +48,7 @@ fn is_heap(alloc: Global, changes: &[(u16, u16)]) -> Result<bool, Fail> {
     let Ok(image) = OpenImage::open(MemStore::of(words)) else {
         return Err("not opened")?;
     };
-    Ok(image.check().is_ok())
+    Ok(image.check(&[]).is_ok())
 }
 
 #[test]

@@ -4,9 +4,9 @@
 mod adding;
 mod areas;
 mod beginning;
-mod component;
 #[cfg(test)]
 mod check_tests;
+mod component;
 mod fresh;
 mod heap;
 mod law;
@@ -29,11 +29,10 @@ mod whole;
 
 pub use component::{Span, components_are_read_back};
 pub use heap::Heap;
-pub use law::{changes_keep_a_heap_whole, transactions_keep_what_is_durable};
-pub use laying::first_free;
 pub use law::{
     changes_keep_a_heap_whole, transactions_keep_what_is_durable, transient_objects_own_their_cells,
 };
+pub use laying::first_free;
 pub use object::{Facts, Kind};
 pub use opening::OpenImage;
 pub use package::{Component, StaticArray};

@@ -60,6 +60,6 @@ fn a_sealed_image_opens_with_its_text(rt: HostRuntime) -> Result<(), Fail> {
     let mut read = [0; 13];
     image.read_text(&mut read);
     assert_eq!(rt; &read, text);
-    assert!(rt; image.check().is_ok());
+    assert!(rt; image.check(&[]).is_ok());
     Ok(())
 }
