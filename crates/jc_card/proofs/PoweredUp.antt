@@ -43,7 +43,7 @@ made_found w head log t table heap = record {
   laid = heap.0;
   heap = record {
     head = head_is (recovered_of w) heap.0 ∙ recovered-front w log ∙ three w (omega (arith, head.size.enough))
-    ∙ (λ i. head.magic i ∷ head.version i ∷ head.size.told i ∷ []);
+        ∙ (λ i. head.magic i ∷ head.version i ∷ head.size.told i ∷ []);
     enough = head.size.enough;
     platform = (t, subst (λ l. Reads l (Ok t)) (sym (text_is (recovered_of w) heap.0)) table.1, heap.2);
     whole = heap.1;
