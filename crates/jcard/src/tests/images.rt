@@ -32,6 +32,13 @@ fn make<'a>(
     )
 }
 
+// The byte at this place becomes this one.
+fn put(bytes: &mut Vec<u8>, place: usize, value: u8) {
+    if let Some(byte) = bytes.get_mut(place) {
+        *byte = value;
+    }
+}
+
 #[test]
 fn an_image_is_made_and_told(rt: HostRuntime) -> Result<(), Fail> {
     fs::write(&rt, NEW_TABLE, TABLE)?;
@@ -108,6 +115,49 @@ fn a_long_table_is_bad(rt: HostRuntime) -> Result<(), Fail> {
     Ok(())
 }
 
+// Zeros before a number make the table's text longer. The heap begins behind word 752 and the text's
+// words, and the objects of the runtime environment take 85 words: of 4096 words 3259 are left for the
+// text, so 6518 bytes.
+#[test]
+fn a_table_fits_to_the_last_word(rt: HostRuntime) -> Result<(), Fail> {
+    let image = "tests_fits.image";
+    let table = "tests_fits.table";
+    let rows: [(usize, u8, &[u8], &[u8]); 2] = [
+        (
+            6518,
+            0,
+            b"",
+            b"words 4096\njournal 0\npackages 0\napplets 0\n",
+        ),
+        (
+            6519,
+            1,
+            b"jcard: image too small\n",
+            b"jcard: bad image 1\n",
+        ),
+    ];
+    for (size, status, text, told) in rows {
+        let begin = "package A0000000620001 ";
+        let mut longer = Vec::new(rt.alloc());
+        longer.extend_from_slice(begin.as_bytes())?;
+        for _ in TABLE.len()..size {
+            longer.push(b'0')?;
+        }
+        let rest = TABLE.strip_prefix(begin).unwrap_or("");
+        longer.extend_from_slice(rest.as_bytes())?;
+        fs::write(&rt, table, &longer)?;
+        let (ended, out) = make(&rt, image, "4096", table)?;
+        assert_eq!(rt; ended, status, "{size}");
+        assert_eq!(rt; out.written(), text, "{size}");
+        let (_, out) = answer(&rt, &["jcard", "dump", image], 200)?;
+        assert_eq!(rt; out.written(), told, "{size}");
+    }
+    for name in [image, table] {
+        fs::remove_file(&rt, name)?;
+    }
+    Ok(())
+}
+
 // The table's text has 2,436 bytes and stands from word 752 on, so the first object from 1970 on.
 #[test]
 fn a_damaged_image_is_refused_by_its_number(rt: HostRuntime) -> Result<(), Fail> {
@@ -115,7 +165,7 @@ fn a_damaged_image_is_refused_by_its_number(rt: HostRuntime) -> Result<(), Fail>
     fs::write(&rt, DAMAGED_SCRIPT, "80E50000\n")?;
     assert_eq!(rt; make(&rt, DAMAGED_IMAGE, "8192", DAMAGED_TABLE)?.0, 0);
     let whole = fs::read(&rt, DAMAGED_IMAGE)?;
-    let rows: [(&[(usize, u16)], &[u8]); 11] = [
+    let rows: [(&[(u16, u16)], &[u8]); 11] = [
         (&[], b"6D00\n"),
         (&[(0, 0)], b"jcard: bad image 1\n"),
         (&[(1, 9)], b"jcard: bad image 2\n"),
@@ -132,8 +182,9 @@ fn a_damaged_image_is_refused_by_its_number(rt: HostRuntime) -> Result<(), Fail>
         let mut bytes = whole.clone()?;
         for (word, value) in *changes {
             let [high, low] = value.to_be_bytes();
-            bytes[2 * word] = high;
-            bytes[2 * word + 1] = low;
+            let place = 2 * usize::from(*word);
+            put(&mut bytes, place, high);
+            put(&mut bytes, place + 1, low);
         }
         fs::write(&rt, DAMAGED_IMAGE, &bytes)?;
         let (_, out) = answer(&rt, &["jcard", "run", DAMAGED_IMAGE, DAMAGED_SCRIPT], 200)?;
@@ -175,13 +226,14 @@ fn a_dump_asks_for_the_first_words_alone(rt: HostRuntime) -> Result<(), Fail> {
         (5, b"jcard: bad image 3\n".as_slice()),
     ] {
         let mut damaged = bytes.clone()?;
-        damaged[place] = 200;
+        put(&mut damaged, place, 200);
         fs::write(&rt, image, &damaged)?;
         let (status, out) = answer(&rt, &["jcard", "dump", image], 200)?;
         assert_eq!(rt; status, 1, "{place}");
         assert_eq!(rt; out.written(), text, "{place}");
     }
-    fs::write(&rt, image, &bytes[..8190])?;
+    bytes.truncate(8190);
+    fs::write(&rt, image, &bytes)?;
     let (status, out) = answer(&rt, &["jcard", "dump", image], 200)?;
     assert_eq!(rt; status, 1);
     assert_eq!(rt; out.written(), b"jcard: bad image 3\n".as_slice());
