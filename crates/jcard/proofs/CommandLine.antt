@@ -1,14 +1,14 @@
 -- What the words of a command line are taken for, from what clap says of a parse.
 use Rattle.std.proofs.Common.{◌≡◌, ◌⊎◌, ◌∙◌, true, List, [], ◌∷◌, Option, None, refl, sym, subst, ap, ap₂, inl, inr, codes}
-use Rattle.std.specs.Prelude.{option_and_then}
-use Rattle.clap.specs.Words.{App, HasMatchesOf, IsAmong, Kinds, Row, Text, fault_of, first_value, is_simple, is_simple_and_free, rows_of, subcommand_of, subcommand_rows_of}
+use Rattle.std.specs.Prelude.{option_and_then, option_map}
+use Rattle.clap.specs.Words.{App, HasMatchesOf, IsAmong, Kinds, Row, Text, fault_of, first_of, first_value, is_simple, is_simple_and_free, rows_of, subcommand_of, subcommand_rows_of}
 use Rattle.clap.specs.declared.error.kind.ErrorKind.{ErrorKind}
 use Rattle.clap.specs.declared.error.kind.ErrorKind.TheVariants.{OutOfMemory}
 use Rattle.clap.specs.declared.parser.matches.ArgMatches.{ArgMatches}
 use Rattle.clap.specs.declared.parser.matches.Found.{Found}
 use Rattle.clap.proofs.OnLiterals.{clap_on_literals}
 use Rattle.clap.proofs.WalkLemmas.{first_value-rows}
-use Rattle.jcard.specs.CommandLine.{Request, program_grammar, request_of, run_by, run_of, taken_for, unless_refused}
+use Rattle.jcard.specs.CommandLine.{Request, ToTell, dump_of, new_by, new_of, program_grammar, request_of, run_by, run_of, taken_for, unless_refused}
 
 -- what clap asks of a command of which it tells all
 is_told : is_simple program_grammar ≡ true
@@ -51,3 +51,14 @@ taken_for_nothing command words kind same fails =
 pub run_read : (found : Found) (image script : Option Text) → image ≡ first_value found (codes "image") → script ≡ first_value found (codes "script")
     → run_by image script ≡ run_of (rows_of found)
 run_read found image script i s = ap₂ run_by (i ∙ first_value-rows found (codes "image")) (s ∙ first_value-rows found (codes "script"))
+
+-- those of `new`
+pub new_read : (found : Found) (image words table : Option Text) → image ≡ first_value found (codes "image") → words ≡ first_value found (codes "words")
+    → table ≡ first_value found (codes "table") → new_by image words table ≡ new_of (rows_of found)
+new_read found image words table i w t =
+    ap (λ (o : Option Text). new_by o words table) (i ∙ first_value-rows found (codes "image"))
+    ∙ ap₂ (new_by (first_of (codes "image") (rows_of found))) (w ∙ first_value-rows found (codes "words")) (t ∙ first_value-rows found (codes "table"))
+
+-- that of `dump`
+pub dump_read : (found : Found) (image : Option Text) → image ≡ first_value found (codes "image") → option_map ToTell image ≡ dump_of (rows_of found)
+dump_read found image i = ap (option_map ToTell) (i ∙ first_value-rows found (codes "image"))

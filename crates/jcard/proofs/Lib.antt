@@ -1,5 +1,5 @@
-pub mod Acts
 pub mod CommandLine
+pub mod Dumps
 pub mod FlagWords
 pub mod RunLines
 pub mod Runs

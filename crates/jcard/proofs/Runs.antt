@@ -6,7 +6,7 @@ use Rattle.clap.specs.Words.{Text}
 use Rattle.clap.proofs.OnLiterals.{clap_on_literals}
 use Rattle.jcard.specs.CommandLine.{IsNoFlag, TakesRuns, taken_for}
 
-no_hyphen : (x : ℕ) (xs : Text) → IsNoFlag (x ∷ xs) → nat_eq x 45 ≡ false
+pub no_hyphen : (x : ℕ) (xs : Text) → IsNoFlag (x ∷ xs) → nat_eq x 45 ≡ false
 no_hyphen x xs h = ne_eqb x 45 (λ e. h (ap Some e))
 
 pub runs : TakesRuns

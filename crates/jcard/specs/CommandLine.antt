@@ -4,13 +4,18 @@ use Rattle.std.specs.Str.{bytes_eq, chars}
 use Rattle.clap.specs.Words.{App, Kinds, Row, Rule, Text, fault_of, first_of, new_app, new_rule, subcommand_of, with_rule, with_subcommand}
 use Rattle.clap.specs.declared.builder.action.ArgAction.TheVariants.{Set}
 use Rattle.jcard.specs.declared.arguments.Action.{Action}
-use Rattle.jcard.specs.declared.arguments.Action.TheVariants.{Run}
+use Rattle.jcard.specs.declared.arguments.Action.TheVariants.{New, Run, Dump}
 use Rattle.jcard.specs.declared.fault.Fault.{Fault}
 use Rattle.jcard.specs.declared.fault.Fault.TheVariants.{BadCommandLine, NoMemory}
 
--- what a command line asks for: the script of this name is carried out, on the card of the image of this name
+-- what a command line asks for
 pub data Request : Type 0 where
+  -- an image of this name is made, with so many words, with the platform table of this name
+  ToMake : Text → Text → Text → Request
+  -- the script of the second name is carried out, on the card of the image of the first
   ToRun : Text → Text → Request
+  -- what the image of this name holds is told
+  ToTell : Text → Request
 
 -- ---- the grammar
 
@@ -18,28 +23,54 @@ pub data Request : Type 0 where
 abbrev pub operand : Text → Rule
 operand name = record (new_rule name) { required = true; action = Some Set }
 
+-- an option that must be given, once and with one value
+abbrev pub given_option : Text → Rule
+given_option name = record (operand name) { long = Some name }
+
+-- `new IMAGE --words N --table FILE`
+abbrev pub new_grammar : App
+new_grammar = with_rule (with_rule (with_rule (new_app (codes "new")) (operand (codes "image"))) (given_option (codes "words"))) (given_option (codes "table"))
+
 -- `run IMAGE SCRIPT`
 abbrev pub run_grammar : App
 run_grammar = with_rule (with_rule (new_app (codes "run")) (operand (codes "image"))) (operand (codes "script"))
 
+-- `dump IMAGE`
+abbrev pub dump_grammar : App
+dump_grammar = with_rule (new_app (codes "dump")) (operand (codes "image"))
+
 -- the program's name and one of its commands
 abbrev pub program_grammar : App
-program_grammar = with_subcommand (new_app (codes "jcard")) run_grammar.top
+program_grammar = with_subcommand (with_subcommand (with_subcommand (new_app (codes "jcard")) new_grammar.top) run_grammar.top) dump_grammar.top
 
 -- ---- what the words are taken for
+
+-- what `new` asks for, with these operands and options
+abbrev pub new_by : Option Text → Option Text → Option Text → Option Request
+new_by (Some image) (Some words) (Some table) = Some (ToMake image words table)
+new_by image words table = None
 
 -- what `run` asks for, with these operands
 abbrev pub run_by : Option Text → Option Text → Option Request
 run_by (Some image) (Some script) = Some (ToRun image script)
 run_by image script = None
 
--- the same, with these values of all operands
+-- the same, with these values of all operands and options
+abbrev pub new_of : List Row → Option Request
+new_of rows = new_by (first_of (codes "image") rows) (first_of (codes "words") rows) (first_of (codes "table") rows)
+
 abbrev pub run_of : List Row → Option Request
 run_of rows = run_by (first_of (codes "image") rows) (first_of (codes "script") rows)
 
+abbrev pub dump_of : List Row → Option Request
+dump_of rows = option_map ToTell (first_of (codes "image") rows)
+
 -- what the command of this name asks for, with these values of its operands
 abbrev pub request_of : Text × List Row → Option Request
-request_of named = if bytes_eq named.0 (codes "run") then run_of named.1 else None
+request_of named =
+    if bytes_eq named.0 (codes "new") then new_of named.1
+    else (if bytes_eq named.0 (codes "run") then run_of named.1
+    else (if bytes_eq named.0 (codes "dump") then dump_of named.1 else None))
 
 -- nothing where the words are refused for a cause
 abbrev pub unless_refused : Kinds → Option Request → Option Request
@@ -59,6 +90,10 @@ IsNoFlag word = slice_get word 0 ≡ Some 45 → ⊥
 abbrev pub TakesRuns : Type 0
 TakesRuns = (name image script : Text) → IsNoFlag image → IsNoFlag script
     → taken_for (name ∷ codes "run" ∷ image ∷ script ∷ []) ≡ Some (ToRun image script)
+
+-- `NAME dump IMAGE` asks to tell what exactly this image holds
+abbrev pub TakesDumps : Type 0
+TakesDumps = (name image : Text) → IsNoFlag image → taken_for (name ∷ codes "dump" ∷ image ∷ []) ≡ Some (ToTell image)
 
 -- ---- every line of a command
 
@@ -89,7 +124,9 @@ TakesRunLines = (name : Text) (words : List Text) → taken_for (name ∷ codes 
 
 -- what the action does
 abbrev pub request_by : Action → Request
+request_by (New image words table) = ToMake image.now words.now table.now
 request_by (Run image script) = ToRun image.now script.now
+request_by (Dump image) = ToTell image.now
 
 -- the action is the one that is asked for; the command line is bad only where nothing is; else memory was refused
 abbrev pub IsTakenAs : Option Request → Result Action Fault → Type 0

@@ -1,2 +1,5 @@
 pub mod CommandLine
+pub mod Dumps
 pub mod Faults
+pub mod Images
+pub mod NewImages

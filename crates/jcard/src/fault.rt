@@ -2,10 +2,27 @@
 ghost use Rattle.std.specs.Prelude.{◌≡◌, ◌++◌, ℕ, List, length, MatchResult};
 ghost use Rattle.std.specs.Io.KnownBytes.{Appends};
 ghost use Rattle.jcard_script.specs.Texts.{AppendsCut};
-ghost use Rattle.jcard.specs.Faults.{status_of, line_of, IsLastLine};
+ghost use Rattle.jcard.specs.Faults.{check_of, status_of, line_of, IsLastLine};
 
 use itoa::Buffer;
 use jcard_script::streams::{TextOut, WriteFailed, write_all};
+
+/// What is wrong with an image, by the check that refuses it, in their order.
+#[derive(Clone, Copy, Debug, PartialEq, Eq, Drop)]
+pub enum Damage {
+    /// Its first word is not the magic word.
+    Magic,
+    /// Its version is not known.
+    Version,
+    /// Its size is not the one that it tells, or none that an image has.
+    Size,
+    /// Its journal.
+    Log,
+    /// Its platform table.
+    Table,
+    /// Its heap or its packages.
+    Package,
+}
 
 /// Why the program ended early.
 #[derive(Clone, Copy, Debug, PartialEq, Eq, Drop)]
@@ -14,8 +31,18 @@ pub enum Fault<'a> {
     BadCommandLine,
     /// Memory was refused.
     NoMemory,
+    /// An image cannot have so many words.
+    BadWords,
+    /// This line of the platform table, counted from 1, is bad; or 0.
+    BadTable(u16),
+    /// The platform table and the objects of the runtime environment don't fit.
+    ImageTooSmall,
     /// This file cannot be opened or read.
     CannotRead(&'a str),
+    /// This file cannot be made or written.
+    CannotWrite(&'a str),
+    /// The image is damaged.
+    BadImage(Damage),
     /// This line of the script, counted from 1, has no form.
     BadCommand(u32),
     /// The script is longer than its bound.
@@ -49,7 +76,24 @@ fn write_line<W: TextOut>(fault: Fault, out: &mut W) -> Result<(), WriteFailed>
     match fault {
         Fault::BadCommandLine => write_all(out, b"jcard: bad command line\n"),
         Fault::NoMemory => write_all(out, b"jcard: no memory\n"),
+        Fault::BadWords => write_all(out, b"jcard: words must be 4096 to 65535\n"),
+        Fault::BadTable(n) => write_three(
+            out,
+            b"jcard: bad table line ",
+            digits.format(n).as_bytes(),
+            b"\n",
+        ),
+        Fault::ImageTooSmall => write_all(out, b"jcard: image too small\n"),
         Fault::CannotRead(path) => write_three(out, b"jcard: cannot read ", path.as_bytes(), b"\n"),
+        Fault::CannotWrite(path) => {
+            write_three(out, b"jcard: cannot write ", path.as_bytes(), b"\n")
+        }
+        Fault::BadImage(damage) => write_three(
+            out,
+            b"jcard: bad image ",
+            digits.format(number_of(damage)).as_bytes(),
+            b"\n",
+        ),
         Fault::BadCommand(n) => write_three(
             out,
             b"jcard: line ",
@@ -61,8 +105,22 @@ fn write_line<W: TextOut>(fault: Fault, out: &mut W) -> Result<(), WriteFailed>
     }
 }
 
-// Writes three texts in a row.
-fn write_three<W: TextOut>(
+// The number of the check that finds a damage.
+fn number_of(damage: Damage) -> u8
+    ensures { result ≡ check_of damage }
+{
+    match damage {
+        Damage::Magic => 1,
+        Damage::Version => 2,
+        Damage::Size => 3,
+        Damage::Log => 4,
+        Damage::Table => 5,
+        Damage::Package => 6,
+    }
+}
+
+/// Writes three texts in a row.
+pub(crate) fn write_three<W: TextOut>(
     out: &mut W,
     first: &[u8],
     second: &[u8],

@@ -2,7 +2,10 @@
 #![tactic(auto)]
 
 mod arguments;
+mod dump;
 mod fault;
+mod image;
+mod new_image;
 mod run;
 #[cfg(test)]
 mod tests;

@@ -6,14 +6,20 @@ ghost use Rattle.std.specs.Io.KnownBytes.{Appends, Consumes};
 ghost use Rattle.jcard_script.specs.Script.{Ends, IsWholeScript};
 ghost use Rattle.jcard_script.specs.declared.script.ScriptFault.{ScriptFault};
 ghost use Rattle.jcard.specs.CommandLine.{request_by};
-ghost use Rattle.jcard.specs.Faults.{status_of, IsDone, IsLastLine, IsOutcomeOf, IsPerformed, IsRun};
+ghost use Rattle.jcard.specs.Faults.{status_of, IsDone, IsLastLine, IsOutcomeOf, IsPerformed, IsRun, IsUnpowered};
 ghost use Rattle.jcard.specs.declared.fault.Fault.{Fault};
 
 use crate::arguments::{Action, parse};
-use crate::fault::{Fault, tell};
+use crate::dump::dump_image;
+use crate::fault::{Damage, Fault, tell};
+use crate::image::open_image;
+use crate::new_image::make_image;
+use jc_card::power_up::PowerFault;
+use jc_words::{FuseStore, WordStore};
 use jcard_script::script::{ScriptFault, run_script};
 use jcard_script::std_text::StdText;
 use jcard_script::streams::{TextIn, TextOut};
+use std::alloc::Global;
 use std::fs;
 use std::rt::Files;
 
@@ -41,41 +47,104 @@ fn perform<'a, R: Files + AllocGlobal, W: TextOut>(
     }
 }
 
-fn act<'a, R: Files, W: TextOut>(rt: &R, action: Action<'a>, out: &mut W) -> Result<(), Fault<'a>>
+fn act<'a, R: Files + AllocGlobal, W: TextOut>(
+    rt: &R,
+    action: Action<'a>,
+    out: &mut W,
+) -> Result<(), Fault<'a>>
     ensures { (text : List ℕ) × Appends (W.contents out.old) (W.contents out.new) text × IsDone (Some (request_by action.entry)) result text }
 {
     match action {
-        Action::Run { image: _, script } => run_file(rt, script, out),
+        Action::New {
+            image,
+            words,
+            table,
+        } => make_image(rt, image, words, table),
+        Action::Run { image, script } => run_file(rt, image, script, out),
+        Action::Dump { image } => dump_image(rt, image, out),
     }
 }
 
-// Carries out the script in the file of this name.
-fn run_file<'a, R: Files, W: TextOut>(rt: &R, path: &'a str, out: &mut W) -> Result<(), Fault<'a>>
-    ensures { (text : List ℕ) × Appends (W.contents out.old) (W.contents out.new) text × IsRun path.now result text }
+// Carries out the script in the file of the second name, on the card of the image of the first.
+fn run_file<'a, R: Files + AllocGlobal, W: TextOut>(
+    rt: &R,
+    image: &'a str,
+    script: &'a str,
+    out: &mut W,
+) -> Result<(), Fault<'a>>
+    ensures { (text : List ℕ) × Appends (W.contents out.old) (W.contents out.new) text × IsRun image.now script.now result text }
 {
-    let Ok(file) = fs::open(rt, path) else {
-        return Err(Fault::CannotRead(path));
+    let store = match open_image(rt, image) {
+        Ok(store) => store,
+        Err(fault) => return Err(fault),
     };
-    carry_out(path, &mut StdText::new(file), out)
+    let Ok(file) = fs::open(rt, script) else {
+        return Err(Fault::CannotRead(script));
+    };
+    let files = Names { image, script };
+    carry_out(rt.alloc(), files, store, &mut StdText::new(file), out)
 }
 
-// Carries out the script that comes from the file of this name.
-fn carry_out<'a, I: TextIn, W: TextOut>(
-    path: &'a str,
+// The names of the files of a run.
+#[derive(Clone, Copy, Drop)]
+struct Names<'a> {
+    image: &'a str,
+    script: &'a str,
+}
+
+// Carries out the script on the card of this store.
+fn carry_out<'a, S: WordStore + Drop, I: TextIn, W: TextOut>(
+    alloc: Global,
+    names: Names<'a>,
+    store: S,
     script: &mut I,
     out: &mut W,
 ) -> Result<(), Fault<'a>>
-    ensures { (bytes text : List ℕ) × (at_end : Bool) × (ended : Result Unit ScriptFault)
+    ensures { (bytes text : List ℕ) × (refused : ℕ) × (at_end : Bool) × (ended : Result Unit ScriptFault)
         × Consumes (I.remaining script.old) (I.remaining script.new) bytes
         × Appends (W.contents out.old) (W.contents out.new) text
         × OnTrue at_end (IsWholeScript (I.remaining script.new) bytes)
-        × Ends ended at_end bytes text × IsOutcomeOf path.now ended result }
+        × Ends ended 0 refused at_end bytes text × IsOutcomeOf names.entry.image.now names.entry.script.now ended result }
 {
-    match run_script(script, out) {
+    match run_on(alloc, store, script, out) {
         Ok(()) => Ok(()),
-        Err(ScriptFault::ReadFailed) => Err(Fault::CannotRead(path)),
+        Err(ScriptFault::ReadFailed) => Err(Fault::CannotRead(names.script)),
         Err(ScriptFault::WriteFailed) => Err(Fault::WriteFailed),
         Err(ScriptFault::BadLine(n)) => Err(Fault::BadCommand(n)),
         Err(ScriptFault::TooLong) => Err(Fault::ScriptTooLong),
+        Err(ScriptFault::PowerFault(cause)) => Err(unpowered(names.image, cause)),
+    }
+}
+
+// Carries out the script on the card of this store, whose power is not cut unless the script says so.
+fn run_on<S: WordStore + Drop, I: TextIn, W: TextOut>(
+    alloc: Global,
+    store: S,
+    script: &mut I,
+    out: &mut W,
+) -> Result<(), ScriptFault>
+    ensures { (bytes text : List ℕ) × (refused : ℕ) × (at_end : Bool)
+        × Consumes (I.remaining script.old) (I.remaining script.new) bytes
+        × Appends (W.contents out.old) (W.contents out.new) text
+        × OnTrue at_end (IsWholeScript (I.remaining script.new) bytes)
+        × Ends result 0 refused at_end bytes text }
+{
+    let (_store, ended) = run_script(alloc, FuseStore::new(store), script, out);
+    ended
+}
+
+// What it means that the card of the image of this name does not power up.
+fn unpowered(image: &str, cause: PowerFault) -> Fault<'_>
+    ensures { IsUnpowered image.now cause result }
+{
+    match cause {
+        PowerFault::BadMagic => Fault::BadImage(Damage::Magic),
+        PowerFault::BadVersion => Fault::BadImage(Damage::Version),
+        PowerFault::BadSize => Fault::BadImage(Damage::Size),
+        PowerFault::BadLog => Fault::BadImage(Damage::Log),
+        PowerFault::BadTable => Fault::BadImage(Damage::Table),
+        PowerFault::BadPackage => Fault::BadImage(Damage::Package),
+        PowerFault::NoMemory => Fault::NoMemory,
+        PowerFault::StoreDown => Fault::CannotWrite(image),
     }
 }

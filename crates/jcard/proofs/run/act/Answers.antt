@@ -1,8 +1,11 @@
-use Rattle.std.proofs.Common.{refl}
-use Rattle.jcard.proofs.Acts.{done_if_run}
+use Rattle.std.proofs.Common.{[], refl}
+use Rattle.jcard_script.proofs.Known.{appends_same}
 use Rattle.jcard.proofs.run.act.Goals as goal
 
-pub returns : goal.returns
-returns g c =
+pub returns-in-New : goal.returns-in-New
+returns-in-New g c = ([], appends_same _, rw c.in-New.is (c.make_image.ensures, refl))
+
+pub returns-in-Run : goal.returns-in-Run
+returns-in-Run g c =
     let done = c.run_file.ensures in
-    (done.0, done.1, done_if_run c.args.action _ c.run_file.result done.0 done.2 (λ image script is. rw is refl))
+    (done.0, done.1, rw c.in-Run.is done.2)
