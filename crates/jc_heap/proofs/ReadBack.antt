@@ -1,14 +1,14 @@
 -- What is read of a record that was written.
-use Rattle.std.proofs.Common.{◌≡◌, ℕ, zero, suc, ◌+◌, ◌-◌, ◌*◌, ◌/◌, ◌%◌, ◌<◌, ◌≤◌, ◌==◌, Bool, true, false, inl, inr, get_or, List, [], ◌∷◌, ◌++◌, length, take, drop, refl, sym, ◌∙◌, ap, subst, arith, append_assoc, Option, Some, None, if◌then◌else◌}
-use Rattle.std.proofs.lemmas.List.{length-append, length-take-le, get_or_append_left, drop-append-le, take-append-drop, drop-drop}
+use Rattle.std.proofs.Common.{◌≡◌, ℕ, zero, suc, ◌+◌, ◌*◌, ◌/◌, ◌%◌, ◌<◌, ◌==◌, inl, inr, get_or, List, [], ◌∷◌, ◌++◌, length, take, drop, refl, sym, ◌∙◌, ap, arith, append_assoc, Option, Some, None, if◌then◌else◌}
+use Rattle.std.proofs.lemmas.List.{length-append, get_or_append_left, drop-drop}
 use Rattle.std.proofs.lemmas.Bool.{cases_eq, eq-eqb, ne_eqb}
 use Rattle.jc_heap.specs.declared.object.Kind.{Kind}
 use Rattle.jc_heap.specs.declared.component.Span.{Span}
 use Rattle.jc_heap.specs.Cut.{cut}
 use Rattle.jc_heap.specs.Image.{packed_byte}
 use Rattle.jc_heap.specs.Packages.{packed, component_words, components_words, image_words, record_size, package_record, AreComponents}
-use Rattle.jc_heap.specs.Components.{words_for, part_sizes, span_in, info_span, info_of, AreBytes, HasBytes, ReadsBack}
-use Rattle.jc_heap.proofs.Packing.{length-packed, packed-at, components_words-append}
+use Rattle.jc_heap.specs.Components.{words_for, part_sizes, info_span, info_of, ReadsBack}
+use Rattle.jc_heap.proofs.Packing.{length-packed, packed-at}
 use Rattle.jc_heap.proofs.RecordReading.{info-here, info-next, info-image, span-whole}
 
 drop-front : (xs ys : List ℕ) → drop (length xs) (xs ++ ys) ≡ ys
@@ -78,14 +78,13 @@ info_words_at (c ∷ cs) zero tail h =
 info_words_at (c ∷ cs) (suc k) tail h =
     let ih : (more : List ℕ) × (drop (length (components_words (take k cs)) + 2) (components_words cs ++ tail) ≡ packed ((get_or cs k (0, [])).1) ++ more) = info_words_at cs k tail (omega arith) in
     let n : ℕ = length (components_words (take k cs)) + 2 in
-    let long : length (component_words c ++ components_words (take k cs)) + 2 ≡ length (component_words c) + n = omega (arith, length-append (component_words c) (components_words (take k cs))) in
-    (
+    let long : length (component_words c ++ components_words (take k cs)) + 2 ≡ length (component_words c) + n = omega (arith, length-append (component_words c) (components_words (take k cs))) in (
       ih.0,
       ap (λ m. drop m ((component_words c ++ components_words cs) ++ tail)) long
-      ∙ ap (drop (length (component_words c) + n)) (append_assoc (component_words c) (components_words cs) tail)
-      ∙ sym (drop-drop n (length (component_words c)) (component_words c ++ (components_words cs ++ tail)))
-      ∙ ap (drop n) (drop-front (component_words c) (components_words cs ++ tail))
-      ∙ ih.1,
+          ∙ ap (drop (length (component_words c) + n)) (append_assoc (component_words c) (components_words cs) tail)
+          ∙ sym (drop-drop n (length (component_words c)) (component_words c ++ (components_words cs ++ tail)))
+          ∙ ap (drop n) (drop-front (component_words c) (components_words cs ++ tail))
+          ∙ ih.1,
     )
 
 -- a byte of packed bytes
@@ -134,8 +133,7 @@ reads_back = record {
       let apart : (i : ℕ) → i < k → (get_or cs i (0, [])).0 ≡ (get_or cs k (0, [])).0 → ⊥ = λ i lt e. omega (arith, a.ascending i k lt h, e) in
       let words : (more : List ℕ) × (drop (length (components_words (take k cs)) + 2) (components_words cs ++ tail) ≡ packed bs ++ more) = info_words_at cs k tail h in
       let one : 1 + n ≡ suc n = omega arith in
-      let there : drop (1 + n) (package_record at cs xs rest) ≡ packed bs ++ words.0 = ap (λ m. drop m (package_record at cs xs rest)) one ∙ behind_length at cs xs rest n ∙ words.1 in
-      (
+      let there : drop (1 + n) (package_record at cs xs rest) ≡ packed bs ++ words.0 = ap (λ m. drop m (package_record at cs xs rest)) one ∙ behind_length at cs xs rest n ∙ words.1 in (
         s,
         (
           look_up at cs xs rest ((get_or cs k (0, [])).0) a ((a.tags k h).0) ∙ found-at 1 cs k h apart,
