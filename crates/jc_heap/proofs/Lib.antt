@@ -17,6 +17,7 @@ pub mod NewPackages
 pub mod Following
 pub mod RecordReading
 pub mod ReadBack
+pub mod RecordWords
 pub mod Runs
 pub mod AreaEnds
 pub mod MoveLaws

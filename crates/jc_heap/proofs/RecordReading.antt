@@ -98,30 +98,30 @@ record_long ws r = max (get_or ws r 0) 1
 
 -- a package's record, in all the words
 module _ (ws : List ℕ) (r : ℕ) (laid : IsLaid ws) (there : 0 < length (record_of (heap_of ws) r)) where
-  named : has (records (image ws)) r ≡ true
+  pub named : has (records (image ws)) r ≡ true
   unfolding read_image item_at
   named = elim (cases_Bool (has (records (image ws)) r)) [
     | inl e ↦ e
     | inr e ↦ absurd (omega (arith, ap (λ t. length (words_of t)) (at_or-map_absent (item (package_addresses (image ws))) (APackage []) (records (image ws)) r e), there))
   ]
 
-  abbrev rec : List ℕ
+  abbrev pub rec : List ℕ
   rec = at_or [] (records (image ws)) r
 
-  is_item : item_at (heap_of ws) r ≡ item (package_addresses (image ws)) r rec
+  pub is_item : item_at (heap_of ws) r ≡ item (package_addresses (image ws)) r rec
   unfolding read_image item_at
   is_item = at_or-map (item (package_addresses (image ws))) [] (APackage []) (records (image ws)) r named
 
-  is_one : is_package (package_addresses (image ws)) r ≡ true
+  pub is_one : is_package (package_addresses (image ws)) r ≡ true
   is_one = elim (cases_Bool (is_package (package_addresses (image ws)) r)) [
     | inl e ↦ e
     | inr e ↦ absurd (omega (arith, there, ap (λ t. length (words_of t)) is_item, ap (λ b. length (words_of (if b then APackage rec else AnObject (object_of rec)))) e))
   ]
 
-  is_record : record_of (heap_of ws) r ≡ rec
+  pub is_record : record_of (heap_of ws) r ≡ rec
   is_record = ap words_of is_item ∙ ap (λ b. words_of (if b then APackage rec else AnObject (object_of rec))) is_one
 
-  behind : base (image ws) ≤ r
+  pub behind : base (image ws) ≤ r
   behind = omega (arith, has_behind (sizes (package_addresses (image ws))) 0 (base (image ws)) (drop (base (image ws)) (image ws)) r named)
 
   offset : base (image ws) + (r - base (image ws)) ≡ r

@@ -7,4 +7,5 @@ pub mod Fresh
 pub mod Refusals
 pub mod Packages
 pub mod Components
+pub mod Statics
 pub mod Moves

@@ -14,6 +14,7 @@ mod package;
 mod record;
 mod refusal;
 mod registered;
+mod statics;
 mod walk;
 
 pub use component::{Span, components_are_read_back};
