@@ -18,6 +18,7 @@ pub mod Following
 pub mod RecordReading
 pub mod ReadBack
 pub mod RecordWords
+pub mod StaticImages
 pub mod Runs
 pub mod AreaEnds
 pub mod MoveLaws
