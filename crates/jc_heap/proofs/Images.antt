@@ -51,7 +51,7 @@ item_cell ps at rec i v h = elim (cases_Bool (is_package ps at)) [
 pub get_or_front : (ws : List ℕ) (a k v : ℕ) → k < a → get_or (set ws a v) k 0 ≡ get_or ws k 0
 get_or_front ws a k v h = get_or-set_other ws a k v 0 (λ e. omega arith)
 
-range_front : (ws : List ℕ) (from n a v : ℕ) → from + n ≤ a → take n (drop from (set ws a v)) ≡ take n (drop from ws)
+pub range_front : (ws : List ℕ) (from n a v : ℕ) → from + n ≤ a → take n (drop from (set ws a v)) ≡ take n (drop from ws)
 range_front ws from n a v h =
     let is : a ≡ from + (a - from) = omega arith in
     rw (is, drop-set-add from ws (a - from) v) (take-set-le n (drop from ws) (a - from) v (omega arith))

@@ -26,6 +26,8 @@ pub mod Keeping
 pub mod RecordReading
 pub mod OwnCells
 pub mod ReadBack
+pub mod RecordWords
+pub mod StaticImages
 pub mod Runs
 pub mod AreaEnds
 pub mod Places

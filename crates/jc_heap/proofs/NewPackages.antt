@@ -1,11 +1,11 @@
 -- A new package through the journal: fresh words, then its address, the number of packages and the top.
-use Rattle.std.proofs.Common.{◌≡◌, ℕ, zero, suc, ◌+◌, ◌<◌, ◌≤◌, false, List, [], ◌∷◌, ◌++◌, length, get_or, refl, sym, ◌∙◌, ap, subst, arith}
+use Rattle.std.proofs.Common.{◌≡◌, ℕ, zero, suc, ◌+◌, ◌<◌, ◌≤◌, false, List, [], ◌∷◌, length, get_or, refl, sym, ◌∙◌, ap, subst, arith}
 use Rattle.std.proofs.lemmas.List.{length-append, length-take-le, get_or-take}
 use Rattle.jc_commit.specs.Image.{with_words, IsPlace}
 use Rattle.jc_commit.specs.State.{State, Changes, has_room_for as journal_room}
 use Rattle.jc_heap.specs.declared.object.Kind.{Kind}
-use Rattle.jc_heap.specs.Object.{Object, Item, AnObject, APackage, bare}
-use Rattle.jc_heap.specs.Image.{image, IsLaid}
+use Rattle.jc_heap.specs.Object.{APackage, bare}
+use Rattle.jc_heap.specs.Image.{IsLaid}
 use Rattle.jc_heap.specs.Fresh.{KeepsBelow, Fills}
 use Rattle.jc_heap.specs.Heap.{HeapState, HeapView, heap_view, read_image, heap_of, add_object, end_place, changed, has_room_for, IsSound, SameShape, names, item_at}
 use Rattle.jc_heap.specs.Packages.{components_words, image_words, record_size, package_record, package_size, package_owner, package_words, package_places, push_package, add_arrays, add_package, array_object, array_words, array_size, arrays_words, arrays_size, array_addresses}

@@ -1,18 +1,18 @@
 -- A package's record and its arrays behind a whole table, in all the words.
-use Rattle.std.proofs.Common.{◌≡◌, ℕ, zero, suc, ◌+◌, ◌-◌, ◌/◌, ◌<◌, ◌≤◌, ◌||◌, true, false, List, [], ◌∷◌, ◌++◌, length, take, set, get_or, refl, sym, ◌∙◌, ap, subst, arith, append_assoc, add-zero, if◌then◌else◌, ◌==◌}
+use Rattle.std.proofs.Common.{◌≡◌, ℕ, ◌+◌, ◌-◌, ◌<◌, ◌≤◌, ◌||◌, true, List, [], ◌∷◌, ◌++◌, length, take, set, get_or, refl, sym, ◌∙◌, ap, subst, arith, append_assoc, add-zero, if◌then◌else◌, ◌==◌}
 use Rattle.std.proofs.Math.Bool.{or-true}
-use Rattle.std.proofs.lemmas.List.{get_or-set_other, get_or-set_same, get_or-take, length-set, length-append, length-take-le, set-append_left, set-get_or, set-set, take-take, take-append-le}
+use Rattle.std.proofs.lemmas.List.{get_or-set_same, get_or-take, length-set, length-append, length-take-le, set-append_left, set-get_or, set-set, take-take, take-append-le}
 use Rattle.std.proofs.Math.Seq.{take-length}
 use Rattle.std.proofs.lemmas.Bool.{eq-eqb}
 use Rattle.jc_heap.specs.declared.object.Kind.{Kind}
 use Rattle.jc_heap.specs.declared.object.Kind.TheVariants.{Instance, BooleanArray, ByteArray, ShortArray, ReferenceArray}
-use Rattle.jc_heap.specs.Object.{Object, AnObject, APackage, object_of, payload}
+use Rattle.jc_heap.specs.Object.{AnObject, APackage, object_of, payload}
 use Rattle.jc_heap.specs.Image.{image, base, package_addresses, is_package, sizes, item, missing, IsLaid}
-use Rattle.jc_heap.specs.Heap.{HeapState, read_image, heap_of, add_object}
-use Rattle.jc_heap.specs.Packages.{push_package, add_arrays, array_object, array_words, arrays_words, array_size, elements}
+use Rattle.jc_heap.specs.Heap.{read_image, heap_of, add_object}
+use Rattle.jc_heap.specs.Packages.{push_package, add_arrays, array_object, array_words, arrays_words, array_size}
 use Rattle.jc_heap.proofs.Records.{take-set_comm}
-use Rattle.jc_heap.proofs.Added.{add_item, heap_of-grown, top-moved, IsLaid-grown, packages-grown, base-grown, missing-grown, read-grown}
-use Rattle.jc_heap.proofs.Packages.{is_package-push, named, base-named, length-named, packages-named, missing-named, read-named}
+use Rattle.jc_heap.proofs.Added.{add_item, heap_of-grown, IsLaid-grown, packages-grown, base-grown, missing-grown, read-grown}
+use Rattle.jc_heap.proofs.Packages.{is_package-push, base-named, length-named, packages-named, missing-named, read-named}
 
 is_package-last : (ps : List ℕ) (p : ℕ) → is_package (ps ++ p ∷ []) p ≡ true
 is_package-last [] p = rw (eq-eqb p p refl) refl

@@ -1,9 +1,8 @@
 -- Walks over the parts of a package's record.
-use Rattle.std.proofs.Common.{◌≡◌, ℕ, zero, suc, ◌+◌, ◌-◌, ◌/◌, ◌||◌, ◌<◌, ◌≤◌, ◌==◌, get_or, nat_lt, Bool, true, false, inl, inr, List, [], ◌∷◌, length, take, drop, refl, sym, ◌∙◌, ap, subst, arith, add-zero, max, min, map, Option, Some, None, IfSome, if◌then◌else◌}
+use Rattle.std.proofs.Common.{◌≡◌, ℕ, zero, suc, ◌+◌, ◌-◌, ◌||◌, ◌<◌, ◌≤◌, ◌==◌, get_or, nat_lt, true, inl, inr, List, [], ◌∷◌, length, take, drop, refl, sym, ◌∙◌, ap, subst, arith, add-zero, max, min, map, Some, None, IfSome, if◌then◌else◌}
 use Rattle.std.proofs.lemmas.List.{length-drop, length-take, length-take-le, get_or-take, get_or-drop, drop-drop, drop-take, take-take}
 use Rattle.std.proofs.lemmas.Bool.{cases_Bool, cases_eq, cases_lt, eq-eqb, ne_eqb, lt-ltb, le-ltb, false≢true}
-use Rattle.jc_heap.specs.declared.component.Span.{Span}
-use Rattle.jc_heap.specs.Cut.{Sizes, cut, lacking}
+use Rattle.jc_heap.specs.Cut.{Sizes, cut}
 use Rattle.jc_heap.specs.Table.{at_or, has}
 use Rattle.jc_heap.specs.Object.{AnObject, APackage, object_of, payload}
 use Rattle.jc_heap.specs.Image.{image, base, package_addresses, is_package, sizes, item, item_entry, records, missing, IsLaid}
@@ -99,30 +98,30 @@ record_long ws r = max (get_or ws r 0) 1
 
 -- a package's record, in all the words
 module _ (ws : List ℕ) (r : ℕ) (laid : IsLaid ws) (there : 0 < length (record_of (heap_of ws) r)) where
-  named : has (records (image ws)) r ≡ true
+  pub named : has (records (image ws)) r ≡ true
   unfolding read_image item_at
   named = elim (cases_Bool (has (records (image ws)) r)) [
     | inl e ↦ e
     | inr e ↦ absurd (omega (arith, ap (λ t. length (words_of t)) (at_or-map_absent (item (package_addresses (image ws))) (APackage []) (records (image ws)) r e), there))
   ]
 
-  abbrev rec : List ℕ
+  abbrev pub rec : List ℕ
   rec = at_or [] (records (image ws)) r
 
-  is_item : item_at (heap_of ws) r ≡ item (package_addresses (image ws)) r rec
+  pub is_item : item_at (heap_of ws) r ≡ item (package_addresses (image ws)) r rec
   unfolding read_image item_at
   is_item = at_or-map (item (package_addresses (image ws))) [] (APackage []) (records (image ws)) r named
 
-  is_one : is_package (package_addresses (image ws)) r ≡ true
+  pub is_one : is_package (package_addresses (image ws)) r ≡ true
   is_one = elim (cases_Bool (is_package (package_addresses (image ws)) r)) [
     | inl e ↦ e
     | inr e ↦ absurd (omega (arith, there, ap (λ t. length (words_of t)) is_item, ap (λ b. length (words_of (if b then APackage rec else AnObject (object_of rec)))) e))
   ]
 
-  is_record : record_of (heap_of ws) r ≡ rec
+  pub is_record : record_of (heap_of ws) r ≡ rec
   is_record = ap words_of is_item ∙ ap (λ b. words_of (if b then APackage rec else AnObject (object_of rec))) is_one
 
-  behind : base (image ws) ≤ r
+  pub behind : base (image ws) ≤ r
   behind = omega (arith, has_behind (sizes (package_addresses (image ws))) 0 (base (image ws)) (drop (base (image ws)) (image ws)) r named)
 
   offset : base (image ws) + (r - base (image ws)) ≡ r

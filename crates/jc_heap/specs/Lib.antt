@@ -11,6 +11,7 @@ pub mod Fresh
 pub mod Refusals
 pub mod Packages
 pub mod Components
+pub mod Statics
 pub mod Moves
 pub mod Laying
 pub mod Beginning

@@ -18,7 +18,7 @@ pub struct Span {
 }
 
 // How many words hold so many bytes.
-fn words_for(bytes: u16) -> u32
+pub(crate) fn words_for(bytes: u16) -> u32
     ensures { result ≡ words_for bytes }
 {
     (u32::from(bytes) + 1) / 2

@@ -24,6 +24,7 @@ mod references;
 mod refusal;
 mod registered;
 mod steps;
+mod statics;
 mod walk;
 mod whole;
 

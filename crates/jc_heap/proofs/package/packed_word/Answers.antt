@@ -1,4 +1,4 @@
-use Rattle.std.proofs.Common.{arith, ◌+◌, ◌*◌, ◌≡◌, ◌≤◌, get_or, length}
+use Rattle.std.proofs.Common.{arith, ◌+◌, ◌*◌, ◌≡◌, get_or}
 use Rattle.std.proofs.lemmas.List.{get_or_past}
 use Rattle.jc_heap.proofs.Packing.{length-packed, packed-at}
 use Rattle.jc_heap.proofs.package.packed_word.Goals as goal

@@ -1,5 +1,5 @@
 -- The words of the arrays before the index are counted.
-use Rattle.std.proofs.Common.{◌≡◌, ◌*◌, ◌≤◌, length, take}
+use Rattle.std.proofs.Common.{◌≡◌, ◌*◌, ◌≤◌, take}
 use Rattle.jc_heap.specs.Packages.{initials, arrays_size}
 use Rattle.jc_heap.proofs.package.size_of_arrays.Given as goal
 

@@ -1,5 +1,5 @@
-use Rattle.std.proofs.Common.{◌≡◌, ◌+◌, ◌<◌, ◌≤◌, ◌++◌, [], ◌∷◌, length, take, get_or, refl, sym, ◌∙◌, ap, subst, arith}
-use Rattle.jc_heap.specs.Fresh.{IsFree, KeepsBelow, Fills}
+use Rattle.std.proofs.Common.{◌≡◌, ◌+◌, length, take, get_or, sym, arith}
+use Rattle.jc_heap.specs.Fresh.{Fills}
 use Rattle.jc_heap.specs.Packages.{initial, initials, array_words, arrays_words}
 use Rattle.jc_heap.proofs.Packing.{no_array, arrays-step, arrays-within}
 use Rattle.jc_heap.proofs.Streams.{piece_below, piece_more, free_left}

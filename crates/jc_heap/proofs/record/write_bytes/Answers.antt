@@ -1,5 +1,5 @@
-use Rattle.std.proofs.Common.{◌≡◌, ◌+◌, ◌<◌, ◌≤◌, ◌++◌, [], ◌∷◌, length, take, get_or, refl, sym, ◌∙◌, ap, subst, arith}
-use Rattle.jc_heap.specs.Fresh.{IsFree, KeepsBelow, Fills}
+use Rattle.std.proofs.Common.{◌+◌, take, arith}
+use Rattle.jc_heap.specs.Fresh.{KeepsBelow, Fills}
 use Rattle.jc_heap.proofs.Streams.{word_more}
 use Rattle.jc_heap.proofs.record.write_bytes.Goals as goal
 

@@ -1,5 +1,3 @@
-use Rattle.std.proofs.Common.{◌≡◌, ◌+◌, ◌<◌, ◌≤◌, ◌++◌, [], ◌∷◌, length, take, get_or, refl, sym, ◌∙◌, ap, subst, arith}
-use Rattle.jc_heap.specs.Fresh.{IsFree, KeepsBelow, Fills}
 use Rattle.jc_heap.proofs.FreshRuns.{keeps_then}
 use Rattle.jc_heap.proofs.record.write_component.Goals as goal
 

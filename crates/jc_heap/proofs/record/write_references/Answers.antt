@@ -1,7 +1,7 @@
-use Rattle.std.proofs.Common.{◌≡◌, ◌+◌, ◌<◌, ◌≤◌, ◌++◌, [], ◌∷◌, length, take, get_or, refl, sym, ◌∙◌, ap, subst, arith}
-use Rattle.jc_heap.specs.Fresh.{IsFree, KeepsBelow, Fills}
-use Rattle.jc_heap.specs.Packages.{initial, initials, elements, arrays_size, array_addresses}
-use Rattle.jc_heap.proofs.Packing.{no_array, arrays-counted, arrays-below, addresses-step, length-addresses_taken}
+use Rattle.std.proofs.Common.{◌+◌, ◌++◌, [], ◌∷◌, take, sym, subst, arith}
+use Rattle.jc_heap.specs.Fresh.{KeepsBelow, Fills}
+use Rattle.jc_heap.specs.Packages.{initials, array_addresses}
+use Rattle.jc_heap.proofs.Packing.{arrays-counted, arrays-below, addresses-step, length-addresses_taken}
 use Rattle.jc_heap.proofs.Streams.{word_push}
 use Rattle.jc_heap.proofs.record.write_references.Goals as goal
 

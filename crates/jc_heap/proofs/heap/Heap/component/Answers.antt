@@ -1,5 +1,5 @@
-use Rattle.std.proofs.Common.{◌≡◌, ◌+◌, ◌/◌, ◌%◌, ◌<◌, ◌≤◌, ◌∙◌, get_or, length, take, drop, max, refl, sym, ap, subst, arith, IfSome}
-use Rattle.jc_heap.specs.Components.{record_of, info_of, IsWithin, words_for}
+use Rattle.std.proofs.Common.{◌≡◌, ◌+◌, ◌≤◌, ◌∙◌, get_or, length, take, drop, max, sym, ap, subst, arith, IfSome}
+use Rattle.jc_heap.specs.Components.{record_of, info_of, IsWithin}
 use Rattle.jc_heap.proofs.Changing.{up_is}
 use Rattle.jc_heap.proofs.Views.{readable}
 use Rattle.jc_heap.proofs.RecordReading.{record_long, record_low, record_within, record_view, view_record, info_within}

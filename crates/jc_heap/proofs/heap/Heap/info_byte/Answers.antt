@@ -1,9 +1,9 @@
-use Rattle.std.proofs.Common.{◌≡◌, ◌+◌, ◌/◌, ◌%◌, ◌<◌, ◌≤◌, ◌∙◌, get_or, length, take, drop, max, refl, sym, ap, subst, arith, if◌then◌else◌}
+use Rattle.std.proofs.Common.{◌≡◌, ◌+◌, ◌/◌, ◌%◌, ◌<◌, ◌≤◌, ◌∙◌, get_or, length, drop, sym, ap, arith, if◌then◌else◌}
 use Rattle.std.proofs.lemmas.Bool.{eq-eqb, ne_eqb}
 use Rattle.jc_heap.specs.Components.{record_of}
 use Rattle.jc_heap.proofs.Changing.{up_is}
 use Rattle.jc_heap.proofs.Views.{readable}
-use Rattle.jc_heap.proofs.RecordReading.{record_long, record_low, record_within, record_view, view_record, length_record, record_word}
+use Rattle.jc_heap.proofs.RecordReading.{record_long, record_low, record_within, record_view, length_record, record_word}
 use Rattle.jc_heap.proofs.heap.Heap.info_byte.Goals as goal
 
 pub overflow_add-span : goal.overflow_add-span

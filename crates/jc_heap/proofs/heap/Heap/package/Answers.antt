@@ -1,4 +1,4 @@
-use Rattle.std.proofs.Common.{◌≡◌, ◌<◌, ◌+◌, ◌/◌, ◌∙◌, ap, sym, subst, drop, length, slice_index, Some, None, arith, if◌then◌else◌, true, false}
+use Rattle.std.proofs.Common.{◌≡◌, ◌<◌, ◌+◌, ◌/◌, ◌∙◌, ap, sym, subst, drop, length, slice_index, Some, None, arith, if◌then◌else◌}
 use Rattle.jc_heap.specs.Cut.{cut, lacking}
 use Rattle.jc_heap.specs.Table.{has}
 use Rattle.jc_heap.specs.Image.{image, package_addresses, sizes, base}

@@ -1,4 +1,4 @@
-use Rattle.std.proofs.Common.{◌≡◌, ◌∙◌, ap, sym, min, length, arith}
+use Rattle.std.proofs.Common.{◌∙◌, ap, sym, min, arith}
 use Rattle.jc_heap.proofs.Changing.{up_is}
 use Rattle.jc_heap.proofs.NewPackages.{view_count}
 use Rattle.jc_heap.proofs.RecordReading.{view_packages}

@@ -1,0 +1,151 @@
+-- A word of a package's record changed, in all the words.
+use Rattle.std.proofs.Common.{◌≡◌, ℕ, ◌+◌, ◌-◌, ◌/◌, ◌<◌, ◌≤◌, true, false, inl, inr, List, [], ◌∷◌, length, take, drop, set, get_or, map, replicate, refl, sym, ◌∙◌, ap, subst, arith, if◌then◌else◌}
+use Rattle.std.proofs.lemmas.List.{get_or-drop, drop-set-add, take-set-le, length-set, length-drop}
+use Rattle.std.proofs.lemmas.Bool.{cases_Bool, cases_eq}
+use Rattle.jc_commit.specs.State.{State, Changes}
+use Rattle.jc_heap.specs.Cut.{Sizes, cut, lacking}
+use Rattle.jc_heap.specs.Table.{at_or, put}
+use Rattle.jc_heap.specs.Object.{Item, AnObject, APackage, object_of, bare}
+use Rattle.jc_heap.specs.Image.{image, base, package_addresses, is_package, sizes, item, item_entry, records, missing, table_text, IsLaid}
+use Rattle.jc_heap.specs.Heap.{HeapState, HeapView, heap_view, heap_of, read_image, item_at, names, changed, IsSound, SameShape}
+use Rattle.jc_heap.specs.Components.{record_of}
+use Rattle.jc_heap.specs.Statics.{with_word, set_word}
+use Rattle.jc_heap.proofs.Records.{cut-set, lacking-set}
+use Rattle.jc_heap.proofs.Tables.{map-put, at_or-put_same, at_or-put_other, has-put, put-absent}
+use Rattle.jc_heap.proofs.Images.{sizes_tell, image-set, get_or_front, range_front, package_addresses-set, base-set, text-same}
+use Rattle.jc_heap.proofs.Changing.{change_view, change_sound}
+use Rattle.jc_heap.proofs.RecordReading.{rec, is_item, is_one, is_record, behind, record_long, record_high, record_is, length_record, record_view}
+
+module _ (ws : List ℕ) (r j v : ℕ) (laid : IsLaid ws) (four : 4 ≤ j) (h : j < length (record_of (heap_of ws) r)) where
+  some : 0 < length (record_of (heap_of ws) r)
+  some = omega arith
+
+  abbrev img : List ℕ
+  img = image ws
+
+  abbrev old : List ℕ
+  old = at_or [] (records (image ws)) r
+
+  within : j < length old
+  within = omega (arith, h, ap length (is_record ws r laid some))
+
+  low : base (image ws) ≤ r
+  low = behind ws r laid some
+
+  offset : ℕ
+  offset = r + j - base (image ws)
+
+  offset_is : base (image ws) + offset ≡ r + j
+  unfolding offset
+  offset_is = omega (arith, low)
+
+  far : 560 ≤ r + j
+  far = omega (arith, low)
+
+  same_packages : package_addresses (set img (r + j) v) ≡ package_addresses img
+  same_packages = package_addresses-set img (r + j) v far
+
+  tail : drop (base img) (set img (r + j) v) ≡ set (drop (base img) img) offset v
+  tail = ap (λ n. drop (base img) (set img n v)) (sym offset_is) ∙ drop-set-add (base img) img offset v
+
+  table-set : {X : Type 0} (F : Sizes → ℕ → List ℕ → X) →
+      F (sizes (package_addresses (set img (r + j) v))) (base (set img (r + j) v)) (drop (base (set img (r + j) v)) (set img (r + j) v))
+      ≡ F (sizes (package_addresses img)) (base img) (set (drop (base img) img) offset v)
+  table-set F =
+      ap (λ ps. F (sizes ps) (base (set img (r + j) v)) (drop (base (set img (r + j) v)) (set img (r + j) v))) same_packages
+      ∙ ap (λ b. F (sizes (package_addresses img)) b (drop b (set img (r + j) v))) (base-set img (r + j) v far)
+      ∙ ap (F (sizes (package_addresses img)) (base img)) tail
+
+  records-set : records (set img (r + j) v) ≡ put (records img) r (set old j v)
+  records-set =
+      table-set (λ more b us. cut more 0 b us)
+      ∙ cut-set (sizes (package_addresses img)) (sizes_tell (package_addresses img)) 0 (base img) (drop (base img) img) r j offset v four within offset_is
+
+  missing-set : missing (set img (r + j) v) ≡ missing img
+  unfolding missing
+  missing-set =
+      table-set (λ more b us. lacking more 0 b us)
+      ∙ lacking-set (sizes (package_addresses img)) (sizes_tell (package_addresses img)) 0 (base img) (drop (base img) img) r j offset v four within offset_is
+
+  as_package : (us : List ℕ) → item (package_addresses img) r us ≡ APackage us
+  as_package us = ap (λ b. if b then APackage us else AnObject (object_of us)) (is_one ws r laid some)
+
+  item-set : item (package_addresses img) r (set old j v) ≡ with_word (item_at (heap_of ws) r) j v
+  item-set = as_package (set old j v) ∙ ap (λ t. with_word t j v) (sym (as_package old) ∙ sym (is_item ws r laid some))
+
+  read-set : read_image (set img (r + j) v) ≡ set_word (read_image img) r j v
+  unfolding read_image set_word
+  read-set =
+      let registry : 752 ≤ r + j = omega (arith, low) in
+      let items : map (item_entry (package_addresses (set img (r + j) v))) (records (set img (r + j) v)) ≡ put (map (item_entry (package_addresses img)) (records img)) r (with_word (item_at (heap_of ws) r) j v) =
+      ap (λ ps. map (item_entry ps) (records (set img (r + j) v))) same_packages
+      ∙ ap (map (item_entry (package_addresses img))) records-set
+      ∙ map-put (item (package_addresses img)) (records img) r (set old j v)
+      ∙ ap (put (map (item_entry (package_addresses img)) (records img)) r) item-set in
+      let applets : take 192 (drop 560 (set img (r + j) v)) ≡ take 192 (drop 560 img) = range_front img 560 192 (r + j) v registry in
+      let first_end : get_or (set img (r + j) v) 8 0 ≡ get_or img 8 0 = get_or_front img (r + j) 8 v (omega arith) in
+      let second_end : get_or (set img (r + j) v) 9 0 ≡ get_or img 9 0 = get_or_front img (r + j) 9 v (omega arith) in
+      let top : length (set img (r + j) v) ≡ length img = length-set img (r + j) v in
+      let head : take 3 (set img (r + j) v) ≡ take 3 img = take-set-le 3 img (r + j) v (omega (arith, registry)) in
+      let text : table_text (set img (r + j) v) ≡ table_text img =
+      text-same img (set img (r + j) v) (get_or_front img (r + j) 10 v (omega (arith, registry))) (range_front img 752 ((get_or img 10 0 + 1) / 2) (r + j) v (omega (arith, low))) in
+      let first_count : get_or (set img (r + j) v) 6 0 ≡ get_or img 6 0 = get_or_front img (r + j) 6 v (omega arith) in
+      let second_count : get_or (set img (r + j) v) 7 0 ≡ get_or img 7 0 = get_or_front img (r + j) 7 v (omega arith) in
+      λ k. record { head = head k; text = text k; items = items k; counts = (first_count k, second_count k); packages = same_packages k; applets = applets k; area_ends = (first_end k, second_end k); top = top k }
+
+  pub heap_of-set_word : heap_of (set ws (r + j) v) ≡ set_word (heap_of ws) r j v
+  heap_of-set_word = ap read_image (image-set ws (r + j) v (omega (arith, far))) ∙ read-set
+
+  pub top-set_word : get_or (set ws (r + j) v) 5 0 ≡ get_or ws 5 0
+  top-set_word = get_or_front ws (r + j) 5 v (omega (arith, far))
+
+  pub laid-set_word : IsLaid (set ws (r + j) v)
+  laid-set_word =
+      let same_image : image (set ws (r + j) v) ≡ set (image ws) (r + j) v = image-set ws (r + j) v (omega (arith, far)) in
+      let same_base : base (image (set ws (r + j) v)) ≡ base (image ws) = ap base same_image ∙ base-set (image ws) (r + j) v far in
+      record {
+        based = rw (same_base, top-set_word) laid.based;
+        fits = rw (top-set_word, length-set ws (r + j) v) laid.fits;
+        whole = ap missing same_image ∙ missing-set ∙ laid.whole;
+        packages = λ a le. ap (λ ps. is_package ps a) (ap package_addresses same_image ∙ same_packages) ∙ laid.packages a (rw top-set_word at le);
+      }
+
+-- shapes stay
+bare-with_word : (t : Item) (j v : ℕ) → bare (with_word t j v) ≡ bare t
+bare-with_word (AnObject o) j v = refl
+bare-with_word (APackage ws) j v = ap (λ n. APackage (replicate n 0)) (length-set ws j v)
+
+bare-set_word : (h : HeapState) (r j v q : ℕ) → bare (item_at (set_word h r j v) q) ≡ bare (item_at h q)
+unfolding item_at set_word names
+bare-set_word h r j v q = elim (cases_eq r q) [
+  | inl is ↦ elim (cases_Bool (names h r)) [
+    | inl e ↦
+        ap (λ p. bare (at_or (APackage []) (put h.items r (with_word (item_at h r) j v)) p)) (sym is)
+        ∙ ap bare (at_or-put_same (APackage []) h.items r (with_word (item_at h r) j v) e)
+        ∙ bare-with_word (item_at h r) j v
+        ∙ ap (λ p. bare (item_at h p)) is
+    | inr e ↦ ap (λ l. bare (at_or (APackage []) l q)) (put-absent h.items r (with_word (item_at h r) j v) e)
+  ]
+  | inr n ↦ ap bare (at_or-put_other (APackage []) h.items r q (with_word (item_at h r) j v) n)
+]
+
+shape-set_word : (d h : HeapState) (r j v : ℕ) → SameShape d h → SameShape d (set_word h r j v)
+unfolding names set_word
+shape-set_word d h r j v s = record {
+  items = λ q lt. bare-set_word h r j v q ∙ s.items q lt;
+  names = λ q lt. has-put h.items r q (with_word (item_at h r) j v) ∙ s.names q lt;
+}
+
+-- through the journal
+pub word_view : (j k : State) (v : HeapView) (n r i x : ℕ) → heap_view j n ≡ v → IsLaid j.plain → 4 ≤ i → i < length (record_of v.now r) → Changes ((r + i, x) ∷ []) j k → heap_view k n ≡ changed v (set_word v.now r i x) ((r + i) ∷ []) 0
+word_view j k v n r i x is laid four h c = subst (λ u. i < length (record_of (u.now) r) → heap_view k n ≡ changed u (set_word (u.now) r i x) ((r + i) ∷ []) 0) is
+    (λ there. change_view ((r + i, x) ∷ []) j k n (set_word (heap_of j.plain) r i x) c (heap_of-set_word j.plain r i x laid four there)) h
+
+word_sound_at : (j k : State) (n r i x : ℕ) → 4 ≤ i → i < length (record_of (heap_of j.plain) r) → j.down ≡ false → IsSound j n → Changes ((r + i, x) ∷ []) j k → IsSound k n
+word_sound_at j k n r i x four h up s c =
+    change_sound ((r + i, x) ∷ []) j k n c up s.back s.size_recovered (s.size_now up) s.small (laid-set_word j.plain r i x (s.now up) four h)
+    (λ _. omega (arith, s.order up, top-set_word j.plain r i x (s.now up) four h))
+    (λ _. subst (SameShape (heap_of j.recovered)) (sym (heap_of-set_word j.plain r i x (s.now up) four h)) (shape-set_word (heap_of j.recovered) (heap_of j.plain) r i x (s.shape up)))
+
+pub word_sound : (j k : State) (v : HeapView) (n r i x : ℕ) → heap_view j n ≡ v → 4 ≤ i → i < length (record_of v.now r) → j.down ≡ false → IsSound j n → Changes ((r + i, x) ∷ []) j k → IsSound k n
+word_sound j k v n r i x is four h up s c = word_sound_at j k n r i x four (subst (λ u. i < length (record_of (u.now) r)) (sym is) h) up s c

@@ -1,0 +1,88 @@
+//! The words of a package's record, whose last ones are its static image.
+ghost use Rattle.std.specs.Prelude.{◌≡◌, ◌<◌, ◌≤◌, ◌+◌, [], ◌∷◌, false, Err, length, slice_index, take, drop, OnOk, IfSome, ◌↔◌};
+ghost use Rattle.jc_heap.specs.Heap.{changed, has_room_for, IsStopped};
+ghost use Rattle.jc_heap.specs.Components.{record_of, record_parts};
+ghost use Rattle.jc_heap.specs.Statics.{set_word, image_from, statics_of, IsStatic};
+
+use crate::component::words_for;
+use crate::heap::Heap;
+use crate::refusal::HeapRefusal;
+use jc_commit::Journal;
+use jc_transient::Ref;
+use jc_words::WordStore;
+
+// Where the static image begins, in a record of so many words.
+fn find_image<S: WordStore>(journal: &Journal<S>, base: u16, long: u16) -> Option<u16>
+    requires behind { 752 ≤ base }
+    requires there { base + long ≤ length journal.now.plain }
+    requires small { length journal.now.plain < 65536 }
+    ensures { result ≡ image_from (record_parts (take long (drop base journal.now.plain))) }
+{
+    let mut at = 1;
+    while at < u32::from(long) {
+        let word = journal.read(base + at as u16);
+        if word == 0 {
+            return Some(at as u16 + 1);
+        }
+        if at + 1 == u32::from(long) {
+            return None;
+        }
+        at += 2 + words_for(journal.read(base + at as u16 + 1));
+    }
+    None
+}
+
+impl<S: WordStore> Heap<S> {
+    /// Where the static image begins in the record of the package at an address: the offset of its first
+    /// word; none, where the record has no component or ends before.
+    pub fn statics(&self, at: Ref) -> Option<u16>
+        requires up { self.now.down ≡ false }
+        requires there { 0 < length (record_of self.now.now at) }
+        ensures exact { result ≡ statics_of (record_of self.now.now at) }
+        ensures within { IfSome result (λ o. o ≤ length (record_of self.now.now at)) }
+    {
+        let base = at.address();
+        let long = self.journal.read(base).max(1);
+        if long == 1 {
+            return None;
+        }
+        let first = self.journal.read(base + 1);
+        if first == 0 {
+            return None;
+        }
+        find_image(&self.journal, base, long)
+    }
+
+    /// How many words the record of the package at an address has. The static image is the last of them.
+    pub fn record_length(&self, at: Ref) -> u16
+        requires up { self.now.down ≡ false }
+        requires there { 0 < length (record_of self.now.now at) }
+        ensures { result ≡ length (record_of self.now.now at) }
+    {
+        self.journal.read(at.address()).max(1)
+    }
+
+    /// A word of a package's record.
+    pub fn record_word(&self, at: Ref, j: u16) -> u16
+        requires up { self.now.down ≡ false }
+        requires word { j < length (record_of self.now.now at) }
+        ensures { result ≡ slice_index (record_of self.now.now at) j }
+    {
+        self.journal.read(at.address() + j)
+    }
+
+    /// Sets a word of the static image in a package's record.
+    pub fn set_static(&mut self, at: Ref, j: u16, v: u16) -> Result<(), HeapRefusal>
+        requires up { self.old.down ≡ false }
+        requires word { IsStatic (record_of self.old.now at) j }
+        ensures done { OnOk result (self.new ≡ changed self.old (set_word self.old.now at j v) ((at + j) ∷ []) 0) }
+        ensures full { (result ≡ Err HeapRefusal.CommitFull) ↔ (has_room_for self.old ((at + j) ∷ []) ≡ false) }
+        ensures kept { result ≡ Err HeapRefusal.CommitFull → self.new ≡ self.old }
+        ensures stopped { result ≡ Err HeapRefusal.StoreDown → IsStopped self.old self.new }
+        ensures space { result ≡ Err HeapRefusal.HeapFull → ⊥ }
+        ensures area { result ≡ Err HeapRefusal.NoTransientSpace → ⊥ }
+    {
+        self.journal.write(at.address() + j, v)?;
+        Ok(())
+    }
+}
