@@ -23,8 +23,8 @@ mod record;
 mod references;
 mod refusal;
 mod registered;
-mod steps;
 mod statics;
+mod steps;
 mod walk;
 mod whole;
 
