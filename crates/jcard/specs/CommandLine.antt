@@ -95,6 +95,12 @@ TakesRuns = (name image script : Text) → IsNoFlag image → IsNoFlag script
 abbrev pub TakesDumps : Type 0
 TakesDumps = (name image : Text) → IsNoFlag image → taken_for (name ∷ codes "dump" ∷ image ∷ []) ≡ Some (ToTell image)
 
+-- `NAME new IMAGE --words N --table FILE` asks to make exactly this image, in either order of the options
+abbrev pub TakesNews : Type 0
+TakesNews = (name image words table : Text) → IsNoFlag image → IsNoFlag words → IsNoFlag table
+    → (taken_for (name ∷ codes "new" ∷ image ∷ codes "--words" ∷ words ∷ codes "--table" ∷ table ∷ []) ≡ Some (ToMake image words table))
+    × (taken_for (name ∷ codes "new" ∷ image ∷ codes "--table" ∷ table ∷ codes "--words" ∷ words ∷ []) ≡ Some (ToMake image words table))
+
 -- ---- every line of a command
 
 -- a hyphen and a character after it

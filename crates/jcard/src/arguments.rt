@@ -2,7 +2,7 @@
 ghost use Rattle.std.specs.Prelude.{◌≡◌, ◌⊎◌, None, false, true, map, option_map, option_and_then, IfErr, IfOk};
 ghost use Rattle.std.specs.String.{string_bytes};
 ghost use Rattle.clap.specs.Words.{app_of, found_of, kind_of, rows_of, rule_of, subcommand_rows_of, with_subcommand};
-ghost use Rattle.jcard.specs.CommandLine.{IsTakenAs, TakesDumps, TakesRunLines, TakesRuns, dump_grammar, dump_of, given_option, new_grammar, new_of, operand, program_grammar, request_by, request_of, run_grammar, run_of, taken_for};
+ghost use Rattle.jcard.specs.CommandLine.{IsTakenAs, TakesDumps, TakesNews, TakesRunLines, TakesRuns, dump_grammar, dump_of, given_option, new_grammar, new_of, operand, program_grammar, request_by, request_of, run_grammar, run_of, taken_for};
 
 use crate::fault::Fault;
 use clap::error::ErrorKind;
@@ -37,6 +37,7 @@ pub fn parse(alloc: Global, words: &[String]) -> Result<Action<'_>, Fault<'_>>
     ensures run_lines { TakesRunLines }
     ensures plain_runs { TakesRuns }
     ensures plain_dumps { TakesDumps }
+    ensures plain_news { TakesNews }
 {
     match matched(alloc, words) {
         Ok(Some(action)) => Ok(action),
