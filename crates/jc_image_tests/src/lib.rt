@@ -1,0 +1,7 @@
+//! Tests of whole images: how they are made, opened and refused.
+#![tactic(auto)]
+
+#[cfg(test)]
+mod image_rows;
+#[cfg(test)]
+mod platform_text;
