@@ -2,7 +2,7 @@ use Rattle.std.proofs.Common.{◌∙◌, refl}
 use Rattle.jcard_script.specs.Script.{text_of}
 use Rattle.jcard_script.proofs.Decoding.{command_bytes}
 use Rattle.jcard_script.proofs.LongCommands.{answers_whole}
-use Rattle.jcard_script.proofs.script.Session.carry_out.Goals as goal
+use Rattle.jcard_script.proofs.session.Session.carry_out.Goals as goal
 
 pub returns-in-Ok-clause-goes : goal.returns-in-Ok-clause-goes
 returns-in-Ok-clause-goes g c = λ line h.
