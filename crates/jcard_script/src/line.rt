@@ -170,7 +170,7 @@ impl Line {
     pub(crate) fn ended(&self) -> Asked
         ensures { (line : List ℕ) → IsKeptOf self.now line → AsksFor result (strip_carriage_return line) }
     {
-        asked(&self.content, &self.word)
+        asked_by(&self.content, &self.word)
     }
 
     /// What the line asks for if it is the script's last, which no line feed ends.
@@ -178,7 +178,7 @@ impl Line {
         ensures { (line : List ℕ) → IsKeptOf self.old line → AsksFor result line }
     {
         self.settle();
-        asked(&self.content, &self.word)
+        asked_by(&self.content, &self.word)
     }
 
     // A carriage return at the end belongs to the line.
@@ -194,7 +194,7 @@ impl Line {
 }
 
 // What a line asks for of which this is kept.
-fn asked(content: &Content, word: &Word) -> Asked
+fn asked_by(content: &Content, word: &Word) -> Asked
     ensures { (line : List ℕ) → IsLineOf content.now.kind content.now.digits.items content.now.is_odd line → IsWordOf word.now line → AsksFor result line }
 {
     match word.asked() {
