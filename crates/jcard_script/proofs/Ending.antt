@@ -3,8 +3,8 @@ use Rattle.std.proofs.Common.{◌≡◌, ℕ, ◌+◌, ◌<◌, true, false, Lis
 use Rattle.std.proofs.lemmas.List.{take_more}
 use Rattle.std.specs.Prelude.{OnOk}
 use Rattle.std.specs.Str.Lines.{lines}
-use Rattle.jcard_script.specs.Script.{Standing, form_of, AreCarriedOut, StopsAtBad, StopsAtReset, StopsInside, EndsFrom, ended_lines, bound}
-use Rattle.jcard_script.specs.Session.{LineEnds, LinesEnd, begun_line}
+use Rattle.jcard_script.specs.Script.{Form, Standing, form_of, AreCarriedOut, StopsAtBad, StopsAtReset, StopsInside, EndsFrom, ended_lines, bound}
+use Rattle.jcard_script.specs.Session.{LineEnds, LineFails, LinesEnd, begun_line}
 use Rattle.jcard_script.specs.declared.script.ScriptFault.{ScriptFault}
 use Rattle.jcard_script.specs.declared.script.ScriptFault.TheVariants.{ReadFailed, WriteFailed, BadLine, TooLong, PowerFault}
 use Rattle.jcard_script.proofs.Carried.{carried_more, bad_more, reset_more, cut_more, bad_then, reset_then, cut_then}
@@ -100,3 +100,11 @@ fault_inside fault script text piece more next i b s t h e k =
     let all = ended_then fault ((script ++ take i piece) ++ b ∷ []) (drop (i + 1) piece) ((text ++ more) ++ next) s t k in
     subst (λ x. LinesEnd (Err fault) (ended_lines (script ++ piece)) s t x) (append_assoc text more next)
     (subst (λ x. LinesEnd (Err fault) (ended_lines x) s t ((text ++ more) ++ next)) (piece_whole script piece i b h e) all)
+
+-- a line for which nothing is written
+pub failed_line : (fault : ScriptFault) (n : ℕ) (form : Form) (s t : Standing) → LineFails fault n form s t → LineEnds (Err fault) n form s t []
+failed_line (BadLine b) n form s t h = (h.0, h.1, h.2, refl)
+failed_line (PowerFault f) n form s t h = (h.0, h.1, refl)
+failed_line ReadFailed n form s t h = absurd h
+failed_line WriteFailed n form s t h = absurd h
+failed_line TooLong n form s t h = absurd h

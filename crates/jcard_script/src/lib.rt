@@ -9,4 +9,6 @@ pub mod script;
 mod session;
 pub mod std_text;
 pub mod streams;
+#[cfg(test)]
+mod tests;
 mod word;
