@@ -11,7 +11,7 @@ use crate::layout::{CAPACITY, COUNT};
 use crate::log::log_and_write;
 use crate::refusal::{OpenRefusal, WriteRefusal};
 use crate::undo::replay;
-use jc_words::{StoreDown, WordStore};
+use jc_words::{FuseStore, StoreDown, WordStore};
 use std::marker::Model;
 
 /// The words of a store, with transactions. While a transaction is open, the old values of the words
@@ -286,5 +286,14 @@ impl<S: WordStore> Journal<S> {
         log_and_write(&mut self.store, changes)?;
         self.store.write(COUNT, 0)?;
         Ok(())
+    }
+}
+
+impl<S: WordStore> Journal<FuseStore<S>> {
+    /// Arms the store's fuse: `k` further writes pass, and the next is refused.
+    pub fn arm(&mut self, k: u64)
+        ensures { self.new ≡ self.old }
+    {
+        self.store.arm(k);
     }
 }

@@ -15,7 +15,7 @@ use crate::refusal::HeapRefusal;
 use crate::walk::first_object;
 use jc_commit::Journal;
 use jc_transient::Ref;
-use jc_words::{JOURNAL_CAPACITY, WordStore};
+use jc_words::{FuseStore, JOURNAL_CAPACITY, WordStore};
 use std::marker::Model;
 
 // How many words one change may have.
@@ -261,5 +261,14 @@ impl<S: WordStore> Heap<S> {
     {
         let Heap { journal, size: _ } = self;
         journal.into_store()
+    }
+}
+
+impl<S: WordStore> Heap<FuseStore<S>> {
+    /// Arms the store's fuse: `k` further writes pass, and the next is refused.
+    pub fn arm(&mut self, k: u64)
+        ensures { self.new ≡ self.old }
+    {
+        self.journal.arm(k);
     }
 }

@@ -6,3 +6,4 @@ pub mod LineSteps
 pub mod LongCommands
 pub mod Parts
 pub mod Upper
+pub mod Words

@@ -2,11 +2,11 @@
 use Rattle.std.specs.Prelude.{ℕ, ◌≡◌, ◌==◌, ◌-◌, ◌%◌, Bool, true, false, List, [], ◌∷◌, length, take, slice_index}
 use Rattle.std.specs.List.{list_all}
 use Rattle.hex.specs.Hex.{is_hex_digit}
-use Rattle.jcard_script.specs.Script.{Skipped, Command, Bad, form_of, spaceless}
+use Rattle.jcard_script.specs.Script.{Form, Skipped, Command, Resets, Stops, Bad, form_of, plain_form_of, spaceless}
 use Rattle.jcard_script.specs.declared.line.Kind.{Kind}
 use Rattle.jcard_script.specs.declared.line.Kind.TheVariants.{Empty, Comment, Digits, Nonsense}
 use Rattle.jcard_script.specs.declared.line.Asked.{Asked}
-use Rattle.jcard_script.specs.declared.line.Asked.TheVariants.{Nothing, Exchange, Refused}
+use Rattle.jcard_script.specs.declared.line.Asked.TheVariants.{Nothing, Exchange, Reset, Stop, Refused}
 
 -- the line is neither empty nor a comment
 abbrev pub IsPlain : List ℕ → Type 0
@@ -28,8 +28,18 @@ IsLineOf Nonsense digits odd line = IsPlain line × (list_all is_hex_digit (spac
 abbrev pub ends_in_return : List ℕ → Bool
 ends_in_return line = slice_index line (length line - 1) == 13
 
--- what a line asks for; of a command the first 262 bytes are told, more than any command has
+-- what is asked for is a form; of a command the first 262 bytes are told, more than any command has
+abbrev pub IsAsked : Asked → Form → Type 0
+IsAsked Nothing form = form ≡ Skipped
+IsAsked (Exchange command) form = (bytes : List ℕ) × (form ≡ Command bytes) × (command.items ≡ take 262 bytes)
+IsAsked Reset form = form ≡ Resets
+IsAsked (Stop k) form = form ≡ Stops k
+IsAsked Refused form = form ≡ Bad
+
+-- what a line asks for
 abbrev pub AsksFor : Asked → List ℕ → Type 0
-AsksFor Nothing line = form_of line ≡ Skipped
-AsksFor (Exchange command) line = (bytes : List ℕ) × (form_of line ≡ Command bytes) × (command.items ≡ take 262 bytes)
-AsksFor Refused line = form_of line ≡ Bad
+AsksFor asked line = IsAsked asked (form_of line)
+
+-- what a line asks for that is no word
+abbrev pub PlainlyAsksFor : Asked → List ℕ → Type 0
+PlainlyAsksFor asked line = IsAsked asked (plain_form_of line)

@@ -1,14 +1,19 @@
 -- Scripts: their lines, what the lines ask for, and what is written for them.
-use Rattle.std.specs.Prelude.{ℕ, ◌+◌, ◌≡◌, ◌≤◌, ◌<◌, ◌==◌, Bool, true, false, not, if◌then◌else◌, IsTrue, List, [], ◌∷◌, ◌++◌, length, take, filter, Option, Result, Ok, Err}
+use Rattle.std.specs.Prelude.{ℕ, ◌+◌, ◌≡◌, ◌≤◌, ◌<◌, ◌==◌, Bool, true, false, not, if◌then◌else◌, IsTrue, List, [], ◌∷◌, ◌++◌, length, take, drop, filter, nat_le, nat_lt, nat_eq, ◌&&◌, ◌⊎◌, MatchBool, codes, decimal, Option, Result, Ok, Err}
 use Rattle.std.specs.Io.KnownBytes.{IsAtEnd}
-use Rattle.std.specs.List.{slice_split}
+use Rattle.std.specs.List.{slice_split, starts_with}
+use Rattle.std.specs.Str.{bytes_eq, all_ascii_digits}
+use Rattle.std.specs.Str.Parse.{digits_value}
 use Rattle.std.specs.Str.Lines.{lines, strip_carriage_return}
 use Rattle.hex.specs.Hex.{decode_of, encode_upper}
 use Rattle.hex.specs.declared.error.FromHexError.{FromHexError}
+use Rattle.jc_words.specs.Count.{raised}
 use Rattle.jc_card.specs.Answers.{Answers}
+use Rattle.jc_card.specs.declared.power_up.PowerFault.{PowerFault as Fault}
+use Rattle.jc_card.specs.declared.power_up.PowerFault.TheVariants.{StoreDown}
 use Rattle.jcard_script.specs.Texts.{IsCutOf}
 use Rattle.jcard_script.specs.declared.script.ScriptFault.{ScriptFault}
-use Rattle.jcard_script.specs.declared.script.ScriptFault.TheVariants.{ReadFailed, WriteFailed, BadLine, TooLong}
+use Rattle.jcard_script.specs.declared.script.ScriptFault.TheVariants.{ReadFailed, WriteFailed, BadLine, TooLong, PowerFault}
 
 -- ---- lines
 
@@ -36,10 +41,12 @@ lines_so_far at_end script = if at_end then lines script else ended_lines (take 
 
 -- ---- what a line asks for
 
--- what a line asks for: nothing, a command of these bytes, or it has no form
+-- what a line asks for: nothing, a command of these bytes, a reset, arming the fuse with a number, or it has no form
 pub data Form : Type 0 where
   Skipped : Form
   Command : List ℕ → Form
+  Resets : Form
+  Stops : ℕ → Form
   Bad : Form
 
 -- a line without its spaces
@@ -51,10 +58,37 @@ abbrev pub form_of_decoded : Result (List ℕ) FromHexError → Form
 form_of_decoded (Ok bytes) = Command bytes
 form_of_decoded (Err e) = Bad
 
--- what a line asks for: nothing if it is empty or begins with '#', else the command that its digits spell
+-- what a line asks for that is no word: nothing if it is empty or begins with '#', else the command that its digits spell
+abbrev pub plain_form_of : List ℕ → Form
+plain_form_of [] = Skipped
+plain_form_of (first ∷ rest) = if first == 35 then Skipped else form_of_decoded (decode_of (spaceless (first ∷ rest)))
+
+-- one or more decimal digits, of a number up to 65535
+abbrev pub is_number : List ℕ → Bool
+is_number digits = nat_lt 0 (length digits) && (all_ascii_digits digits && nat_le (digits_value 10 digits) 65535)
+
+-- what the bytes behind "stop " ask for
+abbrev pub stop_of : List ℕ → Form
+stop_of digits = if is_number digits then Stops (digits_value 10 digits) else Bad
+
+-- what a line asks for: "reset" and "stop " with a number are words, any other line is plain
 abbrev pub form_of : List ℕ → Form
-form_of [] = Skipped
-form_of (first ∷ rest) = if first == 35 then Skipped else form_of_decoded (decode_of (spaceless (first ∷ rest)))
+form_of line = if bytes_eq line (codes "reset") then Resets else (if starts_with nat_eq line (codes "stop ") then stop_of (drop 5 line) else plain_form_of line)
+
+-- ---- how a session stands
+
+-- whether the card is up, and how many writes its store has refused
+pub record Standing : Type 0 where
+  pub up : Bool
+  pub refused : ℕ
+
+-- a store that has refused n writes is powered up so: no more is refused and the card is up, or one more is and it is down
+abbrev pub IsPoweredUp : ℕ → Standing → Type 0
+IsPoweredUp n s = MatchBool s.up (s.refused ≡ n) (s.refused ≡ raised n 1)
+
+-- the fault is not that the store refused a write
+abbrev pub IsOther : Fault → Type 0
+IsOther fault = fault ≡ StoreDown → ⊥
 
 -- ---- what is written
 
@@ -62,35 +96,66 @@ form_of (first ∷ rest) = if first == 35 then Skipped else form_of_decoded (dec
 abbrev pub text_of : List ℕ → List ℕ
 text_of answer = encode_upper answer ++ 10 ∷ []
 
--- what is written for a line: nothing for a skipped one, the text of an answer for a command
-abbrev pub IsWrittenFor : Form → List ℕ → Type 0
-IsWrittenFor Skipped text = text ≡ []
-IsWrittenFor (Command bytes) text = (answer : List ℕ) × Answers bytes answer × (text ≡ text_of answer)
-IsWrittenFor Bad text = ⊥
+abbrev pub ready_text : List ℕ
+ready_text = codes "ready\n"
 
--- the lines are carried out one after another, and this is what is written for them
-abbrev pub AreCarriedOut : List (List ℕ) → List ℕ → Type 0
-AreCarriedOut [] text = text ≡ []
-AreCarriedOut (line ∷ more) text = (first rest : List ℕ) × (text ≡ first ++ rest) × IsWrittenFor (form_of line) first × AreCarriedOut more rest
+abbrev pub down_text : List ℕ
+down_text = codes "down\n"
+
+-- the number without leading zeros
+abbrev pub armed_text : ℕ → List ℕ
+armed_text k = codes "armed " ++ decimal k ++ codes "\n"
+
+-- what is written for a command: the text of an answer, or that the store is down
+abbrev pub IsAnswered : Bool → List ℕ → List ℕ → Type 0
+IsAnswered up bytes text = MatchBool up ((answer : List ℕ) × Answers bytes answer × (text ≡ text_of answer)) (text ≡ down_text)
+
+-- what is written for a line, and how the session stands before and after it
+abbrev pub IsWrittenFor : Form → Standing → Standing → List ℕ → Type 0
+IsWrittenFor Skipped s t text = (t ≡ s) × (text ≡ [])
+IsWrittenFor (Command bytes) s t text = (t ≡ s) × IsAnswered s.up bytes text
+IsWrittenFor Resets s t text = IsPoweredUp s.refused t × MatchBool t.up (text ≡ ready_text) (text ≡ down_text)
+IsWrittenFor (Stops k) s t text = (t ≡ s) × (text ≡ armed_text k)
+IsWrittenFor Bad s t text = ⊥
+
+-- the lines are carried out one after another, from one standing to the other, and this is what is written for them
+abbrev pub AreCarriedOut : List (List ℕ) → Standing → Standing → List ℕ → Type 0
+AreCarriedOut [] s t text = (t ≡ s) × (text ≡ [])
+AreCarriedOut (line ∷ more) s t text = (first rest : List ℕ) × (between : Standing) × (text ≡ first ++ rest) × IsWrittenFor (form_of line) s between first × AreCarriedOut more between t rest
 
 -- line n, counted from 1, has no form, and those before it were carried out
-abbrev pub StopsAtBad : ℕ → List (List ℕ) → List ℕ → Type 0
-StopsAtBad n all text = (before : List (List ℕ)) × (line : List ℕ) × (after : List (List ℕ)) × (all ≡ before ++ line ∷ after) × (n ≡ length before + 1) × (form_of line ≡ Bad) × AreCarriedOut before text
+abbrev pub StopsAtBad : ℕ → List (List ℕ) → Standing → Standing → List ℕ → Type 0
+StopsAtBad n all s t text = (before : List (List ℕ)) × (line : List ℕ) × (after : List (List ℕ)) × (all ≡ before ++ line ∷ after) × (n ≡ length before + 1) × (form_of line ≡ Bad) × AreCarriedOut before s t text
+
+-- a reset found a fault, and the lines before it were carried out
+abbrev pub StopsAtReset : List (List ℕ) → Standing → List ℕ → Type 0
+StopsAtReset all s text = (before : List (List ℕ)) × (line : List ℕ) × (after : List (List ℕ)) × (all ≡ before ++ line ∷ after) × (form_of line ≡ Resets) × ((t : Standing) × AreCarriedOut before s t text)
 
 -- some first lines were carried out, and of what is to be written for the next only a beginning was written
-abbrev pub StopsInside : List (List ℕ) → List ℕ → Type 0
-StopsInside all text = (before : List (List ℕ)) × (line : List ℕ) × (after : List (List ℕ)) × (all ≡ before ++ line ∷ after)
-    × ((whole answer part : List ℕ) × (text ≡ whole ++ part) × AreCarriedOut before whole × IsWrittenFor (form_of line) answer × IsCutOf answer part)
+abbrev pub StopsInside : List (List ℕ) → Standing → Standing → List ℕ → Type 0
+StopsInside all s t text = (before : List (List ℕ)) × (line : List ℕ) × (after : List (List ℕ)) × (all ≡ before ++ line ∷ after)
+    × ((whole answer part : List ℕ) × (between : Standing) × (text ≡ whole ++ part) × AreCarriedOut before s between whole × IsWrittenFor (form_of line) between t answer × IsCutOf answer part)
 
 -- ---- how a script ends
 
--- these bytes of a script were read, the whole of it or not, this text was written, and so it ended
-abbrev pub Ends : Result Unit ScriptFault → Bool → List ℕ → List ℕ → Type 0
-Ends (Ok done) at_end script text = IsTrue at_end × AreCarriedOut (lines script) text
-Ends (Err (BadLine n)) at_end script text = StopsAtBad n (lines_so_far at_end script) text
-Ends (Err TooLong) at_end script text = (bound < length script) × AreCarriedOut (lines_so_far false script) text
-Ends (Err ReadFailed) at_end script text = (length script ≤ bound) × AreCarriedOut (lines_so_far false script) text
-Ends (Err WriteFailed) at_end script text = StopsInside (lines_so_far at_end script) text
+-- these bytes of a script were read, the whole of it or not, this text was written, and so it ended, from one standing to the other
+abbrev pub EndsFrom : Result Unit ScriptFault → Bool → List ℕ → Standing → Standing → List ℕ → Type 0
+EndsFrom (Ok done) at_end script s t text = IsTrue at_end × AreCarriedOut (lines script) s t text
+EndsFrom (Err (BadLine n)) at_end script s t text = StopsAtBad n (lines_so_far at_end script) s t text
+EndsFrom (Err (PowerFault fault)) at_end script s t text = IsOther fault × StopsAtReset (lines_so_far at_end script) s text
+EndsFrom (Err TooLong) at_end script s t text = (bound < length script) × AreCarriedOut (lines_so_far false script) s t text
+EndsFrom (Err ReadFailed) at_end script s t text = (length script ≤ bound) × AreCarriedOut (lines_so_far false script) s t text
+EndsFrom (Err WriteFailed) at_end script s t text = StopsInside (lines_so_far at_end script) s t text
+
+-- the first power up found a fault: nothing was read or written
+abbrev pub FailsAtOnce : Result Unit ScriptFault → List ℕ → List ℕ → Type 0
+FailsAtOnce (Err (PowerFault fault)) script text = IsOther fault × (script ≡ []) × (text ≡ [])
+FailsAtOnce _ script text = ⊥
+
+-- a script on a store that had refused so many writes before and so many after: it failed at once, or it was carried out from a power up on
+abbrev pub Ends : Result Unit ScriptFault → ℕ → ℕ → Bool → List ℕ → List ℕ → Type 0
+Ends result before after at_end script text =
+    FailsAtOnce result script text ⊎ ((first last : Standing) × IsPoweredUp before first × (last.refused ≡ after) × EndsFrom result at_end script first last text)
 
 -- whether a read failed
 abbrev pub is_read_failed : Result Unit ScriptFault → Bool

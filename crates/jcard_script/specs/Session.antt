@@ -2,13 +2,15 @@
 use Rattle.std.specs.Prelude.{ℕ, ◌≡◌, ◌==◌, List, [], ◌∷◌, length, Result, Ok, Err}
 use Rattle.std.specs.List.{slice_split}
 use Rattle.std.specs.Str.Lines.{strip_carriage_return}
+use Rattle.jcard_script.specs.Held.{standing_in}
 use Rattle.jcard_script.specs.Line.{IsLineOf, ends_in_return}
-use Rattle.jcard_script.specs.Script.{Form, Bad, IsWrittenFor, AreCarriedOut, StopsAtBad, StopsInside, ended_lines}
+use Rattle.jcard_script.specs.Script.{Form, Resets, Bad, Standing, IsOther, IsWrittenFor, AreCarriedOut, StopsAtBad, StopsAtReset, StopsInside, ended_lines}
 use Rattle.jcard_script.specs.Texts.{IsCutOf}
+use Rattle.jcard_script.specs.Word.{IsWordOf}
 use Rattle.jcard_script.specs.declared.line.Line.{Line}
-use Rattle.jcard_script.specs.declared.script.Session.{Session}
+use Rattle.jcard_script.specs.declared.session.Session.{Session}
 use Rattle.jcard_script.specs.declared.script.ScriptFault.{ScriptFault}
-use Rattle.jcard_script.specs.declared.script.ScriptFault.TheVariants.{ReadFailed, WriteFailed, BadLine, TooLong}
+use Rattle.jcard_script.specs.declared.script.ScriptFault.TheVariants.{ReadFailed, WriteFailed, BadLine, TooLong, PowerFault}
 
 -- the last part, or nothing
 abbrev pub last_part : List (List ℕ) → List ℕ
@@ -22,24 +24,34 @@ begun_line text = last_part (slice_split (λ b. b == 10) text)
 
 -- what is kept of a line of which these bytes have come
 abbrev pub IsKeptOf : Line → List ℕ → Type 0
-IsKeptOf kept line = (kept.carriage_return ≡ ends_in_return line) × IsLineOf kept.content.kind kept.content.digits.items kept.content.is_odd (strip_carriage_return line)
+IsKeptOf kept line = (kept.carriage_return ≡ ends_in_return line) × IsLineOf kept.content.kind kept.content.digits.items kept.content.is_odd (strip_carriage_return line) × IsWordOf kept.word (strip_carriage_return line)
 
--- these bytes of the script have come, and this text was written for their lines
-abbrev pub StandsAt : Session → List ℕ → List ℕ → Type 0
-StandsAt s script text = IsKeptOf s.line (begun_line script) × (s.number ≡ length (ended_lines script)) × AreCarriedOut (ended_lines script) text
+-- these bytes of the script have come since the session stood so, and this text was written for their lines
+abbrev pub StandsAt : {S : Type 0} → Session S → Standing → List ℕ → List ℕ → Type 0
+StandsAt s first script text = IsKeptOf s.line (begun_line script) × (s.number ≡ length (ended_lines script)) × AreCarriedOut (ended_lines script) first (standing_in s.held) text
+
+-- why nothing is written for line n: it has no form, or it is a reset that found a fault
+abbrev pub LineFails : ScriptFault → ℕ → Form → Standing → Standing → Type 0
+LineFails (BadLine k) n form s t = (form ≡ Bad) × (k ≡ n) × (t ≡ s)
+LineFails (PowerFault fault) n form s t = IsOther fault × (form ≡ Resets)
+LineFails ReadFailed n form s t = ⊥
+LineFails WriteFailed n form s t = ⊥
+LineFails TooLong n form s t = ⊥
 
 -- how carrying out line n ended
-abbrev pub LineEnds : Result Unit ScriptFault → ℕ → Form → List ℕ → Type 0
-LineEnds (Ok done) n form text = IsWrittenFor form text
-LineEnds (Err (BadLine k)) n form text = (form ≡ Bad) × (k ≡ n) × (text ≡ [])
-LineEnds (Err WriteFailed) n form text = (answer : List ℕ) × IsWrittenFor form answer × IsCutOf answer text
-LineEnds (Err ReadFailed) n form text = ⊥
-LineEnds (Err TooLong) n form text = ⊥
+abbrev pub LineEnds : Result Unit ScriptFault → ℕ → Form → Standing → Standing → List ℕ → Type 0
+LineEnds (Ok done) n form s t text = IsWrittenFor form s t text
+LineEnds (Err (BadLine k)) n form s t text = (form ≡ Bad) × (k ≡ n) × (t ≡ s) × (text ≡ [])
+LineEnds (Err (PowerFault fault)) n form s t text = IsOther fault × (form ≡ Resets) × (text ≡ [])
+LineEnds (Err WriteFailed) n form s t text = (answer : List ℕ) × IsWrittenFor form s t answer × IsCutOf answer text
+LineEnds (Err ReadFailed) n form s t text = ⊥
+LineEnds (Err TooLong) n form s t text = ⊥
 
 -- how carrying out some lines ended
-abbrev pub LinesEnd : Result Unit ScriptFault → List (List ℕ) → List ℕ → Type 0
-LinesEnd (Ok done) all text = AreCarriedOut all text
-LinesEnd (Err (BadLine n)) all text = StopsAtBad n all text
-LinesEnd (Err WriteFailed) all text = StopsInside all text
-LinesEnd (Err ReadFailed) all text = ⊥
-LinesEnd (Err TooLong) all text = ⊥
+abbrev pub LinesEnd : Result Unit ScriptFault → List (List ℕ) → Standing → Standing → List ℕ → Type 0
+LinesEnd (Ok done) all s t text = AreCarriedOut all s t text
+LinesEnd (Err (BadLine n)) all s t text = StopsAtBad n all s t text
+LinesEnd (Err (PowerFault fault)) all s t text = IsOther fault × StopsAtReset all s text
+LinesEnd (Err WriteFailed) all s t text = StopsInside all s t text
+LinesEnd (Err ReadFailed) all s t text = ⊥
+LinesEnd (Err TooLong) all s t text = ⊥

@@ -1,10 +1,14 @@
 //! Scripts: lines that are carried out on a card, over any reader and writer.
 #![tactic(auto)]
 
+mod held;
 mod line;
 pub mod mem_text;
+mod reply;
 pub mod script;
+mod session;
 pub mod std_text;
 pub mod streams;
 #[cfg(test)]
 mod tests;
+mod word;

@@ -2,9 +2,11 @@
 ghost use Rattle.std.specs.Prelude.{◌≡◌, ◌≢◌, ◌≤◌, ℕ, List, [], ◌∷◌, ◌++◌, length, IsErr, MatchOption, Ok};
 ghost use Rattle.std.specs.Str.Lines.{strip_carriage_return};
 ghost use Rattle.hex.specs.Hex.{decode_of, is_hex_digit};
-ghost use Rattle.jcard_script.specs.Line.{IsLineOf, IsPlain, HasDigits, AsksFor};
+ghost use Rattle.jcard_script.specs.Line.{IsLineOf, IsPlain, HasDigits, AsksFor, PlainlyAsksFor};
 ghost use Rattle.jcard_script.specs.Session.{IsKeptOf};
+ghost use Rattle.jcard_script.specs.Word.{IsWordOf};
 
+use crate::word::Word;
 use arrayvec::ArrayVec;
 
 /// The most digits of a line that are kept: two more than the longest command has.
@@ -33,6 +35,10 @@ pub(crate) enum Asked {
     Nothing,
     /// The command of these bytes, of which 262 at most are told.
     Exchange(ArrayVec<u8, 262>),
+    /// A reset.
+    Reset,
+    /// To let so many writes pass.
+    Stop(u16),
     /// It has no form.
     Refused,
 }
@@ -50,6 +56,7 @@ pub(crate) struct Content {
 #[derive(Drop)]
 pub(crate) struct Line {
     content: Content,
+    word: Word,
     carriage_return: bool,
 }
 
@@ -106,9 +113,9 @@ impl Content {
         }
     }
 
-    // What a line of these bytes asks for.
+    // What a line of these bytes asks for that is no word.
     fn asked(&self) -> Asked
-        ensures { (line : List ℕ) → IsLineOf self.now.kind self.now.digits.items self.now.is_odd line → AsksFor result line }
+        ensures { (line : List ℕ) → IsLineOf self.now.kind self.now.digits.items self.now.is_odd line → PlainlyAsksFor result line }
     {
         match self.kind {
             Kind::Empty | Kind::Comment => Asked::Nothing,
@@ -133,6 +140,7 @@ impl Line {
     {
         Line {
             content: Content::empty(),
+            word: Word::empty(),
             carriage_return: false,
         }
     }
@@ -142,6 +150,7 @@ impl Line {
         ensures { IsKeptOf self.new [] }
     {
         self.content.clear();
+        self.word.clear();
         self.carriage_return = false;
     }
 
@@ -153,6 +162,7 @@ impl Line {
         self.carriage_return = byte == b'\r';
         if !self.carriage_return {
             self.content.push(byte);
+            self.word.push(byte);
         }
     }
 
@@ -160,7 +170,7 @@ impl Line {
     pub(crate) fn ended(&self) -> Asked
         ensures { (line : List ℕ) → IsKeptOf self.now line → AsksFor result (strip_carriage_return line) }
     {
-        self.content.asked()
+        asked_by(&self.content, &self.word)
     }
 
     /// What the line asks for if it is the script's last, which no line feed ends.
@@ -168,17 +178,28 @@ impl Line {
         ensures { (line : List ℕ) → IsKeptOf self.old line → AsksFor result line }
     {
         self.settle();
-        self.content.asked()
+        asked_by(&self.content, &self.word)
     }
 
     // A carriage return at the end belongs to the line.
     fn settle(&mut self)
         ensures { (line : List ℕ) → IsKeptOf self.old line
-            → IsLineOf self.new.content.kind self.new.content.digits.items self.new.content.is_odd line }
+            → IsLineOf self.new.content.kind self.new.content.digits.items self.new.content.is_odd line × IsWordOf self.new.word line }
     {
         if self.carriage_return {
             self.content.push(b'\r');
+            self.word.push(b'\r');
         }
+    }
+}
+
+// What a line asks for of which this is kept.
+fn asked_by(content: &Content, word: &Word) -> Asked
+    ensures { (line : List ℕ) → IsLineOf content.now.kind content.now.digits.items content.now.is_odd line → IsWordOf word.now line → AsksFor result line }
+{
+    match word.asked() {
+        Some(asked) => asked,
+        None => content.asked(),
     }
 }
 

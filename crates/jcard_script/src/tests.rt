@@ -1,14 +1,30 @@
-//! Scripts on bare cards, over good and failing streams.
+//! Scripts on new cards, over good and failing streams.
+mod table;
+
 use crate::mem_text::MemText;
-use crate::script::{ScriptFault, run_script};
+use crate::script::{self, ScriptFault};
 use crate::std_text::StdText;
 use crate::streams::{ReadFailed, TextIn, TextOut, WriteFailed, write_all};
+use jc_card::formatting::format;
+use jc_words::{FuseStore, MemStore};
 use std::alloc::{AllocError, Global};
 use std::cell::Cell;
 use std::io::{self, ErrorKind, Read, Write};
 use std::test::Fail;
+use table::TABLE;
 
 const DIVIDES: &[u8] = b"8010020006118000024778\n";
+
+// Carries out a script on the card of a new image.
+fn run_script<R: TextIn, W: TextOut>(
+    alloc: Global,
+    reader: &mut R,
+    writer: &mut W,
+) -> Result<Result<(), ScriptFault>, AllocError> {
+    let (store, _) = format(MemStore::new(alloc, 4096)?, TABLE);
+    let (_, result) = script::run_script(alloc, FuseStore::new(store), reader, writer);
+    Ok(result)
+}
 
 fn carried_out(
     alloc: Global,
@@ -16,14 +32,14 @@ fn carried_out(
 ) -> Result<(Result<(), ScriptFault>, Vec<u8>), AllocError> {
     let mut reader = MemText::new(alloc, script, 0)?;
     let mut writer = MemText::new(alloc, b"", 600)?;
-    let result = run_script(&mut reader, &mut writer);
+    let result = run_script(alloc, &mut reader, &mut writer)?;
     Ok((result, Vec::from_slice(alloc, writer.written())?))
 }
 
 #[test]
 fn lines_have_their_forms(rt: HostRuntime) -> Result<(), Fail> {
     let bad = |n| Err(ScriptFault::BadLine(n));
-    let rows: [(&[u8], Result<(), ScriptFault>, &[u8]); 20] = [
+    let rows: [(&[u8], Result<(), ScriptFault>, &[u8]); 31] = [
         (b"", Ok(()), b""),
         (b"8010020006118000024778\n", Ok(()), b"80009000\n"),
         (b"8010020006118000024778", Ok(()), b"80009000\n"),
@@ -45,7 +61,22 @@ fn lines_have_their_forms(rt: HostRuntime) -> Result<(), Fail> {
         (b"\t80100000\n", bad(1), b""),
         (b"8010000\n", bad(1), b""),
         (b"801000G0\n", bad(1), b""),
-        (b"reset\n", bad(1), b""),
+        (b"reset\nreset\r\nreset", Ok(()), b"ready\nready\nready\n"),
+        (b"reset \n", bad(1), b""),
+        (b" reset\n", bad(1), b""),
+        (b"RESET\n", bad(1), b""),
+        (b"resets\n", bad(1), b""),
+        (
+            b"stop 0\nreset\n80E50000\n",
+            Ok(()),
+            b"armed 0\nready\n6D00\n",
+        ),
+        (b"stop 0065535\n", Ok(()), b"armed 65535\n"),
+        (b"stop 65536\n", bad(1), b""),
+        (b"stop 1x\n", bad(1), b""),
+        (b"stop\n", bad(1), b""),
+        (b"stop \n", bad(1), b""),
+        (b"stop  1\n", bad(1), b""),
         (b"# one\n80E50000\n\nno\n80E50000\n", bad(4), b"6D00\n"),
         (b"80E50000\n80E50000\nno", bad(3), b"6D00\n6D00\n"),
     ];
@@ -103,7 +134,11 @@ fn a_script_has_a_bound(rt: HostRuntime) -> Result<(), Fail> {
     ] {
         let mut reader = StdText::new(Feeds { left, last });
         let mut writer = MemText::new(rt.alloc(), b"", 0)?;
-        assert_eq!(rt; run_script(&mut reader, &mut writer), result, "{left}");
+        assert_eq!(rt;
+            run_script(rt.alloc(), &mut reader, &mut writer)?,
+            result,
+            "{left}"
+        );
     }
     Ok(())
 }
@@ -173,7 +208,7 @@ fn reads_fail(rt: HostRuntime) -> Result<(), Fail> {
     for fails_at in 0..38 {
         let mut file = text_that_fails(rt.alloc(), TWO, fails_at);
         let mut writer = MemText::new(rt.alloc(), b"", 600)?;
-        let result = run_script(&mut StdText::new(&mut file), &mut writer);
+        let result = run_script(rt.alloc(), &mut StdText::new(&mut file), &mut writer)?;
         let (wanted, text) = match fails_at {
             0 => (Ok(()), b"6D00\n6D00\n".as_slice()),
             1..=18 => (Err(ScriptFault::ReadFailed), b"".as_slice()),
@@ -192,7 +227,7 @@ fn writes_fail(rt: HostRuntime) -> Result<(), Fail> {
     for fails_at in 0..21 {
         let mut reader = MemText::new(rt.alloc(), TWO, 0)?;
         let mut file = text_that_fails(rt.alloc(), b"", fails_at);
-        let result = run_script(&mut reader, &mut StdText::new(&mut file));
+        let result = run_script(rt.alloc(), &mut reader, &mut StdText::new(&mut file))?;
         if fails_at == 0 {
             assert_eq!(rt; result, Ok(()));
             assert_eq!(rt; file.written.as_slice(), text);
@@ -216,7 +251,11 @@ fn room_ends(rt: HostRuntime) -> Result<(), Fail> {
     ] {
         let mut reader = MemText::new(rt.alloc(), TWO, 0)?;
         let mut writer = MemText::new(rt.alloc(), b"", room)?;
-        assert_eq!(rt; run_script(&mut reader, &mut writer), result, "{room}");
+        assert_eq!(rt;
+            run_script(rt.alloc(), &mut reader, &mut writer)?,
+            result,
+            "{room}"
+        );
         assert_eq!(rt; writer.written(), text, "{room}");
     }
     Ok(())
@@ -256,11 +295,11 @@ fn streams_that_always_fail(rt: HostRuntime) -> Result<(), Fail> {
         assert_eq!(rt; broken.write(b"abc"), Err(WriteFailed));
         let mut good = MemText::new(rt.alloc(), DIVIDES, 600)?;
         assert_eq!(rt;
-            run_script(&mut broken, &mut good),
+            run_script(rt.alloc(), &mut broken, &mut good)?,
             Err(ScriptFault::ReadFailed)
         );
         assert_eq!(rt;
-            run_script(&mut good, &mut broken),
+            run_script(rt.alloc(), &mut good, &mut broken)?,
             Err(ScriptFault::WriteFailed)
         );
     }
@@ -321,7 +360,7 @@ fn answers_are_out_before_the_next_line_is_asked(rt: HostRuntime) -> Result<(), 
     let mut writer = StdText::new(Listener {
         answered: &answered,
     });
-    assert_eq!(rt; run_script(&mut reader, &mut writer), Ok(()));
+    assert_eq!(rt; run_script(rt.alloc(), &mut reader, &mut writer)?, Ok(()));
     assert_eq!(rt; answered.get(), 3);
     Ok(())
 }

@@ -1,13 +1,18 @@
 use Rattle.std.proofs.Common.{◌≡◌, ◌+◌, ◌≤◌, ℕ, List, ◌++◌, take}
+use Rattle.std.specs.Prelude.{IsSome}
 use Rattle.std.specs.Io.KnownBytes.{Appends}
+use Rattle.jcard_script.specs.Held.{durable_in}
+use Rattle.jcard_script.specs.Script.{Standing}
 use Rattle.jcard_script.specs.Session.{StandsAt}
-use Rattle.jcard_script.proofs.script.Session.feed.Given as goal
+use Rattle.jcard_script.proofs.session.Session.feed.Given as goal
 
 abbrev pub invariant-loop-byte : goal.invariant-loop-byte
 invariant-loop-byte g l = record {
   number : l.self.number ≤ l.fn.self.number + l.byte-index;
+  held : IsSome l.self.held;
   failures : g.W.TextOut.failures l.writer ≡ g.W.TextOut.failures l.fn.writer;
-  goes : (script text : List ℕ) → StandsAt l.fn.self script text
+  goes : (script text : List ℕ) → (first : Standing) → StandsAt l.fn.self first script text
       → (more : List ℕ) × Appends (g.W.TextOut.contents l.fn.writer) (g.W.TextOut.contents l.writer) more
-      × StandsAt l.self (script ++ take l.byte-index l.piece) (text ++ more);
+      × StandsAt l.self first (script ++ take l.byte-index l.piece) (text ++ more);
+  durable : durable_in l.self.held ≡ durable_in l.fn.self.held;
 }

@@ -2,7 +2,7 @@ use Rattle.std.proofs.Common.{rules, ◌≡◌, ◌∙◌, ap, map}
 use Rattle.std.specs.Char.{to_ascii_uppercase}
 use Rattle.hex.specs.Hex.{encode_lower}
 use Rattle.jcard_script.proofs.Upper.{upper_of_lower}
-use Rattle.jcard_script.proofs.script.encode.Goals as goal
+use Rattle.jcard_script.proofs.reply.encode.Goals as goal
 
 pub returns : goal.returns
 returns c =

@@ -1,0 +1,94 @@
+//! What is written for a line.
+ghost use Rattle.std.specs.Prelude.{◌≡◌, ◌*◌, ◌++◌, length, is_err, MatchResult};
+ghost use Rattle.std.specs.Io.KnownBytes.{Appends};
+ghost use Rattle.hex.specs.Hex.{encode_upper};
+ghost use Rattle.jcard_script.specs.Failures.{failures_after};
+ghost use Rattle.jcard_script.specs.Texts.{AppendsCut};
+ghost use Rattle.jcard_script.specs.Script.{text_of, armed_text};
+ghost use Rattle.jcard_script.specs.Reply.{text_of_reply};
+
+use crate::streams::{TextOut, WriteFailed, write_all};
+use itoa::Buffer;
+use jc_card::response::Response;
+
+/// What is to be written for a line.
+#[derive(Drop)]
+pub(crate) enum Reply {
+    /// Nothing.
+    Silent,
+    /// A card's response.
+    Answer(Response),
+    /// The card is powered up.
+    Ready,
+    /// The store is down.
+    Down,
+    /// The fuse lets so many writes pass.
+    Armed(u16),
+}
+
+/// Writes a reply.
+pub(crate) fn write_reply<W: TextOut>(reply: &Reply, writer: &mut W) -> Result<(), WriteFailed>
+    ensures text { MatchResult result
+        (λ _. Appends (W.contents writer.old) (W.contents writer.new) (text_of_reply reply.now))
+        (λ _. AppendsCut (W.contents writer.old) (W.contents writer.new) (text_of_reply reply.now)) }
+    ensures count { W.failures writer.new ≡ failures_after (W.failures writer.old) (is_err result) }
+{
+    match reply {
+        Reply::Silent => Ok(()),
+        Reply::Answer(response) => write_response(response, writer),
+        Reply::Ready => write_all(writer, b"ready\n"),
+        Reply::Down => write_all(writer, b"down\n"),
+        Reply::Armed(k) => write_armed(*k, writer),
+    }
+}
+
+fn write_armed<W: TextOut>(k: u16, writer: &mut W) -> Result<(), WriteFailed>
+    ensures text { MatchResult result
+        (λ _. Appends (W.contents writer.old) (W.contents writer.new) (armed_text k))
+        (λ _. AppendsCut (W.contents writer.old) (W.contents writer.new) (armed_text k)) }
+    ensures count { W.failures writer.new ≡ failures_after (W.failures writer.old) (is_err result) }
+{
+    let mut digits = Buffer::new();
+    write_three(writer, b"armed ", digits.format(k).as_bytes(), b"\n")
+}
+
+// Writes three texts in a row.
+fn write_three<W: TextOut>(
+    writer: &mut W,
+    first: &[u8],
+    second: &[u8],
+    third: &[u8],
+) -> Result<(), WriteFailed>
+    ensures text { MatchResult result
+        (λ _. Appends (W.contents writer.old) (W.contents writer.new) (first.now ++ second.now ++ third.now))
+        (λ _. AppendsCut (W.contents writer.old) (W.contents writer.new) (first.now ++ second.now ++ third.now)) }
+    ensures count { W.failures writer.new ≡ failures_after (W.failures writer.old) (is_err result) }
+{
+    write_all(writer, first)?;
+    write_all(writer, second)?;
+    write_all(writer, third)
+}
+
+// Writes a response in hexadecimal, and a line feed.
+fn write_response<W: TextOut>(response: &Response, writer: &mut W) -> Result<(), WriteFailed>
+    ensures text { MatchResult result
+        (λ _. Appends (W.contents writer.old) (W.contents writer.new) (text_of response.now))
+        (λ _. AppendsCut (W.contents writer.old) (W.contents writer.new) (text_of response.now)) }
+    ensures count { W.failures writer.new ≡ failures_after (W.failures writer.old) (is_err result) }
+{
+    let bytes = response.as_bytes();
+    let mut text = [0u8; 517];
+    let end = 2 * bytes.len();
+    encode(bytes, &mut text[..end]);
+    text[end] = b'\n';
+    write_all(writer, &text[..end + 1])
+}
+
+// The bytes in hexadecimal, in upper case.
+fn encode(bytes: &[u8], text: &mut [u8])
+    requires { length text.old ≡ 2 * length bytes.now }
+    ensures { text.new ≡ encode_upper bytes.now }
+{
+    let _ = hex::encode_to_slice(bytes, text);
+    text.make_ascii_uppercase();
+}

@@ -1,0 +1,271 @@
+//! A script that is being carried out.
+ghost use Rattle.std.specs.Prelude.{◌≡◌, ◌+◌, ◌-◌, ◌^◌, ◌<◌, ◌≤◌, ℕ, List, [], ◌∷◌, ◌++◌, Bool, length, IsSome, IfOk, IfErr, OnOk, MatchBool, MatchResult};
+ghost use Rattle.std.specs.Bool.{OnTrue};
+ghost use Rattle.std.specs.Io.KnownBytes.{Appends, Consumes};
+ghost use Rattle.std.specs.Str.Lines.{lines};
+ghost use Rattle.jcard_script.specs.Failures.{failures_after};
+ghost use Rattle.jcard_script.specs.Held.{standing_in, durable_in, durable_words};
+ghost use Rattle.jcard_script.specs.Line.{AsksFor};
+ghost use Rattle.jcard_script.specs.Reply.{text_of_reply};
+ghost use Rattle.jcard_script.specs.Script.{EndsFrom, IsAnswered, IsOther, IsPoweredUp, IsWholeScript, IsWrittenFor, Standing, armed_text, down_text, form_of, ready_text, is_read_failed, is_write_failed, ended_lines};
+ghost use Rattle.jcard_script.specs.Session.{StandsAt, LineEnds, LineFails, LinesEnd};
+
+use crate::held::Held;
+use crate::line::{Asked, Line};
+use crate::reply::{Reply, write_reply};
+use crate::script::{BOUND, ScriptFault};
+use crate::streams::{TextIn, TextOut, WriteFailed};
+use jc_card::power_up::PowerFault;
+use jc_words::{FuseStore, WordStore};
+use std::alloc::Global;
+
+/// A script that is being carried out.
+#[derive(Drop)]
+pub(crate) struct Session<S: WordStore> {
+    alloc: Global,
+    // Nothing only while a reset is carried out.
+    held: Option<Held<S>>,
+    line: Line,
+    number: u32,
+}
+
+impl<S: WordStore + Drop> Session<S> {
+    /// Before the first line: brings the power back and powers up.
+    pub(crate) fn start(alloc: Global, fuse: FuseStore<S>) -> (Session<S>, Result<(), PowerFault>)
+        ensures held { IsSome result.0.held }
+        ensures stands { StandsAt result.0 (standing_in result.0.held) [] [] }
+        ensures powered { OnOk result.1 (IsPoweredUp fuse.refused (standing_in result.0.held)) }
+        ensures fault { IfErr result.1 (λ fault. IsOther fault) }
+        ensures durable { durable_in result.0.held ≡ durable_words fuse.words }
+    {
+        let (held, started) = Held::power_up(alloc, fuse);
+        let session = Session {
+            alloc,
+            held: Some(held),
+            line: Line::empty(),
+            number: 0,
+        };
+        (session, started)
+    }
+
+    /// The store.
+    pub(crate) fn into_store(self) -> FuseStore<S>
+        requires { IsSome self.held }
+        ensures refused { result.refused ≡ (standing_in self.held).refused }
+        ensures durable { durable_words result.words ≡ durable_in self.held }
+    {
+        let Session {
+            alloc: _,
+            held,
+            line: _,
+            number: _,
+        } = self;
+        held.unwrap().into_store()
+    }
+
+    /// Carries out the lines of a script.
+    pub(crate) fn run<R: TextIn, W: TextOut>(
+        &mut self,
+        reader: &mut R,
+        writer: &mut W,
+    ) -> Result<(), ScriptFault>
+        requires held { IsSome self.old.held }
+        requires stands { StandsAt self.old (standing_in self.old.held) [] [] }
+        ensures held { IsSome self.new.held }
+        ensures script { (script text : List ℕ) × (at_end : Bool)
+            × Consumes (R.remaining reader.old) (R.remaining reader.new) script
+            × Appends (W.contents writer.old) (W.contents writer.new) text
+            × OnTrue at_end (IsWholeScript (R.remaining reader.new) script)
+            × EndsFrom result at_end script (standing_in self.old.held) (standing_in self.new.held) text }
+        ensures reads { R.failures reader.new ≡ failures_after (R.failures reader.old) (is_read_failed result) }
+        ensures writes { W.failures writer.new ≡ failures_after (W.failures writer.old) (is_write_failed result) }
+        ensures durable { durable_in self.new.held ≡ durable_in self.old.held }
+    {
+        let mut piece = [0u8; 4096];
+        let mut left = BOUND;
+        loop {
+            let Ok(count) = reader.read(&mut piece) else {
+                return Err(ScriptFault::ReadFailed);
+            };
+            if count == 0 {
+                return self.finish(writer);
+            }
+            if count > left {
+                self.feed(&piece[..left], writer)?;
+                return Err(ScriptFault::TooLong);
+            }
+            self.feed(&piece[..count], writer)?;
+            left -= count;
+        }
+    }
+
+    // The next bytes of the script.
+    fn feed<W: TextOut>(&mut self, piece: &[u8], writer: &mut W) -> Result<(), ScriptFault>
+        requires number { self.old.number + length piece.now < 2 ^ 32 }
+        requires held { IsSome self.old.held }
+        ensures held { IsSome self.new.held }
+        ensures goes { (script text : List ℕ) → (first : Standing) → StandsAt self.old first script text
+            → (more : List ℕ) × Appends (W.contents writer.old) (W.contents writer.new) more
+            × OnOk result (StandsAt self.new first (script ++ piece.now) (text ++ more))
+            × LinesEnd result (ended_lines (script ++ piece.now)) first (standing_in self.new.held) (text ++ more) }
+        ensures writes { W.failures writer.new ≡ failures_after (W.failures writer.old) (is_write_failed result) }
+        ensures durable { durable_in self.new.held ≡ durable_in self.old.held }
+    {
+        for byte in piece {
+            self.push(*byte, writer)?;
+        }
+        Ok(())
+    }
+
+    // The next byte.
+    fn push<W: TextOut>(&mut self, byte: u8, writer: &mut W) -> Result<(), ScriptFault>
+        requires number { self.old.number < 2 ^ 32 - 1 }
+        requires held { IsSome self.old.held }
+        ensures held { IsSome self.new.held }
+        ensures number { OnOk result (self.new.number ≤ self.old.number + 1) }
+        ensures goes { (script text : List ℕ) → (first : Standing) → StandsAt self.old first script text
+            → (more : List ℕ) × Appends (W.contents writer.old) (W.contents writer.new) more
+            × OnOk result (StandsAt self.new first (script ++ byte ∷ []) (text ++ more))
+            × LinesEnd result (ended_lines (script ++ byte ∷ [])) first (standing_in self.new.held) (text ++ more) }
+        ensures writes { W.failures writer.new ≡ failures_after (W.failures writer.old) (is_write_failed result) }
+        ensures durable { durable_in self.new.held ≡ durable_in self.old.held }
+    {
+        if byte == b'\n' {
+            return self.end_line(writer);
+        }
+        self.line.push(byte);
+        Ok(())
+    }
+
+    // A line feed.
+    fn end_line<W: TextOut>(&mut self, writer: &mut W) -> Result<(), ScriptFault>
+        requires number { self.old.number < 2 ^ 32 - 1 }
+        requires held { IsSome self.old.held }
+        ensures held { IsSome self.new.held }
+        ensures number { OnOk result (self.new.number ≡ self.old.number + 1) }
+        ensures goes { (script text : List ℕ) → (first : Standing) → StandsAt self.old first script text
+            → (more : List ℕ) × Appends (W.contents writer.old) (W.contents writer.new) more
+            × OnOk result (StandsAt self.new first (script ++ 10 ∷ []) (text ++ more))
+            × LinesEnd result (ended_lines (script ++ 10 ∷ [])) first (standing_in self.new.held) (text ++ more) }
+        ensures writes { W.failures writer.new ≡ failures_after (W.failures writer.old) (is_write_failed result) }
+        ensures durable { durable_in self.new.held ≡ durable_in self.old.held }
+    {
+        let asked = self.line.ended();
+        self.number += 1;
+        let result = self.carry_out(asked, writer);
+        self.line.clear();
+        result
+    }
+
+    // The end of the script.
+    fn finish<W: TextOut>(&mut self, writer: &mut W) -> Result<(), ScriptFault>
+        requires number { self.old.number < 2 ^ 32 - 1 }
+        requires held { IsSome self.old.held }
+        ensures held { IsSome self.new.held }
+        ensures goes { (script text : List ℕ) → (first : Standing) → StandsAt self.old first script text
+            → (more : List ℕ) × Appends (W.contents writer.old) (W.contents writer.new) more
+            × LinesEnd result (lines script) first (standing_in self.new.held) (text ++ more) }
+        ensures writes { W.failures writer.new ≡ failures_after (W.failures writer.old) (is_write_failed result) }
+        ensures durable { durable_in self.new.held ≡ durable_in self.old.held }
+    {
+        let asked = self.line.last();
+        self.number += 1;
+        self.carry_out(asked, writer)
+    }
+
+    // Carries out the line with the session's number.
+    fn carry_out<W: TextOut>(&mut self, asked: Asked, writer: &mut W) -> Result<(), ScriptFault>
+        requires held { IsSome self.old.held }
+        ensures held { IsSome self.new.held }
+        ensures number { self.new.number ≡ self.old.number }
+        ensures goes { (line : List ℕ) → AsksFor asked line
+            → (more : List ℕ) × Appends (W.contents writer.old) (W.contents writer.new) more
+            × LineEnds result self.old.number (form_of line) (standing_in self.old.held) (standing_in self.new.held) more }
+        ensures writes { W.failures writer.new ≡ failures_after (W.failures writer.old) (is_write_failed result) }
+        ensures durable { durable_in self.new.held ≡ durable_in self.old.held }
+    {
+        match self.reply(asked) {
+            Ok(reply) => match write_reply(&reply, writer) {
+                Ok(()) => Ok(()),
+                Err(WriteFailed) => Err(ScriptFault::WriteFailed),
+            },
+            Err(fault) => Err(fault),
+        }
+    }
+
+    // What is to be written for the line with the session's number.
+    fn reply(&mut self, asked: Asked) -> Result<Reply, ScriptFault>
+        requires held { IsSome self.old.held }
+        ensures held { IsSome self.new.held }
+        ensures number { self.new.number ≡ self.old.number }
+        ensures goes { (line : List ℕ) → AsksFor asked line → MatchResult result
+            (λ reply. IsWrittenFor (form_of line) (standing_in self.old.held) (standing_in self.new.held) (text_of_reply reply))
+            (λ fault. LineFails fault self.old.number (form_of line) (standing_in self.old.held) (standing_in self.new.held)) }
+        ensures durable { durable_in self.new.held ≡ durable_in self.old.held }
+    {
+        match asked {
+            Asked::Nothing => Ok(Reply::Silent),
+            Asked::Refused => Err(ScriptFault::BadLine(self.number)),
+            Asked::Exchange(command) => Ok(self.exchange(command.as_slice())),
+            Asked::Reset => match self.reset() {
+                Ok(reply) => Ok(reply),
+                Err(fault) => Err(ScriptFault::PowerFault(fault)),
+            },
+            Asked::Stop(k) => Ok(self.stop(k)),
+        }
+    }
+
+    // A command.
+    fn exchange(&mut self, command: &[u8]) -> Reply
+        requires held { IsSome self.old.held }
+        ensures held { IsSome self.new.held }
+        ensures number { self.new.number ≡ self.old.number }
+        ensures answer { IsAnswered (standing_in self.old.held).up command.now (text_of_reply result) }
+        ensures standing { standing_in self.new.held ≡ standing_in self.old.held }
+        ensures durable { durable_in self.new.held ≡ durable_in self.old.held }
+    {
+        let Some(held) = &mut self.held else {
+            return Reply::Down;
+        };
+        match held.exchange(command) {
+            Some(response) => Reply::Answer(response),
+            None => Reply::Down,
+        }
+    }
+
+    // A reset.
+    fn reset(&mut self) -> Result<Reply, PowerFault>
+        requires held { IsSome self.old.held }
+        ensures held { IsSome self.new.held }
+        ensures number { self.new.number ≡ self.old.number }
+        ensures ready { IfOk result (λ reply. IsPoweredUp (standing_in self.old.held).refused (standing_in self.new.held)
+            × MatchBool (standing_in self.new.held).up (text_of_reply reply ≡ ready_text) (text_of_reply reply ≡ down_text)) }
+        ensures fault { IfErr result (λ fault. IsOther fault) }
+        ensures durable { durable_in self.new.held ≡ durable_in self.old.held }
+    {
+        let store = self.held.take().unwrap().into_store();
+        let (held, result) = Held::power_up(self.alloc, store);
+        let is_up = held.is_up();
+        self.held = Some(held);
+        result?;
+        if is_up {
+            return Ok(Reply::Ready);
+        }
+        Ok(Reply::Down)
+    }
+
+    // Arms the fuse.
+    fn stop(&mut self, k: u16) -> Reply
+        requires held { IsSome self.old.held }
+        ensures held { IsSome self.new.held }
+        ensures number { self.new.number ≡ self.old.number }
+        ensures armed { text_of_reply result ≡ armed_text k }
+        ensures standing { standing_in self.new.held ≡ standing_in self.old.held }
+        ensures durable { durable_in self.new.held ≡ durable_in self.old.held }
+    {
+        if let Some(held) = &mut self.held {
+            held.arm(u64::from(k));
+        }
+        Reply::Armed(k)
+    }
+}

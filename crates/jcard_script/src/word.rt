@@ -1,0 +1,88 @@
+//! The words that a line may be: `reset`, and `stop` with a number.
+ghost use Rattle.std.specs.Prelude.{◌≡◌, ◌++◌, ◌∷◌, ℕ, List, [], MatchOption};
+ghost use Rattle.jcard_script.specs.Script.{form_of, plain_form_of};
+ghost use Rattle.jcard_script.specs.Line.{AsksFor};
+ghost use Rattle.jcard_script.specs.Word.{IsWordOf, next_number};
+
+use crate::line::Asked;
+use arrayvec::ArrayVec;
+
+/// How many bytes of a line are kept for its words: one more than stand before the number.
+const HEAD: usize = 6;
+
+/// What is kept of a line for its words.
+#[derive(Drop)]
+pub(crate) struct Word {
+    // The first six bytes.
+    head: ArrayVec<u8, 6>,
+    // The number that the bytes behind the first five are, while they are a decimal one.
+    number: Option<u16>,
+}
+
+impl Word {
+    pub(crate) fn empty() -> Self
+        ensures { IsWordOf result [] }
+    {
+        Word {
+            head: ArrayVec::new(),
+            number: Some(0),
+        }
+    }
+
+    pub(crate) fn clear(&mut self)
+        ensures { IsWordOf self.new [] }
+    {
+        self.head.clear();
+        self.number = Some(0);
+    }
+
+    /// One more byte.
+    pub(crate) fn push(&mut self, byte: u8)
+        ensures { (line : List ℕ) → IsWordOf self.old line → IsWordOf self.new (line ++ byte ∷ []) }
+    {
+        let count = self.head.len();
+        let _ = self.head.try_push(byte);
+        if count + 1 < HEAD {
+            return;
+        }
+        self.number = with_digit(self.number, byte);
+    }
+
+    /// What a line asks for that is a word, or seems to begin one.
+    pub(crate) fn asked(&self) -> Option<Asked>
+        ensures { (line : List ℕ) → IsWordOf self.now line
+            → MatchOption result (form_of line ≡ plain_form_of line) (λ asked. AsksFor asked line) }
+    {
+        let head = self.head.as_slice();
+        if head == b"reset".as_slice() {
+            return Some(Asked::Reset);
+        }
+        if !head.starts_with(b"stop ") {
+            return None;
+        }
+        if head.len() < HEAD {
+            return Some(Asked::Refused);
+        }
+        match self.number {
+            Some(k) => Some(Asked::Stop(k)),
+            None => Some(Asked::Refused),
+        }
+    }
+}
+
+// A number with one more digit.
+fn with_digit(number: Option<u16>, byte: u8) -> Option<u16>
+    ensures { result ≡ next_number number byte }
+{
+    let Some(number) = number else {
+        return None;
+    };
+    if !byte.is_ascii_digit() {
+        return None;
+    }
+    let next = 10 * u32::from(number) + u32::from(byte - b'0');
+    if next > 65_535 {
+        return None;
+    }
+    Some(next as u16)
+}
