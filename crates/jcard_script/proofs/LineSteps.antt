@@ -44,7 +44,7 @@ odd_more : (n : ℕ) → ((n + 1) % 2 == 1) ≡ not (n % 2 == 1)
 odd_more n = grind arith
 
 -- at most m are kept
-take_step : (m : ℕ) (digits next s : List ℕ) (b : ℕ) → digits ≡ take m s → (length digits < m → next ≡ digits ++ b ∷ []) → (m ≤ length digits → next ≡ digits)
+pub take_step : (m : ℕ) (digits next s : List ℕ) (b : ℕ) → digits ≡ take m s → (length digits < m → next ≡ digits ++ b ∷ []) → (m ≤ length digits → next ≡ digits)
     → next ≡ take m (s ++ b ∷ [])
 take_step m digits next s b h room full =
     elim (cases_lt (length s) m) [

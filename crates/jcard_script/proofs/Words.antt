@@ -8,7 +8,7 @@ use Rattle.std.specs.List.{starts_with}
 use Rattle.std.proofs.lemmas.Bool.Decides.{nat_tests}
 use Rattle.std.proofs.lemmas.Grind.{common_steps}
 use Rattle.std.proofs.lemmas.Int.Digits.{digits_value_push}
-use Rattle.jcard_script.specs.Script.{Form, Resets, Stops, Bad, form_of, plain_form_of, stop_of}
+use Rattle.jcard_script.specs.Script.{Form, Command, Resets, Stops, Bad, form_of, plain_form_of, stop_of, is_number}
 use Rattle.jcard_script.specs.Word.{number_so_far, next_number}
 
 -- ---- the number
@@ -107,3 +107,14 @@ drop_short line b h = grind (arith, common_steps)
 
 pub drop_long : (line : List ℕ) (b : ℕ) → 6 ≤ length (take 6 line) + 1 → drop 5 (line ++ b ∷ []) ≡ drop 5 line ++ b ∷ []
 drop_long line b h = grind (arith, common_steps)
+
+-- ---- a command is no word
+
+plain_left : (a b n : Bool) (k : ℕ) (f : Form) (bytes : List ℕ) → (if a then Resets else (if b then (if n then Stops k else Bad) else f)) ≡ Command bytes → f ≡ Command bytes
+plain_left true b n k f bytes h = cc h
+plain_left false true true k f bytes h = cc h
+plain_left false true false k f bytes h = cc h
+plain_left false false n k f bytes h = h
+
+pub form_command : (line bytes : List ℕ) → form_of line ≡ Command bytes → plain_form_of line ≡ Command bytes
+form_command line bytes h = plain_left (bytes_eq line (codes "reset")) (starts_with nat_eq line (codes "stop ")) (is_number (drop 5 line)) (digits_value 10 (drop 5 line)) (plain_form_of line) bytes h

@@ -1,5 +1,5 @@
 //! A script that is being carried out.
-ghost use Rattle.std.specs.Prelude.{◌≡◌, ◌+◌, ◌-◌, ◌^◌, ◌<◌, ◌≤◌, ℕ, List, [], ◌∷◌, ◌++◌, Bool, length, IsSome, IfOk, IfErr, OnOk, MatchBool, MatchResult};
+ghost use Rattle.std.specs.Prelude.{◌≡◌, ◌+◌, ◌-◌, ◌^◌, ◌<◌, ◌≤◌, ℕ, List, [], ◌∷◌, ◌++◌, Bool, length, IsSome, IfOk, IfErr, OnOk, MatchBool, MatchResult, Err, false};
 ghost use Rattle.std.specs.Bool.{OnTrue};
 ghost use Rattle.std.specs.Io.KnownBytes.{Appends, Consumes};
 ghost use Rattle.std.specs.Str.Lines.{lines};
@@ -201,6 +201,7 @@ impl<S: WordStore + Drop> Session<S> {
         ensures goes { (line : List ℕ) → AsksFor asked line → MatchResult result
             (λ reply. IsWrittenFor (form_of line) (standing_in self.old.held) (standing_in self.new.held) (text_of_reply reply))
             (λ fault. LineFails fault self.old.number (form_of line) (standing_in self.old.held) (standing_in self.new.held)) }
+        ensures unwritten { IfErr result (λ fault. is_write_failed (Err fault) ≡ false) }
         ensures durable { durable_in self.new.held ≡ durable_in self.old.held }
     {
         match asked {

@@ -1,6 +1,7 @@
-use Rattle.std.proofs.Common.{arith, ◌++◌, take, refl}
+use Rattle.std.proofs.Common.{arith, ◌++◌, [], take, refl, sym, subst, append-nil}
+use Rattle.jcard_script.specs.Session.{StandsAt}
 use Rattle.std.proofs.lemmas.Result.{err_from_is_err_and}
-use Rattle.jcard_script.proofs.Known.{appends_then_appends}
+use Rattle.jcard_script.proofs.Known.{appends_same, appends_then_appends}
 use Rattle.jcard_script.proofs.Ending.{fault_inside}
 use Rattle.jcard_script.proofs.session.Session.feed.Goals as goal
 
@@ -15,3 +16,13 @@ returns-in_err-push-clause-goes g c =
       tt,
       fault_inside c.in_err-push.field-0.0 script text c.args.piece.now now.0 next.0 c.loop-byte.byte-index _ first _ (omega arith) refl next.3,
     ))
+
+pub loop-byte-init : goal.loop-byte-init
+loop-byte-init g c = record {
+  number = omega arith;
+  held = c.requires.held;
+  failures = refl;
+  goes = λ script text first h.
+      ([], appends_same _, subst (λ l. StandsAt c.args.self.now first l (text ++ [])) (sym (append-nil script)) (subst (λ t. StandsAt c.args.self.now first script t) (sym (append-nil text)) h));
+  durable = refl;
+}

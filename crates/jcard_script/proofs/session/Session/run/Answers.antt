@@ -90,7 +90,7 @@ returns-in_err-feed-2-clause-script g c =
     let piece = take c.in-Ok.count c.read.new.buffer in
     let fits : length (s.0 ++ piece) ≤ 16777216 = omega (arith, s.5, length-append s.0 piece, length-take c.in-Ok.count c.read.new.buffer) in
     let inside = take_all 16777216 (s.0 ++ piece) fits in
-    let lines = subst (λ l. LinesEnd (Err c.in_err-feed-2.field-0.0) (ended_lines l) (standing_in c.args.self.now.held) (standing_in c.feed-2.new.self.held) (s.1 ++ went.0)) (sym inside) went.3 in
+    let lines = subst (λ l. LinesEnd (Err c.in_err-feed-2.field-0.0) (ended_lines l) (standing_in c.args.self.now.held) (standing_in c.feed-in-loop-count.new.self.held) (s.1 ++ went.0)) (sym inside) went.3 in
     rw (p.1, p.2) (
       s.0 ++ piece,
       s.1 ++ went.0,
