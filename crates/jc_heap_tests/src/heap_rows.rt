@@ -228,14 +228,15 @@ fn four_shorts(heap: &Heap<Store>) -> Result<[u16; 4], Fail>
     Ok(found)
 }
 
-// Sets the four cells in turn, 256 times together, to 1, 2 and so on.
-fn fill_transaction(heap: &mut Heap<Store>) -> Result<(), Fail>
+// Sets the four cells in turn, n times together, to 1, 2 and so on.
+fn fill_transaction(heap: &mut Heap<Store>, n: u16) -> Result<(), Fail>
+    requires few { n ≤ 256 }
     requires up { heap.old.down ≡ false }
     requires inside { heap.old.begun ≡ true }
     ensures up { OnOk result (heap.new.down ≡ false) }
     ensures inside { OnOk result (heap.new.begun ≡ true) }
 {
-    for k in 0..256u16 {
+    for k in 0..n {
         if set_short(heap, k % 4, k + 1)?.is_some() {
             return Err("refused")?;
         }
@@ -249,7 +250,7 @@ fn a_transaction_has_room_for_256_entries(rt: HostRuntime) -> Result<(), Fail> {
     heap.new_persistent(Kind::ShortArray, 0, 0, 4)?;
     heap.begin();
     assert_eq!(rt; heap.room(), 256);
-    fill_transaction(&mut heap)?;
+    fill_transaction(&mut heap, 256)?;
     assert_eq!(rt; heap.room(), 0);
     assert_eq!(rt;
         set_short(&mut heap, 0, 999)?,
@@ -260,5 +261,20 @@ fn a_transaction_has_room_for_256_entries(rt: HostRuntime) -> Result<(), Fail> {
     heap.abort()?;
     assert_eq!(rt; four_shorts(&heap)?, [0, 0, 0, 0]);
     assert_eq!(rt; (heap.room(), heap.is_open()), (256, false));
+    Ok(())
+}
+
+// A new object moves the top, and a transient one the end of its area too.
+#[test]
+fn a_new_object_takes_one_entry_or_two(rt: HostRuntime) -> Result<(), Fail> {
+    let mut heap = opened(blank_store(rt.alloc())?)?;
+    heap.new_persistent(Kind::ShortArray, 0, 0, 4)?;
+    heap.begin();
+    fill_transaction(&mut heap, 255)?;
+    let refusal = Some(HeapRefusal::CommitFull);
+    assert_eq!(rt; make_transient(&mut heap, ClearEvent::Reset, 1)?, refusal);
+    assert_eq!(rt; make_shorts(&mut heap, 1)?, None);
+    assert_eq!(rt; make_shorts(&mut heap, 1)?, refusal);
+    assert_eq!(rt; (heap.room(), heap.top()), (0, 765));
     Ok(())
 }
