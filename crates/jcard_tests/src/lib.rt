@@ -16,3 +16,4 @@ mod running;
 mod scripts;
 #[cfg(test)]
 mod stack_order;
+mod table;
