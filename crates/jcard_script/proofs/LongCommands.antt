@@ -9,6 +9,7 @@ use Rattle.hex.specs.Hex.{IsBytes}
 use Rattle.jc_card.specs.Apdu.{apdu_of, data_of}
 use Rattle.jc_card.specs.StatusWord.{status_bytes, wrong_length}
 use Rattle.jc_card.specs.Answers.{Answers, AnswersApdu}
+use Rattle.jcard_script.specs.Script.{IsAnswered}
 
 -- a command of more than 261 bytes has no data
 data_none : (c : List ℕ) → 261 < length c → slice_index c 4 < 256 → data_of c ≡ None
@@ -46,3 +47,8 @@ answers_whole whole given answer bytes e h =
 
     first_four : (whole : List ℕ) → slice_index (take 262 whole) 4 ≡ slice_index whole 4
     first_four whole = grind (arith, common_steps)
+
+-- nor does it matter while the session is down
+pub answered_whole : (up : Bool) (whole given text : List ℕ) → IsBytes whole → given ≡ take 262 whole → IsAnswered up given text → IsAnswered up whole text
+answered_whole true whole given text bytes e h = (h.0, answers_whole whole given h.0 bytes e h.1, h.2)
+answered_whole false whole given text bytes e h = h

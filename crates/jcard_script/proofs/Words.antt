@@ -8,7 +8,9 @@ use Rattle.std.specs.List.{starts_with}
 use Rattle.std.proofs.lemmas.Bool.Decides.{nat_tests}
 use Rattle.std.proofs.lemmas.Grind.{common_steps}
 use Rattle.std.proofs.lemmas.Int.Digits.{digits_value_push}
-use Rattle.jcard_script.specs.Script.{Form, Resets, Stops, Bad, form_of, plain_form_of, stop_of}
+use Rattle.hex.specs.Hex.{IsBytes}
+use Rattle.jcard_script.proofs.Decoding.{command_bytes}
+use Rattle.jcard_script.specs.Script.{Form, Command, is_number, Resets, Stops, Bad, form_of, plain_form_of, stop_of}
 use Rattle.jcard_script.specs.Word.{number_so_far, next_number}
 
 -- ---- the number
@@ -107,3 +109,19 @@ drop_short line b h = grind (arith, common_steps)
 
 pub drop_long : (line : List ℕ) (b : ℕ) → 6 ≤ length (take 6 line) + 1 → drop 5 (line ++ b ∷ []) ≡ drop 5 line ++ b ∷ []
 drop_long line b h = grind (arith, common_steps)
+
+-- ---- a command's bytes are bytes
+
+no_command : (t : Bool) (v : ℕ) (bytes : List ℕ) → (if t then Stops v else Bad) ≡ Command bytes → ⊥
+no_command true v bytes h = cc h
+no_command false v bytes h = cc h
+
+plain_command : (a b : Bool) (stop plain : Form) (bytes : List ℕ) → (stop ≡ Command bytes → ⊥) → (if a then Resets else (if b then stop else plain)) ≡ Command bytes → plain ≡ Command bytes
+plain_command true b stop plain bytes f h = cc h
+plain_command false true stop plain bytes f h = absurd (f h)
+plain_command false false stop plain bytes f h = h
+
+pub form_bytes : (line bytes : List ℕ) → form_of line ≡ Command bytes → IsBytes bytes
+form_bytes line bytes h =
+    command_bytes line bytes (plain_command (bytes_eq line (codes "reset")) (starts_with nat_eq line (codes "stop ")) (stop_of (drop 5 line)) (plain_form_of line) bytes
+    (λ k. no_command (is_number (drop 5 line)) (digits_value 10 (drop 5 line)) bytes k) h)
