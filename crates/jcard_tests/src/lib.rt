@@ -15,5 +15,7 @@ mod running;
 #[cfg(test)]
 mod scripts;
 #[cfg(test)]
+mod table;
+#[cfg(test)]
 mod stack_order;
 mod table;

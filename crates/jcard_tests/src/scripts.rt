@@ -1,12 +1,16 @@
 //! Worked scripts, each with what it prints.
+use crate::table::TABLE;
+use jc_card::formatting::format;
+use jc_words::{FuseStore, MemStore, WordStore};
 use jcard_script::mem_text::MemText;
 use jcard_script::script::run_script;
+use std::alloc::{AllocError, Global};
 use std::test::Fail;
 
 /// A line of a script and the line that is printed for it.
 type Row = (&'static str, &'static str);
 
-const ROWS: [Row; 19] = [
+const ROWS: [Row; 22] = [
     // -32768 / -1
     ("8010020006118000024778", "80009000"),
     // sushr of -1 by 17, and by 1
@@ -38,6 +42,10 @@ const ROWS: [Row; 19] = [
     // a loop that returns by its 100,000th instruction, and one with an instruction more
     ("801001010F1182332F0000005900FF1C61FC1C78", "00009000"),
     ("80100101101182332F000000005900FF1C61FC1C78", "6F00"),
+    // a power up of a closed image writes nothing
+    ("reset", "ready"),
+    ("stop 0", "armed 0"),
+    ("reset", "ready"),
 ];
 
 #[test]
@@ -52,7 +60,40 @@ fn scripts_print_their_answers(rt: HostRuntime) -> Result<(), Fail> {
     }
     let mut reader = MemText::new(rt.alloc(), &script, 0)?;
     let mut writer = MemText::new(rt.alloc(), &[], text.len())?;
-    assert_eq!(rt; run_script(&mut reader, &mut writer), Ok(()));
+    let (store, _) = format(MemStore::new(rt.alloc(), 4096)?, TABLE);
+    let (_, result) = run_script(
+        rt.alloc(),
+        FuseStore::new(store),
+        &mut reader,
+        &mut writer,
+    );
+    assert_eq!(rt; result, Ok(()));
     assert_eq!(rt; writer.written(), text.as_slice());
+    Ok(())
+}
+
+// A new image of which one word's change is not ended: entry 0 keeps the old value of the last word.
+fn interrupted(alloc: Global) -> Result<FuseStore<MemStore>, AllocError> {
+    let (mut store, _) = format(MemStore::new(alloc, 4096)?, TABLE);
+    if store.size() == 4096 {
+        let _ = store.write(16, 4095);
+        let _ = store.write(17, 0);
+        let _ = store.write(4095, 1);
+        let _ = store.write(3, 1);
+    }
+    Ok(FuseStore::new(store))
+}
+
+#[test]
+fn a_recovery_is_cut_and_repeated(rt: HostRuntime) -> Result<(), Fail> {
+    let script = b"80E50000\nstop 1\nreset\n80E50000\nreset\n80E50000\n";
+    let mut reader = MemText::new(rt.alloc(), script, 0)?;
+    let mut writer = MemText::new(rt.alloc(), &[], 100)?;
+    let mut fuse = interrupted(rt.alloc())?;
+    // The first write of the first power up is refused.
+    fuse.arm(0);
+    let (_, result) = run_script(rt.alloc(), fuse, &mut reader, &mut writer);
+    assert_eq!(rt; result, Ok(()));
+    assert_eq!(rt; writer.written(), b"down\narmed 1\ndown\ndown\nready\n6D00\n".as_slice());
     Ok(())
 }

@@ -1,7 +1,7 @@
 //! The platform table of the examples.
 
 /// `examples/platform.table`.
-pub(crate) const TABLE: &[u8] = b"package A0000000620001 1 0\n\
+pub const TABLE: &[u8] = b"package A0000000620001 1 0\n\
 class 0 Object\n\
 static 0 <init>\n\
 virtual 0 equals\n\
