@@ -15,7 +15,6 @@ mod running;
 #[cfg(test)]
 mod scripts;
 #[cfg(test)]
-mod table;
-#[cfg(test)]
 mod stack_order;
+#[cfg(test)]
 mod table;

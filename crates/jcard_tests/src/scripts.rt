@@ -61,12 +61,7 @@ fn scripts_print_their_answers(rt: HostRuntime) -> Result<(), Fail> {
     let mut reader = MemText::new(rt.alloc(), &script, 0)?;
     let mut writer = MemText::new(rt.alloc(), &[], text.len())?;
     let (store, _) = format(MemStore::new(rt.alloc(), 4096)?, TABLE);
-    let (_, result) = run_script(
-        rt.alloc(),
-        FuseStore::new(store),
-        &mut reader,
-        &mut writer,
-    );
+    let (_, result) = run_script(rt.alloc(), FuseStore::new(store), &mut reader, &mut writer);
     assert_eq!(rt; result, Ok(()));
     assert_eq!(rt; writer.written(), text.as_slice());
     Ok(())
@@ -94,6 +89,9 @@ fn a_recovery_is_cut_and_repeated(rt: HostRuntime) -> Result<(), Fail> {
     fuse.arm(0);
     let (_, result) = run_script(rt.alloc(), fuse, &mut reader, &mut writer);
     assert_eq!(rt; result, Ok(()));
-    assert_eq!(rt; writer.written(), b"down\narmed 1\ndown\ndown\nready\n6D00\n".as_slice());
+    assert_eq!(rt;
+        writer.written(),
+        b"down\narmed 1\ndown\ndown\nready\n6D00\n".as_slice()
+    );
     Ok(())
 }
