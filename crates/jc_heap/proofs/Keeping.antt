@@ -1,6 +1,6 @@
 -- What keeps a heap whole.
-use Rattle.std.proofs.Common.{◌≡◌, ℕ, suc, ◌+◌, ◌<◌, ◌≤◌, true, false, inl, inr, List, [], ◌∷◌, ◌++◌, length, get_or, set, refl, sym, ◌∙◌, ap, subst, arith, if◌then◌else◌}
-use Rattle.std.proofs.lemmas.List.{get_or-replicate, length-replicate, get_or-set_same, get_or-set_other}
+use Rattle.std.proofs.Common.{◌≡◌, ℕ, suc, ◌+◌, ◌<◌, ◌≤◌, true, false, inl, inr, List, [], ◌∷◌, ◌++◌, ◌==◌, None, Some, length, get_or, set, refl, sym, ◌∙◌, ap, subst, arith, if◌then◌else◌}
+use Rattle.std.proofs.lemmas.List.{get_or-set_same, get_or-set_other}
 use Rattle.std.proofs.lemmas.Bool.{cases_eq, cases_Bool, eq-eqb, ne_eqb, false≢true}
 use Rattle.jc_transient.specs.declared.cell.ClearEvent.{ClearEvent}
 use Rattle.jc_transient.specs.declared.cell.ClearEvent.TheVariants.{Reset, Deselect}
@@ -8,10 +8,9 @@ use Rattle.jc_transient.specs.State.{area_size}
 use Rattle.jc_heap.specs.declared.object.Kind.{Kind}
 use Rattle.jc_heap.specs.declared.object.Kind.TheVariants.{ReferenceArray}
 use Rattle.jc_heap.specs.Table.{at_or, put}
-use Rattle.jc_heap.specs.Object.{Object, Item, AnObject, APackage, facts_of, cells_of, is_object, with_cell, bare, new_object, new_transient}
+use Rattle.jc_heap.specs.Object.{Object, Item, AnObject, APackage, facts_of, cells_of, is_object, with_cell, bare, new_transient, event_number}
 use Rattle.jc_heap.specs.Heap.{HeapState, item_at, names, cells, facts, area_end, with_area_end, set_cell, set_cells, add_object, add_transient, LacksCells}
 use Rattle.jc_heap.specs.Whole.{lies_in, cells_in, FitsAt, IsFilled, IsReference, HoldsReferences, AreMet, AreDistinct, IsWhole}
-use Rattle.jc_heap.specs.Keeping.{KeepsWhole}
 use Rattle.jc_heap.proofs.Laws.{item_at-add_object, item_at-add_other, names-add_other, names-set_cell, item_at-set_cell, cells-with_cell, set_cell-absent, facts-set_cell, length-cells-set_cell, cells-set_other, bare-set_cell}
 use Rattle.jc_heap.proofs.Filling.{Run, filled_of, run_of}
 use Rattle.jc_heap.proofs.Referring.{object_named}
@@ -52,7 +51,7 @@ empty_whole h e counts packages ends =
     }
 
 -- another item behind the others
-run_push : (event : ClearEvent) (place : ℕ) (es : List (ℕ × Item)) (end r : ℕ) (t : Item) → Run event place es end → FitsAt event end t → Run event place (es ++ (r, t) ∷ []) (end + cells_in event t)
+pub run_push : (event : ClearEvent) (place : ℕ) (es : List (ℕ × Item)) (end r : ℕ) (t : Item) → Run event place es end → FitsAt event end t → Run event place (es ++ (r, t) ∷ []) (end + cells_in event t)
 run_push event place [] end r t run fits = (subst (λ p. FitsAt event p t) run.0 fits, (ap (λ p. p + cells_in event t) run.0, omega (arith, fits.ends, run.0)))
 run_push event place (e ∷ es) end r t run fits = (run.0, run_push event (place + cells_in event e.1) es end r t run.1 fits)
 
@@ -61,7 +60,7 @@ module _ (h : HeapState) (o : Object) (n : ℕ) (free : names h h.top ≡ false)
   other_name : (r : ℕ) → names h r ≡ true → h.top ≡ r → ⊥
   other_name r there e = false≢true (sym free ∙ ap (names h) e ∙ there)
 
-  reference-add : (v : ℕ) → IsReference h v → IsReference (add_object h o n) v
+  pub reference-add : (v : ℕ) → IsReference h v → IsReference (add_object h o n) v
   reference-add v ref = elim ref [
     | inl z ↦ inl z
     | inr there ↦ inr (ap is_object (item_at-add_other h o n v (other_name v (object_named h v there))) ∙ there)
@@ -99,15 +98,19 @@ filled-add h o n event out f =
     area_same h o n Reset none = omega (arith, none)
     area_same h o n Deselect none = omega (arith, none)
 
-persistent_out : (kind : Kind) (class owner long : ℕ) (event : ClearEvent) → lies_in event (AnObject (new_object kind class owner long)) ≡ false
-persistent_out kind class owner long Reset = refl
-persistent_out kind class owner long Deselect = refl
+no_event : (event : ClearEvent) → (event_number None == event_number (Some event)) ≡ false
+no_event Reset = refl
+no_event Deselect = refl
 
-pub persistent_whole : (h : HeapState) (kind : Kind) (class owner long size : ℕ) → names h h.top ≡ false → IsWhole h → IsWhole (add_object h (new_object kind class owner long) size)
-persistent_whole h kind class owner long size none w =
-    whole_of (add_object h (new_object kind class owner long) size)
-    (referring-add h (new_object kind class owner long) size none (λ k i lt. inl (get_or-replicate long i 0 0 (omega (arith, lt, length-replicate {A = ℕ} long 0)))) (referring_of h w))
-    (λ event. filled-add h (new_object kind class owner long) size event (persistent_out kind class owner long event) (w.areas event))
+pub persistent_out : (o : Object) (event : ClearEvent) → o.facts.event ≡ None → lies_in event (AnObject o) ≡ false
+persistent_out o event none = ap (λ e. event_number e == event_number (Some event)) none ∙ no_event event
+
+pub object_whole : (h : HeapState) (o : Object) (size : ℕ) → names h h.top ≡ false → o.facts.event ≡ None →
+    (o.facts.kind ≡ ReferenceArray → (i : ℕ) → i < length o.cells → IsReference h (get_or o.cells i 0)) → IsWhole h → IsWhole (add_object h o size)
+object_whole h o size free none right w =
+    whole_of (add_object h o size)
+    (referring-add h o size free (λ kind i lt. reference-add h o size free (get_or o.cells i 0) (right kind i lt)) (referring_of h w))
+    (λ event. filled-add h o size event (persistent_out o event none) (w.areas event))
 
 -- a transient one
 referring-end : (h : HeapState) (event : ClearEvent) (end : ℕ) → IsReferring h → IsReferring (with_area_end h event end)
@@ -171,7 +174,7 @@ fits-same event place t u e f =
     cells-same : (event : ClearEvent) (t u : Item) → facts_of u ≡ facts_of t → cells_in event u ≡ cells_in event t
     cells-same event t u e = ap (λ x. cells_in event (AnObject (record { facts = x; cells = [] }))) e
 
-run_put : (event : ClearEvent) (place : ℕ) (es : List (ℕ × Item)) (end r : ℕ) (t : Item) → facts_of t ≡ facts_of (at_or (APackage []) es r) → Run event place es end → Run event place (put es r t) end
+pub run_put : (event : ClearEvent) (place : ℕ) (es : List (ℕ × Item)) (end r : ℕ) (t : Item) → facts_of t ≡ facts_of (at_or (APackage []) es r) → Run event place es end → Run event place (put es r t) end
 run_put event place [] end r t e run = run
 run_put event place (q ∷ es) end r t e run = elim (cases_eq q.0 r) [
   | inl is ↦
@@ -191,7 +194,7 @@ filled-set h r i v Reset f = filled_of (set_cell h r i v) Reset (run_put Reset 0
 filled-set h r i v Deselect f = filled_of (set_cell h r i v) Deselect (run_put Deselect 0 h.items (h.area_ends.1) r (with_cell (at_or (APackage []) h.items r) i v) (facts-with_cell (at_or (APackage []) h.items r) i v) (run_of h Deselect f))
 
 module _ (h : HeapState) (r i v : ℕ) where
-  reference-set : (q : ℕ) → IsReference h q → IsReference (set_cell h r i v) q
+  pub reference-set : (q : ℕ) → IsReference h q → IsReference (set_cell h r i v) q
   reference-set q ref = elim ref [
     | inl z ↦ inl z
     | inr there ↦ inr (sym (object-bare (item_at (set_cell h r i v) q)) ∙ ap is_object (bare-set_cell h r i v q) ∙ object-bare (item_at h q) ∙ there)
@@ -241,6 +244,3 @@ run_whole h r i (v ∷ vs) right w =
     run_whole (set_cell h r i v) r (suc i) vs
     (λ kind k lt. reference-set h r i v (get_or vs k 0) (right (ap (λ f. f.kind) (sym (facts-set_cell h r i v r)) ∙ kind) (suc k) (omega arith)))
     (cell_whole h r i v (λ kind. right kind 0 (omega arith)) w)
-
-pub keeps_whole : KeepsWhole
-keeps_whole = record { empty = empty_whole; persistent = persistent_whole; transient = transient_whole; cell = cell_whole; run = run_whole }

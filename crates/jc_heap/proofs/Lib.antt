@@ -23,6 +23,8 @@ pub mod Marking
 pub mod PackageTable
 pub mod Referring
 pub mod Keeping
+pub mod KeepingMoves
+pub mod KeepingPackages
 pub mod RecordReading
 pub mod OwnCells
 pub mod ReadBack

@@ -1,20 +1,25 @@
 -- A place set, in the words and in the heap.
-use Rattle.std.proofs.Common.{◌≡◌, ℕ, ◌+◌, ◌<◌, ◌≤◌, ◌&&◌, Bool, true, false, List, [], ◌∷◌, length, get_or, set, drop, refl, sym, ◌∙◌, ap, subst, arith, if◌then◌else◌}
+use Rattle.std.proofs.Common.{◌≡◌, ℕ, ◌+◌, ◌<◌, ◌≤◌, ◌&&◌, Bool, true, false, List, [], ◌∷◌, length, get_or, set, drop, inl, inr, refl, sym, ◌∙◌, ap, subst, arith, if◌then◌else◌}
 use Rattle.std.proofs.lemmas.List.{length-set, length-take-le, get_or-set_other, get_or-take, get_or-drop, drop-set-lt}
-use Rattle.std.proofs.lemmas.Bool.{false≢true}
+use Rattle.std.proofs.lemmas.Bool.{false≢true, cases_lt}
 use Rattle.jc_words.specs.Count.{raised}
 use Rattle.jc_commit.specs.Image.{IsPlace, IsReadable, IsUnlogged}
 use Rattle.jc_commit.specs.State.{State, Changes, written_in_place, is_touched as is_kept}
 use Rattle.jc_heap.specs.declared.place.Place.{Place}
-use Rattle.jc_heap.specs.declared.place.Place.TheVariants.{Cell, Registry}
+use Rattle.jc_heap.specs.declared.place.Place.TheVariants.{Cell, Static, Registry}
 use Rattle.jc_heap.specs.Cut.{lacking}
 use Rattle.jc_heap.specs.Image.{IsLaid, image, base, package_addresses, is_package, sizes, missing}
 use Rattle.jc_heap.specs.Heap.{HeapState, HeapView, heap_view, heap_of, cell_place, is_touched, IsSound, SameShape, read_image, item_at, names}
 use Rattle.jc_heap.specs.Places.{place_word, HasPlace, set_place, written, counted}
-use Rattle.jc_heap.proofs.Laws.{shape-set, shape-set_both}
+use Rattle.jc_heap.specs.Components.{record_of}
+use Rattle.jc_heap.specs.Statics.{set_word}
+use Rattle.jc_heap.proofs.Laws.{shape-set, shape-set_both, names-heap_of}
 use Rattle.jc_heap.proofs.Images.{image-set, set_cell-heap_of, IsLaid-set, top-set, package_addresses-set, base-set}
 use Rattle.jc_heap.proofs.Packages.{read-applet}
-use Rattle.jc_heap.proofs.Views.{cell_spot, back_set}
+use Rattle.jc_heap.proofs.RecordReading.{record_low, record_within, record_view, length_record}
+use Rattle.jc_heap.proofs.RecordWords.{heap_of-set_word, laid-set_word, top-set_word, set_word-absent, same_words, shape-set_word, shape-set_word_both}
+use Rattle.jc_heap.proofs.StaticImages.{static_behind}
+use Rattle.jc_heap.proofs.Views.{cell_spot, back_set, top_is, above_top}
 use Rattle.jc_heap.proofs.Changing.{change_view, change_sound}
 
 -- a word of the registry
@@ -56,28 +61,52 @@ pub place_set : (ws : List ℕ) (p : Place) (x : ℕ) → IsLaid ws → HasPlace
     (heap_of (set ws (place_word p) x) ≡ set_place (heap_of ws) p x) × IsLaid (set ws (place_word p) x) × (get_or (set ws (place_word p) x) 5 0 ≡ get_or ws 5 0)
 unfolding cell_place
 place_set ws (Cell r i) x laid h = (set_cell-heap_of ws r i x h, IsLaid-set ws r i x h laid, top-set ws r i x h)
+place_set ws (Static r j) x laid h =
+    let four : 4 ≤ j = static_behind (record_of (heap_of ws) r) j h in
+    (heap_of-set_word ws r j x laid four h.within, laid-set_word ws r j x laid four h.within, top-set_word ws r j x laid four h.within)
 place_set ws (Registry a) x laid h = (registry-heap_of ws a x laid h, IsLaid-registry ws a x laid h, top-registry ws a x)
+
+-- a static image's word in the recovered words: in the same record, or above their top
+word_back : (j : State) (n r i x : ℕ) → 4 ≤ i → i < length (record_of (heap_of j.plain) r) → j.down ≡ false → IsSound j n →
+    (heap_of (set j.recovered (r + i) x) ≡ set_word (heap_of j.recovered) r i x) × IsLaid (set j.recovered (r + i) x) × (get_or (set j.recovered (r + i) x) 5 0 ≡ get_or j.recovered 5 0)
+word_back j n r i x four h up s = elim (cases_lt r (get_or j.recovered 5 0)) [
+  | inl below ↦
+      let there : i < length (record_of (heap_of j.recovered) r) = omega (arith, h, same_words (item_at (heap_of j.plain) r) (item_at (heap_of j.recovered) r) ((s.shape up).items r (top_is j.recovered r s.back below))) in
+      (heap_of-set_word j.recovered r i x s.back four there, laid-set_word j.recovered r i x s.back four there, top-set_word j.recovered r i x s.back four there)
+  | inr above ↦
+      let far : (heap_of (set j.recovered (r + i) x) ≡ heap_of j.recovered) × IsLaid (set j.recovered (r + i) x) × (get_or (set j.recovered (r + i) x) 5 0 ≡ get_or j.recovered 5 0) = above_top j.recovered (r + i) x s.back (omega (arith, above)) in
+      let long : length (image j.recovered) ≡ get_or j.recovered 5 0 = length-take-le (get_or j.recovered 5 0) j.recovered s.back.fits in
+      let absent : names (heap_of j.recovered) r ≡ false = names-heap_of j.recovered r (omega (arith, s.back.based, long)) (omega (arith, above, long)) in
+      (far.0 ∙ sym (set_word-absent (heap_of j.recovered) r i x absent), far.1, far.2)
+]
 
 -- in the recovered words too, or the place lies above their top
 place_back : (j : State) (n : ℕ) (p : Place) (x : ℕ) → HasPlace (heap_of j.plain) p → j.down ≡ false → IsSound j n →
     (heap_of (set j.recovered (place_word p) x) ≡ set_place (heap_of j.recovered) p x) × IsLaid (set j.recovered (place_word p) x) × (get_or (set j.recovered (place_word p) x) 5 0 ≡ get_or j.recovered 5 0)
 unfolding cell_place
 place_back j n (Cell r i) x h up s = back_set j n r i x h up s
+place_back j n (Static r i) x h up s = word_back j n r i x (static_behind (record_of (heap_of j.plain) r) i h) h.within up s
 place_back j n (Registry a) x h up s = (registry-heap_of j.recovered a x s.back h, IsLaid-registry j.recovered a x s.back h, top-registry j.recovered a x)
 
 place_shape : (d h : HeapState) (p : Place) (x : ℕ) → SameShape d h → SameShape d (set_place h p x)
 unfolding item_at names
 place_shape d h (Cell r i) x s = shape-set d h r i x s
+place_shape d h (Static r j) x s = shape-set_word d h r j x s
 place_shape d h (Registry a) x s = record { items = s.items; names = s.names }
 
 place_shape_both : (d h : HeapState) (p : Place) (x : ℕ) → SameShape d h → SameShape (set_place d p x) (set_place h p x)
 unfolding item_at names
 place_shape_both d h (Cell r i) x s = shape-set_both d h r i x s
+place_shape_both d h (Static r j) x s = shape-set_word_both d h r j x s
 place_shape_both d h (Registry a) x s = record { items = s.items; names = s.names }
 
 -- a place's word lies among the words, behind the packages' addresses
 pub place_spot : (j : State) (v : HeapView) (n : ℕ) (p : Place) → heap_view j n ≡ v → IsLaid j.plain → HasPlace v.now p → (place_word p < length j.plain) × (560 ≤ place_word p)
 place_spot j v n (Cell r i) is laid h = let spot : (cell_place r i < length j.plain) × (752 ≤ cell_place r i) = cell_spot j v n r i is h in (spot.0, omega (arith, spot.1))
+place_spot j v n (Static r i) is laid h =
+    let some : 0 < length (record_of (v.now) r) = omega (arith, h.within) in
+    let there : 0 < length (record_of (heap_of j.plain) r) = record_view j v n r is some in
+    (omega (arith, h.within, length_record j v n r is laid some, record_within j.plain r laid there), omega (arith, record_low j.plain r laid there))
 place_spot j v n (Registry a) is laid h = (omega (arith, laid.based, laid.fits), omega arith)
 
 pub place_readable : (n a : ℕ) → a < n → 560 ≤ a → IsReadable n a

@@ -1,20 +1,18 @@
 -- A word of a package's record changed, in all the words.
 use Rattle.std.proofs.Common.{◌≡◌, ℕ, ◌+◌, ◌-◌, ◌/◌, ◌<◌, ◌≤◌, true, false, inl, inr, List, [], ◌∷◌, length, take, drop, set, get_or, map, replicate, refl, sym, ◌∙◌, ap, subst, arith, if◌then◌else◌}
-use Rattle.std.proofs.lemmas.List.{get_or-drop, drop-set-add, take-set-le, length-set, length-drop}
+use Rattle.std.proofs.lemmas.List.{get_or-drop, drop-set-add, take-set-le, length-set, length-drop, length-replicate}
 use Rattle.std.proofs.lemmas.Bool.{cases_Bool, cases_eq}
-use Rattle.jc_commit.specs.State.{State, Changes}
 use Rattle.jc_heap.specs.Cut.{Sizes, cut, lacking}
 use Rattle.jc_heap.specs.Table.{at_or, put}
 use Rattle.jc_heap.specs.Object.{Item, AnObject, APackage, object_of, bare}
 use Rattle.jc_heap.specs.Image.{image, base, package_addresses, is_package, sizes, item, item_entry, records, missing, table_text, IsLaid}
-use Rattle.jc_heap.specs.Heap.{HeapState, HeapView, heap_view, heap_of, read_image, item_at, names, changed, IsSound, SameShape}
-use Rattle.jc_heap.specs.Components.{record_of}
+use Rattle.jc_heap.specs.Heap.{HeapState, heap_of, read_image, item_at, names, SameShape}
+use Rattle.jc_heap.specs.Components.{words_of, record_of}
 use Rattle.jc_heap.specs.Statics.{with_word, set_word}
 use Rattle.jc_heap.proofs.Records.{cut-set, lacking-set}
 use Rattle.jc_heap.proofs.Tables.{map-put, at_or-put_same, at_or-put_other, has-put, put-absent}
 use Rattle.jc_heap.proofs.Images.{sizes_tell, image-set, get_or_front, range_front, package_addresses-set, base-set, text-same}
-use Rattle.jc_heap.proofs.Changing.{change_view, change_sound}
-use Rattle.jc_heap.proofs.RecordReading.{rec, is_item, is_one, is_record, behind, record_long, record_high, record_is, length_record, record_view}
+use Rattle.jc_heap.proofs.RecordReading.{rec, is_item, is_one, is_record, behind}
 
 module _ (ws : List ℕ) (r j v : ℕ) (laid : IsLaid ws) (four : 4 ≤ j) (h : j < length (record_of (heap_of ws) r)) where
   some : 0 < length (record_of (heap_of ws) r)
@@ -110,42 +108,58 @@ module _ (ws : List ℕ) (r j v : ℕ) (laid : IsLaid ws) (four : 4 ≤ j) (h : 
         packages = λ a le. ap (λ ps. is_package ps a) (ap package_addresses same_image ∙ same_packages) ∙ laid.packages a (rw top-set_word at le);
       }
 
+-- what a word of a record does not tell stays as it is
+module _ {X : Type 0} (f : Item → X) (same : (t : Item) (j v : ℕ) → f (with_word t j v) ≡ f t) where
+  pub of_item-set_word : (h : HeapState) (r j v q : ℕ) → f (item_at (set_word h r j v) q) ≡ f (item_at h q)
+  unfolding item_at set_word names
+  of_item-set_word h r j v q = elim (cases_eq r q) [
+    | inl is ↦ elim (cases_Bool (names h r)) [
+      | inl e ↦
+          ap (λ p. f (at_or (APackage []) (put h.items r (with_word (item_at h r) j v)) p)) (sym is)
+          ∙ ap f (at_or-put_same (APackage []) h.items r (with_word (item_at h r) j v) e)
+          ∙ same (item_at h r) j v
+          ∙ ap (λ p. f (item_at h p)) is
+      | inr e ↦ ap (λ l. f (at_or (APackage []) l q)) (put-absent h.items r (with_word (item_at h r) j v) e)
+    ]
+    | inr n ↦ ap f (at_or-put_other (APackage []) h.items r q (with_word (item_at h r) j v) n)
+  ]
+
+pub names-set_word : (h : HeapState) (r j v q : ℕ) → names (set_word h r j v) q ≡ names h q
+unfolding names set_word
+names-set_word h r j v q = has-put h.items r q (with_word (item_at h r) j v)
+
+pub top_after-set_word : (h : HeapState) (r j v : ℕ) → (set_word h r j v).top ≡ h.top
+unfolding set_word
+top_after-set_word h r j v = refl
+
+pub set_word-absent : (h : HeapState) (r j v : ℕ) → names h r ≡ false → set_word h r j v ≡ h
+unfolding names set_word
+set_word-absent h r j v e = ap (λ l. record h { items = l }) (put-absent h.items r (with_word (item_at h r) j v) e)
+
 -- shapes stay
 bare-with_word : (t : Item) (j v : ℕ) → bare (with_word t j v) ≡ bare t
 bare-with_word (AnObject o) j v = refl
 bare-with_word (APackage ws) j v = ap (λ n. APackage (replicate n 0)) (length-set ws j v)
 
 bare-set_word : (h : HeapState) (r j v q : ℕ) → bare (item_at (set_word h r j v) q) ≡ bare (item_at h q)
-unfolding item_at set_word names
-bare-set_word h r j v q = elim (cases_eq r q) [
-  | inl is ↦ elim (cases_Bool (names h r)) [
-    | inl e ↦
-        ap (λ p. bare (at_or (APackage []) (put h.items r (with_word (item_at h r) j v)) p)) (sym is)
-        ∙ ap bare (at_or-put_same (APackage []) h.items r (with_word (item_at h r) j v) e)
-        ∙ bare-with_word (item_at h r) j v
-        ∙ ap (λ p. bare (item_at h p)) is
-    | inr e ↦ ap (λ l. bare (at_or (APackage []) l q)) (put-absent h.items r (with_word (item_at h r) j v) e)
-  ]
-  | inr n ↦ ap bare (at_or-put_other (APackage []) h.items r q (with_word (item_at h r) j v) n)
-]
+bare-set_word = of_item-set_word bare bare-with_word
 
-shape-set_word : (d h : HeapState) (r j v : ℕ) → SameShape d h → SameShape d (set_word h r j v)
-unfolding names set_word
+pub shape-set_word : (d h : HeapState) (r j v : ℕ) → SameShape d h → SameShape d (set_word h r j v)
 shape-set_word d h r j v s = record {
   items = λ q lt. bare-set_word h r j v q ∙ s.items q lt;
-  names = λ q lt. has-put h.items r q (with_word (item_at h r) j v) ∙ s.names q lt;
+  names = λ q lt. names-set_word h r j v q ∙ s.names q lt;
 }
 
--- through the journal
-pub word_view : (j k : State) (v : HeapView) (n r i x : ℕ) → heap_view j n ≡ v → IsLaid j.plain → 4 ≤ i → i < length (record_of v.now r) → Changes ((r + i, x) ∷ []) j k → heap_view k n ≡ changed v (set_word v.now r i x) ((r + i) ∷ []) 0
-word_view j k v n r i x is laid four h c = subst (λ u. i < length (record_of (u.now) r) → heap_view k n ≡ changed u (set_word (u.now) r i x) ((r + i) ∷ []) 0) is
-    (λ there. change_view ((r + i, x) ∷ []) j k n (set_word (heap_of j.plain) r i x) c (heap_of-set_word j.plain r i x laid four there)) h
+pub shape-set_word_both : (d h : HeapState) (r j v : ℕ) → SameShape d h → SameShape (set_word d r j v) (set_word h r j v)
+shape-set_word_both d h r j v s = record {
+  items = λ q lt. bare-set_word h r j v q ∙ s.items q (subst (λ n. q < n) (top_after-set_word d r j v) lt) ∙ sym (bare-set_word d r j v q);
+  names = λ q lt. names-set_word h r j v q ∙ s.names q (subst (λ n. q < n) (top_after-set_word d r j v) lt) ∙ sym (names-set_word d r j v q);
+}
 
-word_sound_at : (j k : State) (n r i x : ℕ) → 4 ≤ i → i < length (record_of (heap_of j.plain) r) → j.down ≡ false → IsSound j n → Changes ((r + i, x) ∷ []) j k → IsSound k n
-word_sound_at j k n r i x four h up s c =
-    change_sound ((r + i, x) ∷ []) j k n c up s.back s.size_recovered (s.size_now up) s.small (laid-set_word j.plain r i x (s.now up) four h)
-    (λ _. omega (arith, s.order up, top-set_word j.plain r i x (s.now up) four h))
-    (λ _. subst (SameShape (heap_of j.recovered)) (sym (heap_of-set_word j.plain r i x (s.now up) four h)) (shape-set_word (heap_of j.recovered) (heap_of j.plain) r i x (s.shape up)))
+-- the same length
+length-bare : (t : Item) → length (words_of (bare t)) ≡ length (words_of t)
+length-bare (AnObject o) = refl
+length-bare (APackage ws) = length-replicate {A = ℕ} (length ws) 0
 
-pub word_sound : (j k : State) (v : HeapView) (n r i x : ℕ) → heap_view j n ≡ v → 4 ≤ i → i < length (record_of v.now r) → j.down ≡ false → IsSound j n → Changes ((r + i, x) ∷ []) j k → IsSound k n
-word_sound j k v n r i x is four h up s c = word_sound_at j k n r i x four (subst (λ u. i < length (record_of (u.now) r)) (sym is) h) up s c
+pub same_words : (a b : Item) → bare a ≡ bare b → length (words_of a) ≡ length (words_of b)
+same_words a b e = sym (length-bare a) ∙ ap (λ t. length (words_of t)) e ∙ length-bare b

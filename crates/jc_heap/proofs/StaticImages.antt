@@ -84,6 +84,11 @@ statics_behind words = elim (cases_eq (get_or words 1 0) 0) [
 pub static_behind : (words : List ℕ) (j : ℕ) → IsStatic words j → 4 ≤ j
 static_behind words j s = let low : 4 ≤ s.begin = subst (λ t. IfSome t (λ o. 4 ≤ o)) s.image (statics_behind words) in omega (arith, low, s.behind)
 
+-- from where it begins to the record's end each word is one of it
+pub all_static : (words : List ℕ) (o : Option ℕ) → o ≡ statics_of words → IfSome o (λ b. (j : ℕ) → b ≤ j → j < length words → IsStatic words j)
+all_static words None e = tt
+all_static words (Some b) e = λ j le lt. record { begin = b; image = sym e; behind = le; within = lt }
+
 -- a record of one word has none
 pub statics-short : (words : List ℕ) → length words ≡ 1 → statics_of words ≡ None
 unfolding statics_of

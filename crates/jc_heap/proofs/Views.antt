@@ -5,7 +5,7 @@ use Rattle.std.proofs.lemmas.Bool.{cases_lt}
 use Rattle.jc_commit.specs.Image.{IsPlace, IsReadable, IsUnlogged}
 use Rattle.jc_commit.specs.State.{State}
 use Rattle.jc_heap.specs.Image.{IsLaid, image}
-use Rattle.jc_heap.specs.Heap.{HeapView, heap_view, heap_of, cells, set_cell, cell_place, IsSound, SameShape, KeepsBelowTop, read_image, item_at, names}
+use Rattle.jc_heap.specs.Heap.{HeapView, heap_view, heap_of, cells, set_cell, cell_place, IsSound, SameShape, KeepsBelowTop, HasEnd, read_image, item_at, names}
 use Rattle.jc_heap.proofs.Laws.{same_length, set_cell-absent, names-heap_of, keeps_below_top}
 use Rattle.jc_heap.proofs.Images.{cell_within-heap_of, cell_behind-heap_of, cell-heap_of, set_cell-heap_of, IsLaid-set, top-set}
 use Rattle.jc_heap.proofs.Added.{image-same_below, top-same_below, IsLaid-same_below}
@@ -29,9 +29,20 @@ pub cell_read : (j : State) (v : HeapView) (n r i : ℕ) → heap_view j n ≡ v
 unfolding cell_place
 cell_read j v n r i is h = subst (λ u. i < length (cells (u.now) r) → get_or j.plain (r + (4 + i)) 0 ≡ get_or (cells (u.now) r) i 0) is (λ k. sym (cell-heap_of j.plain r i k)) h
 
-top_is : (ws : List ℕ) (r : ℕ) → IsLaid ws → r < get_or ws 5 0 → r < (heap_of ws).top
+pub top_is : (ws : List ℕ) (r : ℕ) → IsLaid ws → r < get_or ws 5 0 → r < (heap_of ws).top
 unfolding read_image
 top_is ws r laid h = omega (arith, length-take-le (get_or ws 5 0) ws laid.fits)
+
+-- a word at or above the top is not the heap's
+pub above_top : (ws : List ℕ) (a x : ℕ) → IsLaid ws → get_or ws 5 0 ≤ a →
+    (heap_of (set ws a x) ≡ heap_of ws) × IsLaid (set ws a x) × (get_or (set ws a x) 5 0 ≡ get_or ws 5 0)
+above_top ws a x laid far =
+    let same : take (get_or ws 5 0) (set ws a x) ≡ take (get_or ws 5 0) ws = take-set-le (get_or ws 5 0) ws a x far in
+    let based : 5 < get_or ws 5 0 = omega (arith, laid.based, length-take-le (get_or ws 5 0) ws laid.fits) in (
+      ap read_image (image-same_below ws (set ws a x) (get_or ws 5 0) based (omega arith) same),
+      IsLaid-same_below ws (set ws a x) (get_or ws 5 0) based (omega arith) same (length-set ws a x) laid,
+      top-same_below ws (set ws a x) (get_or ws 5 0) based same,
+    )
 
 -- the same cell set in the recovered words: there too, or above their top
 pub back_set : (j : State) (n r i x : ℕ) → i < length (cells (heap_of j.plain) r) → j.down ≡ false → IsSound j n →
@@ -43,14 +54,9 @@ back_set j n r i x h up s =
           let there : i < length (cells (heap_of j.recovered) r) = omega (arith, same_length (item_at (heap_of j.plain) r) (item_at (heap_of j.recovered) r) ((s.shape up).items r (top_is j.recovered r s.back below))) in
           (set_cell-heap_of j.recovered r i x there, IsLaid-set j.recovered r i x there s.back, top-set j.recovered r i x there)
       | inr above ↦
-          let far : get_or j.recovered 5 0 ≤ r + (4 + i) = omega arith in
-          let same : take (get_or j.recovered 5 0) (set j.recovered (r + (4 + i)) x) ≡ take (get_or j.recovered 5 0) j.recovered = take-set-le (get_or j.recovered 5 0) j.recovered (r + (4 + i)) x far in
-          let based : 5 < get_or j.recovered 5 0 = omega (arith, s.back.based) in
-          let absent : names (heap_of j.recovered) r ≡ false = names-heap_of j.recovered r (omega (arith, s.back.based)) (omega arith) in (
-            ap read_image (image-same_below j.recovered (set j.recovered (r + (4 + i)) x) (get_or j.recovered 5 0) based (omega arith) same) ∙ sym (set_cell-absent (heap_of j.recovered) r i x absent),
-            IsLaid-same_below j.recovered (set j.recovered (r + (4 + i)) x) (get_or j.recovered 5 0) based (omega arith) same (length-set j.recovered (r + (4 + i)) x) s.back,
-            top-same_below j.recovered (set j.recovered (r + (4 + i)) x) (get_or j.recovered 5 0) based same,
-          )
+          let far : (heap_of (set j.recovered (r + (4 + i)) x) ≡ heap_of j.recovered) × IsLaid (set j.recovered (r + (4 + i)) x) × (get_or (set j.recovered (r + (4 + i)) x) 5 0 ≡ get_or j.recovered 5 0) = above_top j.recovered (r + (4 + i)) x s.back (omega arith) in
+          let absent : names (heap_of j.recovered) r ≡ false = names-heap_of j.recovered r (omega (arith, s.back.based)) (omega arith) in
+          (far.0 ∙ sym (set_cell-absent (heap_of j.recovered) r i x absent), far.1, far.2)
     ]
 
 -- what an abort leaves of the names
@@ -58,10 +64,13 @@ pub abort_keeps : (j : State) (v : HeapView) (n : ℕ) → heap_view j n ≡ v �
 abort_keeps j v n is up s = subst (λ u. KeepsBelowTop (u.now) (u.durable)) is
     (keeps_below_top (heap_of j.plain) j.recovered (s.shape up) (omega (arith, s.back.based, length-take-le (get_or j.recovered 5 0) j.recovered s.back.fits)))
 
-pub nothing_at_top : (j : State) (v : HeapView) (n : ℕ) → heap_view j n ≡ v → IsLaid j.plain → names v.now v.now.top ≡ false
+pub has_end : (j : State) (v : HeapView) (n : ℕ) → heap_view j n ≡ v → IsLaid j.plain → HasEnd v.now
 unfolding read_image
-nothing_at_top j v n is laid = subst (λ u. names (u.now) (u.now.top) ≡ false) is
-    (names-heap_of j.plain (length (image j.plain)) (omega (arith, laid.based, length-take-le (get_or j.plain 5 0) j.plain laid.fits)) (omega arith))
+has_end j v n is laid = subst (λ u. HasEnd (u.now)) is
+    (λ r above. names-heap_of j.plain r (omega (arith, laid.based, length-take-le (get_or j.plain 5 0) j.plain laid.fits)) above)
+
+pub nothing_at_top : (j : State) (v : HeapView) (n : ℕ) → heap_view j n ≡ v → IsLaid j.plain → names v.now v.now.top ≡ false
+nothing_at_top j v n is laid = has_end j v n is laid v.now.top (omega arith)
 
 -- the top's word
 pub view_top : (j : State) (v : HeapView) (n : ℕ) → heap_view j n ≡ v → IsLaid j.plain → v.now.top ≡ get_or j.plain 5 0

@@ -57,6 +57,10 @@ facts h r = facts_of (item_at h r)
 unfoldable pub names : HeapState → ℕ → Bool
 names h r = has h.items r
 
+-- nothing stands at or above its top
+abbrev pub HasEnd : HeapState → Type 0
+HasEnd h = (r : ℕ) → h.top ≤ r → names h r ≡ false
+
 -- an object stands at this address
 abbrev pub IsObject : HeapState → ℕ → Type 0
 IsObject h r = is_object (item_at h r) ≡ true

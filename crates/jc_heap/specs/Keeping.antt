@@ -1,17 +1,50 @@
--- What keeps a heap whole.
-use Rattle.std.specs.Prelude.{ℕ, ◌≡◌, ◌<◌, false, List, [], length, slice_index}
-use Rattle.jc_transient.specs.declared.cell.ClearEvent.{ClearEvent}
-use Rattle.jc_heap.specs.declared.object.Kind.{Kind}
+-- What keeps a heap whole: every move that puts references where references have to be.
+use Rattle.std.specs.Prelude.{ℕ, ◌≡◌, ◌<◌, ◌≤◌, false, List, [], ◌∷◌, length, slice_index, None}
 use Rattle.jc_heap.specs.declared.object.Kind.TheVariants.{ReferenceArray}
-use Rattle.jc_heap.specs.Object.{new_object}
-use Rattle.jc_heap.specs.Heap.{HeapState, names, facts, set_cell, set_cells, add_object, add_transient, LacksCells}
-use Rattle.jc_heap.specs.Whole.{IsReference, IsWhole}
+use Rattle.jc_heap.specs.declared.place.Place.{Place}
+use Rattle.jc_heap.specs.declared.place.Place.TheVariants.{Cell, Static, Registry}
+use Rattle.jc_heap.specs.Heap.{HeapState, HeapView, facts, HasEnd, LacksCells}
+use Rattle.jc_heap.specs.Packages.{AreArrays}
+use Rattle.jc_heap.specs.Moves.{Move, Write, Count, SetCells, AddObject, AddTransient, AddPackage, Begin, Commit, Abort, apply, applied, Left}
+use Rattle.jc_heap.specs.Whole.{IsReference, HoldsReferences, IsWhole}
 
--- whole are: a heap in which nothing stands, and a whole heap after a new object at a free top, persistent and
--- zeroed or transient with cells that its area has, or after set cells, in an array of references to references
+-- a value that keeps the place what it is: in an array of references a reference
+abbrev pub MayStand : HeapState → Place → ℕ → Type 0
+MayStand h (Cell r i) v = (facts h r).kind ≡ ReferenceArray → IsReference h v
+MayStand h (Static r j) v = Unit {0}
+MayStand h (Registry i) v = Unit {0}
+
+-- what a move needs: references in an array of references, a header's word for a new object, cells that the
+-- area of a transient one has, a place for a package and arrays that a package may have
+abbrev pub Suits : HeapView → Move → Type 0
+Suits v (Write p x) = MayStand v.now p x
+Suits v (Count p x) = MayStand v.now p x × MayStand v.durable p x
+Suits v (SetCells r i xs) = (facts v.now r).kind ≡ ReferenceArray → (k : ℕ) → k < length xs → IsReference v.now (slice_index xs k)
+Suits v (AddObject o size) = (0 < size) × ((o.facts.event ≡ None) × ((o.facts.kind ≡ ReferenceArray → (i : ℕ) → i < length o.cells → IsReference v.now (slice_index o.cells i))))
+Suits v (AddTransient kind event class owner long) = LacksCells v.now event long → ⊥
+Suits v (AddPackage components arrays rest) = (v.now.counts.0 < 32) × AreArrays arrays
+Suits v Begin = Unit {0}
+Suits v Commit = Unit {0}
+Suits v Abort = Unit {0}
+
+-- each of these moves has what it needs
+abbrev pub AllSuit : List Move → HeapView → Type 0
+AllSuit [] v = Unit {0}
+AllSuit (m ∷ ms) v = Suits v m × AllSuit ms (apply m v)
+
+-- a whole heap, with nothing at or above its end
+pub record StandsWhole (h : HeapState) : Type 0 where
+  pub whole : IsWhole h
+  pub end : HasEnd h
+
+-- the heap as it is, and the one that a loss of power leaves
+pub record AreWhole (v : HeapView) : Type 0 where
+  pub now : StandsWhole v.now
+  pub durable : StandsWhole v.durable
+
+-- a heap in which nothing stands is whole; moves that have what they need leave both heaps whole, and so does a
+-- loss of power within them
 pub record KeepsWhole : Type 0 where
-  pub empty : (h : HeapState) → h.items ≡ [] → h.counts ≡ (0, 0) → h.packages ≡ [] → h.area_ends ≡ (0, 0) → IsWhole h
-  pub persistent : (h : HeapState) (kind : Kind) (class owner long size : ℕ) → names h h.top ≡ false → IsWhole h → IsWhole (add_object h (new_object kind class owner long) size)
-  pub transient : (h : HeapState) (kind : Kind) (event : ClearEvent) (class owner long : ℕ) → names h h.top ≡ false → (LacksCells h event long → ⊥) → IsWhole h → IsWhole (add_transient h kind event class owner long)
-  pub cell : (h : HeapState) (r i v : ℕ) → ((facts h r).kind ≡ ReferenceArray → IsReference h v) → IsWhole h → IsWhole (set_cell h r i v)
-  pub run : (h : HeapState) (r i : ℕ) (vs : List ℕ) → ((facts h r).kind ≡ ReferenceArray → (k : ℕ) → k < length vs → IsReference h (slice_index vs k)) → IsWhole h → IsWhole (set_cells h r i vs)
+  pub empty : (h : HeapState) → h.items ≡ [] → h.counts ≡ (0, 0) → h.packages ≡ [] → h.area_ends ≡ (0, 0) → StandsWhole h
+  pub moves : (ms : List Move) (v : HeapView) → AllSuit ms v → AreWhole v → AreWhole (applied ms v)
+  pub loss : (ms : List Move) (v : HeapView) (d : HeapState) → AllSuit ms v → AreWhole v → Left ms v d → StandsWhole d

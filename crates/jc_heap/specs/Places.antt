@@ -2,27 +2,33 @@
 use Rattle.std.specs.Prelude.{ℕ, ◌+◌, ◌<◌, [], ◌∷◌, set, length, if◌then◌else◌}
 use Rattle.jc_words.specs.Count.{raised}
 use Rattle.jc_heap.specs.declared.place.Place.{Place}
-use Rattle.jc_heap.specs.declared.place.Place.TheVariants.{Cell, Registry}
+use Rattle.jc_heap.specs.declared.place.Place.TheVariants.{Cell, Static, Registry}
 use Rattle.jc_heap.specs.Object.{IsElement}
 use Rattle.jc_heap.specs.Heap.{HeapState, HeapView, cells, facts, set_cell, cell_place, changed, is_touched}
+use Rattle.jc_heap.specs.Components.{record_of}
+use Rattle.jc_heap.specs.Statics.{set_word, IsStatic}
 
 -- the address of a place's word
 abbrev pub place_word : Place → ℕ
 place_word (Cell r i) = cell_place r i
+place_word (Static r j) = r + j
 place_word (Registry i) = 560 + i
 
 -- the heap has this place
 abbrev pub HasPlace : HeapState → Place → Type 0
 HasPlace h (Cell r i) = i < length (cells h r)
+HasPlace h (Static r j) = IsStatic (record_of h r) j
 HasPlace h (Registry i) = i < 192
 
 -- a value that the place may hold
 abbrev pub MayHold : HeapState → Place → ℕ → Type 0
 MayHold h (Cell r i) v = IsElement (facts h r).kind v
+MayHold h (Static r j) v = Unit {0}
 MayHold h (Registry i) v = Unit {0}
 
 abbrev pub set_place : HeapState → Place → ℕ → HeapState
 set_place h (Cell r i) v = set_cell h r i v
+set_place h (Static r j) v = set_word h r j v
 set_place h (Registry i) v = record h { applets = set h.applets i v }
 
 -- a place set as one change

@@ -4,7 +4,7 @@ ghost use Rattle.jc_commit.specs.Image.{capacity, count_of, plain_of, recovered_
 ghost use Rattle.jc_commit.specs.Entries.{addresses_of};
 ghost use Rattle.jc_heap.specs.Object.{IsElement};
 ghost use Rattle.jc_heap.specs.Image.{IsLaid};
-ghost use Rattle.jc_heap.specs.Heap.{HeapView, HeapState, heap_of, cells, facts, IsObject, next_object, set_cell, set_cells, run_words, changed, cell_place, IsStopped, has_room_for, begun, committed, aborted, KeepsBelowTop};
+ghost use Rattle.jc_heap.specs.Heap.{HeapView, HeapState, heap_of, cells, facts, IsObject, HasEnd, next_object, set_cell, set_cells, run_words, changed, cell_place, IsStopped, has_room_for, begun, committed, aborted, KeepsBelowTop};
 ghost use Rattle.jc_heap.specs.declared.place.Place.TheVariants.{Cell};
 ghost use Rattle.jc_heap.specs.Moves.{Write, SetCells, Begin, Commit, Abort, Made, Done, Makes, MakesUnless, after_of, full_at};
 
@@ -136,7 +136,8 @@ impl<S: WordStore> Heap<S> {
     /// The address that the next object gets: each object lies below it.
     pub fn top(&self) -> u16
         requires { self.now.down ≡ false }
-        ensures { result ≡ self.now.now.top }
+        ensures top { result ≡ self.now.now.top }
+        ensures end { HasEnd self.now.now }
     {
         self.journal.read(TOP)
     }

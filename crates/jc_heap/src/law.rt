@@ -11,8 +11,9 @@ pub fn transactions_keep_what_is_durable()
     ensures { KeepsDurable }
 {}
 
-/// A law of the definitions, for every heap: one in which nothing stands is whole, and a whole one
-/// stays whole when it gets another object or another value of a cell.
+/// A law of the definitions, for every heap: one in which nothing stands is whole, and whatever moves
+/// follow leave it whole, now and after a loss of power within them, where arrays of references get
+/// references and what is added finds its place.
 pub fn changes_keep_a_heap_whole()
     ensures { KeepsWhole }
 {}

@@ -4,36 +4,16 @@ ghost use Rattle.jc_words.specs.Count.{raised};
 ghost use Rattle.jc_commit.specs.Image.{IsGoodLog, plain_of, recovered_of};
 ghost use Rattle.jc_heap.specs.Image.{IsLaid};
 ghost use Rattle.jc_heap.specs.Heap.{heap_of};
-ghost use Rattle.jc_heap.specs.Laying.{AreBytes, IsPartlyLaid, first_free, laid_front, laid_to, laid_view, laid_words, packed, sealed};
+ghost use Rattle.jc_heap.specs.Laying.{AreBytes, IsPartlyLaid, first_free, laid_front, laid_to, laid_view, laid_words, sealed};
 
 use crate::heap::Heap;
 use crate::layout::TEXT_START;
+use crate::packed::packed_word;
 use jc_commit::Journal;
 use jc_words::{JOURNAL_CAPACITY, MAGIC, StoreDown, VERSION, WordStore};
 
 // How many words stand before the journal's entries.
 const FRONT: usize = 16;
-
-// A byte of the text, 0 behind its end.
-fn byte_or_zero(text: &[u8], i: usize) -> u16
-    ensures byte { result ≡ slice_index text.now i }
-    ensures small { result < 256 }
-{
-    if i < text.len() {
-        return u16::from(text[i]);
-    }
-    0
-}
-
-// A word of the packed text.
-fn text_word(text: &[u8], k: u16) -> u16
-    ensures word { result ≡ slice_index (packed text.now) k }
-    ensures high { slice_index text.now (2 * k) < 256 }
-    ensures low { slice_index text.now (2 * k + 1) < 256 }
-{
-    let i = 2 * k as usize;
-    256 * byte_or_zero(text, i) + byte_or_zero(text, i + 1)
-}
 
 /// How many words an image without objects takes, whose table text has so many bytes.
 pub fn first_free(text: u16) -> u32
@@ -82,7 +62,7 @@ fn laid_word(n: u16, text: &[u8], i: u16) -> u16
     if u32::from(i) < TEXT_START {
         return 0;
     }
-    text_word(text, i - TEXT_START as u16)
+    packed_word(text, i - TEXT_START as u16)
 }
 
 // Writes the words of an image without objects, from word 0 on.
@@ -159,6 +139,3 @@ impl<S: WordStore> Heap<S> {
         }
     }
 }
-
-#[cfg(test)]
-mod tests;

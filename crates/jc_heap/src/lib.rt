@@ -4,8 +4,6 @@
 mod adding;
 mod areas;
 mod beginning;
-#[cfg(test)]
-mod check_tests;
 mod component;
 mod fresh;
 mod heap;
@@ -18,6 +16,7 @@ mod object;
 mod opening;
 mod package;
 mod package_table;
+mod packed;
 mod place;
 mod record;
 mod references;

@@ -1,9 +1,9 @@
 //! What a package is made from, and how many words it takes.
-ghost use Rattle.std.specs.Prelude.{ℕ, ◌≡◌, ◌<◌, ◌+◌, ◌*◌, [], length, slice_index};
+ghost use Rattle.std.specs.Prelude.{◌≡◌, ◌<◌, length};
 ghost use Rattle.jc_heap.specs.Packages.{part, parts, initial, initials, elements, component_words, components_words, arrays_size, AreComponents, AreArrays, record_size, image_size};
-ghost use Rattle.jc_heap.specs.Laying.{packed};
 
 use crate::object::Kind;
+use crate::packed::packed_size;
 
 /// A component of a package.
 #[derive(Clone, Copy)]
@@ -21,25 +21,6 @@ pub struct StaticArray<'a> {
     pub kind: Kind,
     /// The elements: two bytes each of a short array, the high one first.
     pub values: &'a [u8],
-}
-
-// How many words hold so many bytes.
-pub(crate) fn packed_size(bytes: &[u8]) -> usize
-    ensures { result ≡ length (packed bytes.now) }
-{
-    bytes.len() / 2 + bytes.len() % 2
-}
-
-// A word of packed bytes.
-pub(crate) fn packed_word(bytes: &[u8], k: usize) -> u16
-    requires { k < length (packed bytes.now) }
-    ensures { result ≡ slice_index (packed bytes.now) k }
-{
-    let high = u16::from(bytes[2 * k]) * 256;
-    if 2 * k + 1 == bytes.len() {
-        return high;
-    }
-    high + u16::from(bytes[2 * k + 1])
 }
 
 // The number of an array's cells.

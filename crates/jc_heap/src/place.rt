@@ -1,4 +1,4 @@
-//! Words that a change names: cells and the words of the registry.
+//! Words that a change names: cells, and the words of static images and of the registry.
 ghost use Rattle.std.specs.Prelude.{◌≡◌, ◌<◌, ◌↔◌, false, [], ◌∷◌, Err, map, length, slice_index, OnOk, OnErr};
 ghost use Rattle.jc_heap.specs.Heap.{HeapState, IsStopped, has_room_for, kept};
 ghost use Rattle.jc_heap.specs.Moves.{Write, Count, Done, Makes, MakesUnless, after_of, full_at};
@@ -15,6 +15,8 @@ use jc_words::WordStore;
 pub enum Place {
     /// A cell of a persistent object, by its index.
     Cell(Ref, u16),
+    /// A word of a package's static image, by its offset in the package's record.
+    Static(Ref, u16),
     /// A word of the registry, 0 to 191.
     Registry(u16),
 }
@@ -28,6 +30,7 @@ impl<S: WordStore> Heap<S> {
     {
         match place {
             Place::Cell(object, i) => self.cell_word(object, i),
+            Place::Static(package, j) => self.static_word(package, j),
             Place::Registry(i) => REGISTRY + i,
         }
     }

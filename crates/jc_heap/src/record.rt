@@ -7,7 +7,8 @@ ghost use Rattle.jc_heap.specs.Laying.{packed};
 use crate::fresh::write_run;
 use crate::layout::HEADER;
 use crate::object::Kind;
-use crate::package::{Component, StaticArray, cell_count, packed_size, packed_word};
+use crate::package::{Component, StaticArray, cell_count};
+use crate::packed::{packed_size, packed_word};
 use jc_commit::Journal;
 use jc_words::{StoreDown, WordStore};
 
@@ -23,7 +24,7 @@ fn write_packed<S: WordStore>(
     ensures stopped { OnErr result (StopsFresh journal.old journal.new) }
 {
     for k in 0..packed_size(bytes) {
-        journal.write_fresh(at + k as u16, packed_word(bytes, k))?;
+        journal.write_fresh(at + k as u16, packed_word(bytes, k as u16))?;
     }
     Ok(())
 }

@@ -1,4 +1,4 @@
-//! Calls of a heap that succeed: places for a while and for good, a package read back.
+//! Calls of a heap that succeed: places for a while and for good, a package read back, its static image.
 ghost use Rattle.std.specs.Prelude.{◌≡◌, ◌<◌, false, length, OnOk, IfOk, [], ◌∷◌};
 ghost use Rattle.jc_heap.specs.Components.{record_of};
 
@@ -21,6 +21,7 @@ fn a_persistent_object_has_its_header_and_cells(rt: HostRuntime) -> Result<(), F
         place: 0,
     };
     assert_eq!(rt; heap.facts(array), facts);
+    assert!(rt; heap.begins_with(&[facts]) && !heap.begins_with(&[facts, facts]));
     assert_eq!(rt;
         (heap.next(Ref::null()), heap.next(array)),
         (Some(array), None)
@@ -69,6 +70,7 @@ fn add_package(heap: &mut Heap<Store>, info: &[u8], values: &[u8]) -> Result<Ref
     requires info { length info.now < 65536 }
     requires values { length values.now < 65536 }
     ensures up { OnOk result (heap.new.down ≡ false) }
+    ensures same { OnOk result (heap.new.begun ≡ heap.old.begun) }
 {
     if heap.packages() >= 32 {
         return Err("no place")?;
@@ -120,5 +122,56 @@ fn a_package_is_read_back(rt: HostRuntime) -> Result<(), Fail> {
     let array = first_shorts(&heap, 2)?;
     assert_eq!(rt; array, Ref::at(761));
     assert_eq!(rt; (heap.get(array, 0), heap.get(array, 1)), (0x1234, 0xFFFE));
+    Ok(())
+}
+
+// Sets a word of the first package's static image, counted from its beginning, and tells where it stands.
+fn set_static(heap: &mut Heap<Store>, k: u16, v: u16) -> Result<u16, Fail>
+    requires up { heap.old.down ≡ false }
+    ensures up { OnOk result (heap.new.down ≡ false) }
+    ensures same { OnOk result (heap.new.begun ≡ heap.old.begun) }
+{
+    let at = first_package(heap)?;
+    let Some(begin) = heap.statics(at) else {
+        return Err("no static image")?;
+    };
+    if k >= heap.record_length(at) - begin {
+        return Err("no such word")?;
+    }
+    heap.write(Place::Static(at, begin + k), v)?;
+    Ok(begin + k)
+}
+
+// A word of the first package's record.
+fn record_word(heap: &Heap<Store>, j: u16) -> Result<u16, Fail>
+    requires up { heap.now.down ≡ false }
+{
+    let at = first_package(heap)?;
+    if j >= heap.record_length(at) {
+        return Err("no such word")?;
+    }
+    Ok(heap.record_word(at, j))
+}
+
+// The static image of the record above: the array's address, 0908, 0700.
+#[test]
+fn a_static_image_is_changed_word_by_word(rt: HostRuntime) -> Result<(), Fail> {
+    let mut heap = opened(blank_store(rt.alloc())?)?;
+    add_package(&mut heap, &[0xDE, 0xAD, 0xBE], &[0x12, 0x34, 0xFF, 0xFE])?;
+    assert_eq!(rt; (record_word(&heap, 0)?, record_word(&heap, 6)?), (9, 761));
+    assert_eq!(rt;
+        (record_word(&heap, 7)?, record_word(&heap, 8)?),
+        (0x0908, 0x0700)
+    );
+    assert_eq!(rt; set_static(&mut heap, 1, 0x0A0B)?, 7);
+    assert_eq!(rt; record_word(&heap, 7)?, 0x0A0B);
+    heap.begin();
+    assert_eq!(rt; set_static(&mut heap, 2, 1)?, 8);
+    assert_eq!(rt; (record_word(&heap, 8)?, heap.room()), (1, 255));
+    heap.abort()?;
+    assert_eq!(rt;
+        (record_word(&heap, 7)?, record_word(&heap, 8)?),
+        (0x0A0B, 0x0700)
+    );
     Ok(())
 }

@@ -1,7 +1,11 @@
-//! Tests of the heap over stores: its calls, refusals at their limits, and power that is cut.
+//! Tests of the heap over stores: images that are laid or refused, its calls, refusals at their limits, and power that is cut.
 #![tactic(auto)]
 
+#[cfg(test)]
+mod check_rows;
 #[cfg(test)]
 mod heap_calls;
 #[cfg(test)]
 mod heap_rows;
+#[cfg(test)]
+mod laying;

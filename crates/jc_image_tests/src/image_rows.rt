@@ -2,11 +2,11 @@
 ghost use Rattle.std.specs.Prelude.{◌≡◌, ◌<◌, true, false, IfOk, IfSome, OnOk};
 ghost use Rattle.jc_heap.specs.Heap.{IsObject};
 
-use crate::platform_text::PLATFORM;
 use jc_card::card::Card;
 use jc_card::formatting::{FormatFault, format};
 use jc_card::power_up::PowerFault;
 use jc_heap::{Facts, Heap, Kind, OpenImage};
+use jc_platform::example::EXAMPLE;
 use jc_transient::{ClearEvent, Ref};
 use jc_words::{FuseStore, ImageFault, MemStore, WordStore, check_image};
 use std::alloc::Global;
@@ -26,7 +26,7 @@ fn zeros(alloc: Global, n: u16) -> Result<Store, Fail> {
 
 // A formatted image of n words.
 fn formatted(alloc: Global, n: u16) -> Result<Store, Fail> {
-    let (store, result) = format(zeros(alloc, n)?, PLATFORM.as_bytes());
+    let (store, result) = format(zeros(alloc, n)?, EXAMPLE.as_bytes());
     result?;
     Ok(store)
 }
@@ -89,11 +89,11 @@ fn opened(store: Store) -> Result<Heap<Store>, Fail>
 
 #[test]
 fn a_format_that_is_stopped_leaves_no_image(rt: HostRuntime) -> Result<(), Fail> {
-    assert_eq!(rt; PLATFORM.len(), 2436);
+    assert_eq!(rt; EXAMPLE.len(), 2436);
     for writes in 0..FORMAT_WRITES {
         let mut store = zeros(rt.alloc(), 4096)?;
         store.arm(writes);
-        let (store, result) = format(store, PLATFORM.as_bytes());
+        let (store, result) = format(store, EXAMPLE.as_bytes());
         assert_eq!(rt; result, Err(FormatFault::StoreDown), "{writes} writes");
         assert_eq!(rt;
             check_image(&store),
@@ -103,7 +103,7 @@ fn a_format_that_is_stopped_leaves_no_image(rt: HostRuntime) -> Result<(), Fail>
     }
     let mut store = zeros(rt.alloc(), 4096)?;
     store.arm(FORMAT_WRITES);
-    let (store, result) = format(store, PLATFORM.as_bytes());
+    let (store, result) = format(store, EXAMPLE.as_bytes());
     assert_eq!(rt; result, Ok(()));
     assert_eq!(rt; check_image(&store), Ok(()));
     assert_eq!(rt; store.passed(), FORMAT_WRITES);
@@ -342,5 +342,25 @@ fn without_memory_the_store_is_given_back(rt: HostRuntime) -> Result<(), Fail> {
             powered_up(rt.alloc(), store)?;
         }
     }
+    Ok(())
+}
+
+// -32768 divided by -1, and a command that is cut.
+#[test]
+fn a_card_answers_a_command(rt: HostRuntime) -> Result<(), Fail> {
+    let Ok(mut card) = Card::power_up(rt.alloc(), formatted(rt.alloc(), 4096)?) else {
+        return Err("not powered up")?;
+    };
+    let division = [
+        0x80, 0x10, 0x02, 0x00, 0x06, 0x11, 0x80, 0x00, 0x02, 0x47, 0x78,
+    ];
+    assert_eq!(rt;
+        card.exchange(&division).as_bytes(),
+        [0x80, 0x00, 0x90, 0x00].as_slice()
+    );
+    assert_eq!(rt;
+        card.exchange(&division[..3]).as_bytes(),
+        [0x67, 0x00].as_slice()
+    );
     Ok(())
 }

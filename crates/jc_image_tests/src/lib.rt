@@ -3,5 +3,3 @@
 
 #[cfg(test)]
 mod image_rows;
-#[cfg(test)]
-mod platform_text;

@@ -1,6 +1,7 @@
 //! The platform's packages, classes and methods, and the tokens that a table gives them.
 #![tactic(auto)]
 
+pub mod example;
 pub mod fault;
 pub mod laws;
 mod lookup;

@@ -1,9 +1,8 @@
 //! The program's texts and exit statuses.
 mod images;
-mod table;
 
-use self::table::TABLE;
 use crate::run::run_words;
+use jc_platform::example::EXAMPLE;
 use jcard_script::mem_text::MemText;
 use std::fs;
 use std::test::Fail;
@@ -40,7 +39,7 @@ fn words_have_their_texts_and_statuses(rt: HostRuntime) -> Result<(), Fail> {
     fs::write(&rt, GOOD, "8010020006118000024778\n")?;
     fs::write(&rt, BAD, "80E50000\n\nstop\n")?;
     fs::write(&rt, EMPTY, "")?;
-    fs::write(&rt, TABLE_FILE, TABLE)?;
+    fs::write(&rt, TABLE_FILE, EXAMPLE)?;
     let usage = b"jcard: bad command line\n".as_slice();
     let rows: [(&[&str], u8, &[u8]); 24] = [
         (
@@ -118,7 +117,7 @@ fn words_have_their_texts_and_statuses(rt: HostRuntime) -> Result<(), Fail> {
 #[test]
 fn full_output_is_told_by_the_status(rt: HostRuntime) -> Result<(), Fail> {
     fs::write(&rt, LONG, "80E50000\n80E50000\n")?;
-    fs::write(&rt, FULL_TABLE, TABLE)?;
+    fs::write(&rt, FULL_TABLE, EXAMPLE)?;
     let new = [
         "jcard",
         "new",

@@ -1,17 +1,15 @@
 //! Scripts on new cards, over good and failing streams.
-mod table;
-
 use crate::mem_text::MemText;
 use crate::script::{self, ScriptFault};
 use crate::std_text::StdText;
 use crate::streams::{ReadFailed, TextIn, TextOut, WriteFailed, write_all};
 use jc_card::formatting::format;
+use jc_platform::example::EXAMPLE;
 use jc_words::{FuseStore, MemStore};
 use std::alloc::{AllocError, Global};
 use std::cell::Cell;
 use std::io::{self, ErrorKind, Read, Write};
 use std::test::Fail;
-use table::TABLE;
 
 const DIVIDES: &[u8] = b"8010020006118000024778\n";
 
@@ -21,7 +19,7 @@ fn run_script<R: TextIn, W: TextOut>(
     reader: &mut R,
     writer: &mut W,
 ) -> Result<Result<(), ScriptFault>, AllocError> {
-    let (store, _) = format(MemStore::new(alloc, 4096)?, TABLE);
+    let (store, _) = format(MemStore::new(alloc, 4096)?, EXAMPLE.as_bytes());
     let (_, result) = script::run_script(alloc, FuseStore::new(store), reader, writer);
     Ok(result)
 }

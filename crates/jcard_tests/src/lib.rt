@@ -11,10 +11,10 @@ mod instructions;
 #[cfg(test)]
 mod jumps;
 #[cfg(test)]
+mod operands;
+#[cfg(test)]
 mod running;
 #[cfg(test)]
 mod scripts;
 #[cfg(test)]
 mod stack_order;
-#[cfg(test)]
-mod table;

@@ -1,6 +1,6 @@
 //! Worked scripts, each with what it prints.
-use crate::table::TABLE;
 use jc_card::formatting::format;
+use jc_platform::example::EXAMPLE;
 use jc_words::{FuseStore, MemStore, WordStore};
 use jcard_script::mem_text::MemText;
 use jcard_script::script::run_script;
@@ -60,7 +60,7 @@ fn scripts_print_their_answers(rt: HostRuntime) -> Result<(), Fail> {
     }
     let mut reader = MemText::new(rt.alloc(), &script, 0)?;
     let mut writer = MemText::new(rt.alloc(), &[], text.len())?;
-    let (store, _) = format(MemStore::new(rt.alloc(), 4096)?, TABLE);
+    let (store, _) = format(MemStore::new(rt.alloc(), 4096)?, EXAMPLE.as_bytes());
     let (_, result) = run_script(rt.alloc(), FuseStore::new(store), &mut reader, &mut writer);
     assert_eq!(rt; result, Ok(()));
     assert_eq!(rt; writer.written(), text.as_slice());
@@ -69,7 +69,7 @@ fn scripts_print_their_answers(rt: HostRuntime) -> Result<(), Fail> {
 
 // A new image of which one word's change is not ended: entry 0 keeps the old value of the last word.
 fn interrupted(alloc: Global) -> Result<FuseStore<MemStore>, AllocError> {
-    let (mut store, _) = format(MemStore::new(alloc, 4096)?, TABLE);
+    let (mut store, _) = format(MemStore::new(alloc, 4096)?, EXAMPLE.as_bytes());
     if store.size() == 4096 {
         let _ = store.write(16, 4095);
         let _ = store.write(17, 0);

@@ -1,132 +1,12 @@
 //! The example table, and each way in which a text is no table.
 
 use super::read_table;
+use crate::example::EXAMPLE;
 use crate::fault::TableFault;
 use crate::names::{PlatformClass, PlatformMethod, PlatformPackage};
 use crate::row::Version;
 use std::process::Abort;
 use std::test::Fail;
-
-/// The first part of `examples/platform.table`.
-const JAVA_LANG: &str = "\
-package A0000000620001 1 0
-class 0 Object
-static 0 <init>
-virtual 0 equals
-class 1 Throwable
-static 0 <init>
-class 2 Exception
-static 0 <init>
-class 3 RuntimeException
-static 0 <init>
-class 4 IndexOutOfBoundsException
-static 0 <init>
-class 5 ArithmeticException
-static 0 <init>
-class 6 ArrayIndexOutOfBoundsException
-static 0 <init>
-class 7 ArrayStoreException
-static 0 <init>
-class 8 ClassCastException
-static 0 <init>
-class 9 NegativeArraySizeException
-static 0 <init>
-class 10 NullPointerException
-static 0 <init>
-class 11 SecurityException
-static 0 <init>
-";
-
-/// The rest of `examples/platform.table`.
-const FRAMEWORK: &str = "\
-package A0000000620101 1 0
-class 0 Shareable
-class 1 PIN
-interface 0 check
-interface 1 getTriesRemaining
-interface 2 isValidated
-interface 3 reset
-class 2 Applet
-static 0 <init>
-virtual 1 deselect
-virtual 2 getShareableInterfaceObject
-virtual 3 register
-virtual 4 registerBytes
-virtual 5 select
-virtual 6 selectingApplet
-virtual 7 process
-class 3 APDU
-virtual 1 getBuffer
-virtual 2 receiveBytes
-virtual 3 sendBytes
-virtual 4 setIncomingAndReceive
-virtual 5 setOutgoing
-virtual 6 setOutgoingAndSend
-virtual 7 setOutgoingLength
-class 4 AID
-static 0 <init>
-virtual 0 equals
-virtual 1 equalsBytes
-virtual 2 getBytes
-class 5 JCSystem
-static 0 abortTransaction
-static 1 beginTransaction
-static 2 commitTransaction
-static 3 getAID
-static 4 getAppletShareableInterfaceObject
-static 5 getMaxCommitCapacity
-static 6 getPreviousContextAID
-static 7 getTransactionDepth
-static 8 getUnusedCommitCapacity
-static 9 isTransient
-static 10 lookupAID
-static 11 makeTransientBooleanArray
-static 12 makeTransientByteArray
-static 13 makeTransientObjectArray
-static 14 makeTransientShortArray
-class 6 Util
-static 0 arrayCompare
-static 1 arrayCopy
-static 2 getShort
-static 3 makeShort
-static 4 setShort
-class 7 OwnerPIN
-static 0 <init>
-virtual 1 check
-virtual 2 getTriesRemaining
-virtual 3 isValidated
-virtual 4 reset
-virtual 5 resetAndUnblock
-virtual 6 update
-class 8 CardException
-static 0 <init>
-static 1 throwIt
-virtual 1 getReason
-virtual 2 setReason
-class 9 CardRuntimeException
-static 0 <init>
-static 1 throwIt
-virtual 1 getReason
-virtual 2 setReason
-class 10 ISOException
-static 0 <init>
-static 1 throwIt
-class 11 PINException
-static 0 <init>
-static 1 throwIt
-class 12 SystemException
-static 0 <init>
-static 1 throwIt
-class 13 TransactionException
-static 0 <init>
-static 1 throwIt
-class 14 APDUException
-static 0 <init>
-static 1 throwIt
-class 15 UserException
-static 0 <init>
-static 1 throwIt
-";
 
 /// A class and its token.
 const CLASSES: [(PlatformClass, u8); 8] = [
@@ -158,14 +38,16 @@ const METHODS: [(PlatformMethod, u8); 12] = [
 
 #[test]
 fn the_rows_table_reads(rt: HostRuntime) -> Result<(), Fail> {
-    let text = format!(in rt.alloc(); "{JAVA_LANG}{FRAMEWORK}")?;
-    let table = read_table(text.as_bytes())?;
+    let table = read_table(EXAMPLE.as_bytes())?;
     for (class, token) in CLASSES {
         assert_eq!(rt; table.class_token(class), token, "{class:?}");
     }
     for (method, token) in METHODS {
         assert_eq!(rt; table.method_token(method), token, "{method:?}");
     }
+    let home = PlatformClass::UserException.home();
+    assert_eq!(rt; home, PlatformPackage::JavacardFramework);
+    assert_eq!(rt; table.class_word(PlatformClass::UserException), 0x410F);
     let version = Version { major: 1, minor: 0 };
     assert_eq!(rt; table.version(PlatformPackage::JavacardFramework), version);
     assert_eq!(rt; table.package_number(PlatformPackage::JavaLang), 64);
@@ -178,7 +60,11 @@ fn the_rows_table_reads(rt: HostRuntime) -> Result<(), Fail> {
 
 #[test]
 fn packages_are_numbered_in_the_order_of_the_text(rt: HostRuntime) -> Result<(), Fail> {
-    let text = format!(in rt.alloc(); "{FRAMEWORK}{JAVA_LANG}")?;
+    const SECOND: &str = "package A0000000620101";
+    let Some((lang, framework)) = EXAMPLE.split_once(SECOND) else {
+        return Err("one package")?;
+    };
+    let text = format!(in rt.alloc(); "{SECOND}{framework}{lang}")?;
     let table = read_table(text.as_bytes())?;
     assert_eq!(rt;
         table.package_number(PlatformPackage::JavacardFramework),

@@ -1,6 +1,6 @@
 //! Images in real files: made, told, and damaged.
 use super::answer;
-use super::table::TABLE;
+use jc_platform::example::EXAMPLE;
 use std::fs;
 use std::test::Fail;
 
@@ -41,7 +41,7 @@ fn put(bytes: &mut Vec<u8>, place: usize, value: u8) {
 
 #[test]
 fn an_image_is_made_and_told(rt: HostRuntime) -> Result<(), Fail> {
-    fs::write(&rt, NEW_TABLE, TABLE)?;
+    fs::write(&rt, NEW_TABLE, EXAMPLE)?;
     let rows: [(&str, &[u8]); 3] = [
         ("4096", b"words 4096\njournal 0\npackages 0\napplets 0\n"),
         ("8192", b"words 8192\njournal 0\npackages 0\napplets 0\n"),
@@ -66,7 +66,7 @@ fn an_image_is_refused_in_order(rt: HostRuntime) -> Result<(), Fail> {
     let image = "tests_refused.image";
     let table = "tests_refused.table";
     let bad_words = b"jcard: words must be 4096 to 65535\n".as_slice();
-    fs::write(&rt, table, TABLE)?;
+    fs::write(&rt, table, EXAMPLE)?;
     fs::write(
         &rt,
         BAD_TABLE,
@@ -140,10 +140,10 @@ fn a_table_fits_to_the_last_word(rt: HostRuntime) -> Result<(), Fail> {
         let begin = "package A0000000620001 ";
         let mut longer = Vec::new(rt.alloc());
         longer.extend_from_slice(begin.as_bytes())?;
-        for _ in TABLE.len()..size {
+        for _ in EXAMPLE.len()..size {
             longer.push(b'0')?;
         }
-        let rest = TABLE.strip_prefix(begin).unwrap_or("");
+        let rest = EXAMPLE.strip_prefix(begin).unwrap_or("");
         longer.extend_from_slice(rest.as_bytes())?;
         fs::write(&rt, table, &longer)?;
         let (ended, out) = make(&rt, image, "4096", table)?;
@@ -161,7 +161,7 @@ fn a_table_fits_to_the_last_word(rt: HostRuntime) -> Result<(), Fail> {
 // The table's text has 2,436 bytes and stands from word 752 on, so the first object from 1970 on.
 #[test]
 fn a_damaged_image_is_refused_by_its_number(rt: HostRuntime) -> Result<(), Fail> {
-    fs::write(&rt, DAMAGED_TABLE, TABLE)?;
+    fs::write(&rt, DAMAGED_TABLE, EXAMPLE)?;
     fs::write(&rt, DAMAGED_SCRIPT, "80E50000\n")?;
     assert_eq!(rt; make(&rt, DAMAGED_IMAGE, "8192", DAMAGED_TABLE)?.0, 0);
     let whole = fs::read(&rt, DAMAGED_IMAGE)?;

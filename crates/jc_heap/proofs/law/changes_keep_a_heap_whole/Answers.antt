@@ -1,4 +1,4 @@
-use Rattle.jc_heap.proofs.Keeping.{keeps_whole}
+use Rattle.jc_heap.proofs.KeepingMoves.{keeps_whole}
 use Rattle.jc_heap.proofs.law.changes_keep_a_heap_whole.Goals as goal
 
 pub returns : goal.returns

@@ -9,4 +9,4 @@ pub returns-then-from-lt-TEXT_START-clause-word : goal.returns-then-from-lt-TEXT
 returns-then-from-lt-TEXT_START-clause-word c = sym (zero-word c.args.n c.args.text.now c.args.i (omega arith) (omega arith))
 
 pub returns-clause-word : goal.returns-clause-word
-returns-clause-word c = c.text_word.ensures.word ∙ sym (text-word c.args.n c.args.text.now c.args.i (omega arith))
+returns-clause-word c = c.packed_word.ensures.word ∙ sym (text-word c.args.n c.args.text.now c.args.i (omega arith))

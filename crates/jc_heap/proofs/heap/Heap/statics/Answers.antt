@@ -4,7 +4,7 @@ use Rattle.jc_heap.specs.Statics.{image_from, statics_of}
 use Rattle.jc_heap.proofs.Changing.{up_is}
 use Rattle.jc_heap.proofs.Views.{readable}
 use Rattle.jc_heap.proofs.RecordReading.{record_long, record_low, record_within, record_view, view_record, length_record, record_word}
-use Rattle.jc_heap.proofs.StaticImages.{statics-short, statics-zero, statics-walk, statics_within}
+use Rattle.jc_heap.proofs.StaticImages.{statics-short, statics-zero, statics-walk, statics_within, all_static}
 use Rattle.jc_heap.proofs.heap.Heap.statics.Goals as goal
 
 pub read-requires : goal.read-requires
@@ -74,18 +74,7 @@ returns-clause-exact g c =
     ∙ sym (statics-walk (record_of c.args.self.now.now c.args.at) (λ e. c.if-first-eq0.false (sym word ∙ e)))
 
 pub returns-clause-within : goal.returns-clause-within
-returns-clause-within g c =
-    let whole : length (record_of c.args.self.now.now c.args.at) ≡ record_long c.self.inside.journal.plain c.args.at = length_record c.self.inside.journal c.args.self.now c.self.inside.size c.args.at c.self.view_is (c.self.invariant.now (up_is c.self.inside.journal c.args.self.now c.self.inside.size c.self.view_is c.requires.up)) c.requires.there in
-    let long : c.max-long.result ≡ record_long c.self.inside.journal.plain c.args.at = c.max-long.ensures ∙ ap (λ w. max w 1) (c.read.ensures ∙ ap (λ a. get_or c.self.inside.journal.plain a 0) c.address-base.ensures) in
-    let word : get_or (record_of c.args.self.now.now c.args.at) 1 0 ≡ c.read-first.result =
-    record_word c.self.inside.journal c.args.self.now c.self.inside.size c.args.at 0 1 c.self.view_is (c.self.invariant.now (up_is c.self.inside.journal c.args.self.now c.self.inside.size c.self.view_is c.requires.up)) (omega (arith, whole, long, c.if-long-eq1.false, c.max-long.ensures))
-    ∙ ap (λ k. get_or c.self.inside.journal.plain (c.args.at + k) 0) (omega arith)
-    ∙ ap (λ a. get_or c.self.inside.journal.plain (a + 1) 0) (sym c.address-base.ensures)
-    ∙ sym c.read-first.ensures in
-    let is : c.find_image.result ≡ statics_of (record_of c.args.self.now.now c.args.at) =
-    c.find_image.ensures
-    ∙ ap (λ n. image_from (record_parts (take n (drop c.address-base.result c.self.inside.journal.plain)))) long
-    ∙ ap (λ a. image_from (record_parts (take (record_long c.self.inside.journal.plain c.args.at) (drop a c.self.inside.journal.plain)))) c.address-base.ensures
-    ∙ ap (λ l. image_from (record_parts l)) (sym (view_record c.self.inside.journal c.args.self.now c.self.inside.size c.args.at c.self.view_is (c.self.invariant.now (up_is c.self.inside.journal c.args.self.now c.self.inside.size c.self.view_is c.requires.up)) c.requires.there))
-    ∙ sym (statics-walk (record_of c.args.self.now.now c.args.at) (λ e. c.if-first-eq0.false (sym word ∙ e))) in
-    subst (λ t. IfSome t (λ p. p ≤ length (record_of c.args.self.now.now c.args.at))) (sym is) (statics_within (record_of c.args.self.now.now c.args.at) c.requires.there)
+returns-clause-within g c = subst (λ t. IfSome t (λ p. p ≤ length (record_of c.args.self.now.now c.args.at))) (sym (returns-clause-exact g c)) (statics_within (record_of c.args.self.now.now c.args.at) c.requires.there)
+
+pub returns-clause-image : goal.returns-clause-image
+returns-clause-image g c = all_static (record_of c.args.self.now.now c.args.at) c.find_image.result (returns-clause-exact g c)

@@ -1,7 +1,7 @@
-//! The text of the example table.
+//! An example of a platform table.
 
-/// `examples/platform.table`.
-pub(super) const TABLE: &str = "\
+/// The text of `examples/platform.table`, 2,436 bytes: each name that must stand, with a token.
+pub const EXAMPLE: &str = "\
 package A0000000620001 1 0
 class 0 Object
 static 0 <init>

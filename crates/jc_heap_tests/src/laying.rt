@@ -2,7 +2,7 @@
 ghost use Rattle.std.specs.Prelude.{◌≡◌, ◌<◌, false, [], ◌∷◌, length};
 ghost use Rattle.jc_heap.specs.Moves.{Begin, Commit, Done, Makes, after_of};
 
-use crate::{Heap, HeapRefusal, OpenImage};
+use jc_heap::{Heap, HeapRefusal, OpenImage, first_free};
 use jc_words::{FuseStore, MemStore, WordStore};
 use std::test::Fail;
 
@@ -57,6 +57,8 @@ fn a_sealed_image_opens_with_its_text(rt: HostRuntime) -> Result<(), Fail> {
         Err(_) => Err("not opened")?,
     };
     assert!(rt; image.text_length() == 13 && image.size() == 4096);
+    assert!(rt; image.has_text() && first_free(13) == 759);
+    assert_eq!(rt; (image.text_byte(0), image.text_byte(12)), (b'p', b't'));
     let mut read = [0; 13];
     image.read_text(&mut read);
     assert_eq!(rt; &read, text);

@@ -1,6 +1,0 @@
-use Rattle.std.proofs.Common.{arith}
-use Rattle.jc_heap.proofs.LaidImages.{packed-word}
-use Rattle.jc_heap.proofs.laying.text_word.Goals as goal
-
-pub returns-clause-word : goal.returns-clause-word
-returns-clause-word c = omega (arith, packed-word c.args.text.now c.args.k, c.byte_or_zero.ensures.byte, c.byte_or_zero-2.ensures.byte)
