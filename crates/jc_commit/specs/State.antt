@@ -105,6 +105,18 @@ opened w passed refused = record {
   refused = refused;
 }
 
+-- what a journal is over words in which no entry counts
+abbrev pub resumed : List ℕ → ℕ → ℕ → State
+resumed w passed refused = record {
+  plain = recovered_of w;
+  recovered = recovered_of w;
+  in_transaction = false;
+  touched = [];
+  down = false;
+  passed = passed;
+  refused = refused;
+}
+
 -- the state of a journal over these words
 pub record StandsFor (w : List ℕ) (s : State) : Type 0 where
   pub good : IsGoodLog w

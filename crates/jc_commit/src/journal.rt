@@ -4,14 +4,14 @@ ghost use Rattle.jc_words.specs.Count.{raised};
 ghost use Rattle.jc_commit.specs.Image.{count_of, plain_of, recovered_of, top_of, log_end, registry_start, capacity, IsGoodLog, IsPlace, IsReadable, IsUnlogged, StillRecovers};
 ghost use Rattle.jc_commit.specs.Entries.{addresses_of, AreDistinct, ArePlaces};
 ghost use Rattle.jc_commit.specs.Replay.{IsPartOfReplay};
-ghost use Rattle.jc_commit.specs.State.{State, live, undo_writes, refusing, written_in_place, opened, has_room_for, Changes, IsStopped, IsPartlyReplayed};
+ghost use Rattle.jc_commit.specs.State.{State, live, undo_writes, refusing, written_in_place, opened, resumed, has_room_for, Changes, IsStopped, IsPartlyReplayed};
 
 use crate::check::is_good_log;
 use crate::layout::{CAPACITY, COUNT};
 use crate::log::log_and_write;
 use crate::refusal::{OpenRefusal, WriteRefusal};
 use crate::undo::replay;
-use jc_words::{FuseStore, StoreDown, WordStore};
+use jc_words::{StoreDown, WordStore};
 use std::marker::Model;
 
 /// The words of a store, with transactions. While a transaction is open, the old values of the words
@@ -81,7 +81,23 @@ impl<S: WordStore> Journal<S> {
         }
     }
 
-    /// The store, for a power up.
+    /// A journal over a store in which no entry counts, as `into_store` gives it outside a
+    /// transaction. Nothing is read or written.
+    pub fn resume(store: S) -> Journal<S>
+        requires up { S.down store ≡ false }
+        requires good { IsGoodLog (S.words store) }
+        requires closed { count_of (S.words store) ≡ 0 }
+        ensures state { result ≡ resumed (S.words store) (S.passed store) (S.refused store) }
+        ensures size { length (recovered_of (S.words store)) ≡ length (S.words store) }
+    {
+        let in_transaction = false;
+        Journal {
+            store,
+            in_transaction,
+        }
+    }
+
+    /// The store, for a power up or for `resume`.
     pub fn into_store(self) -> S
         ensures good { IsGoodLog (S.words result) }
         ensures plain { plain_of (S.words result) ≡ self.plain }
@@ -286,14 +302,5 @@ impl<S: WordStore> Journal<S> {
         log_and_write(&mut self.store, changes)?;
         self.store.write(COUNT, 0)?;
         Ok(())
-    }
-}
-
-impl<S: WordStore> Journal<FuseStore<S>> {
-    /// Arms the store's fuse: `k` further writes pass, and the next is refused.
-    pub fn arm(&mut self, k: u64)
-        ensures { self.new ≡ self.old }
-    {
-        self.store.arm(k);
     }
 }

@@ -172,6 +172,10 @@ writes_for v places = if v.begun then writes_inside (length places) (length (kep
 abbrev pub has_room_for : HeapView → List ℕ → Bool
 has_room_for v places = if v.begun then nat_le (length v.touched + length (kept v places)) capacity else nat_le (length places) capacity
 
+-- a heap at rest: no transaction is open, and a loss of power leaves it as it is
+abbrev pub resting : HeapState → ℕ → ℕ → ℕ → HeapView
+resting h passed refused size = record { now = h; durable = h; begun = false; touched = []; down = false; passed = passed; refused = refused; size = size }
+
 -- one change, to another heap, by writes to these places and to so many fresh words
 abbrev pub changed : HeapView → HeapState → List ℕ → ℕ → HeapView
 changed v h places fresh = record v {

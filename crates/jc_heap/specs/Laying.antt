@@ -1,7 +1,7 @@
 -- An image without objects: the words that are written, and the heap that they stand for.
-use Rattle.std.specs.Prelude.{ℕ, ◌+◌, ◌*◌, ◌/◌, ◌≡◌, ◌<◌, ◌≤◌, false, List, [], ◌∷◌, ◌++◌, take, drop, length, slice_index, replicate}
+use Rattle.std.specs.Prelude.{ℕ, ◌+◌, ◌*◌, ◌/◌, ◌≡◌, ◌<◌, ◌≤◌, List, [], ◌∷◌, ◌++◌, take, drop, length, slice_index, replicate}
 use Rattle.jc_words.specs.Image.{magic, version, journal_capacity}
-use Rattle.jc_heap.specs.Heap.{HeapState, HeapView}
+use Rattle.jc_heap.specs.Heap.{HeapState, HeapView, resting}
 
 -- bytes as words: two in a word, the high one first; an odd last byte has 0 beside it
 abbrev pub packed : List ℕ → List ℕ
@@ -48,16 +48,7 @@ laid_heap n text = record {
 
 -- what the layers above see of it
 abbrev pub laid_view : ℕ → List ℕ → ℕ → ℕ → HeapView
-laid_view n text passed refused = record {
-  now = laid_heap n text;
-  durable = laid_heap n text;
-  begun = false;
-  touched = [];
-  down = false;
-  passed = passed;
-  refused = refused;
-  size = n;
-}
+laid_view n text passed refused = resting (laid_heap n text) passed refused n
 
 -- the heap with the magic word in its image
 abbrev pub sealed : HeapState → HeapState

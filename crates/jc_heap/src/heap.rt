@@ -4,7 +4,7 @@ ghost use Rattle.jc_commit.specs.Image.{capacity, count_of, plain_of, recovered_
 ghost use Rattle.jc_commit.specs.Entries.{addresses_of};
 ghost use Rattle.jc_heap.specs.Object.{IsElement};
 ghost use Rattle.jc_heap.specs.Image.{IsLaid};
-ghost use Rattle.jc_heap.specs.Heap.{HeapView, HeapState, heap_of, cells, facts, IsObject, HasEnd, next_object, set_cell, set_cells, run_words, changed, cell_place, IsStopped, has_room_for, begun, committed, aborted, KeepsBelowTop};
+ghost use Rattle.jc_heap.specs.Heap.{HeapView, HeapState, heap_of, cells, facts, IsObject, HasEnd, next_object, set_cell, set_cells, run_words, changed, cell_place, IsStopped, has_room_for, begun, committed, aborted, resting, KeepsBelowTop};
 ghost use Rattle.jc_heap.specs.declared.place.Place.TheVariants.{Cell};
 ghost use Rattle.jc_heap.specs.Moves.{Write, SetCells, Begin, Commit, Abort, Made, Done, Makes, MakesUnless, after_of, full_at};
 
@@ -15,7 +15,7 @@ use crate::refusal::HeapRefusal;
 use crate::walk::first_object;
 use jc_commit::Journal;
 use jc_transient::Ref;
-use jc_words::{FuseStore, JOURNAL_CAPACITY, WordStore};
+use jc_words::{JOURNAL_CAPACITY, WordStore};
 use std::marker::Model;
 
 // How many words one change may have.
@@ -247,7 +247,23 @@ impl<S: WordStore> Heap<S> {
         Ok(())
     }
 
-    /// The store, for a power up.
+    /// A heap at rest, over a store as `into_store` gives it while no transaction is open. Nothing is
+    /// read or written.
+    pub fn resume(store: S) -> Heap<S>
+        requires up { S.down store ≡ false }
+        requires good { IsGoodLog (S.words store) }
+        requires closed { count_of (S.words store) ≡ 0 }
+        requires laid { IsLaid (recovered_of (S.words store)) }
+        ensures { result ≡ resting (heap_of (recovered_of (S.words store))) (S.passed store) (S.refused store) (length (S.words store)) }
+    {
+        let size = store.size();
+        Heap {
+            journal: Journal::resume(store),
+            size,
+        }
+    }
+
+    /// The store, for a power up or for `resume`.
     pub fn into_store(self) -> S
         ensures good { IsGoodLog (S.words result) }
         ensures durable { heap_of (recovered_of (S.words result)) ≡ self.durable }
@@ -262,14 +278,5 @@ impl<S: WordStore> Heap<S> {
     {
         let Heap { journal, size: _ } = self;
         journal.into_store()
-    }
-}
-
-impl<S: WordStore> Heap<FuseStore<S>> {
-    /// Arms the store's fuse: `k` further writes pass, and the next is refused.
-    pub fn arm(&mut self, k: u64)
-        ensures { self.new ≡ self.old }
-    {
-        self.journal.arm(k);
     }
 }

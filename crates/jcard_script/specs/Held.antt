@@ -20,7 +20,7 @@ abbrev pub durable_of : {S : Type 0} → Held S → HeapState
 durable_of (Card card) = card.heap.durable
 durable_of (Store store) = durable_words store.words
 
--- the standing of what is held; nothing is held only while a reset is carried out
+-- the standing of what is held; nothing is held only while a reset is carried out or the fuse is armed
 abbrev pub standing_in : {S : Type 0} → Option (Held S) → Standing
 standing_in None = record { up = false; refused = 0 }
 standing_in (Some held) = standing_of held

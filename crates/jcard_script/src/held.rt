@@ -49,14 +49,21 @@ impl<S: WordStore> Held<S> {
         }
     }
 
-    /// Arms the store's fuse.
-    pub(crate) fn arm(&mut self, k: u64)
-        ensures standing { standing_of self.new ≡ standing_of self.old }
-        ensures durable { durable_of self.new ≡ durable_of self.old }
+    /// With the store's fuse armed: `k` further writes pass, and the next is refused.
+    pub(crate) fn armed(self, k: u64) -> Held<S>
+        ensures standing { standing_of result ≡ standing_of self }
+        ensures durable { durable_of result ≡ durable_of self }
     {
         match self {
-            Held::Card(card) => card.arm(k),
-            Held::Store(store) => store.arm(k),
+            Held::Card(card) => {
+                let (mut store, ram) = card.into_parts();
+                store.arm(k);
+                Held::Card(Card::of_parts(store, ram))
+            }
+            Held::Store(mut store) => {
+                store.arm(k);
+                Held::Store(store)
+            }
         }
     }
 

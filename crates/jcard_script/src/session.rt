@@ -23,7 +23,7 @@ use std::alloc::Global;
 #[derive(Drop)]
 pub(crate) struct Session<S: WordStore> {
     alloc: Global,
-    // Nothing only while a reset is carried out.
+    // Nothing only while a reset is carried out or the fuse is armed.
     held: Option<Held<S>>,
     line: Line,
     number: u32,
@@ -264,9 +264,8 @@ impl<S: WordStore + Drop> Session<S> {
         ensures standing { standing_in self.new.held ≡ standing_in self.old.held }
         ensures durable { durable_in self.new.held ≡ durable_in self.old.held }
     {
-        if let Some(held) = &mut self.held {
-            held.arm(u64::from(k));
-        }
+        let held = self.held.take().unwrap();
+        self.held = Some(held.armed(u64::from(k)));
         Reply::Armed(k)
     }
 }
