@@ -1,18 +1,17 @@
 -- Moves that have what they need keep heaps whole.
-use Rattle.std.proofs.Common.{◌≡◌, ℕ, suc, ◌+◌, ◌<◌, ◌≤◌, true, false, inl, inr, List, [], ◌∷◌, length, get_or, set, ◌∙◌, ap, subst, sym, arith, if◌then◌else◌}
+use Rattle.std.proofs.Common.{◌≡◌, ℕ, suc, ◌+◌, ◌≤◌, true, false, inl, inr, List, [], ◌∷◌, set, ◌∙◌, ap, subst, sym, arith, if◌then◌else◌}
 use Rattle.jc_transient.specs.declared.cell.ClearEvent.{ClearEvent}
 use Rattle.jc_transient.specs.declared.cell.ClearEvent.TheVariants.{Reset, Deselect}
 use Rattle.jc_heap.specs.declared.object.Kind.{Kind}
-use Rattle.jc_heap.specs.declared.object.Kind.TheVariants.{ReferenceArray}
 use Rattle.jc_heap.specs.declared.place.Place.{Place}
 use Rattle.jc_heap.specs.declared.place.Place.TheVariants.{Cell, Static, Registry}
 use Rattle.jc_heap.specs.Table.{has}
-use Rattle.jc_heap.specs.Object.{Object, new_transient}
-use Rattle.jc_heap.specs.Heap.{HeapState, HeapView, names, facts, area_end, with_area_end, set_cell, set_cells, add_object, add_transient, HasEnd, LacksCells, changed, is_touched}
+use Rattle.jc_heap.specs.Object.{new_transient}
+use Rattle.jc_heap.specs.Heap.{HeapState, HeapView, names, area_end, with_area_end, set_cell, set_cells, add_object, add_transient, HasEnd, changed, is_touched}
 use Rattle.jc_heap.specs.Packages.{add_package}
 use Rattle.jc_heap.specs.Places.{place_word, set_place}
 use Rattle.jc_heap.specs.Moves.{Move, Write, Count, SetCells, AddObject, AddTransient, AddPackage, Begin, Commit, Abort, apply, applied, Left}
-use Rattle.jc_heap.specs.Whole.{IsReference, IsWhole}
+use Rattle.jc_heap.specs.Whole.{IsWhole}
 use Rattle.jc_heap.specs.Keeping.{MayStand, Suits, AllSuit, StandsWhole, AreWhole, KeepsWhole}
 use Rattle.jc_heap.proofs.Laws.{names-set_cell, top-set_cell}
 use Rattle.jc_heap.proofs.RecordWords.{names-set_word, top_after-set_word}

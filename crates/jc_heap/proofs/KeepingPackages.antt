@@ -1,5 +1,5 @@
 -- What keeps a heap whole: a package, a word of its static image, a word of the registry.
-use Rattle.std.proofs.Common.{◌≡◌, ℕ, zero, suc, ◌+◌, ◌-◌, ◌<◌, ◌≤◌, ◌==◌, ◌||◌, true, false, inl, inr, List, [], ◌∷◌, ◌++◌, length, get_or, refl, sym, ◌∙◌, ap, subst, arith, None, if◌then◌else◌}
+use Rattle.std.proofs.Common.{◌≡◌, ℕ, suc, ◌+◌, ◌-◌, ◌<◌, ◌≤◌, ◌==◌, ◌||◌, true, false, inl, inr, List, [], ◌∷◌, ◌++◌, length, get_or, refl, sym, ◌∙◌, ap, subst, arith}
 use Rattle.std.proofs.lemmas.List.{get_or_append_left, get_or-append_right, length-append}
 use Rattle.std.proofs.lemmas.Bool.{cases_eq, cases_lt, eq-eqb, false≢true}
 use Rattle.std.proofs.Math.Bool.{or-true}
@@ -7,12 +7,12 @@ use Rattle.jc_transient.specs.declared.cell.ClearEvent.{ClearEvent}
 use Rattle.jc_transient.specs.declared.cell.ClearEvent.TheVariants.{Reset, Deselect}
 use Rattle.jc_heap.specs.declared.object.Kind.{Kind}
 use Rattle.jc_heap.specs.declared.object.Kind.TheVariants.{Instance, ReferenceArray}
-use Rattle.jc_heap.specs.Table.{at_or, has, put}
+use Rattle.jc_heap.specs.Table.{at_or, has}
 use Rattle.jc_heap.specs.Object.{Item, AnObject, APackage, facts_of, cells_of, is_object}
-use Rattle.jc_heap.specs.Heap.{HeapState, item_at, names, cells, facts, area_end, add_object, IsObject, HasEnd}
-use Rattle.jc_heap.specs.Packages.{AreArrays, is_initial, elements, array_object, array_size, package_record, package_owner, push_package, add_arrays, add_package}
+use Rattle.jc_heap.specs.Heap.{HeapState, item_at, names, facts, area_end, add_object, HasEnd}
+use Rattle.jc_heap.specs.Packages.{AreArrays, is_initial, array_object, array_size, package_record, package_owner, push_package, add_arrays, add_package}
 use Rattle.jc_heap.specs.Statics.{with_word, set_word}
-use Rattle.jc_heap.specs.Whole.{lies_in, cells_in, FitsAt, IsFilled, IsReference, HoldsReferences, AreMet, AreDistinct, IsWhole}
+use Rattle.jc_heap.specs.Whole.{cells_in, FitsAt, IsFilled, IsReference, HoldsReferences, AreMet, AreDistinct, IsWhole}
 use Rattle.jc_heap.proofs.Tables.{at_or-push_same, at_or-push_other, has-push}
 use Rattle.jc_heap.proofs.Laws.{names-add_other}
 use Rattle.jc_heap.proofs.Filling.{Run, filled_of, run_of}

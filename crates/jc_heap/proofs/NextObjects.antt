@@ -1,11 +1,11 @@
 -- What a search for the next object finds.
-use Rattle.std.proofs.Common.{◌≡◌, ℕ, Bool, zero, suc, ◌<◌, ◌≤◌, ◌&&◌, ◌==◌, nat_lt, true, false, inl, inr, List, [], ◌∷◌, take, drop, map, refl, sym, ◌∙◌, ap, subst, arith, Option, Some, None, if◌then◌else◌, slice_index}
+use Rattle.std.proofs.Common.{◌≡◌, ℕ, Bool, zero, suc, ◌≤◌, ◌&&◌, ◌==◌, nat_lt, true, false, inl, inr, List, [], ◌∷◌, take, drop, map, refl, sym, ◌∙◌, ap, subst, arith, Option, Some, None, if◌then◌else◌}
 use Rattle.std.specs.Prelude.{IfSome, unwrap_or}
 use Rattle.std.proofs.lemmas.Option.{none-some}
 use Rattle.std.proofs.lemmas.Bool.{cases_Bool, ne_eqb, eq-eqb, false≢true}
 use Rattle.jc_heap.specs.Cut.{Sizes, cut}
 use Rattle.jc_heap.specs.Table.{at_or}
-use Rattle.jc_heap.specs.Object.{Item, APackage, is_object}
+use Rattle.jc_heap.specs.Object.{APackage, is_object}
 use Rattle.jc_heap.specs.Image.{item, item_entry, image, package_addresses, sizes, base}
 use Rattle.jc_heap.specs.Heap.{HeapView, first_above, next_object, heap_of, read_image, item_at, IsObject}
 

@@ -1,6 +1,6 @@
 -- A word of a package's record changed, in all the words.
-use Rattle.std.proofs.Common.{◌≡◌, ℕ, ◌+◌, ◌-◌, ◌/◌, ◌<◌, ◌≤◌, true, false, inl, inr, List, [], ◌∷◌, length, take, drop, set, get_or, map, replicate, refl, sym, ◌∙◌, ap, subst, arith, if◌then◌else◌}
-use Rattle.std.proofs.lemmas.List.{get_or-drop, drop-set-add, take-set-le, length-set, length-drop, length-replicate}
+use Rattle.std.proofs.Common.{◌≡◌, ℕ, ◌+◌, ◌-◌, ◌/◌, ◌<◌, ◌≤◌, false, inl, inr, List, [], length, take, drop, set, get_or, map, replicate, refl, sym, ◌∙◌, ap, subst, arith, if◌then◌else◌}
+use Rattle.std.proofs.lemmas.List.{drop-set-add, take-set-le, length-set, length-replicate}
 use Rattle.std.proofs.lemmas.Bool.{cases_Bool, cases_eq}
 use Rattle.jc_heap.specs.Cut.{Sizes, cut, lacking}
 use Rattle.jc_heap.specs.Table.{at_or, put}
@@ -12,7 +12,7 @@ use Rattle.jc_heap.specs.Statics.{with_word, set_word}
 use Rattle.jc_heap.proofs.Records.{cut-set, lacking-set}
 use Rattle.jc_heap.proofs.Tables.{map-put, at_or-put_same, at_or-put_other, has-put, put-absent}
 use Rattle.jc_heap.proofs.Images.{sizes_tell, image-set, get_or_front, range_front, package_addresses-set, base-set, text-same}
-use Rattle.jc_heap.proofs.RecordReading.{rec, is_item, is_one, is_record, behind}
+use Rattle.jc_heap.proofs.RecordReading.{is_item, is_one, is_record, behind}
 
 module _ (ws : List ℕ) (r j v : ℕ) (laid : IsLaid ws) (four : 4 ≤ j) (h : j < length (record_of (heap_of ws) r)) where
   some : 0 < length (record_of (heap_of ws) r)

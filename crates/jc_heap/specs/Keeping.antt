@@ -1,12 +1,12 @@
 -- What keeps a heap whole: every move that puts references where references have to be.
-use Rattle.std.specs.Prelude.{ℕ, ◌≡◌, ◌<◌, ◌≤◌, false, List, [], ◌∷◌, length, slice_index, None}
+use Rattle.std.specs.Prelude.{ℕ, ◌≡◌, ◌<◌, List, [], ◌∷◌, length, slice_index, None}
 use Rattle.jc_heap.specs.declared.object.Kind.TheVariants.{ReferenceArray}
 use Rattle.jc_heap.specs.declared.place.Place.{Place}
 use Rattle.jc_heap.specs.declared.place.Place.TheVariants.{Cell, Static, Registry}
 use Rattle.jc_heap.specs.Heap.{HeapState, HeapView, facts, HasEnd, LacksCells}
 use Rattle.jc_heap.specs.Packages.{AreArrays}
 use Rattle.jc_heap.specs.Moves.{Move, Write, Count, SetCells, AddObject, AddTransient, AddPackage, Begin, Commit, Abort, apply, applied, Left}
-use Rattle.jc_heap.specs.Whole.{IsReference, HoldsReferences, IsWhole}
+use Rattle.jc_heap.specs.Whole.{IsReference, IsWhole}
 
 -- a value that keeps the place what it is: in an array of references a reference
 abbrev pub MayStand : HeapState → Place → ℕ → Type 0

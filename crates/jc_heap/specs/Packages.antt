@@ -5,7 +5,7 @@ use Rattle.jc_heap.specs.declared.object.Kind.TheVariants.{Instance, ReferenceAr
 use Rattle.jc_heap.specs.declared.package.Component.{Component}
 use Rattle.jc_heap.specs.declared.package.StaticArray.{StaticArray}
 use Rattle.jc_heap.specs.Object.{Object, APackage, kind_number, has_bytes}
-use Rattle.jc_heap.specs.Heap.{HeapState, HeapView, add_object, changed, end_place}
+use Rattle.jc_heap.specs.Heap.{HeapState, add_object, end_place}
 use Rattle.jc_heap.specs.Laying.{packed}
 
 -- a component as values: its tag and its info

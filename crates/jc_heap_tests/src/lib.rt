@@ -1,4 +1,5 @@
-//! Tests of the heap over stores: images that are laid or refused, its calls, refusals at their limits, and power that is cut.
+//! Tests of the heap over stores: images that are laid or refused, its calls, refusals at their limits,
+//! and power that is cut.
 #![tactic(auto)]
 
 #[cfg(test)]

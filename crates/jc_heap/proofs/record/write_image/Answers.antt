@@ -1,5 +1,4 @@
-use Rattle.std.proofs.Common.{◌≡◌, ◌+◌, ◌<◌, ◌≤◌, ◌++◌, [], ◌∷◌, length, take, get_or, refl, sym, ◌∙◌, ap, subst, arith}
-use Rattle.jc_heap.specs.Fresh.{IsFree, KeepsBelow, Fills}
+use Rattle.std.proofs.Common.{◌+◌, length, refl, arith}
 use Rattle.jc_heap.specs.Packages.{initials, array_addresses, image_words}
 use Rattle.jc_heap.specs.Laying.{packed}
 use Rattle.jc_heap.proofs.FreshRuns.{keeps_then}

@@ -1,5 +1,5 @@
-use Rattle.std.proofs.Common.{◌≡◌, ◌+◌, ◌<◌, ◌≤◌, ◌++◌, [], ◌∷◌, length, take, get_or, refl, sym, ◌∙◌, ap, subst, arith}
-use Rattle.jc_heap.specs.Fresh.{IsFree, KeepsBelow, Fills}
+use Rattle.std.proofs.Common.{◌≡◌, ◌+◌, take, arith}
+use Rattle.jc_heap.specs.Fresh.{KeepsBelow, Fills}
 use Rattle.jc_heap.specs.Laying.{packed}
 use Rattle.jc_commit.specs.Image.{top_of}
 use Rattle.jc_heap.proofs.Added.{top-same_below}

@@ -1,4 +1,4 @@
-use Rattle.std.proofs.Common.{◌≡◌, subst, IsTrue, ◌↔◌}
+use Rattle.std.proofs.Common.{subst, IsTrue, ◌↔◌}
 use Rattle.jc_heap.specs.Beginning.{BeginsWith, Follow}
 use Rattle.jc_heap.proofs.heap.Heap.begins_with.Goals as goal
 

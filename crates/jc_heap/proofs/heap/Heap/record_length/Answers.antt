@@ -1,8 +1,8 @@
-use Rattle.std.proofs.Common.{◌≡◌, ◌+◌, ◌<◌, ◌≤◌, ◌∙◌, [], ◌∷◌, get_or, length, max, refl, sym, ap, subst, arith, inl, inr, Err}
-use Rattle.jc_heap.proofs.Changing.{up_is, refusal_cases, journal_stopped_sound}
-use Rattle.jc_heap.proofs.Views.{readable, is_place}
+use Rattle.std.proofs.Common.{◌≡◌, ◌+◌, ◌≤◌, ◌∙◌, get_or, length, max, sym, ap, arith}
+use Rattle.jc_heap.proofs.Changing.{up_is}
+use Rattle.jc_heap.proofs.Views.{readable}
 use Rattle.jc_heap.specs.Components.{record_of}
-use Rattle.jc_heap.proofs.RecordReading.{record_long, record_low, record_within, record_view, length_record, record_word}
+use Rattle.jc_heap.proofs.RecordReading.{record_long, record_low, record_within, record_view, length_record}
 use Rattle.jc_heap.proofs.heap.Heap.record_length.Goals as goal
 
 pub read-requires : goal.read-requires

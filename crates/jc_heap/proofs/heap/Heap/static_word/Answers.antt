@@ -1,4 +1,4 @@
-use Rattle.std.proofs.Common.{◌≡◌, ◌+◌, ◌<◌, ◌≤◌, length, ap, arith}
+use Rattle.std.proofs.Common.{◌≡◌, ◌+◌, ◌<◌, ◌≤◌, length, arith}
 use Rattle.jc_heap.specs.Components.{record_of}
 use Rattle.jc_heap.proofs.Changing.{up_is}
 use Rattle.jc_heap.proofs.RecordReading.{record_long, record_within, record_view, length_record}
