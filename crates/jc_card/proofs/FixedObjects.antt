@@ -1,5 +1,5 @@
 -- The objects of the runtime environment, as they are made.
-use Rattle.std.proofs.Common.{◌≡◌, ℕ, Bool, ◌+◌, ◌*◌, ◌<◌, ◌≤◌, ◌&&◌, ◌||◌, ◌==◌, nat_lt, false, true, List, [], ◌∷◌, ◌++◌, drop, length, Option, Some, None, refl, sym, ◌∙◌, ap, subst, arith, lit≤, if◌then◌else◌}
+use Rattle.std.proofs.Common.{◌≡◌, ℕ, Bool, ◌+◌, ◌<◌, ◌≤◌, ◌&&◌, ◌||◌, ◌==◌, nat_lt, false, true, List, [], ◌∷◌, ◌++◌, drop, Some, None, refl, sym, ◌∙◌, ap, subst, arith, lit≤, if◌then◌else◌}
 use Rattle.std.proofs.lemmas.Bool.{lt-ltb, le-ltb, eq-eqb, ne_eqb, true≢false}
 use Rattle.std.proofs.lemmas.List.{append-nil, append_assoc}
 use Rattle.std.proofs.lemmas.Option.{none-some}
@@ -10,7 +10,7 @@ use Rattle.jc_transient.specs.declared.cell.ClearEvent.TheVariants.{Reset, Desel
 use Rattle.jc_heap.specs.declared.object.Kind.{Kind}
 use Rattle.jc_heap.specs.Table.{at_or, has}
 use Rattle.jc_heap.specs.Object.{Item, AnObject, APackage, is_object, facts_of, new_transient}
-use Rattle.jc_heap.specs.Heap.{HeapState, HeapView, add_transient, add_object, area_end, changed, first_above, next_object, item_at, facts, names}
+use Rattle.jc_heap.specs.Heap.{HeapState, HeapView, add_transient, add_object, area_end, first_above, next_object, item_at, facts, names}
 use Rattle.jc_heap.specs.Whole.{IsWhole, IsFilled}
 use Rattle.jc_heap.proofs.Keeping.{empty_whole, transient_whole}
 use Rattle.jc_heap.specs.Laying.{laid_heap, sealed}

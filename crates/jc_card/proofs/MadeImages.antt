@@ -1,11 +1,10 @@
 -- A new image is one that the product makes.
-use Rattle.std.proofs.Common.{◌≡◌, ℕ, ◌≤◌, List, [], ◌∷◌, length, refl, sym, ◌∙◌, ap, subst, arith, Ok, Err}
+use Rattle.std.proofs.Common.{◌≡◌, ℕ, ◌≤◌, List, length, sym, subst, Ok, Err}
 use Rattle.std.specs.Prelude.{Result, IfOk}
-use Rattle.jc_words.specs.Image.{magic, version, least_size}
+use Rattle.jc_words.specs.Image.{least_size}
 use Rattle.jc_commit.specs.Image.{IsGoodLog, recovered_of}
 use Rattle.jc_heap.specs.Image.{IsLaid}
-use Rattle.jc_heap.specs.Heap.{HeapState, heap_of}
-use Rattle.jc_heap.specs.Whole.{IsWhole}
+use Rattle.jc_heap.specs.Heap.{heap_of}
 use Rattle.jc_platform.specs.Tokens.{Tokens}
 use Rattle.jc_platform.specs.Table.{Reads}
 use Rattle.jc_card.specs.Made.{IsCardHeap, IsMade, formatted}

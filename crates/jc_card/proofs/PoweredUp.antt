@@ -3,10 +3,10 @@ use Rattle.std.proofs.Common.{◌≡◌, ℕ, ◌+◌, ◌/◌, ◌≤◌, ◌<�
 use Rattle.std.specs.Prelude.{Result, IsOk, IfErr, OnOk, Option, Some, None}
 use Rattle.std.proofs.lemmas.Bool.{false≢true}
 use Rattle.std.proofs.lemmas.List.{get_or-take}
-use Rattle.jc_words.specs.Image.{magic, version, least_size, HasSize}
+use Rattle.jc_words.specs.Image.{magic, version, HasSize}
 use Rattle.jc_words.specs.declared.image.ImageFault.{ImageFault}
 use Rattle.jc_commit.specs.Image.{IsGoodLog, recovered_of}
-use Rattle.jc_heap.specs.Image.{IsLaid, base, image, table_text}
+use Rattle.jc_heap.specs.Image.{IsLaid, base, image}
 use Rattle.jc_heap.specs.Heap.{heap_of}
 use Rattle.jc_heap.specs.Beginning.{BeginsWith}
 use Rattle.jc_heap.proofs.RawWords.{recovered-front, head_is, text_is}
@@ -19,7 +19,7 @@ use Rattle.jc_platform.specs.Distinct.{class_word}
 use Rattle.jc_platform.specs.declared.names.PlatformClass.{PlatformClass}
 use Rattle.jc_platform.proofs.OneAnswer.{same_words}
 use Rattle.jc_card.specs.declared.fixed.FixedObject.{FixedObject}
-use Rattle.jc_card.specs.Fixed.{BeginsWithFixed, class_number_of, facts_of_fixed, fixed_facts, fixed_objects}
+use Rattle.jc_card.specs.Fixed.{class_number_of, fixed_facts, fixed_objects}
 use Rattle.jc_card.specs.Made.{IsMade}
 use Rattle.jc_card.specs.PowerUp.{HasHead, HasTable, HasHeap, Refuses, Fails, Stands, IsRecovered}
 use Rattle.jc_card.specs.declared.power_up.PowerFault.{PowerFault}

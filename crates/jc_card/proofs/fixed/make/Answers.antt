@@ -1,7 +1,7 @@
-use Rattle.std.proofs.Common.{◌≡◌, ◌∙◌, ap, sym}
+use Rattle.std.proofs.Common.{◌∙◌, ap}
 use Rattle.jc_transient.specs.declared.cell.ClearEvent.TheVariants.{Reset}
 use Rattle.jc_heap.specs.Heap.{area_end}
-use Rattle.jc_card.proofs.FixedObjects.{head-add, top-add, end-add, durable-changed}
+use Rattle.jc_card.proofs.FixedObjects.{top-add, end-add, durable-changed}
 use Rattle.jc_card.proofs.fixed.make.Goals as goal
 
 pub returns-in-Ok-clause-head : goal.returns-in-Ok-clause-head

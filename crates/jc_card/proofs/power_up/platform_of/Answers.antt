@@ -1,4 +1,4 @@
-use Rattle.std.proofs.Common.{◌≡◌, ◌∙◌, ◌<◌, arith, subst, Ok, Err, List, ℕ}
+use Rattle.std.proofs.Common.{◌∙◌, arith, subst, Err}
 use Rattle.jc_platform.specs.Table.{Reads}
 use Rattle.jc_platform.proofs.OneAnswer.{no_fault}
 use Rattle.jc_heap.specs.Image.{table_text}

@@ -1,4 +1,4 @@
-use Rattle.std.proofs.Common.{◌≡◌, ◌∙◌, ap, sym, subst, length, Ok, Err, List, ℕ}
+use Rattle.std.proofs.Common.{◌≡◌, ◌∙◌, ap, subst, length}
 use Rattle.jc_commit.specs.Image.{recovered_of}
 use Rattle.jc_platform.specs.Tokens.{Tokens}
 use Rattle.jc_card.specs.Made.{IsMade}
@@ -7,7 +7,7 @@ use Rattle.jc_commit.specs.State.{opened}
 use Rattle.jc_commit.proofs.InPlace.{length-recovered}
 use Rattle.jc_heap.specs.Heap.{heap_view}
 use Rattle.jc_card.proofs.MadeImages.{mapped_if}
-use Rattle.jc_card.proofs.PoweredUp.{no_image_fault, head_found, made_found, refused_made, refused_if, refuses_from, stands_from, mapped_err, mapped_on}
+use Rattle.jc_card.proofs.PoweredUp.{no_image_fault, head_found, made_found, refused_if, refuses_from, mapped_err, mapped_on}
 use Rattle.jc_card.proofs.card.Card.power_up.Goals as goal
 
 pub returns-in-Ok-clause-made : goal.returns-in-Ok-clause-made

@@ -1,5 +1,4 @@
-use Rattle.std.proofs.Common.{◌≡◌, ◌==◌, ◌++◌, [], ◌∷◌, List, ℕ, sym, ◌∙◌, subst, false}
-use Rattle.std.specs.Str.Lines.{strip_carriage_return}
+use Rattle.std.proofs.Common.{sym, subst}
 use Rattle.jcard_script.specs.Line.{IsLineOf}
 use Rattle.jcard_script.specs.Word.{IsWordOf}
 use Rattle.jcard_script.proofs.LineSteps.{return_last, strip_other}

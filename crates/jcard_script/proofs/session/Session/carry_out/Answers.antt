@@ -1,4 +1,4 @@
-use Rattle.std.proofs.Common.{[], ◌∙◌}
+use Rattle.std.proofs.Common.{[]}
 use Rattle.jcard_script.specs.Reply.{text_of_reply}
 use Rattle.jcard_script.proofs.Known.{appends_same}
 use Rattle.jcard_script.proofs.Ending.{failed_line}

@@ -1,7 +1,6 @@
-use Rattle.std.proofs.Common.{◌≡◌, ◌∙◌, subst, sym}
+use Rattle.std.proofs.Common.{◌∙◌}
 use Rattle.jcard_script.specs.Held.{standing_in}
 use Rattle.jcard_script.specs.Reply.{text_of_reply}
-use Rattle.jcard_script.specs.Script.{IsAnswered}
 use Rattle.jcard_script.proofs.Decoding.{command_bytes}
 use Rattle.jcard_script.proofs.Words.{form_command}
 use Rattle.jcard_script.proofs.LongCommands.{answered_whole}

@@ -1,4 +1,4 @@
-use Rattle.std.proofs.Common.{◌≡◌, ◌+◌, ◌≤◌, ◌++◌, [], ◌∷◌, length, take, drop, sym, ◌∙◌, ap, arith}
+use Rattle.std.proofs.Common.{◌+◌, ◌≤◌, length, take, drop, sym, ◌∙◌, ap, arith}
 use Rattle.jcard_script.specs.Word.{next_number, number_so_far}
 use Rattle.jcard_script.proofs.LineSteps.{take_step, pushed_room, pushed_full}
 use Rattle.jcard_script.proofs.Words.{number_push, drop_long}
