@@ -1,5 +1,5 @@
 -- One component and one array of shorts, as a package may have them.
-use Rattle.std.proofs.Common.{◌≡◌, ℕ, zero, suc, ◌<◌, ◌≤◌, List, [], ◌∷◌, length, refl, arith, true, slice_index_or}
+use Rattle.std.proofs.Common.{◌≡◌, ℕ, zero, suc, ◌<◌, List, [], ◌∷◌, length, refl, arith, true, slice_index_or}
 use Rattle.jc_heap.specs.declared.object.Kind.{Kind}
 use Rattle.jc_heap.specs.declared.object.Kind.TheVariants.{ShortArray, Instance}
 use Rattle.jc_heap.specs.Packages.{AreComponents, AreArrays, IsTag, is_initial}

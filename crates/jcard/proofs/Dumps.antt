@@ -1,5 +1,5 @@
 -- A plain line of the command `dump`.
-use Rattle.std.proofs.Common.{◌≡◌, [], ◌∷◌, refl}
+use Rattle.std.proofs.Common.{[], ◌∷◌, refl}
 use Rattle.clap.proofs.OnLiterals.{clap_on_literals}
 use Rattle.jcard.proofs.Runs.{no_hyphen}
 use Rattle.jcard.specs.CommandLine.{TakesDumps, taken_for}

@@ -1,5 +1,5 @@
 -- A plain line of the command `new`.
-use Rattle.std.proofs.Common.{◌≡◌, ◌∙◌, ℕ, false, List, [], ◌∷◌, Option, Some, None, refl, sym, ap, ap₂, is_some, codes}
+use Rattle.std.proofs.Common.{◌≡◌, ◌∙◌, false, List, [], ◌∷◌, Option, Some, None, refl, sym, ap₂, is_some, codes}
 use Rattle.std.specs.Prelude.{fold, option_and_then}
 use Rattle.clap.specs.Words.{Kinds, Row, Text}
 use Rattle.clap.specs.Kinds.{or_else}

@@ -1,4 +1,4 @@
-use Rattle.std.proofs.Common.{inl, inr, [], refl, Err}
+use Rattle.std.proofs.Common.{inl, inr, [], refl}
 use Rattle.jcard_script.proofs.Known.{appends_same}
 use Rattle.jcard.proofs.run.run_file.Goals as goal
 
