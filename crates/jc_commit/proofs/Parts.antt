@@ -4,7 +4,8 @@ use Rattle.std.proofs.Common.{◌≡◌, ◌<◌, ◌≤◌, ℕ, zero, suc, ◌
 use Rattle.std.proofs.lemmas.List.{take-append-le}
 use Rattle.std.proofs.lemmas.Bool.{ne_eqb, false≢true}
 use Rattle.std.proofs.lemmas.Bool.Decides.{nat_tests}
-use Rattle.jc_commit.specs.Image.{is_log, IsReadable, count_of, count_address, log_start, capacity, address_at, old_at, with_words}
+use Rattle.jc_commit.specs.Image.{is_log, IsReadable, count_of, capacity, address_at, old_at, with_words}
+use Rattle.jc_words.specs.Layout.{count_address, log_start}
 use Rattle.jc_commit.specs.Replay.{write_backs, replay_writes, stopped_after}
 use Rattle.jc_commit.proofs.Words.{is_log-readable}
 use Rattle.jc_commit.proofs.Counted.{with_words_more}

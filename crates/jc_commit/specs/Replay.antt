@@ -1,7 +1,8 @@
 -- How the entries of an image are taken back, and what is left where that is stopped.
 use Rattle.std.specs.Prelude.{◌≡◌, ◌≤◌, ℕ, zero, suc, List, [], ◌∷◌, ◌++◌, take, if◌then◌else◌, ◌==◌}
 use Rattle.jc_words.specs.Count.{raised}
-use Rattle.jc_commit.specs.Image.{count_address, count_of, address_at, old_at, with_words}
+use Rattle.jc_commit.specs.Image.{count_of, address_at, old_at, with_words}
+use Rattle.jc_words.specs.Layout.{count_address}
 
 -- the writes of the old values of the first n entries, from the last of them to the first
 abbrev pub write_backs : List ℕ → ℕ → List (ℕ × ℕ)

@@ -4,6 +4,7 @@
 mod file;
 mod fuse;
 mod image;
+pub mod layout;
 mod memory;
 mod store;
 #[cfg(test)]
@@ -11,8 +12,6 @@ mod tests;
 
 pub use file::{FileCreateFault, FileOpenFault, FileStore};
 pub use fuse::FuseStore;
-pub use image::{
-    BlankFault, ImageFault, JOURNAL_CAPACITY, LEAST_SIZE, MAGIC, VERSION, blank, check_image,
-};
+pub use image::{BlankFault, ImageFault, blank, check_image};
 pub use memory::MemStore;
 pub use store::{StoreDown, WordStore};
