@@ -2,7 +2,7 @@
 ghost use Rattle.std.specs.Prelude.{◌≡◌, ◌≤◌, length, false, true, IfOk};
 
 use super::{FIRST, SECOND, Store, image, opened, recovered, recovered_in_part};
-use crate::{Journal, OpenRefusal, WriteRefusal};
+use jc_commit::{Journal, OpenRefusal, WriteRefusal};
 use jc_words::{StoreDown, WordStore};
 use std::fmt::InlineText;
 use std::test::Fail;

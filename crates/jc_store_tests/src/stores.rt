@@ -1,7 +1,7 @@
 //! Stores and blank images.
 ghost use Rattle.std.specs.Prelude.{◌≡◌, length, IfOk};
 
-use crate::{
+use jc_words::{
     BlankFault, FileCreateFault, FileOpenFault, FuseStore, ImageFault, MemStore, StoreDown,
     WordStore, blank, check_image,
 };
@@ -168,6 +168,7 @@ fn faults_say_what_is_wrong(rt: HostRuntime) {
         assert_eq!(rt; InlineText::<64>::of(fault).as_str(), text);
     }
     for (fault, text) in [
+        (FileOpenFault::CannotOpen, "the file cannot be opened"),
         (FileOpenFault::CannotRead, "the file cannot be read"),
         (
             FileOpenFault::BadSize,

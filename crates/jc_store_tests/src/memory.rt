@@ -1,5 +1,5 @@
 //! What no clause says: that a call succeeds where there is memory, and the numbers of one worked case.
-use crate::{AREA_CELLS, BUFFER_CELLS, BUFFER_PLACE, CellValue, ClearEvent, Ram, Ref};
+use jc_transient::{AREA_CELLS, BUFFER_CELLS, BUFFER_PLACE, CellValue, ClearEvent, Ram, Ref};
 use std::test::Fail;
 
 #[test]

@@ -2,7 +2,7 @@
 ghost use Rattle.std.specs.Prelude.{◌≡◌, ◌≤◌, ◌<◌, length, false, true, IfOk};
 
 use super::{FIRST, SECOND, Store, image, opened, recovered, recovered_in_part};
-use crate::{Journal, WriteRefusal};
+use jc_commit::{Journal, WriteRefusal};
 use jc_words::WordStore;
 use std::process::Abort;
 use std::test::Fail;
@@ -131,8 +131,8 @@ fn an_open_transaction_may_be_stopped_anywhere(rt: HostRuntime) -> Result<(), Fa
 }
 
 // So many writes leave too many pairs of recoveries to run them all. So after each stop of the story
-// recoveries follow one another over the same words, each stopped after one more of its writes than
-// the one before, from none to all.
+// recoveries follow one another over the same words, each stopped after 16 more of its writes than
+// the one before.
 #[test]
 fn a_full_transaction_may_be_stopped_anywhere(rt: HostRuntime) -> Result<(), Fail> {
     for writes in 0..=1281u64 {
@@ -144,15 +144,15 @@ fn a_full_transaction_may_be_stopped_anywhere(rt: HostRuntime) -> Result<(), Fai
     Ok(())
 }
 
-// Recoveries, each stopped after one more of its writes than the one before.
+// Recoveries, each stopped after 16 more of its writes than the one before.
 fn stopped_ever_later(store: Store) -> Result<Store, Fail>
     requires { length store.words ≡ 8192 }
     ensures { IfOk result (λ store. length store.words ≡ 8192) }
 {
     let most = writes_to_recover(&store);
     let mut store = store;
-    for step in 0..=most {
-        store = recovered_in_part(store, step)?;
+    for step in 0..=most / 16 {
+        store = recovered_in_part(store, 16 * step)?;
     }
     Ok(store)
 }

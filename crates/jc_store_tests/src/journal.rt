@@ -1,8 +1,8 @@
 //! Transactions over stores that are stopped.
 ghost use Rattle.std.specs.Prelude.{◌≡◌, ◌≤◌, length, false, true, IfOk};
 
-use crate::{Journal, OpenRefusal, WriteRefusal};
-use jc_words::{FuseStore, MemStore, StoreDown, WordStore, blank};
+use jc_commit::{Journal, OpenRefusal};
+use jc_words::{FuseStore, MemStore, WordStore, blank};
 use std::alloc::Global;
 use std::test::Fail;
 

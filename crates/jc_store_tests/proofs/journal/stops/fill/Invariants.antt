@@ -1,5 +1,5 @@
 use Rattle.std.proofs.Common.{◌≡◌, true, false, length}
-use Rattle.jc_commit.proofs.tests.stops.fill.Given as goal
+use Rattle.jc_store_tests.proofs.journal.stops.fill.Given as goal
 
 abbrev pub invariant-loop-i : goal.invariant-loop-i
 invariant-loop-i l =
