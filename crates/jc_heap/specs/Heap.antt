@@ -147,15 +147,6 @@ pub record IsSound (j : State) (size : ℕ) : Type 0 where
   -- outside a transaction there is nothing to recover
   pub settled : j.down ≡ false → j.in_transaction ≡ false → j.recovered ≡ j.plain
 
--- what the journal of a recovered image meets
-pub record IsOpen (j : State) (size : ℕ) : Type 0 where
-  pub up : j.down ≡ false
-  pub closed : j.in_transaction ≡ false
-  pub recovered : j.recovered ≡ j.plain
-  pub size_now : length j.plain ≡ size
-  pub small : size < 65536
-  pub wide : 752 ≤ size
-
 -- the heap as the open transaction found it
 abbrev pub saved : HeapView → Option HeapState
 saved v = if v.begun then Some v.durable else None

@@ -7,7 +7,7 @@ ghost use Rattle.jc_heap.specs.Moves.{AddObject, AddTransient, MakesUnless, afte
 
 use crate::fresh::{write_record, write_run};
 use crate::heap::Heap;
-use crate::layout::{DESELECT_END, HEADER, RESET_END, TOP};
+use crate::layout::{HEADER, TOP, area_word};
 use crate::object::Kind;
 use crate::refusal::HeapRefusal;
 use jc_commit::Journal;
@@ -110,16 +110,6 @@ impl<S: WordStore> Heap<S> {
             return Err(HeapRefusal::StoreDown);
         };
         Ok(Ref::at(top))
-    }
-}
-
-// The word with the end of an event's area.
-pub(crate) fn area_word(event: ClearEvent) -> u16
-    ensures { result ≡ area_place event }
-{
-    match event {
-        ClearEvent::Reset => RESET_END,
-        ClearEvent::Deselect => DESELECT_END,
     }
 }
 
