@@ -1,5 +1,6 @@
 //! A heap: reading, cells, transactions.
 ghost use Rattle.std.specs.Prelude.{ℕ, take, ◌≡◌, ◌<◌, ◌≤◌, [], ◌∷◌, true, false, Ok, Err, length, slice_index, OnOk, OnErr, ◌+◌, ◌/◌, ◌==◌, if◌then◌else◌, ◌↔◌, None, IfSome};
+ghost use Rattle.jc_words.specs.Layout.{text_start};
 ghost use Rattle.jc_commit.specs.Image.{capacity, count_of, plain_of, recovered_of, IsGoodLog};
 ghost use Rattle.jc_commit.specs.Entries.{addresses_of};
 ghost use Rattle.jc_heap.specs.Object.{IsElement};
@@ -8,14 +9,15 @@ ghost use Rattle.jc_heap.specs.Heap.{HeapView, HeapState, heap_of, heap_view, Is
 ghost use Rattle.jc_heap.specs.declared.place.Place.TheVariants.{Cell};
 ghost use Rattle.jc_heap.specs.Moves.{Write, SetCells, Begin, Commit, Abort, Made, Done, Makes, MakesUnless, after_of, full_at};
 
-use crate::layout::{HEADER, TOP};
+use crate::layout::HEADER;
 use crate::object::Facts;
 use crate::place::Place;
 use crate::lookup::{facts_at, next_behind};
 use crate::refusal::HeapRefusal;
 use jc_commit::Journal;
 use jc_transient::Ref;
-use jc_words::{JOURNAL_CAPACITY, WordStore};
+use jc_words::WordStore;
+use jc_words::layout::{JOURNAL_CAPACITY, TOP};
 use std::marker::Model;
 
 // How many words one change may have.

@@ -1,38 +1,9 @@
-//! Where an image keeps what.
+//! What an object's header says, and where; and where the ends of the areas stand.
 ghost use Rattle.std.specs.Prelude.{◌≡◌};
 ghost use Rattle.jc_heap.specs.Heap.{area_place};
 
 use jc_transient::ClearEvent;
-
-/// The word with the top.
-pub const TOP: u16 = 5;
-
-/// The word with the number of packages.
-pub const PACKAGES: u16 = 6;
-
-/// The word with the number of applets, and how many there can be.
-pub const APPLETS: u16 = 7;
-
-pub const MOST_APPLETS: u16 = 64;
-
-/// The words with the ends of the areas of transient cells.
-pub const RESET_END: u16 = 8;
-
-pub const DESELECT_END: u16 = 9;
-
-/// The word with the number of bytes of the table text.
-pub const TEXT_LENGTH: u16 = 10;
-
-/// The first of the packages' addresses, and how many there can be.
-pub const ADDRESSES: u16 = 528;
-
-pub const MOST_PACKAGES: u16 = 32;
-
-/// The first word of the registry.
-pub const REGISTRY: u16 = 560;
-
-/// The first word of the table text.
-pub const TEXT_START: u32 = 752;
+use jc_words::layout::{DESELECT_END, RESET_END};
 
 /// How many words an object's header has.
 pub const HEADER: u16 = 4;

@@ -1,18 +1,20 @@
 //! Reading objects of the words of a journal.
 ghost use Rattle.std.specs.Prelude.{◌≡◌, ◌<◌, ◌≤◌, ◌+◌, ◌/◌, ◌==◌, if◌then◌else◌, None, IfSome, length, slice_index};
+ghost use Rattle.jc_words.specs.Layout.{text_start};
 ghost use Rattle.jc_heap.specs.Image.{IsLaid};
 ghost use Rattle.jc_heap.specs.Heap.{heap_of, cells, facts, IsObject, next_object};
 
-use crate::layout::{HEADER, TEXT_LENGTH, TEXT_START};
+use crate::layout::HEADER;
 use crate::object::{Facts, Kind, event_of_number};
 use crate::walk::first_object;
 use jc_commit::Journal;
 use jc_transient::Ref;
 use jc_words::WordStore;
+use jc_words::layout::{TEXT_LENGTH, TEXT_START};
 
 // The word behind a transient object's header, 0 where there is none.
 fn place_word<S: WordStore>(journal: &Journal<S>, at: u16, word: u16) -> u16
-    requires behind { 752 ≤ at }
+    requires behind { text_start ≤ at }
     requires there { (word / 256 ≡ 0 → ⊥) → at + 4 < length journal.now.plain }
     requires small { length journal.now.plain < 65536 }
     ensures { result ≡ (if word / 256 == 0 then 0 else slice_index journal.now.plain (at + 4)) }

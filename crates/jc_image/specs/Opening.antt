@@ -1,5 +1,6 @@
 -- What opening an image leaves.
 use Rattle.std.specs.Prelude.{ℕ, ◌≡◌, ◌<◌, ◌≤◌, false, length}
+use Rattle.jc_words.specs.Layout.{text_start}
 use Rattle.jc_commit.specs.State.{State}
 
 -- what the journal of a recovered image meets
@@ -9,4 +10,4 @@ pub record IsOpen (j : State) (size : ℕ) : Type 0 where
   pub recovered : j.recovered ≡ j.plain
   pub size_now : length j.plain ≡ size
   pub small : size < 65536
-  pub wide : 752 ≤ size
+  pub wide : text_start ≤ size
