@@ -3,7 +3,6 @@ use Rattle.std.proofs.Common.{◌≡◌, ℕ, zero, suc, ◌+◌, ◌<◌, ◌�
 use Rattle.std.proofs.lemmas.List.{take_all, length-append, length-drop, length-take-le, get_or_append_left, get_or-take}
 use Rattle.std.proofs.lemmas.Bool.{eq-eqb}
 use Rattle.jc_words.specs.Count.{raised}
-use Rattle.jc_words.specs.Layout.{top_address}
 use Rattle.jc_commit.specs.Image.{count_of, plain_of, recovered_of, touched_of, with_words, IsGoodLog}
 use Rattle.jc_commit.specs.Replay.{write_backs, stopped_after}
 use Rattle.jc_commit.specs.State.{opened}

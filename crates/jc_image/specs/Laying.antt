@@ -1,5 +1,5 @@
 -- An image without objects: the words that are written, and the heap that they stand for.
-use Rattle.std.specs.Prelude.{ℕ, ◌+◌, ◌-◌, ◌*◌, ◌/◌, ◌≡◌, ◌<◌, ◌≤◌, List, [], ◌∷◌, ◌++◌, take, drop, length, slice_index, replicate}
+use Rattle.std.specs.Prelude.{ℕ, ◌+◌, ◌-◌, ◌/◌, ◌≡◌, ◌<◌, ◌≤◌, List, [], ◌∷◌, ◌++◌, take, drop, length, slice_index, replicate}
 use Rattle.jc_words.specs.Layout.{front_length, registry_length, text_start, magic, version, journal_capacity}
 use Rattle.jc_heap.specs.Packed.{packed}
 use Rattle.jc_heap.specs.Heap.{HeapState, HeapView, resting}
