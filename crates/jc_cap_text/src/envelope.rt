@@ -1,5 +1,5 @@
 //! The tag and the size that stand before each component's info.
-ghost use Rattle.std.specs.Prelude.{◌≡◌};
+ghost use Rattle.std.specs.Prelude.{◌≡◌, ◌<◌, ◌^◌, length, IfOk};
 ghost use Rattle.jc_cap_fields.specs.Reading.{Gives};
 ghost use Rattle.jc_cap_text.specs.Envelope.{info_at};
 
@@ -10,7 +10,8 @@ use jc_cap_fields::fields::u2;
 /// where they are fewer or more than the size says.
 #[tactic(auto, unfolding(crate::specs::Envelope::info_at))]
 pub fn info_of(tag: u8, bytes: &[u8]) -> Result<&[u8], CapFault>
-    ensures { Gives (λ x. x.now) result (info_at tag bytes.now) }
+    ensures exact { Gives (λ x. x.now) result (info_at tag bytes.now) }
+    ensures small { IfOk result (λ x. length x.now < 2 ^ 16) }
 {
     match bytes {
         [] => Err(CapFault::Missing(tag)),
