@@ -1,0 +1,4 @@
+//! The components of a CAP file: each is read, and a whole package is put together of them.
+#![tactic(auto)]
+
+pub mod component;
