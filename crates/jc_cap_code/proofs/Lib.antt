@@ -4,3 +4,6 @@ pub mod StaticTelling
 pub mod Sizes
 pub mod Offsets
 pub mod Supers
+pub mod Among
+pub mod ClassTelling
+pub mod RecordWalk

@@ -10,3 +10,7 @@ pub record Placed : Type 0 where
 abbrev pub offsets_of : List Placed → List ℕ
 offsets_of [] = []
 offsets_of (r ∷ rs) = r.offset ∷ offsets_of rs
+
+abbrev pub contents_of : List Placed → List ClassRecord
+contents_of [] = []
+contents_of (r ∷ rs) = r.contents ∷ contents_of rs

@@ -22,7 +22,7 @@ pub(crate) enum Known<'a> {
     Any,
 }
 
-fn is_among(offset: u16, before: &[u16]) -> bool
+pub(crate) fn is_among(offset: u16, before: &[u16]) -> bool
     ensures { result ≡ is_among offset before.now }
 {
     match before {

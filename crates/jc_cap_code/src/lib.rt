@@ -4,7 +4,9 @@
 pub mod class_lists;
 pub mod class_reading;
 pub mod class_records;
+pub mod classes;
 pub mod handlers;
 pub mod methods;
 pub mod static_arrays;
 pub mod statics;
+
