@@ -1,5 +1,5 @@
 -- What a component says.
-use Rattle.std.specs.Prelude.{List}
+use Rattle.std.specs.Prelude.{List, Option}
 use Rattle.jc_cap_fields.specs.Packages.{NamedPackage}
 use Rattle.jc_cap_text.specs.Header.{Head}
 use Rattle.jc_cap_text.specs.Applets.{AppletNamed}
@@ -21,3 +21,15 @@ pub data Content : Type 0 where
   statics : StaticParts → Content
   exports : List ExportedClass → Content
   unused : Content
+
+-- what all components of a package say; None for an Applet or an Export component that did not come
+pub record PackageContents : Type 0 where
+  pub header : Head
+  pub directory : Directory
+  pub applets : Option (List AppletNamed)
+  pub imports : List NamedPackage
+  pub pool : List Entry
+  pub classes : List Placed
+  pub methods : MethodParts
+  pub statics : StaticParts
+  pub exports : Option (List ExportedClass)
