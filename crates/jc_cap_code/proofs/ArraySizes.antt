@@ -1,10 +1,10 @@
 -- How many bytes initialised arrays have together.
-use Rattle.std.proofs.Common.{◌≡◌, ℕ, zero, suc, ◌+◌, ◌-◌, ◌≤◌, ◌<◌, List, [], ◌∷◌, ◌++◌, length, get_or, drop, Result, Ok, Err, refl, sym, ap, subst, ◌∙◌, arith}
+use Rattle.std.proofs.Common.{◌≡◌, ℕ, ◌+◌, ◌-◌, ◌≤◌, ◌<◌, List, [], ◌∷◌, length, get_or, drop, Ok, Err, sym, ap, subst, ◌∙◌, arith}
 use Rattle.std.proofs.lemmas.List.{drop_more, drop_all, length-append}
 use Rattle.jc_cap_fields.specs.declared.fault.CapFault.{CapFault}
-use Rattle.jc_cap_fields.specs.Reading.{Field, many_at, after, listed, Holds}
+use Rattle.jc_cap_fields.specs.Reading.{many_at, after, listed, Holds}
 use Rattle.jc_cap_fields.specs.Places.{IsList}
-use Rattle.jc_cap_fields.proofs.Many.{Begins, Begins-no_fault, Holds-length, ok_is}
+use Rattle.jc_cap_fields.proofs.Many.{Begins-no_fault, Holds-length, ok_is}
 use Rattle.jc_cap_fields.proofs.Walk.{begins_at, step_at}
 use Rattle.jc_cap_code.specs.StaticValues.{StaticArray}
 use Rattle.jc_cap_code.specs.StaticReading.{static_array_at, values_size}

@@ -1,6 +1,6 @@
 -- One record of the Class component: what is read stands in the bytes, and what stands there is read.
-use Rattle.std.proofs.Common.{◌≡◌, ℕ, ◌+◌, ◌*◌, ◌/◌, ◌%◌, ◌-◌, ◌<◌, ◌≤◌, Bool, true, false, cond, ltb, eqb, List, [], ◌∷◌, ◌++◌, length, Result, Ok, Err, refl, sym, ap, subst, ◌∙◌, append_assoc, arith, inl, inr, ◌⊎◌}
-use Rattle.std.proofs.lemmas.Bool.{ltb-false, le-ltb, eqb-true, eqb-false, eq-eqb, ne_eqb}
+use Rattle.std.proofs.Common.{◌≡◌, ℕ, ◌+◌, ◌*◌, ◌/◌, ◌%◌, ◌<◌, Bool, true, false, cond, ltb, eqb, List, [], ◌∷◌, ◌++◌, length, Result, Ok, Err, refl, sym, ap, subst, ◌∙◌, append_assoc, arith, inl, inr}
+use Rattle.std.proofs.lemmas.Bool.{ltb-false, le-ltb, eqb-true, eq-eqb}
 use Rattle.jc_cap_fields.specs.declared.fault.CapFault.{CapFault}
 use Rattle.jc_cap_fields.specs.declared.fault.CapFault.TheVariants.{BadOffset, Remote}
 use Rattle.jc_cap_fields.specs.declared.class_refs.ClassRef.{ClassRef}
@@ -9,7 +9,7 @@ use Rattle.jc_cap_fields.specs.ClassRefs.{class_ref_at}
 use Rattle.jc_cap_fields.specs.Grammar.{AreListed, IsU2, IsClassRef}
 use Rattle.jc_cap_fields.specs.Telling.{Taken, Tells}
 use Rattle.jc_cap_fields.proofs.Many.{bind_ok, ok_is}
-use Rattle.jc_cap_fields.proofs.Telling.{guard_ok, wanted_ok, chosen, u1_takes, u2_tells, run_takes, run_again, class_ref_tells, many_takes, many_again}
+use Rattle.jc_cap_fields.proofs.Telling.{guard_ok, chosen, u1_takes, u2_tells, run_takes, run_again, class_ref_tells, many_takes, many_again}
 use Rattle.jc_cap_code.specs.Implemented.{Implemented, implemented_at}
 use Rattle.jc_cap_code.specs.declared.class_records.RecordFlags.{RecordFlags}
 use Rattle.jc_cap_code.specs.declared.class_records.ReferenceFields.{ReferenceFields}

@@ -14,7 +14,7 @@ use Rattle.jc_cap_fields.proofs.Many.{bind_ok, ok_is}
 use Rattle.jc_cap_code.specs.declared.class_records.ClassRecord.{ClassRecord}
 use Rattle.jc_cap_code.specs.ClassValues.{Placed, offsets_of, contents_of}
 use Rattle.jc_cap_code.specs.ClassReading.{is_among, is_earlier, any_class, record_at, records_at, records_start, classes_of, placed, placed_offsets}
-use Rattle.jc_cap_code.specs.ClassGrammar.{IsRecord, LooksBack, AreRecords, AreClasses}
+use Rattle.jc_cap_code.specs.ClassGrammar.{AreRecords, AreClasses}
 use Rattle.jc_cap_code.proofs.Among.{looks_back, knows_back}
 use Rattle.jc_cap_code.proofs.ClassTelling.{record_takes, record_again, record_long, record_reread}
 

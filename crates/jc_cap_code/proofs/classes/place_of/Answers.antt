@@ -1,4 +1,3 @@
-use Rattle.std.proofs.Common.{arith}
 use Rattle.jc_cap_code.specs.ClassReading.{is_among}
 use Rattle.jc_cap_code.proofs.RecordWalk.{among_goes_on, among_ends}
 use Rattle.jc_cap_code.proofs.classes.place_of.Goals as goal

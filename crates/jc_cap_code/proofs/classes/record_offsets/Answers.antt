@@ -1,4 +1,4 @@
-use Rattle.std.proofs.Common.{◌≡◌, ◌-◌, ◌∙◌, length, arith, ap, sym, refl}
+use Rattle.std.proofs.Common.{◌-◌, ◌∙◌, length, arith, ap, sym, refl}
 use Rattle.std.proofs.lemmas.Result.{err_from_is_err_and}
 use Rattle.jc_cap_code.specs.ClassReading.{is_earlier, record_at, classes_of, placed_offsets}
 use Rattle.jc_cap_code.proofs.RecordWalk.{walk_init, walk_next, walk_fails, walk_is_full, walk_done, start_fails, start_long, no_longer, some_bytes, no_bytes}

@@ -1,4 +1,4 @@
-use Rattle.std.proofs.Common.{◌∙◌, sym, arith}
+use Rattle.std.proofs.Common.{sym, arith}
 use Rattle.jc_cap_code.specs.MethodViews.{method_parts}
 use Rattle.jc_cap_code.specs.Tables.{every, entry_fits}
 use Rattle.jc_cap_code.proofs.Every.{every_goes_on, every_fails, every_ends}

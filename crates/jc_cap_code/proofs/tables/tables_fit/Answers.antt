@@ -1,4 +1,4 @@
-use Rattle.std.proofs.Common.{◌∙◌, sym, arith}
+use Rattle.std.proofs.Common.{sym, arith}
 use Rattle.jc_cap_code.specs.ClassValues.{contents_of}
 use Rattle.jc_cap_code.specs.MethodViews.{method_parts}
 use Rattle.jc_cap_code.specs.Tables.{every, record_fits}

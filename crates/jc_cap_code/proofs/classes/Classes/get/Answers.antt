@@ -1,6 +1,6 @@
 use Rattle.std.proofs.Common.{◌∙◌, arith, ap, sym, drop, Some}
 use Rattle.jc_cap_code.specs.ClassReading.{classes_of, placed, record_at, any_class}
-use Rattle.jc_cap_code.proofs.RecordWalk.{Answers, answers, as_long, not_both, same_contents}
+use Rattle.jc_cap_code.proofs.RecordWalk.{answers, as_long, not_both, same_contents}
 use Rattle.jc_cap_code.proofs.classes.Classes.get.Goals as goal
 
 pub offset_at-at-requires : goal.offset_at-at-requires
