@@ -1,6 +1,6 @@
 -- One record of the Class component: what is read stands in the bytes, and what stands there is read.
-use Rattle.std.proofs.Common.{◌≡◌, ℕ, ◌+◌, ◌*◌, ◌/◌, ◌%◌, ◌-◌, ◌<◌, ◌≤◌, Bool, true, false, cond, ltb, eqb, List, [], ◌∷◌, ◌++◌, length, Result, Ok, Err, refl, sym, ap, subst, ◌∙◌, append_assoc, arith, inl, inr, ◌⊎◌}
-use Rattle.std.proofs.lemmas.Bool.{ltb-false, le-ltb, eqb-true, eqb-false, eq-eqb, ne_eqb}
+use Rattle.std.proofs.Common.{◌≡◌, ℕ, ◌+◌, ◌*◌, ◌/◌, ◌%◌, ◌<◌, Bool, true, false, cond, ltb, eqb, List, [], ◌∷◌, ◌++◌, length, Result, Ok, Err, refl, sym, ap, subst, ◌∙◌, append_assoc, arith, inl, inr}
+use Rattle.std.proofs.lemmas.Bool.{ltb-false, le-ltb, eqb-true, eq-eqb}
 use Rattle.jc_cap_fields.specs.declared.fault.CapFault.{CapFault}
 use Rattle.jc_cap_fields.specs.declared.fault.CapFault.TheVariants.{BadOffset, Remote}
 use Rattle.jc_cap_fields.specs.declared.class_refs.ClassRef.{ClassRef}
@@ -9,16 +9,18 @@ use Rattle.jc_cap_fields.specs.ClassRefs.{class_ref_at}
 use Rattle.jc_cap_fields.specs.Grammar.{AreListed, IsU2, IsClassRef}
 use Rattle.jc_cap_fields.specs.Telling.{Taken, Tells}
 use Rattle.jc_cap_fields.proofs.Many.{bind_ok, ok_is}
-use Rattle.jc_cap_fields.proofs.Telling.{guard_ok, wanted_ok, chosen, u1_takes, u2_tells, run_takes, run_again, class_ref_tells, many_takes, many_again}
+use Rattle.jc_cap_fields.proofs.Telling.{guard_ok, chosen, u1_takes, u2_tells, run_takes, run_again, class_ref_tells, many_takes, many_again}
 use Rattle.jc_cap_code.specs.Implemented.{Implemented, implemented_at}
 use Rattle.jc_cap_code.specs.declared.class_records.RecordFlags.{RecordFlags}
 use Rattle.jc_cap_code.specs.declared.class_records.ReferenceFields.{ReferenceFields}
+use Rattle.jc_cap_code.specs.declared.class_reading.TableSizes.{TableSizes}
+use Rattle.jc_cap_code.specs.declared.class_records.MethodTables.{MethodTables}
 use Rattle.jc_cap_code.specs.declared.class_records.InterfaceInfo.{InterfaceInfo}
 use Rattle.jc_cap_code.specs.declared.class_records.ClassInfo.{ClassInfo}
 use Rattle.jc_cap_code.specs.declared.class_records.ClassRecord.{ClassRecord}
 use Rattle.jc_cap_code.specs.declared.class_records.ClassRecord.TheVariants as records
-use Rattle.jc_cap_code.specs.ClassReading.{super_at, references_at, class_at, interface_at, flags_of, record_at, any_class}
-use Rattle.jc_cap_code.specs.ClassGrammar.{IsImplemented, FitsIn, first_byte, IsInterface, IsClass, IsRecord}
+use Rattle.jc_cap_code.specs.ClassReading.{super_at, references_at, table_sizes_at, tables_at, class_at, interface_at, flags_of, record_at, any_class}
+use Rattle.jc_cap_code.specs.ClassGrammar.{IsImplemented, FitsIn, first_byte, AreTables, IsInterface, IsClass, IsRecord}
 use Rattle.jc_cap_code.proofs.Texts.{joined, headed}
 use Rattle.jc_cap_code.proofs.Supers.{super_is}
 use Rattle.jc_cap_code.proofs.Among.{AllKnown, Knows, knows_any}
@@ -125,6 +127,67 @@ interface_again : (known : ClassRef → Bool) (i : InterfaceInfo) (text rest : L
 unfolding interface_at
 interface_again known i text rest is k = rw (many_again (super_at known) (IsKnown known) (super_tells known) i.superinterfaces text rest (known_together known i.superinterfaces text is k)) refl
 
+-- ---- method tables
+
+four : (b0 b1 b2 b3 rest : List ℕ) (w x y z : ℕ) → b0 ≡ w ∷ b1 → b1 ≡ x ∷ b2 → b2 ≡ y ∷ b3 → b3 ≡ z ∷ rest → b0 ≡ w ∷ x ∷ y ∷ z ∷ rest
+four b0 b1 b2 b3 rest w x y z e0 e1 e2 e3 = cc
+
+record SizesText (s : TableSizes) (bytes rest : List ℕ) : Type 0 where
+  package_base : ℕ
+  masked : package_base % 128 ≡ s.package_base
+  parts : bytes ≡ s.public_base ∷ s.public_count ∷ package_base ∷ s.package_count ∷ rest
+
+sizes_take : (bytes : List ℕ) (s : TableSizes) (rest : List ℕ) → table_sizes_at bytes ≡ Ok (s, rest) → SizesText s bytes rest
+unfolding table_sizes_at
+sizes_take bytes s rest e =
+    let public_base = bind_ok (u1_at bytes) _ (s, rest) e in
+    let public_count = bind_ok (u1_at public_base.0.1) _ (s, rest) public_base.2 in
+    let package_base = bind_ok (u1_at public_count.0.1) _ (s, rest) public_count.2 in
+    let package_count = bind_ok (u1_at package_base.0.1) _ (s, rest) package_base.2 in
+    let made : TableSizes × List ℕ = (record { public_base = public_base.0.0; public_count = public_count.0.0; package_base = package_base.0.0 % 128; package_count = package_count.0.0 }, package_count.0.1) in
+    subst (λ (y : TableSizes × List ℕ). SizesText y.0 bytes y.1) (ok_is made (s, rest) package_count.2)
+    (record { package_base = package_base.0.0; masked = refl; parts = four bytes public_base.0.1 public_count.0.1 package_base.0.1 package_count.0.1 public_base.0.0 public_count.0.0 package_base.0.0 package_count.0.0 (u1_takes bytes public_base.0.0 public_base.0.1 public_base.1) (u1_takes public_base.0.1 public_count.0.0 public_count.0.1 public_count.1) (u1_takes public_count.0.1 package_base.0.0 package_base.0.1 package_base.1) (u1_takes package_base.0.1 package_count.0.0 package_count.0.1 package_count.1) })
+
+counts_so : (bytes b r : List ℕ) (p q w x y z : ℕ) → bytes ≡ p ∷ w ∷ y ∷ x ∷ b → w ≡ q → x ≡ z → b ≡ r → bytes ≡ p ∷ q ∷ y ∷ z ∷ r
+counts_so bytes b r p q w x y z e f g h = cc
+
+tables_take : (bytes : List ℕ) (t : MethodTables) (rest : List ℕ) → tables_at bytes ≡ Ok (t, rest) → Taken AreTables bytes t rest
+unfolding tables_at
+tables_take bytes t rest e =
+    let sizes = bind_ok (table_sizes_at bytes) _ (t, rest) e in
+    let publics = bind_ok (many_at u2_at sizes.0.0.public_count sizes.0.1) _ (t, rest) sizes.2 in
+    let packages = bind_ok (many_at u2_at sizes.0.0.package_count publics.0.1) _ (t, rest) publics.2 in
+    let made : MethodTables × List ℕ = (record { public_base = sizes.0.0.public_base; public_methods = publics.0.0; package_base = sizes.0.0.package_base; package_methods = packages.0.0 }, packages.0.1) in
+    let s = sizes_take bytes sizes.0.0 sizes.0.1 sizes.1 in
+    let p = many_takes u2_at IsU2 u2_tells sizes.0.0.public_count sizes.0.1 publics.0.0 publics.0.1 publics.1 in
+    let q = many_takes u2_at IsU2 u2_tells sizes.0.0.package_count publics.0.1 packages.0.0 packages.0.1 packages.1 in
+    let both : sizes.0.1 ≡ (p.0.text ++ q.0.text) ++ packages.0.1 = joined sizes.0.1 p.0.text publics.0.1 q.0.text packages.0.1 p.0.parts q.0.parts in
+    subst (λ (y : MethodTables × List ℕ). Taken AreTables bytes y.0 y.1) (ok_is made (t, rest) packages.2)
+    (record {
+      text = sizes.0.0.public_base ∷ length publics.0.0 ∷ s.package_base ∷ length packages.0.0 ∷ (p.0.text ++ q.0.text);
+      is = (s.package_base, p.0.text, q.0.text, s.masked, p.0.is, q.0.is, refl);
+      parts = counts_so bytes sizes.0.1 ((p.0.text ++ q.0.text) ++ packages.0.1) sizes.0.0.public_base (length publics.0.0) sizes.0.0.public_count sizes.0.0.package_count s.package_base (length packages.0.0) s.parts (sym p.1) (sym q.1) both;
+    })
+
+sizes_again : (a b c d : ℕ) (rest : List ℕ) → table_sizes_at (a ∷ b ∷ c ∷ d ∷ rest) ≡ Ok (record { public_base = a; public_count = b; package_base = c % 128; package_count = d }, rest)
+unfolding table_sizes_at
+sizes_again a b c d rest = refl
+
+tables_again : (t : MethodTables) (text rest : List ℕ) → AreTables t text → tables_at (text ++ rest) ≡ Ok (t, rest)
+unfolding tables_at
+tables_again t text rest is =
+    rw (
+      is.6,
+      append_assoc is.1 is.2 rest,
+      sizes_again t.public_base (length t.public_methods) is.0 (length t.package_methods) (is.1 ++ (is.2 ++ rest)),
+      many_again u2_at IsU2 u2_tells t.public_methods is.1 (is.2 ++ rest) is.4,
+      many_again u2_at IsU2 u2_tells t.package_methods is.2 rest is.5,
+      is.3,
+    ) refl
+
+tables_tells : Tells tables_at AreTables
+tables_tells = record { takes = tables_take; again = tables_again }
+
 -- ---- classes
 
 record ClassText (known : ClassRef → Bool) (shareable : Bool) (count : ℕ) (c : ClassInfo) (text : List ℕ) : Type 0 where
@@ -133,13 +196,8 @@ record ClassText (known : ClassRef → Bool) (shareable : Bool) (count : ℕ) (c
   shareable_is : c.shareable ≡ shareable
   count_is : length c.interfaces ≡ count
 
-four : (b0 b1 b2 b3 b4 rest : List ℕ) (w x y z x' z' : ℕ) → b0 ≡ w ∷ b1 → b1 ≡ x ∷ b2 → b2 ≡ y ∷ b3 → b3 ≡ z ∷ b4 → x ≡ x' → z ≡ z' → b4 ≡ rest → b0 ≡ w ∷ x' ∷ y ∷ z' ∷ rest
-four b0 b1 b2 b3 b4 rest w x y z x' z' e0 e1 e2 e3 ex ez er = cc
-
-class_split : (text super publics packages interfaces rest : List ℕ) (a b c d e f g : ℕ) → text ≡ super ++ a ∷ b ∷ c ∷ d ∷ e ∷ f ∷ g ∷ (publics ++ (packages ++ interfaces))
-    → text ++ rest ≡ super ++ a ∷ b ∷ c ∷ d ∷ e ∷ f ∷ g ∷ (publics ++ (packages ++ (interfaces ++ rest)))
-class_split text super publics packages interfaces rest a b c d e f g is =
-    rw (is, append_assoc super (a ∷ b ∷ c ∷ d ∷ e ∷ f ∷ g ∷ (publics ++ (packages ++ interfaces))) rest, append_assoc publics (packages ++ interfaces) rest, append_assoc packages interfaces rest) refl
+fixed_parts : (bytes next tables lists rest : List ℕ) (a b c : ℕ) → bytes ≡ a ∷ next → next ≡ b ∷ c ∷ tables → tables ≡ lists ++ rest → bytes ≡ (a ∷ b ∷ c ∷ lists) ++ rest
+fixed_parts bytes next tables lists rest a b c e f g = e ∙ ap (λ (t : List ℕ). a ∷ t) (f ∙ ap (λ (t : List ℕ). b ∷ c ∷ t) g)
 
 class_takes : (known : ClassRef → Bool) (shareable : Bool) (interfaces : ℕ) (bytes : List ℕ) (c : ClassInfo) (rest : List ℕ) → class_at known shareable interfaces bytes ≡ Ok (c, rest) → Taken (ClassText known shareable interfaces) bytes c rest
 unfolding class_at
@@ -147,49 +205,37 @@ class_takes known shareable interfaces bytes c rest e =
     let super = bind_ok (super_at known bytes) _ (c, rest) e in
     let size = bind_ok (u1_at super.0.1) _ (c, rest) super.2 in
     let references = bind_ok (references_at size.0.0 size.0.1) _ (c, rest) size.2 in
-    let public_base = bind_ok (u1_at references.0.1) _ (c, rest) references.2 in
-    let public_count = bind_ok (u1_at public_base.0.1) _ (c, rest) public_base.2 in
-    let package_base = bind_ok (u1_at public_count.0.1) _ (c, rest) public_count.2 in
-    let package_count = bind_ok (u1_at package_base.0.1) _ (c, rest) package_base.2 in
-    let publics = bind_ok (many_at u2_at public_count.0.0 package_count.0.1) _ (c, rest) package_count.2 in
-    let packages = bind_ok (many_at u2_at package_count.0.0 publics.0.1) _ (c, rest) publics.2 in
-    let implemented = bind_ok (many_at implemented_at interfaces packages.0.1) _ (c, rest) packages.2 in
-    let made : ClassInfo × List ℕ = (record { shareable = shareable; superclass = super.0.0; declared_instance_size = size.0.0; references = references.0.0; public_methods = record { base = public_base.0.0; offsets = publics.0.0 }; package_methods = record { base = package_base.0.0 % 128; offsets = packages.0.0 }; interfaces = implemented.0.0 }, implemented.0.1) in
+    let tables = bind_ok (tables_at references.0.1) _ (c, rest) references.2 in
+    let implemented = bind_ok (many_at implemented_at interfaces tables.0.1) _ (c, rest) tables.2 in
+    let made : ClassInfo × List ℕ = (record { shareable = shareable; superclass = super.0.0; declared_instance_size = size.0.0; references = references.0.0; tables = tables.0.0; interfaces = implemented.0.0 }, implemented.0.1) in
     let s = super_takes known bytes super.0.0 super.0.1 super.1 in
     let r = references_take size.0.0 size.0.1 references.0.0 references.0.1 references.1 in
-    let p = many_takes u2_at IsU2 u2_tells public_count.0.0 package_count.0.1 publics.0.0 publics.0.1 publics.1 in
-    let q = many_takes u2_at IsU2 u2_tells package_count.0.0 publics.0.1 packages.0.0 packages.0.1 packages.1 in
-    let m = many_takes implemented_at IsImplemented implemented_tells interfaces packages.0.1 implemented.0.0 implemented.0.1 implemented.1 in
-    let lists : List ℕ = p.0.text ++ (q.0.text ++ m.0.text) in
-    let listed_parts : package_count.0.1 ≡ lists ++ implemented.0.1 =
-    joined package_count.0.1 p.0.text publics.0.1 (q.0.text ++ m.0.text) implemented.0.1 p.0.parts (joined publics.0.1 q.0.text packages.0.1 m.0.text implemented.0.1 q.0.parts m.0.parts) in
-    let tables : references.0.1 ≡ (public_base.0.0 ∷ length publics.0.0 ∷ package_base.0.0 ∷ length packages.0.0 ∷ lists) ++ implemented.0.1 =
-    four references.0.1 public_base.0.1 public_count.0.1 package_base.0.1 package_count.0.1 (lists ++ implemented.0.1) public_base.0.0 public_count.0.0 package_base.0.0 package_count.0.0 (length publics.0.0) (length packages.0.0)
-    (u1_takes references.0.1 public_base.0.0 public_base.0.1 public_base.1) (u1_takes public_base.0.1 public_count.0.0 public_count.0.1 public_count.1) (u1_takes public_count.0.1 package_base.0.0 package_base.0.1 package_base.1) (u1_takes package_base.0.1 package_count.0.0 package_count.0.1 package_count.1)
-    (sym p.1) (sym q.1) listed_parts in
-    let fixed : List ℕ = size.0.0 ∷ references.0.0.first_token ∷ references.0.0.count ∷ public_base.0.0 ∷ length publics.0.0 ∷ package_base.0.0 ∷ length packages.0.0 ∷ lists in
-    let behind : super.0.1 ≡ fixed ++ implemented.0.1 =
-    u1_takes super.0.1 size.0.0 size.0.1 size.1 ∙ ap (λ (t : List ℕ). size.0.0 ∷ t) (r.0 ∙ ap (λ (t : List ℕ). references.0.0.first_token ∷ references.0.0.count ∷ t) tables) in
-    let is : IsClass made.0 (s.text ++ fixed) = (s.text, package_base.0.0, p.0.text, q.0.text, m.0.text, s.is.0, r.1, refl, p.0.is, q.0.is, m.0.is, refl) in
+    let t = tables_take references.0.1 tables.0.0 tables.0.1 tables.1 in
+    let m = many_takes implemented_at IsImplemented implemented_tells interfaces tables.0.1 implemented.0.0 implemented.0.1 implemented.1 in
+    let lists : references.0.1 ≡ (t.text ++ m.0.text) ++ implemented.0.1 = joined references.0.1 t.text tables.0.1 m.0.text implemented.0.1 t.parts m.0.parts in
+    let behind : super.0.1 ≡ (size.0.0 ∷ references.0.0.first_token ∷ references.0.0.count ∷ (t.text ++ m.0.text)) ++ implemented.0.1 =
+    fixed_parts super.0.1 size.0.1 references.0.1 (t.text ++ m.0.text) implemented.0.1 size.0.0 references.0.0.first_token references.0.0.count (u1_takes super.0.1 size.0.0 size.0.1 size.1) r.0 lists in
+    let is : IsClass made.0 (s.text ++ size.0.0 ∷ references.0.0.first_token ∷ references.0.0.count ∷ (t.text ++ m.0.text)) = (s.text, t.text, m.0.text, s.is.0, r.1, t.is, m.0.is, refl) in
     subst (λ (y : ClassInfo × List ℕ). Taken (ClassText known shareable interfaces) bytes y.0 y.1) (ok_is made (c, rest) implemented.2)
-    (record { text = s.text ++ fixed; is = record { is = is; is_known = s.is.1; shareable_is = refl; count_is = m.1 }; parts = joined bytes s.text super.0.1 fixed implemented.0.1 s.parts behind })
+    (record {
+      text = s.text ++ size.0.0 ∷ references.0.0.first_token ∷ references.0.0.count ∷ (t.text ++ m.0.text);
+      is = record { is = is; is_known = s.is.1; shareable_is = refl; count_is = m.1 };
+      parts = joined bytes s.text super.0.1 (size.0.0 ∷ references.0.0.first_token ∷ references.0.0.count ∷ (t.text ++ m.0.text)) implemented.0.1 s.parts behind;
+    })
+
+class_split : (text super tables interfaces rest : List ℕ) (a b c : ℕ) → text ≡ super ++ a ∷ b ∷ c ∷ (tables ++ interfaces) → text ++ rest ≡ super ++ a ∷ b ∷ c ∷ (tables ++ (interfaces ++ rest))
+class_split text super tables interfaces rest a b c is = rw (is, append_assoc super (a ∷ b ∷ c ∷ (tables ++ interfaces)) rest, append_assoc tables interfaces rest) refl
 
 class_again : (known : ClassRef → Bool) (c : ClassInfo) (text rest : List ℕ) → IsClass c text → known c.superclass ≡ true → class_at known c.shareable (length c.interfaces) (text ++ rest) ≡ Ok (c, rest)
 unfolding class_at
 class_again known c text rest is k =
-    let lists : List ℕ = is.2 ++ (is.3 ++ is.4) in
-    let publics = c.public_methods.offsets in
-    let packages = c.package_methods.offsets in
-    let tables : List ℕ = c.public_methods.base ∷ length publics ∷ is.1 ∷ length packages ∷ (is.2 ++ (is.3 ++ (is.4 ++ rest))) in
-    let fixed : List ℕ = c.declared_instance_size ∷ c.references.first_token ∷ c.references.count ∷ tables in
+    let fixed : List ℕ = c.declared_instance_size ∷ c.references.first_token ∷ c.references.count ∷ (is.1 ++ (is.2 ++ rest)) in
     rw (
-      class_split text is.0 is.2 is.3 is.4 rest c.declared_instance_size c.references.first_token c.references.count c.public_methods.base (length publics) is.1 (length packages) is.11,
-      super_again known c.superclass is.0 fixed (is.5, k),
-      references_again c.declared_instance_size c.references tables is.6,
-      many_again u2_at IsU2 u2_tells publics is.2 (is.3 ++ (is.4 ++ rest)) is.8,
-      many_again u2_at IsU2 u2_tells packages is.3 (is.4 ++ rest) is.9,
-      many_again implemented_at IsImplemented implemented_tells c.interfaces is.4 rest is.10,
-      is.7,
+      class_split text is.0 is.1 is.2 rest c.declared_instance_size c.references.first_token c.references.count is.7,
+      super_again known c.superclass is.0 fixed (is.3, k),
+      references_again c.declared_instance_size c.references (is.1 ++ (is.2 ++ rest)) is.4,
+      tables_again c.tables is.1 (is.2 ++ rest) is.5,
+      many_again implemented_at IsImplemented implemented_tells c.interfaces is.2 rest is.6,
     ) refl
 
 -- ---- flags

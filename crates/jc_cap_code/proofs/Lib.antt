@@ -7,3 +7,6 @@ pub mod Supers
 pub mod Among
 pub mod ClassTelling
 pub mod RecordWalk
+pub mod Starts
+pub mod Every
+pub mod ArraySizes

@@ -1,19 +1,17 @@
 -- The Method component: what is read stands in the bytes, and what stands there is read.
-use Rattle.std.proofs.Common.{◌≡◌, ℕ, ◌+◌, ◌*◌, ◌-◌, ◌<◌, ◌≤◌, Bool, true, false, cond, ltb, List, [], ◌∷◌, ◌++◌, length, drop, Result, Ok, Err, refl, sym, ap, subst, ◌∙◌, append_assoc, arith, inl, inr, ◌⊎◌}
+use Rattle.std.proofs.Common.{◌≡◌, ℕ, ◌+◌, ◌*◌, ◌-◌, Bool, true, false, ltb, List, [], ◌∷◌, ◌++◌, Result, Ok, Err, refl, sym, ap, subst, ◌∙◌, append_assoc, arith, inl, inr}
 use Rattle.std.specs.Prelude.{IfOk}
 use Rattle.std.proofs.lemmas.Bool.{ltb-false, ltb-true, le-ltb, lt-ltb}
 use Rattle.jc_cap_fields.specs.declared.fault.CapFault.{CapFault}
-use Rattle.jc_cap_fields.specs.Reading.{◌>>=◌, Field, Gives, u1_at, u2_at, many_at}
-use Rattle.jc_cap_fields.specs.Grammar.{AreListed, IsU2}
+use Rattle.jc_cap_fields.specs.Reading.{Gives, u1_at, u2_at, many_at}
 use Rattle.jc_cap_fields.specs.Telling.{Taken, Tells}
 use Rattle.jc_cap_fields.proofs.Many.{bind_ok, ok_is}
 use Rattle.jc_cap_fields.proofs.Telling.{chosen, u1_takes, u2_takes, u2_again, many_takes, many_again}
-use Rattle.jc_cap_fields.proofs.Walk.{HasSize}
 use Rattle.jc_cap_code.specs.declared.handlers.Handler.{Handler}
 use Rattle.jc_cap_code.specs.MethodValues.{MethodParts}
 use Rattle.jc_cap_code.specs.MethodReading.{active_at, handler_at, methods_of}
 use Rattle.jc_cap_code.specs.MethodGrammar.{IsActiveLength, IsHandler, AreMethods}
-use Rattle.jc_cap_code.proofs.Texts.{joined, headed}
+use Rattle.jc_cap_code.proofs.Texts.{joined}
 
 abbrev IsActive : Bool × ℕ → List ℕ → Type 0
 IsActive a text = IsActiveLength a.0 a.1 text

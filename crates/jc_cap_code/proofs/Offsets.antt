@@ -1,9 +1,9 @@
 -- Methods by their offsets.
-use Rattle.std.proofs.Common.{◌≡◌, ℕ, ◌+◌, ◌-◌, ◌*◌, ◌<◌, ◌≤◌, Bool, true, false, ltb, List, [], length, drop, Option, Some, None, refl, arith}
+use Rattle.std.proofs.Common.{◌≡◌, ℕ, ◌-◌, ◌<◌, ◌≤◌, length, None, refl, arith}
 use Rattle.std.proofs.lemmas.Bool.{le-ltb}
 use Rattle.std.proofs.lemmas.List.{drop_all}
-use Rattle.jc_cap_code.specs.MethodValues.{MethodParts, MethodText}
-use Rattle.jc_cap_code.specs.MethodReading.{methods_start, header_of, with_bytes, method_at}
+use Rattle.jc_cap_code.specs.MethodValues.{MethodParts}
+use Rattle.jc_cap_code.specs.MethodReading.{methods_start, header_of, method_at}
 
 -- behind the last byte there is no method
 pub method_beyond : (m : MethodParts) (offset : ℕ) → methods_start m ≤ offset → length m.code < offset - methods_start m → method_at m offset ≡ None

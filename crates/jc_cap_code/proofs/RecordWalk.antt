@@ -1,7 +1,9 @@
 -- Records, one behind the other.
-use Rattle.std.proofs.Common.{◌≡◌, ℕ, zero, suc, ◌-◌, ◌+◌, ◌≤◌, ◌<◌, List, [], ◌∷◌, ◌++◌, length, get_or, drop, Bool, Option, Some, None, Result, Ok, Err, refl, sym, ap, subst, ◌∙◌, append_assoc, arith}
-use Rattle.std.specs.Prelude.{slice_get, IfOk}
-use Rattle.std.proofs.lemmas.List.{length-append, drop-drop, drop_at}
+use Rattle.std.proofs.Common.{◌≡◌, ℕ, zero, suc, ◌-◌, ◌+◌, ◌≤◌, ◌<◌, List, [], ◌∷◌, ◌++◌, length, get_or, drop, Bool, true, false, ◌||◌, eqb, Option, Some, None, Result, Ok, Err, refl, sym, ap, subst, ◌∙◌, append_assoc, arith}
+use Rattle.std.specs.Prelude.{slice_get, IfOk, IsOk}
+use Rattle.std.proofs.lemmas.List.{length-append, drop-drop, drop_at, drop_all, append-nil, nil_from_length}
+use Rattle.std.proofs.lemmas.Bool.{ne_eqb, eqb-true, false≢true}
+use Rattle.std.proofs.lemmas.Option.{get_or_from_slice_get}
 use Rattle.jc_cap_fields.specs.declared.fault.CapFault.{CapFault}
 use Rattle.jc_cap_fields.specs.declared.fault.CapFault.TheVariants.{BadOffset}
 use Rattle.jc_cap_fields.specs.declared.formats.Format.{Format}
@@ -11,8 +13,8 @@ use Rattle.jc_cap_fields.specs.Reading.{◌>>=◌, Field, Gives}
 use Rattle.jc_cap_fields.proofs.Many.{bind_ok, ok_is}
 use Rattle.jc_cap_code.specs.declared.class_records.ClassRecord.{ClassRecord}
 use Rattle.jc_cap_code.specs.ClassValues.{Placed, offsets_of, contents_of}
-use Rattle.jc_cap_code.specs.ClassReading.{is_earlier, any_class, record_at, records_at, records_start, classes_of, placed, placed_offsets}
-use Rattle.jc_cap_code.specs.ClassGrammar.{IsRecord, LooksBack, AreRecords, AreClasses}
+use Rattle.jc_cap_code.specs.ClassReading.{is_among, is_earlier, any_class, record_at, records_at, records_start, classes_of, placed, placed_offsets}
+use Rattle.jc_cap_code.specs.ClassGrammar.{AreRecords, AreClasses}
 use Rattle.jc_cap_code.proofs.Among.{looks_back, knows_back}
 use Rattle.jc_cap_code.proofs.ClassTelling.{record_takes, record_again, record_long, record_reread}
 
@@ -130,6 +132,26 @@ walk_is_full n total before bytes all full long e =
 pub walk_ends : (most total : ℕ) (before bytes : List ℕ) (all : Result (List ℕ) CapFault) → bytes ≡ [] → so_far before (records_at most total before bytes) ≡ all → all ≡ Ok (before ++ [])
 walk_ends most total before bytes all none e = sym e ∙ ap (λ (t : List ℕ). so_far before (records_at most total before t)) none ∙ ap (so_far before) (records_end most total before)
 
+pub some_bytes : (n : ℕ) → false ≡ eqb n 0 → 0 < n
+some_bytes zero e = absurd (false≢true e)
+some_bytes (suc n) e = omega arith
+
+pub no_bytes : (bytes : List ℕ) → true ≡ eqb (length bytes) 0 → bytes ≡ []
+no_bytes bytes e = nil_from_length bytes (eqb-true _ _ (sym e))
+
+-- the same, with the offset pushed
+pub walk_next : (total at : ℕ) (before pushed bytes next : List ℕ) (x : ClassRecord) (all : Result (List ℕ) CapFault) → pushed ≡ before ++ at ∷ [] → length before < 256 → 0 < length bytes → at ≡ total - length bytes → record_at (is_earlier before) bytes ≡ Ok (x, next)
+    → so_far before (records_at (256 - length before) total before bytes) ≡ all → so_far pushed (records_at (256 - length pushed) total pushed next) ≡ all
+walk_next total at before pushed bytes next x all push some long at-is h e =
+    let size : length before + 1 ≡ length (before ++ at ∷ []) = sym (length-append before (at ∷ [])) in
+    let one = walk_goes_on (length before) total at before bytes next x all some long at-is h e in
+    let two : so_far (before ++ at ∷ []) (records_at (256 - length (before ++ at ∷ [])) total (before ++ at ∷ []) next) ≡ all =
+    subst (λ (k : ℕ). so_far (before ++ at ∷ []) (records_at (256 - k) total (before ++ at ∷ []) next) ≡ all) size one in
+    subst (λ (t : List ℕ). so_far t (records_at (256 - length t) total t next) ≡ all) (sym push) two
+
+pub walk_done : (most total : ℕ) (before bytes : List ℕ) (all : Result (List ℕ) CapFault) → bytes ≡ [] → so_far before (records_at most total before bytes) ≡ all → all ≡ Ok before
+walk_done most total before bytes all none e = walk_ends most total before bytes all none e ∙ ap Ok (append-nil before)
+
 pub walk_begins : (r : Records) → so_far [] r ≡ placed_offsets r
 walk_begins (Ok rs) = refl
 walk_begins (Err f) = refl
@@ -137,6 +159,9 @@ walk_begins (Err f) = refl
 pub walk_start : (format : Format) (info start : List ℕ) → records_start format info ≡ Ok start → so_far [] (records_at 256 (length info) [] start) ≡ placed_offsets (classes_of format info)
 unfolding classes_of
 walk_start format info start e = walk_begins (records_at 256 (length info) [] start) ∙ rw e refl
+
+pub walk_init : (format : Format) (info start before : List ℕ) → before ≡ [] → records_start format info ≡ Ok start → so_far before (records_at (256 - length before) (length info) before start) ≡ placed_offsets (classes_of format info)
+walk_init format info start before none e = rw none (walk_start format info start e)
 
 pub start_fails : (format : Format) (info : List ℕ) (f : CapFault) → records_start format info ≡ Err f → placed_offsets (classes_of format info) ≡ Err f
 unfolding classes_of
@@ -171,6 +196,9 @@ next_place info bytes text next le place parts =
     let size : length bytes ≡ length text + length next = ap length parts ∙ length-append text next in
     let sum : length info - length bytes + length text ≡ length info - length next = behind (length info) (length bytes) (length text) (length next) size le in
     sym (drop_at text next (length text) refl) ∙ ap (drop (length text)) (sym parts) ∙ ap (drop (length text)) place ∙ drop-drop (length text) (length info - length bytes) info ∙ ap (λ (k : ℕ). drop k info) sum
+
+some_is : (x y : ℕ) → ◌≡◌ {A = Option ℕ} (Some x) (Some y) → x ≡ y
+some_is x y e = cc
 
 -- the record with this number begins at its offset
 pub record At (info : List ℕ) (rs : List Placed) (i : ℕ) : Type 0 where
@@ -221,15 +249,53 @@ pub record Answers (info : List ℕ) (rs : List Placed) (i o : ℕ) : Type 0 whe
   pub within : o ≤ length info
   pub reads : record_at any_class (drop o info) ≡ Ok (contents, rest)
   pub is : slice_get (contents_of rs) i ≡ Some contents
+  pub offset : slice_get (offsets_of rs) i ≡ Some o
 
-pub answers : (format : Format) (info items : List ℕ) (rs value : List Placed) (i o : ℕ) → classes_of format info ≡ Ok rs → items ≡ offsets_of rs → rs ≡ value → i < length value → o ≡ get_or items i 0 → Answers info value i o
-answers format info items rs value i o e offsets same lt at =
+pub answers : (format : Format) (info s items : List ℕ) (rs value : List Placed) (i o : ℕ) → classes_of format info ≡ Ok rs → items ≡ offsets_of rs → rs ≡ value → i < length value → s ≡ items → slice_get s i ≡ Some o → Answers info value i o
+answers format info s items rs value i o e offsets same lt slice at =
     let found = class_there format info value i (e ∙ ap Ok same) lt in
-    let place : get_or (offsets_of value) i 0 ≡ o = sym (at ∙ ap (λ (t : List ℕ). get_or t i 0) (offsets ∙ ap offsets_of same)) in
+    let all : s ≡ offsets_of value = slice ∙ offsets ∙ ap offsets_of same in
+    let here : slice_get (offsets_of value) i ≡ Some o = ap (λ (t : List ℕ). slice_get t i) (sym all) ∙ at in
+    let place : get_or (offsets_of value) i 0 ≡ o = get_or_from_slice_get (offsets_of value) i o 0 here in
     record {
       contents = found.contents;
       rest = found.rest;
       within = omega (arith, found.within, place);
       reads = ap (λ (k : ℕ). record_at any_class (drop k info)) (sym place) ∙ found.reads;
       is = contents-get value i (record { offset = get_or (offsets_of value) i 0; contents = found.contents }) found.is;
+      offset = here;
     }
+
+-- the list of offsets is as long as that of the records
+pub as_long : (s items : List ℕ) (rs value : List Placed) → items ≡ offsets_of rs → rs ≡ value → s ≡ items → length s ≡ length value
+as_long s items rs value offsets same slice = ap length (slice ∙ offsets ∙ ap offsets_of same) ∙ offsets-length value
+
+pub not_both : (x : ClassRecord × List ℕ) (f : CapFault) (r : Field ClassRecord) → r ≡ Ok x → r ≡ Err f → ⊥
+not_both x f r e h = cc
+
+pub same_contents : (x y : ClassRecord) (s t : List ℕ) (r : Field ClassRecord) → r ≡ Ok (x, s) → r ≡ Ok (y, t) → x ≡ y
+same_contents x y s t r e h = ap (λ (p : ClassRecord × List ℕ). p.0) (ok_is (x, s) (y, t) (sym e ∙ h))
+
+pub fail_not : (r : Records) (f : CapFault) → IsOk r → r ≡ Err f → ⊥
+fail_not (Ok rs) f ok e = cc
+fail_not (Err g) f ok e = absurd (false≢true ok)
+
+pub start_long : (format : Format) (info start : List ℕ) → records_start format info ≡ Ok start → length start ≤ length info
+unfolding records_start
+start_long V2_1 info start e = (let same : length info ≡ length start = ap length (ok_is info start e) in omega (arith, same))
+
+-- ---- an offset among others
+
+among_from : (n : ℕ) (xs : List ℕ) (i x : ℕ) → slice_get xs i ≡ Some x → is_among n (drop i xs) ≡ (eqb n x || is_among n (drop (suc i) xs))
+among_from n [] i x e = absurd cc
+among_from n (y ∷ xs) zero x e = ap (λ (z : ℕ). eqb n z || is_among n xs) (some_is y x e)
+among_from n (y ∷ xs) (suc i) x e = among_from n xs i x e
+
+pub among_goes_on : (n : ℕ) (xs : List ℕ) (i x : ℕ) (all : Bool) → slice_get xs i ≡ Some x → ¬ (x ≡ n) → is_among n (drop i xs) ≡ all → is_among n (drop (i + 1) xs) ≡ all
+among_goes_on n xs i x all e other so =
+    let one : is_among n (drop i xs) ≡ is_among n (drop (suc i) xs) = among_from n xs i x e ∙ ap (λ (b : Bool). b || is_among n (drop (suc i) xs)) (ne_eqb n x (λ h. other (sym h))) in
+    let on : is_among n (drop (suc i) xs) ≡ is_among n (drop (i + 1) xs) = ap (λ (k : ℕ). is_among n (drop k xs)) (let z : suc i ≡ i + 1 = omega arith in z) in
+    sym on ∙ sym one ∙ so
+
+pub among_ends : (n : ℕ) (xs : List ℕ) (i : ℕ) → length xs ≤ i → is_among n (drop i xs) ≡ is_among n xs → is_among n xs ≡ false
+among_ends n xs i le so = sym so ∙ ap (is_among n) (drop_all i xs le)

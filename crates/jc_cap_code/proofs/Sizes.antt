@@ -1,12 +1,10 @@
 -- Parts of one size.
-use Rattle.std.proofs.Common.{◌≡◌, ℕ, ◌+◌, ◌≤◌, Bool, true, false, List, [], ◌∷◌, ◌++◌, length, drop, Ok, refl, sym, ap, ◌∙◌, arith}
+use Rattle.std.proofs.Common.{◌≡◌, ℕ, ◌≤◌, Bool, true, false, List, ◌++◌, length, drop, refl, ap, ◌∙◌, arith}
 use Rattle.std.proofs.lemmas.List.{drop_at, length-append}
-use Rattle.jc_cap_fields.specs.Reading.{Field}
 use Rattle.jc_cap_fields.specs.declared.class_refs.ClassRef.{ClassRef}
 use Rattle.jc_cap_fields.specs.declared.class_refs.ClassRef.TheVariants.{Internal, External}
 use Rattle.jc_cap_fields.specs.ClassRefs.{class_ref_at}
 use Rattle.jc_cap_fields.specs.Grammar.{IsU2, IsClassRef}
-use Rattle.jc_cap_fields.specs.Telling.{Taken, Tells}
 use Rattle.jc_cap_fields.proofs.Telling.{class_ref_tells}
 use Rattle.jc_cap_fields.proofs.Walk.{HasSize}
 use Rattle.jc_cap_code.specs.declared.handlers.Handler.{Handler}

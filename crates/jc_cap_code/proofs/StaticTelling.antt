@@ -1,10 +1,9 @@
 -- The StaticField component: what is read stands in the bytes, and what stands there is read.
-use Rattle.std.proofs.Common.{◌≡◌, ℕ, ◌+◌, ◌*◌, ◌-◌, ◌%◌, ◌<◌, ◌≤◌, Bool, true, false, cond, ltb, eqb, List, [], ◌∷◌, ◌++◌, length, Result, Ok, Err, refl, sym, ap, subst, ◌∙◌, append_assoc, arith, inl, inr, ◌⊎◌}
+use Rattle.std.proofs.Common.{◌≡◌, ℕ, ◌+◌, ◌*◌, ◌%◌, ◌≤◌, ltb, eqb, List, ◌∷◌, ◌++◌, length, Ok, refl, sym, ap, subst, ◌∙◌, append_assoc, arith, inl, inr}
 use Rattle.std.proofs.lemmas.Bool.{ltb-false, le-ltb, eqb-true, eq-eqb}
-use Rattle.jc_cap_fields.specs.declared.fault.CapFault.{CapFault}
 use Rattle.jc_cap_fields.specs.declared.fault.CapFault.TheVariants.{BadOffset, SizesDisagree}
-use Rattle.jc_cap_fields.specs.Reading.{◌>>=◌, Field, u1_at, u2_at, run_at, many_at}
-use Rattle.jc_cap_fields.specs.Grammar.{AreListed, IsU2}
+use Rattle.jc_cap_fields.specs.Reading.{u1_at, u2_at, run_at}
+use Rattle.jc_cap_fields.specs.Grammar.{IsU2}
 use Rattle.jc_cap_fields.specs.Telling.{Taken, Tells}
 use Rattle.jc_cap_fields.proofs.Many.{bind_ok, ok_is}
 use Rattle.jc_cap_fields.proofs.Telling.{guard_ok, wanted_ok, chosen, u1_takes, u2_takes, u2_again, run_takes, run_again, many_takes, many_again}

@@ -1,9 +1,8 @@
 -- Superclasses and superinterfaces are class references.
-use Rattle.std.proofs.Common.{◌≡◌, ℕ, zero, suc, Bool, true, false, List, [], ◌∷◌, Result, Ok, Err, refl, sym, ap, ◌∙◌}
-use Rattle.jc_cap_fields.specs.declared.fault.CapFault.{CapFault}
+use Rattle.std.proofs.Common.{◌≡◌, ℕ, zero, suc, Bool, true, List, Ok, sym, ap, ◌∙◌}
 use Rattle.jc_cap_fields.specs.declared.fault.CapFault.TheVariants.{BadOffset}
 use Rattle.jc_cap_fields.specs.declared.class_refs.ClassRef.{ClassRef}
-use Rattle.jc_cap_fields.specs.Reading.{◌>>=◌, Field, many_at, after, listed}
+use Rattle.jc_cap_fields.specs.Reading.{Field, many_at, after, listed}
 use Rattle.jc_cap_fields.specs.ClassRefs.{class_ref_at}
 use Rattle.jc_cap_fields.specs.Places.{IsList}
 use Rattle.jc_cap_fields.proofs.Many.{bind_ok, ok_is, is_read, listed_as}

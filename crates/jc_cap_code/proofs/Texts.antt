@@ -1,5 +1,5 @@
 -- Texts that stand one behind the other.
-use Rattle.std.proofs.Common.{◌≡◌, ℕ, List, [], ◌∷◌, ◌++◌, refl, sym, ap, ◌∙◌, append_assoc}
+use Rattle.std.proofs.Common.{◌≡◌, ℕ, List, ◌∷◌, ◌++◌, sym, ap, ◌∙◌, append_assoc}
 
 -- a text, and behind it another
 pub joined : (bytes text next more rest : List ℕ) → bytes ≡ text ++ next → next ≡ more ++ rest → bytes ≡ (text ++ more) ++ rest

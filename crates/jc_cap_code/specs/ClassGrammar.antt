@@ -6,6 +6,7 @@ use Rattle.jc_cap_fields.specs.declared.class_refs.ClassRef.{ClassRef}
 use Rattle.jc_cap_fields.specs.declared.class_refs.ClassRef.TheVariants.{Internal, External}
 use Rattle.jc_cap_fields.specs.Grammar.{AreListed, IsU2, IsClassRef}
 use Rattle.jc_cap_code.specs.declared.class_records.ReferenceFields.{ReferenceFields}
+use Rattle.jc_cap_code.specs.declared.class_records.MethodTables.{MethodTables}
 use Rattle.jc_cap_code.specs.declared.class_records.InterfaceInfo.{InterfaceInfo}
 use Rattle.jc_cap_code.specs.declared.class_records.ClassInfo.{ClassInfo}
 use Rattle.jc_cap_code.specs.declared.class_records.ClassRecord.{ClassRecord}
@@ -28,14 +29,17 @@ first_byte interface shareable count = ((if interface then 8 else 0) + (if share
 abbrev pub IsInterface : InterfaceInfo → List ℕ → Type 0
 IsInterface i text = AreListed IsClassRef i.superinterfaces text
 
--- the package table's base may have its high bit set
+-- the bases and the lengths of the public and the package table, and then the tables; the base of the package table may
+-- have its high bit set
+abbrev pub AreTables : MethodTables → List ℕ → Type 0
+AreTables t text = (package_base : ℕ) × (publics : List ℕ) × (packages : List ℕ) × (package_base % 128 ≡ t.package_base)
+    × AreListed IsU2 t.public_methods publics × AreListed IsU2 t.package_methods packages
+    × (text ≡ t.public_base ∷ length t.public_methods ∷ package_base ∷ length t.package_methods ∷ (publics ++ packages))
+
 abbrev pub IsClass : ClassInfo → List ℕ → Type 0
-IsClass c text = (super : List ℕ) × (package_base : ℕ) × (publics : List ℕ) × (packages : List ℕ) × (interfaces : List ℕ)
-    × IsClassRef c.superclass super × FitsIn c.declared_instance_size c.references × (package_base % 128 ≡ c.package_methods.base)
-    × AreListed IsU2 c.public_methods.offsets publics × AreListed IsU2 c.package_methods.offsets packages × AreListed IsImplemented c.interfaces interfaces
-    × (text ≡ super ++ c.declared_instance_size ∷ c.references.first_token ∷ c.references.count
-    ∷ c.public_methods.base ∷ length c.public_methods.offsets ∷ package_base ∷ length c.package_methods.offsets
-    ∷ (publics ++ (packages ++ interfaces)))
+IsClass c text = (super : List ℕ) × (tables : List ℕ) × (interfaces : List ℕ)
+    × IsClassRef c.superclass super × FitsIn c.declared_instance_size c.references × AreTables c.tables tables × AreListed IsImplemented c.interfaces interfaces
+    × (text ≡ super ++ c.declared_instance_size ∷ c.references.first_token ∷ c.references.count ∷ (tables ++ interfaces))
 
 abbrev pub IsRecord : ClassRecord → List ℕ → Type 0
 IsRecord (records.Interface i) text = (rest : List ℕ) × (length i.superinterfaces < 16) × IsInterface i rest

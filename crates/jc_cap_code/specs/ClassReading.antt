@@ -1,5 +1,5 @@
 -- Reading the Class component: records to the end of the info.
-use Rattle.std.specs.Prelude.{ℕ, zero, suc, ◌+◌, ◌*◌, ◌/◌, ◌%◌, ◌-◌, Bool, true, false, ◌||◌, List, [], ◌∷◌, ◌++◌, length, Result, Ok, Err, nat_lt, ◌==◌, if◌then◌else◌}
+use Rattle.std.specs.Prelude.{ℕ, zero, suc, ◌+◌, ◌/◌, ◌%◌, ◌-◌, Bool, true, false, ◌||◌, List, [], ◌∷◌, ◌++◌, length, Result, Ok, Err, nat_lt, ◌==◌, if◌then◌else◌}
 use Rattle.jc_cap_fields.specs.declared.fault.CapFault.{CapFault}
 use Rattle.jc_cap_fields.specs.declared.fault.CapFault.TheVariants.{BadOffset, Remote}
 use Rattle.jc_cap_fields.specs.declared.formats.Format.{Format}
@@ -10,6 +10,8 @@ use Rattle.jc_cap_fields.specs.Reading.{◌>>=◌, Field, u1_at, u2_at, many_at}
 use Rattle.jc_cap_fields.specs.ClassRefs.{class_ref_at}
 use Rattle.jc_cap_code.specs.declared.class_records.RecordFlags.{RecordFlags}
 use Rattle.jc_cap_code.specs.declared.class_records.ReferenceFields.{ReferenceFields}
+use Rattle.jc_cap_code.specs.declared.class_reading.TableSizes.{TableSizes}
+use Rattle.jc_cap_code.specs.declared.class_records.MethodTables.{MethodTables}
 use Rattle.jc_cap_code.specs.declared.class_records.InterfaceInfo.{InterfaceInfo}
 use Rattle.jc_cap_code.specs.declared.class_records.ClassInfo.{ClassInfo}
 use Rattle.jc_cap_code.specs.declared.class_records.ClassRecord.{ClassRecord}
@@ -44,19 +46,31 @@ references_at size bytes = do
       else if nat_lt size (first.0 + count.0) then Err BadOffset
       else Ok (record { first_token = first.0; count = count.0 }, count.1)
 
+-- the bases and the lengths of the public and the package table
+unfoldable pub table_sizes_at : List ℕ → Field TableSizes
+table_sizes_at bytes = do
+  public_base ← u1_at bytes
+  public_count ← u1_at public_base.1
+  package_base ← u1_at public_count.1
+  package_count ← u1_at package_base.1
+  Ok (record { public_base = public_base.0; public_count = public_count.0; package_base = package_base.0 % 128; package_count = package_count.0 }, package_count.1)
+
+-- both tables; the high bit of the package table's base is masked off
+unfoldable pub tables_at : List ℕ → Field MethodTables
+tables_at bytes = do
+  sizes ← table_sizes_at bytes
+  publics ← many_at u2_at sizes.0.public_count sizes.1
+  packages ← many_at u2_at sizes.0.package_count publics.1
+  Ok (record { public_base = sizes.0.public_base; public_methods = publics.0; package_base = sizes.0.package_base; package_methods = packages.0 }, packages.1)
+
 unfoldable pub class_at : (ClassRef → Bool) → Bool → ℕ → List ℕ → Field ClassInfo
 class_at known shareable interfaces bytes = do
   super ← super_at known bytes
   size ← u1_at super.1
   references ← references_at size.0 size.1
-  public_base ← u1_at references.1
-  public_count ← u1_at public_base.1
-  package_base ← u1_at public_count.1
-  package_count ← u1_at package_base.1
-  publics ← many_at u2_at public_count.0 package_count.1
-  packages ← many_at u2_at package_count.0 publics.1
-  implemented ← many_at implemented_at interfaces packages.1
-  Ok (record { shareable = shareable; superclass = super.0; declared_instance_size = size.0; references = references.0; public_methods = record { base = public_base.0; offsets = publics.0 }; package_methods = record { base = package_base.0 % 128; offsets = packages.0 }; interfaces = implemented.0 }, implemented.1)
+  tables ← tables_at references.1
+  implemented ← many_at implemented_at interfaces tables.1
+  Ok (record { shareable = shareable; superclass = super.0; declared_instance_size = size.0; references = references.0; tables = tables.0; interfaces = implemented.0 }, implemented.1)
 
 unfoldable pub interface_at : (ClassRef → Bool) → Bool → ℕ → List ℕ → Field InterfaceInfo
 interface_at known shareable interfaces bytes = do

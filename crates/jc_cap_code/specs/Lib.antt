@@ -12,3 +12,4 @@ pub mod StaticViews
 pub mod MethodViews
 pub mod ImplementedViews
 pub mod Known
+pub mod Tables

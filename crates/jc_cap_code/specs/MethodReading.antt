@@ -1,5 +1,5 @@
 -- Reading the Method component.
-use Rattle.std.specs.Prelude.{ℕ, ◌+◌, ◌*◌, ◌/◌, ◌%◌, ◌-◌, Bool, true, false, List, [], ◌∷◌, length, drop, Option, Some, None, Result, Ok, nat_lt, ◌==◌, if◌then◌else◌}
+use Rattle.std.specs.Prelude.{ℕ, ◌+◌, ◌*◌, ◌/◌, ◌%◌, ◌-◌, Bool, true, false, List, [], ◌∷◌, length, drop, Option, Some, None, is_some, Result, Ok, nat_lt, ◌==◌, if◌then◌else◌}
 use Rattle.jc_cap_fields.specs.declared.fault.CapFault.{CapFault}
 use Rattle.jc_cap_code.specs.declared.handlers.Handler.{Handler}
 use Rattle.jc_cap_code.specs.declared.methods.MethodHeader.{MethodHeader}
@@ -58,3 +58,7 @@ with_bytes bytes None = None
 unfoldable pub method_at : MethodParts → ℕ → Option MethodText
 method_at m offset = if nat_lt offset (methods_start m) then None
     else with_bytes (drop (offset - methods_start m) m.code) (header_of (drop (offset - methods_start m) m.code))
+
+-- a method's header begins at the offset: it lies behind the handlers, and there is room for the header
+abbrev pub has_room : MethodParts → ℕ → Bool
+has_room m offset = is_some (method_at m offset)

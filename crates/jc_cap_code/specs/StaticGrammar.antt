@@ -1,5 +1,5 @@
 -- Which bytes are a StaticField component.
-use Rattle.std.specs.Prelude.{◌≡◌, ℕ, ◌+◌, ◌*◌, ◌%◌, ◌≤◌, List, [], ◌∷◌, ◌++◌, length}
+use Rattle.std.specs.Prelude.{◌≡◌, ℕ, ◌+◌, ◌*◌, ◌%◌, ◌≤◌, List, ◌∷◌, ◌++◌, length}
 use Rattle.jc_cap_fields.specs.Grammar.{AreListed, IsU2}
 use Rattle.jc_cap_code.specs.declared.static_arrays.ElementType.{ElementType}
 use Rattle.jc_cap_code.specs.declared.static_arrays.ElementType.TheVariants.{Boolean, Byte, Short}

@@ -1,5 +1,5 @@
 -- Reading the StaticField component.
-use Rattle.std.specs.Prelude.{ℕ, ◌+◌, ◌*◌, ◌%◌, List, Ok, Err, nat_lt, ◌==◌, if◌then◌else◌}
+use Rattle.std.specs.Prelude.{ℕ, ◌+◌, ◌*◌, ◌%◌, List, [], ◌∷◌, length, Ok, Err, nat_lt, ◌==◌, if◌then◌else◌}
 use Rattle.jc_cap_fields.specs.declared.fault.CapFault.TheVariants.{BadOffset, SizesDisagree}
 use Rattle.jc_cap_fields.specs.Reading.{◌>>=◌, Field, u1_at, u2_at, run_at, many_at}
 use Rattle.jc_cap_code.specs.declared.static_arrays.ElementType.{ElementType}
@@ -52,3 +52,8 @@ statics_at bytes = do
   counts ← value_counts_at image_size.0 references.0 arrays.1
   values ← run_at counts.0.1 counts.1
   Ok (record { image_size = image_size.0; reference_count = references.0; arrays = arrays.0; default_value_count = counts.0.0; non_default_values = values.0 }, values.1)
+
+-- the number of bytes that all arrays have together
+abbrev pub values_size : List StaticArray → ℕ
+values_size [] = 0
+values_size (a ∷ arrays) = length a.values + values_size arrays

@@ -1,17 +1,27 @@
 //! Reading one record of the Class component.
 ghost use Rattle.std.specs.Prelude.{◌≡◌};
 ghost use Rattle.jc_cap_fields.specs.Reading.{Gives, after, many_at};
-ghost use Rattle.jc_cap_code.specs.ClassReading.{is_among, is_earlier, super_at, references_at, class_at, interface_at, flags_of, record_at};
+ghost use Rattle.jc_cap_code.specs.ClassReading.{is_among, is_earlier, super_at, references_at, table_sizes_at, tables_at, class_at, interface_at, flags_of, record_at};
 ghost use Rattle.jc_cap_code.specs.Known.{knows};
 
 use crate::class_lists::{ClassRefs, read_interfaces};
 use crate::class_records::{
-    ClassInfo, ClassRecord, InterfaceInfo, MethodTable, RecordFlags, ReferenceFields,
+    ClassInfo, ClassRecord, InterfaceInfo, MethodTables, RecordFlags, ReferenceFields,
 };
 use jc_cap_fields::class_refs::{ClassRef, class_ref};
 use jc_cap_fields::fault::CapFault;
 use jc_cap_fields::fields::u1;
 use jc_cap_fields::lists::u2_list;
+
+/// The bases and the lengths of a class's method tables.
+#[derive(Clone, Copy, Debug, Drop)]
+pub(crate) struct TableSizes {
+    public_base: u8,
+    public_count: u8,
+    /// Without its high bit.
+    package_base: u8,
+    package_count: u8,
+}
 
 /// Which classes may be named as a superclass or a superinterface.
 #[derive(Clone, Copy, Debug, Drop)]
@@ -144,6 +154,39 @@ fn read_interface<'a>(
     Ok((interface, rest))
 }
 
+#[tactic(auto, unfolding(crate::specs::ClassReading::table_sizes_at))]
+fn read_table_sizes(bytes: &[u8]) -> Result<(TableSizes, &[u8]), CapFault>
+    ensures { Gives (λ x. (x.0, x.1.now)) result (table_sizes_at bytes.now) }
+{
+    let (public_base, rest) = u1(bytes)?;
+    let (public_count, rest) = u1(rest)?;
+    let (package_base, rest) = u1(rest)?;
+    let (package_count, rest) = u1(rest)?;
+    let sizes = TableSizes {
+        public_base,
+        public_count,
+        package_base: package_base % 128,
+        package_count,
+    };
+    Ok((sizes, rest))
+}
+
+#[tactic(auto, unfolding(crate::specs::ClassReading::tables_at))]
+fn read_tables(bytes: &[u8]) -> Result<(MethodTables<'_>, &[u8]), CapFault>
+    ensures { Gives (λ x. (x.0, x.1.now)) result (tables_at bytes.now) }
+{
+    let (sizes, rest) = read_table_sizes(bytes)?;
+    let (public_methods, rest) = u2_list(sizes.public_count as u16, rest)?;
+    let (package_methods, rest) = u2_list(sizes.package_count as u16, rest)?;
+    let tables = MethodTables {
+        public_base: sizes.public_base,
+        public_methods,
+        package_base: sizes.package_base,
+        package_methods,
+    };
+    Ok((tables, rest))
+}
+
 #[tactic(auto, unfolding(crate::specs::ClassReading::class_at))]
 fn read_class_info<'a>(
     known: Known<'_>,
@@ -156,28 +199,14 @@ fn read_class_info<'a>(
     let (superclass, rest) = read_super(known, bytes)?;
     let (declared_instance_size, rest) = u1(rest)?;
     let (references, rest) = read_references(declared_instance_size, rest)?;
-    let (public_base, rest) = u1(rest)?;
-    let (public_count, rest) = u1(rest)?;
-    let (package_base, rest) = u1(rest)?;
-    let (package_count, rest) = u1(rest)?;
-    let (publics, rest) = u2_list(public_count as u16, rest)?;
-    let (packages, rest) = u2_list(package_count as u16, rest)?;
+    let (tables, rest) = read_tables(rest)?;
     let (interfaces, rest) = read_interfaces(count, rest)?;
-    let public_methods = MethodTable {
-        base: public_base,
-        offsets: publics,
-    };
-    let package_methods = MethodTable {
-        base: package_base % 128,
-        offsets: packages,
-    };
     let class = ClassInfo {
         shareable,
         superclass,
         declared_instance_size,
         references,
-        public_methods,
-        package_methods,
+        tables,
         interfaces,
     };
     Ok((class, rest))

@@ -22,13 +22,19 @@ pub struct ReferenceFields {
     pub count: u8,
 }
 
-/// A table of virtual methods, by their tokens.
+/// The virtual methods of a class: the public ones, and those that are visible in its package alone.
+///
+/// A table has the offset of each method in the Method component, by its token. Tokens below the base of a table are looked
+/// up in the superclass.
 #[derive(Drop)]
-pub struct MethodTable<'a> {
-    /// The token of the first method; those below it are looked up in the superclass.
-    pub base: u8,
-    /// The offsets of the methods in the Method component; 65535 for one that is inherited from another package's class.
-    pub offsets: U2List<'a>,
+pub struct MethodTables<'a> {
+    /// The token of the first public method.
+    pub public_base: u8,
+    /// The offsets of the public methods; 65535 for one that is inherited from another package's class.
+    pub public_methods: U2List<'a>,
+    /// The token of the first package method, without its high bit.
+    pub package_base: u8,
+    pub package_methods: U2List<'a>,
 }
 
 /// An interface (`interface_info` of the Java Card CAP format).
@@ -46,9 +52,7 @@ pub struct ClassInfo<'a> {
     /// How many cells the fields take that the class itself declares.
     pub declared_instance_size: u8,
     pub references: ReferenceFields,
-    pub public_methods: MethodTable<'a>,
-    /// The methods that are visible in the package alone. The base comes without its high bit.
-    pub package_methods: MethodTable<'a>,
+    pub tables: MethodTables<'a>,
     pub interfaces: ImplementedInterfaces<'a>,
 }
 

@@ -39,12 +39,20 @@ fn record_offsets(format: Format, info: &[u8]) -> Result<ArrayVec<u16, 256>, Cap
     Ok(before)
 }
 
+fn offset_at(offsets: &[u16], number: usize) -> u16
+    requires { number < length offsets.now }
+    ensures { slice_get offsets.now number ≡ Some result }
+{
+    offsets[number]
+}
+
 /// The place of the offset in the list.
 fn place_of(offset: u16, offsets: &[u16]) -> Option<usize>
     ensures { MatchOption result (is_among offset offsets.now ≡ false) (λ i. slice_get offsets.now i ≡ Some offset) }
 {
     for i in 0..offsets.len() {
-        if offsets[i] == offset {
+        let here = offset_at(offsets, i);
+        if here == offset {
             return Some(i);
         }
     }
@@ -129,7 +137,7 @@ impl<'a> Classes<'a> {
         requires { number < length self.now }
         ensures { slice_get (offsets_of self.now) number ≡ Some result }
     {
-        self.offsets[number]
+        offset_at(self.offsets.as_slice(), number)
     }
 
     /// Whether a record begins at this offset.
@@ -151,8 +159,8 @@ impl<'a> Classes<'a> {
         requires { number < length self.now }
         ensures { slice_get (contents_of self.now) number ≡ Some result }
     {
-        let at = self.offsets[number] as usize;
-        let (_, bytes) = self.info.split_at(at);
+        let at = offset_at(self.offsets.as_slice(), number);
+        let (_, bytes) = self.info.split_at(at as usize);
         match read_record(Known::Any, bytes) {
             Ok((record, _)) => record,
             Err(_) => unreachable!(),

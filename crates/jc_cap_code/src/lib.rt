@@ -9,4 +9,4 @@ pub mod handlers;
 pub mod methods;
 pub mod static_arrays;
 pub mod statics;
-
+pub mod tables;

@@ -2,7 +2,7 @@
 ghost use Rattle.std.specs.Prelude.{◌≡◌, Ok, IfOk};
 ghost use Rattle.jc_cap_fields.specs.Reading.{Gives};
 ghost use Rattle.jc_cap_code.specs.MethodValues.{MethodParts};
-ghost use Rattle.jc_cap_code.specs.MethodReading.{methods_of, methods_start, short_header, extended_header, header_of, method_at};
+ghost use Rattle.jc_cap_code.specs.MethodReading.{methods_of, methods_start, short_header, extended_header, header_of, method_at, has_room};
 ghost use Rattle.jc_cap_code.specs.MethodGrammar.{AreMethods};
 ghost use Rattle.jc_cap_code.specs.MethodViews.{method_parts, found_method};
 
@@ -134,5 +134,16 @@ impl<'a> Methods<'a> {
         let (_, bytes) = self.code.split_at(at);
         let header = read_header(bytes)?;
         Some(Method { header, bytes })
+    }
+
+    /// Whether a method's header begins at the offset: whether the offset lies behind the handlers, and leaves room for the
+    /// header.
+    pub fn has_room(&self, offset: u16) -> bool
+        ensures { result ≡ has_room (method_parts self.now) offset }
+    {
+        match self.method(offset) {
+            Some(_) => true,
+            None => false,
+        }
     }
 }

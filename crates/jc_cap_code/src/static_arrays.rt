@@ -1,7 +1,8 @@
 //! The initialised arrays of a StaticField component.
 ghost use Rattle.std.specs.Prelude.{◌≡◌, ◌∷◌, [], ◌<◌, length, Some, None, Ok, MatchOption, slice_get};
-ghost use Rattle.jc_cap_fields.specs.Reading.{Gives, many_at, after};
-ghost use Rattle.jc_cap_code.specs.StaticReading.{element_type_at, element_size, static_array_at, static_arrays_at};
+ghost use Rattle.jc_cap_fields.specs.Reading.{Gives, many_at, after, listed};
+ghost use Rattle.jc_cap_fields.specs.Places.{IsList};
+ghost use Rattle.jc_cap_code.specs.StaticReading.{element_type_at, element_size, static_array_at, static_arrays_at, values_size};
 ghost use Rattle.jc_cap_code.specs.StaticViews.{static_array};
 
 use jc_cap_fields::counted::{Part, skip_many};
@@ -122,12 +123,38 @@ pub(crate) fn read_arrays(
     Ok((ArrayInits { count, bytes }, rest))
 }
 
+/// The number of bytes that the arrays have together.
+fn size_of_all(count: u16, bytes: &[u8]) -> usize
+    requires { IsList static_array_at count bytes.now }
+    ensures { result ≡ values_size (listed (many_at static_array_at count bytes.now)) }
+{
+    let mut rest = bytes;
+    let mut size = 0;
+    for _ in 0..count {
+        match read_array(rest) {
+            Ok((array, next)) => {
+                size += array.values.len();
+                rest = next;
+            }
+            Err(_) => unreachable!(),
+        }
+    }
+    size
+}
+
 impl<'a> ArrayInits<'a> {
     /// How many there are.
     pub fn count(&self) -> u16
         ensures { result ≡ length self.now }
     {
         self.count
+    }
+
+    /// The number of bytes that the values of all of them have together.
+    pub fn values_size(&self) -> usize
+        ensures { result ≡ values_size self.now }
+    {
+        size_of_all(self.count, self.bytes)
     }
 
     /// The first array, and the others.

@@ -37,11 +37,29 @@ fn the_counter_package(rt: HostRuntime) {
     assert_eq!(rt; methods.handlers.count(), 0);
     assert_eq!(rt; methods.start(), 1);
     assert_eq!(rt; methods.code.len(), 83);
-    let install = MethodHeader { extended: false, is_abstract: false, max_stack: 2, nargs: 3, max_locals: 0 };
+    let install = MethodHeader {
+        extended: false,
+        is_abstract: false,
+        max_stack: 2,
+        nargs: 3,
+        max_locals: 0,
+    };
     assert!(rt; is_header(methods.method(1), 83, install));
-    let constructor = MethodHeader { extended: false, is_abstract: false, max_stack: 1, nargs: 1, max_locals: 0 };
+    let constructor = MethodHeader {
+        extended: false,
+        is_abstract: false,
+        max_stack: 1,
+        nargs: 1,
+        max_locals: 0,
+    };
     assert!(rt; is_header(methods.method(14), 70, constructor));
-    let process = MethodHeader { extended: false, is_abstract: false, max_stack: 3, nargs: 2, max_locals: 1 };
+    let process = MethodHeader {
+        extended: false,
+        is_abstract: false,
+        max_stack: 3,
+        nargs: 2,
+        max_locals: 1,
+    };
     assert!(rt; is_header(methods.method(21), 63, process));
 }
 
@@ -50,14 +68,32 @@ fn the_arrays_package(rt: HostRuntime) {
     let Ok(methods) = read_method(&ARRAYS) else {
         panic!(rt; "refused");
     };
-    let handler = Handler { start_offset: 11, stop: true, active_length: 13, handler_offset: 24, catch_type_index: 0 };
+    let handler = Handler {
+        start_offset: 11,
+        stop: true,
+        active_length: 13,
+        handler_offset: 24,
+        catch_type_index: 0,
+    };
     assert_eq!(rt; methods.handlers.count(), 1);
     if methods.handlers.count() == 1 {
         assert!(rt; methods.handlers.get(0) == handler);
     }
-    let f = MethodHeader { extended: false, is_abstract: false, max_stack: 3, nargs: 1, max_locals: 1 };
+    let f = MethodHeader {
+        extended: false,
+        is_abstract: false,
+        max_stack: 3,
+        nargs: 1,
+        max_locals: 1,
+    };
     assert!(rt; is_header(methods.method(9), 31, f));
-    let g = MethodHeader { extended: false, is_abstract: false, max_stack: 2, nargs: 0, max_locals: 0 };
+    let g = MethodHeader {
+        extended: false,
+        is_abstract: false,
+        max_stack: 2,
+        nargs: 0,
+        max_locals: 0,
+    };
     assert!(rt; is_header(methods.method(27), 13, g));
 }
 
@@ -67,9 +103,21 @@ fn headers_at_offsets(rt: HostRuntime) {
         panic!(rt; "refused");
     };
     assert!(rt; methods.method(0).is_none());
-    let abstract_one = MethodHeader { extended: false, is_abstract: true, max_stack: 0, nargs: 3, max_locals: 0 };
+    let abstract_one = MethodHeader {
+        extended: false,
+        is_abstract: true,
+        max_stack: 0,
+        nargs: 3,
+        max_locals: 0,
+    };
     assert!(rt; is_header(methods.method(1), 7, abstract_one));
-    let extended = MethodHeader { extended: true, is_abstract: false, max_stack: 16, nargs: 2, max_locals: 17 };
+    let extended = MethodHeader {
+        extended: true,
+        is_abstract: false,
+        max_stack: 16,
+        nargs: 2,
+        max_locals: 17,
+    };
     assert!(rt; is_header(methods.method(3), 5, extended));
     // The last byte alone leaves no room, and behind it there is nothing.
     assert!(rt; methods.method(6).is_some());
@@ -123,7 +171,13 @@ fn many_handlers(rt: HostRuntime) {
     assert_eq!(rt; methods.handlers.count(), 255);
     assert_eq!(rt; methods.start(), 2041);
     assert!(rt; methods.method(2041).is_none());
-    let last = Handler { start_offset: 0x1234, stop: false, active_length: 32767, handler_offset: 0x5678, catch_type_index: 0x9ABC };
+    let last = Handler {
+        start_offset: 0x1234,
+        stop: false,
+        active_length: 32767,
+        handler_offset: 0x5678,
+        catch_type_index: 0x9ABC,
+    };
     if methods.handlers.count() == 255 {
         assert!(rt; methods.handlers.get(254) == last);
     }

@@ -9,8 +9,8 @@ const ONE_SHORT: [u8; 10] = [0x00, 0x02, 0x00, 0x00, 0x00, 0x00, 0x00, 0x02, 0x0
 
 // Three references, of which two are arrays: a boolean and two shorts; then a zero byte, and the bytes 7 and 8.
 const ARRAYS: [u8; 25] = [
-    0x00, 0x09, 0x00, 0x03, 0x00, 0x02, 0x02, 0x00, 0x01, 0x01, 0x04, 0x00, 0x04, 0x12, 0x34, 0xFF, 0xFE,
-    0x00, 0x01, 0x00, 0x02, 0x07, 0x08, 0x00, 0x00,
+    0x00, 0x09, 0x00, 0x03, 0x00, 0x02, 0x02, 0x00, 0x01, 0x01, 0x04, 0x00, 0x04, 0x12, 0x34, 0xFF,
+    0xFE, 0x00, 0x01, 0x00, 0x02, 0x07, 0x08, 0x00, 0x00,
 ];
 
 fn fault(info: &[u8]) -> Option<CapFault> {
@@ -75,13 +75,48 @@ fn faults(rt: HostRuntime) {
     assert!(rt; matches!(fault(&[0, 2, 0, 1, 0, 1, 5]), Some(CapFault::BadOffset)));
     assert!(rt; matches!(fault(&[0, 2, 0, 1, 0, 1, 1]), Some(CapFault::BadOffset)));
     // Half a short, before its bytes are looked at.
-    assert!(rt; matches!(fault(&[0, 2, 0, 1, 0, 1, 4, 0, 1]), Some(CapFault::BadOffset)));
-    assert!(rt; matches!(fault(&[0, 2, 0, 1, 0, 1, 3, 0, 1]), Some(CapFault::Truncated)));
+    assert!(rt;
+        matches!(
+            fault(&[0, 2, 0, 1, 0, 1, 4, 0, 1]),
+            Some(CapFault::BadOffset)
+        )
+    );
+    assert!(rt;
+        matches!(
+            fault(&[0, 2, 0, 1, 0, 1, 3, 0, 1]),
+            Some(CapFault::Truncated)
+        )
+    );
     // Another size than that of the parts, before the values are looked at.
-    assert!(rt; matches!(fault(&[0, 1, 0, 0, 0, 0, 0, 0, 0, 0]), Some(CapFault::SizesDisagree)));
-    assert!(rt; matches!(fault(&[0, 1, 0, 0, 0, 0, 0, 0, 0, 2]), Some(CapFault::SizesDisagree)));
-    assert!(rt; matches!(fault(&[0, 2, 0, 0, 0, 0, 0, 0, 0, 2]), Some(CapFault::Truncated)));
-    assert!(rt; matches!(fault(&[0, 0, 0, 0, 0, 0, 0, 0, 0, 0, 0]), Some(CapFault::Trailing)));
+    assert!(rt;
+        matches!(
+            fault(&[0, 1, 0, 0, 0, 0, 0, 0, 0, 0]),
+            Some(CapFault::SizesDisagree)
+        )
+    );
+    assert!(rt;
+        matches!(
+            fault(&[0, 1, 0, 0, 0, 0, 0, 0, 0, 2]),
+            Some(CapFault::SizesDisagree)
+        )
+    );
+    assert!(rt;
+        matches!(
+            fault(&[0, 2, 0, 0, 0, 0, 0, 0, 0, 2]),
+            Some(CapFault::Truncated)
+        )
+    );
+    assert!(rt;
+        matches!(
+            fault(&[0, 0, 0, 0, 0, 0, 0, 0, 0, 0, 0]),
+            Some(CapFault::Trailing)
+        )
+    );
     // The sum is not taken modulo 65536.
-    assert!(rt; matches!(fault(&[0, 0, 0x80, 0, 0, 0, 0, 0, 0, 0]), Some(CapFault::SizesDisagree)));
+    assert!(rt;
+        matches!(
+            fault(&[0, 0, 0x80, 0, 0, 0, 0, 0, 0, 0]),
+            Some(CapFault::SizesDisagree)
+        )
+    );
 }

@@ -8,7 +8,7 @@ abbrev pub invariant-loop-rest : goal.invariant-loop-rest
 invariant-loop-rest l = record {
   within : array_vec_len l.before ≤ 256;
   inside : length l.rest ≤ length l.info;
-  going : so_far l.before.items (records_at (256 - array_vec_len l.before) (length l.info) l.before.items l.rest) ≡ placed_offsets (classes_of l.format l.info);
+  going : so_far l.before.items (records_at (256 - array_vec_len l.before) (length l.info) l.before.items l.rest) ≡ placed_offsets (classes_of l.fn.format l.info);
 }
 
 abbrev pub decreases-loop-rest : goal.decreases-loop-rest

@@ -2,7 +2,7 @@ use Rattle.std.proofs.Common.{◌-◌, sym, subst, ◌∙◌, arith, ℕ}
 use Rattle.jc_cap_code.specs.Implemented.{implemented_at}
 use Rattle.jc_cap_code.specs.ImplementedViews.{implemented}
 use Rattle.jc_cap_fields.specs.Reading.{many_at, listed, Holds}
-use Rattle.jc_cap_fields.proofs.Many.{Begins, Holds-nil, Holds-begins_above, Begins-reads, Begins-no_fault}
+use Rattle.jc_cap_fields.proofs.Many.{Holds-nil, Holds-begins_above, Begins-reads, Begins-no_fault}
 use Rattle.jc_cap_code.proofs.class_lists.ImplementedInterfaces.split_first.Goals as goal
 
 pub returns-then-self-eq0 : goal.returns-then-self-eq0

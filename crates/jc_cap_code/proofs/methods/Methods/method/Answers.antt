@@ -1,4 +1,4 @@
-use Rattle.std.proofs.Common.{arith, sym, rules}
+use Rattle.std.proofs.Common.{arith, sym}
 use Rattle.jc_cap_code.specs.MethodViews.{method_parts}
 use Rattle.jc_cap_code.proofs.Offsets.{method_beyond}
 use Rattle.jc_cap_code.proofs.methods.Methods.method.Goals as goal
