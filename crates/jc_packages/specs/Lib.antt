@@ -1,0 +1,4 @@
+pub mod Values
+pub mod Classes
+pub mod Methods
+pub mod Lookups
