@@ -11,14 +11,12 @@ use Rattle.jc_packages.specs.declared.target.Method.{Method}
 use Rattle.jc_packages.specs.declared.target.Method.TheVariants.{Code, Native}
 use Rattle.jc_packages.specs.declared.target.Visibility.{Visibility}
 use Rattle.jc_packages.specs.declared.target.Visibility.TheVariants.{Public, PackageVisible}
+use Rattle.jc_packages.specs.declared.search.Search.{Search}
+use Rattle.jc_packages.specs.declared.search.Search.TheVariants.{Found, Above, Nowhere}
+use Rattle.jc_packages.specs.declared.search.CarriedOut.{CarriedOut}
+use Rattle.jc_packages.specs.declared.search.CarriedOut.TheVariants.{Virtually, Natively}
 use Rattle.jc_packages.specs.Classes.{class_in, lineage}
 use Rattle.jc_packages.specs.Values.{ClassValue, Implementation, MethodTable, Packages}
-
--- what a class says of a method: it is there, it is looked up in the superclass, or there is none
-pub data Search (A : Type 0) : Type 0 where
-  Found : A → Search A
-  Above : Search A
-  Nowhere : Search A
 
 -- what was found, or what is found above
 abbrev pub settled : {A : Type 0} → Search A → Option A → Option A
@@ -67,11 +65,6 @@ unfoldable pub method_at : Packages → ℕ → ℕ → ℕ → Visibility → O
 method_at p class package_number token visibility = searched (method_in p visibility token) (looked_up_in visibility package_number (lineage p class))
 
 -- ---- methods of interfaces
-
--- how a class carries out an interface's method: by its virtual method with this token, or by one of the platform
-pub data CarriedOut : Type 0 where
-  Virtually : ℕ → CarriedOut
-  Natively : PlatformMethod → CarriedOut
 
 abbrev pub by_token : Option ℕ → Search CarriedOut
 by_token None = Nowhere

@@ -2,4 +2,5 @@
 //! definitions alone.
 #![tactic(auto)]
 
+pub mod search;
 pub mod target;

@@ -1,0 +1,10 @@
+//! Linked packages: classes, methods and entries by their numbers.
+#![tactic(auto)]
+
+mod class;
+mod classes;
+mod lineage;
+pub mod linked;
+mod lookups;
+mod methods;
+mod package;
