@@ -3,13 +3,13 @@ ghost use Rattle.std.specs.Prelude.{◌≡◌};
 ghost use Rattle.jc_packages.specs.Classes.{implements, interfaces_in, is_below, is_class, is_listed, is_made, is_shareable, own_reference, class_in, reference_cell, size_of, superclass_in};
 ghost use Rattle.jc_platform.specs.Platform.{class_by_word};
 
-use crate::linked::Linked;
+use crate::scope::Scope;
 use jc_platform::names::PlatformClass;
 
-impl Linked {
+impl Scope<'_> {
     /// A class or an interface stands behind this word.
     #[tactic(auto, unfolding(jc_packages::specs::Classes::is_class))]
-    pub fn is_class(&self, class: u16) -> bool
+    pub(crate) fn is_class(&self, class: u16) -> bool
         ensures { result ≡ is_class self.now class }
     {
         self.loaded_class(class).is_some() || self.platform.class_by_word(class).is_some()
@@ -17,7 +17,7 @@ impl Linked {
 
     /// The superclass. `Object` and interfaces have none.
     #[tactic(auto, unfolding(jc_packages::specs::Classes::superclass_in))]
-    pub fn superclass(&self, class: u16) -> Option<u16>
+    pub(crate) fn superclass(&self, class: u16) -> Option<u16>
         ensures { result ≡ superclass_in self.now class }
     {
         if let Some(loaded) = self.loaded_class(class) {
@@ -72,7 +72,7 @@ impl Linked {
     /// A subtype: the class is the other, below it, or implements it. It takes time that grows with the number of
     /// classes above.
     #[tactic(auto, unfolding(jc_packages::specs::Classes::is_below, jc_packages::specs::Classes::any_is))]
-    pub fn is_below(&self, class: u16, of: u16) -> bool
+    pub(crate) fn is_below(&self, class: u16, of: u16) -> bool
         ensures { result ≡ is_below self.now class of }
     {
         let mut walk = self.lineage(class);
@@ -86,7 +86,7 @@ impl Linked {
 
     /// An interface that extends `Shareable`, or a class with such an interface.
     #[tactic(auto, unfolding(jc_packages::specs::Classes::is_shareable))]
-    pub fn is_shareable(&self, class: u16) -> bool
+    pub(crate) fn is_shareable(&self, class: u16) -> bool
         ensures { result ≡ is_shareable self.now class }
     {
         self.is_below(class, self.platform.class_word(PlatformClass::Shareable))
@@ -94,7 +94,7 @@ impl Linked {
 
     /// How many cells an instance has.
     #[tactic(auto, unfolding(jc_packages::specs::Classes::size_of))]
-    pub fn size_of(&self, class: u16) -> u32
+    pub(crate) fn size_of(&self, class: u16) -> u32
         ensures { result ≡ size_of self.now class }
     {
         if let Some(loaded) = self.loaded_class(class) {
@@ -108,7 +108,7 @@ impl Linked {
 
     /// `new` makes instances of it.
     #[tactic(auto, unfolding(jc_packages::specs::Classes::is_made))]
-    pub fn is_made(&self, class: u16) -> bool
+    pub(crate) fn is_made(&self, class: u16) -> bool
         ensures { result ≡ is_made self.now class }
     {
         if let Some(loaded) = self.loaded_class(class) {
@@ -122,7 +122,7 @@ impl Linked {
 
     /// A cell of an instance holds a reference.
     #[tactic(auto, unfolding(jc_packages::specs::Classes::reference_cell, jc_packages::specs::Classes::any_reference))]
-    pub fn reference_cell(&self, class: u16, cell: u16) -> bool
+    pub(crate) fn reference_cell(&self, class: u16, cell: u16) -> bool
         ensures { result ≡ reference_cell self.now class cell }
     {
         let mut walk = self.lineage(class);

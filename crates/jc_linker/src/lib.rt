@@ -8,3 +8,4 @@ pub mod linked;
 mod lookups;
 mod methods;
 mod package;
+mod scope;

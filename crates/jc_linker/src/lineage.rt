@@ -2,7 +2,7 @@
 ghost use Rattle.std.specs.Prelude.{◌≡◌, [], ◌∷◌, MatchOption};
 ghost use Rattle.jc_packages.specs.Classes.{lineage};
 
-use crate::linked::Linked;
+use crate::scope::Scope;
 use std::marker::Model;
 
 /// More classes than this no card has.
@@ -11,7 +11,7 @@ const MOST_CLASSES: u16 = 8704;
 /// What is left of the walk from a class upwards.
 #[derive(Drop)]
 pub(crate) struct Lineage<'a> {
-    linked: &'a Linked,
+    scope: &'a Scope<'a>,
     next: Option<u16>,
     left: u16,
 }
@@ -22,15 +22,15 @@ impl<'a> Model for Lineage<'a> {
 
     ghost Value = { List ℕ };
 
-    ghost view = { λ w. lineage_from w.linked.now w.left w.next };
+    ghost view = { λ w. lineage_from w.scope.now w.left w.next };
 }
 
-impl Linked {
-    pub(crate) fn lineage(&self, class: u16) -> Lineage<'_>
+impl<'a> Scope<'a> {
+    pub(crate) fn lineage(&'a self, class: u16) -> Lineage<'a>
         ensures { result ≡ lineage self.entry.now class }
     {
         Lineage {
-            linked: self,
+            scope: self,
             next: Some(class),
             left: MOST_CLASSES,
         }
@@ -48,7 +48,7 @@ impl<'a> Lineage<'a> {
         }
         let class = self.next?;
         self.left -= 1;
-        self.next = self.linked.superclass(class);
+        self.next = self.scope.superclass(class);
         Some(class)
     }
 }

@@ -4,37 +4,41 @@ ghost use Rattle.jc_packages.specs.Classes.{lineage};
 ghost use Rattle.jc_packages.specs.Methods.{carried_in, if_native, interface_method_at, method_at, method_in, natively, searched};
 ghost use Rattle.jc_platform.specs.Platform.{method_by_token};
 
-use crate::linked::Linked;
+use crate::scope::Scope;
+use jc_cap_text::pool::VirtualToken;
 use jc_packages::search::{CarriedOut, Search};
-use jc_packages::target::{Method, Visibility};
+use jc_packages::target::Method;
 use jc_platform::names::{MethodKind, PlatformClass};
 
-impl Linked {
+impl Scope<'_> {
     /// The method that a call by token on an instance of a class runs, through a class of the package with this
     /// number. It takes time that grows with the number of classes above.
     #[tactic(auto, unfolding(jc_packages::specs::Methods::method_at))]
-    pub fn method_at(
+    pub(crate) fn method_at(
         &self,
         class: u16,
         package_number: u8,
-        token: u8,
-        visibility: Visibility,
+        token: VirtualToken,
     ) -> Option<Method>
-        ensures { result ≡ method_at self.now class package_number token visibility }
+        ensures { result ≡ method_at self.now class package_number token }
     {
-        match visibility {
-            Visibility::Public => self.public_method(class, token),
-            Visibility::PackageVisible => self.package_method(class, package_number, token),
+        match token {
+            VirtualToken::Public(token) => self.public_method(class, token),
+            VirtualToken::PackageVisible(token) => self.package_method(
+                class,
+                package_number,
+                token,
+            ),
         }
     }
 
     #[tactic(auto, unfolding(jc_packages::specs::Methods::method_at, jc_packages::specs::Methods::searched))]
     fn public_method(&self, class: u16, token: u8) -> Option<Method>
-        ensures { result ≡ method_at self.now class 0 token Visibility.Public }
+        ensures { result ≡ method_at self.now class 0 (VirtualToken.Public token) }
     {
         let mut walk = self.lineage(class);
         while let Some(above) = walk.pop() {
-            match self.method_in(Visibility::Public, token, above) {
+            match self.method_in(VirtualToken::Public(token), above) {
                 Search::Found(method) => return Some(method),
                 Search::Above => {}
                 Search::Nowhere => return None,
@@ -45,14 +49,14 @@ impl Linked {
 
     #[tactic(auto, unfolding(jc_packages::specs::Methods::method_at, jc_packages::specs::Methods::searched))]
     fn package_method(&self, class: u16, package_number: u8, token: u8) -> Option<Method>
-        ensures { result ≡ method_at self.now class package_number token Visibility.PackageVisible }
+        ensures { result ≡ method_at self.now class package_number (VirtualToken.PackageVisible token) }
     {
         let mut walk = self.lineage(class);
         while let Some(above) = walk.pop() {
             if above / 256 != u16::from(package_number) {
                 continue;
             }
-            match self.method_in(Visibility::PackageVisible, token, above) {
+            match self.method_in(VirtualToken::PackageVisible(token), above) {
                 Search::Found(method) => return Some(method),
                 Search::Above => {}
                 Search::Nowhere => return None,
@@ -63,22 +67,24 @@ impl Linked {
 
     // What a class says of a token.
     #[tactic(auto, unfolding(jc_packages::specs::Methods::method_in))]
-    fn method_in(&self, visibility: Visibility, token: u8, class: u16) -> Search<Method>
-        ensures { result ≡ method_in self.now visibility token class }
+    fn method_in(&self, token: VirtualToken, class: u16) -> Search<Method>
+        ensures { result ≡ method_in self.now token class }
     {
         if let Some(loaded) = self.loaded_class(class) {
-            let table = match visibility {
-                Visibility::Public => &loaded.public_methods,
-                Visibility::PackageVisible => &loaded.package_methods,
+            let package_number = (class / 256) as u8;
+            return match token {
+                VirtualToken::Public(token) => loaded.public_methods.find(package_number, token),
+                VirtualToken::PackageVisible(token) => {
+                    loaded.package_methods.find(package_number, token)
+                }
             };
-            return table.find((class / 256) as u8, token);
         }
         let Some(named) = self.platform.class_by_word(class) else {
             return Search::Nowhere;
         };
-        match visibility {
-            Visibility::Public => self.native_in(named, token),
-            Visibility::PackageVisible => Search::Nowhere,
+        match token {
+            VirtualToken::Public(token) => self.native_in(named, token),
+            VirtualToken::PackageVisible(_) => Search::Nowhere,
         }
     }
 
@@ -97,7 +103,12 @@ impl Linked {
     /// The method that a call of an interface's method by token on an instance of a class runs. It takes time that
     /// grows with the number of classes above.
     #[tactic(auto, unfolding(jc_packages::specs::Methods::interface_method_at))]
-    pub fn interface_method_at(&self, class: u16, interface: u16, token: u8) -> Option<Method>
+    pub(crate) fn interface_method_at(
+        &self,
+        class: u16,
+        interface: u16,
+        token: u8,
+    ) -> Option<Method>
         ensures { result ≡ interface_method_at self.now class interface token }
     {
         match self.carried_out(class, interface, token)? {

@@ -26,7 +26,7 @@ impl Model for PackageName {
 /// A class that a package exports.
 #[derive(Drop)]
 pub(crate) struct ExportedClass {
-    pub(crate) class_number: u8,
+    pub(crate) class_offset: u16,
     pub(crate) field_offsets: Vec<u16>,
     pub(crate) method_offsets: Vec<u16>,
 }
@@ -36,7 +36,7 @@ impl Model for ExportedClass {
 
     ghost Value = { Export };
 
-    ghost view = { λ e. record { class_number = e.class_number; field_offsets = e.field_offsets.items; method_offsets = e.method_offsets.items } };
+    ghost view = { λ e. record { class_offset = e.class_offset; field_offsets = e.field_offsets.items; method_offsets = e.method_offsets.items } };
 }
 
 /// An applet that a package has.
@@ -58,6 +58,8 @@ impl Model for Applet {
 #[derive(Drop)]
 pub(crate) struct LinkedPackage {
     pub(crate) name: PackageName,
+    /// The numbers of the packages that it imports, by token.
+    pub(crate) imports: Vec<u8>,
     pub(crate) classes: Vec<LinkedClass>,
     pub(crate) exports: Vec<ExportedClass>,
     pub(crate) targets: Vec<Target>,
@@ -73,7 +75,7 @@ impl Model for LinkedPackage {
 
     ghost Value = { PackageValue };
 
-    ghost view = { λ q. record { name = q.name; classes = q.classes.items; exports = q.exports.items; targets = q.targets.items; methods = q.methods.items; image_size = q.image_size; image_references = q.image_references; applets = q.applets.items } };
+    ghost view = { λ q. record { name = q.name; imports = q.imports.items; classes = q.classes.items; exports = q.exports.items; targets = q.targets.items; methods = q.methods.items; image_size = q.image_size; image_references = q.image_references; applets = q.applets.items } };
 }
 
 impl LinkedPackage {

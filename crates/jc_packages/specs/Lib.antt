@@ -2,3 +2,4 @@ pub mod Values
 pub mod Classes
 pub mod Methods
 pub mod Lookups
+pub mod Resolves

@@ -9,8 +9,8 @@ use Rattle.jc_platform.specs.Hierarchy.{implementation_of, interface_of}
 use Rattle.jc_platform.specs.Platform.{class_by_word, method_by_token}
 use Rattle.jc_packages.specs.declared.target.Method.{Method}
 use Rattle.jc_packages.specs.declared.target.Method.TheVariants.{Code, Native}
-use Rattle.jc_packages.specs.declared.target.Visibility.{Visibility}
-use Rattle.jc_packages.specs.declared.target.Visibility.TheVariants.{Public, PackageVisible}
+use Rattle.jc_cap_text.specs.declared.pool.VirtualToken.{VirtualToken}
+use Rattle.jc_cap_text.specs.declared.pool.VirtualToken.TheVariants.{Public, PackageVisible}
 use Rattle.jc_packages.specs.declared.search.Search.{Search}
 use Rattle.jc_packages.specs.declared.search.Search.TheVariants.{Found, Above, Nowhere}
 use Rattle.jc_packages.specs.declared.search.CarriedOut.{CarriedOut}
@@ -44,25 +44,25 @@ if_native None = Above
 if_native (Some m) = Found (Native m)
 
 -- what a loaded class, or else one of the platform, says of a token
-abbrev pub said_by : Packages → Visibility → ℕ → ℕ → Option ClassValue → Option PlatformClass → Search Method
-said_by p Public token word (Some c) other = in_table (word / 256) c.public_methods token
-said_by p PackageVisible token word (Some c) other = in_table (word / 256) c.package_methods token
-said_by p visibility token word None None = Nowhere
-said_by p Public token word None (Some c) = if_native (method_by_token p.platform c kinds.Virtual token)
-said_by p PackageVisible token word None (Some c) = Nowhere
+abbrev pub said_by : Packages → VirtualToken → ℕ → Option ClassValue → Option PlatformClass → Search Method
+said_by p (Public token) word (Some c) other = in_table (word / 256) c.public_methods token
+said_by p (PackageVisible token) word (Some c) other = in_table (word / 256) c.package_methods token
+said_by p token word None None = Nowhere
+said_by p (Public token) word None (Some c) = if_native (method_by_token p.platform c kinds.Virtual token)
+said_by p (PackageVisible token) word None (Some c) = Nowhere
 
-unfoldable pub method_in : Packages → Visibility → ℕ → ℕ → Search Method
-method_in p visibility token word = said_by p visibility token word (class_in p word) (class_by_word p.platform word)
+unfoldable pub method_in : Packages → VirtualToken → ℕ → Search Method
+method_in p token word = said_by p token word (class_in p word) (class_by_word p.platform word)
 
--- where a method with this visibility is looked up that is called through a class of this package: a public one in all
--- classes, one that is visible in its package in that package's
-abbrev pub looked_up_in : Visibility → ℕ → List ℕ → List ℕ
-looked_up_in Public package_number classes = classes
-looked_up_in PackageVisible package_number classes = filter (λ c. c / 256 == package_number) classes
+-- where a method is looked up that is called through a class of this package: a public one in all classes, one that is
+-- visible in its package in that package's
+abbrev pub looked_up_in : VirtualToken → ℕ → List ℕ → List ℕ
+looked_up_in (Public token) package_number classes = classes
+looked_up_in (PackageVisible token) package_number classes = filter (λ c. c / 256 == package_number) classes
 
 -- the method that a call by token on an instance of a class runs, through a class of the package with this number
-unfoldable pub method_at : Packages → ℕ → ℕ → ℕ → Visibility → Option Method
-method_at p class package_number token visibility = searched (method_in p visibility token) (looked_up_in visibility package_number (lineage p class))
+unfoldable pub method_at : Packages → ℕ → ℕ → VirtualToken → Option Method
+method_at p class package_number token = searched (method_in p token) (looked_up_in token package_number (lineage p class))
 
 -- ---- methods of interfaces
 
@@ -94,7 +94,7 @@ carried_in p interface token word = carried_by p interface token (class_in p wor
 
 -- the method itself
 abbrev pub carrying : Packages → ℕ → CarriedOut → Option Method
-carrying p class (Virtually token) = method_at p class 0 token Public
+carrying p class (Virtually token) = method_at p class 0 (Public token)
 carrying p class (Natively m) = Some (Native m)
 
 -- the method that a call of an interface's method by token on an instance of a class runs

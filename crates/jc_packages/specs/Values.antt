@@ -30,9 +30,9 @@ pub record ClassValue : Type 0 where
   pub public_methods : MethodTable
   pub package_methods : MethodTable
 
--- a class that a package exports: its number, and the offsets of its static fields and methods by token
+-- a class that a package exports: where its record stands in the Class component, and the offsets of its static fields and methods by token
 pub record Export : Type 0 where
-  pub class_number : ℕ
+  pub class_offset : ℕ
   pub field_offsets : List ℕ
   pub method_offsets : List ℕ
 
@@ -41,11 +41,12 @@ pub record AppletEntry : Type 0 where
   pub aid : List ℕ
   pub install_offset : ℕ
 
--- a package: its name, its classes by number, what it exports by token, what the entries of its constant pool resolve to,
+-- a package: its name, the numbers of the packages that it imports, its classes by number, what it exports by token, what the entries of its constant pool resolve to,
 -- the bytes of its Method component, the size of its static image in bytes and how many references that begins with, and
 -- its applets
 pub record PackageValue : Type 0 where
   pub name : NamedPackage
+  pub imports : List ℕ
   pub classes : List ClassValue
   pub exports : List Export
   pub targets : List Target

@@ -3,16 +3,8 @@
 //! A class or an interface is named as in an object's header: by the number of its package times 256 and its own
 //! number. Packages that were loaded count from 1, those of the platform from 64.
 
+use jc_cap_text::pool::VirtualToken;
 use jc_platform::names::PlatformMethod;
-
-/// Who may call a virtual method.
-#[derive(Clone, Copy, PartialEq, Eq, Debug)]
-pub enum Visibility {
-    /// Any package: the method is public or protected.
-    Public,
-    /// The method's own package alone.
-    PackageVisible,
-}
 
 /// A method.
 #[derive(Clone, Copy, PartialEq, Eq, Debug)]
@@ -29,13 +21,24 @@ pub enum Target {
     /// A class or an interface.
     Class(u16),
     /// A field of a class's instances: the number of its cell, and whether it holds a reference.
-    InstanceField { class: u16, cell: u32, is_reference: bool },
-    /// A method that is looked up from the receiver's class, which is this one or below it.
-    VirtualMethod { class: u16, token: u8, visibility: Visibility },
-    /// A method that is looked up from this class, the superclass of the one that the entry names.
-    SuperMethod { class: u16, token: u8, visibility: Visibility },
+    InstanceField {
+        class: u16,
+        cell: u32,
+        is_reference: bool,
+    },
+    /// A virtual method of this class, which may be another one in a receiver's class below it.
+    VirtualMethod {
+        class: u16,
+        token: VirtualToken,
+        method: Method,
+    },
+    /// A method of a superclass, called on an instance of this class.
+    SuperMethod { class: u16, method: Method },
     /// A field in the static image of the package with this number, at this offset.
     StaticField { package_number: u8, offset: u16 },
-    /// A static method, a constructor or a private method.
-    StaticMethod(Method),
+    /// A static method, a constructor or a private method; its class, where the entry tells it.
+    StaticMethod {
+        class: Option<u16>,
+        method: Method,
+    },
 }
