@@ -8,4 +8,5 @@ pub mod linked;
 mod lookups;
 mod methods;
 mod package;
+mod resolve;
 mod scope;

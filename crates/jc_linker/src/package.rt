@@ -1,5 +1,6 @@
 //! Loaded packages.
-ghost use Rattle.std.specs.Prelude.{◌≡◌, find, option_copied};
+ghost use Rattle.std.specs.Prelude.{◌≡◌, ◌<◌, ◌==◌, IfSome, find, option_copied, position};
+ghost use Rattle.jc_packages.specs.Resolves.{place_of};
 ghost use Rattle.std.specs.Option.{option_map};
 ghost use Rattle.std.specs.Str.{bytes_eq};
 
@@ -71,14 +72,33 @@ pub(crate) struct LinkedPackage {
 }
 
 impl Model for LinkedPackage {
+    ghost use Rattle.std.specs.Prelude.{◌≤◌, length};
     ghost use Rattle.jc_packages.specs.Values.{PackageValue};
 
     ghost Value = { PackageValue };
 
     ghost view = { λ q. record { name = q.name; imports = q.imports.items; classes = q.classes.items; exports = q.exports.items; targets = q.targets.items; methods = q.methods.items; image_size = q.image_size; image_references = q.image_references; applets = q.applets.items } };
+
+    ghost invariant = { λ q. length q.classes.items ≤ 256 };
 }
 
 impl LinkedPackage {
+    /// The place of the class whose record stands at an offset.
+    #[tactic(auto, unfolding(jc_packages::specs::Resolves::place_of))]
+    pub(crate) fn place_of(&self, offset: u16) -> Option<u8>
+        ensures { result ≡ place_of offset self.now.classes }
+    {
+        let place = self.class_place(offset)?;
+        Some(place as u8)
+    }
+
+    fn class_place(&self, offset: u16) -> Option<usize>
+        ensures place { result ≡ position (λ c. c.offset == offset) self.now.classes }
+        ensures few { IfSome result (λ place. place < 256) }
+    {
+        self.classes.iter().position(|class| class.offset == offset)
+    }
+
     /// Where the install method of the first applet with this AID stands.
     pub(crate) fn install_offset(&self, aid: &[u8]) -> Option<u16>
         ensures { result ≡ option_map (λ a. a.install_offset) (find (λ a. bytes_eq a.aid aid.now) self.now.applets) }
