@@ -3,7 +3,7 @@ ghost use Rattle.std.specs.Prelude.{IsTrue, ◌≡◌, ◌<◌, ◌≤◌, [], �
 ghost use Rattle.jc_commit.specs.State.{has_room_for as journal_has_room};
 ghost use Rattle.jc_heap.specs.Object.{new_object, new_transient, header_word};
 ghost use Rattle.jc_heap.specs.Heap.{changed, add_object, end_place, IsStopped, has_room_for, LacksSpace, names, IsObject, cells, facts, add_transient, area_end, area_place, LacksCells};
-ghost use Rattle.jc_heap.specs.Moves.{AddObject, AddTransient, MakesUnless, after_of, no_object, no_transient};
+ghost use Rattle.jc_heap.specs.Moves.{AddTransient, MakesUnless, after_making, new_move, no_new, no_transient};
 
 use crate::fresh::{write_record, write_run};
 use crate::heap::Heap;
@@ -32,7 +32,7 @@ impl<S: WordStore> Heap<S> {
         length: u16,
     ) -> Result<Ref, HeapRefusal>
         requires { self.old.down ≡ false }
-        ensures moves { MakesUnless (no_object self.old (4 + length) (end_place ∷ [])) self.old (after_of result self.new) (AddObject (new_object kind class owner length) (4 + length) ∷ []) self.old.now.top }
+        ensures moves { MakesUnless (no_new self.old length) self.old (after_making result self.new) (new_move kind class owner length ∷ []) self.old.now.top }
         ensures object { IfOk result (λ r. IsObject self.new.now r) }
         ensures cells { IfOk result (λ r. cells self.new.now r ≡ replicate length 0) }
         ensures facts { IfOk result (λ r. facts self.new.now r ≡ (new_object kind class owner length).facts) }
@@ -43,7 +43,6 @@ impl<S: WordStore> Heap<S> {
         ensures heap_full_kept { result ≡ Err HeapRefusal.HeapFull → self.new ≡ self.old }
         ensures full { result ≡ Err HeapRefusal.CommitFull → (self.new ≡ self.old) × (has_room_for self.old (end_place ∷ []) ≡ false) }
         ensures stopped { result ≡ Err HeapRefusal.StoreDown → IsStopped self.old self.new }
-        ensures area { result ≡ Err HeapRefusal.NoTransientSpace → ⊥ }
     {
         let top = self.journal.read(TOP);
         let end = u32::from(top) + u32::from(HEADER) + u32::from(length);
@@ -75,7 +74,7 @@ impl<S: WordStore> Heap<S> {
         length: u16,
     ) -> Result<Ref, HeapRefusal>
         requires { self.old.down ≡ false }
-        ensures moves { MakesUnless (no_transient self.old event length) self.old (after_of result self.new) (AddTransient kind event class owner length ∷ []) self.old.now.top }
+        ensures moves { MakesUnless (no_transient self.old event length) self.old (after_making result self.new) (AddTransient kind event class owner length ∷ []) self.old.now.top }
         ensures object { IfOk result (λ r. IsObject self.new.now r) }
         ensures facts { IfOk result (λ r. facts self.new.now r ≡ (new_transient kind event class owner length (area_end self.old.now event)).facts) }
         ensures named { IfOk result (λ r. r ≡ self.old.now.top) }

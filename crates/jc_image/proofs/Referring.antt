@@ -14,13 +14,6 @@ use Rattle.jc_heap.proofs.Tables.{at_or-map, has-map}
 use Rattle.jc_heap.proofs.Records.{has_behind}
 use Rattle.jc_image.proofs.Stepping.{package_here, facts_here, cells_long, cell_here, transient_cells}
 
-pub object_at : (ws : List ℕ) (r : ℕ) → names (heap_of ws) r ≡ true → is_package (package_addresses (image ws)) r ≡ false → IsObject (heap_of ws) r
-unfolding read_image item_at names
-object_at ws r named other =
-    let there : has (records (image ws)) r ≡ true = sym (has-map (item (package_addresses (image ws))) (records (image ws)) r) ∙ named in
-    ap is_object (at_or-map (item (package_addresses (image ws))) [] (APackage []) (records (image ws)) r there)
-    ∙ ap (λ b. is_object (if b then APackage (at_or [] (records (image ws)) r) else AnObject (object_of (at_or [] (records (image ws)) r)))) other
-
 -- a kind's number
 kind_five : (n : ℕ) → kind_of n ≡ ReferenceArray → n ≡ 5
 kind_five n e = elim (cases_eq n 2) [
