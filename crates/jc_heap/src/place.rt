@@ -12,7 +12,7 @@ use jc_words::layout::{APPLETS, REGISTRY};
 use jc_words::{StoreDown, WordStore};
 
 /// A word that a change may name.
-#[derive(Clone, Copy, Debug, PartialEq, Eq)]
+#[derive(Clone, Copy)]
 pub enum Place {
     /// A cell of a persistent object, by its index.
     Cell(Ref, u16),
@@ -25,7 +25,7 @@ pub enum Place {
 }
 
 /// What the registry keeps of an applet.
-#[derive(Clone, Copy, Debug, PartialEq, Eq)]
+#[derive(Clone, Copy)]
 pub struct AppletEntry {
     /// The applet's AID object.
     pub aid: Ref,
