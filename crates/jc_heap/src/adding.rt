@@ -8,7 +8,6 @@ ghost use Rattle.jc_heap.specs.Heap.{changed, IsStopped, has_room_for, LacksSpac
 ghost use Rattle.jc_heap.specs.Packages.{parts, initials, AreComponents, AreArrays, image_size, record_size, package_record, package_size, package_words, add_package, package_places};
 
 use crate::heap::Heap;
-use crate::making::lacks_room;
 use crate::package::{Component, StaticArray, size_of_arrays, size_of_record};
 use crate::record::{write_arrays, write_package_record};
 use crate::refusal::HeapRefusal;
@@ -69,7 +68,7 @@ impl<S: WordStore> Heap<S> {
         }
         let count = self.journal.read(PACKAGES);
         let place = ADDRESSES + count;
-        if lacks_room(&self.journal, &[place, PACKAGES, TOP]) {
+        if !self.journal.fits(&[place, PACKAGES, TOP]) {
             return Err(HeapRefusal::CommitFull);
         }
         let number = count + 1;

@@ -1,6 +1,5 @@
 //! New objects.
 ghost use Rattle.std.specs.Prelude.{IsTrue, ◌≡◌, ◌<◌, ◌≤◌, [], ◌∷◌, true, false, Ok, Err, length, OnOk, OnErr, IfOk, Some, replicate, ◌+◌, ◌↔◌};
-ghost use Rattle.jc_commit.specs.State.{has_room_for as journal_has_room};
 ghost use Rattle.jc_heap.specs.Object.{new_object, new_transient, header_word};
 ghost use Rattle.jc_heap.specs.Heap.{changed, add_object, end_place, IsStopped, has_room_for, LacksSpace, names, IsObject, cells, facts, add_transient, area_end, area_place, LacksCells};
 ghost use Rattle.jc_heap.specs.Moves.{AddTransient, MakesUnless, after_making, new_move, no_new, no_transient};
@@ -10,17 +9,9 @@ use crate::heap::Heap;
 use crate::layout::{HEADER, area_word};
 use crate::object::Kind;
 use crate::refusal::HeapRefusal;
-use jc_commit::Journal;
 use jc_transient::{AREA_CELLS, ClearEvent, Ref};
 use jc_words::WordStore;
 use jc_words::layout::TOP;
-
-// The journal has no room for a change of these words.
-pub(crate) fn lacks_room<S: WordStore>(journal: &Journal<S>, addresses: &[u16]) -> bool
-    ensures { IsTrue result ↔ (journal_has_room journal.now addresses.now ≡ false) }
-{
-    !journal.fits(addresses)
-}
 
 impl<S: WordStore> Heap<S> {
     /// Makes a persistent object whose cells are zero.
@@ -49,7 +40,7 @@ impl<S: WordStore> Heap<S> {
         if end > u32::from(self.size) {
             return Err(HeapRefusal::HeapFull);
         }
-        if lacks_room(&self.journal, &[TOP]) {
+        if !self.journal.fits(&[TOP]) {
             return Err(HeapRefusal::CommitFull);
         }
         let header = [kind.number(), class, owner, length];
@@ -97,7 +88,7 @@ impl<S: WordStore> Heap<S> {
         if end > u32::from(self.size) {
             return Err(HeapRefusal::HeapFull);
         }
-        if lacks_room(&self.journal, &[TOP, end_word]) {
+        if !self.journal.fits(&[TOP, end_word]) {
             return Err(HeapRefusal::CommitFull);
         }
         let record = [header_of(kind, event), class, owner, length, place];

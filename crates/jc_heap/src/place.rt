@@ -75,6 +75,14 @@ impl<S: WordStore> Heap<S> {
         self.journal.read(REGISTRY + i)
     }
 
+    /// How many applets there are.
+    pub fn applets(&self) -> u16
+        requires { self.now.down ≡ false }
+        ensures { result ≡ self.now.now.counts.1 }
+    {
+        self.journal.read(APPLETS)
+    }
+
     /// Writes a place.
     pub fn write(&mut self, place: Place, v: u16) -> Result<(), ChangeRefusal>
         requires up { self.old.down ≡ false }
@@ -114,7 +122,7 @@ impl<S: WordStore> Heap<S> {
         requires few { self.old.now.counts.1 < most_applets }
         ensures { MakesUnless (no_applet self.old entry) self.old (after_change result self.new) (applet_move self.old.now entry ∷ []) self.old.now.counts.1 }
     {
-        let number = self.journal.read(APPLETS);
+        let number = self.applets();
         self.set_all(&[
             (Place::Registry(3 * number), entry.aid.address()),
             (Place::Registry(3 * number + 1), entry.package),
