@@ -1,6 +1,6 @@
 -- The images that the product makes.
 use Rattle.std.specs.Prelude.{ℕ, ◌≡◌, ◌≤◌, List, [], ◌∷◌, length, Ok}
-use Rattle.jc_words.specs.Image.{magic, version, least_size}
+use Rattle.jc_words.specs.Layout.{magic, version, least_size}
 use Rattle.jc_commit.specs.Image.{IsGoodLog, recovered_of}
 use Rattle.jc_heap.specs.Image.{IsLaid}
 use Rattle.jc_heap.specs.Heap.{HeapState, heap_of}

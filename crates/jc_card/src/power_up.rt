@@ -1,6 +1,7 @@
 //! Powering a card up over the words of its image.
 ghost use Rattle.std.specs.Prelude.{ℕ, List, ◌≡◌, ◌⊎◌, ◌+◌, ◌/◌, ◌≤◌, length, slice_index, IfOk, IfErr, OnOk, false, true, MatchResult};
 ghost use Rattle.jc_words.specs.Count.{raised};
+ghost use Rattle.jc_words.specs.Layout.{text_length_address, text_start, magic, version};
 ghost use Rattle.jc_commit.specs.State.{opened};
 ghost use Rattle.jc_heap.specs.Heap.{heap_view};
 ghost use Rattle.jc_heap.specs.Image.{table_text};
@@ -127,7 +128,7 @@ fn platform_of<S: WordStore>(alloc: Global, image: &OpenImage<S>) -> Result<Tabl
 
 // The table text of an image that has its words.
 fn text_of<S: WordStore>(alloc: Global, image: &OpenImage<S>) -> Result<Vec<u8>, AllocError>
-    requires { 752 + (slice_index image.now.plain 10 + 1) / 2 ≤ length image.now.plain }
+    requires { text_start + (slice_index image.now.plain text_length_address + 1) / 2 ≤ length image.now.plain }
     ensures { IfOk result (λ text. text.items ≡ table_text image.now.plain) }
 {
     let mut text = zeros(alloc, usize::from(image.text_length()))?;

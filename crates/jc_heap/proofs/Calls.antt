@@ -2,6 +2,7 @@
 use Rattle.std.proofs.Common.{◌≡◌, ℕ, ◌+◌, ◌≤◌, Bool, true, false, List, [], ◌∷◌, ◌++◌, refl, sym, ◌∙◌, ap, subst, arith, inl, if◌then◌else◌, Option, Some, None, Ok, Err}
 use Rattle.std.specs.Prelude.{is_ok}
 use Rattle.std.proofs.lemmas.Bool.{lt-ltb, le-ltb, true≢false}
+use Rattle.jc_words.specs.Layout.{top_address}
 use Rattle.jc_commit.specs.State.{State, has_room_for as journal_room}
 use Rattle.jc_transient.specs.State.{area_size}
 use Rattle.jc_transient.specs.declared.cell.ClearEvent.{ClearEvent}
@@ -67,13 +68,13 @@ has_some_cells v event n fits =
     ap (λ b. if b then Some NoTransientSpace else no_object v 5 (end_place ∷ area_place event ∷ [])) (le-ltb area_size (area_end v.now event + n) le)
 
 -- the journal's room for a new object's change
-pub end_room : (j : State) (v : HeapView) (n : ℕ) → heap_view j n ≡ v → has_room_for v (end_place ∷ []) ≡ journal_room j (5 ∷ [])
+pub end_room : (j : State) (v : HeapView) (n : ℕ) → heap_view j n ≡ v → has_room_for v (end_place ∷ []) ≡ journal_room j (top_address ∷ [])
 unfolding end_place
-end_room j v n is = room_is j v n (5 ∷ []) is
+end_room j v n is = room_is j v n (top_address ∷ []) is
 
-pub ends_room : (j : State) (v : HeapView) (n : ℕ) (event : ClearEvent) (w : ℕ) → heap_view j n ≡ v → w ≡ area_place event → has_room_for v (end_place ∷ area_place event ∷ []) ≡ journal_room j (5 ∷ w ∷ [])
+pub ends_room : (j : State) (v : HeapView) (n : ℕ) (event : ClearEvent) (w : ℕ) → heap_view j n ≡ v → w ≡ area_place event → has_room_for v (end_place ∷ area_place event ∷ []) ≡ journal_room j (top_address ∷ w ∷ [])
 unfolding end_place
-ends_room j v n event w is e = room_is j v n (5 ∷ area_place event ∷ []) is ∙ ap (λ a. journal_room j (5 ∷ a ∷ [])) (sym e)
+ends_room j v n event w is e = room_is j v n (top_address ∷ area_place event ∷ []) is ∙ ap (λ a. journal_room j (top_address ∷ a ∷ [])) (sym e)
 
 pub object_full : (v : HeapView) (size : ℕ) (places : List ℕ) → (LacksSpace v size → ⊥) → has_room_for v places ≡ false → no_object v size places ≡ Some CommitFull
 object_full v size places fits none = has_some_space v size places fits ∙ is_full v places none

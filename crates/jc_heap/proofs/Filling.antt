@@ -1,6 +1,7 @@
 -- The objects of an event in its area, one behind another.
 use Rattle.std.proofs.Common.{◌≡◌, ℕ, ◌+◌, ◌/◌, ◌%◌, ◌<◌, ◌≤◌, ◌==◌, ◌&&◌, nat_lt, Bool, true, false, inl, inr, List, [], ◌∷◌, ◌++◌, take, drop, length, get_or, refl, sym, ◌∙◌, ap, arith, if◌then◌else◌, Some, lit<}
 use Rattle.std.proofs.lemmas.Bool.{cases_eq, cases_Bool, eq-eqb, ne_eqb, false≢true, le-ltb, cases_lt, eqb-true}
+use Rattle.jc_words.specs.Layout.{top_address}
 use Rattle.jc_transient.specs.declared.cell.ClearEvent.{ClearEvent}
 use Rattle.jc_transient.specs.declared.cell.ClearEvent.TheVariants.{Reset, Deselect}
 use Rattle.jc_transient.specs.State.{area_size}
@@ -83,7 +84,7 @@ none_lies : (event : ClearEvent) (ws : List ℕ) → lies_in event (APackage ws)
 none_lies Reset ws = refl
 none_lies Deselect ws = refl
 
-module _ (ws : List ℕ) (at : ℕ) (event : ClearEvent) (laid : IsLaid ws) (here : IsAt ws at) (below : at < get_or ws 5 0) where
+module _ (ws : List ℕ) (at : ℕ) (event : ClearEvent) (laid : IsLaid ws) (here : IsAt ws at) (below : at < get_or ws top_address 0) where
   pub package_lies : is_package (package_addresses (image ws)) at ≡ true → lies_in event (item_from ws at) ≡ false
   package_lies there = ap (lies_in event) (package_here ws at laid here below there) ∙ none_lies event (take (size_from ws at) (drop at (image ws)))
 
@@ -109,7 +110,7 @@ module _ (ws : List ℕ) (at : ℕ) (event : ClearEvent) (laid : IsLaid ws) (her
         let n : get_or ws at 0 / 256 ≡ event_number (Some event) = eqb-true (get_or ws at 0 / 256) (event_number (Some event)) (sym (object_lies (lies_object l)) ∙ l) in
         omega (arith, positive event)
 
-    pub lies_within : lies_in event (item_from ws at) ≡ true → at + 4 < get_or ws 5 0
+    pub lies_within : lies_in event (item_from ws at) ≡ true → at + 4 < get_or ws top_address 0
     lies_within l = place_within ws at laid here below small (lies_object l) (lies_transient l)
 
     pub lies_place : lies_in event (item_from ws at) ≡ true → (facts_of (item_from ws at)).place ≡ get_or ws (at + 4) 0

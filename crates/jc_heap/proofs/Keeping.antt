@@ -2,6 +2,7 @@
 use Rattle.std.proofs.Common.{◌≡◌, ℕ, suc, ◌+◌, ◌<◌, ◌≤◌, true, false, inl, inr, List, [], ◌∷◌, ◌++◌, ◌==◌, None, Some, length, get_or, set, refl, sym, ◌∙◌, ap, subst, arith, if◌then◌else◌}
 use Rattle.std.proofs.lemmas.List.{get_or-set_same, get_or-set_other}
 use Rattle.std.proofs.lemmas.Bool.{cases_eq, cases_Bool, eq-eqb, ne_eqb, false≢true}
+use Rattle.jc_words.specs.Layout.{most_packages, most_applets}
 use Rattle.jc_transient.specs.declared.cell.ClearEvent.{ClearEvent}
 use Rattle.jc_transient.specs.declared.cell.ClearEvent.TheVariants.{Reset, Deselect}
 use Rattle.jc_transient.specs.State.{area_size}
@@ -17,8 +18,8 @@ use Rattle.jc_heap.proofs.Referring.{object_named}
 
 -- what a whole heap's words say but of the areas
 pub record IsReferring (h : HeapState) : Type 0 where
-  pub few_packages : h.counts.0 ≤ 32
-  pub few_applets : h.counts.1 ≤ 64
+  pub few_packages : h.counts.0 ≤ most_packages
+  pub few_applets : h.counts.1 ≤ most_applets
   pub met : AreMet h h.packages
   pub distinct : AreDistinct h.packages
   pub references : (r : ℕ) → HoldsReferences h (item_at h r)

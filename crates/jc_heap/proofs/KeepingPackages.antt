@@ -3,6 +3,7 @@ use Rattle.std.proofs.Common.{◌≡◌, ℕ, suc, ◌+◌, ◌-◌, ◌<◌, �
 use Rattle.std.proofs.lemmas.List.{get_or_append_left, get_or-append_right, length-append}
 use Rattle.std.proofs.lemmas.Bool.{cases_eq, cases_lt, eq-eqb, false≢true}
 use Rattle.std.proofs.Math.Bool.{or-true}
+use Rattle.jc_words.specs.Layout.{most_packages}
 use Rattle.jc_transient.specs.declared.cell.ClearEvent.{ClearEvent}
 use Rattle.jc_transient.specs.declared.cell.ClearEvent.TheVariants.{Reset, Deselect}
 use Rattle.jc_heap.specs.declared.object.Kind.{Kind}
@@ -98,7 +99,7 @@ module _ (h : HeapState) (words : List ℕ) (free : names h h.top ≡ false) whe
   filled-push Reset f = filled_of (push_package h words) Reset (run-pushed Reset f)
   filled-push Deselect f = filled_of (push_package h words) Deselect (run-pushed Deselect f)
 
-  push_whole : h.counts.0 < 32 → IsWhole h → IsWhole (push_package h words)
+  push_whole : h.counts.0 < most_packages → IsWhole h → IsWhole (push_package h words)
   unfolding push_package
   push_whole few w = record {
     few_packages = omega (arith, few);
@@ -137,7 +138,7 @@ unfolding package_record
 record_some at cs xs rest = omega arith
 
 -- a package
-pub package_whole : (h : HeapState) (cs : List (ℕ × List ℕ)) (xs : List (Kind × List ℕ)) (rest : List ℕ) → h.counts.0 < 32 → AreArrays xs → HasEnd h → IsWhole h →
+pub package_whole : (h : HeapState) (cs : List (ℕ × List ℕ)) (xs : List (Kind × List ℕ)) (rest : List ℕ) → h.counts.0 < most_packages → AreArrays xs → HasEnd h → IsWhole h →
     IsWhole (add_package h cs xs rest) × HasEnd (add_package h cs xs rest)
 package_whole h cs xs rest few arrays end w =
     arrays_whole (push_package h (package_record h.top cs xs rest)) (package_owner (h.counts.0 + 1)) xs arrays.kinds

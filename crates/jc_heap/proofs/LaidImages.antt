@@ -3,7 +3,7 @@ use Rattle.std.proofs.Common.{◌≡◌, ℕ, zero, suc, ◌+◌, ◌-◌, ◌*�
 use Rattle.std.proofs.lemmas.List.{ext_get_or, drop_at, drop_all, drop-drop, drop-append-le, take_all, take-append-le, length-append, length-replicate, length-take-le, get_or_append_left, get_or-append_right, get_or-replicate, get_or-take, drop-replicate}
 use Rattle.std.proofs.lemmas.List.FromFn.{length-map-range_with_len, get_or-map-range_with_len}
 use Rattle.std.proofs.lemmas.Bool.{cases_eq, cases_lt, eq-eqb, ne_eqb}
-use Rattle.jc_words.specs.Image.{version}
+use Rattle.jc_words.specs.Layout.{count_address, top_address, packages_address, applets_address, reset_end_address, deselect_end_address, text_length_address, front_length, addresses_start, most_packages, registry_start, registry_length, text_start, version}
 use Rattle.jc_commit.specs.Image.{count_of, plain_of}
 use Rattle.jc_commit.proofs.InPlace.{length-plain, plain_word}
 use Rattle.jc_heap.specs.Cut.{cut, lacking}
@@ -53,50 +53,50 @@ unpacked-packed text bytes =
 module _ (n : ℕ) (text : List ℕ) where
   -- the words before the table text
   abbrev fixed : List ℕ
-  fixed = laid_front n (length text) ++ replicate 736 0
+  fixed = laid_front n (length text) ++ replicate (text_start - front_length) 0
 
-  length-fixed : length fixed ≡ 752
-  length-fixed = omega (arith, length-append (laid_front n (length text)) (replicate {A = ℕ} 736 0), length-replicate {A = ℕ} 736 0)
+  length-fixed : length fixed ≡ text_start
+  length-fixed = omega (arith, length-append (laid_front n (length text)) (replicate {A = ℕ} (text_start - front_length) 0), length-replicate {A = ℕ} (text_start - front_length) 0)
 
   pub length-laid : length (laid_words n text) ≡ first_free (length text)
   unfolding laid_words
   length-laid = omega (arith, length-append fixed (packed text), length-fixed, length-packed text)
 
-  pub front-word : (i : ℕ) → i < 16 → get_or (laid_words n text) i 0 ≡ get_or (laid_front n (length text)) i 0
+  pub front-word : (i : ℕ) → i < front_length → get_or (laid_words n text) i 0 ≡ get_or (laid_front n (length text)) i 0
   unfolding laid_words
-  front-word i h = get_or_append_left fixed (packed text) 0 i (omega (arith, length-fixed)) ∙ get_or_append_left (laid_front n (length text)) (replicate 736 0) 0 i h
+  front-word i h = get_or_append_left fixed (packed text) 0 i (omega (arith, length-fixed)) ∙ get_or_append_left (laid_front n (length text)) (replicate (text_start - front_length) 0) 0 i h
 
-  pub zero-word : (i : ℕ) → 16 ≤ i → i < 752 → get_or (laid_words n text) i 0 ≡ 0
+  pub zero-word : (i : ℕ) → front_length ≤ i → i < text_start → get_or (laid_words n text) i 0 ≡ 0
   unfolding laid_words
   zero-word i low high =
       get_or_append_left fixed (packed text) 0 i (omega (arith, length-fixed))
-      ∙ get_or-append_right (laid_front n (length text)) (replicate 736 0) 16 i 0 refl low
-      ∙ get_or-replicate 736 (i - 16) 0 0 (omega arith)
+      ∙ get_or-append_right (laid_front n (length text)) (replicate (text_start - front_length) 0) front_length i 0 refl low
+      ∙ get_or-replicate (text_start - front_length) (i - front_length) 0 0 (omega arith)
 
-  pub text-word : (i : ℕ) → 752 ≤ i → get_or (laid_words n text) i 0 ≡ get_or (packed text) (i - 752) 0
+  pub text-word : (i : ℕ) → text_start ≤ i → get_or (laid_words n text) i 0 ≡ get_or (packed text) (i - text_start) 0
   unfolding laid_words
-  text-word i h = get_or-append_right fixed (packed text) 752 i 0 length-fixed h
+  text-word i h = get_or-append_right fixed (packed text) text_start i 0 length-fixed h
 
-  drop-text : drop 752 (laid_words n text) ≡ packed text
+  drop-text : drop text_start (laid_words n text) ≡ packed text
   unfolding laid_words
-  drop-text = drop_at fixed (packed text) 752 length-fixed
+  drop-text = drop_at fixed (packed text) text_start length-fixed
 
-  applets-laid : take 192 (drop 560 (laid_words n text)) ≡ replicate 192 0
+  applets-laid : take registry_length (drop registry_start (laid_words n text)) ≡ replicate registry_length 0
   unfolding laid_words
   applets-laid =
-      let zeros : drop 560 fixed ≡ replicate 192 0 =
-      sym (drop-drop 544 16 fixed) ∙ ap (drop 544) (drop_at (laid_front n (length text)) (replicate 736 0) 16 refl) ∙ drop-replicate 544 736 0 in
-      let few : length (drop 560 fixed) ≡ 192 = ap length zeros ∙ length-replicate {A = ℕ} 192 0 in
-      ap (take 192) (drop-append-le 560 fixed (packed text) (omega (arith, length-fixed)))
-      ∙ take-append-le 192 (drop 560 fixed) (packed text) (omega (arith, few))
-      ∙ take_all 192 (drop 560 fixed) (omega (arith, few))
+      let zeros : drop registry_start fixed ≡ replicate registry_length 0 =
+      sym (drop-drop (registry_start - front_length) front_length fixed) ∙ ap (drop (registry_start - front_length)) (drop_at (laid_front n (length text)) (replicate (text_start - front_length) 0) front_length refl) ∙ drop-replicate (registry_start - front_length) (text_start - front_length) 0 in
+      let few : length (drop registry_start fixed) ≡ registry_length = ap length zeros ∙ length-replicate {A = ℕ} registry_length 0 in
+      ap (take registry_length) (drop-append-le registry_start fixed (packed text) (omega (arith, length-fixed)))
+      ∙ take-append-le registry_length (drop registry_start fixed) (packed text) (omega (arith, few))
+      ∙ take_all registry_length (drop registry_start fixed) (omega (arith, few))
       ∙ zeros
 
   packages-laid : package_addresses (laid_words n text) ≡ []
-  packages-laid = ap (λ k. take k (take 32 (drop 528 (laid_words n text)))) (front-word 6 (lit< tt))
+  packages-laid = ap (λ k. take k (take most_packages (drop addresses_start (laid_words n text)))) (front-word packages_address (lit< tt))
 
   base-laid : base (laid_words n text) ≡ first_free (length text)
-  base-laid = ap (λ k. 752 + (k + 1) / 2) (front-word 10 (lit< tt))
+  base-laid = ap (λ k. text_start + (k + 1) / 2) (front-word text_length_address (lit< tt))
 
   table-laid : drop (base (laid_words n text)) (laid_words n text) ≡ []
   table-laid = drop_all (base (laid_words n text)) (laid_words n text) (omega (arith, length-laid, base-laid))
@@ -115,7 +115,7 @@ module _ (n : ℕ) (text : List ℕ) where
   module _ (bytes : AreBytes text) where
     text-laid : table_text (laid_words n text) ≡ text
     text-laid =
-        ap (λ k. unpacked k (take ((k + 1) / 2) (drop 752 (laid_words n text)))) (front-word 10 (lit< tt))
+        ap (λ k. unpacked k (take ((k + 1) / 2) (drop text_start (laid_words n text)))) (front-word text_length_address (lit< tt))
         ∙ ap (λ l. unpacked (length text) (take ((length text + 1) / 2) l)) drop-text
         ∙ ap (unpacked (length text)) (take_all ((length text + 1) / 2) (packed text) (omega (arith, length-packed text)))
         ∙ unpacked-packed text bytes
@@ -126,10 +126,10 @@ module _ (n : ℕ) (text : List ℕ) where
       head = head-laid k;
       text = text-laid k;
       items = items-laid k;
-      counts = (front-word 6 (lit< tt) k, front-word 7 (lit< tt) k);
+      counts = (front-word packages_address (lit< tt) k, front-word applets_address (lit< tt) k);
       packages = packages-laid k;
       applets = applets-laid k;
-      area_ends = (front-word 8 (lit< tt) k, front-word 9 (lit< tt) k);
+      area_ends = (front-word reset_end_address (lit< tt) k, front-word deselect_end_address (lit< tt) k);
       top = length-laid k;
     }
 
@@ -147,23 +147,23 @@ module _ (n : ℕ) (text : List ℕ) where
       log-word : (i : ℕ) → i < first_free (length text) → get_or (laid_words n text) i 0 ≡ 0 → get_or (plain_of all) i 0 ≡ get_or (laid_words n text) i 0
       log-word i h z = plain_zero all i (within i h) (all-word i h ∙ z) ∙ sym z
 
-      own-word : (i : ℕ) → i < first_free (length text) → (i ≡ 3 → ⊥) → (16 ≤ i → 528 ≤ i) → get_or (plain_of all) i 0 ≡ get_or (laid_words n text) i 0
+      own-word : (i : ℕ) → i < first_free (length text) → (i ≡ count_address → ⊥) → (front_length ≤ i → addresses_start ≤ i) → get_or (plain_of all) i 0 ≡ get_or (laid_words n text) i 0
       own-word i h ne beside = plain_word all i (record { below = within i h; not_count = ne; beside = beside }) ∙ all-word i h
 
       plain-laid_word : (i : ℕ) → i < first_free (length text) → get_or (plain_of all) i 0 ≡ get_or (laid_words n text) i 0
-      plain-laid_word i h = elim (cases_lt i 16) [
+      plain-laid_word i h = elim (cases_lt i front_length) [
         | inl front ↦ elim (cases_eq i 3) [
           | inl e ↦ log-word i h (front-word i front ∙ ap (λ k. get_or (laid_front n (length text)) k 0) e)
           | inr ne ↦ own-word i h ne (λ high. absurd (omega arith))
         ]
-        | inr behind ↦ elim (cases_lt i 752) [
+        | inr behind ↦ elim (cases_lt i text_start) [
           | inl low ↦ log-word i h (zero-word i behind low)
           | inr high ↦ own-word i h (λ e. omega arith) (λ _. omega arith)
         ]
       ]
 
-      top-laid : get_or (plain_of all) 5 0 ≡ first_free (length text)
-      top-laid = plain-laid_word 5 (omega arith) ∙ front-word 5 (lit< tt)
+      top-laid : get_or (plain_of all) top_address 0 ≡ first_free (length text)
+      top-laid = plain-laid_word top_address (omega arith) ∙ front-word top_address (lit< tt)
 
       length-below : length (take (first_free (length text)) (plain_of all)) ≡ length (laid_words n text)
       length-below = omega (arith, length-take-le (first_free (length text)) (plain_of all) (omega (arith, length-plain all, length-append (laid_words n text) rest, length-laid)), length-laid)

@@ -3,6 +3,7 @@ use Rattle.std.proofs.Common.{◌≡◌, ℕ, zero, suc, ◌+◌, ◌<◌, ◌�
 use Rattle.std.proofs.lemmas.List.{take_all, length-append, length-drop, length-take-le, get_or_append_left, get_or-take}
 use Rattle.std.proofs.lemmas.Bool.{eq-eqb}
 use Rattle.jc_words.specs.Count.{raised}
+use Rattle.jc_words.specs.Layout.{top_address}
 use Rattle.jc_commit.specs.Image.{count_of, plain_of, recovered_of, touched_of, with_words, IsGoodLog}
 use Rattle.jc_commit.specs.Replay.{write_backs, stopped_after}
 use Rattle.jc_commit.specs.State.{State, opened}
@@ -30,7 +31,7 @@ same_sound j n ws plain recovered laid long small = record {
   small = small;
   now = λ _. subst IsLaid (sym plain) laid;
   size_now = λ _. ap length plain ∙ long;
-  order = λ _. omega (arith, ap (λ l. get_or l 5 0) plain, ap (λ l. get_or l 5 0) recovered);
+  order = λ _. omega (arith, ap (λ l. get_or l top_address 0) plain, ap (λ l. get_or l top_address 0) recovered);
   shape = λ _. subst (λ l. SameShape (heap_of j.recovered) (heap_of l)) (recovered ∙ sym plain) (shape-same (heap_of j.recovered));
   settled = λ _ _. recovered ∙ sym plain;
 }

@@ -5,6 +5,7 @@ use Rattle.jc_transient.specs.declared.cell.ClearEvent.TheVariants.{Reset, Desel
 use Rattle.jc_heap.specs.declared.object.Kind.{Kind}
 use Rattle.std.proofs.lemmas.List.{get_or-take, get_or-drop, length-drop, length-take}
 use Rattle.std.proofs.lemmas.Bool.{cases_Bool, cases_eq, false≢true, eq-eqb, ne_eqb}
+use Rattle.jc_words.specs.Layout.{top_address, text_start}
 use Rattle.jc_commit.specs.State.{State}
 use Rattle.jc_heap.specs.declared.object.Facts.{Facts}
 use Rattle.jc_heap.specs.Table.{at_or, has}
@@ -81,13 +82,13 @@ module _ (ws : List ℕ) (r : ℕ) (laid : IsLaid ws) (there : IsObject (heap_of
   behind = omega (arith, has_behind (sizes (package_addresses (image ws))) 0 (base (image ws)) (drop (base (image ws)) (image ws)) r named)
 
   -- a word of the record
-  word_is : (j : ℕ) → j < length rec → (r + j < get_or ws 5 0) × (get_or rec j 0 ≡ get_or ws (r + j) 0)
+  word_is : (j : ℕ) → j < length rec → (r + j < get_or ws top_address 0) × (get_or rec j 0 ≡ get_or ws (r + j) 0)
   word_is j h =
       let offset : base (image ws) + (r + j - base (image ws)) ≡ r + j = omega (arith, behind) in
       let at : (r + j - base (image ws) < length (drop (base (image ws)) (image ws))) × (get_or rec j 0 ≡ get_or (drop (base (image ws)) (image ws)) (r + j - base (image ws)) 0) =
       at_or-cut (sizes (package_addresses (image ws))) 0 (base (image ws)) (drop (base (image ws)) (image ws)) r j (r + j - base (image ws)) h offset in
-      let below : r + j < get_or ws 5 0 = omega (arith, at.0, offset, length-drop (base (image ws)) (image ws), length-take (get_or ws 5 0) ws) in
-      (below, at.1 ∙ get_or-drop (base (image ws)) (image ws) (r + j - base (image ws)) 0 ∙ ap (λ k. get_or (image ws) k 0) offset ∙ get_or-take (get_or ws 5 0) ws (r + j) 0 below)
+      let below : r + j < get_or ws top_address 0 = omega (arith, at.0, offset, length-drop (base (image ws)) (image ws), length-take (get_or ws top_address 0) ws) in
+      (below, at.1 ∙ get_or-drop (base (image ws)) (image ws) (r + j - base (image ws)) 0 ∙ ap (λ k. get_or (image ws) k 0) offset ∙ get_or-take (get_or ws top_address 0) ws (r + j) 0 below)
 
   -- the record is whole
   long_is : length rec ≡ suc (3 + payload (get_or (drop (r - base (image ws)) (drop (base (image ws)) (image ws))) 0 0) (get_or (drop (r - base (image ws)) (drop (base (image ws)) (image ws))) 3 0))
@@ -102,19 +103,19 @@ module _ (ws : List ℕ) (r : ℕ) (laid : IsLaid ws) (there : IsObject (heap_of
   -- a word of the table is the record's
   same_word : (j : ℕ) → j < length rec → get_or (drop (r - base (image ws)) (drop (base (image ws)) (image ws))) j 0 ≡ get_or rec j 0
   same_word j h =
-      let w : (r + j < get_or ws 5 0) × (get_or rec j 0 ≡ get_or ws (r + j) 0) = word_is j h in
+      let w : (r + j < get_or ws top_address 0) × (get_or rec j 0 ≡ get_or ws (r + j) 0) = word_is j h in
       let offset : base (image ws) + (r - base (image ws) + j) ≡ r + j = omega (arith, behind) in
       get_or-drop (r - base (image ws)) (drop (base (image ws)) (image ws)) j 0
       ∙ get_or-drop (base (image ws)) (image ws) (r - base (image ws) + j) 0
       ∙ ap (λ k. get_or (image ws) k 0) offset
-      ∙ get_or-take (get_or ws 5 0) ws (r + j) 0 w.0
+      ∙ get_or-take (get_or ws top_address 0) ws (r + j) 0 w.0
       ∙ sym w.1
 
   pub whole_record : length rec ≡ 4 + payload (get_or rec 0 0) (get_or rec 3 0)
   whole_record = long_is ∙ ap (λ w. suc (3 + payload w (get_or (drop (r - base (image ws)) (drop (base (image ws)) (image ws))) 3 0))) (same_word 0 (omega (arith, four)))
       ∙ ap (λ l. suc (3 + payload (get_or rec 0 0) l)) (same_word 3 (omega (arith, four))) ∙ (omega arith)
 
-  pub object_spot : (752 ≤ r) × (r + 3 < get_or ws 5 0)
+  pub object_spot : (text_start ≤ r) × (r + 3 < get_or ws top_address 0)
   object_spot = (omega (arith, behind), (word_is 3 (omega (arith, four))).0)
 
   first_word : get_or rec 0 0 ≡ get_or ws r 0
@@ -124,7 +125,7 @@ module _ (ws : List ℕ) (r : ℕ) (laid : IsLaid ws) (there : IsObject (heap_of
   five_words n = omega (arith, at_least_one (is_header (get_or rec 0 0)), whole_record ∙ ap (λ b. 4 + (if is_header (get_or rec 0 0) then (if b then get_or rec 3 0 else 1) else 65536)) (ne_eqb (get_or rec 0 0 / 256) 0 n))
 
   -- the word behind a transient object's header
-  pub place_spot : (get_or ws r 0 / 256 ≡ 0 → ⊥) → r + 4 < get_or ws 5 0
+  pub place_spot : (get_or ws r 0 / 256 ≡ 0 → ⊥) → r + 4 < get_or ws top_address 0
   place_spot n = (word_is 4 (five_words (λ e. n (ap (λ w. w / 256) (sym first_word) ∙ e)))).0
 
   last_word : said (get_or rec 0 0) (get_or rec 1 0) (get_or rec 2 0) (get_or rec 3 0) (get_or rec 4 0) ≡ said (get_or rec 0 0) (get_or rec 1 0) (get_or rec 2 0) (get_or rec 3 0) (get_or ws (r + 4) 0)
@@ -138,7 +139,7 @@ module _ (ws : List ℕ) (r : ℕ) (laid : IsLaid ws) (there : IsObject (heap_of
       ap facts_of item_is ∙ said-object_of rec four ∙ last_word
       ∙ (λ k. said (first_word k) ((word_is 1 (omega (arith, four))).1 k) ((word_is 2 (omega (arith, four))).1 k) ((word_is 3 (omega (arith, four))).1 k) (get_or ws (r + 4) 0))
 
-  pub record_within : r + length rec ≤ get_or ws 5 0
+  pub record_within : r + length rec ≤ get_or ws top_address 0
   record_within = omega (arith, four, (word_is (length rec - 1) (omega (arith, four))).0)
 
   pub cells_are : length ws < 65536 → get_or ws r 0 / 256 ≡ 0 → length (cells (heap_of ws) r) ≡ get_or ws (r + 3) 0
@@ -148,7 +149,7 @@ module _ (ws : List ℕ) (r : ℕ) (laid : IsLaid ws) (there : IsObject (heap_of
       ∙ (word_is 3 (omega (arith, four))).1
 
 -- the same through a heap's view
-pub view_spot : (j : State) (v : HeapView) (n r : ℕ) → heap_view j n ≡ v → IsLaid j.plain → IsObject v.now r → (752 ≤ r) × (r + 3 < length j.plain) × ((get_or j.plain r 0 / 256 ≡ 0 → ⊥) → r + 4 < length j.plain)
+pub view_spot : (j : State) (v : HeapView) (n r : ℕ) → heap_view j n ≡ v → IsLaid j.plain → IsObject v.now r → (text_start ≤ r) × (r + 3 < length j.plain) × ((get_or j.plain r 0 / 256 ≡ 0 → ⊥) → r + 4 < length j.plain)
 view_spot j v n r is laid there =
     let here : IsObject (heap_of j.plain) r = subst (λ u. IsObject (u.now) r) (sym is) there in
     ((object_spot j.plain r laid here).0, omega (arith, (object_spot j.plain r laid here).1, laid.fits), λ ne. omega (arith, place_spot j.plain r laid here ne, laid.fits))
@@ -162,7 +163,7 @@ view_cells j v n r is laid small there e = subst (λ u. IsObject (u.now) r → l
 
 -- where an object's header stands
 pub record Spot (j : State) (r : ℕ) : Type 0 where
-  pub low : 752 ≤ r
+  pub low : text_start ≤ r
   pub high : r + 3 < length j.plain
   pub behind : (get_or j.plain r 0 / 256 ≡ 0 → ⊥) → r + 4 < length j.plain
   pub small : length j.plain < 65536
@@ -170,7 +171,7 @@ pub record Spot (j : State) (r : ℕ) : Type 0 where
 pub spot_of : (j : State) (v : HeapView) (n r a : ℕ) → heap_view j n ≡ v → IsSound j n → v.down ≡ false → IsObject v.now r → a ≡ r → Spot j a
 spot_of j v n r a is s up there e =
     let here : j.down ≡ false = up_is j v n is up in
-    let t : (752 ≤ r) × (r + 3 < length j.plain) × ((get_or j.plain r 0 / 256 ≡ 0 → ⊥) → r + 4 < length j.plain) = view_spot j v n r is (s.now here) there in
+    let t : (text_start ≤ r) × (r + 3 < length j.plain) × ((get_or j.plain r 0 / 256 ≡ 0 → ⊥) → r + 4 < length j.plain) = view_spot j v n r is (s.now here) there in
     subst (Spot j) (sym e) (record { low = t.0; high = t.1; behind = t.2; small = omega (arith, s.small, s.size_now here) })
 
 -- facts read word by word are the object's

@@ -1,6 +1,7 @@
 -- The references that the cells of a heap hold.
 use Rattle.std.proofs.Common.{◌≡◌, ℕ, zero, suc, ◌+◌, ◌/◌, ◌%◌, ◌<◌, ◌≤◌, ◌||◌, not, Bool, true, false, inl, inr, List, [], ◌∷◌, length, get_or, drop, map, refl, sym, ◌∙◌, ap, subst, arith, if◌then◌else◌}
 use Rattle.std.proofs.lemmas.Bool.{cases_eq, cases_Bool, eq-eqb, ne_eqb, false≢true}
+use Rattle.jc_words.specs.Layout.{top_address}
 use Rattle.jc_heap.specs.declared.object.Kind.TheVariants.{Instance, BooleanArray, ByteArray, ShortArray, ReferenceArray}
 use Rattle.jc_heap.specs.Cut.{Sizes, cut}
 use Rattle.jc_heap.specs.Table.{at_or, has}
@@ -45,7 +46,7 @@ kind_five n e = elim (cases_eq n 2) [
 ]
 
 -- the record at an address
-module _ (h : HeapState) (ws : List ℕ) (at : ℕ) (laid : IsLaid ws) (here : IsAt ws at) (below : at < get_or ws 5 0) where
+module _ (h : HeapState) (ws : List ℕ) (at : ℕ) (laid : IsLaid ws) (here : IsAt ws at) (below : at < get_or ws top_address 0) where
   -- a package has no cells
   pub holds_package : is_package (package_addresses (image ws)) at ≡ true → HoldsReferences h (item_from ws at)
   holds_package there kind i lt =
@@ -73,7 +74,7 @@ module _ (h : HeapState) (ws : List ℕ) (at : ℕ) (laid : IsLaid ws) (here : I
       pub cells_count : length (cells_of (item_from ws at)) ≡ get_or ws (at + 3) 0
       cells_count = cells_long ws at laid here below small other persistent
 
-      pub cell_within_at : (i : ℕ) → i < get_or ws (at + 3) 0 → at + 4 + i < get_or ws 5 0
+      pub cell_within_at : (i : ℕ) → i < get_or ws (at + 3) 0 → at + 4 + i < get_or ws top_address 0
       cell_within_at i lt = omega (arith, (cell_here ws at laid here below small other persistent i (omega (arith, cells_count, lt))).0)
 
       cell_is : (i : ℕ) → i < length (cells_of (item_from ws at)) → get_or (cells_of (item_from ws at)) i 0 ≡ get_or ws (at + 4 + i) 0

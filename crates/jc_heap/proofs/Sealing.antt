@@ -2,7 +2,7 @@
 use Rattle.std.proofs.Common.{◌≡◌, ℕ, ◌+◌, ◌/◌, ◌<◌, ◌&&◌, Bool, true, false, List, [], ◌∷◌, length, take, drop, set, get_or, map, refl, ◌∙◌, ap, arith, if◌then◌else◌, lit<}
 use Rattle.std.proofs.lemmas.List.{get_or-set_other, drop-set-lt, length-set, length-take-le}
 use Rattle.std.proofs.lemmas.Bool.{true≢false}
-use Rattle.jc_words.specs.Image.{magic}
+use Rattle.jc_words.specs.Layout.{top_address, packages_address, applets_address, reset_end_address, deselect_end_address, text_length_address, addresses_start, registry_start, registry_length, text_start, magic}
 use Rattle.jc_commit.specs.State.{State, written_in_place, is_touched}
 use Rattle.jc_heap.specs.Cut.{cut, lacking}
 use Rattle.jc_heap.specs.Image.{image, base, package_addresses, is_package, sizes, item_entry, records, missing, table_text, IsLaid}
@@ -21,10 +21,10 @@ module _ (img : List ℕ) (v : ℕ) where
   tail from h = drop-set-lt from img 0 v h
 
   addresses-magic : package_addresses (set img 0 v) ≡ package_addresses img
-  addresses-magic = rw (word 6 (lit< tt), tail 528 (lit< tt)) refl
+  addresses-magic = rw (word packages_address (lit< tt), tail addresses_start (lit< tt)) refl
 
   base-magic : base (set img 0 v) ≡ base img
-  base-magic = rw (word 10 (lit< tt)) refl
+  base-magic = rw (word text_length_address (lit< tt)) refl
 
   records-magic : records (set img 0 v) ≡ records img
   records-magic =
@@ -43,7 +43,7 @@ module _ (img : List ℕ) (v : ℕ) where
   items-magic = ap (λ ps. map (item_entry ps) (records (set img 0 v))) addresses-magic ∙ ap (map (item_entry (package_addresses img))) records-magic
 
   text-magic : table_text (set img 0 v) ≡ table_text img
-  text-magic = text-same img (set img 0 v) (word 10 (lit< tt)) (ap (take ((get_or img 10 0 + 1) / 2)) (tail 752 (lit< tt)))
+  text-magic = text-same img (set img 0 v) (word text_length_address (lit< tt)) (ap (take ((get_or img text_length_address 0 + 1) / 2)) (tail text_start (lit< tt)))
 
 head-magic : (img : List ℕ) (v : ℕ) → 0 < length img → take 3 (set img 0 v) ≡ v ∷ drop 1 (take 3 img)
 head-magic [] v h = absurd (omega arith)
@@ -55,22 +55,22 @@ read-magic img v h = λ k. record {
   head = head-magic img v h k;
   text = text-magic img v k;
   items = items-magic img v k;
-  counts = (word img v 6 (lit< tt) k, word img v 7 (lit< tt) k);
+  counts = (word img v packages_address (lit< tt) k, word img v applets_address (lit< tt) k);
   packages = addresses-magic img v k;
-  applets = ap (take 192) (tail img v 560 (lit< tt)) k;
-  area_ends = (word img v 8 (lit< tt) k, word img v 9 (lit< tt) k);
+  applets = ap (take registry_length) (tail img v registry_start (lit< tt)) k;
+  area_ends = (word img v reset_end_address (lit< tt) k, word img v deselect_end_address (lit< tt) k);
   top = length-set img 0 v k;
 }
 
 image-magic : (ws : List ℕ) (v : ℕ) → image (set ws 0 v) ≡ set (image ws) 0 v
-image-magic ws v = ap (λ t. take t (set ws 0 v)) (word ws v 5 (lit< tt)) ∙ take-set_comm (get_or ws 5 0) ws 0 v
+image-magic ws v = ap (λ t. take t (set ws 0 v)) (word ws v top_address (lit< tt)) ∙ take-set_comm (get_or ws top_address 0) ws 0 v
 
 heap_of-magic : (ws : List ℕ) (v : ℕ) → IsLaid ws → heap_of (set ws 0 v) ≡ record (heap_of ws) { head = v ∷ drop 1 ((heap_of ws).head) }
-heap_of-magic ws v laid = ap read_image (image-magic ws v) ∙ read-magic (image ws) v (omega (arith, laid.based, length-take-le (get_or ws 5 0) ws laid.fits))
+heap_of-magic ws v laid = ap read_image (image-magic ws v) ∙ read-magic (image ws) v (omega (arith, laid.based, length-take-le (get_or ws top_address 0) ws laid.fits))
 
 IsLaid-magic : (ws : List ℕ) (v : ℕ) → IsLaid ws → IsLaid (set ws 0 v)
 IsLaid-magic ws v laid =
-    let top : get_or (set ws 0 v) 5 0 ≡ get_or ws 5 0 = word ws v 5 (lit< tt) in
+    let top : get_or (set ws 0 v) top_address 0 ≡ get_or ws top_address 0 = word ws v top_address (lit< tt) in
     let same_base : base (image (set ws 0 v)) ≡ base (image ws) = ap base (image-magic ws v) ∙ base-magic (image ws) v in
     record {
       based = omega (arith, same_base, top, laid.based);

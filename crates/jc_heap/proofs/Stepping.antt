@@ -2,6 +2,7 @@
 use Rattle.std.proofs.Common.{◌≡◌, ℕ, ◌+◌, ◌-◌, add-zero, ◌/◌, ◌<◌, ◌≤◌, true, false, inl, inr, List, [], ◌∷◌, length, get_or, set, take, drop, map, refl, sym, ◌∙◌, ap, arith, if◌then◌else◌, ◌==◌}
 use Rattle.std.proofs.lemmas.List.{length-drop, length-take, length-take-le, get_or-take, drop_all}
 use Rattle.std.proofs.lemmas.Bool.{cases_Bool, cases_eq, eq-eqb, ne_eqb}
+use Rattle.jc_words.specs.Layout.{top_address, text_length_address, text_start}
 use Rattle.jc_heap.specs.Cut.{cut, lacking}
 use Rattle.jc_heap.specs.Object.{AnObject, APackage, object_of, facts_of, cells_of, is_header, payload}
 use Rattle.jc_heap.specs.Image.{image, base, package_addresses, is_package, sizes, item_entry, IsLaid}
@@ -13,7 +14,7 @@ use Rattle.jc_heap.proofs.Reading.{said, said-object_of, cells-object_of}
 use Rattle.jc_heap.proofs.Following.{base_is, whole_first, step_fits, step_whole, item_here}
 
 -- the first record
-pub first_at : (ws : List ℕ) (at : ℕ) → IsLaid ws → at ≡ 752 + (get_or ws 10 0 + 1) / 2 → IsAt ws at
+pub first_at : (ws : List ℕ) (at : ℕ) → IsLaid ws → at ≡ text_start + (get_or ws text_length_address 0 + 1) / 2 → IsAt ws at
 first_at ws at laid e =
     let is : base (image ws) ≡ at = base_is ws laid ∙ sym e in
     record {
@@ -22,16 +23,16 @@ first_at ws at laid e =
       whole = ap (λ a. lacking (sizes (package_addresses (image ws))) 0 a (drop a (image ws))) (sym is) ∙ whole_first ws laid;
     }
 
-pub first_items : (ws : List ℕ) (at : ℕ) → IsLaid ws → at ≡ 752 + (get_or ws 10 0 + 1) / 2 → (heap_of ws).items ≡ items_from ws at
+pub first_items : (ws : List ℕ) (at : ℕ) → IsLaid ws → at ≡ text_start + (get_or ws text_length_address 0 + 1) / 2 → (heap_of ws).items ≡ items_from ws at
 unfolding read_image items_from
 first_items ws at laid e =
     let is : base (image ws) ≡ at = base_is ws laid ∙ sym e in
     ap (λ a. map (item_entry (package_addresses (image ws))) (cut (sizes (package_addresses (image ws))) 0 a (drop a (image ws)))) is
 
 -- past the last record there is nothing
-pub nothing_from : (ws : List ℕ) (at : ℕ) → get_or ws 5 0 ≤ at → items_from ws at ≡ []
+pub nothing_from : (ws : List ℕ) (at : ℕ) → get_or ws top_address 0 ≤ at → items_from ws at ≡ []
 unfolding items_from
-nothing_from ws at h = ap (λ l. map (item_entry (package_addresses (image ws))) (cut (sizes (package_addresses (image ws))) 0 at l)) (drop_all at (image ws) (omega (arith, length-take (get_or ws 5 0) ws)))
+nothing_from ws at h = ap (λ l. map (item_entry (package_addresses (image ws))) (cut (sizes (package_addresses (image ws))) 0 at l)) (drop_all at (image ws) (omega (arith, length-take (get_or ws top_address 0) ws)))
 
 no_cells : (rec : List ℕ) → (get_or rec 0 0 / 256 ≡ 0 → ⊥) → length ((object_of rec).cells) ≡ 0
 no_cells [] n = refl
@@ -40,12 +41,12 @@ no_cells (a ∷ b ∷ []) n = refl
 no_cells (a ∷ b ∷ c ∷ []) n = refl
 no_cells (a ∷ b ∷ c ∷ d ∷ rest) n = rw (ne_eqb (a / 256) 0 n) refl
 
-module _ (ws : List ℕ) (at : ℕ) (laid : IsLaid ws) (here : IsAt ws at) (below : at < get_or ws 5 0) where
+module _ (ws : List ℕ) (at : ℕ) (laid : IsLaid ws) (here : IsAt ws at) (below : at < get_or ws top_address 0) where
   pub size_is : size_from ws at ≡ sizes (package_addresses (image ws)) at (drop at (image ws)) + 1
   unfolding size_from
   size_is = refl
 
-  pub size_fits : at + size_from ws at ≤ get_or ws 5 0
+  pub size_fits : at + size_from ws at ≤ get_or ws top_address 0
   size_fits = step_fits ws at (size_from ws at) laid below here.whole size_is
 
   pub step_at : IsAt ws (at + size_from ws at)
@@ -63,8 +64,8 @@ module _ (ws : List ℕ) (at : ℕ) (laid : IsLaid ws) (here : IsAt ws at) (belo
   abbrev rec : List ℕ
   rec = take (size_from ws at) (drop at (image ws))
 
-  table_long : length (drop at (image ws)) ≡ get_or ws 5 0 - at
-  table_long = omega (arith, length-drop at (image ws), length-take-le (get_or ws 5 0) ws laid.fits)
+  table_long : length (drop at (image ws)) ≡ get_or ws top_address 0 - at
+  table_long = omega (arith, length-drop at (image ws), length-take-le (get_or ws top_address 0) ws laid.fits)
 
   rec_long : length rec ≡ size_from ws at
   rec_long = length-take-le (size_from ws at) (drop at (image ws)) (omega (arith, size_fits, table_long))
@@ -102,10 +103,10 @@ module _ (ws : List ℕ) (at : ℕ) (laid : IsLaid ws) (here : IsAt ws at) (belo
         ∙ ap (λ l. 4 + payload (get_or ws at 0) l) fourth_word
         ∙ ap (λ b. 4 + (if b then (if get_or ws at 0 / 256 == 0 then get_or ws (at + 3) 0 else 1) else 65536)) header_here
 
-    pub header_within : at + 3 < get_or ws 5 0
+    pub header_within : at + 3 < get_or ws top_address 0
     header_within = omega (arith, four, size_fits)
 
-    pub place_within : (get_or ws at 0 / 256 ≡ 0 → ⊥) → at + 4 < get_or ws 5 0
+    pub place_within : (get_or ws at 0 / 256 ≡ 0 → ⊥) → at + 4 < get_or ws top_address 0
     place_within n = omega (arith, size_fits, object_words ∙ ap (λ b. 4 + (if b then get_or ws (at + 3) 0 else 1)) (ne_eqb (get_or ws at 0 / 256) 0 n))
 
     pub object_here : item_from ws at ≡ AnObject (object_of rec)
@@ -159,7 +160,7 @@ module _ (ws : List ℕ) (at : ℕ) (laid : IsLaid ws) (here : IsAt ws at) (belo
         ∙ cells-object_of rec own_size words_small (ap (λ w. w / 256) zeroth_word ∙ persistent)
         ∙ rec_word 3 (omega (arith, four small no))
 
-    pub cell_here : (i : ℕ) → i < length (cells_of (item_from ws at)) → (at + (4 + i) < get_or ws 5 0) × (get_or (cells_of (item_from ws at)) i 0 ≡ get_or ws (at + (4 + i)) 0)
+    pub cell_here : (i : ℕ) → i < length (cells_of (item_from ws at)) → (at + (4 + i) < get_or ws top_address 0) × (get_or (cells_of (item_from ws at)) i 0 ≡ get_or ws (at + (4 + i)) 0)
     cell_here i h =
         let h' : i < length ((object_of rec).cells) = omega (arith, h, ap (λ t. length (cells_of t)) (object_here small no)) in
         let o : (4 + i < length rec) × (get_or ((object_of rec).cells) i 0 ≡ get_or rec (4 + i) 0) × (object_of (set rec (4 + i) 0) ≡ record (object_of rec) { cells = set ((object_of rec).cells) i 0 }) = object_cell rec i 0 h' in

@@ -2,6 +2,7 @@
 use Rattle.std.specs.Prelude.{ℕ, suc, ◌+◌, ◌≡◌, ◌<◌, ◌≤◌, ◌==◌, Bool, true, false, List, [], ◌∷◌, ◌++◌, map, take, drop, length, slice_index, Option, Some, None, if◌then◌else◌, ◌&&◌, nat_lt, nat_le}
 use Rattle.std.specs.List.{list_any}
 use Rattle.jc_words.specs.Count.{raised}
+use Rattle.jc_words.specs.Layout.{top_address, packages_address, applets_address, reset_end_address, deselect_end_address, registry_start, registry_length, text_start}
 use Rattle.jc_commit.specs.Image.{capacity, top_of}
 use Rattle.jc_commit.specs.State.{State, writes_inside, writes_outside, undo_writes}
 use Rattle.jc_heap.specs.declared.object.Facts.{Facts}
@@ -31,10 +32,10 @@ read_image image = record {
   head = take 3 image;
   text = table_text image;
   items = map (item_entry (package_addresses image)) (records image);
-  counts = (slice_index image 6, slice_index image 7);
+  counts = (slice_index image packages_address, slice_index image applets_address);
   packages = package_addresses image;
-  applets = take 192 (drop 560 image);
-  area_ends = (slice_index image 8, slice_index image 9);
+  applets = take registry_length (drop registry_start image);
+  area_ends = (slice_index image reset_end_address, slice_index image deselect_end_address);
   top = length image;
 }
 
@@ -83,8 +84,8 @@ with_area_end h Deselect end = record h { area_ends = (h.area_ends.0, end) }
 
 -- the place of an area's end
 abbrev pub area_place : ClearEvent → ℕ
-area_place Reset = 8
-area_place Deselect = 9
+area_place Reset = reset_end_address
+area_place Deselect = deselect_end_address
 
 -- a new transient object behind the others, whose cells are the first free ones of its area
 unfoldable pub add_transient : HeapState → Kind → ClearEvent → ℕ → ℕ → ℕ → HeapState
@@ -154,7 +155,7 @@ pub record IsOpen (j : State) (size : ℕ) : Type 0 where
   pub recovered : j.recovered ≡ j.plain
   pub size_now : length j.plain ≡ size
   pub small : size < 65536
-  pub wide : 752 ≤ size
+  pub wide : text_start ≤ size
 
 -- the heap as the open transaction found it
 abbrev pub saved : HeapView → Option HeapState
@@ -191,7 +192,7 @@ cell_place r i = r + (4 + i)
 
 -- the place of the heap's end
 unfoldable pub end_place : ℕ
-end_place = 5
+end_place = top_address
 
 -- the open transaction keeps the old value of a place
 unfoldable pub is_touched : HeapView → ℕ → Bool

@@ -1,5 +1,6 @@
 -- What keeps a heap whole: every move that puts references where references have to be.
 use Rattle.std.specs.Prelude.{ℕ, ◌≡◌, ◌<◌, List, [], ◌∷◌, length, slice_index, None}
+use Rattle.jc_words.specs.Layout.{most_packages}
 use Rattle.jc_heap.specs.declared.object.Kind.TheVariants.{ReferenceArray}
 use Rattle.jc_heap.specs.declared.place.Place.{Place}
 use Rattle.jc_heap.specs.declared.place.Place.TheVariants.{Cell, Static, Registry}
@@ -22,7 +23,7 @@ Suits v (Count p x) = MayStand v.now p x × MayStand v.durable p x
 Suits v (SetCells r i xs) = (facts v.now r).kind ≡ ReferenceArray → (k : ℕ) → k < length xs → IsReference v.now (slice_index xs k)
 Suits v (AddObject o size) = (0 < size) × ((o.facts.event ≡ None) × ((o.facts.kind ≡ ReferenceArray → (i : ℕ) → i < length o.cells → IsReference v.now (slice_index o.cells i))))
 Suits v (AddTransient kind event class owner long) = LacksCells v.now event long → ⊥
-Suits v (AddPackage components arrays rest) = (v.now.counts.0 < 32) × AreArrays arrays
+Suits v (AddPackage components arrays rest) = (v.now.counts.0 < most_packages) × AreArrays arrays
 Suits v Begin = Unit {0}
 Suits v Commit = Unit {0}
 Suits v Abort = Unit {0}

@@ -1,6 +1,6 @@
 -- An image without objects: the words that are written, and the heap that they stand for.
-use Rattle.std.specs.Prelude.{ℕ, ◌+◌, ◌*◌, ◌/◌, ◌≡◌, ◌<◌, ◌≤◌, List, [], ◌∷◌, ◌++◌, take, drop, length, slice_index, replicate}
-use Rattle.jc_words.specs.Image.{magic, version, journal_capacity}
+use Rattle.std.specs.Prelude.{ℕ, ◌+◌, ◌-◌, ◌*◌, ◌/◌, ◌≡◌, ◌<◌, ◌≤◌, List, [], ◌∷◌, ◌++◌, take, drop, length, slice_index, replicate}
+use Rattle.jc_words.specs.Layout.{front_length, registry_length, text_start, magic, version, journal_capacity}
 use Rattle.jc_heap.specs.Heap.{HeapState, HeapView, resting}
 
 -- bytes as words: two in a word, the high one first; an odd last byte has 0 beside it
@@ -15,7 +15,7 @@ AreBytes text = (k : ℕ) → slice_index text k < 256
 
 -- the first free word over a table text of so many bytes
 abbrev pub first_free : ℕ → ℕ
-first_free long = 752 + (long + 1) / 2
+first_free long = text_start + (long + 1) / 2
 
 -- the words 0 to 15 of an image of n words without objects: the magic word is not there yet
 abbrev pub laid_front : ℕ → ℕ → List ℕ
@@ -23,7 +23,7 @@ laid_front n long = 0 ∷ version ∷ n ∷ 0 ∷ journal_capacity ∷ first_fre
 
 -- the words below its top: these, no journal entry, no package, no applet, and the table text
 unfoldable pub laid_words : ℕ → List ℕ → List ℕ
-laid_words n text = laid_front n (length text) ++ replicate 736 0 ++ packed text
+laid_words n text = laid_front n (length text) ++ replicate (text_start - front_length) 0 ++ packed text
 
 -- of these words so many are written over the old ones, from word 0 on
 abbrev pub laid_to : ℕ → ℕ → List ℕ → List ℕ → List ℕ
@@ -41,7 +41,7 @@ laid_heap n text = record {
   items = [];
   counts = (0, 0);
   packages = [];
-  applets = replicate 192 0;
+  applets = replicate registry_length 0;
   area_ends = (0, 0);
   top = first_free (length text);
 }

@@ -1,6 +1,7 @@
 -- Places: the words that a change may name.
 use Rattle.std.specs.Prelude.{ℕ, ◌+◌, ◌<◌, [], ◌∷◌, set, length, if◌then◌else◌}
 use Rattle.jc_words.specs.Count.{raised}
+use Rattle.jc_words.specs.Layout.{registry_start, registry_length}
 use Rattle.jc_heap.specs.declared.place.Place.{Place}
 use Rattle.jc_heap.specs.declared.place.Place.TheVariants.{Cell, Static, Registry}
 use Rattle.jc_heap.specs.Object.{IsElement}
@@ -12,13 +13,13 @@ use Rattle.jc_heap.specs.Statics.{set_word, IsStatic}
 abbrev pub place_word : Place → ℕ
 place_word (Cell r i) = cell_place r i
 place_word (Static r j) = r + j
-place_word (Registry i) = 560 + i
+place_word (Registry i) = registry_start + i
 
 -- the heap has this place
 abbrev pub HasPlace : HeapState → Place → Type 0
 HasPlace h (Cell r i) = i < length (cells h r)
 HasPlace h (Static r j) = IsStatic (record_of h r) j
-HasPlace h (Registry i) = i < 192
+HasPlace h (Registry i) = i < registry_length
 
 -- a value that the place may hold
 abbrev pub MayHold : HeapState → Place → ℕ → Type 0

@@ -1,13 +1,14 @@
 -- Steps over the records of a heap's words.
 use Rattle.std.specs.Prelude.{ℕ, ◌+◌, ◌≡◌, ◌≤◌, List, map, take, drop, slice_index}
+use Rattle.jc_words.specs.Layout.{top_address, text_start}
 use Rattle.jc_heap.specs.Cut.{cut, lacking}
 use Rattle.jc_heap.specs.Object.{Item}
 use Rattle.jc_heap.specs.Image.{image, package_addresses, sizes, item, item_entry}
 
 -- a record begins at this address, or the table ends there; and the records from there on are whole
 pub record IsAt (words : List ℕ) (at : ℕ) : Type 0 where
-  pub low : 752 ≤ at
-  pub high : at ≤ slice_index words 5
+  pub low : text_start ≤ at
+  pub high : at ≤ slice_index words top_address
   pub whole : lacking (sizes (package_addresses (image words))) 0 at (drop at (image words)) ≡ 0
 
 -- the items from an address on

@@ -1,18 +1,19 @@
 //! New packages.
 ghost use Rattle.std.specs.Prelude.{◌≡◌, ◌<◌, ◌+◌, false, length, Err, OnOk, OnErr, IfOk, ◌↔◌};
+ghost use Rattle.jc_words.specs.Layout.{most_packages};
 ghost use Rattle.jc_heap.specs.Fresh.{IsFree, KeepsBelow, Fills, StopsFresh};
 ghost use Rattle.jc_heap.specs.Object.{APackage};
 ghost use Rattle.jc_heap.specs.Heap.{changed, IsStopped, has_room_for, LacksSpace, names, item_at};
 ghost use Rattle.jc_heap.specs.Packages.{parts, initials, AreComponents, AreArrays, image_size, record_size, package_record, package_size, package_words, add_package, package_places};
 
 use crate::heap::Heap;
-use crate::layout::{ADDRESSES, PACKAGES, TOP};
 use crate::making::lacks_room;
 use crate::package::{Component, StaticArray, size_of_arrays, size_of_record};
 use crate::record::{write_arrays, write_package_record};
 use crate::refusal::HeapRefusal;
 use jc_commit::Journal;
 use jc_transient::Ref;
+use jc_words::layout::{ADDRESSES, PACKAGES, TOP};
 use jc_words::{StoreDown, WordStore};
 
 // The owner of the objects of package 0; there is none, since packages count from 1.
@@ -51,7 +52,7 @@ impl<S: WordStore> Heap<S> {
         image: &[u8],
     ) -> Result<Ref, HeapRefusal>
         requires up { self.old.down ≡ false }
-        requires few { self.old.now.counts.0 < 32 }
+        requires few { self.old.now.counts.0 < most_packages }
         requires components { AreComponents (parts components.now) }
         requires arrays { AreArrays (initials arrays.now) }
         requires image { image_size (initials arrays.now) image.now < 65536 }

@@ -1,5 +1,6 @@
 //! Whether the objects' transient cells fill their areas.
 ghost use Rattle.std.specs.Prelude.{◌≡◌, ◌<◌, ◌≤◌, ◌+◌, ◌↔◌, IsTrue, IfSome, IfNone, Some, length, slice_index};
+ghost use Rattle.jc_words.specs.Layout.{top_address};
 ghost use Rattle.jc_transient.specs.State.{area_size};
 ghost use Rattle.jc_heap.specs.Object.{event_number};
 ghost use Rattle.jc_heap.specs.Image.{IsLaid};
@@ -7,13 +8,14 @@ ghost use Rattle.jc_heap.specs.Heap.{heap_of};
 ghost use Rattle.jc_heap.specs.Steps.{IsAt, item_from};
 ghost use Rattle.jc_heap.specs.Whole.{lies_in, cells_in, FitsAt, IsFilled};
 
-use crate::layout::{HEADER, LENGTH, TOP};
+use crate::layout::{HEADER, LENGTH};
 use crate::making::area_word;
 use crate::steps::{end_of_record, first_record};
 use crate::walk::begins_package;
 use jc_commit::Journal;
 use jc_transient::{AREA_CELLS, ClearEvent};
 use jc_words::WordStore;
+use jc_words::layout::TOP;
 
 // An event as a number of the image.
 fn number_of(event: ClearEvent) -> u16
@@ -30,7 +32,7 @@ fn is_in_area<S: WordStore>(journal: &Journal<S>, at: u16, event: ClearEvent) ->
     requires laid { IsLaid journal.now.plain }
     requires small { length journal.now.plain < 65536 }
     requires begins { IsAt journal.now.plain at }
-    requires inside { at < slice_index journal.now.plain 5 }
+    requires inside { at < slice_index journal.now.plain top_address }
     ensures { result ≡ lies_in event (item_from journal.now.plain at) }
 {
     if begins_package(journal, at) {
@@ -50,7 +52,7 @@ fn place_behind<S: WordStore>(
     requires laid { IsLaid journal.now.plain }
     requires small { length journal.now.plain < 65536 }
     requires begins { IsAt journal.now.plain at }
-    requires inside { at < slice_index journal.now.plain 5 }
+    requires inside { at < slice_index journal.now.plain top_address }
     requires room { place ≤ area_size }
     ensures fits { IfSome result (λ _. FitsAt event place (item_from journal.now.plain at)) }
     ensures next { IfSome result (λ next. next ≡ place + cells_in event (item_from journal.now.plain at)) }

@@ -1,5 +1,6 @@
 //! A heap: reading, cells, transactions.
 ghost use Rattle.std.specs.Prelude.{ℕ, take, ◌≡◌, ◌<◌, ◌≤◌, [], ◌∷◌, true, false, Ok, Err, length, slice_index, OnOk, OnErr, ◌+◌, ◌/◌, ◌==◌, if◌then◌else◌, ◌↔◌, None, IfSome};
+ghost use Rattle.jc_words.specs.Layout.{text_start};
 ghost use Rattle.jc_commit.specs.Image.{capacity, count_of, plain_of, recovered_of, IsGoodLog};
 ghost use Rattle.jc_commit.specs.Entries.{addresses_of};
 ghost use Rattle.jc_heap.specs.Object.{IsElement};
@@ -8,14 +9,15 @@ ghost use Rattle.jc_heap.specs.Heap.{HeapView, HeapState, heap_of, cells, facts,
 ghost use Rattle.jc_heap.specs.declared.place.Place.TheVariants.{Cell};
 ghost use Rattle.jc_heap.specs.Moves.{Write, SetCells, Begin, Commit, Abort, Made, Done, Makes, MakesUnless, after_of, full_at};
 
-use crate::layout::{HEADER, TEXT_LENGTH, TEXT_START, TOP};
+use crate::layout::HEADER;
 use crate::object::{Facts, Kind, event_of_number};
 use crate::place::Place;
 use crate::refusal::HeapRefusal;
 use crate::walk::first_object;
 use jc_commit::Journal;
 use jc_transient::Ref;
-use jc_words::{JOURNAL_CAPACITY, WordStore};
+use jc_words::WordStore;
+use jc_words::layout::{JOURNAL_CAPACITY, TEXT_LENGTH, TEXT_START, TOP};
 use std::marker::Model;
 
 // How many words one change may have.
@@ -44,7 +46,7 @@ impl<S: WordStore> Model for Heap<S> {
 
 // The word behind a transient object's header, 0 where there is none.
 fn place_word<S: WordStore>(journal: &Journal<S>, at: u16, word: u16) -> u16
-    requires behind { 752 ≤ at }
+    requires behind { text_start ≤ at }
     requires there { (word / 256 ≡ 0 → ⊥) → at + 4 < length journal.now.plain }
     requires small { length journal.now.plain < 65536 }
     ensures { result ≡ (if word / 256 == 0 then 0 else slice_index journal.now.plain (at + 4)) }

@@ -1,19 +1,17 @@
 //! Making an image: its words without objects, and at the end the magic word.
 ghost use Rattle.std.specs.Prelude.{◌≡◌, ◌<◌, ◌≤◌, ◌+◌, ◌-◌, ◌*◌, ◌/◌, ◌++◌, ◌⊎◌, true, false, drop, length, slice_index, take, is_ok, if◌then◌else◌, OnOk, OnErr, IfOk, IfErr};
 ghost use Rattle.jc_words.specs.Count.{raised};
+ghost use Rattle.jc_words.specs.Layout.{magic_address, text_start};
 ghost use Rattle.jc_commit.specs.Image.{IsGoodLog, plain_of, recovered_of};
 ghost use Rattle.jc_heap.specs.Image.{IsLaid};
 ghost use Rattle.jc_heap.specs.Heap.{heap_of};
 ghost use Rattle.jc_heap.specs.Laying.{AreBytes, IsPartlyLaid, first_free, laid_front, laid_to, laid_view, laid_words, sealed};
 
 use crate::heap::Heap;
-use crate::layout::TEXT_START;
 use crate::packed::packed_word;
 use jc_commit::Journal;
-use jc_words::{JOURNAL_CAPACITY, MAGIC, StoreDown, VERSION, WordStore};
-
-// How many words stand before the journal's entries.
-const FRONT: usize = 16;
+use jc_words::layout::{FRONT_LENGTH, JOURNAL_CAPACITY, MAGIC, MAGIC_WORD, TEXT_START, VERSION};
+use jc_words::{StoreDown, WordStore};
 
 /// How many words an image without objects takes, whose table text has so many bytes.
 pub fn first_free(text: u16) -> u32
@@ -23,7 +21,7 @@ pub fn first_free(text: u16) -> u32
 }
 
 // The first words of an image without objects, all but the magic word.
-fn front_of(size: u16, text: u16) -> [u16; FRONT]
+fn front_of(size: u16, text: u16) -> [u16; FRONT_LENGTH]
     requires { first_free text < 65536 }
     ensures { result ≡ laid_front size text }
 {
@@ -54,9 +52,9 @@ fn laid_word(n: u16, text: &[u8], i: u16) -> u16
     requires fits { first_free (length text.now) ≤ n }
     requires low { i < first_free (length text.now) }
     ensures word { result ≡ slice_index (laid_words n text.now) i }
-    ensures bytes { 752 ≤ i → (slice_index text.now (2 * (i - 752)) < 256) × (slice_index text.now (2 * (i - 752) + 1) < 256) }
+    ensures bytes { text_start ≤ i → (slice_index text.now (2 * (i - text_start)) < 256) × (slice_index text.now (2 * (i - text_start) + 1) < 256) }
 {
-    if (i as usize) < FRONT {
+    if (i as usize) < FRONT_LENGTH {
         return front_of(n, text.len() as u16)[i as usize];
     }
     if u32::from(i) < TEXT_START {
@@ -94,7 +92,7 @@ impl<S: WordStore> Heap<S> {
         ensures down { IfErr result (λ s. S.down s ≡ true) }
         ensures refused { IfErr result (λ s. S.refused s ≡ raised (S.refused store) 1) }
         ensures part { IfErr result (λ s. IsPartlyLaid text.now (S.words store) (S.words s)) }
-        ensures unmarked { IfErr result (λ s. (S.words s ≡ S.words store) ⊎ (slice_index (S.words s) 0 ≡ 0)) }
+        ensures unmarked { IfErr result (λ s. (S.words s ≡ S.words store) ⊎ (slice_index (S.words s) magic_address ≡ 0)) }
     {
         let size = store.size();
         let Ok(()) = write_image(&mut store, text) else {
@@ -133,7 +131,7 @@ impl<S: WordStore> Heap<S> {
             mut journal,
             size: _,
         } = self;
-        match journal.write_both(0, MAGIC) {
+        match journal.write_both(MAGIC_WORD, MAGIC) {
             Ok(()) => Ok(journal.into_store()),
             Err(StoreDown) => Err(journal.into_store()),
         }

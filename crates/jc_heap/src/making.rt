@@ -7,12 +7,13 @@ ghost use Rattle.jc_heap.specs.Moves.{AddObject, AddTransient, MakesUnless, afte
 
 use crate::fresh::{write_record, write_run};
 use crate::heap::Heap;
-use crate::layout::{DESELECT_END, HEADER, RESET_END, TOP};
+use crate::layout::HEADER;
 use crate::object::Kind;
 use crate::refusal::HeapRefusal;
 use jc_commit::Journal;
 use jc_transient::{AREA_CELLS, ClearEvent, Ref};
 use jc_words::WordStore;
+use jc_words::layout::{DESELECT_END, RESET_END, TOP};
 
 // The journal has no room for a change of these words.
 pub(crate) fn lacks_room<S: WordStore>(journal: &Journal<S>, addresses: &[u16]) -> bool

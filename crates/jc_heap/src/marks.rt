@@ -3,10 +3,10 @@ ghost use Rattle.std.specs.Prelude.{ℕ, ◌≡◌, ◌<◌, false, length, slic
 ghost use Rattle.jc_heap.specs.Image.{IsLaid};
 ghost use Rattle.jc_heap.specs.Heap.{heap_of, names};
 
-use crate::layout::TOP;
 use crate::steps::{end_of_record, first_record};
 use jc_commit::Journal;
 use jc_words::WordStore;
+use jc_words::layout::TOP;
 
 // How many addresses there are.
 pub(crate) const ALL: usize = 65536;

@@ -1,6 +1,7 @@
 //! Opening an image, and whether its heap is whole.
 ghost use Rattle.std.specs.Prelude.{ℕ, ◌+◌, ◌/◌, ◌≡◌, ◌<◌, ◌≤◌, ◌^◌, ◌↔◌, IsTrue, IsOk, IfOk, IfErr, OnOk, true, false, length, slice_index, take};
 ghost use Rattle.jc_words.specs.Count.{raised};
+ghost use Rattle.jc_words.specs.Layout.{top_address, text_length_address, text_start};
 ghost use Rattle.jc_commit.specs.Image.{count_of, plain_of, recovered_of, IsGoodLog, StillRecovers};
 ghost use Rattle.jc_commit.specs.State.{opened};
 ghost use Rattle.jc_heap.specs.Image.{text_byte, table_text, IsLaid, image, base, package_addresses, is_package};
@@ -9,12 +10,12 @@ ghost use Rattle.jc_heap.specs.Whole.{IsWhole};
 ghost use Rattle.jc_heap.specs.Beginning.{BeginsWith};
 
 use crate::heap::Heap;
-use crate::layout::{ADDRESSES, MOST_PACKAGES, PACKAGES, TEXT_LENGTH, TEXT_START, TOP};
 use crate::object::Facts;
 use crate::walk::is_whole;
 use crate::whole::words_agree;
 use jc_commit::{Journal, OpenRefusal};
 use jc_words::WordStore;
+use jc_words::layout::{ADDRESSES, MOST_PACKAGES, PACKAGES, TEXT_LENGTH, TEXT_START, TOP};
 use std::marker::Model;
 
 /// A recovered image whose heap is not checked yet.
@@ -37,8 +38,8 @@ impl<S: WordStore> Model for OpenImage<S> {
 
 // No package begins at or above the top.
 fn packages_below<S: WordStore>(journal: &Journal<S>, top: u16) -> bool
-    requires wide { 752 ≤ slice_index journal.now.plain 5 }
-    requires fits { slice_index journal.now.plain 5 ≤ length journal.now.plain }
+    requires wide { text_start ≤ slice_index journal.now.plain top_address }
+    requires fits { slice_index journal.now.plain top_address ≤ length journal.now.plain }
     requires small { length journal.now.plain < 65536 }
     ensures { IsTrue result ↔ ((a : ℕ) → top ≤ a → is_package (package_addresses (image journal.now.plain)) a ≡ false) }
 {
@@ -54,7 +55,7 @@ fn packages_below<S: WordStore>(journal: &Journal<S>, top: u16) -> bool
 // The heap's records end where the top says.
 fn is_laid<S: WordStore>(journal: &Journal<S>, size: u16) -> bool
     requires size { size ≡ length journal.now.plain }
-    requires wide { 752 ≤ size }
+    requires wide { text_start ≤ size }
     ensures { IsTrue result ↔ IsLaid journal.now.plain }
 {
     let top = journal.read(TOP);
@@ -71,7 +72,7 @@ fn is_laid<S: WordStore>(journal: &Journal<S>, size: u16) -> bool
 // The words are a heap, and it is whole.
 fn is_heap<S: WordStore>(journal: &Journal<S>, size: u16) -> bool
     requires size { size ≡ length journal.now.plain }
-    requires wide { 752 ≤ size }
+    requires wide { text_start ≤ size }
     ensures { IsTrue result ↔ (IsLaid journal.now.plain × IsWhole (heap_of journal.now.plain)) }
 {
     is_laid(journal, size) && words_agree(journal)
@@ -80,7 +81,7 @@ fn is_heap<S: WordStore>(journal: &Journal<S>, size: u16) -> bool
 impl<S: WordStore> OpenImage<S> {
     /// Opens a store, and first takes back what a loss of power left open.
     pub fn open(store: S) -> Result<OpenImage<S>, (OpenRefusal, S)>
-        requires { 752 ≤ length (S.words store) }
+        requires { text_start ≤ length (S.words store) }
         ensures ok { IfOk result (λ o. o ≡ opened (S.words store) (S.passed store) (S.refused store)) }
         ensures good { OnOk result (IsGoodLog (S.words store)) }
         ensures bad_log { IfErr result (λ e. e.0 ≡ OpenRefusal.BadLog → (IsGoodLog (S.words store) → ⊥) × (e.1 ≡ store)) }
@@ -98,14 +99,14 @@ impl<S: WordStore> OpenImage<S> {
 
     /// How many bytes the table text has, as the image says.
     pub fn text_length(&self) -> u16
-        ensures { result ≡ slice_index self.now.plain 10 }
+        ensures { result ≡ slice_index self.now.plain text_length_address }
     {
         self.journal.read(TEXT_LENGTH)
     }
 
     /// A byte of the table text.
     pub fn text_byte(&self, i: u16) -> u8
-        requires { 752 + i / 2 < length self.now.plain }
+        requires { text_start + i / 2 < length self.now.plain }
         ensures { result ≡ text_byte self.now.plain i }
     {
         let word = self.journal.read((TEXT_START + u32::from(i / 2)) as u16);
@@ -117,7 +118,7 @@ impl<S: WordStore> OpenImage<S> {
 
     /// Whether the store has the words of a table text of that length.
     pub fn has_text(&self) -> bool
-        ensures { IsTrue result ↔ (752 + (slice_index self.now.plain 10 + 1) / 2 ≤ length self.now.plain) }
+        ensures { IsTrue result ↔ (text_start + (slice_index self.now.plain text_length_address + 1) / 2 ≤ length self.now.plain) }
     {
         let text = u32::from(self.text_length());
         TEXT_START + (text + 1) / 2 <= u32::from(self.size)
@@ -125,8 +126,8 @@ impl<S: WordStore> OpenImage<S> {
 
     /// The table text, into a slice that is as long.
     pub fn read_text(&self, into: &mut [u8])
-        requires long { length into.old ≡ slice_index self.now.plain 10 }
-        requires there { 752 + (length into.old + 1) / 2 ≤ length self.now.plain }
+        requires long { length into.old ≡ slice_index self.now.plain text_length_address }
+        requires there { text_start + (length into.old + 1) / 2 ≤ length self.now.plain }
         ensures { into.new ≡ table_text self.now.plain }
     {
         for i in 0..self.text_length() {

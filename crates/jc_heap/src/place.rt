@@ -1,14 +1,15 @@
 //! Words that a change names: cells, and the words of static images and of the registry.
 ghost use Rattle.std.specs.Prelude.{◌≡◌, ◌<◌, ◌↔◌, false, [], ◌∷◌, Err, map, length, slice_index, OnOk, OnErr};
+ghost use Rattle.jc_words.specs.Layout.{registry_length};
 ghost use Rattle.jc_heap.specs.Heap.{HeapState, IsStopped, has_room_for, kept};
 ghost use Rattle.jc_heap.specs.Moves.{Write, Count, Done, Makes, MakesUnless, after_of, full_at};
 ghost use Rattle.jc_heap.specs.Places.{HasPlace, MayHold, place_word, written, counted};
 
 use crate::heap::{Heap, MOST_CHANGES};
-use crate::layout::REGISTRY;
 use crate::refusal::HeapRefusal;
 use jc_transient::Ref;
 use jc_words::WordStore;
+use jc_words::layout::REGISTRY;
 
 /// A word that a change may name.
 #[derive(Clone, Copy, Debug, PartialEq, Eq)]
@@ -38,7 +39,7 @@ impl<S: WordStore> Heap<S> {
     /// A word of the registry, 0 to 191.
     pub fn registry(&self, i: u16) -> u16
         requires up { self.now.down ≡ false }
-        requires there { i < 192 }
+        requires there { i < registry_length }
         ensures { result ≡ slice_index self.now.now.applets i }
     {
         self.journal.read(REGISTRY + i)

@@ -1,23 +1,25 @@
 //! Whether the references in the arrays of references are those of objects.
 ghost use Rattle.std.specs.Prelude.{ℕ, ◌≡◌, ◌<◌, ◌↔◌, IsTrue, false, length, slice_index, slice_index_or};
+ghost use Rattle.jc_words.specs.Layout.{top_address};
 ghost use Rattle.jc_heap.specs.Image.{IsLaid, image, package_addresses, is_package};
 ghost use Rattle.jc_heap.specs.Heap.{heap_of, names, item_at};
 ghost use Rattle.jc_heap.specs.Steps.{IsAt, item_from};
 ghost use Rattle.jc_heap.specs.Whole.{IsReference, HoldsReferences};
 
-use crate::layout::{HEADER, LENGTH, REFERENCES, TOP};
+use crate::layout::{HEADER, LENGTH, REFERENCES};
 use crate::marks::ALL;
 use crate::steps::{end_of_record, first_record};
 use crate::walk::begins_package;
 use jc_commit::Journal;
 use jc_words::WordStore;
+use jc_words::layout::TOP;
 
 // The record at an address is that of a persistent array of references.
 fn has_references<S: WordStore>(journal: &Journal<S>, at: u16) -> bool
     requires laid { IsLaid journal.now.plain }
     requires small { length journal.now.plain < 65536 }
     requires begins { IsAt journal.now.plain at }
-    requires inside { at < slice_index journal.now.plain 5 }
+    requires inside { at < slice_index journal.now.plain top_address }
     ensures { IsTrue result ↔ ((is_package (package_addresses (image journal.now.plain)) at ≡ false) × (slice_index journal.now.plain at ≡ 5)) }
 {
     if begins_package(journal, at) {
@@ -48,7 +50,7 @@ fn holds_references<S: WordStore>(journal: &Journal<S>, marks: &[bool; ALL], at:
     requires small { length journal.now.plain < 65536 }
     requires marks { (r : ℕ) → slice_index_or marks.now r false ≡ names (heap_of journal.now.plain) r }
     requires begins { IsAt journal.now.plain at }
-    requires inside { at < slice_index journal.now.plain 5 }
+    requires inside { at < slice_index journal.now.plain top_address }
     ensures { IsTrue result ↔ HoldsReferences (heap_of journal.now.plain) (item_from journal.now.plain at) }
 {
     if !has_references(journal, at) {

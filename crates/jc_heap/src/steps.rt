@@ -1,13 +1,14 @@
 //! Steps over the records of a heap.
 ghost use Rattle.std.specs.Prelude.{◌≡◌, ◌<◌, ◌∷◌, length, slice_index};
+ghost use Rattle.jc_words.specs.Layout.{top_address};
 ghost use Rattle.jc_heap.specs.Image.{IsLaid};
 ghost use Rattle.jc_heap.specs.Heap.{heap_of};
 ghost use Rattle.jc_heap.specs.Steps.{IsAt, items_from, item_from};
 
-use crate::layout::{TEXT_LENGTH, TEXT_START};
 use crate::walk::record_size;
 use jc_commit::Journal;
 use jc_words::WordStore;
+use jc_words::layout::{TEXT_LENGTH, TEXT_START};
 
 // Where the first record begins.
 pub(crate) fn first_record<S: WordStore>(journal: &Journal<S>) -> u16
@@ -25,8 +26,8 @@ pub(crate) fn end_of_record<S: WordStore>(journal: &Journal<S>, at: u16, top: u1
     requires laid { IsLaid journal.now.plain }
     requires small { length journal.now.plain < 65536 }
     requires begins { IsAt journal.now.plain at }
-    requires inside { at < slice_index journal.now.plain 5 }
-    requires is_top { top ≡ slice_index journal.now.plain 5 }
+    requires inside { at < slice_index journal.now.plain top_address }
+    requires is_top { top ≡ slice_index journal.now.plain top_address }
     ensures at { IsAt journal.now.plain result }
     ensures items { items_from journal.now.plain at ≡ (at, item_from journal.now.plain at) ∷ items_from journal.now.plain result }
     ensures on { at < result }

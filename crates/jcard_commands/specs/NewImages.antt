@@ -1,7 +1,7 @@
 -- Making an image.
 use Rattle.std.specs.Prelude.{ℕ, ◌≡◌, ◌⊎◌, ◌+◌, ◌<◌, ◌≤◌, List, length, Result, Ok, Err}
 use Rattle.std.specs.Str.Parse.{IsNumeral, digits_value}
-use Rattle.jc_words.specs.Image.{least_size}
+use Rattle.jc_words.specs.Layout.{least_size}
 use Rattle.jc_commit.specs.Image.{recovered_of}
 use Rattle.jc_heap.specs.Heap.{heap_of}
 use Rattle.jc_heap.specs.Laying.{first_free}

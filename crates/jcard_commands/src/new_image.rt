@@ -1,6 +1,6 @@
 //! Making an image.
 ghost use Rattle.std.specs.Prelude.{ℕ, ◌≡◌, ◌≤◌, None, IfOk, IfErr, IfSome, length, take};
-ghost use Rattle.jc_words.specs.Image.{least_size};
+ghost use Rattle.jc_words.specs.Layout.{least_size};
 ghost use Rattle.jcard_commands.specs.Asked.{Asked, asked, more};
 ghost use Rattle.jcard_commands.specs.Images.{IsNotRead};
 ghost use Rattle.jcard_commands.specs.NewImages.{IsMadeFrom, IsNew, IsTable, IsWordCount};
@@ -10,7 +10,8 @@ use crate::fault::Fault;
 use jc_card::formatting::{FormatFault, format};
 use jc_platform::fault::TableFault;
 use jc_platform::read::read_table;
-use jc_words::{LEAST_SIZE, WordStore};
+use jc_words::WordStore;
+use jc_words::layout::LEAST_SIZE;
 use std::alloc::Global;
 use std::io::Read;
 use std::rt::Files;

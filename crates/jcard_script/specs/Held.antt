@@ -12,7 +12,7 @@ standing_of (Store store) = Down store
 
 -- the store of no words
 abbrev nowhere : Fused
-nowhere = record { words = []; down = true; passed = 0; refused = 0; fuse = None; refused_below = 0 }
+nowhere = record { words = []; down = true; passed = 0; refused = 0; fuse = None; down_below = true; passed_below = 0; refused_below = 0 }
 
 -- the standing of what is held; nothing is held only while a reset is carried out or the fuse is armed
 abbrev pub standing_in : {S : Type 0} → Option (Held S) → Standing

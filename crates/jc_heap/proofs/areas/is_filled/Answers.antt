@@ -1,5 +1,6 @@
 use Rattle.std.proofs.Common.{arith, ◌≡◌, ◌<◌, ◌+◌, ◌∙◌, [], ◌∷◌, ap, sym, subst, get_or}
 use Rattle.std.proofs.lemmas.Bool.{false≢true, eq-eqb, eqb-true}
+use Rattle.jc_words.specs.Layout.{top_address}
 use Rattle.jc_heap.specs.Heap.{heap_of, area_end}
 use Rattle.jc_heap.specs.Steps.{items_from, item_from, size_from}
 use Rattle.jc_heap.proofs.AreaEnds.{area_read}
@@ -12,7 +13,7 @@ returns-in_default g c = (
   (λ t. absurd (false≢true t)),
   λ f.
       let left : Run c.args.event c.loop-at.place (items_from c.args.journal.now.plain c.loop-at.at) (area_end (heap_of c.args.journal.now.plain) c.args.event) = c.loop-at.invariant.run.1 (run_of (heap_of c.args.journal.now.plain) c.args.event f) in
-      let below : c.loop-at.at < get_or c.args.journal.now.plain 5 0 = omega (arith, c.loop-at-test.true, c.read-top.ensures) in
+      let below : c.loop-at.at < get_or c.args.journal.now.plain top_address 0 = omega (arith, c.loop-at-test.true, c.read-top.ensures) in
       let here : Run c.args.event c.loop-at.place ((c.loop-at.at, item_from c.args.journal.now.plain c.loop-at.at) ∷ items_from c.args.journal.now.plain (c.loop-at.at + size_from c.args.journal.now.plain c.loop-at.at)) (area_end (heap_of c.args.journal.now.plain) c.args.event) =
       subst (λ l. Run c.args.event c.loop-at.place l (area_end (heap_of c.args.journal.now.plain) c.args.event)) (step_items c.args.journal.now.plain c.loop-at.at c.requires.laid c.loop-at.invariant.at below) left in
       absurd (c.in_default.ensures.none here.0),

@@ -1,4 +1,5 @@
 use Rattle.std.proofs.Common.{arith, length, ◌≡◌, ◌<◌, ◌+◌, ◌∙◌, ap, sym, get_or, true, slice_index}
+use Rattle.jc_words.specs.Layout.{top_address}
 use Rattle.jc_heap.specs.Steps.{item_from}
 use Rattle.jc_heap.specs.Whole.{lies_in, cells_in}
 use Rattle.jc_heap.proofs.Views.{readable}
@@ -10,7 +11,7 @@ overflow_add-at g c = omega (arith, lies_within c.args.journal.now.plain c.args.
 
 pub read-begin-requires : goal.read-begin-requires
 read-begin-requires g c =
-    let within : c.args.at + 4 < slice_index c.args.journal.now.plain 5 = lies_within c.args.journal.now.plain c.args.at c.args.event c.requires.laid c.requires.begins c.requires.inside c.requires.small (sym c.is_in_area.ensures ∙ c.if-not-is_in_area.false) in
+    let within : c.args.at + 4 < slice_index c.args.journal.now.plain top_address = lies_within c.args.journal.now.plain c.args.at c.args.event c.requires.laid c.requires.begins c.requires.inside c.requires.small (sym c.is_in_area.ensures ∙ c.if-not-is_in_area.false) in
     readable (length c.args.journal.now.plain) (c.args.at + 4) (omega (arith, within, c.requires.laid.fits)) (omega (arith, c.requires.begins.low))
 
 pub overflow_add-at-2 : goal.overflow_add-at-2
@@ -18,7 +19,7 @@ overflow_add-at-2 g c = omega (arith, lies_within c.args.journal.now.plain c.arg
 
 pub read-length-requires : goal.read-length-requires
 read-length-requires g c =
-    let within : c.args.at + 4 < slice_index c.args.journal.now.plain 5 = lies_within c.args.journal.now.plain c.args.at c.args.event c.requires.laid c.requires.begins c.requires.inside c.requires.small (sym c.is_in_area.ensures ∙ c.if-not-is_in_area.false) in
+    let within : c.args.at + 4 < slice_index c.args.journal.now.plain top_address = lies_within c.args.journal.now.plain c.args.at c.args.event c.requires.laid c.requires.begins c.requires.inside c.requires.small (sym c.is_in_area.ensures ∙ c.if-not-is_in_area.false) in
     readable (length c.args.journal.now.plain) (c.args.at + 3) (omega (arith, within, c.requires.laid.fits)) (omega (arith, c.requires.begins.low))
 
 pub returns-then-begin-place-clause-none : goal.returns-then-begin-place-clause-none

@@ -3,6 +3,7 @@ use Rattle.std.proofs.Common.{rules}
 use Rattle.std.proofs.lemmas.List.{length-set}
 use Rattle.std.proofs.lemmas.Bool.{cases_lt}
 use Rattle.jc_words.proofs.Fronts.{front_more}
+use Rattle.jc_words.specs.Layout.{text_start}
 use Rattle.jc_heap.specs.Laying.{laid_words}
 use Rattle.jc_heap.proofs.LaidImages.{length-laid}
 use Rattle.jc_heap.proofs.laying.write_image.Goals as goal
@@ -15,7 +16,7 @@ loop-i-preserved g c =
     let i = c.loop-i.i in
     let inv = c.loop-i.invariant in
     let written = c.in_ok-write.ensures.written in
-    let long : length (laid_words (length first) text) ≡ 752 + (length text + 1) / 2 = length-laid (length first) text in
+    let long : length (laid_words (length first) text) ≡ text_start + (length text + 1) / 2 = length-laid (length first) text in
     let word : c.laid_word.result ≡ get_or (laid_words (length first) text) i 0 = c.laid_word.ensures.word ∙ ap (λ n. get_or (laid_words n text) i 0) c.size-n.ensures in
     record {
       words =
@@ -27,10 +28,10 @@ loop-i-preserved g c =
       up = λ _. c.in_ok-write.ensures.down;
       passed = search rules;
       refused = search rules;
-      bytes = λ k lt. elim (cases_lt (752 + k) i) [
+      bytes = λ k lt. elim (cases_lt (text_start + k) i) [
         | inl before ↦ inv.bytes k before
         | inr here ↦
-            let e : i - 752 ≡ k = omega arith in
+            let e : i - text_start ≡ k = omega arith in
             subst (λ j. (get_or text (2 * j) 0 < 256) × (get_or text (2 * j + 1) 0 < 256)) e (c.laid_word.ensures.bytes (omega arith))
       ];
     }

@@ -1,6 +1,7 @@
 -- The words before the index are written.
 use Rattle.std.proofs.Common.{◌≡◌, ◌+◌, ◌*◌, ◌<◌, ◌≤◌, ℕ, false, length, get_or}
 use Rattle.jc_words.specs.Count.{raised}
+use Rattle.jc_words.specs.Layout.{text_start}
 use Rattle.jc_heap.specs.Laying.{laid_to}
 use Rattle.jc_heap.proofs.laying.write_image.Given as goal
 
@@ -14,5 +15,5 @@ invariant-loop-i g l =
       up : 1 ≤ l.i → g.S.WordStore.down l.store ≡ false;
       passed : g.S.WordStore.passed l.store ≡ raised (g.S.WordStore.passed l.initial.store) l.i;
       refused : g.S.WordStore.refused l.store ≡ g.S.WordStore.refused l.initial.store;
-      bytes : (k : ℕ) → 752 + k < l.i → (get_or l.text (2 * k) 0 < 256) × (get_or l.text (2 * k + 1) 0 < 256);
+      bytes : (k : ℕ) → text_start + k < l.i → (get_or l.text (2 * k) 0 < 256) × (get_or l.text (2 * k + 1) 0 < 256);
     }

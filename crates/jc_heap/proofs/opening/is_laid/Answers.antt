@@ -1,12 +1,13 @@
 use Rattle.std.proofs.Common.{arith, ◌≡◌, ◌+◌, ◌/◌, ◌∙◌, ap, sym, get_or}
 use Rattle.std.proofs.lemmas.Bool.{false≢true}
 use Rattle.std.proofs.lemmas.List.{get_or-take}
+use Rattle.jc_words.specs.Layout.{top_address, text_length_address, text_start}
 use Rattle.jc_heap.specs.Image.{image, base}
 use Rattle.jc_heap.proofs.opening.is_laid.Goals as goal
 
 pub returns-then-packages_below : goal.returns-then-packages_below
 returns-then-packages_below g c =
-    let b : base (image c.args.journal.now.plain) ≡ 752 + (get_or c.args.journal.now.plain 10 0 + 1) / 2 = ap (λ n. 752 + (n + 1) / 2) (get_or-take (get_or c.args.journal.now.plain 5 0) c.args.journal.now.plain 10 0 (omega arith)) in (
+    let b : base (image c.args.journal.now.plain) ≡ text_start + (get_or c.args.journal.now.plain text_length_address 0 + 1) / 2 = ap (λ n. text_start + (n + 1) / 2) (get_or-take (get_or c.args.journal.now.plain top_address 0) c.args.journal.now.plain text_length_address 0 (omega arith)) in (
       (λ t. record {
         based = omega (arith, b);
         fits = omega arith;

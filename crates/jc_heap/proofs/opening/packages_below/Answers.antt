@@ -1,13 +1,14 @@
 use Rattle.std.proofs.Common.{arith, ◌≡◌, ◌<◌, ◌≤◌, ◌∙◌, ap, sym, refl, length, get_or, ◌+◌, true, drop, ◌||◌, min}
 use Rattle.std.proofs.lemmas.Bool.{eq-eqb, ne_eqb, false≢true}
 use Rattle.std.proofs.lemmas.List.{drop_all}
+use Rattle.jc_words.specs.Layout.{packages_address, most_packages}
 use Rattle.jc_heap.specs.Image.{image, package_addresses, is_package}
 use Rattle.jc_heap.proofs.Walks.{length-packages, package_read, package_step}
 use Rattle.jc_heap.proofs.opening.packages_below.Goals as goal
 
 pub returns-then-read-top : goal.returns-then-read-top
 returns-then-read-top g c =
-    let near : c.loop-k.k < min (get_or c.args.journal.now.plain 6 0) 32 = omega arith in
+    let near : c.loop-k.k < min (get_or c.args.journal.now.plain packages_address 0) most_packages = omega arith in
     let long : c.loop-k.k < length (package_addresses (image c.args.journal.now.plain)) = omega (arith, length-packages c.args.journal.now.plain c.requires.wide c.requires.fits) in
     let word : get_or (package_addresses (image c.args.journal.now.plain)) c.loop-k.k 0 ≡ c.read-in-loop-k.result = package_read c.args.journal.now.plain c.loop-k.k c.requires.wide c.requires.fits near ∙ sym c.read-in-loop-k.ensures in
     let at_or_above : c.args.top ≤ c.read-in-loop-k.result = omega arith in
@@ -18,7 +19,7 @@ returns-then-read-top g c =
 
 pub loop-k-preserved : goal.loop-k-preserved
 loop-k-preserved g c = λ a le.
-    let near : c.loop-k.k < min (get_or c.args.journal.now.plain 6 0) 32 = omega arith in
+    let near : c.loop-k.k < min (get_or c.args.journal.now.plain packages_address 0) most_packages = omega arith in
     let long : c.loop-k.k < length (package_addresses (image c.args.journal.now.plain)) = omega (arith, length-packages c.args.journal.now.plain c.requires.wide c.requires.fits) in
     let word : get_or (package_addresses (image c.args.journal.now.plain)) c.loop-k.k 0 ≡ c.read-in-loop-k.result = package_read c.args.journal.now.plain c.loop-k.k c.requires.wide c.requires.fits near ∙ sym c.read-in-loop-k.ensures in
     let below : c.read-in-loop-k.result < c.args.top = omega arith in

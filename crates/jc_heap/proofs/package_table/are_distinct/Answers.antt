@@ -1,5 +1,6 @@
 use Rattle.std.proofs.Common.{arith, ◌≡◌, ◌<◌, ◌∙◌, ℕ, sym, get_or, length, refl, slice_index}
 use Rattle.std.proofs.lemmas.Bool.{false≢true}
+use Rattle.jc_words.specs.Layout.{packages_address}
 use Rattle.jc_heap.specs.Heap.{heap_of}
 use Rattle.jc_heap.proofs.PackageTable.{table_long, below_or_at}
 use Rattle.jc_heap.proofs.package_table.are_distinct.Goals as goal
@@ -18,5 +19,5 @@ loop-k-preserved g c = λ i j ij h.
 
 pub returns : goal.returns
 returns g c =
-    let long : length ((heap_of c.args.journal.now.plain).packages) ≡ get_or c.args.journal.now.plain 6 0 = table_long c.args.journal.now.plain c.requires.laid c.requires.few in
+    let long : length ((heap_of c.args.journal.now.plain).packages) ≡ get_or c.args.journal.now.plain packages_address 0 = table_long c.args.journal.now.plain c.requires.laid c.requires.few in
     ((λ t. λ j k jk h. c.loop-k.invariant j k jk (omega (arith, long, c.read-count.ensures))), λ distinct. refl)

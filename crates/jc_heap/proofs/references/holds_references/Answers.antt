@@ -1,5 +1,6 @@
 use Rattle.std.proofs.Common.{arith, ◌≡◌, ◌<◌, ◌+◌, ◌∙◌, sym, subst, refl, length, slice_index, false, inl, inr}
 use Rattle.std.proofs.lemmas.Bool.{cases_Bool, false≢true}
+use Rattle.jc_words.specs.Layout.{top_address}
 use Rattle.jc_heap.specs.Image.{image, package_addresses, is_package}
 use Rattle.jc_heap.specs.Heap.{heap_of}
 use Rattle.jc_heap.specs.Steps.{item_from}
@@ -30,19 +31,19 @@ read-count-requires g c =
 pub overflow_add-at-in-loop-i : goal.overflow_add-at-in-loop-i
 overflow_add-at-in-loop-i g c =
     let array : (is_package (package_addresses (image c.args.journal.now.plain)) c.args.at ≡ false) × (slice_index c.args.journal.now.plain c.args.at ≡ 5) = c.has_references.ensures.0 c.if-not-has_references.false in
-    let within : c.args.at + 4 + c.loop-i.i < slice_index c.args.journal.now.plain 5 = cell_within_at (heap_of c.args.journal.now.plain) c.args.journal.now.plain c.args.at c.requires.laid c.requires.begins c.requires.inside c.requires.small array.0 array.1 c.loop-i.i (omega (arith, c.read-count.ensures, c.loop-i-test.true)) in
+    let within : c.args.at + 4 + c.loop-i.i < slice_index c.args.journal.now.plain top_address = cell_within_at (heap_of c.args.journal.now.plain) c.args.journal.now.plain c.args.at c.requires.laid c.requires.begins c.requires.inside c.requires.small array.0 array.1 c.loop-i.i (omega (arith, c.read-count.ensures, c.loop-i-test.true)) in
     omega (arith, within, c.requires.laid.fits, c.requires.small)
 
 pub overflow_add-at-in-loop-i-2 : goal.overflow_add-at-in-loop-i-2
 overflow_add-at-in-loop-i-2 g c =
     let array : (is_package (package_addresses (image c.args.journal.now.plain)) c.args.at ≡ false) × (slice_index c.args.journal.now.plain c.args.at ≡ 5) = c.has_references.ensures.0 c.if-not-has_references.false in
-    let within : c.args.at + 4 + c.loop-i.i < slice_index c.args.journal.now.plain 5 = cell_within_at (heap_of c.args.journal.now.plain) c.args.journal.now.plain c.args.at c.requires.laid c.requires.begins c.requires.inside c.requires.small array.0 array.1 c.loop-i.i (omega (arith, c.read-count.ensures, c.loop-i-test.true)) in
+    let within : c.args.at + 4 + c.loop-i.i < slice_index c.args.journal.now.plain top_address = cell_within_at (heap_of c.args.journal.now.plain) c.args.journal.now.plain c.args.at c.requires.laid c.requires.begins c.requires.inside c.requires.small array.0 array.1 c.loop-i.i (omega (arith, c.read-count.ensures, c.loop-i-test.true)) in
     omega (arith, within, c.requires.laid.fits, c.requires.small)
 
 pub read-word-requires : goal.read-word-requires
 read-word-requires g c =
     let array : (is_package (package_addresses (image c.args.journal.now.plain)) c.args.at ≡ false) × (slice_index c.args.journal.now.plain c.args.at ≡ 5) = c.has_references.ensures.0 c.if-not-has_references.false in
-    let within : c.args.at + 4 + c.loop-i.i < slice_index c.args.journal.now.plain 5 = cell_within_at (heap_of c.args.journal.now.plain) c.args.journal.now.plain c.args.at c.requires.laid c.requires.begins c.requires.inside c.requires.small array.0 array.1 c.loop-i.i (omega (arith, c.read-count.ensures, c.loop-i-test.true)) in
+    let within : c.args.at + 4 + c.loop-i.i < slice_index c.args.journal.now.plain top_address = cell_within_at (heap_of c.args.journal.now.plain) c.args.journal.now.plain c.args.at c.requires.laid c.requires.begins c.requires.inside c.requires.small array.0 array.1 c.loop-i.i (omega (arith, c.read-count.ensures, c.loop-i-test.true)) in
     readable (length c.args.journal.now.plain) (c.args.at + 4 + c.loop-i.i) (omega (arith, within, c.requires.laid.fits)) (omega (arith, c.requires.begins.low))
 
 pub returns-then-not-is_reference : goal.returns-then-not-is_reference

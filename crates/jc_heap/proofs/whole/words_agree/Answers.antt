@@ -1,5 +1,6 @@
 use Rattle.std.proofs.Common.{◌≤◌, ◌∙◌, sym}
 use Rattle.std.proofs.lemmas.Bool.{false≢true}
+use Rattle.jc_words.specs.Layout.{most_packages, most_applets}
 use Rattle.jc_heap.specs.Heap.{heap_of}
 use Rattle.jc_heap.specs.Whole.{AreMet, AreDistinct}
 use Rattle.jc_heap.proofs.whole.words_agree.Goals as goal
@@ -12,7 +13,7 @@ returns-then-not-table_agrees g c = ((λ t. absurd (false≢true t)), λ w. absu
 
 pub returns-then-all_hold : goal.returns-then-all_hold
 returns-then-all_hold g c =
-    let few : ((heap_of c.args.journal.now.plain).counts.0 ≤ 32) × ((heap_of c.args.journal.now.plain).counts.1 ≤ 64) = c.are_few.ensures.0 c.if-not-are_few.false in
+    let few : ((heap_of c.args.journal.now.plain).counts.0 ≤ most_packages) × ((heap_of c.args.journal.now.plain).counts.1 ≤ most_applets) = c.are_few.ensures.0 c.if-not-are_few.false in
     let table : AreMet (heap_of c.args.journal.now.plain) ((heap_of c.args.journal.now.plain).packages) × AreDistinct ((heap_of c.args.journal.now.plain).packages) = c.table_agrees.ensures.0 c.if-not-table_agrees.false in (
       (λ t. record {
         few_packages = few.0;

@@ -1,5 +1,5 @@
 use Rattle.std.proofs.Common.{◌∙◌, List, ℕ, take, sym, ap, subst}
-use Rattle.jc_words.specs.Image.{magic}
+use Rattle.jc_words.specs.Layout.{magic}
 use Rattle.jc_commit.specs.State.{State, written_in_place}
 use Rattle.jc_heap.specs.Image.{IsLaid}
 use Rattle.jc_heap.specs.Heap.{heap_of}

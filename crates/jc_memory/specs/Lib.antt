@@ -1,0 +1,5 @@
+pub mod Owners
+pub mod State
+pub mod Doing
+pub mod Reading
+pub mod Laws
