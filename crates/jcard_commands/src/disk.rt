@@ -72,7 +72,11 @@ impl<'a, R: Files + AllocGlobal> Disk<'a, R> {
     }
 
     /// Makes a file of this name with n zero words. A file that is there is replaced.
-    pub fn make_words<'n>(&mut self, image: &'n str, n: u16) -> Result<FileStore<R::File>, Fault<'n>>
+    pub fn make_words<'n>(
+        &mut self,
+        image: &'n str,
+        n: u16,
+    ) -> Result<FileStore<R::File>, Fault<'n>>
         ensures words { IfOk result (λ store. store.words ≡ replicate n 0) }
         ensures refused { IfErr result (λ fault. IsNotMade image.now fault) }
         ensures counted { self.new ≡ more (asked 0 1) self.old }

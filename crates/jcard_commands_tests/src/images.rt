@@ -240,3 +240,40 @@ fn a_dump_asks_for_the_first_words_alone(rt: HostRuntime) -> Result<(), Fail> {
     fs::remove_file(&rt, image)?;
     Ok(())
 }
+
+// The image keeps the old value of one word until a run recovers it, which no run does whose script is
+// not there, and no dump.
+#[test]
+fn an_image_is_recovered_after_its_script_is_opened(rt: HostRuntime) -> Result<(), Fail> {
+    let image = "tests_recovered.image";
+    let table = "tests_recovered.table";
+    let script = "tests_recovered.script";
+    fs::write(&rt, table, EXAMPLE)?;
+    assert_eq!(rt; make(&rt, image, "4096", table)?.0, 0);
+    let mut bytes = fs::read(&rt, image)?;
+    for (place, value) in [(7, 1), (32, 0x0F), (33, 0xFF), (34, 0), (35, 0), (8190, 1)] {
+        put(&mut bytes, place, value);
+    }
+    fs::write(&rt, image, &bytes)?;
+    let open = b"words 4096\njournal 1\npackages 0\napplets 0\n".as_slice();
+    assert_eq!(rt;
+        answer(&rt, &["jcard", "dump", image], 200)?.1.written(),
+        open
+    );
+    let (status, out) = answer(&rt, &["jcard", "run", image, "none"], 200)?;
+    assert_eq!(rt; status, 1);
+    assert_eq!(rt; out.written(), b"jcard: cannot read none\n".as_slice());
+    assert!(rt; fs::read(&rt, image)? == bytes, "the image stays");
+    fs::write(&rt, script, "")?;
+    assert_eq!(rt; answer(&rt, &["jcard", "run", image, script], 200)?.0, 0);
+    put(&mut bytes, 7, 0);
+    put(&mut bytes, 8190, 0);
+    assert!(rt;
+        fs::read(&rt, image)? == bytes,
+        "the word and the count are back"
+    );
+    for name in [image, table, script] {
+        fs::remove_file(&rt, name)?;
+    }
+    Ok(())
+}

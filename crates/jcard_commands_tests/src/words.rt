@@ -1,5 +1,6 @@
 //! The program's texts and exit statuses.
 use jc_platform::example::EXAMPLE;
+use jcard_commands::disk::Disk;
 use jcard_commands::run::run_words;
 use jcard_script::mem_text::MemText;
 use std::fs;
@@ -22,13 +23,17 @@ const FULL_TABLE: &str = "tests_full.table";
 const FULL_IMAGE: &str = "tests_full.image";
 
 // The exit status for these words and the text, of which there is room for so many bytes.
-pub(crate) fn answer<'a>(rt: &HostRuntime, words: &[&str], room: usize) -> Result<(u8, MemText<'a>), Fail> {
+pub(crate) fn answer<'a>(
+    rt: &HostRuntime,
+    words: &[&str],
+    room: usize,
+) -> Result<(u8, MemText<'a>), Fail> {
     let mut all = Vec::new(rt.alloc());
     for word in words {
         all.push(String::from_str(rt.alloc(), word)?)?;
     }
     let mut out = MemText::new(rt.alloc(), b"", room)?;
-    let status = run_words(rt, &all, &mut out);
+    let status = run_words(&mut Disk::new(rt), &all, &mut out);
     Ok((status, out))
 }
 
