@@ -47,6 +47,7 @@ impl<'a, R: Files + AllocGlobal> Disk<'a, R> {
     /// Opens the image of this name.
     pub fn open_image<'n>(&mut self, image: &'n str) -> Result<FileStore<R::File>, Fault<'n>>
         ensures size { IfOk result (λ store. IsImageSize (2 * length store.words)) }
+        ensures fresh { IfOk result (λ store. (store.passed ≡ 0) × (store.refused ≡ 0)) }
         ensures refused { IfErr result (λ fault. IsNotOpened image.now fault) }
         ensures counted { self.new ≡ more (asked 1 0) self.old }
     {

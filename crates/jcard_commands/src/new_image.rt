@@ -117,6 +117,7 @@ fn lay_image<'a, S: WordStore + Drop>(
         Err(FormatFault::StoreDown) => Err(Fault::CannotWrite(image)),
         Err(FormatFault::BadTable(line)) => Err(Fault::BadTable(line)),
         // The store has the least size, so its table alone can be too large.
-        Err(FormatFault::BadSize | FormatFault::TooSmall) => Err(Fault::ImageTooSmall),
+        Err(FormatFault::BadSize) => Err(Fault::ImageTooSmall),
+        Err(FormatFault::TooSmall) => Err(Fault::ImageTooSmall),
     }
 }

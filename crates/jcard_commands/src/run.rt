@@ -19,12 +19,11 @@ use crate::dump::dump_image;
 use crate::fault::{Damage, Fault, tell};
 use crate::new_image::make_image;
 use jc_card::power_up::PowerFault;
-use jc_words::{FileStore, FuseStore};
+use jc_words::{FuseStore, WordStore};
 use jcard_script::script::{ScriptFault, run_script};
 use jcard_script::std_text::StdText;
 use jcard_script::streams::{TextIn, TextOut};
 use std::alloc::Global;
-use std::io::{Read, Seek, Write};
 use std::rt::Files;
 
 /// Does what the words ask for, the program's name among them as the first, and answers the exit
@@ -110,16 +109,16 @@ struct Names<'a> {
 }
 
 // Carries out the script on the card of this store.
-fn carry_out<'a, F: Read + Write + Seek + Drop, I: TextIn, W: TextOut>(
+fn carry_out<'a, S: WordStore + Drop, I: TextIn, W: TextOut>(
     alloc: Global,
     names: Names<'a>,
-    store: FileStore<F>,
+    store: S,
     script: &mut I,
     out: &mut W,
 ) -> Result<(), Fault<'a>>
-    requires size { IsImageSize (2 * length store.words) }
-    requires fresh { store.passed ≡ 0 }
-    requires unrefused { store.refused ≡ 0 }
+    requires size { IsImageSize (2 * length (S.words store)) }
+    requires fresh { S.passed store ≡ 0 }
+    requires unrefused { S.refused store ≡ 0 }
     ensures done { (bytes text : List ℕ) × (before after : Fused) × (at_end : Bool) × (ended : Result Unit ScriptFault)
         × Consumes (I.remaining script.old) (I.remaining script.new) bytes
         × Appends (W.contents out.old) (W.contents out.new) text
@@ -138,15 +137,15 @@ fn carry_out<'a, F: Read + Write + Seek + Drop, I: TextIn, W: TextOut>(
 }
 
 // Carries out the script on the card of this store, whose power is not cut unless the script says so.
-fn run_on<F: Read + Write + Seek + Drop, I: TextIn, W: TextOut>(
+fn run_on<S: WordStore + Drop, I: TextIn, W: TextOut>(
     alloc: Global,
-    store: FileStore<F>,
+    store: S,
     script: &mut I,
     out: &mut W,
 ) -> Result<(), ScriptFault>
-    requires size { IsImageSize (2 * length store.words) }
-    requires fresh { store.passed ≡ 0 }
-    requires unrefused { store.refused ≡ 0 }
+    requires size { IsImageSize (2 * length (S.words store)) }
+    requires fresh { S.passed store ≡ 0 }
+    requires unrefused { S.refused store ≡ 0 }
     ensures done { (bytes text : List ℕ) × (before after : Fused) × (at_end : Bool)
         × Consumes (I.remaining script.old) (I.remaining script.new) bytes
         × Appends (W.contents out.old) (W.contents out.new) text

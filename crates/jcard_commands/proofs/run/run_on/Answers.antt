@@ -1,18 +1,15 @@
-use Rattle.std.proofs.Common.{◌≡◌, ℕ, ap, subst}
+use Rattle.std.proofs.Common.{◌∙◌, ap}
 use Rattle.jc_words.specs.Stores.{Fused}
-use Rattle.jcard_script.specs.Script.{Ends}
+use Rattle.jcard_commands.specs.Faults.{IsFresh}
 use Rattle.jcard_commands.proofs.run.run_on.Goals as goal
 
-pub returns : goal.returns
-returns g c =
+pub returns-clause-done : goal.returns-clause-done
+returns-clause-done g c =
     let done = c.run_script-store.ensures.script in
-    let none : c.new.result.refused ≡ 0 = ap (λ (f : Fused). f.refused) c.new.ensures in (
-      done.0,
-      done.1,
-      c.run_script-store.result.0.refused,
-      done.2,
-      done.3,
-      done.4,
-      done.5,
-      subst (λ (n : ℕ). Ends c.run_script-store.result.1 n c.run_script-store.result.0.refused done.2 done.0 done.1) none done.6,
-    )
+    let fresh : IsFresh c.new.result = record {
+      size = rw c.new.ensures c.requires.size;
+      unarmed = ap (λ (f : Fused). f.fuse) c.new.ensures;
+      passed = ap (λ (f : Fused). f.passed_below) c.new.ensures ∙ c.requires.fresh;
+      refused = ap (λ (f : Fused). f.refused_below) c.new.ensures ∙ c.requires.unrefused;
+    } in
+    (done.0, done.1, c.new.result, c.run_script-store.result.0, done.2, done.3, done.4, done.5, fresh, done.6)
