@@ -1,5 +1,4 @@
-use Rattle.std.proofs.Common.{◌∙◌, ap}
-use Rattle.jc_words.specs.Stores.{Fused}
+use Rattle.std.proofs.Common.{refl}
 use Rattle.jcard_commands.specs.Faults.{IsFresh}
 use Rattle.jcard_commands.proofs.run.run_on.Goals as goal
 
@@ -8,8 +7,8 @@ returns-clause-done g c =
     let done = c.run_script-store.ensures.script in
     let fresh : IsFresh c.new.result = record {
       size = rw c.new.ensures c.requires.size;
-      unarmed = ap (λ (f : Fused). f.fuse) c.new.ensures;
-      passed = ap (λ (f : Fused). f.passed_below) c.new.ensures ∙ c.requires.fresh;
-      refused = ap (λ (f : Fused). f.refused_below) c.new.ensures ∙ c.requires.unrefused;
+      unarmed = rw c.new.ensures refl;
+      passed = rw c.new.ensures c.requires.fresh;
+      refused = rw c.new.ensures c.requires.unrefused;
     } in
     (done.0, done.1, c.new.result, c.run_script-store.result.0, done.2, done.3, done.4, done.5, fresh, done.6)
