@@ -1,7 +1,7 @@
 //! Making an image.
 ghost use Rattle.std.specs.Prelude.{ℕ, ◌≡◌, ◌≢◌, ◌<◌, ◌≤◌, ◌+◌, ◌⊎◌, ◌↔◌, true, false, length, slice_index, Ok, Err, IfOk, IfErr, OnOk, OnErr, IsErrOf, Result};
-ghost use Rattle.jc_words.specs.Image.{least_size, magic};
-ghost use Rattle.jc_heap.specs.Laying.{first_free};
+ghost use Rattle.jc_words.specs.Layout.{magic_address, magic, least_size};
+ghost use Rattle.jc_image.specs.Laying.{first_free};
 ghost use Rattle.jc_heap.specs.Heap.{heap_of};
 ghost use Rattle.jc_commit.specs.Image.{recovered_of};
 ghost use Rattle.jc_platform.specs.Tokens.{Tokens};
@@ -9,11 +9,13 @@ ghost use Rattle.jc_platform.specs.Table.{Reads};
 ghost use Rattle.jc_card.specs.Made.{IsMade, formatted};
 
 use crate::fixed::make_fixed;
-use jc_heap::{Heap, first_free};
+use jc_heap::Heap;
+use jc_image::{first_free, lay, seal};
 use jc_platform::fault::TableFault;
 use jc_platform::read::read_table;
 use jc_platform::table::Table;
-use jc_words::{LEAST_SIZE, WordStore};
+use jc_words::WordStore;
+use jc_words::layout::LEAST_SIZE;
 use thiserror::Error;
 
 /// How many words the objects of the runtime environment take.
@@ -47,7 +49,7 @@ pub fn format<S: WordStore>(store: S, text: &[u8]) -> (S, Result<(), FormatFault
     ensures bad_table { (line : ℕ) → result.1 ≡ Err (FormatFault.BadTable line) → (least_size ≤ length (S.words store)) × Reads text.now (Err (TableFault.BadTable line)) }
     ensures too_small { result.1 ≡ Err FormatFault.TooSmall → (least_size ≤ length (S.words store)) × (length (S.words store) < first_free (length text.now) + 85) × ((t : Tokens) × Reads text.now (Ok t)) }
     ensures kept { OnErr result.1 ((result.1 ≡ Err FormatFault.StoreDown → ⊥) → result.0 ≡ store) }
-    ensures stopped { result.1 ≡ Err FormatFault.StoreDown → (S.down result.0 ≡ true) × ((S.words result.0 ≡ S.words store) ⊎ (slice_index (S.words result.0) 0 ≢ magic)) }
+    ensures stopped { result.1 ≡ Err FormatFault.StoreDown → (S.down result.0 ≡ true) × ((S.words result.0 ≡ S.words store) ⊎ (slice_index (S.words result.0) magic_address ≢ magic)) }
 {
     let size = store.size();
     if size < LEAST_SIZE {
@@ -76,11 +78,11 @@ fn make_image<S: WordStore>(store: S, text: &[u8], table: &Table) -> Result<S, S
     ensures size { IfOk result (λ s. length (S.words s) ≡ length (S.words store)) }
     ensures up { IfOk result (λ s. S.down s ≡ false) }
     ensures down { IfErr result (λ s. S.down s ≡ true) }
-    ensures unmarked { IfErr result (λ s. (S.words s ≡ S.words store) ⊎ (slice_index (S.words s) 0 ≢ magic)) }
+    ensures unmarked { IfErr result (λ s. (S.words s ≡ S.words store) ⊎ (slice_index (S.words s) magic_address ≢ magic)) }
 {
-    let mut heap = Heap::lay(store, text)?;
+    let mut heap = lay(store, text)?;
     let Ok(()) = make_fixed(&mut heap, table) else {
         return Err(heap.into_store());
     };
-    heap.seal()
+    seal(heap)
 }

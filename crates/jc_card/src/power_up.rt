@@ -1,6 +1,7 @@
 //! Powering a card up over the words of its image.
 ghost use Rattle.std.specs.Prelude.{ℕ, List, ◌≡◌, ◌⊎◌, ◌+◌, ◌/◌, ◌≤◌, length, slice_index, IfOk, IfErr, OnOk, false, true, MatchResult};
 ghost use Rattle.jc_words.specs.Count.{raised};
+ghost use Rattle.jc_words.specs.Layout.{text_length_address, text_start, magic, version};
 ghost use Rattle.jc_commit.specs.State.{opened};
 ghost use Rattle.jc_heap.specs.Heap.{heap_view};
 ghost use Rattle.jc_heap.specs.Image.{table_text};
@@ -12,7 +13,7 @@ ghost use Rattle.jc_card.specs.PowerUp.{Refuses, Fails, Stands, HasTable, HasHea
 use crate::card::Card;
 use crate::fixed::fixed_headers;
 use jc_commit::OpenRefusal;
-use jc_heap::OpenImage;
+use jc_image::OpenImage;
 use jc_platform::read::{LARGEST_TEXT, read_table};
 use jc_platform::table::Table;
 use jc_transient::Ram;
@@ -127,7 +128,7 @@ fn platform_of<S: WordStore>(alloc: Global, image: &OpenImage<S>) -> Result<Tabl
 
 // The table text of an image that has its words.
 fn text_of<S: WordStore>(alloc: Global, image: &OpenImage<S>) -> Result<Vec<u8>, AllocError>
-    requires { 752 + (slice_index image.now.plain 10 + 1) / 2 ≤ length image.now.plain }
+    requires { text_start + (slice_index image.now.plain text_length_address + 1) / 2 ≤ length image.now.plain }
     ensures { IfOk result (λ text. text.items ≡ table_text image.now.plain) }
 {
     let mut text = zeros(alloc, usize::from(image.text_length()))?;

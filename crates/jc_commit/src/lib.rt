@@ -2,9 +2,9 @@
 #![tactic(auto)]
 
 mod check;
+mod entry;
 mod journal;
 mod law;
-mod layout;
 mod log;
 mod refusal;
 #[cfg(test)]

@@ -1,12 +1,13 @@
 -- A package's record, its initialised arrays, and a heap with one package more.
 use Rattle.std.specs.Prelude.{ℕ, ◌+◌, ◌*◌, ◌≡◌, ◌<◌, ◌≤◌, Bool, true, false, List, [], ◌∷◌, ◌++◌, length, map, slice_index_or, None, if◌then◌else◌}
+use Rattle.jc_words.specs.Layout.{packages_address, addresses_start}
 use Rattle.jc_heap.specs.declared.object.Kind.{Kind}
 use Rattle.jc_heap.specs.declared.object.Kind.TheVariants.{Instance, ReferenceArray}
 use Rattle.jc_heap.specs.declared.package.Component.{Component}
 use Rattle.jc_heap.specs.declared.package.StaticArray.{StaticArray}
 use Rattle.jc_heap.specs.Object.{Object, APackage, kind_number, has_bytes}
 use Rattle.jc_heap.specs.Heap.{HeapState, add_object, end_place}
-use Rattle.jc_heap.specs.Laying.{packed}
+use Rattle.jc_heap.specs.Packed.{packed}
 
 -- a component as values: its tag and its info
 abbrev pub part : Component → ℕ × List ℕ
@@ -109,7 +110,7 @@ add_package h cs xs rest = add_arrays (push_package h (package_record h.top cs x
 
 -- the places that change: the record's address, the number of packages, the heap's end
 unfoldable pub package_places : HeapState → List ℕ
-package_places h = (528 + h.counts.0) ∷ 6 ∷ end_place ∷ []
+package_places h = (addresses_start + h.counts.0) ∷ packages_address ∷ end_place ∷ []
 
 -- 1 to 8, or 10
 abbrev pub IsTag : ℕ → Type 0

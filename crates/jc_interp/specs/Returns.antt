@@ -1,7 +1,7 @@
 -- Returns: how a method ends.
 use Rattle.std.specs.Prelude.{ℤ, List, Option, Some, None}
 use Rattle.jc_opcodes.specs.declared.instr.Return.{Return as Leaving}
-use Rattle.jc_opcodes.specs.declared.instr.Return.TheVariants.{WithShort, WithNothing}
+use Rattle.jc_opcodes.specs.declared.instr.Return.TheVariants.{WithReference, WithShort, WithNothing}
 use Rattle.jc_interp.specs.declared.cell.Cell.{Cell}
 use Rattle.jc_interp.specs.declared.outcome.Outcome.{Outcome}
 use Rattle.jc_interp.specs.declared.outcome.Outcome.TheVariants.{Return, Short, Fault}
@@ -15,3 +15,5 @@ with_short (Some p) = Short p.0
 abbrev pub left : Leaving → Frame → Outcome
 left WithNothing s = Return
 left WithShort s = with_short (short_on s.stack)
+-- code that belongs to no package returns no reference
+left WithReference s = Fault

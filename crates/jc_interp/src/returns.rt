@@ -12,6 +12,7 @@ pub(crate) fn leave(how: Return, cells: &mut Cells) -> Outcome
 {
     match how {
         Return::WithNothing => Outcome::Return,
+        Return::WithReference => Outcome::Fault,
         Return::WithShort => match cells.pop_short() {
             Ok(x) => Outcome::Short(x),
             Err(fault) => fault,

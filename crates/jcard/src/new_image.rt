@@ -1,6 +1,6 @@
 //! Making an image.
 ghost use Rattle.std.specs.Prelude.{ℕ, ◌≡◌, ◌≤◌, None, IfOk, IfErr, IfSome, length, take};
-ghost use Rattle.jc_words.specs.Image.{least_size};
+ghost use Rattle.jc_words.specs.Layout.{least_size};
 ghost use Rattle.jcard.specs.Images.{IsNotRead};
 ghost use Rattle.jcard.specs.NewImages.{IsMadeFrom, IsNew, IsTable, IsWordCount};
 
@@ -8,7 +8,8 @@ use crate::fault::Fault;
 use jc_card::formatting::{FormatFault, format};
 use jc_platform::fault::TableFault;
 use jc_platform::read::read_table;
-use jc_words::{FileCreateFault, FileStore, LEAST_SIZE, WordStore};
+use jc_words::layout::LEAST_SIZE;
+use jc_words::{FileCreateFault, FileStore, WordStore};
 use std::alloc::Global;
 use std::fs;
 use std::io::Read;

@@ -1,5 +1,6 @@
 use Rattle.std.proofs.Common.{arith, ◌≡◌, ◌<◌, ◌≤◌, ◌+◌, ◌-◌, ◌∙◌, ap, sym, length, inl, inr}
 use Rattle.std.proofs.lemmas.Bool.{cases_eq, eq-eqb, ne_eqb, false≢true}
+use Rattle.jc_words.specs.Layout.{text_start}
 use Rattle.jc_heap.specs.Heap.{cell_place, cells, run_words}
 use Rattle.jc_heap.proofs.Changing.{up_is}
 use Rattle.jc_heap.proofs.Views.{cell_spot}
@@ -41,6 +42,6 @@ returns-clause-fits g c =
       | inr n ↦ omega (arith, n)
     ] in
     let last : c.args.i + (length c.args.values.now - 1) < length (cells c.args.self.now.now c.args.object) = omega (arith, some, c.requires.cells) in
-    let spot : (c.args.object + (4 + (c.args.i + (length c.args.values.now - 1))) < length c.self.inside.journal.plain) × (752 ≤ c.args.object + (4 + (c.args.i + (length c.args.values.now - 1)))) = cell_spot c.self.inside.journal c.args.self.now c.self.inside.size c.args.object (c.args.i + (length c.args.values.now - 1)) c.self.view_is last in
+    let spot : (c.args.object + (4 + (c.args.i + (length c.args.values.now - 1))) < length c.self.inside.journal.plain) × (text_start ≤ c.args.object + (4 + (c.args.i + (length c.args.values.now - 1)))) = cell_spot c.self.inside.journal c.args.self.now c.self.inside.size c.args.object (c.args.i + (length c.args.values.now - 1)) c.self.view_is last in
     let size : length c.self.inside.journal.plain ≡ c.self.inside.size = c.self.invariant.size_now (up_is c.self.inside.journal c.args.self.now c.self.inside.size c.self.view_is c.requires.up) in
     omega (arith, spot.0, size, c.self.invariant.small, c.cell_word.ensures, some)

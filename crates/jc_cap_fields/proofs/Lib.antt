@@ -1,0 +1,4 @@
+pub mod Many
+pub mod Telling
+pub mod Wholes
+pub mod Walk
