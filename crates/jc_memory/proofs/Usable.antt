@@ -8,7 +8,7 @@ use Rattle.std.proofs.lemmas.Grind.{common_steps}
 use Rattle.jc_transient.specs.declared.cell.ClearEvent.{ClearEvent}
 use Rattle.jc_transient.specs.declared.cell.ClearEvent.TheVariants.{Reset, Deselect}
 use Rattle.jc_heap.specs.declared.object.Kind.{Kind}
-use Rattle.jc_heap.specs.declared.object.Kind.TheVariants.{ReferenceArray}
+use Rattle.jc_heap.specs.declared.object.Kind.TheVariants.{Instance, ReferenceArray}
 use Rattle.jc_heap.specs.declared.place.Place.{Place}
 use Rattle.jc_heap.specs.declared.place.Place.TheVariants.{Cell, Static, Registry}
 use Rattle.jc_heap.specs.declared.refusal.HeapRefusal.{HeapRefusal}
@@ -27,7 +27,7 @@ use Rattle.jc_heap.proofs.Laws.{top-set_cell, top-add_object}
 use Rattle.jc_heap.proofs.RecordWords.{top_after-set_word}
 use Rattle.jc_heap.proofs.OwnCells.{owns_cells}
 use Rattle.jc_memory.specs.State.{MemoryState, IsKept}
-use Rattle.jc_memory.specs.Cells.{IsHeaderOf}
+use Rattle.jc_memory.specs.Cells.{IsHeaderOf, HasCounters}
 
 -- the ends of heaps
 top_place : (h : HeapState) (p : Place) (x : ℕ) → (set_place h p x).top ≡ h.top
@@ -127,6 +127,13 @@ either_size false rest e = refl
 pub transient_suits : (v : HeapView) (kind : Kind) (event : ClearEvent) (class owner long : ℕ) → no_transient v event long ≡ None → Suits v (AddTransient kind event class owner long)
 transient_suits v kind event class owner long none lacks =
     let le = ltb-false area_size (area_end v.now event + long) (either_size (nat_lt area_size (area_end v.now event + long)) _ none) in omega (arith, le, lacks)
+
+no_array : (k : Kind) → k ≡ Instance → k ≡ ReferenceArray → ⊥
+no_array k i r = cc
+
+-- a counter is no reference
+pub counter_suits : (s : MemoryState) (r i v : ℕ) → HasCounters s r → Suits s.heap (Count (Cell r i) v)
+counter_suits s r i v has = (λ e. absurd (no_array _ has.now e), λ e. absurd (no_array _ has.durable e))
 
 -- what a header says of the cells
 pub header_of : (s : MemoryState) (r : ℕ) (f : Facts) → AreWhole s.heap → f ≡ facts s.heap.now r → (f.event ≡ None → length (cells s.heap.now r) ≡ f.length) → IsHeaderOf s r f

@@ -8,7 +8,8 @@ use Rattle.jc_transient.specs.declared.cell.CellValue.TheVariants.{Short, Refere
 use Rattle.jc_transient.specs.declared.cell.ClearEvent.{ClearEvent}
 use Rattle.jc_transient.specs.State.{area_size, cell_at}
 use Rattle.jc_heap.specs.declared.object.Facts.{Facts}
-use Rattle.jc_heap.specs.declared.object.Kind.TheVariants.{ReferenceArray}
+use Rattle.jc_heap.specs.declared.object.Kind.TheVariants.{Instance, ReferenceArray}
+use Rattle.jc_heap.specs.declared.place.Place.{Place}
 use Rattle.jc_heap.specs.declared.place.Place.TheVariants.{Cell}
 use Rattle.jc_heap.specs.declared.refusal.HeapRefusal.{HeapRefusal}
 use Rattle.jc_heap.specs.Object.{IsElement}
@@ -49,6 +50,10 @@ byte_at s r i = word_at s r i % 256
 abbrev pub bytes_at : MemoryState → ℕ → ℕ → ℕ → List ℕ
 bytes_at s r i count = map (byte_at s r) (range_with_len i count)
 
+-- so many words of an object from an index on
+abbrev pub words_at : MemoryState → ℕ → ℕ → ℕ → List ℕ
+words_at s r i count = map (word_at s r) (range_with_len i count)
+
 -- what setting a cell does to an object that is kept so
 abbrev pub sets_in : Option ClearEvent → ℕ → ℕ → CellValue → Effect
 sets_in None r i v = Changes (Write (Cell r i) (word_of v))
@@ -62,6 +67,19 @@ sets s r i v = sets_in (facts s.heap.now r).event r i v
 abbrev pub no_room_in : Option ClearEvent → MemoryState → List ℕ → Option HeapRefusal
 no_room_in None s places = full_at s.heap places
 no_room_in (Some event) s places = None
+
+-- why a place can't be written: the transaction has no room
+abbrev pub no_room_at : MemoryState → Place → Option HeapRefusal
+no_room_at s place = full_at s.heap (place_word place ∷ [])
+
+-- what writing a place may do
+abbrev pub written : MemoryState → Place → ℕ → Doing (Answer (Unit {0}))
+written s place v = unless_refused (no_room_at s place) (Then (Changes (Write place v)) (Gives (Done tt)))
+
+-- an object with counters: a persistent instance, which is no array in the durable heap either
+pub record HasCounters (s : MemoryState) (r : ℕ) : Type 0 where
+  pub now : (facts s.heap.now r).kind ≡ Instance
+  pub durable : (facts s.heap.durable r).kind ≡ Instance
 
 -- why a cell can't be set: the transaction has no room
 abbrev pub no_room_for : MemoryState → ℕ → ℕ → Option HeapRefusal
@@ -91,6 +109,11 @@ stored_run s r i words = unless_refused (no_room_for_run s r i words) (Then (set
 pub record MayHave (s : MemoryState) (r : ℕ) (v : CellValue) : Type 0 where
   pub element : IsElement (facts s.heap.now r).kind (word_of v)
   pub reference : (facts s.heap.now r).kind ≡ ReferenceArray → IsReference s.heap.now (word_of v)
+
+-- numbers that the cells of an object may have: bytes in an array of bytes, and none in an array of references
+pub record MayHaveAll (s : MemoryState) (r : ℕ) (words : List ℕ) : Type 0 where
+  pub elements : (k : ℕ) → k < length words → IsElement (facts s.heap.now r).kind (slice_index words k)
+  pub numbers : (facts s.heap.now r).kind ≡ ReferenceArray → ⊥
 
 -- what the header of an object says of its cells: a persistent one has so many, a transient one's lie within its area
 pub record IsHeaderOf (s : MemoryState) (r : ℕ) (f : Facts) : Type 0 where

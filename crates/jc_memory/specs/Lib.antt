@@ -5,3 +5,4 @@ pub mod Reading
 pub mod Laws
 pub mod Cells
 pub mod Making
+pub mod Dead

@@ -1,7 +1,7 @@
 //! A memory: its parts, and what headers say.
 ghost use Rattle.std.specs.Prelude.{◌≡◌, [], false};
 ghost use Rattle.jc_heap.specs.Heap.{IsObject};
-ghost use Rattle.jc_memory.specs.State.{IsKept};
+ghost use Rattle.jc_memory.specs.State.{AreParts};
 ghost use Rattle.jc_memory.specs.Owners.{at_reset};
 ghost use Rattle.jc_memory.specs.Cells.{IsHeaderOf};
 
@@ -32,20 +32,19 @@ pub struct Memory<S: WordStore> {
 }
 
 impl<S: WordStore> Model for Memory<S> {
-    ghost use Rattle.std.specs.Prelude.{◌≡◌, false};
-    ghost use Rattle.jc_memory.specs.State.{MemoryState, IsKept};
+    ghost use Rattle.jc_memory.specs.State.{MemoryState, AreParts};
 
     ghost Value = { MemoryState };
 
     ghost view = { λ m. record { heap = m.heap; ram = m.ram; registers = m.registers; command = m.command.items; sent = m.sent.items } };
 
-    ghost invariant = { λ m. (m.heap.down ≡ false → IsKept m.heap) };
+    ghost invariant = { λ m. AreParts m.heap m.ram };
 }
 
 impl<S: WordStore> Memory<S> {
     /// A memory of its parts, as a reset leaves it.
     pub fn new(heap: Heap<S>, ram: Ram) -> Memory<S>
-        requires whole { heap.down ≡ false → IsKept heap }
+        requires { AreParts heap ram }
         ensures { result ≡ record { heap = heap; ram = ram; registers = at_reset; command = []; sent = [] } }
     {
         Memory {
