@@ -9,11 +9,11 @@ use Rattle.jc_words.specs.Layout.{magic_address, version_address, size_address, 
 use Rattle.jc_commit.specs.Image.{IsGoodLog, recovered_of}
 use Rattle.jc_heap.specs.Image.{IsLaid, base, image}
 use Rattle.jc_heap.specs.Heap.{heap_of}
-use Rattle.jc_heap.specs.Beginning.{BeginsWith}
+use Rattle.jc_image.specs.Beginning.{BeginsWith}
 use Rattle.jc_heap.proofs.RawWords.{recovered-front, head_is, text_is}
 use Rattle.jc_heap.proofs.Following.{base_is}
 use Rattle.jc_transient.specs.declared.cell.ClearEvent.TheVariants.{Reset}
-use Rattle.jc_heap.proofs.TextBytes.{length-table_text}
+use Rattle.jc_image.proofs.TextBytes.{length-table_text}
 use Rattle.jc_platform.specs.Tokens.{Tokens}
 use Rattle.jc_platform.specs.Table.{Reads}
 use Rattle.jc_platform.specs.Distinct.{class_word}

@@ -1,7 +1,7 @@
 //! Making an image.
 ghost use Rattle.std.specs.Prelude.{ℕ, ◌≡◌, ◌≢◌, ◌<◌, ◌≤◌, ◌+◌, ◌⊎◌, ◌↔◌, true, false, length, slice_index, Ok, Err, IfOk, IfErr, OnOk, OnErr, IsErrOf, Result};
 ghost use Rattle.jc_words.specs.Layout.{magic_address, magic, least_size};
-ghost use Rattle.jc_heap.specs.Laying.{first_free};
+ghost use Rattle.jc_image.specs.Laying.{first_free};
 ghost use Rattle.jc_heap.specs.Heap.{heap_of};
 ghost use Rattle.jc_commit.specs.Image.{recovered_of};
 ghost use Rattle.jc_platform.specs.Tokens.{Tokens};
@@ -9,7 +9,8 @@ ghost use Rattle.jc_platform.specs.Table.{Reads};
 ghost use Rattle.jc_card.specs.Made.{IsMade, formatted};
 
 use crate::fixed::make_fixed;
-use jc_heap::{Heap, first_free};
+use jc_heap::Heap;
+use jc_image::{first_free, lay, seal};
 use jc_platform::fault::TableFault;
 use jc_platform::read::read_table;
 use jc_platform::table::Table;
@@ -79,9 +80,9 @@ fn make_image<S: WordStore>(store: S, text: &[u8], table: &Table) -> Result<S, S
     ensures down { IfErr result (λ s. S.down s ≡ true) }
     ensures unmarked { IfErr result (λ s. (S.words s ≡ S.words store) ⊎ (slice_index (S.words s) magic_address ≢ magic)) }
 {
-    let mut heap = Heap::lay(store, text)?;
+    let mut heap = lay(store, text)?;
     let Ok(()) = make_fixed(&mut heap, table) else {
         return Err(heap.into_store());
     };
-    heap.seal()
+    seal(heap)
 }

@@ -13,7 +13,7 @@ ghost use Rattle.jc_card.specs.PowerUp.{Refuses, Fails, Stands, HasTable, HasHea
 use crate::card::Card;
 use crate::fixed::fixed_headers;
 use jc_commit::OpenRefusal;
-use jc_heap::OpenImage;
+use jc_image::OpenImage;
 use jc_platform::read::{LARGEST_TEXT, read_table};
 use jc_platform::table::Table;
 use jc_transient::Ram;

@@ -120,3 +120,16 @@ refusal_cases Full = inr refl
 -- a store that is up for the heap is up for its journal
 pub up_is : (j : State) (v : HeapView) (n : ℕ) → heap_view j n ≡ v → v.down ≡ false → j.down ≡ false
 up_is j v n is up = ap (λ u. u.down) is ∙ up
+
+-- a journal whose words are the same as those that a recovery leaves
+pub same_sound : (j : State) (n : ℕ) (ws : List ℕ) → j.plain ≡ ws → j.recovered ≡ ws → IsLaid ws → length ws ≡ n → n < 65536 → IsSound j n
+same_sound j n ws plain recovered laid long small = record {
+  back = subst IsLaid (sym recovered) laid;
+  size_recovered = ap length recovered ∙ long;
+  small = small;
+  now = λ _. subst IsLaid (sym plain) laid;
+  size_now = λ _. ap length plain ∙ long;
+  order = λ _. omega (arith, ap (λ l. get_or l top_address 0) plain, ap (λ l. get_or l top_address 0) recovered);
+  shape = λ _. subst (λ l. SameShape (heap_of j.recovered) (heap_of l)) (recovered ∙ sym plain) (shape-same (heap_of j.recovered));
+  settled = λ _ _. recovered ∙ sym plain;
+}

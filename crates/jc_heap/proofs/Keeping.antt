@@ -13,8 +13,8 @@ use Rattle.jc_heap.specs.Object.{Object, Item, AnObject, APackage, facts_of, cel
 use Rattle.jc_heap.specs.Heap.{HeapState, item_at, names, cells, facts, area_end, with_area_end, set_cell, set_cells, add_object, add_transient, LacksCells}
 use Rattle.jc_heap.specs.Whole.{lies_in, cells_in, FitsAt, IsFilled, IsReference, HoldsReferences, AreMet, AreDistinct, IsWhole}
 use Rattle.jc_heap.proofs.Laws.{item_at-add_object, item_at-add_other, names-add_other, names-set_cell, item_at-set_cell, cells-with_cell, set_cell-absent, facts-set_cell, length-cells-set_cell, cells-set_other, bare-set_cell}
-use Rattle.jc_heap.proofs.Filling.{Run, filled_of, run_of}
-use Rattle.jc_heap.proofs.Referring.{object_named}
+use Rattle.jc_heap.proofs.AreaRuns.{Run, filled_of, run_of}
+use Rattle.jc_heap.proofs.Laws.{object_named}
 
 -- what a whole heap's words say but of the areas
 pub record IsReferring (h : HeapState) : Type 0 where

@@ -16,8 +16,8 @@ use Rattle.jc_heap.specs.Statics.{with_word, set_word}
 use Rattle.jc_heap.specs.Whole.{cells_in, FitsAt, IsFilled, IsReference, HoldsReferences, AreMet, AreDistinct, IsWhole}
 use Rattle.jc_heap.proofs.Tables.{at_or-push_same, at_or-push_other, has-push}
 use Rattle.jc_heap.proofs.Laws.{names-add_other}
-use Rattle.jc_heap.proofs.Filling.{Run, filled_of, run_of}
-use Rattle.jc_heap.proofs.Referring.{object_named}
+use Rattle.jc_heap.proofs.AreaRuns.{Run, filled_of, run_of}
+use Rattle.jc_heap.proofs.Laws.{object_named}
 use Rattle.jc_heap.proofs.RecordWords.{of_item-set_word, names-set_word}
 use Rattle.jc_heap.proofs.Keeping.{run_push, run_put, object_whole}
 

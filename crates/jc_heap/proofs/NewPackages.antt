@@ -10,7 +10,7 @@ use Rattle.jc_heap.specs.Image.{IsLaid}
 use Rattle.jc_heap.specs.Fresh.{KeepsBelow, Fills}
 use Rattle.jc_heap.specs.Heap.{HeapState, HeapView, heap_view, read_image, heap_of, add_object, end_place, changed, has_room_for, IsSound, SameShape, names, item_at}
 use Rattle.jc_heap.specs.Packages.{components_words, image_words, record_size, package_record, package_size, package_owner, package_words, package_places, push_package, add_arrays, add_package, array_object, array_size, arrays_words, array_addresses}
-use Rattle.jc_heap.specs.Laying.{packed}
+use Rattle.jc_heap.specs.Packed.{packed}
 use Rattle.jc_heap.proofs.Tables.{at_or-push_same, at_or-push_other, has-push}
 use Rattle.jc_heap.proofs.Laws.{shape-add, item_at-add_other, top-add_object}
 use Rattle.jc_heap.proofs.Packing.{length-arrays_words, length-array_addresses}

@@ -11,10 +11,9 @@ use Rattle.jc_heap.specs.declared.object.Facts.{Facts}
 use Rattle.jc_heap.specs.Table.{at_or, has}
 use Rattle.jc_heap.specs.Object.{AnObject, APackage, object_of, cells_of, facts_of, is_object, is_header, payload, kind_of, event_of}
 use Rattle.jc_heap.specs.Image.{image, base, package_addresses, is_package, sizes, item, records, missing, IsLaid}
-use Rattle.jc_heap.specs.Heap.{HeapView, heap_view, heap_of, read_image, item_at, cells, facts, IsObject, IsSound}
+use Rattle.jc_heap.specs.Heap.{heap_of, read_image, item_at, cells, facts, IsObject}
 use Rattle.jc_heap.proofs.Records.{at_or-cut, has_behind, length-record}
 use Rattle.jc_heap.proofs.Tables.{at_or-map, at_or-map_absent}
-use Rattle.jc_heap.proofs.Changing.{up_is}
 
 -- the facts that a header's words say, and the word behind it
 abbrev pub said : ℕ → ℕ → ℕ → ℕ → ℕ → Facts
@@ -148,19 +147,6 @@ module _ (ws : List ℕ) (r : ℕ) (laid : IsLaid ws) (there : IsObject (heap_of
       ∙ cells-object_of rec whole_record (omega (arith, record_within, laid.fits)) (ap (λ w. w / 256) first_word ∙ e)
       ∙ (word_is 3 (omega (arith, four))).1
 
--- the same through a heap's view
-pub view_spot : (j : State) (v : HeapView) (n r : ℕ) → heap_view j n ≡ v → IsLaid j.plain → IsObject v.now r → (text_start ≤ r) × (r + 3 < length j.plain) × ((get_or j.plain r 0 / 256 ≡ 0 → ⊥) → r + 4 < length j.plain)
-view_spot j v n r is laid there =
-    let here : IsObject (heap_of j.plain) r = subst (λ u. IsObject (u.now) r) (sym is) there in
-    ((object_spot j.plain r laid here).0, omega (arith, (object_spot j.plain r laid here).1, laid.fits), λ ne. omega (arith, place_spot j.plain r laid here ne, laid.fits))
-
-pub view_facts : (j : State) (v : HeapView) (n r : ℕ) → heap_view j n ≡ v → IsLaid j.plain → IsObject v.now r →
-    facts v.now r ≡ said (get_or j.plain r 0) (get_or j.plain (r + 1) 0) (get_or j.plain (r + 2) 0) (get_or j.plain (r + 3) 0) (get_or j.plain (r + 4) 0)
-view_facts j v n r is laid there = subst (λ u. IsObject (u.now) r → facts (u.now) r ≡ said (get_or j.plain r 0) (get_or j.plain (r + 1) 0) (get_or j.plain (r + 2) 0) (get_or j.plain (r + 3) 0) (get_or j.plain (r + 4) 0)) is (λ here. facts_are j.plain r laid here) there
-
-pub view_cells : (j : State) (v : HeapView) (n r : ℕ) → heap_view j n ≡ v → IsLaid j.plain → length j.plain < 65536 → IsObject v.now r → get_or j.plain r 0 / 256 ≡ 0 → length (cells v.now r) ≡ get_or j.plain (r + 3) 0
-view_cells j v n r is laid small there e = subst (λ u. IsObject (u.now) r → length (cells (u.now) r) ≡ get_or j.plain (r + 3) 0) is (λ here. cells_are j.plain r laid here small e) there
-
 -- where an object's header stands
 pub record Spot (j : State) (r : ℕ) : Type 0 where
   pub low : text_start ≤ r
@@ -168,20 +154,24 @@ pub record Spot (j : State) (r : ℕ) : Type 0 where
   pub behind : (get_or j.plain r 0 / 256 ≡ 0 → ⊥) → r + 4 < length j.plain
   pub small : length j.plain < 65536
 
-pub spot_of : (j : State) (v : HeapView) (n r a : ℕ) → heap_view j n ≡ v → IsSound j n → v.down ≡ false → IsObject v.now r → a ≡ r → Spot j a
-spot_of j v n r a is s up there e =
-    let here : j.down ≡ false = up_is j v n is up in
-    let t : (text_start ≤ r) × (r + 3 < length j.plain) × ((get_or j.plain r 0 / 256 ≡ 0 → ⊥) → r + 4 < length j.plain) = view_spot j v n r is (s.now here) there in
-    subst (Spot j) (sym e) (record { low = t.0; high = t.1; behind = t.2; small = omega (arith, s.small, s.size_now here) })
+pub spot_at : (j : State) (r a : ℕ) → IsLaid j.plain → length j.plain < 65536 → IsObject (heap_of j.plain) r → a ≡ r → Spot j a
+spot_at j r a laid small there e =
+    let here : Spot j r = record {
+      low = (object_spot j.plain r laid there).0;
+      high = omega (arith, (object_spot j.plain r laid there).1, laid.fits);
+      behind = λ ne. omega (arith, place_spot j.plain r laid there ne, laid.fits);
+      small = small;
+    } in
+    subst (Spot j) (sym e) here
 
 -- facts read word by word are the object's
-pub facts_built : (j : State) (v : HeapView) (n r : ℕ) → heap_view j n ≡ v → IsLaid j.plain → IsObject v.now r →
-    (w : ℕ) (kind : Kind) (event : Option ClearEvent) (class owner long place : ℕ) → w ≡ get_or j.plain r 0 → kind ≡ kind_of (w % 256) → event ≡ event_of (w / 256) →
-    class ≡ get_or j.plain (r + 1) 0 → owner ≡ get_or j.plain (r + 2) 0 → long ≡ get_or j.plain (r + 3) 0 → place ≡ (if w / 256 == 0 then 0 else get_or j.plain (r + 4) 0) →
-    (let built : Facts = record { kind = kind; event = event; class = class; owner = owner; length = long; place = place } in built) ≡ facts v.now r
-facts_built j v n r is laid there w kind event class owner long place we ke ee ce oe le pe =
-    (λ i. record { kind = (ke ∙ ap (λ u. kind_of (u % 256)) we) i; event = (ee ∙ ap (λ u. event_of (u / 256)) we) i; class = ce i; owner = oe i; length = le i; place = (pe ∙ ap (λ u. if u / 256 == 0 then 0 else get_or j.plain (r + 4) 0) we) i })
-    ∙ sym (view_facts j v n r is laid there)
+pub facts_built : (ws : List ℕ) (r : ℕ) → IsLaid ws → IsObject (heap_of ws) r →
+    (w : ℕ) (kind : Kind) (event : Option ClearEvent) (class owner long place : ℕ) → w ≡ get_or ws r 0 → kind ≡ kind_of (w % 256) → event ≡ event_of (w / 256) →
+    class ≡ get_or ws (r + 1) 0 → owner ≡ get_or ws (r + 2) 0 → long ≡ get_or ws (r + 3) 0 → place ≡ (if w / 256 == 0 then 0 else get_or ws (r + 4) 0) →
+    (let built : Facts = record { kind = kind; event = event; class = class; owner = owner; length = long; place = place } in built) ≡ facts (heap_of ws) r
+facts_built ws r laid there w kind event class owner long place we ke ee ce oe le pe =
+    (λ i. record { kind = (ke ∙ ap (λ u. kind_of (u % 256)) we) i; event = (ee ∙ ap (λ u. event_of (u / 256)) we) i; class = ce i; owner = oe i; length = le i; place = (pe ∙ ap (λ u. if u / 256 == 0 then 0 else get_or ws (r + 4) 0) we) i })
+    ∙ sym (facts_are ws r laid there)
 
 some_if : (b : Bool) → is_some (if b then Some Reset else Some Deselect) ≡ true
 some_if true = refl

@@ -2,7 +2,7 @@
 use Rattle.std.specs.Prelude.{ℕ, suc, ◌+◌, ◌≡◌, ◌<◌, ◌≤◌, ◌==◌, Bool, true, false, List, [], ◌∷◌, ◌++◌, map, take, drop, length, slice_index, Option, Some, None, if◌then◌else◌, ◌&&◌, nat_lt, nat_le}
 use Rattle.std.specs.List.{list_any}
 use Rattle.jc_words.specs.Count.{raised}
-use Rattle.jc_words.specs.Layout.{top_address, packages_address, applets_address, reset_end_address, deselect_end_address, registry_start, registry_length, text_start}
+use Rattle.jc_words.specs.Layout.{top_address, packages_address, applets_address, reset_end_address, deselect_end_address, registry_start, registry_length}
 use Rattle.jc_commit.specs.Image.{capacity, top_of}
 use Rattle.jc_commit.specs.State.{State, writes_inside, writes_outside, undo_writes}
 use Rattle.jc_heap.specs.declared.object.Facts.{Facts}
@@ -147,15 +147,6 @@ pub record IsSound (j : State) (size : ℕ) : Type 0 where
   pub shape : j.down ≡ false → SameShape (heap_of j.recovered) (heap_of j.plain)
   -- outside a transaction there is nothing to recover
   pub settled : j.down ≡ false → j.in_transaction ≡ false → j.recovered ≡ j.plain
-
--- what the journal of a recovered image meets
-pub record IsOpen (j : State) (size : ℕ) : Type 0 where
-  pub up : j.down ≡ false
-  pub closed : j.in_transaction ≡ false
-  pub recovered : j.recovered ≡ j.plain
-  pub size_now : length j.plain ≡ size
-  pub small : size < 65536
-  pub wide : text_start ≤ size
 
 -- the heap as the open transaction found it
 abbrev pub saved : HeapView → Option HeapState

@@ -7,7 +7,7 @@ use Rattle.jc_heap.specs.declared.package.Component.{Component}
 use Rattle.jc_heap.specs.declared.package.StaticArray.{StaticArray}
 use Rattle.jc_heap.specs.Object.{Object, APackage, kind_number, has_bytes}
 use Rattle.jc_heap.specs.Heap.{HeapState, add_object, end_place}
-use Rattle.jc_heap.specs.Laying.{packed}
+use Rattle.jc_heap.specs.Packed.{packed}
 
 -- a component as values: its tag and its info
 abbrev pub part : Component → ℕ × List ℕ

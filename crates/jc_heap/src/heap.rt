@@ -5,19 +5,19 @@ ghost use Rattle.jc_commit.specs.Image.{capacity, count_of, plain_of, recovered_
 ghost use Rattle.jc_commit.specs.Entries.{addresses_of};
 ghost use Rattle.jc_heap.specs.Object.{IsElement};
 ghost use Rattle.jc_heap.specs.Image.{IsLaid};
-ghost use Rattle.jc_heap.specs.Heap.{HeapView, HeapState, heap_of, cells, facts, IsObject, HasEnd, next_object, set_cell, set_cells, run_words, changed, cell_place, IsStopped, has_room_for, begun, committed, aborted, resting, KeepsBelowTop};
+ghost use Rattle.jc_heap.specs.Heap.{HeapView, HeapState, heap_of, heap_view, IsSound, cells, facts, IsObject, HasEnd, next_object, set_cell, set_cells, run_words, changed, cell_place, IsStopped, has_room_for, begun, committed, aborted, resting, KeepsBelowTop};
 ghost use Rattle.jc_heap.specs.declared.place.Place.TheVariants.{Cell};
 ghost use Rattle.jc_heap.specs.Moves.{Write, SetCells, Begin, Commit, Abort, Made, Done, Makes, MakesUnless, after_of, full_at};
 
 use crate::layout::HEADER;
-use crate::object::{Facts, Kind, event_of_number};
+use crate::object::Facts;
 use crate::place::Place;
+use crate::lookup::{facts_at, next_behind};
 use crate::refusal::HeapRefusal;
-use crate::walk::first_object;
 use jc_commit::Journal;
 use jc_transient::Ref;
 use jc_words::WordStore;
-use jc_words::layout::{JOURNAL_CAPACITY, TEXT_LENGTH, TEXT_START, TOP};
+use jc_words::layout::{JOURNAL_CAPACITY, TOP};
 use std::marker::Model;
 
 // How many words one change may have.
@@ -42,19 +42,6 @@ impl<S: WordStore> Model for Heap<S> {
     ghost view = { λ h. heap_view h.journal h.size };
 
     ghost invariant = { λ h. IsSound h.journal h.size };
-}
-
-// The word behind a transient object's header, 0 where there is none.
-fn place_word<S: WordStore>(journal: &Journal<S>, at: u16, word: u16) -> u16
-    requires behind { text_start ≤ at }
-    requires there { (word / 256 ≡ 0 → ⊥) → at + 4 < length journal.now.plain }
-    requires small { length journal.now.plain < 65536 }
-    ensures { result ≡ (if word / 256 == 0 then 0 else slice_index journal.now.plain (at + 4)) }
-{
-    if word / 256 == 0 {
-        return 0;
-    }
-    journal.read(at + HEADER)
 }
 
 // The words of a run from an address on, with their values.
@@ -94,17 +81,6 @@ impl<S: WordStore> Heap<S> {
         self.cell_word(object, i)
     }
 
-    // The first object of all.
-    fn first(&self) -> Option<Ref>
-        requires { self.now.down ≡ false }
-        ensures next { result ≡ next_object self.now.now 0 }
-        ensures object { IfSome result (λ q. IsObject self.now.now q) }
-    {
-        let text = u32::from(self.journal.read(TEXT_LENGTH));
-        let from = TEXT_START + (text + 1) / 2;
-        first_object(&self.journal, from as u16, 0)
-    }
-
     /// A cell of a persistent object.
     pub fn get(&self, object: Ref, i: u16) -> u16
         requires up { self.now.down ≡ false }
@@ -122,17 +98,7 @@ impl<S: WordStore> Heap<S> {
         ensures facts { result ≡ facts self.now.now object }
         ensures cells { result.event ≡ None → length (cells self.now.now object) ≡ result.length }
     {
-        let at = object.address();
-        let word = self.journal.read(at);
-        let place = place_word(&self.journal, at, word);
-        Facts {
-            kind: Kind::of(word % 256),
-            event: event_of_number(word / 256),
-            class: self.journal.read(at + 1),
-            owner: self.journal.read(at + 2),
-            length: self.journal.read(at + 3),
-            place,
-        }
+        facts_at(&self.journal, object)
     }
 
     /// The address that the next object gets: each object lies below it.
@@ -151,11 +117,7 @@ impl<S: WordStore> Heap<S> {
         ensures next { result ≡ next_object self.now.now object }
         ensures object { IfSome result (λ q. IsObject self.now.now q) }
     {
-        if object.is_null() {
-            return self.first();
-        }
-        let at = object.address();
-        first_object(&self.journal, at, at)
+        next_behind(&self.journal, object)
     }
 
     /// Sets a cell of a persistent object.
@@ -247,6 +209,26 @@ impl<S: WordStore> Heap<S> {
     {
         self.journal.abort()?;
         Ok(())
+    }
+
+    /// A heap at rest, over a journal whose words are laid and in which nothing is open. Nothing is read
+    /// or written.
+    pub fn of_journal(journal: Journal<S>, size: u16) -> Heap<S>
+        requires size { size ≡ length journal.plain }
+        requires settled { journal.recovered ≡ journal.plain }
+        requires laid { IsLaid journal.plain }
+        ensures { result ≡ heap_view journal size }
+    {
+        Heap { journal, size }
+    }
+
+    /// The journal, for the layer that keeps whole images.
+    pub fn into_journal(self) -> Journal<S>
+        ensures view { heap_view result self.size ≡ self }
+        ensures sound { IsSound result self.size }
+    {
+        let Heap { journal, size: _ } = self;
+        journal
     }
 
     /// A heap at rest, over a store as `into_store` gives it while no transaction is open. Nothing is

@@ -1,10 +1,25 @@
-//! What an object's header says, and where.
+//! What an object's header says, and where; and where the ends of the areas stand.
+ghost use Rattle.std.specs.Prelude.{◌≡◌};
+ghost use Rattle.jc_heap.specs.Heap.{area_place};
 
-// How many words an object's header has.
-pub(crate) const HEADER: u16 = 4;
+use jc_transient::ClearEvent;
+use jc_words::layout::{DESELECT_END, RESET_END};
 
-// The word of a header with the number of cells.
-pub(crate) const LENGTH: u16 = 3;
+/// How many words an object's header has.
+pub const HEADER: u16 = 4;
 
-// The first word of the header of a persistent array of references.
-pub(crate) const REFERENCES: u16 = 5;
+/// The word of a header with the number of cells.
+pub const LENGTH: u16 = 3;
+
+/// The first word of the header of a persistent array of references.
+pub const REFERENCES: u16 = 5;
+
+/// The word with the end of an event's area.
+pub fn area_word(event: ClearEvent) -> u16
+    ensures { result ≡ area_place event }
+{
+    match event {
+        ClearEvent::Reset => RESET_END,
+        ClearEvent::Deselect => DESELECT_END,
+    }
+}

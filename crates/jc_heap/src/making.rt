@@ -7,13 +7,13 @@ ghost use Rattle.jc_heap.specs.Moves.{AddObject, AddTransient, MakesUnless, afte
 
 use crate::fresh::{write_record, write_run};
 use crate::heap::Heap;
-use crate::layout::HEADER;
+use crate::layout::{HEADER, area_word};
 use crate::object::Kind;
 use crate::refusal::HeapRefusal;
 use jc_commit::Journal;
 use jc_transient::{AREA_CELLS, ClearEvent, Ref};
 use jc_words::WordStore;
-use jc_words::layout::{DESELECT_END, RESET_END, TOP};
+use jc_words::layout::TOP;
 
 // The journal has no room for a change of these words.
 pub(crate) fn lacks_room<S: WordStore>(journal: &Journal<S>, addresses: &[u16]) -> bool
@@ -111,16 +111,6 @@ impl<S: WordStore> Heap<S> {
             return Err(HeapRefusal::StoreDown);
         };
         Ok(Ref::at(top))
-    }
-}
-
-// The word with the end of an event's area.
-pub(crate) fn area_word(event: ClearEvent) -> u16
-    ensures { result ≡ area_place event }
-{
-    match event {
-        ClearEvent::Reset => RESET_END,
-        ClearEvent::Deselect => DESELECT_END,
     }
 }
 

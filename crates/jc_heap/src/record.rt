@@ -2,7 +2,7 @@
 ghost use Rattle.std.specs.Prelude.{ℕ, ◌≡◌, ◌<◌, ◌+◌, ◌*◌, [], ◌∷◌, ◌++◌, length, slice_index, slice_index_or, OnOk, OnErr, IfOk};
 ghost use Rattle.jc_heap.specs.Fresh.{IsFree, KeepsBelow, Fills, StopsFresh};
 ghost use Rattle.jc_heap.specs.Packages.{part, parts, initial, initials, elements, component_words, components_words, array_addresses, arrays_size, image_words, record_size, package_record, AreComponents, array_words, arrays_words};
-ghost use Rattle.jc_heap.specs.Laying.{packed};
+ghost use Rattle.jc_heap.specs.Packed.{packed};
 
 use crate::fresh::write_run;
 use crate::layout::HEADER;

@@ -16,8 +16,8 @@ use jc_words::layout::{ADDRESSES, MOST_PACKAGES, PACKAGES, TEXT_LENGTH, TEXT_STA
 // The size of a record that begins with no header: no image has so many words.
 const NO_HEADER: u32 = 65540;
 
-// A package's record begins at the address.
-pub(crate) fn begins_package<S: WordStore>(journal: &Journal<S>, at: u16) -> bool
+/// Whether a package's record begins at the address.
+pub fn begins_package<S: WordStore>(journal: &Journal<S>, at: u16) -> bool
     requires wide { text_start ≤ slice_index journal.now.plain top_address }
     requires fits { slice_index journal.now.plain top_address ≤ length journal.now.plain }
     requires small { length journal.now.plain < 65536 }
@@ -32,8 +32,8 @@ pub(crate) fn begins_package<S: WordStore>(journal: &Journal<S>, at: u16) -> boo
     false
 }
 
-// How many words the record at an address has.
-pub(crate) fn record_size<S: WordStore>(journal: &Journal<S>, at: u16, top: u16) -> u32
+/// How many words the record at an address has: more than there can be, where it begins with no header.
+pub fn record_size<S: WordStore>(journal: &Journal<S>, at: u16, top: u16) -> u32
     requires wide { text_start ≤ slice_index journal.now.plain top_address }
     requires fits { slice_index journal.now.plain top_address ≤ length journal.now.plain }
     requires small { length journal.now.plain < 65536 }
@@ -56,25 +56,6 @@ pub(crate) fn record_size<S: WordStore>(journal: &Journal<S>, at: u16, top: u16)
         return 4;
     }
     4 + u32::from(journal.read(at + 3))
-}
-
-// The records end where the table ends.
-pub(crate) fn is_whole<S: WordStore>(journal: &Journal<S>) -> bool
-    requires wide { base (image journal.now.plain) ≤ slice_index journal.now.plain top_address }
-    requires fits { slice_index journal.now.plain top_address ≤ length journal.now.plain }
-    requires small { length journal.now.plain < 65536 }
-    ensures { IsTrue result ↔ (missing (image journal.now.plain) ≡ 0) }
-{
-    let top = u32::from(journal.read(TOP));
-    let mut at = TEXT_START + (u32::from(journal.read(TEXT_LENGTH)) + 1) / 2;
-    while at < top {
-        let size = record_size(journal, at as u16, top as u16);
-        if size > top - at {
-            return false;
-        }
-        at += size;
-    }
-    true
 }
 
 // An object begins at the address of a record, and it lies above the other address.

@@ -21,7 +21,6 @@ fn a_persistent_object_has_its_header_and_cells(rt: HostRuntime) -> Result<(), F
         place: 0,
     };
     assert_eq!(rt; heap.facts(array), facts);
-    assert!(rt; heap.begins_with(&[facts]) && !heap.begins_with(&[facts, facts]));
     assert_eq!(rt;
         (heap.next(Ref::null()), heap.next(array)),
         (Some(array), None)

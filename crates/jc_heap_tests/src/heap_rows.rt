@@ -4,7 +4,8 @@ ghost use Rattle.std.specs.Prelude.{◌≡◌, ◌<◌, ◌≤◌, length, true,
 ghost use Rattle.jc_heap.specs.Heap.{cells, facts};
 ghost use Rattle.jc_heap.specs.declared.object.Kind.TheVariants.{ShortArray};
 
-use jc_heap::{Heap, HeapRefusal, Kind, OpenImage};
+use jc_heap::{Heap, HeapRefusal, Kind};
+use jc_image::OpenImage;
 use jc_transient::{CellValue, ClearEvent, Ram, Ref};
 use jc_words::{FuseStore, MemStore, WordStore, blank};
 use std::alloc::Global;

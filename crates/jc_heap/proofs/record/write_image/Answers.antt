@@ -1,6 +1,6 @@
 use Rattle.std.proofs.Common.{◌+◌, length, refl, arith}
 use Rattle.jc_heap.specs.Packages.{initials, array_addresses, image_words}
-use Rattle.jc_heap.specs.Laying.{packed}
+use Rattle.jc_heap.specs.Packed.{packed}
 use Rattle.jc_heap.proofs.FreshRuns.{keeps_then}
 use Rattle.jc_heap.proofs.Packing.{length-addresses}
 use Rattle.jc_heap.proofs.Streams.{piece_more}

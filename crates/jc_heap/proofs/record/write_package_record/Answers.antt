@@ -2,7 +2,7 @@ use Rattle.std.proofs.Common.{◌+◌, List, ℕ, [], ◌∷◌, ◌++◌, lengt
 use Rattle.std.proofs.lemmas.List.{length-append}
 use Rattle.jc_heap.specs.Fresh.{Fills}
 use Rattle.jc_heap.specs.Packages.{parts, initials, components_words, image_words, record_size, package_record}
-use Rattle.jc_heap.specs.Laying.{packed}
+use Rattle.jc_heap.specs.Packed.{packed}
 use Rattle.jc_heap.proofs.Packing.{length-initials}
 use Rattle.jc_heap.proofs.Streams.{Stands, first_piece, next_piece, stands_below, stands_free, free_fewer}
 use Rattle.jc_heap.proofs.record.write_package_record.Goals as goal
