@@ -10,7 +10,7 @@ use Rattle.jc_heap.specs.Heap.{HeapState, read_image, heap_of, area_end, with_ar
 use Rattle.jc_heap.proofs.Images.{image-set, text-same}
 
 -- an image with another end of an area
-module _ (img : List ℕ) (a v : ℕ) (wide : text_start ≤ length img) (low : applets_address < a) (high : a < text_length_address) where
+module _ (img : List ℕ) (a v : ℕ) (wide : text_start ≤ length img) (low : packages_address < a) (high : a < text_length_address) where
   word : (k : ℕ) → (k ≡ a → ⊥) → get_or (set img a v) k 0 ≡ get_or img k 0
   word k ne = get_or-set_other img a k v 0 ne
 
@@ -77,7 +77,35 @@ read-end img Deselect v wide = λ k. record {
   top = length-set img deselect_end_address v k;
 }
 
-place_low : (event : ClearEvent) → applets_address < area_place event
+-- an image with another number of applets
+pub read-applets : (img : List ℕ) (v : ℕ) → text_start ≤ length img → read_image (set img applets_address v) ≡ record (read_image img) { counts = (((read_image img).counts).0, v) }
+unfolding read_image
+read-applets img v wide = λ k. record {
+  head = head-end img applets_address v wide (lit< tt) (lit< tt) k;
+  text = text-end img applets_address v wide (lit< tt) (lit< tt) k;
+  counts = (other-end img applets_address v wide (lit< tt) (lit< tt) packages_address (λ e. omega arith) k, own-end img applets_address v wide (lit< tt) (lit< tt) k);
+  items = items-end img applets_address v wide (lit< tt) (lit< tt) k;
+  packages = addresses-end img applets_address v wide (lit< tt) (lit< tt) k;
+  applets = applets-end img applets_address v wide (lit< tt) (lit< tt) k;
+  area_ends = (other-end img applets_address v wide (lit< tt) (lit< tt) reset_end_address (λ e. omega arith) k, other-end img applets_address v wide (lit< tt) (lit< tt) deselect_end_address (λ e. omega arith) k);
+  top = length-set img applets_address v k;
+}
+
+-- one of these words set leaves the words laid
+pub laid-front : (ws : List ℕ) (a v : ℕ) → packages_address < a → a < text_length_address → IsLaid ws → IsLaid (set ws a v)
+laid-front ws a v low high laid =
+    let wide : text_start ≤ length (image ws) = omega (arith, laid.based, length-take-le (get_or ws top_address 0) ws laid.fits) in
+    let img : image (set ws a v) ≡ set (image ws) a v = image-set ws a v (omega (arith, low)) in
+    let same_base : base (image (set ws a v)) ≡ base (image ws) = ap base img ∙ base-end (image ws) a v wide low high in
+    let top : get_or (set ws a v) top_address 0 ≡ get_or ws top_address 0 = get_or-set_other ws a top_address v 0 (λ e. omega (arith, low)) in
+    record {
+      based = rw (same_base, top) laid.based;
+      fits = rw (top, length-set ws a v) laid.fits;
+      whole = ap missing img ∙ missing-end (image ws) a v wide low high ∙ laid.whole;
+      packages = λ b le. ap (λ ps. is_package ps b) (ap package_addresses img ∙ addresses-end (image ws) a v wide low high) ∙ laid.packages b (rw top at le);
+    }
+
+place_low : (event : ClearEvent) → packages_address < area_place event
 place_low Reset = lit< tt
 place_low Deselect = lit< tt
 
@@ -100,18 +128,7 @@ with_area_end-heap_of ws event v laid =
     ap read_image (image-set ws (area_place event) v (omega (arith, place_low event))) ∙ read-end (image ws) event v wide
 
 pub IsLaid-end : (ws : List ℕ) (event : ClearEvent) (v : ℕ) → IsLaid ws → IsLaid (set ws (area_place event) v)
-IsLaid-end ws event v laid =
-    let wide : text_start ≤ length (image ws) = omega (arith, laid.based, length-take-le (get_or ws top_address 0) ws laid.fits) in
-    let a : ℕ = area_place event in
-    let img : image (set ws (area_place event) v) ≡ set (image ws) (area_place event) v = image-set ws (area_place event) v (omega (arith, place_low event)) in
-    let same_base : base (image (set ws (area_place event) v)) ≡ base (image ws) = ap base img ∙ base-end (image ws) (area_place event) v wide (place_low event) (place_high event) in
-    let top : get_or (set ws (area_place event) v) top_address 0 ≡ get_or ws top_address 0 = top-end ws event v in
-    record {
-      based = rw (same_base, top) laid.based;
-      fits = rw (top, length-set ws (area_place event) v) laid.fits;
-      whole = ap missing img ∙ missing-end (image ws) (area_place event) v wide (place_low event) (place_high event) ∙ laid.whole;
-      packages = λ b le. ap (λ ps. is_package ps b) (ap package_addresses img ∙ addresses-end (image ws) (area_place event) v wide (place_low event) (place_high event)) ∙ laid.packages b (rw top at le);
-    }
+IsLaid-end ws event v laid = laid-front ws (area_place event) v (place_low event) (place_high event) laid
 
 pub shape-end : (d h : HeapState) (event : ClearEvent) (v : ℕ) → SameShape d h → SameShape d (with_area_end h event v)
 unfolding item_at names

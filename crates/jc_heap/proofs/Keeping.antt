@@ -160,7 +160,7 @@ facts-with_cell : (t : Item) (i v : ℕ) → facts_of (with_cell t i v) ≡ fact
 facts-with_cell (AnObject o) i v = refl
 facts-with_cell (APackage ws) i v = refl
 
-object-bare : (t : Item) → is_object (bare t) ≡ is_object t
+pub object-bare : (t : Item) → is_object (bare t) ≡ is_object t
 object-bare (AnObject o) = refl
 object-bare (APackage ws) = refl
 

@@ -3,7 +3,7 @@ use Rattle.std.proofs.Common.{◌≡◌, ℕ, suc, ◌+◌, ◌-◌, ◌<◌, �
 use Rattle.std.proofs.lemmas.List.{get_or_append_left, get_or-append_right, length-append}
 use Rattle.std.proofs.lemmas.Bool.{cases_eq, cases_lt, eq-eqb, false≢true}
 use Rattle.std.proofs.Math.Bool.{or-true}
-use Rattle.jc_words.specs.Layout.{most_packages}
+use Rattle.jc_words.specs.Layout.{most_packages, most_applets}
 use Rattle.jc_transient.specs.declared.cell.ClearEvent.{ClearEvent}
 use Rattle.jc_transient.specs.declared.cell.ClearEvent.TheVariants.{Reset, Deselect}
 use Rattle.jc_heap.specs.declared.object.Kind.{Kind}
@@ -202,4 +202,20 @@ registry_whole h words w = record {
   distinct = w.distinct;
   references = w.references;
   areas = λ event. filled-registry h words event (w.areas event);
+}
+
+-- the number of applets
+filled-count : (h : HeapState) (n : ℕ) (event : ClearEvent) → IsFilled h event → IsFilled (record h { counts = (h.counts.0, n) }) event
+filled-count h n Reset f = filled_of (record h { counts = (h.counts.0, n) }) Reset (run_of h Reset f)
+filled-count h n Deselect f = filled_of (record h { counts = (h.counts.0, n) }) Deselect (run_of h Deselect f)
+
+pub count_whole : (h : HeapState) (n : ℕ) → n ≤ most_applets → IsWhole h → IsWhole (record h { counts = (h.counts.0, n) })
+unfolding item_at names
+count_whole h n few w = record {
+  few_packages = w.few_packages;
+  few_applets = few;
+  met = w.met;
+  distinct = w.distinct;
+  references = w.references;
+  areas = λ event. filled-count h n event (w.areas event);
 }

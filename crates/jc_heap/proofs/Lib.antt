@@ -31,3 +31,4 @@ pub mod MoveLaws
 pub mod Calls
 pub mod RawWords
 pub mod AreaRuns
+pub mod Several

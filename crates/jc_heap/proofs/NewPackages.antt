@@ -1,5 +1,5 @@
 -- A new package through the journal: fresh words, then its address, the number of packages and the top.
-use Rattle.std.proofs.Common.{◌≡◌, ℕ, zero, suc, ◌+◌, ◌<◌, ◌≤◌, false, List, [], ◌∷◌, length, get_or, refl, sym, ◌∙◌, ap, subst, arith}
+use Rattle.std.proofs.Common.{◌≡◌, ℕ, zero, suc, ◌+◌, ◌<◌, ◌≤◌, false, List, [], ◌∷◌, length, get_or, refl, sym, ◌∙◌, ap, subst, arith, true}
 use Rattle.std.proofs.lemmas.List.{length-append, length-take-le, get_or-take}
 use Rattle.jc_words.specs.Layout.{top_address, packages_address, addresses_start, most_packages, text_start}
 use Rattle.jc_commit.specs.Image.{with_words, IsPlace}
@@ -18,7 +18,7 @@ use Rattle.jc_heap.proofs.PackageAdded.{heap_of-packaged, laid-packaged, top-pac
 use Rattle.jc_heap.proofs.NewObjects.{view_then, sound_then}
 
 -- shapes stay
-shape-push : (d h : HeapState) (words : List ℕ) → d.top ≤ h.top → SameShape d h → SameShape d (push_package h words)
+pub shape-push : (d h : HeapState) (words : List ℕ) → d.top ≤ h.top → SameShape d h → SameShape d (push_package h words)
 unfolding push_package item_at names
 shape-push d h words le s = record {
   items = λ q lt. ap bare (at_or-push_other (APackage []) h.items h.top q (APackage words) (λ e. omega arith)) ∙ s.items q lt;
@@ -30,9 +30,23 @@ shape-arrays d h owner [] le s = s
 shape-arrays d h owner (x ∷ xs) le s =
     shape-arrays d (add_object h (array_object owner x) (array_size x)) owner xs (omega (arith, top-add_object h (array_object owner x) (array_size x))) (shape-add d h (array_object owner x) (array_size x) le s)
 
-top-push : (h : HeapState) (words : List ℕ) → (push_package h words).top ≡ h.top + length words
+pub top-push : (h : HeapState) (words : List ℕ) → (push_package h words).top ≡ h.top + length words
 unfolding push_package
 top-push h words = refl
+
+top-arrays : (h : HeapState) (owner : ℕ) (xs : List (Kind × List ℕ)) → h.top ≤ (add_arrays h owner xs).top
+top-arrays h owner [] = omega arith
+top-arrays h owner (x ∷ xs) = omega (arith, top-arrays (add_object h (array_object owner x) (array_size x)) owner xs, top-add_object h (array_object owner x) (array_size x))
+
+-- a package leaves what stood, and moves the end on
+pub shape-package : (d h : HeapState) (cs : List (ℕ × List ℕ)) (xs : List (Kind × List ℕ)) (rest : List ℕ) → d.top ≤ h.top → SameShape d h → SameShape d (add_package h cs xs rest)
+shape-package d h cs xs rest le s =
+    shape-arrays d (push_package h (package_record h.top cs xs rest)) (package_owner (h.counts.0 + 1)) xs (omega (arith, le, top-push h (package_record h.top cs xs rest)))
+    (shape-push d h (package_record h.top cs xs rest) le s)
+
+pub top-package : (h : HeapState) (cs : List (ℕ × List ℕ)) (xs : List (Kind × List ℕ)) (rest : List ℕ) → h.top ≤ (add_package h cs xs rest).top
+top-package h cs xs rest =
+    omega (arith, top-arrays (push_package h (package_record h.top cs xs rest)) (package_owner (h.counts.0 + 1)) xs, top-push h (package_record h.top cs xs rest))
 
 -- what stands at a new package's address
 item-push : (h : HeapState) (words : List ℕ) → names h h.top ≡ false → item_at (push_package h words) h.top ≡ APackage words
@@ -157,3 +171,9 @@ unfolding package_places end_place
 view_no_room j v n number is laid e none =
     let count : number ≡ (heap_of j.plain).counts.0 = e ∙ sym (count_is j.plain laid) in
     subst (λ u. has_room_for u ((addresses_start + u.now.counts.0) ∷ packages_address ∷ top_address ∷ []) ≡ false) is (subst (λ a. has_room_for (heap_view j n) ((addresses_start + a) ∷ packages_address ∷ top_address ∷ []) ≡ false) count none)
+
+pub view_room : (j : State) (v : HeapView) (n number : ℕ) → heap_view j n ≡ v → IsLaid j.plain → number ≡ get_or j.plain packages_address 0 → journal_room j ((addresses_start + number) ∷ packages_address ∷ top_address ∷ []) ≡ true → has_room_for v (package_places v.now) ≡ true
+unfolding package_places end_place
+view_room j v n number is laid e some =
+    let count : number ≡ (heap_of j.plain).counts.0 = e ∙ sym (count_is j.plain laid) in
+    subst (λ u. has_room_for u ((addresses_start + u.now.counts.0) ∷ packages_address ∷ top_address ∷ []) ≡ true) is (subst (λ a. has_room_for (heap_view j n) ((addresses_start + a) ∷ packages_address ∷ top_address ∷ []) ≡ true) count some)

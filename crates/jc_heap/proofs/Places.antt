@@ -1,24 +1,26 @@
 -- A place set, in the words and in the heap.
-use Rattle.std.proofs.Common.{◌≡◌, ℕ, ◌+◌, ◌<◌, ◌≤◌, ◌&&◌, Bool, true, false, List, [], ◌∷◌, length, get_or, set, drop, inl, inr, refl, sym, ◌∙◌, ap, subst, arith, if◌then◌else◌}
+use Rattle.std.proofs.Common.{◌≡◌, ℕ, ◌+◌, ◌<◌, ◌≤◌, ◌&&◌, Bool, true, false, List, [], ◌∷◌, length, get_or, set, drop, inl, inr, refl, sym, ◌∙◌, ap, subst, arith, lit<, if◌then◌else◌}
 use Rattle.std.proofs.lemmas.List.{length-set, length-take-le, get_or-set_other, get_or-take, get_or-drop, drop-set-lt}
 use Rattle.std.proofs.lemmas.Bool.{false≢true, cases_lt}
 use Rattle.jc_words.specs.Count.{raised}
-use Rattle.jc_words.specs.Layout.{top_address, registry_start, registry_length, text_start}
+use Rattle.jc_words.specs.Layout.{top_address, applets_address, registry_start, registry_length, text_start}
 use Rattle.jc_commit.specs.Image.{IsPlace, IsReadable, IsUnlogged}
 use Rattle.jc_commit.specs.State.{State, Changes, written_in_place, is_touched as is_kept}
 use Rattle.jc_heap.specs.declared.place.Place.{Place}
-use Rattle.jc_heap.specs.declared.place.Place.TheVariants.{Cell, Static, Registry}
+use Rattle.jc_heap.specs.declared.place.Place.TheVariants.{Cell, Static, Registry, AppletCount}
 use Rattle.jc_heap.specs.Cut.{lacking}
+use Rattle.jc_heap.specs.Object.{bare}
 use Rattle.jc_heap.specs.Image.{IsLaid, image, base, package_addresses, is_package, sizes, missing}
-use Rattle.jc_heap.specs.Heap.{HeapState, HeapView, heap_view, heap_of, cell_place, is_touched, IsSound, SameShape, read_image, item_at, names}
+use Rattle.jc_heap.specs.Heap.{HeapState, HeapView, heap_view, heap_of, cells, cell_place, is_touched, IsSound, SameShape, read_image, item_at, names}
 use Rattle.jc_heap.specs.Places.{place_word, HasPlace, set_place, written, counted}
 use Rattle.jc_heap.specs.Components.{record_of}
 use Rattle.jc_heap.specs.Statics.{set_word}
-use Rattle.jc_heap.proofs.Laws.{shape-set, shape-set_both, names-heap_of}
+use Rattle.jc_heap.proofs.Laws.{shape-set, shape-set_both, names-heap_of, bare-set_cell, same_length}
 use Rattle.jc_heap.proofs.Images.{image-set, set_cell-heap_of, IsLaid-set, top-set, package_addresses-set, base-set}
 use Rattle.jc_heap.proofs.Packages.{read-applet}
+use Rattle.jc_heap.proofs.AreaEnds.{read-applets, laid-front}
 use Rattle.jc_heap.proofs.RecordReading.{record_low, record_within, record_view, length_record}
-use Rattle.jc_heap.proofs.RecordWords.{heap_of-set_word, laid-set_word, top-set_word, set_word-absent, same_words, shape-set_word, shape-set_word_both}
+use Rattle.jc_heap.proofs.RecordWords.{heap_of-set_word, laid-set_word, top-set_word, set_word-absent, same_words, shape-set_word, shape-set_word_both, bare-set_word}
 use Rattle.jc_heap.proofs.StaticImages.{static_behind}
 use Rattle.jc_heap.proofs.Views.{cell_spot, back_set, top_is, above_top}
 use Rattle.jc_heap.proofs.Changing.{change_view, change_sound}
@@ -57,15 +59,59 @@ unfolding read_image
 registry_read j v n a is laid h = subst (λ u. get_or j.plain (registry_start + a) 0 ≡ get_or (u.now.applets) a 0) is
     (sym (get_or-take registry_length (drop registry_start (image j.plain)) a 0 h ∙ get_or-drop registry_start (image j.plain) a 0 ∙ get_or-take (get_or j.plain top_address 0) j.plain (registry_start + a) 0 (omega (arith, laid.based))))
 
+-- the number of applets
+count_set : (ws : List ℕ) (v : ℕ) → IsLaid ws →
+    (heap_of (set ws applets_address v) ≡ set_place (heap_of ws) AppletCount v) × IsLaid (set ws applets_address v) × (get_or (set ws applets_address v) top_address 0 ≡ get_or ws top_address 0)
+count_set ws v laid = (
+  ap read_image (image-set ws applets_address v (lit< tt)) ∙ read-applets (image ws) v (wide_image ws laid),
+  laid-front ws applets_address v (lit< tt) (lit< tt) laid,
+  get_or-set_other ws applets_address top_address v 0 (λ e. omega arith),
+)
+
+pub count_read : (j : State) (v : HeapView) (n : ℕ) → heap_view j n ≡ v → IsLaid j.plain → get_or j.plain applets_address 0 ≡ v.now.counts.1
+unfolding read_image
+count_read j v n is laid = subst (λ u. get_or j.plain applets_address 0 ≡ u.now.counts.1) is (sym (get_or-take (get_or j.plain top_address 0) j.plain applets_address 0 (omega (arith, laid.based))))
+
+-- the heap has a word for the place
+abbrev pub HasWord : HeapState → Place → Type 0
+HasWord h (Cell r i) = i < length (cells h r)
+HasWord h (Static r j) = (4 ≤ j) × (j < length (record_of h r))
+HasWord h (Registry i) = i < registry_length
+HasWord h AppletCount = Unit {0}
+
+pub has_word : (h : HeapState) (p : Place) → HasPlace h p → HasWord h p
+has_word h (Cell r i) there = there
+has_word h (Static r j) there = (static_behind (record_of h r) j there, there.within)
+has_word h (Registry i) there = there
+has_word h AppletCount there = tt
+
+-- a place set leaves the headers
+pub bare_stays : (h : HeapState) (p : Place) (x q : ℕ) → bare (item_at (set_place h p x) q) ≡ bare (item_at h q)
+unfolding item_at
+bare_stays h (Cell r i) x q = bare-set_cell h r i x q
+bare_stays h (Static r j) x q = bare-set_word h r j x q
+bare_stays h (Registry i) x q = refl
+bare_stays h AppletCount x q = refl
+
+-- so the places stay
+pub word_stays : (h : HeapState) (p : Place) (x : ℕ) (q : Place) → HasWord h q → HasWord (set_place h p x) q
+word_stays h p x (Cell r i) there = omega (arith, there, same_length (item_at (set_place h p x) r) (item_at h r) (bare_stays h p x r))
+word_stays h p x (Static r j) there = (there.0, omega (arith, there.1, same_words (item_at (set_place h p x) r) (item_at h r) (bare_stays h p x r)))
+word_stays h p x (Registry i) there = there
+word_stays h p x AppletCount there = tt
+
 -- words with a place set stand for the heap with it set
-pub place_set : (ws : List ℕ) (p : Place) (x : ℕ) → IsLaid ws → HasPlace (heap_of ws) p →
+pub word_set : (ws : List ℕ) (p : Place) (x : ℕ) → IsLaid ws → HasWord (heap_of ws) p →
     (heap_of (set ws (place_word p) x) ≡ set_place (heap_of ws) p x) × IsLaid (set ws (place_word p) x) × (get_or (set ws (place_word p) x) top_address 0 ≡ get_or ws top_address 0)
 unfolding cell_place
-place_set ws (Cell r i) x laid h = (set_cell-heap_of ws r i x h, IsLaid-set ws r i x h laid, top-set ws r i x h)
-place_set ws (Static r j) x laid h =
-    let four : 4 ≤ j = static_behind (record_of (heap_of ws) r) j h in
-    (heap_of-set_word ws r j x laid four h.within, laid-set_word ws r j x laid four h.within, top-set_word ws r j x laid four h.within)
-place_set ws (Registry a) x laid h = (registry-heap_of ws a x laid h, IsLaid-registry ws a x laid h, top-registry ws a x)
+word_set ws (Cell r i) x laid h = (set_cell-heap_of ws r i x h, IsLaid-set ws r i x h laid, top-set ws r i x h)
+word_set ws (Static r j) x laid h = (heap_of-set_word ws r j x laid h.0 h.1, laid-set_word ws r j x laid h.0 h.1, top-set_word ws r j x laid h.0 h.1)
+word_set ws (Registry a) x laid h = (registry-heap_of ws a x laid h, IsLaid-registry ws a x laid h, top-registry ws a x)
+word_set ws AppletCount x laid h = count_set ws x laid
+
+pub place_set : (ws : List ℕ) (p : Place) (x : ℕ) → IsLaid ws → HasPlace (heap_of ws) p →
+    (heap_of (set ws (place_word p) x) ≡ set_place (heap_of ws) p x) × IsLaid (set ws (place_word p) x) × (get_or (set ws (place_word p) x) top_address 0 ≡ get_or ws top_address 0)
+place_set ws p x laid h = word_set ws p x laid (has_word (heap_of ws) p h)
 
 -- a static image's word in the recovered words: in the same record, or above their top
 word_back : (j : State) (n r i x : ℕ) → 4 ≤ i → i < length (record_of (heap_of j.plain) r) → j.down ≡ false → IsSound j n →
@@ -88,36 +134,48 @@ unfolding cell_place
 place_back j n (Cell r i) x h up s = back_set j n r i x h up s
 place_back j n (Static r i) x h up s = word_back j n r i x (static_behind (record_of (heap_of j.plain) r) i h) h.within up s
 place_back j n (Registry a) x h up s = (registry-heap_of j.recovered a x s.back h, IsLaid-registry j.recovered a x s.back h, top-registry j.recovered a x)
+place_back j n AppletCount x h up s = count_set j.recovered x s.back
 
-place_shape : (d h : HeapState) (p : Place) (x : ℕ) → SameShape d h → SameShape d (set_place h p x)
+pub place_shape : (d h : HeapState) (p : Place) (x : ℕ) → SameShape d h → SameShape d (set_place h p x)
 unfolding item_at names
 place_shape d h (Cell r i) x s = shape-set d h r i x s
 place_shape d h (Static r j) x s = shape-set_word d h r j x s
 place_shape d h (Registry a) x s = record { items = s.items; names = s.names }
+place_shape d h AppletCount x s = record { items = s.items; names = s.names }
 
-place_shape_both : (d h : HeapState) (p : Place) (x : ℕ) → SameShape d h → SameShape (set_place d p x) (set_place h p x)
+pub place_shape_both : (d h : HeapState) (p : Place) (x : ℕ) → SameShape d h → SameShape (set_place d p x) (set_place h p x)
 unfolding item_at names
 place_shape_both d h (Cell r i) x s = shape-set_both d h r i x s
 place_shape_both d h (Static r j) x s = shape-set_word_both d h r j x s
 place_shape_both d h (Registry a) x s = record { items = s.items; names = s.names }
+place_shape_both d h AppletCount x s = record { items = s.items; names = s.names }
 
--- a place's word lies among the words, behind the packages' addresses
-pub place_spot : (j : State) (v : HeapView) (n : ℕ) (p : Place) → heap_view j n ≡ v → IsLaid j.plain → HasPlace v.now p → (place_word p < length j.plain) × (registry_start ≤ place_word p)
-place_spot j v n (Cell r i) is laid h = let spot : (cell_place r i < length j.plain) × (text_start ≤ cell_place r i) = cell_spot j v n r i is h in (spot.0, omega (arith, spot.1))
+-- a place's word lies among the words, and it may be read and logged
+pub record PlaceSpot (n a : ℕ) : Type 0 where
+  pub below : a < n
+  pub high : applets_address ≤ a
+  pub beside : applets_address < a → registry_start ≤ a
+
+pub far_spot : (n a : ℕ) → a < n → registry_start ≤ a → PlaceSpot n a
+far_spot n a below high = record { below = below; high = omega (arith, high); beside = λ _. high }
+
+pub place_spot : (j : State) (v : HeapView) (n : ℕ) (p : Place) → heap_view j n ≡ v → IsLaid j.plain → HasPlace v.now p → PlaceSpot (length j.plain) (place_word p)
+place_spot j v n (Cell r i) is laid h = let spot : (cell_place r i < length j.plain) × (text_start ≤ cell_place r i) = cell_spot j v n r i is h in far_spot (length j.plain) (cell_place r i) spot.0 (omega (arith, spot.1))
 place_spot j v n (Static r i) is laid h =
     let some : 0 < length (record_of (v.now) r) = omega (arith, h.within) in
     let there : 0 < length (record_of (heap_of j.plain) r) = record_view j v n r is some in
-    (omega (arith, h.within, length_record j v n r is laid some, record_within j.plain r laid there), omega (arith, record_low j.plain r laid there))
-place_spot j v n (Registry a) is laid h = (omega (arith, laid.based, laid.fits), omega arith)
+    far_spot (length j.plain) (r + i) (omega (arith, h.within, length_record j v n r is laid some, record_within j.plain r laid there)) (omega (arith, record_low j.plain r laid there))
+place_spot j v n (Registry a) is laid h = far_spot (length j.plain) (registry_start + a) (omega (arith, laid.based, laid.fits)) (omega arith)
+place_spot j v n AppletCount is laid h = record { below = omega (arith, laid.based, laid.fits); high = omega arith; beside = λ e. absurd (omega (arith, e)) }
 
-pub place_readable : (n a : ℕ) → a < n → registry_start ≤ a → IsReadable n a
-place_readable n a below high = record { below = below; not_count = λ e. omega arith; beside = λ _. omega arith }
+pub place_readable : (n a : ℕ) → PlaceSpot n a → IsReadable n a
+place_readable n a s = record { below = s.below; not_count = λ e. omega (arith, s.high); beside = λ low. omega (arith, s.beside (omega (arith, low))) }
 
-pub place_logged : (n a : ℕ) → a < n → registry_start ≤ a → IsPlace n a
-place_logged n a below high = record { above = omega arith; below = below; beside = λ _. omega arith }
+pub place_logged : (n a : ℕ) → PlaceSpot n a → IsPlace n a
+place_logged n a s = record { above = omega (arith, s.high); below = s.below; beside = λ low. omega (arith, s.beside (omega (arith, low))) }
 
-pub place_unlogged : (n a : ℕ) → a < n → registry_start ≤ a → IsUnlogged n a
-place_unlogged n a below high = record { below = below; not_top = λ e. omega arith; place = λ _. place_logged n a below high }
+pub place_unlogged : (n a : ℕ) → PlaceSpot n a → IsUnlogged n a
+place_unlogged n a s = record { below = s.below; not_top = λ e. omega (arith, s.high); place = λ _. place_logged n a s }
 
 -- a place set through the journal is a place set in the heap
 pub place_view : (j k : State) (v : HeapView) (n : ℕ) (p : Place) (x : ℕ) → heap_view j n ≡ v → IsLaid j.plain → HasPlace v.now p → Changes ((place_word p, x) ∷ []) j k → heap_view k n ≡ written v p x

@@ -1,5 +1,5 @@
 -- What the words of an object's record say.
-use Rattle.std.proofs.Common.{◌≡◌, ℕ, suc, ◌+◌, ◌-◌, ◌/◌, ◌%◌, ◌<◌, ◌≤◌, ◌==◌, Bool, true, false, inl, inr, List, [], ◌∷◌, length, get_or, drop, refl, sym, ◌∙◌, ap, subst, arith, if◌then◌else◌, Option, Some, None, is_some, lit≤}
+use Rattle.std.proofs.Common.{◌≡◌, ℕ, suc, ◌+◌, ◌-◌, ◌/◌, ◌%◌, ◌<◌, ◌≤◌, ◌==◌, Bool, true, false, inl, inr, List, [], ◌∷◌, length, get_or, drop, refl, sym, ◌∙◌, ap, subst, arith, if◌then◌else◌, Option, Some, None, is_some, lit≤, IsTrue, not, ◌&&◌}
 use Rattle.jc_transient.specs.declared.cell.ClearEvent.{ClearEvent}
 use Rattle.jc_transient.specs.declared.cell.ClearEvent.TheVariants.{Reset, Deselect}
 use Rattle.jc_heap.specs.declared.object.Kind.{Kind}
@@ -11,9 +11,9 @@ use Rattle.jc_heap.specs.declared.object.Facts.{Facts}
 use Rattle.jc_heap.specs.Table.{at_or, has}
 use Rattle.jc_heap.specs.Object.{AnObject, APackage, object_of, cells_of, facts_of, is_object, is_header, payload, kind_of, event_of}
 use Rattle.jc_heap.specs.Image.{image, base, package_addresses, is_package, sizes, item, records, missing, IsLaid}
-use Rattle.jc_heap.specs.Heap.{heap_of, read_image, item_at, cells, facts, IsObject}
+use Rattle.jc_heap.specs.Heap.{heap_of, read_image, item_at, names, cells, facts, IsObject}
 use Rattle.jc_heap.proofs.Records.{at_or-cut, has_behind, length-record}
-use Rattle.jc_heap.proofs.Tables.{at_or-map, at_or-map_absent}
+use Rattle.jc_heap.proofs.Tables.{at_or-map, at_or-map_absent, has-map}
 
 -- the facts that a header's words say, and the word behind it
 abbrev pub said : ℕ → ℕ → ℕ → ℕ → ℕ → Facts
@@ -146,6 +146,25 @@ module _ (ws : List ℕ) (r : ℕ) (laid : IsLaid ws) (there : IsObject (heap_of
       ap (λ t. length (cells_of t)) item_is
       ∙ cells-object_of rec whole_record (omega (arith, record_within, laid.fits)) (ap (λ w. w / 256) first_word ∙ e)
       ∙ (word_is 3 (omega (arith, four))).1
+
+-- what stands at an address and is no package is an object
+pub object_at : (ws : List ℕ) (r : ℕ) → names (heap_of ws) r ≡ true → is_package (package_addresses (image ws)) r ≡ false → IsObject (heap_of ws) r
+unfolding read_image item_at names
+object_at ws r named other =
+    let there : has (records (image ws)) r ≡ true = sym (has-map (item (package_addresses (image ws))) (records (image ws)) r) ∙ named in
+    ap is_object (at_or-map (item (package_addresses (image ws))) [] (APackage []) (records (image ws)) r there)
+    ∙ ap (λ b. is_object (if b then APackage (at_or [] (records (image ws)) r) else AnObject (object_of (at_or [] (records (image ws)) r)))) other
+
+names_found : (ws : List ℕ) (r : ℕ) → names (heap_of ws) r ≡ has (records (image ws)) r
+unfolding read_image names
+names_found ws r = has-map (item (package_addresses (image ws))) (records (image ws)) r
+
+-- by what a walk finds at an address, and by the packages' addresses
+pub object_here : (ws : List ℕ) (r : ℕ) → IsLaid ws → (begins other : Bool) → begins ≡ has (records (image ws)) r → other ≡ is_package (package_addresses (image ws)) r →
+    (IsTrue (begins && not other) → IsObject (heap_of ws) r) × (IsObject (heap_of ws) r → IsTrue (begins && not other))
+object_here ws r laid true false b p = (λ _. object_at ws r (names_found ws r ∙ sym b) (sym p), λ _. refl)
+object_here ws r laid true true b p = (λ t. absurd (false≢true t), λ o. absurd (false≢true (sym (no_package ws r laid o) ∙ sym p)))
+object_here ws r laid false other b p = (λ t. absurd (false≢true t), λ o. absurd (false≢true (b ∙ named ws r laid o)))
 
 -- where an object's header stands
 pub record Spot (j : State) (r : ℕ) : Type 0 where

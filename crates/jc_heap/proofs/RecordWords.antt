@@ -142,7 +142,7 @@ bare-with_word : (t : Item) (j v : ℕ) → bare (with_word t j v) ≡ bare t
 bare-with_word (AnObject o) j v = refl
 bare-with_word (APackage ws) j v = ap (λ n. APackage (replicate n 0)) (length-set ws j v)
 
-bare-set_word : (h : HeapState) (r j v q : ℕ) → bare (item_at (set_word h r j v) q) ≡ bare (item_at h q)
+pub bare-set_word : (h : HeapState) (r j v q : ℕ) → bare (item_at (set_word h r j v) q) ≡ bare (item_at h q)
 bare-set_word = of_item-set_word bare bare-with_word
 
 pub shape-set_word : (d h : HeapState) (r j v : ℕ) → SameShape d h → SameShape d (set_word h r j v)

@@ -63,8 +63,8 @@ abbrev kept_of : List ℕ → Bool → List ℕ
 kept_of places g = if g then places else []
 
 -- a change of more words than there can be entries has no room
-pub no_room : (v : HeapView) (places : List ℕ) → capacity < length places → has_room_for v places ≡ false
-no_room v places h = elim v.begun as (λ g. (if g then nat_le (length v.touched + length (kept_of places g)) capacity else nat_le (length places) capacity) ≡ false) [
+pub too_many : (v : HeapView) (places : List ℕ) → capacity < length places → has_room_for v places ≡ false
+too_many v places h = elim v.begun as (λ g. (if g then nat_le (length v.touched + length (kept_of places g)) capacity else nat_le (length places) capacity) ≡ false) [
   | true ↦ lt-leb (length v.touched + length places) capacity (omega arith)
   | false ↦ lt-leb (length places) capacity h
 ]

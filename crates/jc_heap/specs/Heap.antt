@@ -1,5 +1,5 @@
 -- The heap that words stand for, and the changes of a heap.
-use Rattle.std.specs.Prelude.{ℕ, suc, ◌+◌, ◌≡◌, ◌<◌, ◌≤◌, ◌==◌, Bool, true, false, List, [], ◌∷◌, ◌++◌, map, take, drop, length, slice_index, Option, Some, None, if◌then◌else◌, ◌&&◌, nat_lt, nat_le}
+use Rattle.std.specs.Prelude.{ℕ, suc, ◌+◌, ◌-◌, ◌≡◌, ◌<◌, ◌≤◌, ◌==◌, Bool, true, false, List, [], ◌∷◌, ◌++◌, map, take, drop, length, slice_index, Option, Some, None, if◌then◌else◌, ◌&&◌, nat_lt, nat_le}
 use Rattle.std.specs.List.{list_any}
 use Rattle.jc_words.specs.Count.{raised}
 use Rattle.jc_words.specs.Layout.{top_address, packages_address, applets_address, reset_end_address, deselect_end_address, registry_start, registry_length}
@@ -10,7 +10,7 @@ use Rattle.jc_transient.specs.declared.cell.ClearEvent.{ClearEvent}
 use Rattle.jc_transient.specs.declared.cell.ClearEvent.TheVariants.{Reset, Deselect}
 use Rattle.jc_transient.specs.State.{area_size}
 use Rattle.jc_heap.specs.declared.object.Kind.{Kind}
-use Rattle.jc_heap.specs.Object.{Object, new_transient, Item, AnObject, APackage, cells_of, with_cell, bare, facts_of, is_object}
+use Rattle.jc_heap.specs.Object.{Object, new_transient, transient_size, Item, AnObject, APackage, cells_of, with_cell, bare, facts_of, is_object}
 use Rattle.jc_heap.specs.Table.{at_or, has, put}
 use Rattle.jc_heap.specs.Image.{image, package_addresses, item_entry, records, table_text, IsLaid}
 
@@ -89,7 +89,7 @@ area_place Deselect = deselect_end_address
 
 -- a new transient object behind the others, whose cells are the first free ones of its area
 unfoldable pub add_transient : HeapState → Kind → ClearEvent → ℕ → ℕ → ℕ → HeapState
-add_transient h kind event class owner long = with_area_end (add_object h (new_transient kind event class owner long (area_end h event)) 5) event (area_end h event + long)
+add_transient h kind event class owner long = with_area_end (add_object h (new_transient kind event class owner long (area_end h event)) transient_size) event (area_end h event + long)
 
 -- the cells of a persistent object from an index on are these
 abbrev pub set_cells : HeapState → ℕ → ℕ → List ℕ → HeapState
@@ -159,6 +159,10 @@ kept v places = if v.begun then places else []
 -- how many word writes it is to change these places
 abbrev pub writes_for : HeapView → List ℕ → ℕ
 writes_for v places = if v.begun then writes_inside (length places) (length (kept v places)) else writes_outside (length places)
+
+-- how many more words' old values the transaction can keep
+abbrev pub room_left : HeapView → ℕ
+room_left v = capacity - length v.touched
 
 -- there is room for a change of these places, in the open transaction or in one of its own
 abbrev pub has_room_for : HeapView → List ℕ → Bool

@@ -1,22 +1,22 @@
 //! A heap: reading, cells, transactions.
-ghost use Rattle.std.specs.Prelude.{ℕ, take, ◌≡◌, ◌<◌, ◌≤◌, [], ◌∷◌, true, false, Ok, Err, length, slice_index, OnOk, OnErr, ◌+◌, ◌/◌, ◌==◌, if◌then◌else◌, ◌↔◌, None, IfSome};
+ghost use Rattle.std.specs.Prelude.{ℕ, take, ◌≡◌, ◌<◌, ◌≤◌, [], ◌∷◌, true, false, Ok, Err, length, slice_index, OnOk, OnErr, ◌+◌, ◌/◌, ◌==◌, if◌then◌else◌, ◌↔◌, IsTrue, None, IfSome};
 ghost use Rattle.jc_words.specs.Layout.{text_start};
 ghost use Rattle.jc_commit.specs.Image.{capacity, count_of, plain_of, recovered_of, IsGoodLog};
 ghost use Rattle.jc_commit.specs.Entries.{addresses_of};
 ghost use Rattle.jc_heap.specs.Object.{IsElement};
 ghost use Rattle.jc_heap.specs.Image.{IsLaid};
-ghost use Rattle.jc_heap.specs.Heap.{HeapView, HeapState, heap_of, heap_view, IsSound, cells, facts, IsObject, HasEnd, next_object, set_cell, set_cells, run_words, changed, cell_place, IsStopped, has_room_for, begun, committed, aborted, resting, KeepsBelowTop};
+ghost use Rattle.jc_heap.specs.Heap.{HeapView, HeapState, heap_of, heap_view, IsSound, cells, facts, IsObject, HasEnd, next_object, set_cell, set_cells, run_words, changed, cell_place, IsStopped, has_room_for, room_left, begun, committed, aborted, resting, KeepsBelowTop};
 ghost use Rattle.jc_heap.specs.declared.place.Place.TheVariants.{Cell};
-ghost use Rattle.jc_heap.specs.Moves.{Write, SetCells, Begin, Commit, Abort, Made, Done, Makes, MakesUnless, after_of, full_at};
+ghost use Rattle.jc_heap.specs.Moves.{Write, SetCells, Begin, Commit, Abort, Made, Makes, MakesUnless, after_change, after_step, no_room, no_run};
 
 use crate::layout::HEADER;
 use crate::object::Facts;
 use crate::place::Place;
-use crate::lookup::{facts_at, next_behind};
-use crate::refusal::HeapRefusal;
+use crate::lookup::{facts_at, is_object_at, next_behind};
+use crate::refusal::ChangeRefusal;
 use jc_commit::Journal;
 use jc_transient::Ref;
-use jc_words::WordStore;
+use jc_words::{StoreDown, WordStore};
 use jc_words::layout::{JOURNAL_CAPACITY, TOP};
 use std::marker::Model;
 
@@ -105,9 +105,18 @@ impl<S: WordStore> Heap<S> {
     pub fn top(&self) -> u16
         requires { self.now.down ≡ false }
         ensures top { result ≡ self.now.now.top }
+        ensures some { 0 < result }
         ensures end { HasEnd self.now.now }
     {
         self.journal.read(TOP)
+    }
+
+    /// Whether a word is the reference of an object. It takes a walk over the heap.
+    pub fn is_object(&self, word: u16) -> bool
+        requires { self.now.down ≡ false }
+        ensures { IsTrue result ↔ IsObject self.now.now word }
+    {
+        is_object_at(&self.journal, word)
     }
 
     /// The object behind another one in the order of addresses, or the first one of all behind null.
@@ -121,36 +130,32 @@ impl<S: WordStore> Heap<S> {
     }
 
     /// Sets a cell of a persistent object.
-    pub fn set(&mut self, object: Ref, i: u16, v: u16) -> Result<(), HeapRefusal>
+    pub fn set(&mut self, object: Ref, i: u16, v: u16) -> Result<(), ChangeRefusal>
         requires up { self.old.down ≡ false }
         requires cell { i < length (cells self.old.now object) }
         requires value { IsElement (facts self.old.now object).kind v }
-        ensures moves { MakesUnless (full_at self.old (cell_place object i ∷ [])) self.old (after_of result self.new) (Write (Cell object i) v ∷ []) tt }
+        ensures moves { MakesUnless (no_room self.old (Cell object i ∷ [])) self.old (after_change result self.new) (Write (Cell object i) v ∷ []) tt }
         ensures done { OnOk result (self.new ≡ changed self.old (set_cell self.old.now object i v) (cell_place object i ∷ []) 0) }
-        ensures full { (result ≡ Err HeapRefusal.CommitFull) ↔ (has_room_for self.old (cell_place object i ∷ []) ≡ false) }
-        ensures kept { result ≡ Err HeapRefusal.CommitFull → self.new ≡ self.old }
-        ensures stopped { result ≡ Err HeapRefusal.StoreDown → IsStopped self.old self.new }
-        ensures space { result ≡ Err HeapRefusal.HeapFull → ⊥ }
-        ensures area { result ≡ Err HeapRefusal.NoTransientSpace → ⊥ }
+        ensures full { (result ≡ Err ChangeRefusal.CommitFull) ↔ (has_room_for self.old (cell_place object i ∷ []) ≡ false) }
+        ensures kept { result ≡ Err ChangeRefusal.CommitFull → self.new ≡ self.old }
+        ensures stopped { result ≡ Err ChangeRefusal.StoreDown → IsStopped self.old self.new }
     {
         self.write(Place::Cell(object, i), v)
     }
 
     /// Sets the cells of a persistent object from an index on, as one change.
-    pub fn set_run(&mut self, object: Ref, i: u16, values: &[u16]) -> Result<(), HeapRefusal>
+    pub fn set_run(&mut self, object: Ref, i: u16, values: &[u16]) -> Result<(), ChangeRefusal>
         requires up { self.old.down ≡ false }
         requires cells { i + length values.now ≤ length (cells self.old.now object) }
         requires values { (k : ℕ) → k < length values.now → IsElement (facts self.old.now object).kind (slice_index values.now k) }
-        ensures moves { MakesUnless (full_at self.old (addresses_of (run_words (cell_place object i) values.now))) self.old (after_of result self.new) (SetCells object i values.now ∷ []) tt }
+        ensures moves { MakesUnless (no_run self.old object i values.now) self.old (after_change result self.new) (SetCells object i values.now ∷ []) tt }
         ensures done { OnOk result (self.new ≡ changed self.old (set_cells self.old.now object i values.now) (addresses_of (run_words (cell_place object i) values.now)) 0) }
-        ensures full { (result ≡ Err HeapRefusal.CommitFull) ↔ (has_room_for self.old (addresses_of (run_words (cell_place object i) values.now)) ≡ false) }
-        ensures kept { result ≡ Err HeapRefusal.CommitFull → self.new ≡ self.old }
-        ensures stopped { result ≡ Err HeapRefusal.StoreDown → IsStopped self.old self.new }
-        ensures space { result ≡ Err HeapRefusal.HeapFull → ⊥ }
-        ensures area { result ≡ Err HeapRefusal.NoTransientSpace → ⊥ }
+        ensures full { (result ≡ Err ChangeRefusal.CommitFull) ↔ (has_room_for self.old (addresses_of (run_words (cell_place object i) values.now)) ≡ false) }
+        ensures kept { result ≡ Err ChangeRefusal.CommitFull → self.new ≡ self.old }
+        ensures stopped { result ≡ Err ChangeRefusal.StoreDown → IsStopped self.old self.new }
     {
         if values.len() > MOST_CHANGES {
-            return Err(HeapRefusal::CommitFull);
+            return Err(ChangeRefusal::CommitFull);
         }
         let mut changes = [(0, 0); MOST_CHANGES];
         let at = self.run_word(object, i, values);
@@ -161,14 +166,17 @@ impl<S: WordStore> Heap<S> {
 
     /// Whether a transaction is open.
     pub fn is_open(&self) -> bool
-        ensures { result ≡ self.now.begun }
+        ensures open { result ≡ self.now.begun }
+        // Outside a transaction a loss of power leaves the heap as it is.
+        ensures settled { self.now.down ≡ false → result ≡ false → self.now.durable ≡ self.now.now }
     {
         self.journal.is_open()
     }
 
     /// How many more places' old values the transaction can keep.
     pub fn room(&self) -> u16
-        ensures { result + length self.now.touched ≡ capacity }
+        ensures left { result ≡ room_left self.now }
+        ensures within { result + length self.now.touched ≡ capacity }
     {
         self.journal.room()
     }
@@ -179,33 +187,32 @@ impl<S: WordStore> Heap<S> {
         requires outside { self.old.begun ≡ false }
         ensures moves { Makes {A = Unit {0}} self.old (Made tt self.new) (Begin ∷ []) tt }
         ensures done { self.new ≡ begun self.old }
+        ensures settled { self.old.durable ≡ self.old.now }
         ensures none { self.old.touched ≡ [] }
     {
         self.journal.begin();
     }
 
     /// Ends the transaction, whose changes then stay.
-    pub fn commit(&mut self) -> Result<(), HeapRefusal>
+    pub fn commit(&mut self) -> Result<(), StoreDown>
         requires up { self.old.down ≡ false }
         requires inside { self.old.begun ≡ true }
-        ensures moves { Makes self.old (after_of result self.new) (Commit ∷ []) (Done tt) }
+        ensures moves { Makes self.old (after_step result self.new) (Commit ∷ []) tt }
         ensures done { OnOk result (self.new ≡ committed self.old) }
         ensures stopped { OnErr result (IsStopped self.old self.new) }
-        ensures only_down { OnErr result (result ≡ Err HeapRefusal.StoreDown) }
     {
         self.journal.commit()?;
         Ok(())
     }
 
     /// Takes the transaction back. Of what stood, what stands below the new top is left.
-    pub fn abort(&mut self) -> Result<(), HeapRefusal>
+    pub fn abort(&mut self) -> Result<(), StoreDown>
         requires up { self.old.down ≡ false }
         requires inside { self.old.begun ≡ true }
-        ensures moves { Makes self.old (after_of result self.new) (Abort ∷ []) (Done tt) }
+        ensures moves { Makes self.old (after_step result self.new) (Abort ∷ []) tt }
         ensures done { OnOk result (self.new ≡ aborted self.old) }
         ensures names { OnOk result (KeepsBelowTop self.old.now self.new.now) }
         ensures stopped { OnErr result (IsStopped self.old self.new) }
-        ensures only_down { OnErr result (result ≡ Err HeapRefusal.StoreDown) }
     {
         self.journal.abort()?;
         Ok(())

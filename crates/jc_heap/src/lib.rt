@@ -26,5 +26,5 @@ pub use law::{
 };
 pub use object::{Facts, Kind};
 pub use package::{Component, StaticArray};
-pub use place::Place;
-pub use refusal::HeapRefusal;
+pub use place::{AppletEntry, Place};
+pub use refusal::{ChangeRefusal, HeapRefusal};

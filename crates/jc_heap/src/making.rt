@@ -1,26 +1,17 @@
 //! New objects.
 ghost use Rattle.std.specs.Prelude.{IsTrue, ◌≡◌, ◌<◌, ◌≤◌, [], ◌∷◌, true, false, Ok, Err, length, OnOk, OnErr, IfOk, Some, replicate, ◌+◌, ◌↔◌};
-ghost use Rattle.jc_commit.specs.State.{has_room_for as journal_has_room};
 ghost use Rattle.jc_heap.specs.Object.{new_object, new_transient, header_word};
 ghost use Rattle.jc_heap.specs.Heap.{changed, add_object, end_place, IsStopped, has_room_for, LacksSpace, names, IsObject, cells, facts, add_transient, area_end, area_place, LacksCells};
-ghost use Rattle.jc_heap.specs.Moves.{AddObject, AddTransient, MakesUnless, after_of, no_object, no_transient};
+ghost use Rattle.jc_heap.specs.Moves.{AddTransient, MakesUnless, after_making, new_move, no_new, no_transient};
 
 use crate::fresh::{write_record, write_run};
 use crate::heap::Heap;
 use crate::layout::{HEADER, area_word};
 use crate::object::Kind;
 use crate::refusal::HeapRefusal;
-use jc_commit::Journal;
 use jc_transient::{AREA_CELLS, ClearEvent, Ref};
 use jc_words::WordStore;
 use jc_words::layout::TOP;
-
-// The journal has no room for a change of these words.
-pub(crate) fn lacks_room<S: WordStore>(journal: &Journal<S>, addresses: &[u16]) -> bool
-    ensures { IsTrue result ↔ (journal_has_room journal.now addresses.now ≡ false) }
-{
-    !journal.fits(addresses)
-}
 
 impl<S: WordStore> Heap<S> {
     /// Makes a persistent object whose cells are zero.
@@ -32,7 +23,7 @@ impl<S: WordStore> Heap<S> {
         length: u16,
     ) -> Result<Ref, HeapRefusal>
         requires { self.old.down ≡ false }
-        ensures moves { MakesUnless (no_object self.old (4 + length) (end_place ∷ [])) self.old (after_of result self.new) (AddObject (new_object kind class owner length) (4 + length) ∷ []) self.old.now.top }
+        ensures moves { MakesUnless (no_new self.old length) self.old (after_making result self.new) (new_move kind class owner length ∷ []) self.old.now.top }
         ensures object { IfOk result (λ r. IsObject self.new.now r) }
         ensures cells { IfOk result (λ r. cells self.new.now r ≡ replicate length 0) }
         ensures facts { IfOk result (λ r. facts self.new.now r ≡ (new_object kind class owner length).facts) }
@@ -43,14 +34,13 @@ impl<S: WordStore> Heap<S> {
         ensures heap_full_kept { result ≡ Err HeapRefusal.HeapFull → self.new ≡ self.old }
         ensures full { result ≡ Err HeapRefusal.CommitFull → (self.new ≡ self.old) × (has_room_for self.old (end_place ∷ []) ≡ false) }
         ensures stopped { result ≡ Err HeapRefusal.StoreDown → IsStopped self.old self.new }
-        ensures area { result ≡ Err HeapRefusal.NoTransientSpace → ⊥ }
     {
         let top = self.journal.read(TOP);
         let end = u32::from(top) + u32::from(HEADER) + u32::from(length);
         if end > u32::from(self.size) {
             return Err(HeapRefusal::HeapFull);
         }
-        if lacks_room(&self.journal, &[TOP]) {
+        if !self.journal.fits(&[TOP]) {
             return Err(HeapRefusal::CommitFull);
         }
         let header = [kind.number(), class, owner, length];
@@ -75,7 +65,7 @@ impl<S: WordStore> Heap<S> {
         length: u16,
     ) -> Result<Ref, HeapRefusal>
         requires { self.old.down ≡ false }
-        ensures moves { MakesUnless (no_transient self.old event length) self.old (after_of result self.new) (AddTransient kind event class owner length ∷ []) self.old.now.top }
+        ensures moves { MakesUnless (no_transient self.old event length) self.old (after_making result self.new) (AddTransient kind event class owner length ∷ []) self.old.now.top }
         ensures object { IfOk result (λ r. IsObject self.new.now r) }
         ensures facts { IfOk result (λ r. facts self.new.now r ≡ (new_transient kind event class owner length (area_end self.old.now event)).facts) }
         ensures named { IfOk result (λ r. r ≡ self.old.now.top) }
@@ -98,7 +88,7 @@ impl<S: WordStore> Heap<S> {
         if end > u32::from(self.size) {
             return Err(HeapRefusal::HeapFull);
         }
-        if lacks_room(&self.journal, &[TOP, end_word]) {
+        if !self.journal.fits(&[TOP, end_word]) {
             return Err(HeapRefusal::CommitFull);
         }
         let record = [header_of(kind, event), class, owner, length, place];

@@ -108,6 +108,8 @@ fn a_package_is_read_back(rt: HostRuntime) -> Result<(), Fail> {
     );
     let at = first_package(&heap)?;
     assert_eq!(rt; at, added);
+    // The array stands behind the record, and a record is no object.
+    assert!(rt; heap.is_object(761) && !heap.is_object(752) && !heap.is_object(0));
     assert_eq!(rt; heap.component(at, 5), None);
     let Some(span) = heap.component(at, 4) else {
         return Err("no component")?;

@@ -1,17 +1,17 @@
 //! An image that is laid, sealed and opened.
 ghost use Rattle.std.specs.Prelude.{◌≡◌, ◌<◌, false, [], ◌∷◌, length};
-ghost use Rattle.jc_heap.specs.Moves.{Begin, Commit, Done, Makes, after_of};
+ghost use Rattle.jc_heap.specs.Moves.{Begin, Commit, Makes, after_step};
 
-use jc_heap::{Heap, HeapRefusal, Kind};
+use jc_heap::{Heap, Kind};
 use jc_image::{OpenImage, first_free, lay, seal};
-use jc_words::{FuseStore, MemStore, WordStore};
+use jc_words::{FuseStore, MemStore, StoreDown, WordStore};
 use std::test::Fail;
 
 // Two calls, one after the other: their moves are those of both.
-fn begin_and_commit<S: WordStore>(heap: &mut Heap<S>) -> Result<(), HeapRefusal>
+fn begin_and_commit<S: WordStore>(heap: &mut Heap<S>) -> Result<(), StoreDown>
     requires up { heap.old.down ≡ false }
     requires outside { heap.old.begun ≡ false }
-    ensures { Makes heap.old (after_of result heap.new) (Begin ∷ Commit ∷ []) (Done tt) }
+    ensures { Makes heap.old (after_step result heap.new) (Begin ∷ Commit ∷ []) tt }
 {
     heap.begin();
     heap.commit()

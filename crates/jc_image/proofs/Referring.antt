@@ -1,25 +1,18 @@
 -- The references that the cells of a heap hold.
-use Rattle.std.proofs.Common.{◌≡◌, ℕ, zero, suc, ◌+◌, ◌/◌, ◌%◌, ◌<◌, ◌≤◌, ◌||◌, not, Bool, true, false, inl, inr, List, [], ◌∷◌, length, get_or, drop, map, refl, sym, ◌∙◌, ap, subst, arith, if◌then◌else◌}
+use Rattle.std.proofs.Common.{◌≡◌, ℕ, zero, suc, ◌+◌, ◌/◌, ◌%◌, ◌<◌, ◌≤◌, ◌||◌, not, Bool, true, false, inl, inr, List, [], ◌∷◌, length, get_or, drop, map, refl, sym, ◌∙◌, ap, subst, arith}
 use Rattle.std.proofs.lemmas.Bool.{cases_eq, cases_Bool, eq-eqb, ne_eqb, false≢true}
 use Rattle.jc_words.specs.Layout.{top_address}
 use Rattle.jc_heap.specs.declared.object.Kind.TheVariants.{Instance, BooleanArray, ByteArray, ShortArray, ReferenceArray}
 use Rattle.jc_heap.specs.Cut.{Sizes, cut}
 use Rattle.jc_heap.specs.Table.{at_or, has}
-use Rattle.jc_heap.specs.Object.{Item, AnObject, APackage, object_of, is_object, facts_of, cells_of, kind_of}
-use Rattle.jc_heap.specs.Image.{image, base, package_addresses, is_package, sizes, item, item_entry, records, IsLaid}
-use Rattle.jc_heap.specs.Heap.{HeapState, heap_of, read_image, item_at, names, IsObject}
+use Rattle.jc_heap.specs.Object.{Item, APackage, facts_of, cells_of, kind_of}
+use Rattle.jc_heap.specs.Image.{image, base, package_addresses, is_package, sizes, item, item_entry, IsLaid}
+use Rattle.jc_heap.specs.Heap.{HeapState, heap_of, read_image, item_at}
 use Rattle.jc_image.specs.Steps.{IsAt, item_from}
 use Rattle.jc_heap.specs.Whole.{IsReference, HoldsReferences}
-use Rattle.jc_heap.proofs.Tables.{at_or-map, has-map}
+use Rattle.jc_heap.proofs.Tables.{has-map}
 use Rattle.jc_heap.proofs.Records.{has_behind}
 use Rattle.jc_image.proofs.Stepping.{package_here, facts_here, cells_long, cell_here, transient_cells}
-
-pub object_at : (ws : List ℕ) (r : ℕ) → names (heap_of ws) r ≡ true → is_package (package_addresses (image ws)) r ≡ false → IsObject (heap_of ws) r
-unfolding read_image item_at names
-object_at ws r named other =
-    let there : has (records (image ws)) r ≡ true = sym (has-map (item (package_addresses (image ws))) (records (image ws)) r) ∙ named in
-    ap is_object (at_or-map (item (package_addresses (image ws))) [] (APackage []) (records (image ws)) r there)
-    ∙ ap (λ b. is_object (if b then APackage (at_or [] (records (image ws)) r) else AnObject (object_of (at_or [] (records (image ws)) r)))) other
 
 -- a kind's number
 kind_five : (n : ℕ) → kind_of n ≡ ReferenceArray → n ≡ 5

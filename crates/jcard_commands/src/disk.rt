@@ -5,7 +5,7 @@ ghost use Rattle.jcard_commands.specs.Asked.{asked, more};
 ghost use Rattle.jcard_commands.specs.Images.{IsNotMade, IsNotOpened, IsNotRead};
 
 use crate::fault::{Damage, Fault};
-use jc_words::{FileCreateFault, FileOpenFault, FileStore};
+use jc_words::{FileCreateFault, FileOpenFault, FileStore, StdFile};
 use std::alloc::Global;
 use std::fs;
 use std::marker::Model;
@@ -45,7 +45,10 @@ impl<'a, R: Files + AllocGlobal> Disk<'a, R> {
     }
 
     /// Opens the image of this name.
-    pub fn open_image<'n>(&mut self, image: &'n str) -> Result<FileStore<R::File>, Fault<'n>>
+    pub fn open_image<'n>(
+        &mut self,
+        image: &'n str,
+    ) -> Result<FileStore<StdFile<R::File>>, Fault<'n>>
         ensures size { IfOk result (λ store. IsImageSize (2 * length store.words)) }
         ensures fresh { IfOk result (λ store. (store.passed ≡ 0) × (store.refused ≡ 0)) }
         ensures refused { IfErr result (λ fault. IsNotOpened image.now fault) }
@@ -54,7 +57,9 @@ impl<'a, R: Files + AllocGlobal> Disk<'a, R> {
         self.opened = self.opened.saturating_add(1);
         match FileStore::open(self.rt, image) {
             Ok(store) => Ok(store),
-            Err(FileOpenFault::CannotRead) => Err(Fault::CannotRead(image)),
+            Err(FileOpenFault::CannotOpen | FileOpenFault::CannotRead) => Err(Fault::CannotRead(
+                image,
+            )),
             Err(FileOpenFault::BadSize) => Err(Fault::BadImage(Damage::Size)),
             Err(FileOpenFault::NoMemory) => Err(Fault::NoMemory),
         }
@@ -77,7 +82,7 @@ impl<'a, R: Files + AllocGlobal> Disk<'a, R> {
         &mut self,
         image: &'n str,
         n: u16,
-    ) -> Result<FileStore<R::File>, Fault<'n>>
+    ) -> Result<FileStore<StdFile<R::File>>, Fault<'n>>
         ensures words { IfOk result (λ store. store.words ≡ replicate n 0) }
         ensures refused { IfErr result (λ fault. IsNotMade image.now fault) }
         ensures counted { self.new ≡ more (asked 0 1) self.old }

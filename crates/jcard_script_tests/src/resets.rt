@@ -10,7 +10,7 @@ use std::test::Fail;
 /// A line of a script and the line that is printed for it.
 type Row = (&'static str, &'static str);
 
-const ROWS: [Row; 22] = [
+const ROWS: [Row; 24] = [
     // -32768 / -1
     ("8010020006118000024778", "80009000"),
     // sushr of -1 by 17, and by 1
@@ -39,6 +39,9 @@ const ROWS: [Row; 22] = [
     ("80100100057003110478", "00019000"),
     // return
     ("80100000017A", "9000"),
+    // 255 locals and room for 255 cells; the last local
+    ("8010FFFF017A", "9000"),
+    ("801001FF0316FE78", "00009000"),
     // a loop that returns by its 100,000th instruction, and one with an instruction more
     ("801001010F1182332F0000005900FF1C61FC1C78", "00009000"),
     ("80100101101182332F000000005900FF1C61FC1C78", "6F00"),

@@ -7,6 +7,8 @@ mod decoding;
 #[cfg(test)]
 mod faults;
 #[cfg(test)]
+mod framing;
+#[cfg(test)]
 mod instructions;
 #[cfg(test)]
 mod jumps;

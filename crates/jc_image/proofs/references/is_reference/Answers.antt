@@ -3,7 +3,8 @@ use Rattle.std.proofs.lemmas.Bool.{false≢true}
 use Rattle.jc_heap.specs.Heap.{heap_of, names}
 use Rattle.jc_heap.proofs.Reading.{no_package}
 use Rattle.jc_heap.proofs.Laws.{object_named}
-use Rattle.jc_image.proofs.Referring.{object_at, not_true}
+use Rattle.jc_heap.proofs.Reading.{object_at}
+use Rattle.jc_image.proofs.Referring.{not_true}
 use Rattle.jc_image.proofs.references.is_reference.Goals as goal
 
 pub returns-then-marks-from : goal.returns-then-marks-from

@@ -6,12 +6,12 @@ use Rattle.jc_heap.specs.Heap.{cell_place, run_words, IsSound, heap_view, has_ro
 use Rattle.jc_heap.specs.Moves.{SetCells, full_at}
 use Rattle.jc_heap.proofs.Calls.{ok_not_err, not_false, room_is, is_full, not_full, unless_refused, unless_done}
 use Rattle.jc_heap.proofs.Changing.{up_is, refusal_cases, journal_stopped_sound}
-use Rattle.jc_heap.proofs.Runs.{no_room, length-addresses, places_of_run, distinct-run, run_view, run_sound}
+use Rattle.jc_heap.proofs.Runs.{too_many, length-addresses, places_of_run, distinct-run, run_view, run_sound}
 use Rattle.jc_heap.proofs.heap.Heap.set_run.Goals as goal
 
 pub returns-then-values-gt-MOST_CHANGES-clause-full : goal.returns-then-values-gt-MOST_CHANGES-clause-full
 returns-then-values-gt-MOST_CHANGES-clause-full g c =
-    ((λ _. no_room c.args.self.now (addresses_of (run_words (cell_place c.args.object c.args.i) c.args.values.now)) (omega (arith, length-addresses (cell_place c.args.object c.args.i) c.args.values.now))), λ _. refl)
+    ((λ _. too_many c.args.self.now (addresses_of (run_words (cell_place c.args.object c.args.i) c.args.values.now)) (omega (arith, length-addresses (cell_place c.args.object c.args.i) c.args.values.now))), λ _. refl)
 
 pub write_all-requires-clause-places : goal.write_all-requires-clause-places
 write_all-requires-clause-places g c =
@@ -42,7 +42,7 @@ returns-clause-done g c =
 pub returns-then-values-gt-MOST_CHANGES-clause-moves : goal.returns-then-values-gt-MOST_CHANGES-clause-moves
 returns-then-values-gt-MOST_CHANGES-clause-moves g c =
     let places : List ℕ = addresses_of (run_words (cell_place c.args.object c.args.i) c.args.values.now) in
-    unless_refused (full_at c.args.self.now places) c.args.self.now c.args.self.now CommitFull (SetCells c.args.object c.args.i c.args.values.now ∷ []) tt (is_full c.args.self.now places (no_room c.args.self.now places (omega (arith, length-addresses (cell_place c.args.object c.args.i) c.args.values.now)))) refl
+    unless_refused (full_at c.args.self.now places) c.args.self.now c.args.self.now CommitFull (SetCells c.args.object c.args.i c.args.values.now ∷ []) tt (is_full c.args.self.now places (too_many c.args.self.now places (omega (arith, length-addresses (cell_place c.args.object c.args.i) c.args.values.now)))) refl
 
 pub returns-clause-moves : goal.returns-clause-moves
 returns-clause-moves g c =
