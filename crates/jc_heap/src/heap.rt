@@ -12,12 +12,13 @@ ghost use Rattle.jc_heap.specs.Moves.{Write, SetCells, Begin, Commit, Abort, Mad
 use crate::layout::HEADER;
 use crate::object::Facts;
 use crate::place::Place;
-use crate::lookup::{facts_at, is_object_at, next_behind};
+use crate::lookup::{facts_at, next_behind};
 use crate::refusal::ChangeRefusal;
+use crate::walk::{begins_package, begins_record};
 use jc_commit::Journal;
 use jc_transient::Ref;
 use jc_words::{StoreDown, WordStore};
-use jc_words::layout::{JOURNAL_CAPACITY, TOP};
+use jc_words::layout::{JOURNAL_CAPACITY, TEXT_LENGTH, TEXT_START, TOP};
 use std::marker::Model;
 
 // How many words one change may have.
@@ -116,7 +117,12 @@ impl<S: WordStore> Heap<S> {
         requires { self.now.down ≡ false }
         ensures { IsTrue result ↔ IsObject self.now.now word }
     {
-        is_object_at(&self.journal, word)
+        let text = u32::from(self.journal.read(TEXT_LENGTH));
+        let from = TEXT_START + (text + 1) / 2;
+        if !begins_record(&self.journal, from as u16, word) {
+            return false;
+        }
+        !begins_package(&self.journal, word)
     }
 
     /// The object behind another one in the order of addresses, or the first one of all behind null.
