@@ -4,7 +4,7 @@ use Rattle.jc_heap.specs.Packed.{packed}
 use Rattle.jc_heap.proofs.FreshRuns.{keeps_then}
 use Rattle.jc_heap.proofs.Packing.{length-addresses}
 use Rattle.jc_heap.proofs.Streams.{piece_more}
-use Rattle.jc_heap.proofs.record.write_image.Goals as goal
+use Rattle.jc_heap.proofs.record.write_static_image.Goals as goal
 
 pub returns-in_err-write_packed-clause-below : goal.returns-in_err-write_packed-clause-below
 returns-in_err-write_packed-clause-below g c = keeps_then c.args.at (length c.args.arrays.now) c.args.journal.now c.write_references.new.journal c.write_packed.new.journal c.write_references.ensures.below c.write_packed.ensures.below
