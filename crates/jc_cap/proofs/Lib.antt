@@ -1,3 +1,3 @@
 pub mod Told
 pub mod Checked
-pub mod Said
+pub mod Named

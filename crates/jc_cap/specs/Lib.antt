@@ -5,3 +5,4 @@ pub mod Reading
 pub mod Sizes
 pub mod Fitting
 pub mod Assembling
+pub mod Packages
