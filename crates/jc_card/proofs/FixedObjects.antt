@@ -3,7 +3,7 @@ use Rattle.std.proofs.Common.{◌≡◌, ℕ, Bool, ◌+◌, ◌<◌, ◌≤◌,
 use Rattle.std.proofs.lemmas.Bool.{lt-ltb, le-ltb, eq-eqb, ne_eqb, true≢false}
 use Rattle.std.proofs.lemmas.List.{append-nil, append_assoc}
 use Rattle.std.proofs.lemmas.Option.{none-some}
-use Rattle.jc_words.specs.Image.{magic, version}
+use Rattle.jc_words.specs.Layout.{magic, version}
 use Rattle.jc_transient.specs.State.{area_size}
 use Rattle.jc_transient.specs.declared.cell.ClearEvent.{ClearEvent}
 use Rattle.jc_transient.specs.declared.cell.ClearEvent.TheVariants.{Reset, Deselect}
@@ -13,8 +13,8 @@ use Rattle.jc_heap.specs.Object.{Item, AnObject, APackage, is_object, facts_of, 
 use Rattle.jc_heap.specs.Heap.{HeapState, HeapView, add_transient, add_object, area_end, first_above, next_object, item_at, facts, names}
 use Rattle.jc_heap.specs.Whole.{IsWhole, IsFilled}
 use Rattle.jc_heap.proofs.Keeping.{empty_whole, transient_whole}
-use Rattle.jc_heap.specs.Laying.{laid_heap, sealed}
-use Rattle.jc_heap.specs.Beginning.{Follow, BeginsWith}
+use Rattle.jc_image.specs.Laying.{laid_heap, sealed}
+use Rattle.jc_image.specs.Beginning.{Follow, BeginsWith}
 use Rattle.jc_heap.specs.declared.object.Facts.{Facts}
 use Rattle.jc_platform.specs.Tokens.{Tokens}
 use Rattle.jc_card.specs.declared.fixed.FixedObject.{FixedObject}

@@ -1,7 +1,7 @@
 -- A new image is one that the product makes.
 use Rattle.std.proofs.Common.{◌≡◌, ℕ, ◌≤◌, List, length, sym, subst, Ok, Err}
 use Rattle.std.specs.Prelude.{Result, IfOk}
-use Rattle.jc_words.specs.Image.{least_size}
+use Rattle.jc_words.specs.Layout.{least_size}
 use Rattle.jc_commit.specs.Image.{IsGoodLog, recovered_of}
 use Rattle.jc_heap.specs.Image.{IsLaid}
 use Rattle.jc_heap.specs.Heap.{heap_of}

@@ -3,16 +3,17 @@ use Rattle.std.proofs.Common.{◌≡◌, ℕ, ◌+◌, ◌/◌, ◌≤◌, ◌<�
 use Rattle.std.specs.Prelude.{Result, IsOk, IfErr, OnOk, Option, Some, None}
 use Rattle.std.proofs.lemmas.Bool.{false≢true}
 use Rattle.std.proofs.lemmas.List.{get_or-take}
-use Rattle.jc_words.specs.Image.{magic, version, HasSize}
+use Rattle.jc_words.specs.Image.{HasSize}
 use Rattle.jc_words.specs.declared.image.ImageFault.{ImageFault}
+use Rattle.jc_words.specs.Layout.{magic_address, version_address, size_address, text_length_address, text_start, magic, version}
 use Rattle.jc_commit.specs.Image.{IsGoodLog, recovered_of}
 use Rattle.jc_heap.specs.Image.{IsLaid, base, image}
 use Rattle.jc_heap.specs.Heap.{heap_of}
-use Rattle.jc_heap.specs.Beginning.{BeginsWith}
+use Rattle.jc_image.specs.Beginning.{BeginsWith}
 use Rattle.jc_heap.proofs.RawWords.{recovered-front, head_is, text_is}
 use Rattle.jc_heap.proofs.Following.{base_is}
 use Rattle.jc_transient.specs.declared.cell.ClearEvent.TheVariants.{Reset}
-use Rattle.jc_heap.proofs.TextBytes.{length-table_text}
+use Rattle.jc_image.proofs.TextBytes.{length-table_text}
 use Rattle.jc_platform.specs.Tokens.{Tokens}
 use Rattle.jc_platform.specs.Table.{Reads}
 use Rattle.jc_platform.specs.Distinct.{class_word}
@@ -27,11 +28,11 @@ use Rattle.jc_card.specs.declared.power_up.PowerFault.TheVariants.{BadMagic, Bad
 
 -- the first words were asked for
 pub head_found : (r : Result Unit ImageFault) (w : List ℕ) → ((f : ImageFault) → r ≡ Err f → ⊥) →
-    (IsOk r → (get_or w 0 0 ≡ magic) × (get_or w 1 0 ≡ version) × HasSize w) → HasHead w
-head_found (Ok u) w n f = let h : (get_or w 0 0 ≡ magic) × (get_or w 1 0 ≡ version) × HasSize w = f refl in record { magic = h.0; version = h.1; size = h.2 }
+    (IsOk r → (get_or w magic_address 0 ≡ magic) × (get_or w version_address 0 ≡ version) × HasSize w) → HasHead w
+head_found (Ok u) w n f = let h : (get_or w magic_address 0 ≡ magic) × (get_or w version_address 0 ≡ version) × HasSize w = f refl in record { magic = h.0; version = h.1; size = h.2 }
 head_found (Err e) w n f = absurd (n e refl)
 
-three : (w : List ℕ) → 3 ≤ length w → take 3 w ≡ get_or w 0 0 ∷ get_or w 1 0 ∷ get_or w 2 0 ∷ []
+three : (w : List ℕ) → 3 ≤ length w → take 3 w ≡ get_or w magic_address 0 ∷ get_or w version_address 0 ∷ get_or w size_address 0 ∷ []
 three [] h = absurd (omega arith)
 three (a ∷ []) h = absurd (omega arith)
 three (a ∷ b ∷ []) h = absurd (omega arith)
@@ -51,7 +52,7 @@ made_found w head log t table heap = record {
 }
 
 -- a table's text is not longer than a table may be
-pub too_long : (w : List ℕ) → 16384 < get_or w 10 0 → (t : Tokens) → HasTable w t → ⊥
+pub too_long : (w : List ℕ) → 16384 < get_or w text_length_address 0 → (t : Tokens) → HasTable w t → ⊥
 too_long w h t table = omega (arith, table.1.0, length-table_text w)
 
 same_class : (t u : Tokens) → ((c : PlatformClass) → class_word t c ≡ class_word u c) → (class : Option PlatformClass) → class_number_of t class ≡ class_number_of u class
@@ -71,9 +72,9 @@ has_head w made =
     let word : (k : ℕ) → k < 3 → get_or w k 0 ≡ get_or (magic ∷ version ∷ length w ∷ []) k 0 = λ k h. sym (get_or-take 3 w k 0 h) ∙ ap (λ l. get_or l k 0) (head_made w made) in
     record { magic = word 0 (lit< tt); version = word 1 (lit< tt); size = record { told = word 2 (lit< tt); enough = made.heap.enough } }
 
-text_fits : (w : List ℕ) → IsLaid w → 752 + (get_or w 10 0 + 1) / 2 ≤ length w
+text_fits : (w : List ℕ) → IsLaid w → text_start + (get_or w text_length_address 0 + 1) / 2 ≤ length w
 text_fits w laid =
-    let b : base (image w) ≡ 752 + (get_or w 10 0 + 1) / 2 = base_is w laid in
+    let b : base (image w) ≡ text_start + (get_or w text_length_address 0 + 1) / 2 = base_is w laid in
     omega (arith, laid.based, laid.fits, b)
 
 has_table : (w : List ℕ) (t : Tokens) → IsLaid w → Reads (heap_of w).text (Ok t) → HasTable w t
@@ -127,7 +128,7 @@ mapped_on (Ok a) P Q f p = f p
 mapped_on (Err e) P Q f p = tt
 
 -- no fault of the first words where they are an image's
-pub no_image_fault : (r : Result Unit ImageFault) (f : ImageFault) (w : List ℕ) → r ≡ Err f → ((get_or w 0 0 ≡ magic) × (get_or w 1 0 ≡ version) × HasSize w → IsOk r) → IsMade w → ⊥
+pub no_image_fault : (r : Result Unit ImageFault) (f : ImageFault) (w : List ℕ) → r ≡ Err f → ((get_or w magic_address 0 ≡ magic) × (get_or w version_address 0 ≡ version) × HasSize w → IsOk r) → IsMade w → ⊥
 no_image_fault r f w is ok made =
     let h : HasHead w = has_head w made in
     false≢true (subst IsOk is (ok (h.magic, h.version, h.size)))

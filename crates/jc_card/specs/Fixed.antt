@@ -5,7 +5,7 @@ use Rattle.jc_transient.specs.State.{buffer_size}
 use Rattle.jc_transient.specs.declared.cell.ClearEvent.TheVariants.{Reset}
 use Rattle.jc_heap.specs.declared.object.Kind.TheVariants.{Instance, ByteArray}
 use Rattle.jc_heap.specs.declared.object.Facts.{Facts}
-use Rattle.jc_heap.specs.Beginning.{BeginsWith}
+use Rattle.jc_image.specs.Beginning.{BeginsWith}
 use Rattle.jc_heap.specs.Heap.{HeapState, add_transient}
 use Rattle.jc_platform.specs.Tokens.{Tokens}
 use Rattle.jc_platform.specs.Distinct.{class_word}

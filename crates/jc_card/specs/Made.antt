@@ -1,11 +1,11 @@
 -- The images that the product makes.
 use Rattle.std.specs.Prelude.{ℕ, ◌≡◌, ◌≤◌, List, [], ◌∷◌, length, Ok}
-use Rattle.jc_words.specs.Image.{magic, version, least_size}
+use Rattle.jc_words.specs.Layout.{magic, version, least_size}
 use Rattle.jc_commit.specs.Image.{IsGoodLog, recovered_of}
 use Rattle.jc_heap.specs.Image.{IsLaid}
 use Rattle.jc_heap.specs.Heap.{HeapState, heap_of}
 use Rattle.jc_heap.specs.Whole.{IsWhole}
-use Rattle.jc_heap.specs.Laying.{laid_heap, sealed}
+use Rattle.jc_image.specs.Laying.{laid_heap, sealed}
 use Rattle.jc_platform.specs.Tokens.{Tokens}
 use Rattle.jc_platform.specs.Table.{Reads}
 use Rattle.jc_card.specs.Fixed.{fixed_objects, BeginsWithFixed, with_objects}

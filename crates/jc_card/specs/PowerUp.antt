@@ -1,8 +1,9 @@
 -- Powering up: why words don't, and what a refusal leaves.
 use Rattle.std.specs.Prelude.{ℕ, ◌≡◌, ◌≢◌, ◌+◌, ◌/◌, ◌≤◌, List, length, slice_index, Ok}
-use Rattle.jc_words.specs.Image.{magic, version, HasSize}
+use Rattle.jc_words.specs.Image.{HasSize}
 use Rattle.jc_words.specs.declared.image.ImageFault.{ImageFault}
 use Rattle.jc_words.specs.declared.image.ImageFault.TheVariants.{BadMagic as NoMagic, BadVersion as OtherVersion, BadSize as NoSize}
+use Rattle.jc_words.specs.Layout.{magic_address, version_address, text_length_address, text_start, magic, version}
 use Rattle.jc_commit.specs.Image.{IsGoodLog, StillRecovers, plain_of, recovered_of, count_of}
 use Rattle.jc_heap.specs.Image.{IsLaid, table_text}
 use Rattle.jc_heap.specs.Heap.{heap_of}
@@ -21,13 +22,13 @@ fault_of NoSize = BadSize
 
 -- the first words are those of an image
 pub record HasHead (w : List ℕ) : Type 0 where
-  pub magic : slice_index w 0 ≡ magic
-  pub version : slice_index w 1 ≡ version
+  pub magic : slice_index w magic_address ≡ magic
+  pub version : slice_index w version_address ≡ version
   pub size : HasSize w
 
 -- the table text is there, and this is the table that it spells
 abbrev pub HasTable : List ℕ → Tokens → Type 0
-HasTable w t = (752 + (slice_index w 10 + 1) / 2 ≤ length w) × Reads (table_text w) (Ok t)
+HasTable w t = (text_start + (slice_index w text_length_address + 1) / 2 ≤ length w) × Reads (table_text w) (Ok t)
 
 -- a whole heap that begins with the objects of the runtime environment
 abbrev pub HasHeap : Tokens → List ℕ → Type 0
@@ -46,9 +47,9 @@ Fails StoreDown w = ⊥
 
 -- why words don't power up, each cause before the next
 abbrev pub Refuses : PowerFault → List ℕ → Type 0
-Refuses BadMagic w = slice_index w 0 ≢ magic
-Refuses BadVersion w = (slice_index w 0 ≡ magic) × (slice_index w 1 ≢ version)
-Refuses BadSize w = (slice_index w 0 ≡ magic) × (slice_index w 1 ≡ version) × (HasSize w → ⊥)
+Refuses BadMagic w = slice_index w magic_address ≢ magic
+Refuses BadVersion w = (slice_index w magic_address ≡ magic) × (slice_index w version_address ≢ version)
+Refuses BadSize w = (slice_index w magic_address ≡ magic) × (slice_index w version_address ≡ version) × (HasSize w → ⊥)
 Refuses BadLog w = HasHead w × (IsGoodLog w → ⊥)
 Refuses BadTable w = HasHead w × IsGoodLog w × Fails BadTable (recovered_of w)
 Refuses BadPackage w = HasHead w × IsGoodLog w × Fails BadPackage (recovered_of w)
@@ -71,3 +72,25 @@ Stands BadTable old new = IsRecovered (recovered_of old) new
 Stands BadPackage old new = IsRecovered (recovered_of old) new
 Stands NoMemory old new = IsRecovered (recovered_of old) new
 Stands StoreDown old new = StillRecovers old new
+
+-- the faults that are found before a recovery, by reading alone
+abbrev pub IsFoundFirst : PowerFault → Type 0
+IsFoundFirst BadMagic = Unit {0}
+IsFoundFirst BadVersion = Unit {0}
+IsFoundFirst BadSize = Unit {0}
+IsFoundFirst BadLog = Unit {0}
+IsFoundFirst BadTable = ⊥
+IsFoundFirst BadPackage = ⊥
+IsFoundFirst NoMemory = ⊥
+IsFoundFirst StoreDown = ⊥
+
+-- the faults that are found after it, by reading alone
+abbrev pub IsFoundAfter : PowerFault → Type 0
+IsFoundAfter BadMagic = ⊥
+IsFoundAfter BadVersion = ⊥
+IsFoundAfter BadSize = ⊥
+IsFoundAfter BadLog = ⊥
+IsFoundAfter BadTable = Unit {0}
+IsFoundAfter BadPackage = Unit {0}
+IsFoundAfter NoMemory = Unit {0}
+IsFoundAfter StoreDown = ⊥

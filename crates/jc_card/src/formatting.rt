@@ -1,7 +1,8 @@
 //! Making an image.
 ghost use Rattle.std.specs.Prelude.{ℕ, ◌≡◌, ◌≢◌, ◌<◌, ◌≤◌, ◌+◌, ◌⊎◌, ◌↔◌, true, false, length, slice_index, Ok, Err, IfOk, IfErr, OnOk, OnErr, IsErrOf, Result};
-ghost use Rattle.jc_words.specs.Image.{least_size, magic};
-ghost use Rattle.jc_heap.specs.Laying.{first_free};
+ghost use Rattle.jc_words.specs.Count.{raised};
+ghost use Rattle.jc_words.specs.Layout.{magic_address, magic, least_size};
+ghost use Rattle.jc_image.specs.Laying.{first_free};
 ghost use Rattle.jc_heap.specs.Heap.{heap_of};
 ghost use Rattle.jc_commit.specs.Image.{recovered_of};
 ghost use Rattle.jc_platform.specs.Tokens.{Tokens};
@@ -9,11 +10,13 @@ ghost use Rattle.jc_platform.specs.Table.{Reads};
 ghost use Rattle.jc_card.specs.Made.{IsMade, formatted};
 
 use crate::fixed::make_fixed;
-use jc_heap::{Heap, first_free};
+use jc_heap::Heap;
+use jc_image::{first_free, lay, seal};
 use jc_platform::fault::TableFault;
 use jc_platform::read::read_table;
 use jc_platform::table::Table;
-use jc_words::{LEAST_SIZE, WordStore};
+use jc_words::WordStore;
+use jc_words::layout::LEAST_SIZE;
 use thiserror::Error;
 
 /// How many words the objects of the runtime environment take.
@@ -43,11 +46,13 @@ pub fn format<S: WordStore>(store: S, text: &[u8]) -> (S, Result<(), FormatFault
     ensures heap { OnOk result.1 ((t : Tokens) × Reads text.now (Ok t) × (heap_of (recovered_of (S.words result.0)) ≡ formatted (length (S.words store)) text.now t)) }
     ensures size { OnOk result.1 (length (S.words result.0) ≡ length (S.words store)) }
     ensures up { OnOk result.1 (S.down result.0 ≡ false) }
+    ensures none_refused { OnOk result.1 (S.refused result.0 ≡ S.refused store) }
+    // These refusals come in this order, and before anything is written; a store that is down counts last.
     ensures bad_size { (result.1 ≡ Err FormatFault.BadSize) ↔ (length (S.words store) < least_size) }
-    ensures bad_table { (line : ℕ) → result.1 ≡ Err (FormatFault.BadTable line) → (least_size ≤ length (S.words store)) × Reads text.now (Err (TableFault.BadTable line)) }
-    ensures too_small { result.1 ≡ Err FormatFault.TooSmall → (least_size ≤ length (S.words store)) × (length (S.words store) < first_free (length text.now) + 85) × ((t : Tokens) × Reads text.now (Ok t)) }
+    ensures bad_table { (line : ℕ) → (result.1 ≡ Err (FormatFault.BadTable line)) ↔ ((least_size ≤ length (S.words store)) × Reads text.now (Err (TableFault.BadTable line))) }
+    ensures too_small { (result.1 ≡ Err FormatFault.TooSmall) ↔ ((least_size ≤ length (S.words store)) × ((t : Tokens) × Reads text.now (Ok t)) × (length (S.words store) < first_free (length text.now) + 85)) }
     ensures kept { OnErr result.1 ((result.1 ≡ Err FormatFault.StoreDown → ⊥) → result.0 ≡ store) }
-    ensures stopped { result.1 ≡ Err FormatFault.StoreDown → (S.down result.0 ≡ true) × ((S.words result.0 ≡ S.words store) ⊎ (slice_index (S.words result.0) 0 ≢ magic)) }
+    ensures stopped { result.1 ≡ Err FormatFault.StoreDown → (S.down result.0 ≡ true) × (S.refused result.0 ≡ raised (S.refused store) 1) × ((S.words result.0 ≡ S.words store) ⊎ (slice_index (S.words result.0) magic_address ≢ magic)) }
 {
     let size = store.size();
     if size < LEAST_SIZE {
@@ -75,12 +80,14 @@ fn make_image<S: WordStore>(store: S, text: &[u8], table: &Table) -> Result<S, S
     ensures heap { IfOk result (λ s. heap_of (recovered_of (S.words s)) ≡ formatted (length (S.words store)) text.now table.now) }
     ensures size { IfOk result (λ s. length (S.words s) ≡ length (S.words store)) }
     ensures up { IfOk result (λ s. S.down s ≡ false) }
+    ensures none_refused { IfOk result (λ s. S.refused s ≡ S.refused store) }
+    ensures refused { IfErr result (λ s. S.refused s ≡ raised (S.refused store) 1) }
     ensures down { IfErr result (λ s. S.down s ≡ true) }
-    ensures unmarked { IfErr result (λ s. (S.words s ≡ S.words store) ⊎ (slice_index (S.words s) 0 ≢ magic)) }
+    ensures unmarked { IfErr result (λ s. (S.words s ≡ S.words store) ⊎ (slice_index (S.words s) magic_address ≢ magic)) }
 {
-    let mut heap = Heap::lay(store, text)?;
+    let mut heap = lay(store, text)?;
     let Ok(()) = make_fixed(&mut heap, table) else {
         return Err(heap.into_store());
     };
-    heap.seal()
+    seal(heap)
 }

@@ -3,16 +3,8 @@ ghost use Rattle.std.specs.Prelude.{◌≡◌, MatchResult};
 ghost use Rattle.jc_card.specs.Inventory.{inventory_of};
 ghost use Rattle.jc_card.specs.PowerUp.{HasHead, Refuses, fault_of};
 
+use jc_words::layout::{APPLETS, COUNT, PACKAGES};
 use jc_words::{ImageFault, WordStore, check_image};
-
-/// The word with the number of entries that count.
-const JOURNAL: u16 = 3;
-
-/// The word with the number of packages.
-const PACKAGES: u16 = 6;
-
-/// The word with the number of applets.
-const APPLETS: u16 = 7;
 
 /// What an image holds, as its words stand: nothing is recovered.
 #[derive(Clone, Copy, Debug, PartialEq, Eq, Drop)]
@@ -37,7 +29,7 @@ impl Inventory {
         check_image(store)?;
         Ok(Inventory {
             words: store.size(),
-            journal: store.read(JOURNAL),
+            journal: store.read(COUNT),
             packages: store.read(PACKAGES),
             applets: store.read(APPLETS),
         })

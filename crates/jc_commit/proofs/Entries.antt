@@ -2,7 +2,8 @@
 use Rattle.std.proofs.Common.{◌≡◌, ℕ, ◌+◌, ◌*◌, ◌<◌, ◌≤◌, List, length, get_or, set, take, slice_index, sym, ◌∙◌, ap, subst, arith, ⊎_elim, get_or-set_other, get_or-set_same}
 use Rattle.std.proofs.lemmas.List.{length-set, length-take, get_or-take}
 use Rattle.std.proofs.lemmas.Bool.{cases_lt}
-use Rattle.jc_commit.specs.Image.{log_start, log_end, capacity, IsPlace, address_at, old_at}
+use Rattle.jc_commit.specs.Image.{capacity, IsPlace, address_at, old_at}
+use Rattle.jc_words.specs.Layout.{log_start, log_end}
 use Rattle.jc_commit.specs.Entries.{ArePlaces, SameBefore, HasEntries}
 
 pub same_after : (old w v : List ℕ) (first slot x y : ℕ) → log_start + 2 * first ≤ slot → slot + 1 < log_end → v ≡ set (set w slot x) (slot + 1) y → SameBefore first old w → SameBefore first old v

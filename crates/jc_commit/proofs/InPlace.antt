@@ -4,7 +4,8 @@ use Rattle.std.specs.List.{list_any}
 use Rattle.std.proofs.Common.{◌≡◌, ℕ, ◌≤◌, ◌⊎◌, Bool, true, false, cond, List, [], ◌∷◌, Option, Some, None, unwrap_or, length, map, set, take, slice_index, eqb, refl, sym, ◌∙◌, ap, subst, arith, ⊎_elim, get_or-set_other, get_or-set_same}
 use Rattle.std.proofs.lemmas.List.{length-set, take-set-le}
 use Rattle.std.proofs.lemmas.Bool.{cases_Bool, cases_eq, false≢true}
-use Rattle.jc_commit.specs.Image.{words_by, IsReadable, IsUnlogged, top_address, IsGoodLog, entries, old_value, plain_of, recovered_of, touched_of, top_of, log_end}
+use Rattle.jc_commit.specs.Image.{words_by, IsReadable, IsUnlogged, IsGoodLog, entries, old_value, plain_of, recovered_of, touched_of, top_of}
+use Rattle.jc_words.specs.Layout.{top_address, log_end}
 use Rattle.jc_commit.specs.Entries.{ArePlaces}
 use Rattle.jc_commit.specs.State.{live}
 use Rattle.jc_commit.proofs.Words.{readable, is_log-readable, get_or-words_by, words_by-set, length-words_by}

@@ -1,16 +1,17 @@
 //! Transactions over a store of words.
 ghost use Rattle.std.specs.Prelude.{◌≡◌, ◌<◌, ◌≤◌, ◌+◌, ◌^◌, ◌==◌, ◌↔◌, Bool, true, false, [], ◌∷◌, length, slice_index, Ok, Err, OnOk, OnErr, IfOk, IfErr, is_ok, if◌then◌else◌};
 ghost use Rattle.jc_words.specs.Count.{raised};
-ghost use Rattle.jc_commit.specs.Image.{count_of, plain_of, recovered_of, top_of, log_end, registry_start, capacity, IsGoodLog, IsPlace, IsReadable, IsUnlogged, StillRecovers};
+ghost use Rattle.jc_commit.specs.Image.{count_of, plain_of, recovered_of, top_of, capacity, IsGoodLog, IsPlace, IsReadable, IsUnlogged, StillRecovers};
+ghost use Rattle.jc_words.specs.Layout.{log_end, addresses_start};
 ghost use Rattle.jc_commit.specs.Entries.{addresses_of, AreDistinct, ArePlaces};
 ghost use Rattle.jc_commit.specs.Replay.{IsPartOfReplay};
 ghost use Rattle.jc_commit.specs.State.{State, live, undo_writes, refusing, written_in_place, opened, resumed, has_room_for, Changes, IsStopped, IsPartlyReplayed};
 
 use crate::check::is_good_log;
-use crate::layout::{CAPACITY, COUNT};
 use crate::log::log_and_write;
 use crate::refusal::{OpenRefusal, WriteRefusal};
 use crate::undo::replay;
+use jc_words::layout::{COUNT, JOURNAL_CAPACITY};
 use jc_words::{StoreDown, WordStore};
 use std::marker::Model;
 
@@ -127,7 +128,7 @@ impl<S: WordStore> Journal<S> {
     pub fn room(&self) -> u16
         ensures { result + length self.now.touched ≡ capacity }
     {
-        CAPACITY - self.store.read(COUNT)
+        JOURNAL_CAPACITY - self.store.read(COUNT)
     }
 
     /// Whether the journal has room for one change of the words with these distinct addresses.
@@ -135,9 +136,9 @@ impl<S: WordStore> Journal<S> {
         ensures { result ≡ has_room_for self.now addresses.now }
     {
         if self.in_transaction {
-            return addresses.len() <= (CAPACITY - self.store.read(COUNT)) as usize;
+            return addresses.len() <= (JOURNAL_CAPACITY - self.store.read(COUNT)) as usize;
         }
-        addresses.len() <= CAPACITY as usize
+        addresses.len() <= JOURNAL_CAPACITY as usize
     }
 
     /// Begins a transaction. Nothing is written.
@@ -186,6 +187,7 @@ impl<S: WordStore> Journal<S> {
         ensures err { OnErr result (self.new ≡ record (refusing self.old) { plain = self.new.plain; passed = self.new.passed }) }
         // The words are those of a recovery that was stopped.
         ensures part { OnErr result (IsPartlyReplayed self.old self.new) }
+        ensures size { length self.new.plain ≡ length self.old.plain }
     {
         replay(&mut self.store)?;
         self.in_transaction = false;
@@ -216,7 +218,7 @@ impl<S: WordStore> Journal<S> {
     pub fn write_fresh(&mut self, address: u16, value: u16) -> Result<(), StoreDown>
         requires up { self.old.down ≡ false }
         requires size { address < length self.old.plain }
-        requires place { registry_start ≤ address }
+        requires place { addresses_start ≤ address }
         requires above { top_of self.old.plain ≤ address }
         requires above_recovered { top_of self.old.recovered ≤ address }
         ensures ok { OnOk result (self.new ≡ written_in_place self.old address value) }
@@ -267,7 +269,7 @@ impl<S: WordStore> Journal<S> {
         ensures stopped { result ≡ Err WriteRefusal.StoreDown → IsStopped self.old self.new }
     {
         let count = self.store.read(COUNT);
-        if changes.len() > (CAPACITY - count) as usize {
+        if changes.len() > (JOURNAL_CAPACITY - count) as usize {
             return Err(WriteRefusal::Full);
         }
         if changes.is_empty() {
@@ -288,7 +290,7 @@ impl<S: WordStore> Journal<S> {
     {
         // What holds of every journal is known from here on.
         let _ = &self.store;
-        if changes.len() > CAPACITY as usize {
+        if changes.len() > JOURNAL_CAPACITY as usize {
             return Err(WriteRefusal::Full);
         }
         if changes.is_empty() {

@@ -2,13 +2,11 @@
 #![tactic(auto)]
 
 mod check;
+mod entry;
 mod journal;
 mod law;
-mod layout;
 mod log;
 mod refusal;
-#[cfg(test)]
-mod tests;
 mod undo;
 
 pub use journal::Journal;

@@ -1,6 +1,7 @@
 -- A record behind a whole table.
 use Rattle.std.proofs.Common.{◌≡◌, ℕ, zero, suc, ◌+◌, ◌/◌, ◌<◌, ◌≤◌, false, List, [], ◌∷◌, ◌++◌, length, take, drop, set, get_or, map, refl, sym, ◌∙◌, ap, arith, lit<, if◌then◌else◌}
 use Rattle.std.proofs.lemmas.List.{get_or_append_left, get_or-set_other, get_or-set_same, get_or-take, take-set-le, drop-set-lt, drop-append-le, take-append-le, length-drop, length-set, length-append, take_all, map-append, set-append_left, length-take-le, take-take}
+use Rattle.jc_words.specs.Layout.{top_address, packages_address, applets_address, reset_end_address, deselect_end_address, text_length_address, addresses_start, most_packages, registry_start, registry_length, text_start}
 use Rattle.jc_heap.specs.Cut.{Sizes, cut, lacking}
 use Rattle.jc_heap.specs.Object.{Item, AnObject, APackage, object_of, payload}
 use Rattle.jc_heap.specs.Image.{image, base, package_addresses, is_package, sizes, item, item_entry, records, missing, table_text, IsLaid}
@@ -34,30 +35,30 @@ lacking-one more at [] h = absurd (omega arith)
 lacking-one more at (w ∷ ws) h = lacking-skip_all more (more at (w ∷ ws)) (suc at) ws (omega arith)
 
 -- an image with its top moved over another record
-module _ (img rec : List ℕ) (long : 752 ≤ length img) where
+module _ (img rec : List ℕ) (long : text_start ≤ length img) where
   abbrev top : ℕ
   top = length img + length rec
 
   abbrev grown : List ℕ
-  grown = set img 5 top ++ rec
+  grown = set img top_address top ++ rec
 
-  word-grown : (k : ℕ) → k < 752 → (k ≡ 5 → ⊥) → get_or grown k 0 ≡ get_or img k 0
-  word-grown k h n = get_or_append_left (set img 5 top) rec 0 k (omega (arith, length-set img 5 top)) ∙ get_or-set_other img 5 k top 0 n
+  word-grown : (k : ℕ) → k < text_start → (k ≡ top_address → ⊥) → get_or grown k 0 ≡ get_or img k 0
+  word-grown k h n = get_or_append_left (set img top_address top) rec 0 k (omega (arith, length-set img top_address top)) ∙ get_or-set_other img top_address k top 0 n
 
-  pub top-grown : get_or grown 5 0 ≡ top
-  top-grown = get_or_append_left (set img 5 top) rec 0 5 (omega (arith, length-set img 5 top)) ∙ get_or-set_same img 5 top 0 (omega arith)
+  pub top-grown : get_or grown top_address 0 ≡ top
+  top-grown = get_or_append_left (set img top_address top) rec 0 top_address (omega (arith, length-set img top_address top)) ∙ get_or-set_same img top_address top 0 (omega arith)
 
-  tail-grown : (from : ℕ) → 5 < from → from ≤ length img → drop from grown ≡ drop from img ++ rec
-  tail-grown from h le = drop-append-le from (set img 5 top) rec (omega (arith, length-set img 5 top)) ∙ ap (λ l. l ++ rec) (drop-set-lt from img 5 top h)
+  tail-grown : (from : ℕ) → top_address < from → from ≤ length img → drop from grown ≡ drop from img ++ rec
+  tail-grown from h le = drop-append-le from (set img top_address top) rec (omega (arith, length-set img top_address top)) ∙ ap (λ l. l ++ rec) (drop-set-lt from img top_address top h)
 
-  range-grown : (from n : ℕ) → 5 < from → from + n ≤ length img → take n (drop from grown) ≡ take n (drop from img)
+  range-grown : (from n : ℕ) → top_address < from → from + n ≤ length img → take n (drop from grown) ≡ take n (drop from img)
   range-grown from n h le = ap (take n) (tail-grown from h (omega arith)) ∙ take-append-le n (drop from img) rec (omega (arith, length-drop from img))
 
   pub packages-grown : package_addresses grown ≡ package_addresses img
-  packages-grown = rw (word-grown 6 (lit< tt) (λ e. omega arith), range-grown 528 32 (lit< tt) (omega arith)) refl
+  packages-grown = rw (word-grown packages_address (lit< tt) (λ e. omega arith), range-grown addresses_start most_packages (lit< tt) (omega arith)) refl
 
   pub base-grown : base grown ≡ base img
-  base-grown = rw (word-grown 10 (lit< tt) (λ e. omega arith)) refl
+  base-grown = rw (word-grown text_length_address (lit< tt) (λ e. omega arith)) refl
 
   module _ (based : base img ≤ length img) (whole : missing img ≡ 0) (own : sizes (package_addresses img) (length img) rec + 1 ≡ length rec) where
     abbrev more : Sizes
@@ -96,38 +97,38 @@ module _ (img rec : List ℕ) (long : 752 ≤ length img) where
         ap (λ ps. map (item_entry ps) (records grown)) packages-grown
         ∙ ap (map (item_entry (package_addresses img))) records-grown
         ∙ map-append (item_entry (package_addresses img)) (records img) ((length img, rec) ∷ []) in
-        let applets : take 192 (drop 560 grown) ≡ take 192 (drop 560 img) = range-grown 560 192 (lit< tt) (omega arith) in
-        let top_is : length grown ≡ length img + length rec = omega (arith, length-append (set img 5 top) rec, length-set img 5 top) in
-        let first_end : get_or grown 8 0 ≡ get_or img 8 0 = word-grown 8 (lit< tt) (λ e. omega arith) in
-        let second_end : get_or grown 9 0 ≡ get_or img 9 0 = word-grown 9 (lit< tt) (λ e. omega arith) in
-        let head : take 3 grown ≡ take 3 img = take-append-le 3 (set img 5 top) rec (omega (arith, length-set img 5 top)) ∙ take-set-le 3 img 5 top (omega arith) in
-        let text : table_text grown ≡ table_text img = text-same img grown (word-grown 10 (lit< tt) (λ e. omega arith)) (range-grown 752 ((get_or img 10 0 + 1) / 2) (lit< tt) (omega (arith, based))) in
-        let first_count : get_or grown 6 0 ≡ get_or img 6 0 = word-grown 6 (lit< tt) (λ e. omega arith) in
-        let second_count : get_or grown 7 0 ≡ get_or img 7 0 = word-grown 7 (lit< tt) (λ e. omega arith) in
+        let applets : take registry_length (drop registry_start grown) ≡ take registry_length (drop registry_start img) = range-grown registry_start registry_length (lit< tt) (omega arith) in
+        let top_is : length grown ≡ length img + length rec = omega (arith, length-append (set img top_address top) rec, length-set img top_address top) in
+        let first_end : get_or grown reset_end_address 0 ≡ get_or img reset_end_address 0 = word-grown reset_end_address (lit< tt) (λ e. omega arith) in
+        let second_end : get_or grown deselect_end_address 0 ≡ get_or img deselect_end_address 0 = word-grown deselect_end_address (lit< tt) (λ e. omega arith) in
+        let head : take 3 grown ≡ take 3 img = take-append-le 3 (set img top_address top) rec (omega (arith, length-set img top_address top)) ∙ take-set-le 3 img top_address top (omega arith) in
+        let text : table_text grown ≡ table_text img = text-same img grown (word-grown text_length_address (lit< tt) (λ e. omega arith)) (range-grown text_start ((get_or img text_length_address 0 + 1) / 2) (lit< tt) (omega (arith, based))) in
+        let first_count : get_or grown packages_address 0 ≡ get_or img packages_address 0 = word-grown packages_address (lit< tt) (λ e. omega arith) in
+        let second_count : get_or grown applets_address 0 ≡ get_or img applets_address 0 = word-grown applets_address (lit< tt) (λ e. omega arith) in
         λ k. record { head = head k; text = text k; items = items k; counts = (first_count k, second_count k); packages = packages-grown k; applets = applets k; area_ends = (first_end k, second_end k); top = top_is k }
 
 -- words whose top moves over a record that stands there
-pub IsGrown_image : (old ws rec : List ℕ) → IsLaid old → take (get_or old 5 0 + length rec) ws ≡ take (get_or old 5 0) old ++ rec → get_or old 5 0 + length rec ≤ length ws →
-    image (set ws 5 (get_or old 5 0 + length rec)) ≡ set (image old) 5 (length (image old) + length rec) ++ rec
+pub IsGrown_image : (old ws rec : List ℕ) → IsLaid old → take (get_or old top_address 0 + length rec) ws ≡ take (get_or old top_address 0) old ++ rec → get_or old top_address 0 + length rec ≤ length ws →
+    image (set ws top_address (get_or old top_address 0 + length rec)) ≡ set (image old) top_address (length (image old) + length rec) ++ rec
 IsGrown_image old ws rec laid e fits =
-    let t : ℕ = get_or old 5 0 in
-    let long : length (image old) ≡ get_or old 5 0 = length-take-le (get_or old 5 0) old laid.fits in
-    let based : 752 ≤ get_or old 5 0 = omega (arith, laid.based) in
-    let new_top : get_or (set ws 5 (get_or old 5 0 + length rec)) 5 0 ≡ get_or old 5 0 + length rec = get_or-set_same ws 5 (get_or old 5 0 + length rec) 0 (omega arith) in
-    ap (λ n. take n (set ws 5 (get_or old 5 0 + length rec))) new_top
-    ∙ take-set_comm (get_or old 5 0 + length rec) ws 5 (get_or old 5 0 + length rec)
-    ∙ ap (λ l. set l 5 (get_or old 5 0 + length rec)) e
-    ∙ set-append_left (image old) rec 5 (get_or old 5 0 + length rec) (omega arith)
-    ∙ ap (λ n. set (image old) 5 (n + length rec) ++ rec) (sym long)
+    let t : ℕ = get_or old top_address 0 in
+    let long : length (image old) ≡ get_or old top_address 0 = length-take-le (get_or old top_address 0) old laid.fits in
+    let based : text_start ≤ get_or old top_address 0 = omega (arith, laid.based) in
+    let new_top : get_or (set ws top_address (get_or old top_address 0 + length rec)) top_address 0 ≡ get_or old top_address 0 + length rec = get_or-set_same ws top_address (get_or old top_address 0 + length rec) 0 (omega arith) in
+    ap (λ n. take n (set ws top_address (get_or old top_address 0 + length rec))) new_top
+    ∙ take-set_comm (get_or old top_address 0 + length rec) ws top_address (get_or old top_address 0 + length rec)
+    ∙ ap (λ l. set l top_address (get_or old top_address 0 + length rec)) e
+    ∙ set-append_left (image old) rec top_address (get_or old top_address 0 + length rec) (omega arith)
+    ∙ ap (λ n. set (image old) top_address (n + length rec) ++ rec) (sym long)
 
-module _ (old ws rec : List ℕ) (laid : IsLaid old) (e : take (get_or old 5 0 + length rec) ws ≡ take (get_or old 5 0) old ++ rec) (fits : get_or old 5 0 + length rec ≤ length ws) (own : 3 + payload (get_or rec 0 0) (get_or rec 3 0) + 1 ≡ length rec) where
+module _ (old ws rec : List ℕ) (laid : IsLaid old) (e : take (get_or old top_address 0 + length rec) ws ≡ take (get_or old top_address 0) old ++ rec) (fits : get_or old top_address 0 + length rec ≤ length ws) (own : 3 + payload (get_or rec 0 0) (get_or rec 3 0) + 1 ≡ length rec) where
   abbrev moved : List ℕ
-  moved = set ws 5 (get_or old 5 0 + length rec)
+  moved = set ws top_address (get_or old top_address 0 + length rec)
 
-  long_image : length (image old) ≡ get_or old 5 0
-  long_image = length-take-le (get_or old 5 0) old laid.fits
+  long_image : length (image old) ≡ get_or old top_address 0
+  long_image = length-take-le (get_or old top_address 0) old laid.fits
 
-  wide : 752 ≤ length (image old)
+  wide : text_start ≤ length (image old)
   wide = omega (arith, long_image, laid.based)
 
   based_image : base (image old) ≤ length (image old)
@@ -143,37 +144,37 @@ module _ (old ws rec : List ℕ) (laid : IsLaid old) (e : take (get_or old 5 0 +
   unfolding add_object
   as_object = ap (λ b. add_item (heap_of old) (if b then APackage rec else AnObject (object_of rec)) (length rec)) free_image
 
-  is_grown : image moved ≡ set (image old) 5 (length (image old) + length rec) ++ rec
+  is_grown : image moved ≡ set (image old) top_address (length (image old) + length rec) ++ rec
   is_grown = IsGrown_image old ws rec laid e fits
 
   -- the heap then has one object more
   pub heap_of-grown : heap_of moved ≡ add_object (heap_of old) (object_of rec) (length rec)
   heap_of-grown = ap read_image is_grown ∙ read-grown (image old) rec wide based_image laid.whole own_image ∙ as_object
 
-  pub top-moved : get_or moved 5 0 ≡ get_or old 5 0 + length rec
-  top-moved = get_or-set_same ws 5 (get_or old 5 0 + length rec) 0 (omega (arith, laid.based))
+  pub top-moved : get_or moved top_address 0 ≡ get_or old top_address 0 + length rec
+  top-moved = get_or-set_same ws top_address (get_or old top_address 0 + length rec) 0 (omega (arith, laid.based))
 
   pub IsLaid-grown : IsLaid moved
   IsLaid-grown = record {
     based = let b : base (image moved) ≡ base (image old) = ap base is_grown ∙ base-grown (image old) rec wide in omega (arith, top-moved, laid.based);
-    fits = omega (arith, top-moved, length-set ws 5 (get_or old 5 0 + length rec));
+    fits = omega (arith, top-moved, length-set ws top_address (get_or old top_address 0 + length rec));
     whole = ap missing is_grown ∙ missing-grown (image old) rec wide based_image laid.whole own_image;
     packages = λ a le. ap (λ l. is_package (package_addresses l) a) is_grown ∙ ap (λ ps. is_package ps a) (packages-grown (image old) rec wide) ∙ laid.packages a (omega (arith, top-moved));
   }
 
 -- words that agree below the top stand for the same image
-pub image-same_below : (ws us : List ℕ) (at : ℕ) → 5 < at → get_or ws 5 0 ≤ at → take at us ≡ take at ws → image us ≡ image ws
+pub image-same_below : (ws us : List ℕ) (at : ℕ) → top_address < at → get_or ws top_address 0 ≤ at → take at us ≡ take at ws → image us ≡ image ws
 image-same_below ws us at five h e =
-    let top : get_or us 5 0 ≡ get_or ws 5 0 = sym (get_or-take at us 5 0 five) ∙ ap (λ l. get_or l 5 0) e ∙ get_or-take at ws 5 0 five in
-    ap (λ n. take n us) top ∙ sym (take-take (get_or ws 5 0) at us h) ∙ ap (take (get_or ws 5 0)) e ∙ take-take (get_or ws 5 0) at ws h
+    let top : get_or us top_address 0 ≡ get_or ws top_address 0 = sym (get_or-take at us top_address 0 five) ∙ ap (λ l. get_or l top_address 0) e ∙ get_or-take at ws top_address 0 five in
+    ap (λ n. take n us) top ∙ sym (take-take (get_or ws top_address 0) at us h) ∙ ap (take (get_or ws top_address 0)) e ∙ take-take (get_or ws top_address 0) at ws h
 
-pub top-same_below : (ws us : List ℕ) (at : ℕ) → 5 < at → take at us ≡ take at ws → get_or us 5 0 ≡ get_or ws 5 0
-top-same_below ws us at five e = sym (get_or-take at us 5 0 five) ∙ ap (λ l. get_or l 5 0) e ∙ get_or-take at ws 5 0 five
+pub top-same_below : (ws us : List ℕ) (at : ℕ) → top_address < at → take at us ≡ take at ws → get_or us top_address 0 ≡ get_or ws top_address 0
+top-same_below ws us at five e = sym (get_or-take at us top_address 0 five) ∙ ap (λ l. get_or l top_address 0) e ∙ get_or-take at ws top_address 0 five
 
-pub IsLaid-same_below : (ws us : List ℕ) (at : ℕ) → 5 < at → get_or ws 5 0 ≤ at → take at us ≡ take at ws → length us ≡ length ws → IsLaid ws → IsLaid us
+pub IsLaid-same_below : (ws us : List ℕ) (at : ℕ) → top_address < at → get_or ws top_address 0 ≤ at → take at us ≡ take at ws → length us ≡ length ws → IsLaid ws → IsLaid us
 IsLaid-same_below ws us at five h e long laid =
     let same : image us ≡ image ws = image-same_below ws us at five h e in
-    let top : get_or us 5 0 ≡ get_or ws 5 0 = top-same_below ws us at five e in
+    let top : get_or us top_address 0 ≡ get_or ws top_address 0 = top-same_below ws us at five e in
     record {
       based = let b : base (image us) ≡ base (image ws) = ap base same in omega (arith, laid.based);
       fits = omega (arith, laid.fits);

@@ -1,15 +1,16 @@
 -- The ends of the areas of transient cells.
 use Rattle.std.proofs.Common.{◌≡◌, ℕ, ◌+◌, ◌/◌, ◌<◌, ◌≤◌, List, length, take, drop, set, get_or, map, refl, ◌∙◌, ap, arith, lit<}
 use Rattle.std.proofs.lemmas.List.{get_or-set_other, get_or-set_same, get_or-take, take-set-le, drop-set-lt, length-set, length-take-le}
+use Rattle.jc_words.specs.Layout.{top_address, packages_address, applets_address, reset_end_address, deselect_end_address, text_length_address, addresses_start, registry_start, registry_length, text_start}
 use Rattle.jc_transient.specs.declared.cell.ClearEvent.{ClearEvent}
 use Rattle.jc_transient.specs.declared.cell.ClearEvent.TheVariants.{Reset, Deselect}
 use Rattle.jc_heap.specs.Cut.{cut, lacking}
 use Rattle.jc_heap.specs.Image.{image, base, package_addresses, is_package, sizes, item_entry, records, missing, table_text, IsLaid}
-use Rattle.jc_heap.specs.Heap.{HeapState, read_image, heap_of, area_end, with_area_end, area_place, SameShape, item_at, names}
+use Rattle.jc_heap.specs.Heap.{HeapState, read_image, heap_of, area_end, with_area_end, area_end_address, SameShape, item_at, names}
 use Rattle.jc_heap.proofs.Images.{image-set, text-same}
 
 -- an image with another end of an area
-module _ (img : List ℕ) (a v : ℕ) (wide : 752 ≤ length img) (low : 7 < a) (high : a < 10) where
+module _ (img : List ℕ) (a v : ℕ) (wide : text_start ≤ length img) (low : packages_address < a) (high : a < text_length_address) where
   word : (k : ℕ) → (k ≡ a → ⊥) → get_or (set img a v) k 0 ≡ get_or img k 0
   word k ne = get_or-set_other img a k v 0 ne
 
@@ -17,10 +18,10 @@ module _ (img : List ℕ) (a v : ℕ) (wide : 752 ≤ length img) (low : 7 < a) 
   tail from h = drop-set-lt from img a v h
 
   pub addresses-end : package_addresses (set img a v) ≡ package_addresses img
-  addresses-end = rw (word 6 (λ e. omega arith), tail 528 (omega arith)) refl
+  addresses-end = rw (word packages_address (λ e. omega arith), tail addresses_start (omega arith)) refl
 
   pub base-end : base (set img a v) ≡ base img
-  base-end = rw (word 10 (λ e. omega arith)) refl
+  base-end = rw (word text_length_address (λ e. omega arith)) refl
 
   records-end : records (set img a v) ≡ records img
   records-end =
@@ -38,14 +39,14 @@ module _ (img : List ℕ) (a v : ℕ) (wide : 752 ≤ length img) (low : 7 < a) 
   pub items-end : map (item_entry (package_addresses (set img a v))) (records (set img a v)) ≡ map (item_entry (package_addresses img)) (records img)
   items-end = ap (λ ps. map (item_entry ps) (records (set img a v))) addresses-end ∙ ap (map (item_entry (package_addresses img))) records-end
 
-  pub applets-end : take 192 (drop 560 (set img a v)) ≡ take 192 (drop 560 img)
-  applets-end = ap (take 192) (tail 560 (omega arith))
+  pub applets-end : take registry_length (drop registry_start (set img a v)) ≡ take registry_length (drop registry_start img)
+  applets-end = ap (take registry_length) (tail registry_start (omega arith))
 
   pub head-end : take 3 (set img a v) ≡ take 3 img
   head-end = take-set-le 3 img a v (omega arith)
 
   pub text-end : table_text (set img a v) ≡ table_text img
-  text-end = text-same img (set img a v) (word 10 (λ e. omega arith)) (ap (take ((get_or img 10 0 + 1) / 2)) (tail 752 (omega arith)))
+  text-end = text-same img (set img a v) (word text_length_address (λ e. omega arith)) (ap (take ((get_or img text_length_address 0 + 1) / 2)) (tail text_start (omega arith)))
 
   pub other-end : (k : ℕ) → (k ≡ a → ⊥) → get_or (set img a v) k 0 ≡ get_or img k 0
   other-end k ne = word k ne
@@ -53,64 +54,81 @@ module _ (img : List ℕ) (a v : ℕ) (wide : 752 ≤ length img) (low : 7 < a) 
   pub own-end : get_or (set img a v) a 0 ≡ v
   own-end = get_or-set_same img a v 0 (omega arith)
 
-read-end : (img : List ℕ) (event : ClearEvent) (v : ℕ) → 752 ≤ length img → read_image (set img (area_place event) v) ≡ with_area_end (read_image img) event v
+read-end : (img : List ℕ) (event : ClearEvent) (v : ℕ) → text_start ≤ length img → read_image (set img (area_end_address event) v) ≡ with_area_end (read_image img) event v
 unfolding read_image
 read-end img Reset v wide = λ k. record {
-  head = head-end img 8 v wide (lit< tt) (lit< tt) k;
-  text = text-end img 8 v wide (lit< tt) (lit< tt) k;
-  counts = (other-end img 8 v wide (lit< tt) (lit< tt) 6 (λ e. omega arith) k, other-end img 8 v wide (lit< tt) (lit< tt) 7 (λ e. omega arith) k);
-  items = items-end img 8 v wide (lit< tt) (lit< tt) k;
-  packages = addresses-end img 8 v wide (lit< tt) (lit< tt) k;
-  applets = applets-end img 8 v wide (lit< tt) (lit< tt) k;
-  area_ends = (own-end img 8 v wide (lit< tt) (lit< tt) k, other-end img 8 v wide (lit< tt) (lit< tt) 9 (λ e. omega arith) k);
-  top = length-set img 8 v k;
+  head = head-end img reset_end_address v wide (lit< tt) (lit< tt) k;
+  text = text-end img reset_end_address v wide (lit< tt) (lit< tt) k;
+  counts = (other-end img reset_end_address v wide (lit< tt) (lit< tt) packages_address (λ e. omega arith) k, other-end img reset_end_address v wide (lit< tt) (lit< tt) applets_address (λ e. omega arith) k);
+  items = items-end img reset_end_address v wide (lit< tt) (lit< tt) k;
+  packages = addresses-end img reset_end_address v wide (lit< tt) (lit< tt) k;
+  applets = applets-end img reset_end_address v wide (lit< tt) (lit< tt) k;
+  area_ends = (own-end img reset_end_address v wide (lit< tt) (lit< tt) k, other-end img reset_end_address v wide (lit< tt) (lit< tt) deselect_end_address (λ e. omega arith) k);
+  top = length-set img reset_end_address v k;
 }
 read-end img Deselect v wide = λ k. record {
-  head = head-end img 9 v wide (lit< tt) (lit< tt) k;
-  text = text-end img 9 v wide (lit< tt) (lit< tt) k;
-  counts = (other-end img 9 v wide (lit< tt) (lit< tt) 6 (λ e. omega arith) k, other-end img 9 v wide (lit< tt) (lit< tt) 7 (λ e. omega arith) k);
-  items = items-end img 9 v wide (lit< tt) (lit< tt) k;
-  packages = addresses-end img 9 v wide (lit< tt) (lit< tt) k;
-  applets = applets-end img 9 v wide (lit< tt) (lit< tt) k;
-  area_ends = (other-end img 9 v wide (lit< tt) (lit< tt) 8 (λ e. omega arith) k, own-end img 9 v wide (lit< tt) (lit< tt) k);
-  top = length-set img 9 v k;
+  head = head-end img deselect_end_address v wide (lit< tt) (lit< tt) k;
+  text = text-end img deselect_end_address v wide (lit< tt) (lit< tt) k;
+  counts = (other-end img deselect_end_address v wide (lit< tt) (lit< tt) packages_address (λ e. omega arith) k, other-end img deselect_end_address v wide (lit< tt) (lit< tt) applets_address (λ e. omega arith) k);
+  items = items-end img deselect_end_address v wide (lit< tt) (lit< tt) k;
+  packages = addresses-end img deselect_end_address v wide (lit< tt) (lit< tt) k;
+  applets = applets-end img deselect_end_address v wide (lit< tt) (lit< tt) k;
+  area_ends = (other-end img deselect_end_address v wide (lit< tt) (lit< tt) reset_end_address (λ e. omega arith) k, own-end img deselect_end_address v wide (lit< tt) (lit< tt) k);
+  top = length-set img deselect_end_address v k;
 }
 
-place_low : (event : ClearEvent) → 7 < area_place event
+-- an image with another number of applets
+pub read-applets : (img : List ℕ) (v : ℕ) → text_start ≤ length img → read_image (set img applets_address v) ≡ record (read_image img) { counts = (((read_image img).counts).0, v) }
+unfolding read_image
+read-applets img v wide = λ k. record {
+  head = head-end img applets_address v wide (lit< tt) (lit< tt) k;
+  text = text-end img applets_address v wide (lit< tt) (lit< tt) k;
+  counts = (other-end img applets_address v wide (lit< tt) (lit< tt) packages_address (λ e. omega arith) k, own-end img applets_address v wide (lit< tt) (lit< tt) k);
+  items = items-end img applets_address v wide (lit< tt) (lit< tt) k;
+  packages = addresses-end img applets_address v wide (lit< tt) (lit< tt) k;
+  applets = applets-end img applets_address v wide (lit< tt) (lit< tt) k;
+  area_ends = (other-end img applets_address v wide (lit< tt) (lit< tt) reset_end_address (λ e. omega arith) k, other-end img applets_address v wide (lit< tt) (lit< tt) deselect_end_address (λ e. omega arith) k);
+  top = length-set img applets_address v k;
+}
+
+-- one of these words set leaves the words laid
+pub laid-front : (ws : List ℕ) (a v : ℕ) → packages_address < a → a < text_length_address → IsLaid ws → IsLaid (set ws a v)
+laid-front ws a v low high laid =
+    let wide : text_start ≤ length (image ws) = omega (arith, laid.based, length-take-le (get_or ws top_address 0) ws laid.fits) in
+    let img : image (set ws a v) ≡ set (image ws) a v = image-set ws a v (omega (arith, low)) in
+    let same_base : base (image (set ws a v)) ≡ base (image ws) = ap base img ∙ base-end (image ws) a v wide low high in
+    let top : get_or (set ws a v) top_address 0 ≡ get_or ws top_address 0 = get_or-set_other ws a top_address v 0 (λ e. omega (arith, low)) in
+    record {
+      based = rw (same_base, top) laid.based;
+      fits = rw (top, length-set ws a v) laid.fits;
+      whole = ap missing img ∙ missing-end (image ws) a v wide low high ∙ laid.whole;
+      packages = λ b le. ap (λ ps. is_package ps b) (ap package_addresses img ∙ addresses-end (image ws) a v wide low high) ∙ laid.packages b (rw top at le);
+    }
+
+place_low : (event : ClearEvent) → packages_address < area_end_address event
 place_low Reset = lit< tt
 place_low Deselect = lit< tt
 
-place_high : (event : ClearEvent) → area_place event < 10
+place_high : (event : ClearEvent) → area_end_address event < text_length_address
 place_high Reset = lit< tt
 place_high Deselect = lit< tt
 
 -- the end's word is the end
-pub area_read : (ws : List ℕ) (event : ClearEvent) → IsLaid ws → area_end (heap_of ws) event ≡ get_or ws (area_place event) 0
+pub area_read : (ws : List ℕ) (event : ClearEvent) → IsLaid ws → area_end (heap_of ws) event ≡ get_or ws (area_end_address event) 0
 unfolding read_image
-area_read ws Reset laid = get_or-take (get_or ws 5 0) ws 8 0 (omega (arith, laid.based))
-area_read ws Deselect laid = get_or-take (get_or ws 5 0) ws 9 0 (omega (arith, laid.based))
+area_read ws Reset laid = get_or-take (get_or ws top_address 0) ws reset_end_address 0 (omega (arith, laid.based))
+area_read ws Deselect laid = get_or-take (get_or ws top_address 0) ws deselect_end_address 0 (omega (arith, laid.based))
 
-pub top-end : (ws : List ℕ) (event : ClearEvent) (v : ℕ) → get_or (set ws (area_place event) v) 5 0 ≡ get_or ws 5 0
-top-end ws event v = get_or-set_other ws (area_place event) 5 v 0 (λ e. omega (arith, place_low event))
+pub top-end : (ws : List ℕ) (event : ClearEvent) (v : ℕ) → get_or (set ws (area_end_address event) v) top_address 0 ≡ get_or ws top_address 0
+top-end ws event v = get_or-set_other ws (area_end_address event) top_address v 0 (λ e. omega (arith, place_low event))
 
-pub with_area_end-heap_of : (ws : List ℕ) (event : ClearEvent) (v : ℕ) → IsLaid ws → heap_of (set ws (area_place event) v) ≡ with_area_end (heap_of ws) event v
+pub with_area_end-heap_of : (ws : List ℕ) (event : ClearEvent) (v : ℕ) → IsLaid ws → heap_of (set ws (area_end_address event) v) ≡ with_area_end (heap_of ws) event v
 with_area_end-heap_of ws event v laid =
-    let wide : 752 ≤ length (image ws) = omega (arith, laid.based, length-take-le (get_or ws 5 0) ws laid.fits) in
-    ap read_image (image-set ws (area_place event) v (omega (arith, place_low event))) ∙ read-end (image ws) event v wide
+    let wide : text_start ≤ length (image ws) = omega (arith, laid.based, length-take-le (get_or ws top_address 0) ws laid.fits) in
+    ap read_image (image-set ws (area_end_address event) v (omega (arith, place_low event))) ∙ read-end (image ws) event v wide
 
-pub IsLaid-end : (ws : List ℕ) (event : ClearEvent) (v : ℕ) → IsLaid ws → IsLaid (set ws (area_place event) v)
-IsLaid-end ws event v laid =
-    let wide : 752 ≤ length (image ws) = omega (arith, laid.based, length-take-le (get_or ws 5 0) ws laid.fits) in
-    let a : ℕ = area_place event in
-    let img : image (set ws (area_place event) v) ≡ set (image ws) (area_place event) v = image-set ws (area_place event) v (omega (arith, place_low event)) in
-    let same_base : base (image (set ws (area_place event) v)) ≡ base (image ws) = ap base img ∙ base-end (image ws) (area_place event) v wide (place_low event) (place_high event) in
-    let top : get_or (set ws (area_place event) v) 5 0 ≡ get_or ws 5 0 = top-end ws event v in
-    record {
-      based = rw (same_base, top) laid.based;
-      fits = rw (top, length-set ws (area_place event) v) laid.fits;
-      whole = ap missing img ∙ missing-end (image ws) (area_place event) v wide (place_low event) (place_high event) ∙ laid.whole;
-      packages = λ b le. ap (λ ps. is_package ps b) (ap package_addresses img ∙ addresses-end (image ws) (area_place event) v wide (place_low event) (place_high event)) ∙ laid.packages b (rw top at le);
-    }
+pub IsLaid-end : (ws : List ℕ) (event : ClearEvent) (v : ℕ) → IsLaid ws → IsLaid (set ws (area_end_address event) v)
+IsLaid-end ws event v laid = laid-front ws (area_end_address event) v (place_low event) (place_high event) laid
 
 pub shape-end : (d h : HeapState) (event : ClearEvent) (v : ℕ) → SameShape d h → SameShape d (with_area_end h event v)
 unfolding item_at names

@@ -4,6 +4,7 @@ use Rattle.std.specs.Prelude.{MatchBool}
 use Rattle.std.proofs.lemmas.List.{length-take, length-take-le, get_or-take}
 use Rattle.std.proofs.lemmas.Bool.{false≢true}
 use Rattle.jc_words.specs.Count.{raised}
+use Rattle.jc_words.specs.Layout.{top_address, text_start}
 use Rattle.jc_commit.specs.Image.{with_words, top_of}
 use Rattle.jc_commit.specs.Entries.{addresses_of}
 use Rattle.jc_commit.specs.State.{State, live, Changes, IsStopped as JournalStopped, writes_for as journal_writes}
@@ -13,17 +14,17 @@ use Rattle.jc_heap.specs.Image.{image, base, missing, package_addresses, is_pack
 use Rattle.jc_heap.specs.Heap.{HeapState, HeapView, heap_view, heap_of, read_image, changed, IsSound, IsStopped, SameShape}
 
 -- words that are live in the same way have the same top
-pub top-live : (ws us : List ℕ) → IsLaid ws → live us ≡ live ws → get_or us 5 0 ≡ get_or ws 5 0
+pub top-live : (ws us : List ℕ) → IsLaid ws → live us ≡ live ws → get_or us top_address 0 ≡ get_or ws top_address 0
 top-live ws us laid e =
-    let long : length (take (get_or ws 5 0) ws) ≡ get_or ws 5 0 = length-take-le (get_or ws 5 0) ws laid.fits in
-    let same : length (take (get_or us 5 0) us) ≡ length (take (get_or ws 5 0) ws) = ap length e in
-    let far : 752 ≤ get_or ws 5 0 = omega (arith, laid.based) in
-    let near : 5 < get_or us 5 0 = omega (arith, length-take (get_or us 5 0) us) in
-    sym (get_or-take (get_or us 5 0) us 5 0 near) ∙ ap (λ l. get_or l 5 0) e ∙ get_or-take (get_or ws 5 0) ws 5 0 (omega arith)
+    let long : length (take (get_or ws top_address 0) ws) ≡ get_or ws top_address 0 = length-take-le (get_or ws top_address 0) ws laid.fits in
+    let same : length (take (get_or us top_address 0) us) ≡ length (take (get_or ws top_address 0) ws) = ap length e in
+    let far : text_start ≤ get_or ws top_address 0 = omega (arith, laid.based) in
+    let near : top_address < get_or us top_address 0 = omega (arith, length-take (get_or us top_address 0) us) in
+    sym (get_or-take (get_or us top_address 0) us top_address 0 near) ∙ ap (λ l. get_or l top_address 0) e ∙ get_or-take (get_or ws top_address 0) ws top_address 0 (omega arith)
 
 pub IsLaid-live : (ws us : List ℕ) → IsLaid ws → live us ≡ live ws → length us ≡ length ws → IsLaid us
 IsLaid-live ws us laid e long =
-    let top : get_or us 5 0 ≡ get_or ws 5 0 = top-live ws us laid e in
+    let top : get_or us top_address 0 ≡ get_or ws top_address 0 = top-live ws us laid e in
     record {
       based = let b : base (image us) ≡ base (image ws) = ap base e in omega (arith, laid.based);
       fits = omega (arith, laid.fits);
@@ -54,7 +55,7 @@ recovered_after true old new plain e laid long now order shape = record {
 }
 recovered_after false old new plain e laid long now order shape = record {
   laid = subst IsLaid (sym e) now;
-  order = omega (arith, ap (λ l. get_or l 5 0) e);
+  order = omega (arith, ap (λ l. get_or l top_address 0) e);
   shape = subst (λ l. SameShape (heap_of l) (heap_of plain)) (sym e) (shape-same (heap_of plain));
   settled = λ _. e;
 }
@@ -119,3 +120,16 @@ refusal_cases Full = inr refl
 -- a store that is up for the heap is up for its journal
 pub up_is : (j : State) (v : HeapView) (n : ℕ) → heap_view j n ≡ v → v.down ≡ false → j.down ≡ false
 up_is j v n is up = ap (λ u. u.down) is ∙ up
+
+-- a journal whose words are the same as those that a recovery leaves
+pub same_sound : (j : State) (n : ℕ) (ws : List ℕ) → j.plain ≡ ws → j.recovered ≡ ws → IsLaid ws → length ws ≡ n → n < 65536 → IsSound j n
+same_sound j n ws plain recovered laid long small = record {
+  back = subst IsLaid (sym recovered) laid;
+  size_recovered = ap length recovered ∙ long;
+  small = small;
+  now = λ _. subst IsLaid (sym plain) laid;
+  size_now = λ _. ap length plain ∙ long;
+  order = λ _. omega (arith, ap (λ l. get_or l top_address 0) plain, ap (λ l. get_or l top_address 0) recovered);
+  shape = λ _. subst (λ l. SameShape (heap_of j.recovered) (heap_of l)) (recovered ∙ sym plain) (shape-same (heap_of j.recovered));
+  settled = λ _ _. recovered ∙ sym plain;
+}

@@ -2,6 +2,7 @@
 use Rattle.std.proofs.Common.{◌≡◌, ℕ, zero, suc, ◌+◌, ◌-◌, ◌/◌, ◌<◌, ◌≤◌, ◌&&◌, get_or, nat_lt, not, Bool, true, false, inl, inr, List, [], ◌∷◌, length, take, drop, map, refl, sym, ◌∙◌, ap, arith, add-zero, Some, None, if◌then◌else◌}
 use Rattle.std.proofs.lemmas.List.{length-drop, length-take-le, get_or-take, drop-drop, drop_all}
 use Rattle.std.proofs.lemmas.Bool.{cases_lt, cases_Bool, ne_eqb, le-ltb, lt-ltb, false≢true}
+use Rattle.jc_words.specs.Layout.{top_address, text_length_address, text_start}
 use Rattle.jc_heap.specs.Cut.{Sizes, cut, lacking}
 use Rattle.jc_heap.specs.Table.{has}
 use Rattle.jc_heap.specs.Object.{Item, AnObject, APackage, object_of, is_object}
@@ -63,15 +64,15 @@ lacking_from more zero at (w ∷ ws) r (suc k) h e =
     lacking_from more (more at (w ∷ ws)) (suc at) ws r k there (omega arith)
 
 -- one step of a walk over the records of an image
-module _ (ws : List ℕ) (at size : ℕ) (laid : IsLaid ws) (below : at < get_or ws 5 0) (whole : lacking (sizes (package_addresses (image ws))) 0 at (drop at (image ws)) ≡ 0) (is : size ≡ sizes (package_addresses (image ws)) at (drop at (image ws)) + 1) where
+module _ (ws : List ℕ) (at size : ℕ) (laid : IsLaid ws) (below : at < get_or ws top_address 0) (whole : lacking (sizes (package_addresses (image ws))) 0 at (drop at (image ws)) ≡ 0) (is : size ≡ sizes (package_addresses (image ws)) at (drop at (image ws)) + 1) where
   abbrev ps : List ℕ
   ps = package_addresses (image ws)
 
   abbrev tail : List ℕ
   tail = drop at (image ws)
 
-  long : length (drop at (image ws)) ≡ get_or ws 5 0 - at
-  long = omega (arith, length-drop at (image ws), length-take-le (get_or ws 5 0) ws laid.fits)
+  long : length (drop at (image ws)) ≡ get_or ws top_address 0 - at
+  long = omega (arith, length-drop at (image ws), length-take-le (get_or ws top_address 0) ws laid.fits)
 
   fits : sizes (package_addresses (image ws)) at (drop at (image ws)) < length (drop at (image ws))
   fits = elim (cases_lt (sizes (package_addresses (image ws)) at (drop at (image ws))) (length (drop at (image ws)))) [
@@ -79,7 +80,7 @@ module _ (ws : List ℕ) (at size : ℕ) (laid : IsLaid ws) (below : at < get_or
     | inr h ↦ absurd (walk_short (sizes (package_addresses (image ws))) at (drop at (image ws)) (omega (arith, long)) h whole)
   ]
 
-  pub step_fits : at + size ≤ get_or ws 5 0
+  pub step_fits : at + size ≤ get_or ws top_address 0
   step_fits = omega (arith, fits, long, is)
 
   tail_behind : drop size (drop at (image ws)) ≡ drop (at + size) (image ws)
@@ -175,5 +176,5 @@ unfolding read_image next_object
 next_first ws = refl
 
 -- where the first one begins
-pub base_is : (ws : List ℕ) → IsLaid ws → base (image ws) ≡ 752 + (get_or ws 10 0 + 1) / 2
-base_is ws laid = ap (λ n. 752 + (n + 1) / 2) (get_or-take (get_or ws 5 0) ws 10 0 (omega (arith, laid.based)))
+pub base_is : (ws : List ℕ) → IsLaid ws → base (image ws) ≡ text_start + (get_or ws text_length_address 0 + 1) / 2
+base_is ws laid = ap (λ n. text_start + (n + 1) / 2) (get_or-take (get_or ws top_address 0) ws text_length_address 0 (omega (arith, laid.based)))

@@ -1,6 +1,7 @@
 -- A run of fresh words, a word at a time.
 use Rattle.std.proofs.Common.{◌≡◌, ℕ, ◌+◌, ◌<◌, ◌≤◌, ◌&&◌, List, [], ◌∷◌, ◌++◌, length, take, set, refl, sym, ◌∙◌, ap, true, false, arith, append_assoc, add-zero, if◌then◌else◌}
 use Rattle.std.proofs.lemmas.List.{take-set-le, take_more_set, length-set, length_push, append-nil, take-take, length-append}
+use Rattle.jc_words.specs.Layout.{top_address}
 use Rattle.jc_commit.specs.State.{State, written_in_place, refusing, is_touched}
 use Rattle.jc_heap.specs.Fresh.{IsFree, KeepsBelow, Fills}
 use Rattle.jc_heap.proofs.Added.{top-same_below}
@@ -38,7 +39,7 @@ fills_more at ws old j v f h =
 -- what is free stays free while words are written there
 pub free_stays : (at count : ℕ) (old j : State) → IsFree at count old → KeepsBelow at old j → j.down ≡ old.down → IsFree at count j
 free_stays at count old j f k same =
-    let far : 5 < at = omega (arith, f.low) in
+    let far : top_address < at = omega (arith, f.low) in
     record {
       up = same ∙ f.up;
       low = f.low;

@@ -2,6 +2,7 @@
 use Rattle.std.proofs.Common.{◌≡◌, ℕ, suc, ◌+◌, ◌-◌, ◌/◌, ◌<◌, ◌≤◌, true, false, inl, inr, List, [], ◌∷◌, ◌++◌, length, take, drop, set, get_or, map, refl, sym, ◌∙◌, ap, subst, arith, if◌then◌else◌, ◌==◌}
 use Rattle.std.proofs.lemmas.List.{get_or_append_left, get_or-set_other, get_or-take, get_or-drop, drop-set-add, take-set-le, length-drop, length-take, length-set}
 use Rattle.std.proofs.lemmas.Bool.{cases_Bool}
+use Rattle.jc_words.specs.Layout.{top_address, packages_address, applets_address, reset_end_address, deselect_end_address, text_length_address, addresses_start, most_packages, registry_start, registry_length, text_start}
 use Rattle.jc_heap.specs.Cut.{Sizes, cut, lacking}
 use Rattle.jc_heap.specs.Table.{at_or, has, put}
 use Rattle.jc_heap.specs.Object.{AnObject, APackage, object_of, cells_of, with_cell, payload}
@@ -56,15 +57,15 @@ range_front ws from n a v h =
     let is : a ≡ from + (a - from) = omega arith in
     rw (is, drop-set-add from ws (a - from) v) (take-set-le n (drop from ws) (a - from) v (omega arith))
 
-pub package_addresses-set : (ws : List ℕ) (a v : ℕ) → 560 ≤ a → package_addresses (set ws a v) ≡ package_addresses ws
-package_addresses-set ws a v h = rw (get_or_front ws a 6 v (omega arith), range_front ws 528 32 a v h) refl
+pub package_addresses-set : (ws : List ℕ) (a v : ℕ) → registry_start ≤ a → package_addresses (set ws a v) ≡ package_addresses ws
+package_addresses-set ws a v h = rw (get_or_front ws a packages_address v (omega arith), range_front ws addresses_start most_packages a v h) refl
 
 -- the table text hangs on its length and its words alone
-pub text-same : (a b : List ℕ) → get_or b 10 0 ≡ get_or a 10 0 → take ((get_or a 10 0 + 1) / 2) (drop 752 b) ≡ take ((get_or a 10 0 + 1) / 2) (drop 752 a) → table_text b ≡ table_text a
-text-same a b long words = ap (λ n. unpacked n (take ((n + 1) / 2) (drop 752 b))) long ∙ ap (unpacked (get_or a 10 0)) words
+pub text-same : (a b : List ℕ) → get_or b text_length_address 0 ≡ get_or a text_length_address 0 → take ((get_or a text_length_address 0 + 1) / 2) (drop text_start b) ≡ take ((get_or a text_length_address 0 + 1) / 2) (drop text_start a) → table_text b ≡ table_text a
+text-same a b long words = ap (λ n. unpacked n (take ((n + 1) / 2) (drop text_start b))) long ∙ ap (unpacked (get_or a text_length_address 0)) words
 
-pub base-set : (ws : List ℕ) (a v : ℕ) → 560 ≤ a → base (set ws a v) ≡ base ws
-base-set ws a v h = rw (get_or_front ws a 10 v (omega arith)) refl
+pub base-set : (ws : List ℕ) (a v : ℕ) → registry_start ≤ a → base (set ws a v) ≡ base ws
+base-set ws a v h = rw (get_or_front ws a text_length_address v (omega arith)) refl
 
 module _ (img : List ℕ) (r i v : ℕ) where
   -- where an item comes from
@@ -102,7 +103,7 @@ module _ (img : List ℕ) (r i v : ℕ) where
     pub cell_word : get_or (cells (read_image img) r) i 0 ≡ get_or img (r + (4 + i)) 0
     cell_word = ap (λ t. get_or (cells_of t) i 0) (item-record h).1 ∙ in_record.1 ∙ in_table.1 ∙ get_or-drop (base img) img offset 0 ∙ ap (λ n. get_or img n 0) offset_is
 
-    far : 560 ≤ r + (4 + i)
+    far : registry_start ≤ r + (4 + i)
     far = omega (arith, cell_behind)
 
     tail : drop (base img) (set img (r + (4 + i)) v) ≡ set (drop (base img) img) offset v
@@ -131,43 +132,43 @@ module _ (img : List ℕ) (r i v : ℕ) where
     pub set_cell-read : read_image (set img (r + (4 + i)) v) ≡ set_cell (read_image img) r i v
     unfolding read_image set_cell
     set_cell-read =
-        let registry : 752 ≤ r + (4 + i) = omega (arith, cell_behind) in
+        let registry : text_start ≤ r + (4 + i) = omega (arith, cell_behind) in
         let same_packages : package_addresses (set img (r + (4 + i)) v) ≡ package_addresses img = package_addresses-set img (r + (4 + i)) v far in
         let items : map (item_entry (package_addresses (set img (r + (4 + i)) v))) (records (set img (r + (4 + i)) v)) ≡ put (map (item_entry (package_addresses img)) (records img)) r (with_cell (item_at (read_image img) r) i v) =
         ap (λ ps. map (item_entry ps) (records (set img (r + (4 + i)) v))) same_packages
         ∙ ap (map (item_entry (package_addresses img))) records-set
         ∙ map-put (item (package_addresses img)) (records img) r (set rec (4 + i) v)
         ∙ ap (put (map (item_entry (package_addresses img)) (records img)) r) (in_record.2 ∙ ap (λ t. with_cell t i v) (sym (item-record h).1)) in
-        let applets : take 192 (drop 560 (set img (r + (4 + i)) v)) ≡ take 192 (drop 560 img) = range_front img 560 192 (r + (4 + i)) v registry in
-        let first_end : get_or (set img (r + (4 + i)) v) 8 0 ≡ get_or img 8 0 = get_or_front img (r + (4 + i)) 8 v (omega arith) in
-        let second_end : get_or (set img (r + (4 + i)) v) 9 0 ≡ get_or img 9 0 = get_or_front img (r + (4 + i)) 9 v (omega arith) in
+        let applets : take registry_length (drop registry_start (set img (r + (4 + i)) v)) ≡ take registry_length (drop registry_start img) = range_front img registry_start registry_length (r + (4 + i)) v registry in
+        let first_end : get_or (set img (r + (4 + i)) v) reset_end_address 0 ≡ get_or img reset_end_address 0 = get_or_front img (r + (4 + i)) reset_end_address v (omega arith) in
+        let second_end : get_or (set img (r + (4 + i)) v) deselect_end_address 0 ≡ get_or img deselect_end_address 0 = get_or_front img (r + (4 + i)) deselect_end_address v (omega arith) in
         let top : length (set img (r + (4 + i)) v) ≡ length img = length-set img (r + (4 + i)) v in
         let head : take 3 (set img (r + (4 + i)) v) ≡ take 3 img = take-set-le 3 img (r + (4 + i)) v (omega (arith, registry)) in
         let text : table_text (set img (r + (4 + i)) v) ≡ table_text img =
-        text-same img (set img (r + (4 + i)) v) (get_or_front img (r + (4 + i)) 10 v (omega (arith, registry))) (range_front img 752 ((get_or img 10 0 + 1) / 2) (r + (4 + i)) v (omega (arith, cell_behind))) in
-        let first_count : get_or (set img (r + (4 + i)) v) 6 0 ≡ get_or img 6 0 = get_or_front img (r + (4 + i)) 6 v (omega arith) in
-        let second_count : get_or (set img (r + (4 + i)) v) 7 0 ≡ get_or img 7 0 = get_or_front img (r + (4 + i)) 7 v (omega arith) in
+        text-same img (set img (r + (4 + i)) v) (get_or_front img (r + (4 + i)) text_length_address v (omega (arith, registry))) (range_front img text_start ((get_or img text_length_address 0 + 1) / 2) (r + (4 + i)) v (omega (arith, cell_behind))) in
+        let first_count : get_or (set img (r + (4 + i)) v) packages_address 0 ≡ get_or img packages_address 0 = get_or_front img (r + (4 + i)) packages_address v (omega arith) in
+        let second_count : get_or (set img (r + (4 + i)) v) applets_address 0 ≡ get_or img applets_address 0 = get_or_front img (r + (4 + i)) applets_address v (omega arith) in
         λ k. record { head = head k; text = text k; items = items k; counts = (first_count k, second_count k); packages = same_packages k; applets = applets k; area_ends = (first_end k, second_end k); top = top k }
 
 -- an image's own cell, in all the words
-pub image-set : (ws : List ℕ) (a v : ℕ) → 5 < a → image (set ws a v) ≡ set (image ws) a v
-image-set ws a v h = rw (get_or_front ws a 5 v h) (take-set_comm (get_or ws 5 0) ws a v)
+pub image-set : (ws : List ℕ) (a v : ℕ) → top_address < a → image (set ws a v) ≡ set (image ws) a v
+image-set ws a v h = rw (get_or_front ws a top_address v h) (take-set_comm (get_or ws top_address 0) ws a v)
 
 pub set_cell-heap_of : (ws : List ℕ) (r i v : ℕ) → i < length (cells (heap_of ws) r) → heap_of (set ws (r + (4 + i)) v) ≡ set_cell (heap_of ws) r i v
 set_cell-heap_of ws r i v h = ap read_image (image-set ws (r + (4 + i)) v (omega (arith, cell_behind (image ws) r i v h))) ∙ set_cell-read (image ws) r i v h
 
 pub cell_within-heap_of : (ws : List ℕ) (r i : ℕ) → i < length (cells (heap_of ws) r) → r + (4 + i) < length ws
-cell_within-heap_of ws r i h = omega (arith, cell_within (image ws) r i 0 h, length-take (get_or ws 5 0) ws)
+cell_within-heap_of ws r i h = omega (arith, cell_within (image ws) r i 0 h, length-take (get_or ws top_address 0) ws)
 
 pub cell-heap_of : (ws : List ℕ) (r i : ℕ) → i < length (cells (heap_of ws) r) → get_or (cells (heap_of ws) r) i 0 ≡ get_or ws (r + (4 + i)) 0
 cell-heap_of ws r i h =
-    let below : r + (4 + i) < get_or ws 5 0 = omega (arith, cell_within (image ws) r i 0 h, length-take (get_or ws 5 0) ws) in
-    cell_word (image ws) r i 0 h ∙ get_or-take (get_or ws 5 0) ws (r + (4 + i)) 0 below
+    let below : r + (4 + i) < get_or ws top_address 0 = omega (arith, cell_within (image ws) r i 0 h, length-take (get_or ws top_address 0) ws) in
+    cell_word (image ws) r i 0 h ∙ get_or-take (get_or ws top_address 0) ws (r + (4 + i)) 0 below
 
 pub IsLaid-set : (ws : List ℕ) (r i v : ℕ) → i < length (cells (heap_of ws) r) → IsLaid ws → IsLaid (set ws (r + (4 + i)) v)
 IsLaid-set ws r i v h laid =
-    let behind : 752 ≤ r + (4 + i) = omega (arith, cell_behind (image ws) r i v h) in
-    let top : get_or (set ws (r + (4 + i)) v) 5 0 ≡ get_or ws 5 0 = get_or_front ws (r + (4 + i)) 5 v (omega arith) in
+    let behind : text_start ≤ r + (4 + i) = omega (arith, cell_behind (image ws) r i v h) in
+    let top : get_or (set ws (r + (4 + i)) v) top_address 0 ≡ get_or ws top_address 0 = get_or_front ws (r + (4 + i)) top_address v (omega arith) in
     let img : image (set ws (r + (4 + i)) v) ≡ set (image ws) (r + (4 + i)) v = image-set ws (r + (4 + i)) v (omega arith) in
     let same_base : base (image (set ws (r + (4 + i)) v)) ≡ base (image ws) = ap base img ∙ base-set (image ws) (r + (4 + i)) v (omega arith) in
     record {
@@ -177,8 +178,8 @@ IsLaid-set ws r i v h laid =
       packages = λ a le. ap (λ ps. is_package ps a) (ap package_addresses img ∙ package_addresses-set (image ws) (r + (4 + i)) v (omega arith)) ∙ laid.packages a (rw top at le);
     }
 
-pub top-set : (ws : List ℕ) (r i v : ℕ) → i < length (cells (heap_of ws) r) → get_or (set ws (r + (4 + i)) v) 5 0 ≡ get_or ws 5 0
-top-set ws r i v h = get_or_front ws (r + (4 + i)) 5 v (omega (arith, cell_behind (image ws) r i v h))
+pub top-set : (ws : List ℕ) (r i v : ℕ) → i < length (cells (heap_of ws) r) → get_or (set ws (r + (4 + i)) v) top_address 0 ≡ get_or ws top_address 0
+top-set ws r i v h = get_or_front ws (r + (4 + i)) top_address v (omega (arith, cell_behind (image ws) r i v h))
 
-pub cell_behind-heap_of : (ws : List ℕ) (r i : ℕ) → i < length (cells (heap_of ws) r) → 752 ≤ r + (4 + i)
+pub cell_behind-heap_of : (ws : List ℕ) (r i : ℕ) → i < length (cells (heap_of ws) r) → text_start ≤ r + (4 + i)
 cell_behind-heap_of ws r i h = omega (arith, cell_behind (image ws) r i 0 h)

@@ -2,6 +2,7 @@
 use Rattle.std.proofs.Common.{◌≡◌, ℕ, suc, ◌+◌, ◌<◌, ◌≤◌, true, false, inl, inr, List, [], ◌∷◌, ◌++◌, ◌==◌, None, Some, length, get_or, set, refl, sym, ◌∙◌, ap, subst, arith, if◌then◌else◌}
 use Rattle.std.proofs.lemmas.List.{get_or-set_same, get_or-set_other}
 use Rattle.std.proofs.lemmas.Bool.{cases_eq, cases_Bool, eq-eqb, ne_eqb, false≢true}
+use Rattle.jc_words.specs.Layout.{most_packages, most_applets}
 use Rattle.jc_transient.specs.declared.cell.ClearEvent.{ClearEvent}
 use Rattle.jc_transient.specs.declared.cell.ClearEvent.TheVariants.{Reset, Deselect}
 use Rattle.jc_transient.specs.State.{area_size}
@@ -12,13 +13,13 @@ use Rattle.jc_heap.specs.Object.{Object, Item, AnObject, APackage, facts_of, cel
 use Rattle.jc_heap.specs.Heap.{HeapState, item_at, names, cells, facts, area_end, with_area_end, set_cell, set_cells, add_object, add_transient, LacksCells}
 use Rattle.jc_heap.specs.Whole.{lies_in, cells_in, FitsAt, IsFilled, IsReference, HoldsReferences, AreMet, AreDistinct, IsWhole}
 use Rattle.jc_heap.proofs.Laws.{item_at-add_object, item_at-add_other, names-add_other, names-set_cell, item_at-set_cell, cells-with_cell, set_cell-absent, facts-set_cell, length-cells-set_cell, cells-set_other, bare-set_cell}
-use Rattle.jc_heap.proofs.Filling.{Run, filled_of, run_of}
-use Rattle.jc_heap.proofs.Referring.{object_named}
+use Rattle.jc_heap.proofs.AreaRuns.{Run, filled_of, run_of}
+use Rattle.jc_heap.proofs.Laws.{object_named}
 
 -- what a whole heap's words say but of the areas
 pub record IsReferring (h : HeapState) : Type 0 where
-  pub few_packages : h.counts.0 ≤ 32
-  pub few_applets : h.counts.1 ≤ 64
+  pub few_packages : h.counts.0 ≤ most_packages
+  pub few_applets : h.counts.1 ≤ most_applets
   pub met : AreMet h h.packages
   pub distinct : AreDistinct h.packages
   pub references : (r : ℕ) → HoldsReferences h (item_at h r)
@@ -159,7 +160,7 @@ facts-with_cell : (t : Item) (i v : ℕ) → facts_of (with_cell t i v) ≡ fact
 facts-with_cell (AnObject o) i v = refl
 facts-with_cell (APackage ws) i v = refl
 
-object-bare : (t : Item) → is_object (bare t) ≡ is_object t
+pub object-bare : (t : Item) → is_object (bare t) ≡ is_object t
 object-bare (AnObject o) = refl
 object-bare (APackage ws) = refl
 

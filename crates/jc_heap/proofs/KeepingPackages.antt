@@ -3,6 +3,7 @@ use Rattle.std.proofs.Common.{◌≡◌, ℕ, suc, ◌+◌, ◌-◌, ◌<◌, �
 use Rattle.std.proofs.lemmas.List.{get_or_append_left, get_or-append_right, length-append}
 use Rattle.std.proofs.lemmas.Bool.{cases_eq, cases_lt, eq-eqb, false≢true}
 use Rattle.std.proofs.Math.Bool.{or-true}
+use Rattle.jc_words.specs.Layout.{most_packages, most_applets}
 use Rattle.jc_transient.specs.declared.cell.ClearEvent.{ClearEvent}
 use Rattle.jc_transient.specs.declared.cell.ClearEvent.TheVariants.{Reset, Deselect}
 use Rattle.jc_heap.specs.declared.object.Kind.{Kind}
@@ -15,8 +16,8 @@ use Rattle.jc_heap.specs.Statics.{with_word, set_word}
 use Rattle.jc_heap.specs.Whole.{cells_in, FitsAt, IsFilled, IsReference, HoldsReferences, AreMet, AreDistinct, IsWhole}
 use Rattle.jc_heap.proofs.Tables.{at_or-push_same, at_or-push_other, has-push}
 use Rattle.jc_heap.proofs.Laws.{names-add_other}
-use Rattle.jc_heap.proofs.Filling.{Run, filled_of, run_of}
-use Rattle.jc_heap.proofs.Referring.{object_named}
+use Rattle.jc_heap.proofs.AreaRuns.{Run, filled_of, run_of}
+use Rattle.jc_heap.proofs.Laws.{object_named}
 use Rattle.jc_heap.proofs.RecordWords.{of_item-set_word, names-set_word}
 use Rattle.jc_heap.proofs.Keeping.{run_push, run_put, object_whole}
 
@@ -98,7 +99,7 @@ module _ (h : HeapState) (words : List ℕ) (free : names h h.top ≡ false) whe
   filled-push Reset f = filled_of (push_package h words) Reset (run-pushed Reset f)
   filled-push Deselect f = filled_of (push_package h words) Deselect (run-pushed Deselect f)
 
-  push_whole : h.counts.0 < 32 → IsWhole h → IsWhole (push_package h words)
+  push_whole : h.counts.0 < most_packages → IsWhole h → IsWhole (push_package h words)
   unfolding push_package
   push_whole few w = record {
     few_packages = omega (arith, few);
@@ -137,7 +138,7 @@ unfolding package_record
 record_some at cs xs rest = omega arith
 
 -- a package
-pub package_whole : (h : HeapState) (cs : List (ℕ × List ℕ)) (xs : List (Kind × List ℕ)) (rest : List ℕ) → h.counts.0 < 32 → AreArrays xs → HasEnd h → IsWhole h →
+pub package_whole : (h : HeapState) (cs : List (ℕ × List ℕ)) (xs : List (Kind × List ℕ)) (rest : List ℕ) → h.counts.0 < most_packages → AreArrays xs → HasEnd h → IsWhole h →
     IsWhole (add_package h cs xs rest) × HasEnd (add_package h cs xs rest)
 package_whole h cs xs rest few arrays end w =
     arrays_whole (push_package h (package_record h.top cs xs rest)) (package_owner (h.counts.0 + 1)) xs arrays.kinds
@@ -201,4 +202,20 @@ registry_whole h words w = record {
   distinct = w.distinct;
   references = w.references;
   areas = λ event. filled-registry h words event (w.areas event);
+}
+
+-- the number of applets
+filled-count : (h : HeapState) (n : ℕ) (event : ClearEvent) → IsFilled h event → IsFilled (record h { counts = (h.counts.0, n) }) event
+filled-count h n Reset f = filled_of (record h { counts = (h.counts.0, n) }) Reset (run_of h Reset f)
+filled-count h n Deselect f = filled_of (record h { counts = (h.counts.0, n) }) Deselect (run_of h Deselect f)
+
+pub count_whole : (h : HeapState) (n : ℕ) → n ≤ most_applets → IsWhole h → IsWhole (record h { counts = (h.counts.0, n) })
+unfolding item_at names
+count_whole h n few w = record {
+  few_packages = w.few_packages;
+  few_applets = few;
+  met = w.met;
+  distinct = w.distinct;
+  references = w.references;
+  areas = λ event. filled-count h n event (w.areas event);
 }

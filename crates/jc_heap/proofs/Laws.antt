@@ -1,11 +1,11 @@
 -- What a heap answers after a change.
 use Rattle.std.proofs.Common.{◌≡◌, ℕ, ◌+◌, ◌<◌, ◌≤◌, true, false, inl, inr, List, [], length, drop, set, replicate, refl, sym, ◌∙◌, ap, subst, arith, if◌then◌else◌}
 use Rattle.std.proofs.lemmas.List.{length-set, length-replicate, length-drop}
-use Rattle.std.proofs.lemmas.Bool.{cases_Bool, cases_eq, cases_lt, lt-ltb, le-ltb}
+use Rattle.std.proofs.lemmas.Bool.{cases_Bool, cases_eq, cases_lt, lt-ltb, le-ltb, false≢true}
 use Rattle.jc_heap.specs.Table.{at_or, has}
-use Rattle.jc_heap.specs.Object.{Object, Item, AnObject, APackage, cells_of, with_cell, bare, facts_of}
+use Rattle.jc_heap.specs.Object.{Object, Item, AnObject, APackage, is_object, cells_of, with_cell, bare, facts_of}
 use Rattle.jc_heap.specs.Image.{image, base, package_addresses, sizes, records, item}
-use Rattle.jc_heap.specs.Heap.{HeapState, read_image, heap_of, item_at, cells, facts, names, set_cell, add_object, SameShape, KeepsBelowTop}
+use Rattle.jc_heap.specs.Heap.{HeapState, IsObject, read_image, heap_of, item_at, cells, facts, names, set_cell, add_object, SameShape, KeepsBelowTop}
 use Rattle.jc_heap.proofs.Tables.{at_or-put_same, at_or-put_other, has-put, at_or-push_same, at_or-push_other, has-push, has-map, at_or-absent, put-absent}
 use Rattle.jc_heap.proofs.Records.{has-cut_below}
 
@@ -135,6 +135,13 @@ unfolding read_image
 keeps_below_top old ws s based r = elim (cases_lt r (length (image ws))) [
   | inl below ↦ sym (s.names r below) ∙ ap (λ b. if b then names old r else false) (sym (lt-ltb r (length (image ws)) below))
   | inr above ↦ names-heap_of ws r based above ∙ ap (λ b. if b then names old r else false) (sym (le-ltb r (length (image ws)) above))
+]
+
+-- an object is what stands at an address and is no package
+pub object_named : (h : HeapState) (r : ℕ) → IsObject h r → names h r ≡ true
+object_named h r there = elim (cases_Bool (names h r)) [
+  | inl e ↦ e
+  | inr e ↦ absurd (false≢true (ap is_object (sym (item_at-absent h r e)) ∙ there))
 ]
 
 -- for `grind` in the layers above

@@ -16,12 +16,6 @@ pub mod PackageAdded
 pub mod NewPackages
 pub mod Following
 pub mod NextObjects
-pub mod Stepping
-pub mod Filling
-pub mod Wholes
-pub mod Marking
-pub mod PackageTable
-pub mod Referring
 pub mod Keeping
 pub mod KeepingMoves
 pub mod KeepingPackages
@@ -36,7 +30,5 @@ pub mod Places
 pub mod MoveLaws
 pub mod Calls
 pub mod RawWords
-pub mod LaidImages
-pub mod LaidStores
-pub mod Sealing
-pub mod TextBytes
+pub mod AreaRuns
+pub mod Several

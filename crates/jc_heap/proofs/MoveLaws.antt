@@ -2,7 +2,7 @@
 use Rattle.std.proofs.Common.{◌≡◌, true, List, [], ◌∷◌, ◌++◌, refl, ◌∙◌, ap, subst, inl, inr, if◌then◌else◌}
 use Rattle.jc_words.specs.Count.{raised}
 use Rattle.jc_heap.specs.Heap.{HeapState, HeapView}
-use Rattle.jc_heap.specs.Moves.{Move, Write, Count, SetCells, AddObject, AddTransient, AddPackage, Begin, Commit, Abort, apply, applied, Left, IsCut, with_counts, KeepsDurable}
+use Rattle.jc_heap.specs.Moves.{Move, Write, SetPlaces, Count, SetCells, AddObject, AddTransient, AddPackage, Begin, Commit, Abort, apply, applied, Left, IsCut, with_counts, KeepsDurable}
 
 pub applied-append : (a b : List Move) (h : HeapView) → applied (a ++ b) h ≡ applied b (applied a h)
 applied-append [] b h = refl
@@ -21,6 +21,7 @@ left-after (m ∷ ms) b h d p = inr (left-after ms b (apply m h) d p)
 -- moves neither clear nor set what is down or refused
 down-apply : (m : Move) (h : HeapView) → (apply m h).down ≡ h.down
 down-apply (Write p v) h = refl
+down-apply (SetPlaces cs) h = refl
 down-apply (Count p v) h = refl
 down-apply (SetCells r i vs) h = refl
 down-apply (AddObject o size) h = refl
@@ -32,6 +33,7 @@ down-apply Abort h = refl
 
 refused-apply : (m : Move) (h : HeapView) → (apply m h).refused ≡ h.refused
 refused-apply (Write p v) h = refl
+refused-apply (SetPlaces cs) h = refl
 refused-apply (Count p v) h = refl
 refused-apply (SetCells r i vs) h = refl
 refused-apply (AddObject o size) h = refl
@@ -65,6 +67,7 @@ kept_inside h x b = ap (λ g. if g then h.durable else x) b
 pub keeps_durable : KeepsDurable
 keeps_durable [] h b p = refl
 keeps_durable (Write p v ∷ ms) h b q = keeps_durable ms (apply (Write p v) h) b q ∙ ap (with_counts ms (apply (Write p v) h)) (kept_inside h _ b)
+keeps_durable (SetPlaces cs ∷ ms) h b p = keeps_durable ms (apply (SetPlaces cs) h) b p ∙ ap (with_counts ms (apply (SetPlaces cs) h)) (kept_inside h _ b)
 keeps_durable (Count p v ∷ ms) h b q = keeps_durable ms (apply (Count p v) h) b q
 keeps_durable (SetCells r i vs ∷ ms) h b p = keeps_durable ms (apply (SetCells r i vs) h) b p ∙ ap (with_counts ms (apply (SetCells r i vs) h)) (kept_inside h _ b)
 keeps_durable (AddObject o size ∷ ms) h b p = keeps_durable ms (apply (AddObject o size) h) b p ∙ ap (with_counts ms (apply (AddObject o size) h)) (kept_inside h _ b)

@@ -7,6 +7,7 @@ use Rattle.jc_commit.specs.declared.refusal.WriteRefusal.{WriteRefusal}
 use Rattle.jc_commit.specs.declared.refusal.WriteRefusal.TheVariants.{StoreDown, Full}
 use Rattle.std.proofs.lemmas.List.{length-replicate, length-take-le}
 use Rattle.jc_words.specs.Count.{raised}
+use Rattle.jc_words.specs.Layout.{top_address}
 use Rattle.jc_commit.specs.Image.{with_words}
 use Rattle.jc_commit.specs.Entries.{addresses_of}
 use Rattle.jc_commit.specs.State.{State, live, Changes, IsStopped as JournalStopped, writes_inside, writes_outside, has_room_for as journal_room}
@@ -17,7 +18,7 @@ use Rattle.jc_transient.specs.declared.cell.ClearEvent.TheVariants.{Reset, Desel
 use Rattle.jc_heap.specs.Object.{Object, AnObject, header_word, new_transient, kind_number, object_of, new_object, payload}
 use Rattle.jc_heap.specs.Image.{IsLaid}
 use Rattle.jc_heap.specs.Fresh.{IsFree, KeepsBelow, Fills, StopsFresh}
-use Rattle.jc_heap.specs.Heap.{HeapState, HeapView, heap_view, read_image, heap_of, add_object, end_place, changed, IsSound, IsStopped, LacksSpace, SameShape, names, item_at, add_transient, area_place, area_end, with_area_end}
+use Rattle.jc_heap.specs.Heap.{HeapState, HeapView, heap_view, read_image, heap_of, add_object, end_address, changed, IsSound, IsStopped, LacksSpace, SameShape, names, item_at, add_transient, area_end_address, area_end, with_area_end}
 use Rattle.jc_heap.proofs.Laws.{shape-add, item_at-add_object}
 use Rattle.jc_heap.proofs.Added.{heap_of-grown, top-moved, IsLaid-grown, image-same_below, IsLaid-same_below}
 use Rattle.jc_heap.proofs.Changing.{change_view, change_sound, stopped_sound, stopped_view, top-live}
@@ -25,7 +26,7 @@ use Rattle.jc_heap.proofs.Views.{view_top}
 use Rattle.jc_heap.proofs.AreaEnds.{area_read, with_area_end-heap_of, IsLaid-end, shape-end, top-end}
 
 -- the words from the top on are free
-pub free_above : (j : State) (n count : ℕ) → IsSound j n → j.down ≡ false → get_or j.plain 5 0 + count ≤ n → IsFree (get_or j.plain 5 0) count j
+pub free_above : (j : State) (n count : ℕ) → IsSound j n → j.down ≡ false → get_or j.plain top_address 0 + count ≤ n → IsFree (get_or j.plain top_address 0) count j
 free_above j n count s up fits = record {
   up = up;
   low = omega (arith, (s.now up).based);
@@ -35,10 +36,10 @@ free_above j n count s up fits = record {
   small = omega (arith, s.small, s.size_now up);
 }
 
-pub lacks_space : (j : State) (v : HeapView) (n count : ℕ) → heap_view j n ≡ v → IsLaid j.plain → n < get_or j.plain 5 0 + count → LacksSpace v count
+pub lacks_space : (j : State) (v : HeapView) (n count : ℕ) → heap_view j n ≡ v → IsLaid j.plain → n < get_or j.plain top_address 0 + count → LacksSpace v count
 lacks_space j v n count is laid h = subst (λ u. u.size < u.now.top + count) is (omega (arith, view_top j (heap_view j n) n refl laid, h))
 
-pub has_space : (j : State) (v : HeapView) (n count : ℕ) → heap_view j n ≡ v → IsLaid j.plain → get_or j.plain 5 0 + count ≤ n → LacksSpace v count → ⊥
+pub has_space : (j : State) (v : HeapView) (n count : ℕ) → heap_view j n ≡ v → IsLaid j.plain → get_or j.plain top_address 0 + count ≤ n → LacksSpace v count → ⊥
 has_space j v n count is laid h = subst (λ u. u.size < u.now.top + count → ⊥) is (λ lacks. omega (arith, view_top j (heap_view j n) n refl laid, h, lacks))
 
 -- the words that a new object takes
@@ -65,15 +66,15 @@ pub length-new_record : (word class owner n : ℕ) → length (new_record word c
 unfolding new_record
 length-new_record word class owner n = omega (arith, length-replicate {A = ℕ} n 0)
 
-module _ (j k : State) (n : ℕ) (s : IsSound j n) (up : j.down ≡ false) (b : KeepsBelow (get_or j.plain 5 0) j k) where
-  far : 5 < get_or j.plain 5 0
+module _ (j k : State) (n : ℕ) (s : IsSound j n) (up : j.down ≡ false) (b : KeepsBelow (get_or j.plain top_address 0) j k) where
+  far : top_address < get_or j.plain top_address 0
   far = omega (arith, (s.now up).based)
 
   pub live_back : live k.recovered ≡ live j.recovered
-  live_back = image-same_below j.recovered k.recovered (get_or j.plain 5 0) far (s.order up) b.recovered
+  live_back = image-same_below j.recovered k.recovered (get_or j.plain top_address 0) far (s.order up) b.recovered
 
   laid_back : IsLaid k.recovered
-  laid_back = IsLaid-same_below j.recovered k.recovered (get_or j.plain 5 0) far (s.order up) b.recovered b.size_recovered s.back
+  laid_back = IsLaid-same_below j.recovered k.recovered (get_or j.plain top_address 0) far (s.order up) b.recovered b.size_recovered s.back
 
   -- the store refused a fresh word
   pub fresh_stopped_sound : StopsFresh j k → IsSound k n
@@ -82,7 +83,7 @@ module _ (j k : State) (n : ℕ) (s : IsSound j n) (up : j.down ≡ false) (b : 
   pub fresh_stopped_view : (v : HeapView) → heap_view j n ≡ v → StopsFresh j k → IsStopped v (heap_view k n)
   fresh_stopped_view v is st = stopped_view j k v n is live_back st.down st.refused
 
-  module _ (rec : List ℕ) (f : Fills (get_or j.plain 5 0) rec j k) where
+  module _ (rec : List ℕ) (f : Fills (get_or j.plain top_address 0) rec j k) where
     -- the store refused the top's change
     pub top_stopped_sound : (m : State) → JournalStopped k m → IsSound m n
     top_stopped_sound m st = stopped_sound k m n st.recovered st.size_recovered st.down laid_back (b.size_recovered ∙ s.size_recovered) s.small
@@ -114,23 +115,23 @@ module _ (j k : State) (n : ℕ) (s : IsSound j n) (up : j.down ≡ false) (b : 
         made ∙ (λ i. record { now = h; durable = durable i; begun = b.in_transaction i; touched = touched i; down = f.down i; passed = passed i; refused = f.refused i; size = n })
 
     pub sound_then : (cs : List (ℕ × ℕ)) (h : HeapState) (m : State) → Changes cs k m → heap_of (with_words k.plain cs) ≡ h → IsLaid (with_words k.plain cs) →
-        get_or j.plain 5 0 ≤ get_or (with_words k.plain cs) 5 0 → SameShape (heap_of j.recovered) h → IsSound m n
+        get_or j.plain top_address 0 ≤ get_or (with_words k.plain cs) top_address 0 → SameShape (heap_of j.recovered) h → IsSound m n
     sound_then cs h m c now laid order shape = change_sound cs k m n c (f.down ∙ up) laid_back (b.size_recovered ∙ s.size_recovered) (b.size ∙ s.size_now up) s.small laid
         (λ _. omega (arith, order, s.order up, top-live j.recovered k.recovered s.back live_back))
         (λ _. subst (λ d. SameShape d (heap_of (with_words k.plain cs))) (ap read_image (sym live_back)) (subst (SameShape (heap_of j.recovered)) (sym now) shape))
 
-    module _ (own : 3 + payload (get_or rec 0 0) (get_or rec 3 0) + 1 ≡ length rec) (fits : get_or j.plain 5 0 + length rec ≤ n) where
-      fits_now : get_or j.plain 5 0 + length rec ≤ length k.plain
+    module _ (own : 3 + payload (get_or rec 0 0) (get_or rec 3 0) + 1 ≡ length rec) (fits : get_or j.plain top_address 0 + length rec ≤ n) where
+      fits_now : get_or j.plain top_address 0 + length rec ≤ length k.plain
       fits_now = omega (arith, fits, b.size, s.size_now up)
 
       -- the top moved over the record
       abbrev pub moved_top : List ℕ
-      moved_top = set k.plain 5 (get_or j.plain 5 0 + length rec)
+      moved_top = set k.plain top_address (get_or j.plain top_address 0 + length rec)
 
       pub laid_now : IsLaid moved_top
       laid_now = IsLaid-grown j.plain k.plain rec (s.now up) f.words fits_now own
 
-      pub top_now : get_or moved_top 5 0 ≡ get_or j.plain 5 0 + length rec
+      pub top_now : get_or moved_top top_address 0 ≡ get_or j.plain top_address 0 + length rec
       top_now = top-moved j.plain k.plain rec (s.now up) f.words fits_now own
 
       pub heap_now : heap_of moved_top ≡ add_object (heap_of j.plain) (object_of rec) (length rec)
@@ -138,34 +139,34 @@ module _ (j k : State) (n : ℕ) (s : IsSound j n) (up : j.down ≡ false) (b : 
 
       tops : (heap_of j.recovered).top ≤ (heap_of j.plain).top
       unfolding read_image
-      tops = omega (arith, length-take-le (get_or j.plain 5 0) j.plain (s.now up).fits, length-take-le (get_or j.recovered 5 0) j.recovered s.back.fits, s.order up)
+      tops = omega (arith, length-take-le (get_or j.plain top_address 0) j.plain (s.now up).fits, length-take-le (get_or j.recovered top_address 0) j.recovered s.back.fits, s.order up)
 
       pub shape_now : SameShape (heap_of j.recovered) (add_object (heap_of j.plain) (object_of rec) (length rec))
       shape_now = shape-add (heap_of j.recovered) (heap_of j.plain) (object_of rec) (length rec) tops (s.shape up)
 
-      pub sound_made_at : (m : State) → Changes ((5, get_or j.plain 5 0 + length rec) ∷ []) k m → IsSound m n
-      sound_made_at m c = sound_then ((5, get_or j.plain 5 0 + length rec) ∷ []) (add_object (heap_of j.plain) (object_of rec) (length rec)) m c heap_now laid_now (omega (arith, top_now)) shape_now
+      pub sound_made_at : (m : State) → Changes ((top_address, get_or j.plain top_address 0 + length rec) ∷ []) k m → IsSound m n
+      sound_made_at m c = sound_then ((top_address, get_or j.plain top_address 0 + length rec) ∷ []) (add_object (heap_of j.plain) (object_of rec) (length rec)) m c heap_now laid_now (omega (arith, top_now)) shape_now
 
-      pub view_made_at : (m : State) → Changes ((5, get_or j.plain 5 0 + length rec) ∷ []) k m → heap_view m n ≡ changed (heap_view j n) (add_object (heap_of j.plain) (object_of rec) (length rec)) (5 ∷ []) (length rec)
-      view_made_at m c = view_then ((5, get_or j.plain 5 0 + length rec) ∷ []) (add_object (heap_of j.plain) (object_of rec) (length rec)) m c heap_now
+      pub view_made_at : (m : State) → Changes ((top_address, get_or j.plain top_address 0 + length rec) ∷ []) k m → heap_view m n ≡ changed (heap_view j n) (add_object (heap_of j.plain) (object_of rec) (length rec)) (top_address ∷ []) (length rec)
+      view_made_at m c = view_then ((top_address, get_or j.plain top_address 0 + length rec) ∷ []) (add_object (heap_of j.plain) (object_of rec) (length rec)) m c heap_now
 
-pub view_made : (j k m : State) (v : HeapView) (n : ℕ) (kind : Kind) (class owner count end : ℕ) → heap_view j n ≡ v → IsSound j n → j.down ≡ false → KeepsBelow (get_or j.plain 5 0) j k →
-    Fills (get_or j.plain 5 0) (new_record (kind_number kind) class owner count) j k → end ≡ get_or j.plain 5 0 + (4 + count) → end ≤ n → Changes ((5, end) ∷ []) k m →
-    heap_view m n ≡ changed v (add_object v.now (new_object kind class owner count) (4 + count)) (end_place ∷ []) (4 + count)
-unfolding end_place
+pub view_made : (j k m : State) (v : HeapView) (n : ℕ) (kind : Kind) (class owner count end : ℕ) → heap_view j n ≡ v → IsSound j n → j.down ≡ false → KeepsBelow (get_or j.plain top_address 0) j k →
+    Fills (get_or j.plain top_address 0) (new_record (kind_number kind) class owner count) j k → end ≡ get_or j.plain top_address 0 + (4 + count) → end ≤ n → Changes ((top_address, end) ∷ []) k m →
+    heap_view m n ≡ changed v (add_object v.now (new_object kind class owner count) (4 + count)) (end_address ∷ []) (4 + count)
+unfolding end_address
 view_made j k m v n kind class owner count end is s up b f e fits c =
     let long : length (new_record (kind_number kind) class owner count) ≡ 4 + count = length-new_record (kind_number kind) class owner count in
-    let there : Changes ((5, get_or j.plain 5 0 + length (new_record (kind_number kind) class owner count)) ∷ []) k m = subst (λ t. Changes ((5, t) ∷ []) k m) (e ∙ ap (λ l. get_or j.plain 5 0 + l) (sym long)) c in
-    subst (λ u. heap_view m n ≡ changed u (add_object (u.now) (new_object kind class owner count) (4 + count)) (5 ∷ []) (4 + count)) is
-    (subst (λ o. heap_view m n ≡ changed (heap_view j n) (add_object (heap_of j.plain) o (4 + count)) (5 ∷ []) (4 + count)) (object_of-new_record kind class owner count)
-    (subst (λ l. heap_view m n ≡ changed (heap_view j n) (add_object (heap_of j.plain) (object_of (new_record (kind_number kind) class owner count)) l) (5 ∷ []) l) long
+    let there : Changes ((top_address, get_or j.plain top_address 0 + length (new_record (kind_number kind) class owner count)) ∷ []) k m = subst (λ t. Changes ((top_address, t) ∷ []) k m) (e ∙ ap (λ l. get_or j.plain top_address 0 + l) (sym long)) c in
+    subst (λ u. heap_view m n ≡ changed u (add_object (u.now) (new_object kind class owner count) (4 + count)) (top_address ∷ []) (4 + count)) is
+    (subst (λ o. heap_view m n ≡ changed (heap_view j n) (add_object (heap_of j.plain) o (4 + count)) (top_address ∷ []) (4 + count)) (object_of-new_record kind class owner count)
+    (subst (λ l. heap_view m n ≡ changed (heap_view j n) (add_object (heap_of j.plain) (object_of (new_record (kind_number kind) class owner count)) l) (top_address ∷ []) l) long
     (view_made_at j k n s up b (new_record (kind_number kind) class owner count) f (own-new_record kind class owner count) (omega (arith, long, e, fits)) m there)))
 
-pub sound_made : (j k m : State) (n : ℕ) (kind : Kind) (class owner count end : ℕ) → IsSound j n → j.down ≡ false → KeepsBelow (get_or j.plain 5 0) j k →
-    Fills (get_or j.plain 5 0) (new_record (kind_number kind) class owner count) j k → end ≡ get_or j.plain 5 0 + (4 + count) → end ≤ n → Changes ((5, end) ∷ []) k m → IsSound m n
+pub sound_made : (j k m : State) (n : ℕ) (kind : Kind) (class owner count end : ℕ) → IsSound j n → j.down ≡ false → KeepsBelow (get_or j.plain top_address 0) j k →
+    Fills (get_or j.plain top_address 0) (new_record (kind_number kind) class owner count) j k → end ≡ get_or j.plain top_address 0 + (4 + count) → end ≤ n → Changes ((top_address, end) ∷ []) k m → IsSound m n
 sound_made j k m n kind class owner count end s up b f e fits c =
     let long : length (new_record (kind_number kind) class owner count) ≡ 4 + count = length-new_record (kind_number kind) class owner count in
-    let there : Changes ((5, get_or j.plain 5 0 + length (new_record (kind_number kind) class owner count)) ∷ []) k m = subst (λ t. Changes ((5, t) ∷ []) k m) (e ∙ ap (λ l. get_or j.plain 5 0 + l) (sym long)) c in
+    let there : Changes ((top_address, get_or j.plain top_address 0 + length (new_record (kind_number kind) class owner count)) ∷ []) k m = subst (λ t. Changes ((top_address, t) ∷ []) k m) (e ∙ ap (λ l. get_or j.plain top_address 0 + l) (sym long)) c in
     sound_made_at j k n s up b (new_record (kind_number kind) class owner count) f (own-new_record kind class owner count) (omega (arith, long, e, fits)) m there
 
 -- what stands at a new object's address
@@ -211,14 +212,14 @@ own-transient ReferenceArray Reset class owner long place = refl
 own-transient ReferenceArray Deselect class owner long place = refl
 
 -- a new transient object: the top and its area's end move together
-module _ (j k m : State) (n : ℕ) (kind : Kind) (event : ClearEvent) (class owner long place end : ℕ) (s : IsSound j n) (up : j.down ≡ false) (b : KeepsBelow (get_or j.plain 5 0) j k)
-    (f : Fills (get_or j.plain 5 0) (transient_record kind event class owner long place) j k) (at : place ≡ get_or j.plain (area_place event) 0) (e : end ≡ get_or j.plain 5 0 + 5) (fits : end ≤ n)
-    (c : Changes ((5, end) ∷ (area_place event, place + long) ∷ []) k m) where
-  own_fits : get_or j.plain 5 0 + 5 ≤ n
+module _ (j k m : State) (n : ℕ) (kind : Kind) (event : ClearEvent) (class owner long place end : ℕ) (s : IsSound j n) (up : j.down ≡ false) (b : KeepsBelow (get_or j.plain top_address 0) j k)
+    (f : Fills (get_or j.plain top_address 0) (transient_record kind event class owner long place) j k) (at : place ≡ get_or j.plain (area_end_address event) 0) (e : end ≡ get_or j.plain top_address 0 + 5) (fits : end ≤ n)
+    (c : Changes ((top_address, end) ∷ (area_end_address event, place + long) ∷ []) k m) where
+  own_fits : get_or j.plain top_address 0 + 5 ≤ n
   own_fits = omega (arith, e, fits)
 
   abbrev first : List ℕ
-  first = set k.plain 5 (get_or j.plain 5 0 + 5)
+  first = set k.plain top_address (get_or j.plain top_address 0 + 5)
 
   laid_first : IsLaid first
   laid_first = laid_now j k n s up b (transient_record kind event class owner long place) f (own-transient kind event class owner long place) own_fits
@@ -227,10 +228,10 @@ module _ (j k m : State) (n : ℕ) (kind : Kind) (event : ClearEvent) (class own
   heap_first = heap_now j k n s up b (transient_record kind event class owner long place) f (own-transient kind event class owner long place) own_fits
       ∙ ap (λ o. add_object (heap_of j.plain) o 5) (object_of-transient kind event class owner long place)
 
-  there : Changes ((5, get_or j.plain 5 0 + 5) ∷ (area_place event, place + long) ∷ []) k m
-  there = subst (λ t. Changes ((5, t) ∷ (area_place event, place + long) ∷ []) k m) e c
+  there : Changes ((top_address, get_or j.plain top_address 0 + 5) ∷ (area_end_address event, place + long) ∷ []) k m
+  there = subst (λ t. Changes ((top_address, t) ∷ (area_end_address event, place + long) ∷ []) k m) e c
 
-  heap_both : heap_of (set first (area_place event) (place + long)) ≡ add_transient (heap_of j.plain) kind event class owner long
+  heap_both : heap_of (set first (area_end_address event) (place + long)) ≡ add_transient (heap_of j.plain) kind event class owner long
   unfolding add_transient
   heap_both =
       let end_is : place ≡ area_end (heap_of j.plain) event = at ∙ sym (area_read j.plain event (s.now up)) in
@@ -245,14 +246,14 @@ module _ (j k m : State) (n : ℕ) (kind : Kind) (event : ClearEvent) (class own
       (shape_now j k n s up b (transient_record kind event class owner long place) f (own-transient kind event class owner long place) own_fits)))
 
   pub transient_sound : IsSound m n
-  transient_sound = sound_then j k n s up b (transient_record kind event class owner long place) f ((5, get_or j.plain 5 0 + 5) ∷ (area_place event, place + long) ∷ [])
+  transient_sound = sound_then j k n s up b (transient_record kind event class owner long place) f ((top_address, get_or j.plain top_address 0 + 5) ∷ (area_end_address event, place + long) ∷ [])
       (add_transient (heap_of j.plain) kind event class owner long) m there heap_both (IsLaid-end first event (place + long) laid_first)
       (omega (arith, top-end first event (place + long), top_now j k n s up b (transient_record kind event class owner long place) f (own-transient kind event class owner long place) own_fits)) shape_both
 
-  pub transient_view : (v : HeapView) → heap_view j n ≡ v → heap_view m n ≡ changed v (add_transient v.now kind event class owner long) (end_place ∷ area_place event ∷ []) 5
-  unfolding end_place
-  transient_view v is = subst (λ u. heap_view m n ≡ changed u (add_transient (u.now) kind event class owner long) (5 ∷ area_place event ∷ []) 5) is
-      (view_then j k n s up b (transient_record kind event class owner long place) f ((5, get_or j.plain 5 0 + 5) ∷ (area_place event, place + long) ∷ []) (add_transient (heap_of j.plain) kind event class owner long) m there heap_both)
+  pub transient_view : (v : HeapView) → heap_view j n ≡ v → heap_view m n ≡ changed v (add_transient v.now kind event class owner long) (end_address ∷ area_end_address event ∷ []) 5
+  unfolding end_address
+  transient_view v is = subst (λ u. heap_view m n ≡ changed u (add_transient (u.now) kind event class owner long) (top_address ∷ area_end_address event ∷ []) 5) is
+      (view_then j k n s up b (transient_record kind event class owner long place) f ((top_address, get_or j.plain top_address 0 + 5) ∷ (area_end_address event, place + long) ∷ []) (add_transient (heap_of j.plain) kind event class owner long) m there heap_both)
 
 -- of these places, those that a change keeps
 abbrev kept_of : List ℕ → Bool → List ℕ
@@ -271,5 +272,5 @@ pub only_down : (at : ℕ) (j k : State) → KeepsBelow at j k → (places : Lis
 only_down at j k b places fit StoreDown f = refl
 only_down at j k b places fit Full f = absurd (false≢true (sym (f refl) ∙ room_kept at j k b places ∙ fit))
 
-pub view_area : (j : State) (v : HeapView) (n : ℕ) (event : ClearEvent) → heap_view j n ≡ v → IsLaid j.plain → area_end v.now event ≡ get_or j.plain (area_place event) 0
-view_area j v n event is laid = subst (λ u. area_end (u.now) event ≡ get_or j.plain (area_place event) 0) is (area_read j.plain event laid)
+pub view_area : (j : State) (v : HeapView) (n : ℕ) (event : ClearEvent) → heap_view j n ≡ v → IsLaid j.plain → area_end v.now event ≡ get_or j.plain (area_end_address event) 0
+view_area j v n event is laid = subst (λ u. area_end (u.now) event ≡ get_or j.plain (area_end_address event) 0) is (area_read j.plain event laid)

@@ -7,7 +7,7 @@ use Rattle.jc_heap.specs.Cut.{Sizes, cut}
 use Rattle.jc_heap.specs.Table.{at_or}
 use Rattle.jc_heap.specs.Object.{APackage, is_object}
 use Rattle.jc_heap.specs.Image.{item, item_entry, image, package_addresses, sizes, base}
-use Rattle.jc_heap.specs.Heap.{HeapView, first_above, next_object, heap_of, read_image, item_at, IsObject}
+use Rattle.jc_heap.specs.Heap.{first_above, next_object, heap_of, read_image, item_at, IsObject}
 
 and_right : (a b : Bool) → (a && b) ≡ true → b ≡ true
 and_right true b e = e
@@ -48,6 +48,5 @@ found_cases None P f = tt
 found_cases (Some q) P f = f q refl
 
 -- what is found behind an address is an object
-pub next_is_object : (ws : List ℕ) (v : HeapView) (r : ℕ) → heap_of ws ≡ v.now → (found : Option ℕ) → found ≡ next_object v.now r → IfSome found (λ q. IsObject v.now q)
-next_is_object ws v r is found e =
-    found_cases found (λ q. IsObject v.now q) (λ q f. subst (λ h. IsObject h q) is (next_found ws r q (ap (λ h. next_object h r) is ∙ sym e ∙ f)))
+pub next_is_object : (ws : List ℕ) (r : ℕ) (found : Option ℕ) → found ≡ next_object (heap_of ws) r → IfSome found (λ q. IsObject (heap_of ws) q)
+next_is_object ws r found e = found_cases found (λ q. IsObject (heap_of ws) q) (λ q f. next_found ws r q (sym e ∙ f))

@@ -7,7 +7,7 @@ use Rattle.jc_heap.specs.Table.{at_or}
 use Rattle.jc_heap.specs.Object.{Item, APackage, facts_of, event_number}
 use Rattle.jc_heap.specs.Heap.{HeapState, item_at, area_end}
 use Rattle.jc_heap.specs.Whole.{lies_in, cells_in, all_cells_in, IsWhole, OwnsCells}
-use Rattle.jc_heap.proofs.Filling.{Run, run_end, run_of}
+use Rattle.jc_heap.proofs.AreaRuns.{Run, run_end, run_of}
 
 -- the item at an address
 abbrev found : List (ℕ × Item) → ℕ → Item

@@ -4,6 +4,7 @@ use Rattle.std.proofs.Math.Bool.{or-true}
 use Rattle.std.proofs.lemmas.List.{get_or-set_same, get_or-take, length-set, length-append, length-take-le, set-append_left, set-get_or, set-set, take-take, take-append-le}
 use Rattle.std.proofs.Math.Seq.{take-length}
 use Rattle.std.proofs.lemmas.Bool.{eq-eqb}
+use Rattle.jc_words.specs.Layout.{top_address, packages_address, addresses_start, most_packages, text_start}
 use Rattle.jc_heap.specs.declared.object.Kind.{Kind}
 use Rattle.jc_heap.specs.declared.object.Kind.TheVariants.{Instance, BooleanArray, ByteArray, ShortArray, ReferenceArray}
 use Rattle.jc_heap.specs.Object.{AnObject, APackage, object_of, payload}
@@ -59,31 +60,31 @@ own-array owner (ShortArray, bytes) = omega arith
 own-array owner (ReferenceArray, bytes) = omega arith
 
 -- the top moves over objects that stand there
-pub arrays-grown : (ws : List ℕ) (t owner : ℕ) (xs : List (Kind × List ℕ)) → get_or ws 5 0 ≡ t → IsLaid ws → take (t + length (arrays_words owner xs)) ws ≡ take t ws ++ arrays_words owner xs → t + length (arrays_words owner xs) ≤ length ws →
-    (heap_of (set ws 5 (t + length (arrays_words owner xs))) ≡ add_arrays (heap_of ws) owner xs) × IsLaid (set ws 5 (t + length (arrays_words owner xs)))
+pub arrays-grown : (ws : List ℕ) (t owner : ℕ) (xs : List (Kind × List ℕ)) → get_or ws top_address 0 ≡ t → IsLaid ws → take (t + length (arrays_words owner xs)) ws ≡ take t ws ++ arrays_words owner xs → t + length (arrays_words owner xs) ≤ length ws →
+    (heap_of (set ws top_address (t + length (arrays_words owner xs))) ≡ add_arrays (heap_of ws) owner xs) × IsLaid (set ws top_address (t + length (arrays_words owner xs)))
 arrays-grown ws t owner [] is laid e fits =
-    let same : set ws 5 (t + 0) ≡ ws = ap (set ws 5) (add-zero t ∙ sym is) ∙ set-get_or ws 5 0 in
+    let same : set ws top_address (t + 0) ≡ ws = ap (set ws top_address) (add-zero t ∙ sym is) ∙ set-get_or ws top_address 0 in
     (ap heap_of same, subst IsLaid (sym same) laid)
 arrays-grown ws t owner (x ∷ xs) is laid e fits =
     let rec : List ℕ = array_words owner x in
     let rest : List ℕ = arrays_words owner xs in
     let all : length (rec ++ rest) ≡ length rec + length rest = length-append rec rest in
-    let far : 5 < t = omega (arith, laid.based, is) in
+    let far : top_address < t = omega (arith, laid.based, is) in
     let front : length (take t ws) ≡ t = length-take-le t ws (omega arith) in
     let first : take (t + length rec) ws ≡ take t ws ++ rec = front_part ws (take t ws) rec rest t e front in
     let second : take (t + length rec + length rest) ws ≡ take (t + length rec) ws ++ rest = back_part ws (take t ws) rec rest t e front in
-    let first_at : take (get_or ws 5 0 + length rec) ws ≡ take (get_or ws 5 0) ws ++ rec = subst (λ n. take (n + length rec) ws ≡ take n ws ++ rec) (sym is) first in
-    let fits_at : get_or ws 5 0 + length rec ≤ length ws = omega (arith, is, fits, all) in
-    let moved : List ℕ = set ws 5 (t + length rec) in
-    let at : set ws 5 (get_or ws 5 0 + length rec) ≡ moved = ap (λ n. set ws 5 (n + length rec)) is in
+    let first_at : take (get_or ws top_address 0 + length rec) ws ≡ take (get_or ws top_address 0) ws ++ rec = subst (λ n. take (n + length rec) ws ≡ take n ws ++ rec) (sym is) first in
+    let fits_at : get_or ws top_address 0 + length rec ≤ length ws = omega (arith, is, fits, all) in
+    let moved : List ℕ = set ws top_address (t + length rec) in
+    let at : set ws top_address (get_or ws top_address 0 + length rec) ≡ moved = ap (λ n. set ws top_address (n + length rec)) is in
     let one : heap_of moved ≡ add_object (heap_of ws) (array_object owner x) (array_size x) =
     ap heap_of (sym at) ∙ heap_of-grown ws ws rec laid first_at fits_at (own-array owner x) ∙ ap (λ o. add_object (heap_of ws) o (length rec)) (object_of-array owner x) ∙ ap (add_object (heap_of ws) (array_object owner x)) (omega arith) in
     let laid_one : IsLaid moved = subst IsLaid at (IsLaid-grown ws ws rec laid first_at fits_at (own-array owner x)) in
-    let top_one : get_or moved 5 0 ≡ t + length rec = get_or-set_same ws 5 (t + length rec) 0 (omega arith) in
-    let rest_one : take (t + length rec + length rest) moved ≡ take (t + length rec) moved ++ rest = behind_set ws rest (t + length rec) 5 (t + length rec) second (omega arith) (omega (arith, all)) in
-    let ih : (heap_of (set moved 5 (t + length rec + length rest)) ≡ add_arrays (heap_of moved) owner xs) × IsLaid (set moved 5 (t + length rec + length rest)) =
-    arrays-grown moved (t + length rec) owner xs top_one laid_one rest_one (omega (arith, all, length-set ws 5 (t + length rec))) in
-    let last : set moved 5 (t + length rec + length rest) ≡ set ws 5 (t + length (rec ++ rest)) = set-set ws 5 (t + length rec) (t + length rec + length rest) ∙ ap (set ws 5) (omega (arith, all)) in
+    let top_one : get_or moved top_address 0 ≡ t + length rec = get_or-set_same ws top_address (t + length rec) 0 (omega arith) in
+    let rest_one : take (t + length rec + length rest) moved ≡ take (t + length rec) moved ++ rest = behind_set ws rest (t + length rec) top_address (t + length rec) second (omega arith) (omega (arith, all)) in
+    let ih : (heap_of (set moved top_address (t + length rec + length rest)) ≡ add_arrays (heap_of moved) owner xs) × IsLaid (set moved top_address (t + length rec + length rest)) =
+    arrays-grown moved (t + length rec) owner xs top_one laid_one rest_one (omega (arith, all, length-set ws top_address (t + length rec))) in
+    let last : set moved top_address (t + length rec + length rest) ≡ set ws top_address (t + length (rec ++ rest)) = set-set ws top_address (t + length rec) (t + length rec + length rest) ∙ ap (set ws top_address) (omega (arith, all)) in
     (ap heap_of (sym last) ∙ ih.0 ∙ ap (λ h. add_arrays h owner xs) one, subst IsLaid last ih.1)
 
 -- three words of the fixed area, in a run in front of other words
@@ -100,32 +101,32 @@ three-append front xs a b c x y z ha hb hc =
     ∙ set-append_left (set (set front a x) b y) xs c z (omega (arith, length-set front a x, length-set (set front a x) b y))
 
 -- a record is named as a package's, and the top moves over it
-module _ (old ws rec : List ℕ) (laid : IsLaid old) (few : get_or old 6 0 < 32) (e : take (get_or old 5 0 + length rec) ws ≡ take (get_or old 5 0) old ++ rec) (fits : get_or old 5 0 + length rec ≤ length ws) (own : get_or rec 0 0 ≡ length rec) (some : 0 < length rec) where
+module _ (old ws rec : List ℕ) (laid : IsLaid old) (few : get_or old packages_address 0 < most_packages) (e : take (get_or old top_address 0 + length rec) ws ≡ take (get_or old top_address 0) old ++ rec) (fits : get_or old top_address 0 + length rec ≤ length ws) (own : get_or rec 0 0 ≡ length rec) (some : 0 < length rec) where
   -- the words after the change
   abbrev pub pushed : List ℕ
-  pushed = set (set (set ws (528 + get_or old 6 0) (get_or old 5 0)) 6 (get_or old 6 0 + 1)) 5 (get_or old 5 0 + length rec)
+  pushed = set (set (set ws (addresses_start + get_or old packages_address 0) (get_or old top_address 0)) packages_address (get_or old packages_address 0 + 1)) top_address (get_or old top_address 0 + length rec)
 
   abbrev img : List ℕ
   img = image old
 
-  long : length (image old) ≡ get_or old 5 0
-  long = length-take-le (get_or old 5 0) old laid.fits
+  long : length (image old) ≡ get_or old top_address 0
+  long = length-take-le (get_or old top_address 0) old laid.fits
 
-  wide : 752 ≤ length (image old)
+  wide : text_start ≤ length (image old)
   wide = omega (arith, long, laid.based)
 
   based : base (image old) ≤ length (image old)
   based = omega (arith, long, laid.based)
 
-  count : get_or (image old) 6 0 ≡ get_or old 6 0
-  count = get_or-take (get_or old 5 0) old 6 0 (omega (arith, laid.based))
+  count : get_or (image old) packages_address 0 ≡ get_or old packages_address 0
+  count = get_or-take (get_or old top_address 0) old packages_address 0 (omega (arith, laid.based))
 
-  few_there : get_or (image old) 6 0 < 32
+  few_there : get_or (image old) packages_address 0 < most_packages
   few_there = omega (arith, count, few)
 
   -- the image with the name, before the top moves
   abbrev nm : List ℕ
-  nm = set (set (image old) (528 + get_or (image old) 6 0) (length (image old))) 6 (get_or (image old) 6 0 + 1)
+  nm = set (set (image old) (addresses_start + get_or (image old) packages_address 0) (length (image old))) packages_address (get_or (image old) packages_address 0 + 1)
 
   long_named : length nm ≡ length (image old)
   long_named = length-named (image old) wide few_there based
@@ -133,21 +134,21 @@ module _ (old ws rec : List ℕ) (laid : IsLaid old) (few : get_or old 6 0 < 32)
   names_named : package_addresses nm ≡ package_addresses (image old) ++ length (image old) ∷ []
   names_named = packages-named (image old) wide few_there based
 
-  top_pushed : get_or pushed 5 0 ≡ get_or old 5 0 + length rec
-  top_pushed = get_or-set_same (set (set ws (528 + get_or old 6 0) (get_or old 5 0)) 6 (get_or old 6 0 + 1)) 5 (get_or old 5 0 + length rec) 0
-      (omega (arith, length-set ws (528 + get_or old 6 0) (get_or old 5 0), length-set (set ws (528 + get_or old 6 0) (get_or old 5 0)) 6 (get_or old 6 0 + 1), laid.based))
+  top_pushed : get_or pushed top_address 0 ≡ get_or old top_address 0 + length rec
+  top_pushed = get_or-set_same (set (set ws (addresses_start + get_or old packages_address 0) (get_or old top_address 0)) packages_address (get_or old packages_address 0 + 1)) top_address (get_or old top_address 0 + length rec) 0
+      (omega (arith, length-set ws (addresses_start + get_or old packages_address 0) (get_or old top_address 0), length-set (set ws (addresses_start + get_or old packages_address 0) (get_or old top_address 0)) packages_address (get_or old packages_address 0 + 1), laid.based))
 
-  is_pushed : image pushed ≡ set nm 5 (length nm + length rec) ++ rec
+  is_pushed : image pushed ≡ set nm top_address (length nm + length rec) ++ rec
   is_pushed =
       ap (λ n. take n pushed) top_pushed
-      ∙ take-three (get_or old 5 0 + length rec) ws (528 + get_or old 6 0) 6 5 (get_or old 5 0) (get_or old 6 0 + 1) (get_or old 5 0 + length rec)
-      ∙ ap (λ l. set (set (set l (528 + get_or old 6 0) (get_or old 5 0)) 6 (get_or old 6 0 + 1)) 5 (get_or old 5 0 + length rec)) e
-      ∙ three-append (image old) rec (528 + get_or old 6 0) 6 5 (get_or old 5 0) (get_or old 6 0 + 1) (get_or old 5 0 + length rec) (omega (arith, wide, few)) (omega (arith, wide)) (omega (arith, wide))
-      ∙ ap (λ k. set (set (set (image old) (528 + k) (get_or old 5 0)) 6 (k + 1)) 5 (get_or old 5 0 + length rec) ++ rec) (sym count)
-      ∙ ap (λ t. set (set (set (image old) (528 + get_or (image old) 6 0) t) 6 (get_or (image old) 6 0 + 1)) 5 (t + length rec) ++ rec) (sym long)
-      ∙ ap (λ t. set nm 5 (t + length rec) ++ rec) (sym long_named)
+      ∙ take-three (get_or old top_address 0 + length rec) ws (addresses_start + get_or old packages_address 0) packages_address top_address (get_or old top_address 0) (get_or old packages_address 0 + 1) (get_or old top_address 0 + length rec)
+      ∙ ap (λ l. set (set (set l (addresses_start + get_or old packages_address 0) (get_or old top_address 0)) packages_address (get_or old packages_address 0 + 1)) top_address (get_or old top_address 0 + length rec)) e
+      ∙ three-append (image old) rec (addresses_start + get_or old packages_address 0) packages_address top_address (get_or old top_address 0) (get_or old packages_address 0 + 1) (get_or old top_address 0 + length rec) (omega (arith, wide, few)) (omega (arith, wide)) (omega (arith, wide))
+      ∙ ap (λ k. set (set (set (image old) (addresses_start + k) (get_or old top_address 0)) packages_address (k + 1)) top_address (get_or old top_address 0 + length rec) ++ rec) (sym count)
+      ∙ ap (λ t. set (set (set (image old) (addresses_start + get_or (image old) packages_address 0) t) packages_address (get_or (image old) packages_address 0 + 1)) top_address (t + length rec) ++ rec) (sym long)
+      ∙ ap (λ t. set nm top_address (t + length rec) ++ rec) (sym long_named)
 
-  wide_named : 752 ≤ length nm
+  wide_named : text_start ≤ length nm
   wide_named = omega (arith, long_named, wide)
 
   base_named : base nm ≡ base (image old)
@@ -179,7 +180,7 @@ module _ (old ws rec : List ℕ) (laid : IsLaid old) (few : get_or old 6 0 < 32)
   pub laid-pushed : IsLaid pushed
   laid-pushed = record {
     based = let b : base (image pushed) ≡ base (image old) = ap base is_pushed ∙ base-grown nm rec wide_named ∙ base_named in omega (arith, top_pushed, laid.based);
-    fits = omega (arith, top_pushed, fits, length-set ws (528 + get_or old 6 0) (get_or old 5 0), length-set (set ws (528 + get_or old 6 0) (get_or old 5 0)) 6 (get_or old 6 0 + 1), length-set (set (set ws (528 + get_or old 6 0) (get_or old 5 0)) 6 (get_or old 6 0 + 1)) 5 (get_or old 5 0 + length rec));
+    fits = omega (arith, top_pushed, fits, length-set ws (addresses_start + get_or old packages_address 0) (get_or old top_address 0), length-set (set ws (addresses_start + get_or old packages_address 0) (get_or old top_address 0)) packages_address (get_or old packages_address 0 + 1), length-set (set (set ws (addresses_start + get_or old packages_address 0) (get_or old top_address 0)) packages_address (get_or old packages_address 0 + 1)) top_address (get_or old top_address 0 + length rec));
     whole = ap missing is_pushed ∙ missing-grown nm rec wide_named based_named whole_named own_named;
     packages = λ a le.
         ap (λ l. is_package (package_addresses l) a) is_pushed
@@ -189,37 +190,37 @@ module _ (old ws rec : List ℕ) (laid : IsLaid old) (few : get_or old 6 0 < 32)
   }
 
 -- the same with arrays behind the record, which get their owner
-module _ (old ws rec : List ℕ) (owner : ℕ) (xs : List (Kind × List ℕ)) (laid : IsLaid old) (few : get_or old 6 0 < 32)
-    (e : take (get_or old 5 0 + length (rec ++ arrays_words owner xs)) ws ≡ take (get_or old 5 0) old ++ (rec ++ arrays_words owner xs)) (fits : get_or old 5 0 + length (rec ++ arrays_words owner xs) ≤ length ws)
+module _ (old ws rec : List ℕ) (owner : ℕ) (xs : List (Kind × List ℕ)) (laid : IsLaid old) (few : get_or old packages_address 0 < most_packages)
+    (e : take (get_or old top_address 0 + length (rec ++ arrays_words owner xs)) ws ≡ take (get_or old top_address 0) old ++ (rec ++ arrays_words owner xs)) (fits : get_or old top_address 0 + length (rec ++ arrays_words owner xs) ≤ length ws)
     (own : get_or rec 0 0 ≡ length rec) (some : 0 < length rec) where
   -- the words after the change
   abbrev pub packaged : List ℕ
-  packaged = set (set (set ws (528 + get_or old 6 0) (get_or old 5 0)) 6 (get_or old 6 0 + 1)) 5 (get_or old 5 0 + length (rec ++ arrays_words owner xs))
+  packaged = set (set (set ws (addresses_start + get_or old packages_address 0) (get_or old top_address 0)) packages_address (get_or old packages_address 0 + 1)) top_address (get_or old top_address 0 + length (rec ++ arrays_words owner xs))
 
   all : length (rec ++ arrays_words owner xs) ≡ length rec + length (arrays_words owner xs)
   all = length-append rec (arrays_words owner xs)
 
-  front : length (take (get_or old 5 0) old) ≡ get_or old 5 0
-  front = length-take-le (get_or old 5 0) old laid.fits
+  front : length (take (get_or old top_address 0) old) ≡ get_or old top_address 0
+  front = length-take-le (get_or old top_address 0) old laid.fits
 
-  first : take (get_or old 5 0 + length rec) ws ≡ take (get_or old 5 0) old ++ rec
-  first = front_part ws (take (get_or old 5 0) old) rec (arrays_words owner xs) (get_or old 5 0) e front
+  first : take (get_or old top_address 0 + length rec) ws ≡ take (get_or old top_address 0) old ++ rec
+  first = front_part ws (take (get_or old top_address 0) old) rec (arrays_words owner xs) (get_or old top_address 0) e front
 
-  second : take (get_or old 5 0 + length rec + length (arrays_words owner xs)) ws ≡ take (get_or old 5 0 + length rec) ws ++ arrays_words owner xs
-  second = back_part ws (take (get_or old 5 0) old) rec (arrays_words owner xs) (get_or old 5 0) e front
+  second : take (get_or old top_address 0 + length rec + length (arrays_words owner xs)) ws ≡ take (get_or old top_address 0 + length rec) ws ++ arrays_words owner xs
+  second = back_part ws (take (get_or old top_address 0) old) rec (arrays_words owner xs) (get_or old top_address 0) e front
 
-  fits_first : get_or old 5 0 + length rec ≤ length ws
+  fits_first : get_or old top_address 0 + length rec ≤ length ws
   fits_first = omega (arith, all, fits)
 
-  far : 752 ≤ get_or old 5 0
+  far : text_start ≤ get_or old top_address 0
   far = omega (arith, laid.based)
 
   -- the words with the record alone
   abbrev one : List ℕ
-  one = set (set (set ws (528 + get_or old 6 0) (get_or old 5 0)) 6 (get_or old 6 0 + 1)) 5 (get_or old 5 0 + length rec)
+  one = set (set (set ws (addresses_start + get_or old packages_address 0) (get_or old top_address 0)) packages_address (get_or old packages_address 0 + 1)) top_address (get_or old top_address 0 + length rec)
 
-  size_one : length (set (set ws (528 + get_or old 6 0) (get_or old 5 0)) 6 (get_or old 6 0 + 1)) ≡ length ws
-  size_one = length-set (set ws (528 + get_or old 6 0) (get_or old 5 0)) 6 (get_or old 6 0 + 1) ∙ length-set ws (528 + get_or old 6 0) (get_or old 5 0)
+  size_one : length (set (set ws (addresses_start + get_or old packages_address 0) (get_or old top_address 0)) packages_address (get_or old packages_address 0 + 1)) ≡ length ws
+  size_one = length-set (set ws (addresses_start + get_or old packages_address 0) (get_or old top_address 0)) packages_address (get_or old packages_address 0 + 1) ∙ length-set ws (addresses_start + get_or old packages_address 0) (get_or old top_address 0)
 
   heap_one : heap_of one ≡ push_package (heap_of old) rec
   heap_one = heap_of-pushed old ws rec laid few first fits_first own some
@@ -227,25 +228,25 @@ module _ (old ws rec : List ℕ) (owner : ℕ) (xs : List (Kind × List ℕ)) (l
   laid_one : IsLaid one
   laid_one = laid-pushed old ws rec laid few first fits_first own some
 
-  top_one : get_or one 5 0 ≡ get_or old 5 0 + length rec
-  top_one = get_or-set_same (set (set ws (528 + get_or old 6 0) (get_or old 5 0)) 6 (get_or old 6 0 + 1)) 5 (get_or old 5 0 + length rec) 0 (omega (arith, size_one, far, fits_first))
+  top_one : get_or one top_address 0 ≡ get_or old top_address 0 + length rec
+  top_one = get_or-set_same (set (set ws (addresses_start + get_or old packages_address 0) (get_or old top_address 0)) packages_address (get_or old packages_address 0 + 1)) top_address (get_or old top_address 0 + length rec) 0 (omega (arith, size_one, far, fits_first))
 
-  behind_one : take (get_or old 5 0 + length rec + length (arrays_words owner xs)) one ≡ take (get_or old 5 0 + length rec) one ++ arrays_words owner xs
+  behind_one : take (get_or old top_address 0 + length rec + length (arrays_words owner xs)) one ≡ take (get_or old top_address 0 + length rec) one ++ arrays_words owner xs
   behind_one =
-      let m : ℕ = get_or old 5 0 + length rec in
-      let w1 : List ℕ = set ws (528 + get_or old 6 0) (get_or old 5 0) in
-      let w2 : List ℕ = set w1 6 (get_or old 6 0 + 1) in
-      let b1 : take (m + length (arrays_words owner xs)) w1 ≡ take m w1 ++ arrays_words owner xs = behind_set ws (arrays_words owner xs) m (528 + get_or old 6 0) (get_or old 5 0) second (omega (arith, few, far)) fits_first in
-      let b2 : take (m + length (arrays_words owner xs)) w2 ≡ take m w2 ++ arrays_words owner xs = behind_set w1 (arrays_words owner xs) m 6 (get_or old 6 0 + 1) b1 (omega (arith, far)) (omega (arith, fits_first, length-set ws (528 + get_or old 6 0) (get_or old 5 0))) in
-      behind_set w2 (arrays_words owner xs) m 5 (get_or old 5 0 + length rec) b2 (omega (arith, far)) (omega (arith, fits_first, size_one))
+      let m : ℕ = get_or old top_address 0 + length rec in
+      let w1 : List ℕ = set ws (addresses_start + get_or old packages_address 0) (get_or old top_address 0) in
+      let w2 : List ℕ = set w1 packages_address (get_or old packages_address 0 + 1) in
+      let b1 : take (m + length (arrays_words owner xs)) w1 ≡ take m w1 ++ arrays_words owner xs = behind_set ws (arrays_words owner xs) m (addresses_start + get_or old packages_address 0) (get_or old top_address 0) second (omega (arith, few, far)) fits_first in
+      let b2 : take (m + length (arrays_words owner xs)) w2 ≡ take m w2 ++ arrays_words owner xs = behind_set w1 (arrays_words owner xs) m packages_address (get_or old packages_address 0 + 1) b1 (omega (arith, far)) (omega (arith, fits_first, length-set ws (addresses_start + get_or old packages_address 0) (get_or old top_address 0))) in
+      behind_set w2 (arrays_words owner xs) m top_address (get_or old top_address 0 + length rec) b2 (omega (arith, far)) (omega (arith, fits_first, size_one))
 
-  both : (heap_of (set one 5 (get_or old 5 0 + length rec + length (arrays_words owner xs))) ≡ add_arrays (heap_of one) owner xs) × IsLaid (set one 5 (get_or old 5 0 + length rec + length (arrays_words owner xs)))
-  both = arrays-grown one (get_or old 5 0 + length rec) owner xs top_one laid_one behind_one
-      (omega (arith, all, fits, size_one, length-set (set (set ws (528 + get_or old 6 0) (get_or old 5 0)) 6 (get_or old 6 0 + 1)) 5 (get_or old 5 0 + length rec)))
+  both : (heap_of (set one top_address (get_or old top_address 0 + length rec + length (arrays_words owner xs))) ≡ add_arrays (heap_of one) owner xs) × IsLaid (set one top_address (get_or old top_address 0 + length rec + length (arrays_words owner xs)))
+  both = arrays-grown one (get_or old top_address 0 + length rec) owner xs top_one laid_one behind_one
+      (omega (arith, all, fits, size_one, length-set (set (set ws (addresses_start + get_or old packages_address 0) (get_or old top_address 0)) packages_address (get_or old packages_address 0 + 1)) top_address (get_or old top_address 0 + length rec)))
 
-  same : set one 5 (get_or old 5 0 + length rec + length (arrays_words owner xs)) ≡ packaged
-  same = set-set (set (set ws (528 + get_or old 6 0) (get_or old 5 0)) 6 (get_or old 6 0 + 1)) 5 (get_or old 5 0 + length rec) (get_or old 5 0 + length rec + length (arrays_words owner xs))
-      ∙ ap (set (set (set ws (528 + get_or old 6 0) (get_or old 5 0)) 6 (get_or old 6 0 + 1)) 5) (omega (arith, all))
+  same : set one top_address (get_or old top_address 0 + length rec + length (arrays_words owner xs)) ≡ packaged
+  same = set-set (set (set ws (addresses_start + get_or old packages_address 0) (get_or old top_address 0)) packages_address (get_or old packages_address 0 + 1)) top_address (get_or old top_address 0 + length rec) (get_or old top_address 0 + length rec + length (arrays_words owner xs))
+      ∙ ap (set (set (set ws (addresses_start + get_or old packages_address 0) (get_or old top_address 0)) packages_address (get_or old packages_address 0 + 1)) top_address) (omega (arith, all))
 
   pub heap_of-packaged : heap_of packaged ≡ add_arrays (push_package (heap_of old) rec) owner xs
   heap_of-packaged = ap heap_of (sym same) ∙ both.0 ∙ ap (λ h. add_arrays h owner xs) heap_one
@@ -253,5 +254,5 @@ module _ (old ws rec : List ℕ) (owner : ℕ) (xs : List (Kind × List ℕ)) (l
   pub laid-packaged : IsLaid packaged
   laid-packaged = subst IsLaid same both.1
 
-  pub top-packaged : get_or packaged 5 0 ≡ get_or old 5 0 + length (rec ++ arrays_words owner xs)
-  top-packaged = get_or-set_same (set (set ws (528 + get_or old 6 0) (get_or old 5 0)) 6 (get_or old 6 0 + 1)) 5 (get_or old 5 0 + length (rec ++ arrays_words owner xs)) 0 (omega (arith, size_one, far, fits))
+  pub top-packaged : get_or packaged top_address 0 ≡ get_or old top_address 0 + length (rec ++ arrays_words owner xs)
+  top-packaged = get_or-set_same (set (set ws (addresses_start + get_or old packages_address 0) (get_or old top_address 0)) packages_address (get_or old packages_address 0 + 1)) top_address (get_or old top_address 0 + length (rec ++ arrays_words owner xs)) 0 (omega (arith, size_one, far, fits))

@@ -7,7 +7,7 @@ use Rattle.jc_heap.specs.declared.package.Component.{Component}
 use Rattle.jc_heap.specs.declared.package.StaticArray.{StaticArray}
 use Rattle.jc_heap.specs.Object.{has_bytes}
 use Rattle.jc_heap.specs.Packages.{part, parts, initial, initials, component_words, components_words, elements, array_words, arrays_words, array_size, AreComponents, AreArrays, arrays_size, array_addresses}
-use Rattle.jc_heap.specs.Laying.{packed}
+use Rattle.jc_heap.specs.Packed.{packed}
 
 pub length-packed : (bs : List ℕ) → length (packed bs) ≡ length bs / 2 + length bs % 2
 length-packed [] = refl
@@ -23,6 +23,19 @@ packed-at (b ∷ c ∷ bs) (suc k) h =
     let even : 2 * suc k ≡ suc (suc (2 * k)) = omega arith in
     let odd : 2 * suc k + 1 ≡ suc (suc (2 * k + 1)) = omega arith in
     packed-at bs k (omega arith) ∙ (λ i. get_or (b ∷ c ∷ bs) (sym even i) 0 * 256 + get_or (b ∷ c ∷ bs) (sym odd i) 0)
+
+pub packed-word : (text : List ℕ) (k : ℕ) → get_or (packed text) k 0 ≡ 256 * get_or text (2 * k) 0 + get_or text (2 * k + 1) 0
+packed-word [] k = refl
+packed-word (b ∷ []) zero = omega arith
+packed-word (b ∷ []) (suc k) =
+    let e : 2 * suc k ≡ suc (suc (2 * k)) = omega arith in
+    let f : suc (suc (2 * k)) + 1 ≡ suc (suc (2 * k + 1)) = omega arith in
+    rw (e, f) refl
+packed-word (b ∷ c ∷ bytes) zero = refl
+packed-word (b ∷ c ∷ bytes) (suc k) =
+    let e : 2 * suc k ≡ suc (suc (2 * k)) = omega arith in
+    let f : suc (suc (2 * k)) + 1 ≡ suc (suc (2 * k + 1)) = omega arith in
+    rw (e, f) (packed-word bytes k)
 
 pub components_words-append : (xs ys : List (ℕ × List ℕ)) → components_words (xs ++ ys) ≡ components_words xs ++ components_words ys
 components_words-append [] ys = refl

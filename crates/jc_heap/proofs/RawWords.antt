@@ -3,6 +3,7 @@ use Rattle.std.proofs.Common.{◌≡◌, ℕ, zero, suc, ◌+◌, ◌-◌, ◌/�
 use Rattle.std.proofs.lemmas.List.{ext_get_or, get_or-take, length-take, take-take, drop-take}
 use Rattle.std.proofs.lemmas.List.FromFn.{get_or-map-range_with_len}
 use Rattle.std.proofs.lemmas.Bool.{ne_eqb}
+use Rattle.jc_words.specs.Layout.{top_address, text_length_address, text_start}
 use Rattle.jc_commit.specs.Image.{address_at, entries, entries_from, old_value, is_log, plain_of, recovered_of, words_by, IsGoodLog, IsReadable}
 use Rattle.jc_commit.proofs.Words.{get_or-words_by, is_log-readable}
 use Rattle.jc_commit.proofs.InPlace.{length-plain, length-recovered, plain_word}
@@ -50,16 +51,16 @@ recovered-front w good =
 -- the heap's head is the first three words
 pub head_is : (ws : List ℕ) → IsLaid ws → (heap_of ws).head ≡ take 3 ws
 unfolding read_image
-head_is ws laid = take-take 3 (get_or ws 5 0) ws (omega (arith, laid.based))
+head_is ws laid = take-take 3 (get_or ws top_address 0) ws (omega (arith, laid.based))
 
 -- and its text the table text
 pub text_is : (ws : List ℕ) → IsLaid ws → (heap_of ws).text ≡ table_text ws
 unfolding read_image
 text_is ws laid =
-    let long : get_or (image ws) 10 0 ≡ get_or ws 10 0 = get_or-take (get_or ws 5 0) ws 10 0 (omega (arith, laid.based)) in
-    let based : 752 + (get_or ws 10 0 + 1) / 2 ≤ get_or ws 5 0 = omega (arith, laid.based, ap (λ n. (n + 1) / 2) long) in
-    let split : 752 + (get_or ws 5 0 - 752) ≡ get_or ws 5 0 = omega (arith, based) in
+    let long : get_or (image ws) text_length_address 0 ≡ get_or ws text_length_address 0 = get_or-take (get_or ws top_address 0) ws text_length_address 0 (omega (arith, laid.based)) in
+    let based : text_start + (get_or ws text_length_address 0 + 1) / 2 ≤ get_or ws top_address 0 = omega (arith, laid.based, ap (λ n. (n + 1) / 2) long) in
+    let split : text_start + (get_or ws top_address 0 - text_start) ≡ get_or ws top_address 0 = omega (arith, based) in
     text-same ws (image ws) long
-    (ap (λ t. take ((get_or ws 10 0 + 1) / 2) (drop 752 (take t ws))) (sym split)
-    ∙ ap (take ((get_or ws 10 0 + 1) / 2)) (drop-take 752 (get_or ws 5 0 - 752) ws)
-    ∙ take-take ((get_or ws 10 0 + 1) / 2) (get_or ws 5 0 - 752) (drop 752 ws) (omega (arith, based)))
+    (ap (λ t. take ((get_or ws text_length_address 0 + 1) / 2) (drop text_start (take t ws))) (sym split)
+    ∙ ap (take ((get_or ws text_length_address 0 + 1) / 2)) (drop-take text_start (get_or ws top_address 0 - text_start) ws)
+    ∙ take-take ((get_or ws text_length_address 0 + 1) / 2) (get_or ws top_address 0 - text_start) (drop text_start ws) (omega (arith, based)))

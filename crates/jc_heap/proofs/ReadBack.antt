@@ -7,7 +7,7 @@ use Rattle.jc_heap.specs.declared.component.Span.{Span}
 use Rattle.jc_heap.specs.Cut.{cut}
 use Rattle.jc_heap.specs.Image.{packed_byte}
 use Rattle.jc_heap.specs.Packages.{component_words, components_words, image_words, record_size, package_record, AreComponents}
-use Rattle.jc_heap.specs.Laying.{packed}
+use Rattle.jc_heap.specs.Packed.{packed}
 use Rattle.jc_heap.specs.Components.{words_for, part_sizes, info_span, info_of, ReadsBack}
 use Rattle.jc_heap.proofs.Packing.{length-packed, packed-at}
 use Rattle.jc_heap.proofs.RecordReading.{info-here, info-next, info-image, span-whole}

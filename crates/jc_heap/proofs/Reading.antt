@@ -1,19 +1,19 @@
 -- What the words of an object's record say.
-use Rattle.std.proofs.Common.{◌≡◌, ℕ, suc, ◌+◌, ◌-◌, ◌/◌, ◌%◌, ◌<◌, ◌≤◌, ◌==◌, Bool, true, false, inl, inr, List, [], ◌∷◌, length, get_or, drop, refl, sym, ◌∙◌, ap, subst, arith, if◌then◌else◌, Option, Some, None, is_some, lit≤}
+use Rattle.std.proofs.Common.{◌≡◌, ℕ, suc, ◌+◌, ◌-◌, ◌/◌, ◌%◌, ◌<◌, ◌≤◌, ◌==◌, Bool, true, false, inl, inr, List, [], ◌∷◌, length, get_or, drop, refl, sym, ◌∙◌, ap, subst, arith, if◌then◌else◌, Option, Some, None, is_some, lit≤, IsTrue, not, ◌&&◌}
 use Rattle.jc_transient.specs.declared.cell.ClearEvent.{ClearEvent}
 use Rattle.jc_transient.specs.declared.cell.ClearEvent.TheVariants.{Reset, Deselect}
 use Rattle.jc_heap.specs.declared.object.Kind.{Kind}
 use Rattle.std.proofs.lemmas.List.{get_or-take, get_or-drop, length-drop, length-take}
 use Rattle.std.proofs.lemmas.Bool.{cases_Bool, cases_eq, false≢true, eq-eqb, ne_eqb}
+use Rattle.jc_words.specs.Layout.{top_address, text_start}
 use Rattle.jc_commit.specs.State.{State}
 use Rattle.jc_heap.specs.declared.object.Facts.{Facts}
 use Rattle.jc_heap.specs.Table.{at_or, has}
 use Rattle.jc_heap.specs.Object.{AnObject, APackage, object_of, cells_of, facts_of, is_object, is_header, payload, kind_of, event_of}
 use Rattle.jc_heap.specs.Image.{image, base, package_addresses, is_package, sizes, item, records, missing, IsLaid}
-use Rattle.jc_heap.specs.Heap.{HeapView, heap_view, heap_of, read_image, item_at, cells, facts, IsObject, IsSound}
+use Rattle.jc_heap.specs.Heap.{heap_of, read_image, item_at, names, cells, facts, IsObject}
 use Rattle.jc_heap.proofs.Records.{at_or-cut, has_behind, length-record}
-use Rattle.jc_heap.proofs.Tables.{at_or-map, at_or-map_absent}
-use Rattle.jc_heap.proofs.Changing.{up_is}
+use Rattle.jc_heap.proofs.Tables.{at_or-map, at_or-map_absent, has-map}
 
 -- the facts that a header's words say, and the word behind it
 abbrev pub said : ℕ → ℕ → ℕ → ℕ → ℕ → Facts
@@ -81,13 +81,13 @@ module _ (ws : List ℕ) (r : ℕ) (laid : IsLaid ws) (there : IsObject (heap_of
   behind = omega (arith, has_behind (sizes (package_addresses (image ws))) 0 (base (image ws)) (drop (base (image ws)) (image ws)) r named)
 
   -- a word of the record
-  word_is : (j : ℕ) → j < length rec → (r + j < get_or ws 5 0) × (get_or rec j 0 ≡ get_or ws (r + j) 0)
+  word_is : (j : ℕ) → j < length rec → (r + j < get_or ws top_address 0) × (get_or rec j 0 ≡ get_or ws (r + j) 0)
   word_is j h =
       let offset : base (image ws) + (r + j - base (image ws)) ≡ r + j = omega (arith, behind) in
       let at : (r + j - base (image ws) < length (drop (base (image ws)) (image ws))) × (get_or rec j 0 ≡ get_or (drop (base (image ws)) (image ws)) (r + j - base (image ws)) 0) =
       at_or-cut (sizes (package_addresses (image ws))) 0 (base (image ws)) (drop (base (image ws)) (image ws)) r j (r + j - base (image ws)) h offset in
-      let below : r + j < get_or ws 5 0 = omega (arith, at.0, offset, length-drop (base (image ws)) (image ws), length-take (get_or ws 5 0) ws) in
-      (below, at.1 ∙ get_or-drop (base (image ws)) (image ws) (r + j - base (image ws)) 0 ∙ ap (λ k. get_or (image ws) k 0) offset ∙ get_or-take (get_or ws 5 0) ws (r + j) 0 below)
+      let below : r + j < get_or ws top_address 0 = omega (arith, at.0, offset, length-drop (base (image ws)) (image ws), length-take (get_or ws top_address 0) ws) in
+      (below, at.1 ∙ get_or-drop (base (image ws)) (image ws) (r + j - base (image ws)) 0 ∙ ap (λ k. get_or (image ws) k 0) offset ∙ get_or-take (get_or ws top_address 0) ws (r + j) 0 below)
 
   -- the record is whole
   long_is : length rec ≡ suc (3 + payload (get_or (drop (r - base (image ws)) (drop (base (image ws)) (image ws))) 0 0) (get_or (drop (r - base (image ws)) (drop (base (image ws)) (image ws))) 3 0))
@@ -102,19 +102,19 @@ module _ (ws : List ℕ) (r : ℕ) (laid : IsLaid ws) (there : IsObject (heap_of
   -- a word of the table is the record's
   same_word : (j : ℕ) → j < length rec → get_or (drop (r - base (image ws)) (drop (base (image ws)) (image ws))) j 0 ≡ get_or rec j 0
   same_word j h =
-      let w : (r + j < get_or ws 5 0) × (get_or rec j 0 ≡ get_or ws (r + j) 0) = word_is j h in
+      let w : (r + j < get_or ws top_address 0) × (get_or rec j 0 ≡ get_or ws (r + j) 0) = word_is j h in
       let offset : base (image ws) + (r - base (image ws) + j) ≡ r + j = omega (arith, behind) in
       get_or-drop (r - base (image ws)) (drop (base (image ws)) (image ws)) j 0
       ∙ get_or-drop (base (image ws)) (image ws) (r - base (image ws) + j) 0
       ∙ ap (λ k. get_or (image ws) k 0) offset
-      ∙ get_or-take (get_or ws 5 0) ws (r + j) 0 w.0
+      ∙ get_or-take (get_or ws top_address 0) ws (r + j) 0 w.0
       ∙ sym w.1
 
   pub whole_record : length rec ≡ 4 + payload (get_or rec 0 0) (get_or rec 3 0)
   whole_record = long_is ∙ ap (λ w. suc (3 + payload w (get_or (drop (r - base (image ws)) (drop (base (image ws)) (image ws))) 3 0))) (same_word 0 (omega (arith, four)))
       ∙ ap (λ l. suc (3 + payload (get_or rec 0 0) l)) (same_word 3 (omega (arith, four))) ∙ (omega arith)
 
-  pub object_spot : (752 ≤ r) × (r + 3 < get_or ws 5 0)
+  pub object_spot : (text_start ≤ r) × (r + 3 < get_or ws top_address 0)
   object_spot = (omega (arith, behind), (word_is 3 (omega (arith, four))).0)
 
   first_word : get_or rec 0 0 ≡ get_or ws r 0
@@ -124,7 +124,7 @@ module _ (ws : List ℕ) (r : ℕ) (laid : IsLaid ws) (there : IsObject (heap_of
   five_words n = omega (arith, at_least_one (is_header (get_or rec 0 0)), whole_record ∙ ap (λ b. 4 + (if is_header (get_or rec 0 0) then (if b then get_or rec 3 0 else 1) else 65536)) (ne_eqb (get_or rec 0 0 / 256) 0 n))
 
   -- the word behind a transient object's header
-  pub place_spot : (get_or ws r 0 / 256 ≡ 0 → ⊥) → r + 4 < get_or ws 5 0
+  pub place_spot : (get_or ws r 0 / 256 ≡ 0 → ⊥) → r + 4 < get_or ws top_address 0
   place_spot n = (word_is 4 (five_words (λ e. n (ap (λ w. w / 256) (sym first_word) ∙ e)))).0
 
   last_word : said (get_or rec 0 0) (get_or rec 1 0) (get_or rec 2 0) (get_or rec 3 0) (get_or rec 4 0) ≡ said (get_or rec 0 0) (get_or rec 1 0) (get_or rec 2 0) (get_or rec 3 0) (get_or ws (r + 4) 0)
@@ -138,7 +138,7 @@ module _ (ws : List ℕ) (r : ℕ) (laid : IsLaid ws) (there : IsObject (heap_of
       ap facts_of item_is ∙ said-object_of rec four ∙ last_word
       ∙ (λ k. said (first_word k) ((word_is 1 (omega (arith, four))).1 k) ((word_is 2 (omega (arith, four))).1 k) ((word_is 3 (omega (arith, four))).1 k) (get_or ws (r + 4) 0))
 
-  pub record_within : r + length rec ≤ get_or ws 5 0
+  pub record_within : r + length rec ≤ get_or ws top_address 0
   record_within = omega (arith, four, (word_is (length rec - 1) (omega (arith, four))).0)
 
   pub cells_are : length ws < 65536 → get_or ws r 0 / 256 ≡ 0 → length (cells (heap_of ws) r) ≡ get_or ws (r + 3) 0
@@ -147,40 +147,50 @@ module _ (ws : List ℕ) (r : ℕ) (laid : IsLaid ws) (there : IsObject (heap_of
       ∙ cells-object_of rec whole_record (omega (arith, record_within, laid.fits)) (ap (λ w. w / 256) first_word ∙ e)
       ∙ (word_is 3 (omega (arith, four))).1
 
--- the same through a heap's view
-pub view_spot : (j : State) (v : HeapView) (n r : ℕ) → heap_view j n ≡ v → IsLaid j.plain → IsObject v.now r → (752 ≤ r) × (r + 3 < length j.plain) × ((get_or j.plain r 0 / 256 ≡ 0 → ⊥) → r + 4 < length j.plain)
-view_spot j v n r is laid there =
-    let here : IsObject (heap_of j.plain) r = subst (λ u. IsObject (u.now) r) (sym is) there in
-    ((object_spot j.plain r laid here).0, omega (arith, (object_spot j.plain r laid here).1, laid.fits), λ ne. omega (arith, place_spot j.plain r laid here ne, laid.fits))
+-- what stands at an address and is no package is an object
+pub object_at : (ws : List ℕ) (r : ℕ) → names (heap_of ws) r ≡ true → is_package (package_addresses (image ws)) r ≡ false → IsObject (heap_of ws) r
+unfolding read_image item_at names
+object_at ws r named other =
+    let there : has (records (image ws)) r ≡ true = sym (has-map (item (package_addresses (image ws))) (records (image ws)) r) ∙ named in
+    ap is_object (at_or-map (item (package_addresses (image ws))) [] (APackage []) (records (image ws)) r there)
+    ∙ ap (λ b. is_object (if b then APackage (at_or [] (records (image ws)) r) else AnObject (object_of (at_or [] (records (image ws)) r)))) other
 
-pub view_facts : (j : State) (v : HeapView) (n r : ℕ) → heap_view j n ≡ v → IsLaid j.plain → IsObject v.now r →
-    facts v.now r ≡ said (get_or j.plain r 0) (get_or j.plain (r + 1) 0) (get_or j.plain (r + 2) 0) (get_or j.plain (r + 3) 0) (get_or j.plain (r + 4) 0)
-view_facts j v n r is laid there = subst (λ u. IsObject (u.now) r → facts (u.now) r ≡ said (get_or j.plain r 0) (get_or j.plain (r + 1) 0) (get_or j.plain (r + 2) 0) (get_or j.plain (r + 3) 0) (get_or j.plain (r + 4) 0)) is (λ here. facts_are j.plain r laid here) there
+names_found : (ws : List ℕ) (r : ℕ) → names (heap_of ws) r ≡ has (records (image ws)) r
+unfolding read_image names
+names_found ws r = has-map (item (package_addresses (image ws))) (records (image ws)) r
 
-pub view_cells : (j : State) (v : HeapView) (n r : ℕ) → heap_view j n ≡ v → IsLaid j.plain → length j.plain < 65536 → IsObject v.now r → get_or j.plain r 0 / 256 ≡ 0 → length (cells v.now r) ≡ get_or j.plain (r + 3) 0
-view_cells j v n r is laid small there e = subst (λ u. IsObject (u.now) r → length (cells (u.now) r) ≡ get_or j.plain (r + 3) 0) is (λ here. cells_are j.plain r laid here small e) there
+-- by what a walk finds at an address, and by the packages' addresses
+pub object_here : (ws : List ℕ) (r : ℕ) → IsLaid ws → (begins other : Bool) → begins ≡ has (records (image ws)) r → other ≡ is_package (package_addresses (image ws)) r →
+    (IsTrue (begins && not other) → IsObject (heap_of ws) r) × (IsObject (heap_of ws) r → IsTrue (begins && not other))
+object_here ws r laid true false b p = (λ _. object_at ws r (names_found ws r ∙ sym b) (sym p), λ _. refl)
+object_here ws r laid true true b p = (λ t. absurd (false≢true t), λ o. absurd (false≢true (sym (no_package ws r laid o) ∙ sym p)))
+object_here ws r laid false other b p = (λ t. absurd (false≢true t), λ o. absurd (false≢true (b ∙ named ws r laid o)))
 
 -- where an object's header stands
 pub record Spot (j : State) (r : ℕ) : Type 0 where
-  pub low : 752 ≤ r
+  pub low : text_start ≤ r
   pub high : r + 3 < length j.plain
   pub behind : (get_or j.plain r 0 / 256 ≡ 0 → ⊥) → r + 4 < length j.plain
   pub small : length j.plain < 65536
 
-pub spot_of : (j : State) (v : HeapView) (n r a : ℕ) → heap_view j n ≡ v → IsSound j n → v.down ≡ false → IsObject v.now r → a ≡ r → Spot j a
-spot_of j v n r a is s up there e =
-    let here : j.down ≡ false = up_is j v n is up in
-    let t : (752 ≤ r) × (r + 3 < length j.plain) × ((get_or j.plain r 0 / 256 ≡ 0 → ⊥) → r + 4 < length j.plain) = view_spot j v n r is (s.now here) there in
-    subst (Spot j) (sym e) (record { low = t.0; high = t.1; behind = t.2; small = omega (arith, s.small, s.size_now here) })
+pub spot_at : (j : State) (r a : ℕ) → IsLaid j.plain → length j.plain < 65536 → IsObject (heap_of j.plain) r → a ≡ r → Spot j a
+spot_at j r a laid small there e =
+    let here : Spot j r = record {
+      low = (object_spot j.plain r laid there).0;
+      high = omega (arith, (object_spot j.plain r laid there).1, laid.fits);
+      behind = λ ne. omega (arith, place_spot j.plain r laid there ne, laid.fits);
+      small = small;
+    } in
+    subst (Spot j) (sym e) here
 
 -- facts read word by word are the object's
-pub facts_built : (j : State) (v : HeapView) (n r : ℕ) → heap_view j n ≡ v → IsLaid j.plain → IsObject v.now r →
-    (w : ℕ) (kind : Kind) (event : Option ClearEvent) (class owner long place : ℕ) → w ≡ get_or j.plain r 0 → kind ≡ kind_of (w % 256) → event ≡ event_of (w / 256) →
-    class ≡ get_or j.plain (r + 1) 0 → owner ≡ get_or j.plain (r + 2) 0 → long ≡ get_or j.plain (r + 3) 0 → place ≡ (if w / 256 == 0 then 0 else get_or j.plain (r + 4) 0) →
-    (let built : Facts = record { kind = kind; event = event; class = class; owner = owner; length = long; place = place } in built) ≡ facts v.now r
-facts_built j v n r is laid there w kind event class owner long place we ke ee ce oe le pe =
-    (λ i. record { kind = (ke ∙ ap (λ u. kind_of (u % 256)) we) i; event = (ee ∙ ap (λ u. event_of (u / 256)) we) i; class = ce i; owner = oe i; length = le i; place = (pe ∙ ap (λ u. if u / 256 == 0 then 0 else get_or j.plain (r + 4) 0) we) i })
-    ∙ sym (view_facts j v n r is laid there)
+pub facts_built : (ws : List ℕ) (r : ℕ) → IsLaid ws → IsObject (heap_of ws) r →
+    (w : ℕ) (kind : Kind) (event : Option ClearEvent) (class owner long place : ℕ) → w ≡ get_or ws r 0 → kind ≡ kind_of (w % 256) → event ≡ event_of (w / 256) →
+    class ≡ get_or ws (r + 1) 0 → owner ≡ get_or ws (r + 2) 0 → long ≡ get_or ws (r + 3) 0 → place ≡ (if w / 256 == 0 then 0 else get_or ws (r + 4) 0) →
+    (let built : Facts = record { kind = kind; event = event; class = class; owner = owner; length = long; place = place } in built) ≡ facts (heap_of ws) r
+facts_built ws r laid there w kind event class owner long place we ke ee ce oe le pe =
+    (λ i. record { kind = (ke ∙ ap (λ u. kind_of (u % 256)) we) i; event = (ee ∙ ap (λ u. event_of (u / 256)) we) i; class = ce i; owner = oe i; length = le i; place = (pe ∙ ap (λ u. if u / 256 == 0 then 0 else get_or ws (r + 4) 0) we) i })
+    ∙ sym (facts_are ws r laid there)
 
 some_if : (b : Bool) → is_some (if b then Some Reset else Some Deselect) ≡ true
 some_if true = refl

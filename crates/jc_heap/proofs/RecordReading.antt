@@ -14,6 +14,7 @@ use Rattle.jc_heap.proofs.Tables.{at_or-map, at_or-map_absent, has-map}
 use Rattle.jc_heap.proofs.Following.{cut-step}
 use Rattle.jc_heap.proofs.Walks.{length-packages, package_read}
 use Rattle.std.proofs.Math.Bool.{or-true}
+use Rattle.jc_words.specs.Layout.{top_address, packages_address, addresses_start, most_packages, text_start}
 
 -- a word of a part of the words
 pub word_in : (ws : List ℕ) (base long at i : ℕ) → at + i < long → get_or (drop at (take long (drop base ws))) i 0 ≡ get_or ws (base + (at + i)) 0
@@ -130,8 +131,8 @@ module _ (ws : List ℕ) (r : ℕ) (laid : IsLaid ws) (there : 0 < length (recor
   tail : drop (r - base (image ws)) (drop (base (image ws)) (image ws)) ≡ drop r (image ws)
   tail = drop-drop (r - base (image ws)) (base (image ws)) (image ws) ∙ ap (λ k. drop k (image ws)) offset
 
-  long_image : length (image ws) ≡ get_or ws 5 0
-  long_image = length-take-le (get_or ws 5 0) ws laid.fits
+  long_image : length (image ws) ≡ get_or ws top_address 0
+  long_image = length-take-le (get_or ws top_address 0) ws laid.fits
 
   -- how many words the cut gives it
   sized : suc (sizes (package_addresses (image ws)) r (drop r (image ws))) ≡ max (get_or (drop r (image ws)) 0 0) 1
@@ -150,16 +151,16 @@ module _ (ws : List ℕ) (r : ℕ) (laid : IsLaid ws) (there : 0 < length (recor
       ∙ ap (λ l. suc (sizes (package_addresses (image ws)) r l)) tail
       ∙ sized
 
-  inside : max (get_or (drop r (image ws)) 0 0) 1 ≤ get_or ws 5 0 - r
+  inside : max (get_or (drop r (image ws)) 0 0) 1 ≤ get_or ws top_address 0 - r
   inside = omega (arith, whole, ap length words_cut, length-take (max (get_or (drop r (image ws)) 0 0) 1) (drop r (image ws)), length-drop r (image ws), long_image)
 
   first : get_or (drop r (image ws)) 0 0 ≡ get_or ws r 0
-  first = get_or-drop r (image ws) 0 0 ∙ ap (λ k. get_or (image ws) k 0) (add-zero r) ∙ get_or-take (get_or ws 5 0) ws r 0 (omega (arith, inside))
+  first = get_or-drop r (image ws) 0 0 ∙ ap (λ k. get_or (image ws) k 0) (add-zero r) ∙ get_or-take (get_or ws top_address 0) ws r 0 (omega (arith, inside))
 
-  pub record_low : 752 ≤ r
+  pub record_low : text_start ≤ r
   record_low = omega (arith, behind)
 
-  pub record_high : r + record_long ws r ≤ get_or ws 5 0
+  pub record_high : r + record_long ws r ≤ get_or ws top_address 0
   record_high = omega (arith, inside, first)
 
   pub record_within : r + record_long ws r ≤ length ws
@@ -170,7 +171,7 @@ module _ (ws : List ℕ) (r : ℕ) (laid : IsLaid ws) (there : 0 < length (recor
       is_record ∙ words_cut
       ∙ ap (λ w. take (max w 1) (drop r (image ws))) first
       ∙ sym (drop-take r (record_long ws r) (image ws))
-      ∙ ap (drop r) (take-take (r + record_long ws r) (get_or ws 5 0) ws record_high)
+      ∙ ap (drop r) (take-take (r + record_long ws r) (get_or ws top_address 0) ws record_high)
       ∙ drop-take r (record_long ws r) ws
 
 pub record_view : (j : State) (v : HeapView) (n r : ℕ) → heap_view j n ≡ v → 0 < length (record_of v.now r) → 0 < length (record_of (heap_of j.plain) r)
@@ -210,11 +211,11 @@ record_word j v n r at i is laid h =
     ∙ word_in j.plain r (record_long j.plain r) at i (omega (arith, h, length_record j v n r is laid (omega arith)))
 
 -- the registry's addresses of packages
-pub view_packages : (j : State) (v : HeapView) (n : ℕ) → heap_view j n ≡ v → IsLaid j.plain → length (v.now.packages) ≡ min (get_or j.plain 6 0) 32
+pub view_packages : (j : State) (v : HeapView) (n : ℕ) → heap_view j n ≡ v → IsLaid j.plain → length (v.now.packages) ≡ min (get_or j.plain packages_address 0) most_packages
 unfolding read_image
 view_packages j v n is laid = ap (λ u. length (u.now.packages)) (sym is) ∙ length-packages j.plain (omega (arith, laid.based)) laid.fits
 
-pub view_package : (j : State) (v : HeapView) (n k : ℕ) → heap_view j n ≡ v → IsLaid j.plain → k < length (v.now.packages) → get_or (v.now.packages) k 0 ≡ get_or j.plain (528 + k) 0
+pub view_package : (j : State) (v : HeapView) (n k : ℕ) → heap_view j n ≡ v → IsLaid j.plain → k < length (v.now.packages) → get_or (v.now.packages) k 0 ≡ get_or j.plain (addresses_start + k) 0
 unfolding read_image
 view_package j v n k is laid h =
     ap (λ u. get_or (u.now.packages) k 0) (sym is) ∙ package_read j.plain k (omega (arith, laid.based)) laid.fits (omega (arith, h, view_packages j v n is laid))

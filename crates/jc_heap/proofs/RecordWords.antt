@@ -2,6 +2,7 @@
 use Rattle.std.proofs.Common.{◌≡◌, ℕ, ◌+◌, ◌-◌, ◌/◌, ◌<◌, ◌≤◌, false, inl, inr, List, [], length, take, drop, set, get_or, map, replicate, refl, sym, ◌∙◌, ap, subst, arith, if◌then◌else◌}
 use Rattle.std.proofs.lemmas.List.{drop-set-add, take-set-le, length-set, length-replicate}
 use Rattle.std.proofs.lemmas.Bool.{cases_Bool, cases_eq}
+use Rattle.jc_words.specs.Layout.{top_address, packages_address, applets_address, reset_end_address, deselect_end_address, text_length_address, registry_start, registry_length, text_start}
 use Rattle.jc_heap.specs.Cut.{Sizes, cut, lacking}
 use Rattle.jc_heap.specs.Table.{at_or, put}
 use Rattle.jc_heap.specs.Object.{Item, AnObject, APackage, object_of, bare}
@@ -37,7 +38,7 @@ module _ (ws : List ℕ) (r j v : ℕ) (laid : IsLaid ws) (four : 4 ≤ j) (h : 
   unfolding offset
   offset_is = omega (arith, low)
 
-  far : 560 ≤ r + j
+  far : registry_start ≤ r + j
   far = omega (arith, low)
 
   same_packages : package_addresses (set img (r + j) v) ≡ package_addresses img
@@ -74,28 +75,28 @@ module _ (ws : List ℕ) (r j v : ℕ) (laid : IsLaid ws) (four : 4 ≤ j) (h : 
   read-set : read_image (set img (r + j) v) ≡ set_word (read_image img) r j v
   unfolding read_image set_word
   read-set =
-      let registry : 752 ≤ r + j = omega (arith, low) in
+      let registry : text_start ≤ r + j = omega (arith, low) in
       let items : map (item_entry (package_addresses (set img (r + j) v))) (records (set img (r + j) v)) ≡ put (map (item_entry (package_addresses img)) (records img)) r (with_word (item_at (heap_of ws) r) j v) =
       ap (λ ps. map (item_entry ps) (records (set img (r + j) v))) same_packages
       ∙ ap (map (item_entry (package_addresses img))) records-set
       ∙ map-put (item (package_addresses img)) (records img) r (set old j v)
       ∙ ap (put (map (item_entry (package_addresses img)) (records img)) r) item-set in
-      let applets : take 192 (drop 560 (set img (r + j) v)) ≡ take 192 (drop 560 img) = range_front img 560 192 (r + j) v registry in
-      let first_end : get_or (set img (r + j) v) 8 0 ≡ get_or img 8 0 = get_or_front img (r + j) 8 v (omega arith) in
-      let second_end : get_or (set img (r + j) v) 9 0 ≡ get_or img 9 0 = get_or_front img (r + j) 9 v (omega arith) in
+      let applets : take registry_length (drop registry_start (set img (r + j) v)) ≡ take registry_length (drop registry_start img) = range_front img registry_start registry_length (r + j) v registry in
+      let first_end : get_or (set img (r + j) v) reset_end_address 0 ≡ get_or img reset_end_address 0 = get_or_front img (r + j) reset_end_address v (omega arith) in
+      let second_end : get_or (set img (r + j) v) deselect_end_address 0 ≡ get_or img deselect_end_address 0 = get_or_front img (r + j) deselect_end_address v (omega arith) in
       let top : length (set img (r + j) v) ≡ length img = length-set img (r + j) v in
       let head : take 3 (set img (r + j) v) ≡ take 3 img = take-set-le 3 img (r + j) v (omega (arith, registry)) in
       let text : table_text (set img (r + j) v) ≡ table_text img =
-      text-same img (set img (r + j) v) (get_or_front img (r + j) 10 v (omega (arith, registry))) (range_front img 752 ((get_or img 10 0 + 1) / 2) (r + j) v (omega (arith, low))) in
-      let first_count : get_or (set img (r + j) v) 6 0 ≡ get_or img 6 0 = get_or_front img (r + j) 6 v (omega arith) in
-      let second_count : get_or (set img (r + j) v) 7 0 ≡ get_or img 7 0 = get_or_front img (r + j) 7 v (omega arith) in
+      text-same img (set img (r + j) v) (get_or_front img (r + j) text_length_address v (omega (arith, registry))) (range_front img text_start ((get_or img text_length_address 0 + 1) / 2) (r + j) v (omega (arith, low))) in
+      let first_count : get_or (set img (r + j) v) packages_address 0 ≡ get_or img packages_address 0 = get_or_front img (r + j) packages_address v (omega arith) in
+      let second_count : get_or (set img (r + j) v) applets_address 0 ≡ get_or img applets_address 0 = get_or_front img (r + j) applets_address v (omega arith) in
       λ k. record { head = head k; text = text k; items = items k; counts = (first_count k, second_count k); packages = same_packages k; applets = applets k; area_ends = (first_end k, second_end k); top = top k }
 
   pub heap_of-set_word : heap_of (set ws (r + j) v) ≡ set_word (heap_of ws) r j v
   heap_of-set_word = ap read_image (image-set ws (r + j) v (omega (arith, far))) ∙ read-set
 
-  pub top-set_word : get_or (set ws (r + j) v) 5 0 ≡ get_or ws 5 0
-  top-set_word = get_or_front ws (r + j) 5 v (omega (arith, far))
+  pub top-set_word : get_or (set ws (r + j) v) top_address 0 ≡ get_or ws top_address 0
+  top-set_word = get_or_front ws (r + j) top_address v (omega (arith, far))
 
   pub laid-set_word : IsLaid (set ws (r + j) v)
   laid-set_word =
@@ -141,7 +142,7 @@ bare-with_word : (t : Item) (j v : ℕ) → bare (with_word t j v) ≡ bare t
 bare-with_word (AnObject o) j v = refl
 bare-with_word (APackage ws) j v = ap (λ n. APackage (replicate n 0)) (length-set ws j v)
 
-bare-set_word : (h : HeapState) (r j v q : ℕ) → bare (item_at (set_word h r j v) q) ≡ bare (item_at h q)
+pub bare-set_word : (h : HeapState) (r j v q : ℕ) → bare (item_at (set_word h r j v) q) ≡ bare (item_at h q)
 bare-set_word = of_item-set_word bare bare-with_word
 
 pub shape-set_word : (d h : HeapState) (r j v : ℕ) → SameShape d h → SameShape d (set_word h r j v)

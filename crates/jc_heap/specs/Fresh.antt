@@ -1,13 +1,14 @@
 -- Words written at or above the top, which have no meaning until the top moves.
 use Rattle.std.specs.Prelude.{ℕ, ◌+◌, ◌≡◌, ◌≤◌, ◌<◌, List, ◌++◌, take, length, true, false}
 use Rattle.jc_words.specs.Count.{raised}
-use Rattle.jc_commit.specs.Image.{top_of, registry_start}
+use Rattle.jc_words.specs.Layout.{addresses_start}
+use Rattle.jc_commit.specs.Image.{top_of}
 use Rattle.jc_commit.specs.State.{State}
 
 -- so many words from this address on have no meaning: they lie above both tops
 pub record IsFree (at count : ℕ) (j : State) : Type 0 where
   pub up : j.down ≡ false
-  pub low : registry_start ≤ at
+  pub low : addresses_start ≤ at
   pub above : top_of j.plain ≤ at
   pub above_recovered : top_of j.recovered ≤ at
   pub fits : at + count ≤ length j.plain

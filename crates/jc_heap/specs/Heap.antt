@@ -1,7 +1,8 @@
 -- The heap that words stand for, and the changes of a heap.
-use Rattle.std.specs.Prelude.{ℕ, suc, ◌+◌, ◌≡◌, ◌<◌, ◌≤◌, ◌==◌, Bool, true, false, List, [], ◌∷◌, ◌++◌, map, take, drop, length, slice_index, Option, Some, None, if◌then◌else◌, ◌&&◌, nat_lt, nat_le}
+use Rattle.std.specs.Prelude.{ℕ, suc, ◌+◌, ◌-◌, ◌≡◌, ◌<◌, ◌≤◌, ◌==◌, Bool, true, false, List, [], ◌∷◌, ◌++◌, map, take, drop, length, slice_index, Option, Some, None, if◌then◌else◌, ◌&&◌, nat_lt, nat_le}
 use Rattle.std.specs.List.{list_any}
 use Rattle.jc_words.specs.Count.{raised}
+use Rattle.jc_words.specs.Layout.{top_address, packages_address, applets_address, reset_end_address, deselect_end_address, registry_start, registry_length}
 use Rattle.jc_commit.specs.Image.{capacity, top_of}
 use Rattle.jc_commit.specs.State.{State, writes_inside, writes_outside, undo_writes}
 use Rattle.jc_heap.specs.declared.object.Facts.{Facts}
@@ -9,7 +10,7 @@ use Rattle.jc_transient.specs.declared.cell.ClearEvent.{ClearEvent}
 use Rattle.jc_transient.specs.declared.cell.ClearEvent.TheVariants.{Reset, Deselect}
 use Rattle.jc_transient.specs.State.{area_size}
 use Rattle.jc_heap.specs.declared.object.Kind.{Kind}
-use Rattle.jc_heap.specs.Object.{Object, new_transient, Item, AnObject, APackage, cells_of, with_cell, bare, facts_of, is_object}
+use Rattle.jc_heap.specs.Object.{Object, new_transient, transient_size, Item, AnObject, APackage, cells_of, with_cell, bare, facts_of, is_object}
 use Rattle.jc_heap.specs.Table.{at_or, has, put}
 use Rattle.jc_heap.specs.Image.{image, package_addresses, item_entry, records, table_text, IsLaid}
 
@@ -31,10 +32,10 @@ read_image image = record {
   head = take 3 image;
   text = table_text image;
   items = map (item_entry (package_addresses image)) (records image);
-  counts = (slice_index image 6, slice_index image 7);
+  counts = (slice_index image packages_address, slice_index image applets_address);
   packages = package_addresses image;
-  applets = take 192 (drop 560 image);
-  area_ends = (slice_index image 8, slice_index image 9);
+  applets = take registry_length (drop registry_start image);
+  area_ends = (slice_index image reset_end_address, slice_index image deselect_end_address);
   top = length image;
 }
 
@@ -81,14 +82,14 @@ abbrev pub with_area_end : HeapState → ClearEvent → ℕ → HeapState
 with_area_end h Reset end = record h { area_ends = (end, h.area_ends.1) }
 with_area_end h Deselect end = record h { area_ends = (h.area_ends.0, end) }
 
--- the place of an area's end
-abbrev pub area_place : ClearEvent → ℕ
-area_place Reset = 8
-area_place Deselect = 9
+-- the address of the word with an area's end
+abbrev pub area_end_address : ClearEvent → ℕ
+area_end_address Reset = reset_end_address
+area_end_address Deselect = deselect_end_address
 
 -- a new transient object behind the others, whose cells are the first free ones of its area
 unfoldable pub add_transient : HeapState → Kind → ClearEvent → ℕ → ℕ → ℕ → HeapState
-add_transient h kind event class owner long = with_area_end (add_object h (new_transient kind event class owner long (area_end h event)) 5) event (area_end h event + long)
+add_transient h kind event class owner long = with_area_end (add_object h (new_transient kind event class owner long (area_end h event)) transient_size) event (area_end h event + long)
 
 -- the cells of a persistent object from an index on are these
 abbrev pub set_cells : HeapState → ℕ → ℕ → List ℕ → HeapState
@@ -147,15 +148,6 @@ pub record IsSound (j : State) (size : ℕ) : Type 0 where
   -- outside a transaction there is nothing to recover
   pub settled : j.down ≡ false → j.in_transaction ≡ false → j.recovered ≡ j.plain
 
--- what the journal of a recovered image meets
-pub record IsOpen (j : State) (size : ℕ) : Type 0 where
-  pub up : j.down ≡ false
-  pub closed : j.in_transaction ≡ false
-  pub recovered : j.recovered ≡ j.plain
-  pub size_now : length j.plain ≡ size
-  pub small : size < 65536
-  pub wide : 752 ≤ size
-
 -- the heap as the open transaction found it
 abbrev pub saved : HeapView → Option HeapState
 saved v = if v.begun then Some v.durable else None
@@ -167,6 +159,10 @@ kept v places = if v.begun then places else []
 -- how many word writes it is to change these places
 abbrev pub writes_for : HeapView → List ℕ → ℕ
 writes_for v places = if v.begun then writes_inside (length places) (length (kept v places)) else writes_outside (length places)
+
+-- how many more words' old values the transaction can keep
+abbrev pub room_left : HeapView → ℕ
+room_left v = capacity - length v.touched
 
 -- there is room for a change of these places, in the open transaction or in one of its own
 abbrev pub has_room_for : HeapView → List ℕ → Bool
@@ -185,13 +181,13 @@ changed v h places fresh = record v {
   passed = raised v.passed (fresh + writes_for v places);
 }
 
--- the place of a cell
-unfoldable pub cell_place : ℕ → ℕ → ℕ
-cell_place r i = r + (4 + i)
+-- the address of a cell
+unfoldable pub cell_address : ℕ → ℕ → ℕ
+cell_address r i = r + (4 + i)
 
--- the place of the heap's end
-unfoldable pub end_place : ℕ
-end_place = 5
+-- the address of the word with the heap's end
+unfoldable pub end_address : ℕ
+end_address = top_address
 
 -- the open transaction keeps the old value of a place
 unfoldable pub is_touched : HeapView → ℕ → Bool

@@ -1,19 +1,20 @@
 -- Where an image keeps what.
 use Rattle.std.specs.Prelude.{ℕ, ◌+◌, ◌-◌, ◌/◌, ◌%◌, ◌==◌, Bool, false, List, map, take, drop, slice_index, length, ◌≤◌, ◌≡◌, if◌then◌else◌}
 use Rattle.std.specs.List.{list_any, range_with_len}
+use Rattle.jc_words.specs.Layout.{top_address, packages_address, text_length_address, addresses_start, most_packages, text_start}
 use Rattle.jc_heap.specs.Cut.{Sizes, cut, lacking}
 use Rattle.jc_heap.specs.Object.{Item, AnObject, APackage, object_of, payload}
 
 -- the words below the top: the others have no meaning
 abbrev pub image : List ℕ → List ℕ
-image words = take (slice_index words 5) words
+image words = take (slice_index words top_address) words
 
 -- the first word after the table text
 abbrev pub base : List ℕ → ℕ
-base image = 752 + (slice_index image 10 + 1) / 2
+base image = text_start + (slice_index image text_length_address + 1) / 2
 
 abbrev pub package_addresses : List ℕ → List ℕ
-package_addresses image = take (slice_index image 6) (take 32 (drop 528 image))
+package_addresses image = take (slice_index image packages_address) (take most_packages (drop addresses_start image))
 
 abbrev pub is_package : List ℕ → ℕ → Bool
 is_package packages at = list_any (λ p. p == at) packages
@@ -46,21 +47,21 @@ unpacked count words = map (packed_byte words) (range_with_len 0 count)
 
 -- the words of the table text
 abbrev pub text_words : List ℕ → List ℕ
-text_words words = take ((slice_index words 10 + 1) / 2) (drop 752 words)
+text_words words = take ((slice_index words text_length_address + 1) / 2) (drop text_start words)
 
 -- the table text
 abbrev pub table_text : List ℕ → List ℕ
-table_text words = unpacked (slice_index words 10) (text_words words)
+table_text words = unpacked (slice_index words text_length_address) (text_words words)
 
 -- a byte of the table text
 abbrev pub text_byte : List ℕ → ℕ → ℕ
-text_byte words i = if i % 2 == 0 then slice_index words (752 + i / 2) / 256 else slice_index words (752 + i / 2) % 256
+text_byte words i = if i % 2 == 0 then slice_index words (text_start + i / 2) / 256 else slice_index words (text_start + i / 2) % 256
 
 -- words as the heap lays them: the top lies between the table's begin and the words' end, and the table ends there;
 -- a record that is no package's and begins with no header lacks words, so there is none
 pub record IsLaid (words : List ℕ) : Type 0 where
-  pub based : base (image words) ≤ slice_index words 5
-  pub fits : slice_index words 5 ≤ length words
+  pub based : base (image words) ≤ slice_index words top_address
+  pub fits : slice_index words top_address ≤ length words
   pub whole : missing (image words) ≡ 0
   -- no package begins at or above the top
-  pub packages : (a : ℕ) → slice_index words 5 ≤ a → is_package (package_addresses (image words)) a ≡ false
+  pub packages : (a : ℕ) → slice_index words top_address ≤ a → is_package (package_addresses (image words)) a ≡ false

@@ -2,7 +2,6 @@ pub mod Cut
 pub mod Table
 pub mod Object
 pub mod Image
-pub mod Steps
 pub mod Heap
 pub mod Whole
 pub mod Keeping
@@ -13,5 +12,4 @@ pub mod Packages
 pub mod Components
 pub mod Statics
 pub mod Moves
-pub mod Laying
-pub mod Beginning
+pub mod Packed

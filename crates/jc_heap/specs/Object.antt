@@ -63,6 +63,14 @@ object_of (word ∷ class ∷ owner ∷ long ∷ rest) = record {
     first (w ∷ ws) = w
 object_of _ = record { facts = record { kind = Instance; event = None; class = 0; owner = 0; length = 0; place = 0 }; cells = [] }
 
+-- how many words a persistent object with so many cells takes
+abbrev pub object_size : ℕ → ℕ
+object_size long = 4 + long
+
+-- how many words a transient object takes
+abbrev pub transient_size : ℕ
+transient_size = 5
+
 -- a new persistent object, zeroed
 abbrev pub new_object : Kind → ℕ → ℕ → ℕ → Object
 new_object kind class owner long = record {

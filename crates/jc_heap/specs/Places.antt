@@ -1,35 +1,41 @@
 -- Places: the words that a change may name.
-use Rattle.std.specs.Prelude.{ℕ, ◌+◌, ◌<◌, [], ◌∷◌, set, length, if◌then◌else◌}
+use Rattle.std.specs.Prelude.{ℕ, ◌+◌, ◌*◌, ◌<◌, ◌≡◌, List, [], ◌∷◌, set, length, map, if◌then◌else◌}
 use Rattle.jc_words.specs.Count.{raised}
+use Rattle.jc_words.specs.Layout.{applets_address, registry_start, registry_length}
 use Rattle.jc_heap.specs.declared.place.Place.{Place}
-use Rattle.jc_heap.specs.declared.place.Place.TheVariants.{Cell, Static, Registry}
+use Rattle.jc_heap.specs.declared.place.Place.TheVariants.{Cell, Static, Registry, AppletCount}
+use Rattle.jc_heap.specs.declared.place.AppletEntry.{AppletEntry}
 use Rattle.jc_heap.specs.Object.{IsElement}
-use Rattle.jc_heap.specs.Heap.{HeapState, HeapView, cells, facts, set_cell, cell_place, changed, is_touched}
+use Rattle.jc_heap.specs.Heap.{HeapState, HeapView, cells, facts, set_cell, cell_address, changed, is_touched}
 use Rattle.jc_heap.specs.Components.{record_of}
 use Rattle.jc_heap.specs.Statics.{set_word, IsStatic}
 
 -- the address of a place's word
 abbrev pub place_word : Place → ℕ
-place_word (Cell r i) = cell_place r i
+place_word (Cell r i) = cell_address r i
 place_word (Static r j) = r + j
-place_word (Registry i) = 560 + i
+place_word (Registry i) = registry_start + i
+place_word AppletCount = applets_address
 
 -- the heap has this place
 abbrev pub HasPlace : HeapState → Place → Type 0
 HasPlace h (Cell r i) = i < length (cells h r)
 HasPlace h (Static r j) = IsStatic (record_of h r) j
-HasPlace h (Registry i) = i < 192
+HasPlace h (Registry i) = i < registry_length
+HasPlace h AppletCount = Unit {0}
 
 -- a value that the place may hold
 abbrev pub MayHold : HeapState → Place → ℕ → Type 0
 MayHold h (Cell r i) v = IsElement (facts h r).kind v
 MayHold h (Static r j) v = Unit {0}
 MayHold h (Registry i) v = Unit {0}
+MayHold h AppletCount v = Unit {0}
 
 abbrev pub set_place : HeapState → Place → ℕ → HeapState
 set_place h (Cell r i) v = set_cell h r i v
 set_place h (Static r j) v = set_word h r j v
 set_place h (Registry i) v = record h { applets = set h.applets i v }
+set_place h AppletCount v = record h { counts = (h.counts.0, v) }
 
 -- a place set as one change
 abbrev pub written : HeapView → Place → ℕ → HeapView
@@ -42,3 +48,36 @@ counted v p x = record v {
   durable = (if is_touched v (place_word p) then v.durable else set_place v.durable p x);
   passed = raised v.passed 1;
 }
+
+-- the places of several changes
+abbrev pub places_of : List (Place × ℕ) → List Place
+places_of changes = map (λ c. c.0) changes
+
+-- their words, with the new values
+abbrev pub words_of : List (Place × ℕ) → List (ℕ × ℕ)
+words_of changes = map (λ c. (place_word c.0, c.1)) changes
+
+-- places set, one after another
+abbrev pub set_places : HeapState → List (Place × ℕ) → HeapState
+set_places h [] = h
+set_places h (c ∷ cs) = set_places (set_place h c.0 c.1) cs
+
+-- the heap has each of these places, and they may hold the values
+abbrev pub AreThere : HeapState → List (Place × ℕ) → Type 0
+AreThere h [] = Unit {0}
+AreThere h (c ∷ cs) = HasPlace h c.0 × MayHold h c.0 c.1 × AreThere h cs
+
+-- the place is none of these
+abbrev pub IsBeside : Place → List Place → Type 0
+IsBeside p [] = Unit {0}
+IsBeside p (q ∷ qs) = (p ≡ q → ⊥) × IsBeside p qs
+
+-- no place stands twice
+abbrev pub AreApart : List Place → Type 0
+AreApart [] = Unit {0}
+AreApart (p ∷ ps) = IsBeside p ps × AreApart ps
+
+-- what one applet more changes: its three words behind those of the others, and the number of applets
+abbrev pub applet_changes : HeapState → AppletEntry → List (Place × ℕ)
+applet_changes h entry =
+    (Registry (3 * h.counts.1), entry.aid) ∷ (Registry (3 * h.counts.1 + 1), entry.package) ∷ (Registry (3 * h.counts.1 + 2), entry.instance) ∷ (AppletCount, h.counts.1 + 1) ∷ []

@@ -1,5 +1,6 @@
 -- Whether a heap is whole: what its words say of one another holds.
 use Rattle.std.specs.Prelude.{ℕ, ◌+◌, ◌≡◌, ◌≤◌, ◌<◌, ◌==◌, ◌⊎◌, Bool, true, List, [], ◌∷◌, ◌++◌, length, slice_index, if◌then◌else◌, Some}
+use Rattle.jc_words.specs.Layout.{most_packages, most_applets}
 use Rattle.jc_transient.specs.declared.cell.ClearEvent.{ClearEvent}
 use Rattle.jc_transient.specs.State.{area_size}
 use Rattle.jc_heap.specs.declared.object.Kind.TheVariants.{ReferenceArray}
@@ -50,8 +51,8 @@ AreDistinct addresses = (j k : ℕ) → j < k → k < length addresses → slice
 -- what a heap's words say of one another: there are places for the packages and the applets, the packages'
 -- addresses are those of their records, references are references, and the transient objects have their cells
 pub record IsWhole (h : HeapState) : Type 0 where
-  pub few_packages : h.counts.0 ≤ 32
-  pub few_applets : h.counts.1 ≤ 64
+  pub few_packages : h.counts.0 ≤ most_packages
+  pub few_applets : h.counts.1 ≤ most_applets
   pub met : AreMet h h.packages
   pub distinct : AreDistinct h.packages
   pub references : (r : ℕ) → HoldsReferences h (item_at h r)

@@ -1,18 +1,19 @@
 //! New packages.
-ghost use Rattle.std.specs.Prelude.{◌≡◌, ◌<◌, ◌+◌, false, length, Err, OnOk, OnErr, IfOk, ◌↔◌};
+ghost use Rattle.std.specs.Prelude.{[], ◌∷◌, ◌≡◌, ◌<◌, ◌+◌, false, length, Err, OnOk, OnErr, IfOk, ◌↔◌};
+ghost use Rattle.jc_words.specs.Layout.{most_packages};
 ghost use Rattle.jc_heap.specs.Fresh.{IsFree, KeepsBelow, Fills, StopsFresh};
 ghost use Rattle.jc_heap.specs.Object.{APackage};
+ghost use Rattle.jc_heap.specs.Moves.{AddPackage, MakesUnless, after_making, no_package};
 ghost use Rattle.jc_heap.specs.Heap.{changed, IsStopped, has_room_for, LacksSpace, names, item_at};
-ghost use Rattle.jc_heap.specs.Packages.{parts, initials, AreComponents, AreArrays, image_size, record_size, package_record, package_size, package_words, add_package, package_places};
+ghost use Rattle.jc_heap.specs.Packages.{parts, initials, AreComponents, AreArrays, image_size, record_size, package_record, package_size, package_words, add_package, addresses_of_package};
 
 use crate::heap::Heap;
-use crate::layout::{ADDRESSES, PACKAGES, TOP};
-use crate::making::lacks_room;
 use crate::package::{Component, StaticArray, size_of_arrays, size_of_record};
 use crate::record::{write_arrays, write_package_record};
 use crate::refusal::HeapRefusal;
 use jc_commit::Journal;
 use jc_transient::Ref;
+use jc_words::layout::{ADDRESSES, PACKAGES, TOP};
 use jc_words::{StoreDown, WordStore};
 
 // The owner of the objects of package 0; there is none, since packages count from 1.
@@ -51,19 +52,13 @@ impl<S: WordStore> Heap<S> {
         image: &[u8],
     ) -> Result<Ref, HeapRefusal>
         requires up { self.old.down ≡ false }
-        requires few { self.old.now.counts.0 < 32 }
+        requires few { self.old.now.counts.0 < most_packages }
         requires components { AreComponents (parts components.now) }
         requires arrays { AreArrays (initials arrays.now) }
         requires image { image_size (initials arrays.now) image.now < 65536 }
+        ensures moves { MakesUnless (no_package self.old (parts components.now) (initials arrays.now) image.now) self.old (after_making result self.new) (AddPackage (parts components.now) (initials arrays.now) image.now ∷ []) self.old.now.top }
         ensures record { IfOk result (λ r. item_at self.new.now r ≡ APackage (package_record r (parts components.now) (initials arrays.now) image.now)) }
-        ensures named { IfOk result (λ r. r ≡ self.old.now.top) }
         ensures free { names self.old.now self.old.now.top ≡ false }
-        ensures done { OnOk result (self.new ≡ changed self.old (add_package self.old.now (parts components.now) (initials arrays.now) image.now) (package_places self.old.now) (package_size (parts components.now) (initials arrays.now) image.now)) }
-        ensures heap_full { (result ≡ Err HeapRefusal.HeapFull) ↔ LacksSpace self.old (package_size (parts components.now) (initials arrays.now) image.now) }
-        ensures heap_full_kept { result ≡ Err HeapRefusal.HeapFull → self.new ≡ self.old }
-        ensures full { result ≡ Err HeapRefusal.CommitFull → (self.new ≡ self.old) × (has_room_for self.old (package_places self.old.now) ≡ false) }
-        ensures stopped { result ≡ Err HeapRefusal.StoreDown → IsStopped self.old self.new }
-        ensures area { result ≡ Err HeapRefusal.NoTransientSpace → ⊥ }
     {
         let top = self.journal.read(TOP);
         let size = size_of_record(components, arrays, image);
@@ -73,7 +68,7 @@ impl<S: WordStore> Heap<S> {
         }
         let count = self.journal.read(PACKAGES);
         let place = ADDRESSES + count;
-        if lacks_room(&self.journal, &[place, PACKAGES, TOP]) {
+        if !self.journal.fits(&[place, PACKAGES, TOP]) {
             return Err(HeapRefusal::CommitFull);
         }
         let number = count + 1;

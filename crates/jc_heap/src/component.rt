@@ -1,5 +1,6 @@
 //! Reading the components of a package.
 ghost use Rattle.std.specs.Prelude.{◌≡◌, ◌<◌, ◌≤◌, ◌+◌, ◌/◌, false, length, slice_index, take, drop, IfSome, Some, None};
+ghost use Rattle.jc_words.specs.Layout.{text_start};
 ghost use Rattle.jc_heap.specs.Image.{packed_byte};
 ghost use Rattle.jc_heap.specs.Components.{record_of, info_of, span_in, IsWithin, ReadsBack, words_for};
 
@@ -26,7 +27,7 @@ pub(crate) fn words_for(bytes: u16) -> u32
 
 // The span of the component at an offset of a record of so many words.
 fn span_at<S: WordStore>(journal: &Journal<S>, base: u16, long: u16, at: u16) -> Option<Span>
-    requires behind { 752 ≤ base }
+    requires behind { text_start ≤ base }
     requires there { base + long ≤ length journal.now.plain }
     requires small { length journal.now.plain < 65536 }
     requires inside { at < long }
@@ -44,7 +45,7 @@ fn span_at<S: WordStore>(journal: &Journal<S>, base: u16, long: u16, at: u16) ->
 
 // The span of the component with a tag, in a record of so many words.
 fn find_info<S: WordStore>(journal: &Journal<S>, base: u16, long: u16, tag: u16) -> Option<Span>
-    requires behind { 752 ≤ base }
+    requires behind { text_start ≤ base }
     requires there { base + long ≤ length journal.now.plain }
     requires small { length journal.now.plain < 65536 }
     requires tag { 0 < tag }

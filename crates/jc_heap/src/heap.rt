@@ -1,21 +1,24 @@
 //! A heap: reading, cells, transactions.
-ghost use Rattle.std.specs.Prelude.{ℕ, take, ◌≡◌, ◌<◌, ◌≤◌, [], ◌∷◌, true, false, Ok, Err, length, slice_index, OnOk, OnErr, ◌+◌, ◌/◌, ◌==◌, if◌then◌else◌, ◌↔◌, None, IfSome};
+ghost use Rattle.std.specs.Prelude.{ℕ, take, ◌≡◌, ◌<◌, ◌≤◌, [], ◌∷◌, true, false, Ok, Err, length, slice_index, OnOk, OnErr, ◌+◌, ◌/◌, ◌==◌, if◌then◌else◌, ◌↔◌, IsTrue, None, IfSome};
+ghost use Rattle.jc_words.specs.Layout.{text_start};
 ghost use Rattle.jc_commit.specs.Image.{capacity, count_of, plain_of, recovered_of, IsGoodLog};
 ghost use Rattle.jc_commit.specs.Entries.{addresses_of};
 ghost use Rattle.jc_heap.specs.Object.{IsElement};
 ghost use Rattle.jc_heap.specs.Image.{IsLaid};
-ghost use Rattle.jc_heap.specs.Heap.{HeapView, HeapState, heap_of, cells, facts, IsObject, HasEnd, next_object, set_cell, set_cells, run_words, changed, cell_place, IsStopped, has_room_for, begun, committed, aborted, resting, KeepsBelowTop};
+ghost use Rattle.jc_heap.specs.Heap.{HeapView, HeapState, heap_of, heap_view, IsSound, cells, facts, IsObject, HasEnd, next_object, set_cell, set_cells, run_words, changed, cell_address, IsStopped, has_room_for, room_left, begun, committed, aborted, resting, KeepsBelowTop};
 ghost use Rattle.jc_heap.specs.declared.place.Place.TheVariants.{Cell};
-ghost use Rattle.jc_heap.specs.Moves.{Write, SetCells, Begin, Commit, Abort, Made, Done, Makes, MakesUnless, after_of, full_at};
+ghost use Rattle.jc_heap.specs.Moves.{Write, SetCells, Begin, Commit, Abort, Made, Makes, MakesUnless, after_change, after_step, no_room, no_run};
 
-use crate::layout::{HEADER, TEXT_LENGTH, TEXT_START, TOP};
-use crate::object::{Facts, Kind, event_of_number};
+use crate::layout::HEADER;
+use crate::object::Facts;
 use crate::place::Place;
-use crate::refusal::HeapRefusal;
-use crate::walk::first_object;
+use crate::lookup::{facts_at, next_behind};
+use crate::refusal::ChangeRefusal;
+use crate::walk::{begins_package, begins_record};
 use jc_commit::Journal;
 use jc_transient::Ref;
-use jc_words::{JOURNAL_CAPACITY, WordStore};
+use jc_words::{StoreDown, WordStore};
+use jc_words::layout::{JOURNAL_CAPACITY, TEXT_LENGTH, TEXT_START, TOP};
 use std::marker::Model;
 
 // How many words one change may have.
@@ -42,19 +45,6 @@ impl<S: WordStore> Model for Heap<S> {
     ghost invariant = { λ h. IsSound h.journal h.size };
 }
 
-// The word behind a transient object's header, 0 where there is none.
-fn place_word<S: WordStore>(journal: &Journal<S>, at: u16, word: u16) -> u16
-    requires behind { 752 ≤ at }
-    requires there { (word / 256 ≡ 0 → ⊥) → at + 4 < length journal.now.plain }
-    requires small { length journal.now.plain < 65536 }
-    ensures { result ≡ (if word / 256 == 0 then 0 else slice_index journal.now.plain (at + 4)) }
-{
-    if word / 256 == 0 {
-        return 0;
-    }
-    journal.read(at + HEADER)
-}
-
 // The words of a run from an address on, with their values.
 fn words_of_run(changes: &mut [(u16, u16)], at: u16, values: &[u16])
     requires room { length values.now ≤ length changes.old }
@@ -71,9 +61,9 @@ impl<S: WordStore> Heap<S> {
     pub(crate) fn cell_word(&self, object: Ref, i: u16) -> u16
         requires up { self.now.down ≡ false }
         requires cell { i < length (cells self.now.now object) }
-        ensures { result ≡ cell_place object i }
+        ensures { result ≡ cell_address object i }
     {
-        let _ = &self.journal;
+        let _ = &self.journal; // so that the proof knows what holds of every heap: cells lie below its end
         let offset = u32::from(HEADER) + u32::from(i);
         (u32::from(object.address()) + offset) as u16
     }
@@ -82,25 +72,14 @@ impl<S: WordStore> Heap<S> {
     fn run_word(&self, object: Ref, i: u16, values: &[u16]) -> u16
         requires up { self.now.down ≡ false }
         requires cells { i + length values.now ≤ length (cells self.now.now object) }
-        ensures words { run_words result values.now ≡ run_words (cell_place object i) values.now }
+        ensures words { run_words result values.now ≡ run_words (cell_address object i) values.now }
         ensures fits { result + length values.now ≤ 65536 }
     {
         if values.is_empty() {
             return 0;
         }
-        let _ = &self.journal;
+        let _ = &self.journal; // so that the proof knows what holds of every heap
         self.cell_word(object, i)
-    }
-
-    // The first object of all.
-    fn first(&self) -> Option<Ref>
-        requires { self.now.down ≡ false }
-        ensures next { result ≡ next_object self.now.now 0 }
-        ensures object { IfSome result (λ q. IsObject self.now.now q) }
-    {
-        let text = u32::from(self.journal.read(TEXT_LENGTH));
-        let from = TEXT_START + (text + 1) / 2;
-        first_object(&self.journal, from as u16, 0)
     }
 
     /// A cell of a persistent object.
@@ -120,26 +99,30 @@ impl<S: WordStore> Heap<S> {
         ensures facts { result ≡ facts self.now.now object }
         ensures cells { result.event ≡ None → length (cells self.now.now object) ≡ result.length }
     {
-        let at = object.address();
-        let word = self.journal.read(at);
-        let place = place_word(&self.journal, at, word);
-        Facts {
-            kind: Kind::of(word % 256),
-            event: event_of_number(word / 256),
-            class: self.journal.read(at + 1),
-            owner: self.journal.read(at + 2),
-            length: self.journal.read(at + 3),
-            place,
-        }
+        facts_at(&self.journal, object)
     }
 
     /// The address that the next object gets: each object lies below it.
     pub fn top(&self) -> u16
         requires { self.now.down ≡ false }
         ensures top { result ≡ self.now.now.top }
+        ensures some { 0 < result }
         ensures end { HasEnd self.now.now }
     {
         self.journal.read(TOP)
+    }
+
+    /// Whether a word is the reference of an object. It takes a walk over the heap.
+    pub fn is_object(&self, word: u16) -> bool
+        requires { self.now.down ≡ false }
+        ensures { IsTrue result ↔ IsObject self.now.now word }
+    {
+        let text = u32::from(self.journal.read(TEXT_LENGTH));
+        let from = TEXT_START + (text + 1) / 2;
+        if !begins_record(&self.journal, from as u16, word) {
+            return false;
+        }
+        !begins_package(&self.journal, word)
     }
 
     /// The object behind another one in the order of addresses, or the first one of all behind null.
@@ -149,44 +132,36 @@ impl<S: WordStore> Heap<S> {
         ensures next { result ≡ next_object self.now.now object }
         ensures object { IfSome result (λ q. IsObject self.now.now q) }
     {
-        if object.is_null() {
-            return self.first();
-        }
-        let at = object.address();
-        first_object(&self.journal, at, at)
+        next_behind(&self.journal, object)
     }
 
     /// Sets a cell of a persistent object.
-    pub fn set(&mut self, object: Ref, i: u16, v: u16) -> Result<(), HeapRefusal>
+    pub fn set(&mut self, object: Ref, i: u16, v: u16) -> Result<(), ChangeRefusal>
         requires up { self.old.down ≡ false }
         requires cell { i < length (cells self.old.now object) }
         requires value { IsElement (facts self.old.now object).kind v }
-        ensures moves { MakesUnless (full_at self.old (cell_place object i ∷ [])) self.old (after_of result self.new) (Write (Cell object i) v ∷ []) tt }
-        ensures done { OnOk result (self.new ≡ changed self.old (set_cell self.old.now object i v) (cell_place object i ∷ []) 0) }
-        ensures full { (result ≡ Err HeapRefusal.CommitFull) ↔ (has_room_for self.old (cell_place object i ∷ []) ≡ false) }
-        ensures kept { result ≡ Err HeapRefusal.CommitFull → self.new ≡ self.old }
-        ensures stopped { result ≡ Err HeapRefusal.StoreDown → IsStopped self.old self.new }
-        ensures space { result ≡ Err HeapRefusal.HeapFull → ⊥ }
-        ensures area { result ≡ Err HeapRefusal.NoTransientSpace → ⊥ }
+        ensures moves { MakesUnless (no_room self.old (Cell object i ∷ [])) self.old (after_change result self.new) (Write (Cell object i) v ∷ []) tt }
+        ensures done { OnOk result (self.new ≡ changed self.old (set_cell self.old.now object i v) (cell_address object i ∷ []) 0) }
+        ensures full { (result ≡ Err ChangeRefusal.CommitFull) ↔ (has_room_for self.old (cell_address object i ∷ []) ≡ false) }
+        ensures kept { result ≡ Err ChangeRefusal.CommitFull → self.new ≡ self.old }
+        ensures stopped { result ≡ Err ChangeRefusal.StoreDown → IsStopped self.old self.new }
     {
         self.write(Place::Cell(object, i), v)
     }
 
     /// Sets the cells of a persistent object from an index on, as one change.
-    pub fn set_run(&mut self, object: Ref, i: u16, values: &[u16]) -> Result<(), HeapRefusal>
+    pub fn set_run(&mut self, object: Ref, i: u16, values: &[u16]) -> Result<(), ChangeRefusal>
         requires up { self.old.down ≡ false }
         requires cells { i + length values.now ≤ length (cells self.old.now object) }
         requires values { (k : ℕ) → k < length values.now → IsElement (facts self.old.now object).kind (slice_index values.now k) }
-        ensures moves { MakesUnless (full_at self.old (addresses_of (run_words (cell_place object i) values.now))) self.old (after_of result self.new) (SetCells object i values.now ∷ []) tt }
-        ensures done { OnOk result (self.new ≡ changed self.old (set_cells self.old.now object i values.now) (addresses_of (run_words (cell_place object i) values.now)) 0) }
-        ensures full { (result ≡ Err HeapRefusal.CommitFull) ↔ (has_room_for self.old (addresses_of (run_words (cell_place object i) values.now)) ≡ false) }
-        ensures kept { result ≡ Err HeapRefusal.CommitFull → self.new ≡ self.old }
-        ensures stopped { result ≡ Err HeapRefusal.StoreDown → IsStopped self.old self.new }
-        ensures space { result ≡ Err HeapRefusal.HeapFull → ⊥ }
-        ensures area { result ≡ Err HeapRefusal.NoTransientSpace → ⊥ }
+        ensures moves { MakesUnless (no_run self.old object i values.now) self.old (after_change result self.new) (SetCells object i values.now ∷ []) tt }
+        ensures done { OnOk result (self.new ≡ changed self.old (set_cells self.old.now object i values.now) (addresses_of (run_words (cell_address object i) values.now)) 0) }
+        ensures full { (result ≡ Err ChangeRefusal.CommitFull) ↔ (has_room_for self.old (addresses_of (run_words (cell_address object i) values.now)) ≡ false) }
+        ensures kept { result ≡ Err ChangeRefusal.CommitFull → self.new ≡ self.old }
+        ensures stopped { result ≡ Err ChangeRefusal.StoreDown → IsStopped self.old self.new }
     {
         if values.len() > MOST_CHANGES {
-            return Err(HeapRefusal::CommitFull);
+            return Err(ChangeRefusal::CommitFull);
         }
         let mut changes = [(0, 0); MOST_CHANGES];
         let at = self.run_word(object, i, values);
@@ -197,14 +172,17 @@ impl<S: WordStore> Heap<S> {
 
     /// Whether a transaction is open.
     pub fn is_open(&self) -> bool
-        ensures { result ≡ self.now.begun }
+        ensures open { result ≡ self.now.begun }
+        // Outside a transaction a loss of power leaves the heap as it is.
+        ensures settled { self.now.down ≡ false → result ≡ false → self.now.durable ≡ self.now.now }
     {
         self.journal.is_open()
     }
 
     /// How many more places' old values the transaction can keep.
     pub fn room(&self) -> u16
-        ensures { result + length self.now.touched ≡ capacity }
+        ensures left { result ≡ room_left self.now }
+        ensures within { result + length self.now.touched ≡ capacity }
     {
         self.journal.room()
     }
@@ -215,36 +193,55 @@ impl<S: WordStore> Heap<S> {
         requires outside { self.old.begun ≡ false }
         ensures moves { Makes {A = Unit {0}} self.old (Made tt self.new) (Begin ∷ []) tt }
         ensures done { self.new ≡ begun self.old }
+        ensures settled { self.old.durable ≡ self.old.now }
         ensures none { self.old.touched ≡ [] }
     {
         self.journal.begin();
     }
 
     /// Ends the transaction, whose changes then stay.
-    pub fn commit(&mut self) -> Result<(), HeapRefusal>
+    pub fn commit(&mut self) -> Result<(), StoreDown>
         requires up { self.old.down ≡ false }
         requires inside { self.old.begun ≡ true }
-        ensures moves { Makes self.old (after_of result self.new) (Commit ∷ []) (Done tt) }
+        ensures moves { Makes self.old (after_step result self.new) (Commit ∷ []) tt }
         ensures done { OnOk result (self.new ≡ committed self.old) }
         ensures stopped { OnErr result (IsStopped self.old self.new) }
-        ensures only_down { OnErr result (result ≡ Err HeapRefusal.StoreDown) }
     {
         self.journal.commit()?;
         Ok(())
     }
 
     /// Takes the transaction back. Of what stood, what stands below the new top is left.
-    pub fn abort(&mut self) -> Result<(), HeapRefusal>
+    pub fn abort(&mut self) -> Result<(), StoreDown>
         requires up { self.old.down ≡ false }
         requires inside { self.old.begun ≡ true }
-        ensures moves { Makes self.old (after_of result self.new) (Abort ∷ []) (Done tt) }
+        ensures moves { Makes self.old (after_step result self.new) (Abort ∷ []) tt }
         ensures done { OnOk result (self.new ≡ aborted self.old) }
         ensures names { OnOk result (KeepsBelowTop self.old.now self.new.now) }
         ensures stopped { OnErr result (IsStopped self.old self.new) }
-        ensures only_down { OnErr result (result ≡ Err HeapRefusal.StoreDown) }
     {
         self.journal.abort()?;
         Ok(())
+    }
+
+    /// A heap at rest, over a journal whose words are laid and in which nothing is open. Nothing is read
+    /// or written.
+    pub fn of_journal(journal: Journal<S>, size: u16) -> Heap<S>
+        requires size { size ≡ length journal.plain }
+        requires settled { journal.recovered ≡ journal.plain }
+        requires laid { IsLaid journal.plain }
+        ensures { result ≡ heap_view journal size }
+    {
+        Heap { journal, size }
+    }
+
+    /// The journal, for the layer that keeps whole images.
+    pub fn into_journal(self) -> Journal<S>
+        ensures view { heap_view result self.size ≡ self }
+        ensures sound { IsSound result self.size }
+    {
+        let Heap { journal, size: _ } = self;
+        journal
     }
 
     /// A heap at rest, over a store as `into_store` gives it while no transaction is open. Nothing is

@@ -1,25 +1,17 @@
 //! New objects.
 ghost use Rattle.std.specs.Prelude.{IsTrue, ◌≡◌, ◌<◌, ◌≤◌, [], ◌∷◌, true, false, Ok, Err, length, OnOk, OnErr, IfOk, Some, replicate, ◌+◌, ◌↔◌};
-ghost use Rattle.jc_commit.specs.State.{has_room_for as journal_has_room};
 ghost use Rattle.jc_heap.specs.Object.{new_object, new_transient, header_word};
-ghost use Rattle.jc_heap.specs.Heap.{changed, add_object, end_place, IsStopped, has_room_for, LacksSpace, names, IsObject, cells, facts, add_transient, area_end, area_place, LacksCells};
-ghost use Rattle.jc_heap.specs.Moves.{AddObject, AddTransient, MakesUnless, after_of, no_object, no_transient};
+ghost use Rattle.jc_heap.specs.Heap.{changed, add_object, end_address, IsStopped, has_room_for, LacksSpace, names, IsObject, cells, facts, add_transient, area_end, area_end_address, LacksCells};
+ghost use Rattle.jc_heap.specs.Moves.{AddTransient, MakesUnless, after_making, new_move, no_new, no_transient};
 
 use crate::fresh::{write_record, write_run};
 use crate::heap::Heap;
-use crate::layout::{DESELECT_END, HEADER, RESET_END, TOP};
+use crate::layout::{HEADER, area_word};
 use crate::object::Kind;
 use crate::refusal::HeapRefusal;
-use jc_commit::Journal;
 use jc_transient::{AREA_CELLS, ClearEvent, Ref};
 use jc_words::WordStore;
-
-// The journal has no room for a change of these words.
-pub(crate) fn lacks_room<S: WordStore>(journal: &Journal<S>, addresses: &[u16]) -> bool
-    ensures { IsTrue result ↔ (journal_has_room journal.now addresses.now ≡ false) }
-{
-    !journal.fits(addresses)
-}
+use jc_words::layout::TOP;
 
 impl<S: WordStore> Heap<S> {
     /// Makes a persistent object whose cells are zero.
@@ -31,25 +23,24 @@ impl<S: WordStore> Heap<S> {
         length: u16,
     ) -> Result<Ref, HeapRefusal>
         requires { self.old.down ≡ false }
-        ensures moves { MakesUnless (no_object self.old (4 + length) (end_place ∷ [])) self.old (after_of result self.new) (AddObject (new_object kind class owner length) (4 + length) ∷ []) self.old.now.top }
+        ensures moves { MakesUnless (no_new self.old length) self.old (after_making result self.new) (new_move kind class owner length ∷ []) self.old.now.top }
         ensures object { IfOk result (λ r. IsObject self.new.now r) }
         ensures cells { IfOk result (λ r. cells self.new.now r ≡ replicate length 0) }
         ensures facts { IfOk result (λ r. facts self.new.now r ≡ (new_object kind class owner length).facts) }
         ensures named { IfOk result (λ r. r ≡ self.old.now.top) }
         ensures free { names self.old.now self.old.now.top ≡ false }
-        ensures done { OnOk result (self.new ≡ changed self.old (add_object self.old.now (new_object kind class owner length) (4 + length)) (end_place ∷ []) (4 + length)) }
+        ensures done { OnOk result (self.new ≡ changed self.old (add_object self.old.now (new_object kind class owner length) (4 + length)) (end_address ∷ []) (4 + length)) }
         ensures heap_full { (result ≡ Err HeapRefusal.HeapFull) ↔ LacksSpace self.old (4 + length) }
         ensures heap_full_kept { result ≡ Err HeapRefusal.HeapFull → self.new ≡ self.old }
-        ensures full { result ≡ Err HeapRefusal.CommitFull → (self.new ≡ self.old) × (has_room_for self.old (end_place ∷ []) ≡ false) }
+        ensures full { result ≡ Err HeapRefusal.CommitFull → (self.new ≡ self.old) × (has_room_for self.old (end_address ∷ []) ≡ false) }
         ensures stopped { result ≡ Err HeapRefusal.StoreDown → IsStopped self.old self.new }
-        ensures area { result ≡ Err HeapRefusal.NoTransientSpace → ⊥ }
     {
         let top = self.journal.read(TOP);
         let end = u32::from(top) + u32::from(HEADER) + u32::from(length);
         if end > u32::from(self.size) {
             return Err(HeapRefusal::HeapFull);
         }
-        if lacks_room(&self.journal, &[TOP]) {
+        if !self.journal.fits(&[TOP]) {
             return Err(HeapRefusal::CommitFull);
         }
         let header = [kind.number(), class, owner, length];
@@ -74,16 +65,16 @@ impl<S: WordStore> Heap<S> {
         length: u16,
     ) -> Result<Ref, HeapRefusal>
         requires { self.old.down ≡ false }
-        ensures moves { MakesUnless (no_transient self.old event length) self.old (after_of result self.new) (AddTransient kind event class owner length ∷ []) self.old.now.top }
+        ensures moves { MakesUnless (no_transient self.old event length) self.old (after_making result self.new) (AddTransient kind event class owner length ∷ []) self.old.now.top }
         ensures object { IfOk result (λ r. IsObject self.new.now r) }
         ensures facts { IfOk result (λ r. facts self.new.now r ≡ (new_transient kind event class owner length (area_end self.old.now event)).facts) }
         ensures named { IfOk result (λ r. r ≡ self.old.now.top) }
         ensures free { names self.old.now self.old.now.top ≡ false }
-        ensures done { OnOk result (self.new ≡ changed self.old (add_transient self.old.now kind event class owner length) (end_place ∷ area_place event ∷ []) 5) }
+        ensures done { OnOk result (self.new ≡ changed self.old (add_transient self.old.now kind event class owner length) (end_address ∷ area_end_address event ∷ []) 5) }
         ensures area_full { (result ≡ Err HeapRefusal.NoTransientSpace) ↔ LacksCells self.old.now event length }
         ensures area_full_kept { result ≡ Err HeapRefusal.NoTransientSpace → self.new ≡ self.old }
         ensures heap_full { result ≡ Err HeapRefusal.HeapFull → (self.new ≡ self.old) × LacksSpace self.old 5 }
-        ensures full { result ≡ Err HeapRefusal.CommitFull → (self.new ≡ self.old) × (has_room_for self.old (end_place ∷ area_place event ∷ []) ≡ false) }
+        ensures full { result ≡ Err HeapRefusal.CommitFull → (self.new ≡ self.old) × (has_room_for self.old (end_address ∷ area_end_address event ∷ []) ≡ false) }
         ensures stopped { result ≡ Err HeapRefusal.StoreDown → IsStopped self.old self.new }
     {
         let end_word = area_word(event);
@@ -97,7 +88,7 @@ impl<S: WordStore> Heap<S> {
         if end > u32::from(self.size) {
             return Err(HeapRefusal::HeapFull);
         }
-        if lacks_room(&self.journal, &[TOP, end_word]) {
+        if !self.journal.fits(&[TOP, end_word]) {
             return Err(HeapRefusal::CommitFull);
         }
         let record = [header_of(kind, event), class, owner, length, place];
@@ -110,16 +101,6 @@ impl<S: WordStore> Heap<S> {
             return Err(HeapRefusal::StoreDown);
         };
         Ok(Ref::at(top))
-    }
-}
-
-// The word with the end of an event's area.
-pub(crate) fn area_word(event: ClearEvent) -> u16
-    ensures { result ≡ area_place event }
-{
-    match event {
-        ClearEvent::Reset => RESET_END,
-        ClearEvent::Deselect => DESELECT_END,
     }
 }
 

@@ -1,17 +1,18 @@
-//! Words that a change names: cells, and the words of static images and of the registry.
-ghost use Rattle.std.specs.Prelude.{◌≡◌, ◌<◌, ◌↔◌, false, [], ◌∷◌, Err, map, length, slice_index, OnOk, OnErr};
-ghost use Rattle.jc_heap.specs.Heap.{HeapState, IsStopped, has_room_for, kept};
-ghost use Rattle.jc_heap.specs.Moves.{Write, Count, Done, Makes, MakesUnless, after_of, full_at};
-ghost use Rattle.jc_heap.specs.Places.{HasPlace, MayHold, place_word, written, counted};
+//! Words that a change names: cells, the words of static images and of the registry.
+ghost use Rattle.std.specs.Prelude.{◌≡◌, ◌<◌, ◌≤◌, ◌↔◌, false, [], ◌∷◌, Err, map, length, slice_index, take, OnOk, OnErr};
+ghost use Rattle.jc_words.specs.Layout.{registry_length, most_applets};
+ghost use Rattle.jc_heap.specs.Heap.{IsStopped, has_room_for, kept};
+ghost use Rattle.jc_heap.specs.Moves.{Write, SetPlaces, Count, Makes, MakesUnless, after_change, after_step, no_room, no_applet, applet_move};
+ghost use Rattle.jc_heap.specs.Places.{HasPlace, MayHold, AreThere, AreApart, place_word, places_of, words_of, written, counted};
 
 use crate::heap::{Heap, MOST_CHANGES};
-use crate::layout::REGISTRY;
-use crate::refusal::HeapRefusal;
+use crate::refusal::ChangeRefusal;
 use jc_transient::Ref;
-use jc_words::WordStore;
+use jc_words::layout::{APPLETS, REGISTRY};
+use jc_words::{StoreDown, WordStore};
 
 /// A word that a change may name.
-#[derive(Clone, Copy, Debug, PartialEq, Eq)]
+#[derive(Clone, Copy)]
 pub enum Place {
     /// A cell of a persistent object, by its index.
     Cell(Ref, u16),
@@ -19,6 +20,35 @@ pub enum Place {
     Static(Ref, u16),
     /// A word of the registry, 0 to 191.
     Registry(u16),
+    /// The number of applets in the registry.
+    AppletCount,
+}
+
+/// What the registry keeps of an applet.
+#[derive(Clone, Copy)]
+pub struct AppletEntry {
+    /// The applet's AID object.
+    pub aid: Ref,
+    /// The number of its package.
+    pub package: u16,
+    /// The applet's instance.
+    pub instance: Ref,
+}
+
+// The words of changes, with their new values.
+fn fill_words<S: WordStore>(
+    heap: &Heap<S>,
+    changes: &[(Place, u16)],
+    words: &mut [(u16, u16)],
+)
+    requires up { heap.now.down ≡ false }
+    requires there { AreThere heap.now.now changes.now }
+    requires room { length changes.now ≤ length words.old }
+    ensures { take (length changes.now) words.new ≡ words_of changes.now }
+{
+    for (k, change) in changes.iter().enumerate() {
+        words[k] = (heap.place_word(change.0), change.1);
+    }
 }
 
 impl<S: WordStore> Heap<S> {
@@ -32,46 +62,85 @@ impl<S: WordStore> Heap<S> {
             Place::Cell(object, i) => self.cell_word(object, i),
             Place::Static(package, j) => self.static_word(package, j),
             Place::Registry(i) => REGISTRY + i,
+            Place::AppletCount => APPLETS,
         }
     }
 
     /// A word of the registry, 0 to 191.
     pub fn registry(&self, i: u16) -> u16
         requires up { self.now.down ≡ false }
-        requires there { i < 192 }
+        requires there { i < registry_length }
         ensures { result ≡ slice_index self.now.now.applets i }
     {
         self.journal.read(REGISTRY + i)
     }
 
+    /// How many applets there are.
+    pub fn applets(&self) -> u16
+        requires { self.now.down ≡ false }
+        ensures { result ≡ self.now.now.counts.1 }
+    {
+        self.journal.read(APPLETS)
+    }
+
     /// Writes a place.
-    pub fn write(&mut self, place: Place, v: u16) -> Result<(), HeapRefusal>
+    pub fn write(&mut self, place: Place, v: u16) -> Result<(), ChangeRefusal>
         requires up { self.old.down ≡ false }
         requires there { HasPlace self.old.now place }
         requires value { MayHold self.old.now place v }
-        ensures moves { MakesUnless (full_at self.old (place_word place ∷ [])) self.old (after_of result self.new) (Write place v ∷ []) tt }
+        ensures moves { MakesUnless (no_room self.old (place ∷ [])) self.old (after_change result self.new) (Write place v ∷ []) tt }
         ensures done { OnOk result (self.new ≡ written self.old place v) }
-        ensures full { (result ≡ Err HeapRefusal.CommitFull) ↔ (has_room_for self.old (place_word place ∷ []) ≡ false) }
-        ensures kept { result ≡ Err HeapRefusal.CommitFull → self.new ≡ self.old }
-        ensures stopped { result ≡ Err HeapRefusal.StoreDown → IsStopped self.old self.new }
-        ensures space { result ≡ Err HeapRefusal.HeapFull → ⊥ }
-        ensures area { result ≡ Err HeapRefusal.NoTransientSpace → ⊥ }
+        ensures full { (result ≡ Err ChangeRefusal.CommitFull) ↔ (has_room_for self.old (place_word place ∷ []) ≡ false) }
+        ensures kept { result ≡ Err ChangeRefusal.CommitFull → self.new ≡ self.old }
+        ensures stopped { result ≡ Err ChangeRefusal.StoreDown → IsStopped self.old self.new }
     {
         let word = self.place_word(place);
         self.journal.write(word, v)?;
         Ok(())
     }
 
+    /// Writes several places, of which none stands twice, as one change.
+    pub fn set_all(&mut self, changes: &[(Place, u16)]) -> Result<(), ChangeRefusal>
+        requires up { self.old.down ≡ false }
+        requires there { AreThere self.old.now changes.now }
+        requires apart { AreApart (places_of changes.now) }
+        ensures { MakesUnless (no_room self.old (places_of changes.now)) self.old (after_change result self.new) (SetPlaces changes.now ∷ []) tt }
+    {
+        if changes.len() > MOST_CHANGES {
+            return Err(ChangeRefusal::CommitFull);
+        }
+        let mut words = [(0, 0); MOST_CHANGES];
+        fill_words(self, changes, &mut words);
+        self.journal.write_all(&words[..changes.len()])?;
+        Ok(())
+    }
+
+    /// Adds an applet to the registry: its three words and the number of applets, as one change. The
+    /// applet's number is answered, the first at 0.
+    pub fn add_applet(&mut self, entry: AppletEntry) -> Result<u16, ChangeRefusal>
+        requires up { self.old.down ≡ false }
+        requires few { self.old.now.counts.1 < most_applets }
+        ensures { MakesUnless (no_applet self.old entry) self.old (after_change result self.new) (applet_move self.old.now entry ∷ []) self.old.now.counts.1 }
+    {
+        let number = self.applets();
+        self.set_all(&[
+            (Place::Registry(3 * number), entry.aid.address()),
+            (Place::Registry(3 * number + 1), entry.package),
+            (Place::Registry(3 * number + 2), entry.instance.address()),
+            (Place::AppletCount, number + 1),
+        ])?;
+        Ok(number)
+    }
+
     /// Writes a place for good: no abort takes it back, unless an earlier change of the transaction
     /// has touched it.
-    pub fn write_both(&mut self, place: Place, v: u16) -> Result<(), HeapRefusal>
+    pub fn write_both(&mut self, place: Place, v: u16) -> Result<(), StoreDown>
         requires up { self.old.down ≡ false }
         requires there { HasPlace self.old.now place }
         requires value { MayHold self.old.now place v }
-        ensures moves { Makes self.old (after_of result self.new) (Count place v ∷ []) (Done tt) }
+        ensures moves { Makes self.old (after_step result self.new) (Count place v ∷ []) tt }
         ensures done { OnOk result (self.new ≡ counted self.old place v) }
         ensures stopped { OnErr result (IsStopped self.old self.new) }
-        ensures only_down { OnErr result (result ≡ Err HeapRefusal.StoreDown) }
     {
         let word = self.place_word(place);
         self.journal.write_both(word, v)?;

@@ -2,7 +2,7 @@
 ghost use Rattle.std.specs.Prelude.{ℕ, ◌≡◌, ◌<◌, ◌+◌, ◌*◌, [], ◌∷◌, ◌++◌, length, slice_index, slice_index_or, OnOk, OnErr, IfOk};
 ghost use Rattle.jc_heap.specs.Fresh.{IsFree, KeepsBelow, Fills, StopsFresh};
 ghost use Rattle.jc_heap.specs.Packages.{part, parts, initial, initials, elements, component_words, components_words, array_addresses, arrays_size, image_words, record_size, package_record, AreComponents, array_words, arrays_words};
-ghost use Rattle.jc_heap.specs.Laying.{packed};
+ghost use Rattle.jc_heap.specs.Packed.{packed};
 
 use crate::fresh::write_run;
 use crate::layout::HEADER;
@@ -107,7 +107,7 @@ fn write_references<S: WordStore>(
 }
 
 // Writes a static image: references to the arrays, then the other bytes.
-fn write_image<S: WordStore>(
+fn write_static_image<S: WordStore>(
     journal: &mut Journal<S>,
     at: u16,
     arrays: &[StaticArray],
@@ -201,6 +201,6 @@ pub(crate) fn write_package_record<S: WordStore>(
     write_run(journal, at, &[size])?;
     let next = write_components(journal, at + 1, components)?;
     write_run(journal, next, &[0])?;
-    write_image(journal, next + 1, arrays, at + size, image)?;
+    write_static_image(journal, next + 1, arrays, at + size, image)?;
     Ok(())
 }

@@ -1,20 +1,21 @@
 //! The packages of a heap by their places in the registry.
 ghost use Rattle.std.specs.Prelude.{◌≡◌, ◌<◌, false, length, slice_index, Some, None, IfSome, if◌then◌else◌};
+ghost use Rattle.jc_words.specs.Layout.{most_packages};
 ghost use Rattle.jc_heap.specs.Heap.{names};
 ghost use Rattle.jc_heap.specs.Components.{record_of};
 
 use crate::heap::Heap;
-use crate::layout::{ADDRESSES, MOST_PACKAGES, PACKAGES, TEXT_LENGTH, TEXT_START};
 use crate::walk::begins_record;
 use jc_transient::Ref;
 use jc_words::WordStore;
+use jc_words::layout::{ADDRESSES, MOST_PACKAGES, PACKAGES, TEXT_LENGTH, TEXT_START};
 
 impl<S: WordStore> Heap<S> {
     /// How many packages there are.
     pub fn packages(&self) -> u16
         requires { self.now.down ≡ false }
         ensures exact { result ≡ length self.now.now.packages }
-        ensures count { result < 32 → self.now.now.counts.0 ≡ result }
+        ensures count { result < most_packages → self.now.now.counts.0 ≡ result }
     {
         self.journal.read(PACKAGES).min(MOST_PACKAGES)
     }

@@ -1,5 +1,6 @@
 //! The words of a package's record, whose last ones are its static image.
 ghost use Rattle.std.specs.Prelude.{ℕ, ◌≡◌, ◌<◌, ◌≤◌, ◌+◌, false, length, slice_index, take, drop, IfSome};
+ghost use Rattle.jc_words.specs.Layout.{text_start};
 ghost use Rattle.jc_heap.specs.Components.{record_of, record_parts};
 ghost use Rattle.jc_heap.specs.Statics.{image_from, statics_of, IsStatic};
 
@@ -11,7 +12,7 @@ use jc_words::WordStore;
 
 // Where the static image begins, in a record of so many words.
 fn find_image<S: WordStore>(journal: &Journal<S>, base: u16, long: u16) -> Option<u16>
-    requires behind { 752 ≤ base }
+    requires behind { text_start ≤ base }
     requires there { base + long ≤ length journal.now.plain }
     requires small { length journal.now.plain < 65536 }
     ensures { result ≡ image_from (record_parts (take long (drop base journal.now.plain))) }
@@ -76,7 +77,7 @@ impl<S: WordStore> Heap<S> {
         requires word { IsStatic (record_of self.now.now at) j }
         ensures { result ≡ at + j }
     {
-        let _ = &self.journal;
+        let _ = &self.journal; // so that the proof knows what holds of every heap: records lie below its end
         at.address() + j
     }
 }

@@ -1,24 +1,25 @@
 //! The walk over the heap's records.
 ghost use Rattle.std.specs.Prelude.{◌≡◌, ◌<◌, ◌&&◌, nat_lt, not, map, ◌≤◌, ◌+◌, ◌↔◌, IsTrue, length, slice_index, drop, take};
+ghost use Rattle.jc_words.specs.Layout.{top_address, text_start};
 ghost use Rattle.jc_heap.specs.Image.{IsLaid, image, base, missing, package_addresses, is_package, sizes};
 ghost use Rattle.jc_heap.specs.Cut.{cut, lacking};
 ghost use Rattle.jc_heap.specs.Table.{has};
 ghost use Rattle.jc_heap.specs.Image.{item_entry};
 ghost use Rattle.jc_heap.specs.Heap.{first_above};
 
-use crate::layout::{ADDRESSES, MOST_PACKAGES, PACKAGES, TEXT_LENGTH, TEXT_START, TOP};
 use crate::object::begins_header;
 use jc_commit::Journal;
 use jc_transient::Ref;
 use jc_words::WordStore;
+use jc_words::layout::{ADDRESSES, MOST_PACKAGES, PACKAGES, TEXT_LENGTH, TEXT_START, TOP};
 
 // The size of a record that begins with no header: no image has so many words.
 const NO_HEADER: u32 = 65540;
 
-// A package's record begins at the address.
-pub(crate) fn begins_package<S: WordStore>(journal: &Journal<S>, at: u16) -> bool
-    requires wide { 752 ≤ slice_index journal.now.plain 5 }
-    requires fits { slice_index journal.now.plain 5 ≤ length journal.now.plain }
+/// Whether a package's record begins at the address.
+pub fn begins_package<S: WordStore>(journal: &Journal<S>, at: u16) -> bool
+    requires wide { text_start ≤ slice_index journal.now.plain top_address }
+    requires fits { slice_index journal.now.plain top_address ≤ length journal.now.plain }
     requires small { length journal.now.plain < 65536 }
     ensures { result ≡ is_package (package_addresses (image journal.now.plain)) at }
 {
@@ -31,14 +32,14 @@ pub(crate) fn begins_package<S: WordStore>(journal: &Journal<S>, at: u16) -> boo
     false
 }
 
-// How many words the record at an address has.
-pub(crate) fn record_size<S: WordStore>(journal: &Journal<S>, at: u16, top: u16) -> u32
-    requires wide { 752 ≤ slice_index journal.now.plain 5 }
-    requires fits { slice_index journal.now.plain 5 ≤ length journal.now.plain }
+/// How many words the record at an address has: more than there can be, where it begins with no header.
+pub fn record_size<S: WordStore>(journal: &Journal<S>, at: u16, top: u16) -> u32
+    requires wide { text_start ≤ slice_index journal.now.plain top_address }
+    requires fits { slice_index journal.now.plain top_address ≤ length journal.now.plain }
     requires small { length journal.now.plain < 65536 }
-    requires behind { 752 ≤ at }
-    requires inside { at < slice_index journal.now.plain 5 }
-    requires is_top { top ≡ slice_index journal.now.plain 5 }
+    requires behind { text_start ≤ at }
+    requires inside { at < slice_index journal.now.plain top_address }
+    requires is_top { top ≡ slice_index journal.now.plain top_address }
     ensures { result ≡ sizes (package_addresses (image journal.now.plain)) at (drop at (image journal.now.plain)) + 1 }
 {
     let word = journal.read(at);
@@ -57,29 +58,10 @@ pub(crate) fn record_size<S: WordStore>(journal: &Journal<S>, at: u16, top: u16)
     4 + u32::from(journal.read(at + 3))
 }
 
-// The records end where the table ends.
-pub(crate) fn is_whole<S: WordStore>(journal: &Journal<S>) -> bool
-    requires wide { base (image journal.now.plain) ≤ slice_index journal.now.plain 5 }
-    requires fits { slice_index journal.now.plain 5 ≤ length journal.now.plain }
-    requires small { length journal.now.plain < 65536 }
-    ensures { IsTrue result ↔ (missing (image journal.now.plain) ≡ 0) }
-{
-    let top = u32::from(journal.read(TOP));
-    let mut at = TEXT_START + (u32::from(journal.read(TEXT_LENGTH)) + 1) / 2;
-    while at < top {
-        let size = record_size(journal, at as u16, top as u16);
-        if size > top - at {
-            return false;
-        }
-        at += size;
-    }
-    true
-}
-
 // An object begins at the address of a record, and it lies above the other address.
 fn is_object_above<S: WordStore>(journal: &Journal<S>, at: u16, above: u16) -> bool
-    requires wide { 752 ≤ slice_index journal.now.plain 5 }
-    requires fits { slice_index journal.now.plain 5 ≤ length journal.now.plain }
+    requires wide { text_start ≤ slice_index journal.now.plain top_address }
+    requires fits { slice_index journal.now.plain top_address ≤ length journal.now.plain }
     requires small { length journal.now.plain < 65536 }
     ensures { result ≡ (nat_lt above at && not (is_package (package_addresses (image journal.now.plain)) at)) }
 {
@@ -93,8 +75,8 @@ fn is_object_above<S: WordStore>(journal: &Journal<S>, at: u16, above: u16) -> b
 pub(crate) fn first_object<S: WordStore>(journal: &Journal<S>, from: u16, above: u16) -> Option<Ref>
     requires laid { IsLaid journal.now.plain }
     requires small { length journal.now.plain < 65536 }
-    requires low { 752 ≤ from }
-    requires high { from ≤ slice_index journal.now.plain 5 }
+    requires low { text_start ≤ from }
+    requires high { from ≤ slice_index journal.now.plain top_address }
     requires whole { lacking (sizes (package_addresses (image journal.now.plain))) 0 from (drop from (image journal.now.plain)) ≡ 0 }
     ensures { result ≡ first_above (map (item_entry (package_addresses (image journal.now.plain))) (cut (sizes (package_addresses (image journal.now.plain))) 0 from (drop from (image journal.now.plain)))) above }
 {
@@ -114,8 +96,8 @@ pub(crate) fn first_object<S: WordStore>(journal: &Journal<S>, from: u16, above:
 pub(crate) fn begins_record<S: WordStore>(journal: &Journal<S>, from: u16, address: u16) -> bool
     requires laid { IsLaid journal.now.plain }
     requires small { length journal.now.plain < 65536 }
-    requires low { 752 ≤ from }
-    requires high { from ≤ slice_index journal.now.plain 5 }
+    requires low { text_start ≤ from }
+    requires high { from ≤ slice_index journal.now.plain top_address }
     requires whole { lacking (sizes (package_addresses (image journal.now.plain))) 0 from (drop from (image journal.now.plain)) ≡ 0 }
     ensures { result ≡ has (cut (sizes (package_addresses (image journal.now.plain))) 0 from (drop from (image journal.now.plain))) address }
 {

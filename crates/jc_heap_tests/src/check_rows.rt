@@ -1,5 +1,5 @@
 //! Which images `check` answers with a heap.
-use jc_heap::OpenImage;
+use jc_image::OpenImage;
 use jc_words::MemStore;
 use std::alloc::Global;
 use std::test::Fail;

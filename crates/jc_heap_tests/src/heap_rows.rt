@@ -4,7 +4,8 @@ ghost use Rattle.std.specs.Prelude.{◌≡◌, ◌<◌, ◌≤◌, length, true,
 ghost use Rattle.jc_heap.specs.Heap.{cells, facts};
 ghost use Rattle.jc_heap.specs.declared.object.Kind.TheVariants.{ShortArray};
 
-use jc_heap::{Heap, HeapRefusal, Kind, OpenImage};
+use jc_heap::{ChangeRefusal, Heap, HeapRefusal, Kind};
+use jc_image::OpenImage;
 use jc_transient::{CellValue, ClearEvent, Ram, Ref};
 use jc_words::{FuseStore, MemStore, WordStore, blank};
 use std::alloc::Global;
@@ -129,7 +130,7 @@ fn store_of_eight(alloc: Global) -> Result<Store, Fail> {
 }
 
 // Sets all eight as one change. The answer is why they were not set.
-fn set_eight(heap: &mut Heap<Store>, values: &[u16; 8]) -> Result<Option<HeapRefusal>, Fail>
+fn set_eight(heap: &mut Heap<Store>, values: &[u16; 8]) -> Result<Option<ChangeRefusal>, Fail>
     requires up { heap.old.down ≡ false }
 {
     let array = first_shorts(heap, 8)?;
@@ -161,7 +162,7 @@ fn a_run_is_all_old_or_all_new(rt: HostRuntime) -> Result<(), Fail> {
         store.arm(u64::MAX);
         let found = eight_shorts(&opened(store)?)?;
         let wanted = if writes < 26 {
-            (Some(HeapRefusal::StoreDown), OLD)
+            (Some(ChangeRefusal::StoreDown), OLD)
         } else {
             (None, NEW)
         };
@@ -200,7 +201,7 @@ fn each_area_has_2048_cells(rt: HostRuntime) -> Result<(), Fail> {
 }
 
 // Sets a cell of the first array, which has four. The answer is why it was not set.
-fn set_short(heap: &mut Heap<Store>, i: u16, v: u16) -> Result<Option<HeapRefusal>, Fail>
+fn set_short(heap: &mut Heap<Store>, i: u16, v: u16) -> Result<Option<ChangeRefusal>, Fail>
     requires up { heap.old.down ≡ false }
     ensures up { OnOk result (heap.new.down ≡ false) }
     ensures begun { OnOk result (heap.new.begun ≡ heap.old.begun) }
@@ -211,7 +212,7 @@ fn set_short(heap: &mut Heap<Store>, i: u16, v: u16) -> Result<Option<HeapRefusa
     }
     match heap.set(array, i, v) {
         Ok(()) => Ok(None),
-        Err(HeapRefusal::StoreDown) => Err("down")?,
+        Err(ChangeRefusal::StoreDown) => Err("down")?,
         Err(refusal) => Ok(Some(refusal)),
     }
 }
@@ -254,7 +255,7 @@ fn a_transaction_has_room_for_256_entries(rt: HostRuntime) -> Result<(), Fail> {
     assert_eq!(rt; heap.room(), 0);
     assert_eq!(rt;
         set_short(&mut heap, 0, 999)?,
-        Some(HeapRefusal::CommitFull)
+        Some(ChangeRefusal::CommitFull)
     );
     assert_eq!(rt; four_shorts(&heap)?, [253, 254, 255, 256]);
     assert_eq!(rt; (heap.room(), heap.is_open()), (0, true));

@@ -1,16 +1,17 @@
 //! An image that is laid, sealed and opened.
 ghost use Rattle.std.specs.Prelude.{◌≡◌, ◌<◌, false, [], ◌∷◌, length};
-ghost use Rattle.jc_heap.specs.Moves.{Begin, Commit, Done, Makes, after_of};
+ghost use Rattle.jc_heap.specs.Moves.{Begin, Commit, Makes, after_step};
 
-use jc_heap::{Heap, HeapRefusal, OpenImage, first_free};
-use jc_words::{FuseStore, MemStore, WordStore};
+use jc_heap::{Heap, Kind};
+use jc_image::{OpenImage, first_free, lay, seal};
+use jc_words::{FuseStore, MemStore, StoreDown, WordStore};
 use std::test::Fail;
 
 // Two calls, one after the other: their moves are those of both.
-fn begin_and_commit<S: WordStore>(heap: &mut Heap<S>) -> Result<(), HeapRefusal>
+fn begin_and_commit<S: WordStore>(heap: &mut Heap<S>) -> Result<(), StoreDown>
     requires up { heap.old.down ≡ false }
     requires outside { heap.old.begun ≡ false }
-    ensures { Makes heap.old (after_of result heap.new) (Begin ∷ Commit ∷ []) (Done tt) }
+    ensures { Makes heap.old (after_step result heap.new) (Begin ∷ Commit ∷ []) tt }
 {
     heap.begin();
     heap.commit()
@@ -30,12 +31,12 @@ fn a_sealed_image_opens_with_its_text(rt: HostRuntime) -> Result<(), Fail> {
     let text = b"platform text";
     let store = FuseStore::new(MemStore::new(rt.alloc(), 4096)?);
     assert_eq!(rt; store.size(), 4096);
-    let mut heap = match Heap::lay(store, text) {
+    let mut heap = match lay(store, text) {
         Ok(heap) => heap,
         Err(_) => Err("down")?,
     };
     assert_eq!(rt; begin_and_commit(&mut heap), Ok(()));
-    let store = match heap.seal() {
+    let store = match seal(heap) {
         Ok(store) => store,
         Err(_) => Err("down")?,
     };
@@ -63,5 +64,30 @@ fn a_sealed_image_opens_with_its_text(rt: HostRuntime) -> Result<(), Fail> {
     image.read_text(&mut read);
     assert_eq!(rt; &read, text);
     assert!(rt; image.check(&[]).is_ok());
+    Ok(())
+}
+
+#[test]
+fn an_image_is_checked_for_its_first_objects(rt: HostRuntime) -> Result<(), Fail> {
+    let store = FuseStore::new(MemStore::new(rt.alloc(), 4096)?);
+    let Ok(mut heap) = lay(store, b"") else {
+        return Err("down")?;
+    };
+    let array = heap.new_persistent(Kind::ByteArray, 0, 0, 2)?;
+    let facts = heap.facts(array);
+    let Ok(store) = seal(heap) else {
+        return Err("down")?;
+    };
+    let Ok(image) = OpenImage::open(store) else {
+        return Err("not opened")?;
+    };
+    // One such object, and not two.
+    let Err(store) = image.check(&[facts, facts]) else {
+        return Err("an object too many")?;
+    };
+    let Ok(image) = OpenImage::open(store) else {
+        return Err("not opened")?;
+    };
+    assert!(rt; image.check(&[facts]).is_ok());
     Ok(())
 }

@@ -10,3 +10,5 @@ mod heap_calls;
 mod heap_rows;
 #[cfg(test)]
 mod laying;
+#[cfg(test)]
+mod several_rows;

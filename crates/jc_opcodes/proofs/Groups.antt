@@ -1,6 +1,6 @@
 -- Which group of the table an opcode belongs to.
 use Rattle.std.proofs.Common.{◌≡◌, ℕ, ◌+◌, ◌-◌, ◌≤◌, List, [], ◌∷◌, ◌++◌, Option, Some, None, Bool, true, false, refl, sym, ◌∙◌, ap, arith}
-use Rattle.std.specs.Prelude.{ℤ, ◌==◌, ◌&&◌, not, if◌then◌else◌, map, slice_get}
+use Rattle.std.specs.Prelude.{ℤ, ◌==◌, ◌&&◌, not, nat_le, if◌then◌else◌, map, slice_get}
 use Rattle.std.specs.Option.{option_map, option_and_then}
 use Rattle.std.proofs.lemmas.Bool.Decides.{nat_tests}
 use Rattle.jc_opcodes.specs.declared.instr.Instr.{Instr}
@@ -8,7 +8,7 @@ use Rattle.jc_opcodes.specs.declared.instr.Instr.TheVariants.{Jump}
 use Rattle.jc_opcodes.specs.declared.instr.Branch.TheVariants.{If}
 use Rattle.jc_opcodes.specs.declared.instr.Condition.{Condition}
 use Rattle.jc_opcodes.specs.Operands.{s2}
-use Rattle.jc_opcodes.specs.Table.{Form, Row, S2, form_in, table, in_wide, condition_in, read, decoded}
+use Rattle.jc_opcodes.specs.Table.{Form, Row, S2, form_in, in_wide, condition_in, read}
 
 -- the first that there is
 abbrev pub or_else : Option Form → Option Form → Option Form
@@ -54,15 +54,31 @@ form_in-none p (row ∷ rows) op none passes =
     ] in
     differs (op == row.0) refl
 
--- an opcode that passes a test which no row of the other groups passes has the form of its group
-pub form_in-group : (p : ℕ → Bool) (before group after : List Row) (op : ℕ) → none_passes p before ≡ true → none_passes p after ≡ true → p op ≡ true →
-    form_in (before ++ (group ++ after)) op ≡ form_in group op
-form_in-group p before group after op first last passes =
+-- the opcodes from one number to another
+abbrev pub among : ℕ → ℕ → ℕ → Bool
+among low high op = nat_le low op && nat_le op high
+
+is_among : (low high op : ℕ) → low ≤ op → op ≤ high → among low high op ≡ true
+is_among low high op l h = grind (arith, nat_tests)
+
+-- an opcode of a range in which no row of the other groups lies has the form of its group
+form_in-group : (low high : ℕ) (before group after : List Row) (op : ℕ) → none_passes (among low high) before ≡ true → none_passes (among low high) after ≡ true →
+    low ≤ op → op ≤ high → form_in (before ++ (group ++ after)) op ≡ form_in group op
+form_in-group low high before group after op first last l h =
+    let passes = is_among low high op l h in
     form_in-append before (group ++ after) op
-    ∙ ap (λ o. or_else o (form_in (group ++ after) op)) (form_in-none p before op first passes)
+    ∙ ap (λ o. or_else o (form_in (group ++ after) op)) (form_in-none (among low high) before op first passes)
     ∙ form_in-append group after op
-    ∙ ap (or_else (form_in group op)) (form_in-none p after op last passes)
+    ∙ ap (or_else (form_in group op)) (form_in-none (among low high) after op last passes)
     ∙ or_else-none (form_in group op)
+
+-- what a group says of such an opcode is what the whole table says
+pub of_group : (low high : ℕ) (before group after : List Row) (code : List ℕ) (pc op : ℕ) (r : Option (Instr × ℕ)) →
+    none_passes (among low high) before ≡ true → none_passes (among low high) after ≡ true → low ≤ op → op ≤ high →
+    Some op ≡ slice_get code pc → r ≡ option_and_then (read code (pc + 1)) (form_in group op) →
+    r ≡ option_and_then (λ op. option_and_then (read code (pc + 1)) (form_in (before ++ (group ++ after)) op)) (slice_get code pc)
+of_group low high before group after code pc op r first last l h here e =
+    e ∙ rw (← here) (sym (ap (option_and_then (read code (pc + 1))) (form_in-group low high before group after op first last l h)))
 
 -- ---- the wide forms of the conditional branches
 
@@ -86,14 +102,3 @@ pub wide_reads : (rows : List (ℕ × Condition)) (code : List ℕ) (at op : ℕ
     option_and_then (read code at) (form_in (map in_wide rows) op) ≡ Some (Jump (If condition offset), at + 2)
 wide_reads rows code at op condition offset h e f =
     ap (option_and_then (read code at)) (form_in-in_wide rows op h ∙ ap (option_map wide_form) e) ∙ ap (option_map (λ v. (Jump (If condition v), at + 2))) f
-
--- ---- what a group answers is what the table says
-
-pub of_group : (rows : List Row) (code : List ℕ) (pc op : ℕ) (r : Option (Instr × ℕ)) → slice_get code pc ≡ Some op → form_in table op ≡ form_in rows op →
-    r ≡ option_and_then (read code (pc + 1)) (form_in rows op) → r ≡ decoded code pc
-of_group rows code pc op r here same e = e ∙ rw (← same) (sym (ap (option_and_then (λ op. option_and_then (read code (pc + 1)) (form_in table op))) here))
-
-pub of_no_group : (code : List ℕ) (pc op : ℕ) → slice_get code pc ≡ Some op → form_in table op ≡ None → None ≡ decoded code pc
-of_no_group code pc op here none =
-    let e : decoded code pc ≡ option_and_then (λ op. option_and_then (read code (pc + 1)) (form_in table op)) (Some op) = ap (option_and_then (λ op. option_and_then (read code (pc + 1)) (form_in table op))) here in
-    sym (e ∙ ap (option_and_then (read code (pc + 1))) none)

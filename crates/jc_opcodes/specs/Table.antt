@@ -1,11 +1,11 @@
 -- The instruction table (virtual machine specification, the instruction set): each opcode with its
 -- mnemonic, the form of its operands and the instruction that they make. An opcode that has no row is
--- no instruction; the rows of fields, arrays, objects and calls are still to come.
+-- no instruction: those of the int forms have none.
 use Rattle.std.specs.Prelude.{IsTrue, ℕ, ◌+◌, ◌*◌, ◌/◌, ◌%◌, ℤ, pos, negsuc, ◌-ℤ◌, ◌==◌, nat_le, int_lt, if◌then◌else◌, List, [], ◌∷◌, ◌++◌, Option, Some, None, slice_get, length, map, Bool, ◌&&◌, ◌||◌, unsigned_abs}
 use Rattle.std.specs.Option.{option_map, option_and_then}
 use Rattle.jc_opcodes.specs.Operands.{u1, s1, u2, s2}
 use Rattle.jc_opcodes.specs.declared.instr.Instr.{Instr}
-use Rattle.jc_opcodes.specs.declared.instr.Instr.TheVariants.{Nop, Push, Access, Arrange, Compute, Jump, Leave}
+use Rattle.jc_opcodes.specs.declared.instr.Instr.TheVariants.{Nop, Push, Access, Arrange, Compute, Jump, Leave, Reach, Index, Operate, Call}
 use Rattle.jc_opcodes.specs.declared.instr.Constant.TheVariants.{Null, Number}
 use Rattle.jc_opcodes.specs.declared.instr.Local.TheVariants.{LoadReference, LoadShort, StoreReference, StoreShort, Increment}
 use Rattle.jc_opcodes.specs.declared.instr.Stack.TheVariants.{Pop, PopTwo, Duplicate, DuplicateTwo, DuplicateBelow, Swap}
@@ -15,7 +15,16 @@ use Rattle.jc_opcodes.specs.declared.instr.Comparison.TheVariants.{Equal, NotEqu
 use Rattle.jc_opcodes.specs.declared.instr.Condition.{Condition}
 use Rattle.jc_opcodes.specs.declared.instr.Condition.TheVariants.{Zero, IsNull, NotNull, SameReference, OtherReference, Shorts}
 use Rattle.jc_opcodes.specs.declared.instr.Branch.TheVariants.{If, Goto, Subroutine, Back, Table, Lookup}
-use Rattle.jc_opcodes.specs.declared.instr.Return.TheVariants.{WithShort, WithNothing}
+use Rattle.jc_opcodes.specs.declared.instr.Return.TheVariants.{WithReference, WithShort, WithNothing}
+use Rattle.jc_opcodes.specs.declared.instr.ValueType.TheVariants.{Reference, Byte, Short}
+use Rattle.jc_opcodes.specs.declared.instr.Field.TheVariants.{GetStatic, PutStatic, Get, Put, GetOfThis, PutOfThis}
+use Rattle.jc_opcodes.specs.declared.instr.PrimitiveArray.{PrimitiveArray}
+use Rattle.jc_opcodes.specs.declared.instr.PrimitiveArray.TheVariants.{Booleans, Bytes, Shorts}
+use Rattle.jc_opcodes.specs.declared.instr.ArrayOp.TheVariants.{Load, Store, MakePrimitives, MakeReferences, CountElements}
+use Rattle.jc_opcodes.specs.declared.instr.TestedType.{TestedType}
+use Rattle.jc_opcodes.specs.declared.instr.TestedType.TheVariants.{OfClass, OfPrimitives, OfReferences}
+use Rattle.jc_opcodes.specs.declared.instr.Object.TheVariants.{New, Throw, CheckCast, InstanceOf}
+use Rattle.jc_opcodes.specs.declared.instr.Invoke.TheVariants.{Virtual, Special, Static, Interface}
 
 -- what follows an opcode, and the instruction that it makes
 pub data Form : Type 0 where
@@ -23,8 +32,14 @@ pub data Form : Type 0 where
   U1 : (ℕ → Instr) → Form
   S1 : (ℤ → Instr) → Form
   S2 : (ℤ → Instr) → Form
+  U2 : (ℕ → Instr) → Form
   U1S1 : (ℕ → ℤ → Instr) → Form
   U1S2 : (ℕ → ℤ → Instr) → Form
+  U1U2U1 : (ℕ → ℕ → ℕ → Instr) → Form
+  -- a byte that may be no operand of this instruction
+  Listed : (ℕ → Option Instr) → Form
+  -- the same, and a u2
+  ListedU2 : (ℕ → ℕ → Option Instr) → Form
   -- one byte of two halves, the high one first, which may be no operand of this instruction
   Halves : (ℕ → ℕ → Option Instr) → Form
   -- s2 default, s2 low, s2 high, and an s2 for each number from low to high
@@ -165,12 +180,83 @@ branches =
 
 abbrev pub returns : List Row
 returns =
+    (0x77, Bare (Leave WithReference)) ∷  -- areturn
     (0x78, Bare (Leave WithShort)) ∷  -- sreturn
     (0x7A, Bare (Leave WithNothing)) ∷  -- return
     []
 
+abbrev pub fields : List Row
+fields =
+    (0x7B, U2 (λ index. Reach (GetStatic Reference index))) ∷  -- getstatic_a
+    (0x7C, U2 (λ index. Reach (GetStatic Byte index))) ∷  -- getstatic_b
+    (0x7D, U2 (λ index. Reach (GetStatic Short index))) ∷  -- getstatic_s
+    (0x7F, U2 (λ index. Reach (PutStatic Reference index))) ∷  -- putstatic_a
+    (0x80, U2 (λ index. Reach (PutStatic Byte index))) ∷  -- putstatic_b
+    (0x81, U2 (λ index. Reach (PutStatic Short index))) ∷  -- putstatic_s
+    (0x83, U1 (λ index. Reach (Get Reference index))) ∷  -- getfield_a
+    (0x84, U1 (λ index. Reach (Get Byte index))) ∷  -- getfield_b
+    (0x85, U1 (λ index. Reach (Get Short index))) ∷  -- getfield_s
+    (0x87, U1 (λ index. Reach (Put Reference index))) ∷  -- putfield_a
+    (0x88, U1 (λ index. Reach (Put Byte index))) ∷  -- putfield_b
+    (0x89, U1 (λ index. Reach (Put Short index))) ∷  -- putfield_s
+    (0xA9, U2 (λ index. Reach (Get Reference index))) ∷  -- getfield_a_w
+    (0xAA, U2 (λ index. Reach (Get Byte index))) ∷  -- getfield_b_w
+    (0xAB, U2 (λ index. Reach (Get Short index))) ∷  -- getfield_s_w
+    (0xAD, U1 (λ index. Reach (GetOfThis Reference index))) ∷  -- getfield_a_this
+    (0xAE, U1 (λ index. Reach (GetOfThis Byte index))) ∷  -- getfield_b_this
+    (0xAF, U1 (λ index. Reach (GetOfThis Short index))) ∷  -- getfield_s_this
+    (0xB1, U2 (λ index. Reach (Put Reference index))) ∷  -- putfield_a_w
+    (0xB2, U2 (λ index. Reach (Put Byte index))) ∷  -- putfield_b_w
+    (0xB3, U2 (λ index. Reach (Put Short index))) ∷  -- putfield_s_w
+    (0xB5, U1 (λ index. Reach (PutOfThis Reference index))) ∷  -- putfield_a_this
+    (0xB6, U1 (λ index. Reach (PutOfThis Byte index))) ∷  -- putfield_b_this
+    (0xB7, U1 (λ index. Reach (PutOfThis Short index))) ∷  -- putfield_s_this
+    []
+
+-- what newarray makes
+abbrev pub primitive_array : ℕ → Option PrimitiveArray
+primitive_array t =
+    if t == 10 then Some Booleans else
+    if t == 11 then Some Bytes else
+    if t == 12 then Some Shorts else None
+
+abbrev pub arrays : List Row
+arrays =
+    (0x24, Bare (Index (Load Reference))) ∷  -- aaload
+    (0x25, Bare (Index (Load Byte))) ∷  -- baload
+    (0x26, Bare (Index (Load Short))) ∷  -- saload
+    (0x37, Bare (Index (Store Reference))) ∷  -- aastore
+    (0x38, Bare (Index (Store Byte))) ∷  -- bastore
+    (0x39, Bare (Index (Store Short))) ∷  -- sastore
+    (0x90, Listed (λ t. option_map (λ elements. Index (MakePrimitives elements)) (primitive_array t))) ∷  -- newarray
+    (0x91, U2 (λ index. Index (MakeReferences index))) ∷  -- anewarray
+    (0x92, Bare (Index CountElements)) ∷  -- arraylength
+    []
+
+-- the type that checkcast and instanceof test for; the index is of no use to arrays of numbers
+abbrev pub tested_type : ℕ → ℕ → Option TestedType
+tested_type t index =
+    if t == 0 then Some (OfClass index) else
+    if t == 14 then Some (OfReferences index) else option_map OfPrimitives (primitive_array t)
+
+abbrev pub objects : List Row
+objects =
+    (0x8F, U2 (λ index. Operate (New index))) ∷  -- new
+    (0x93, Bare (Operate Throw)) ∷  -- athrow
+    (0x94, ListedU2 (λ t index. option_map (λ tested. Operate (CheckCast tested)) (tested_type t index))) ∷  -- checkcast
+    (0x95, ListedU2 (λ t index. option_map (λ tested. Operate (InstanceOf tested)) (tested_type t index))) ∷  -- instanceof
+    []
+
+abbrev pub calls : List Row
+calls =
+    (0x8B, U2 (λ index. Call (Virtual index))) ∷  -- invokevirtual
+    (0x8C, U2 (λ index. Call (Special index))) ∷  -- invokespecial
+    (0x8D, U2 (λ index. Call (Static index))) ∷  -- invokestatic
+    (0x8E, U1U2U1 (λ arguments index token. Call (Interface arguments index token))) ∷  -- invokeinterface
+    []
+
 abbrev pub table : List Row
-table = constants ++ (locals ++ (stack ++ (arithmetic ++ (branches ++ returns))))
+table = constants ++ (locals ++ (stack ++ (arithmetic ++ (branches ++ (returns ++ (fields ++ (arrays ++ (objects ++ calls))))))))
 
 -- the form that belongs to an opcode, if it has one
 abbrev pub form_in : List Row → ℕ → Option Form
@@ -187,8 +273,12 @@ read code at (Bare instr) = Some (instr, at)
 read code at (U1 f) = option_map (λ n. (f n, at + 1)) (u1 code at)
 read code at (S1 f) = option_map (λ v. (f v, at + 1)) (s1 code at)
 read code at (S2 f) = option_map (λ v. (f v, at + 2)) (s2 code at)
+read code at (U2 f) = option_map (λ v. (f v, at + 2)) (u2 code at)
 read code at (U1S1 f) = option_and_then (λ n. option_map (λ v. (f n v, at + 2)) (s1 code (at + 1))) (u1 code at)
 read code at (U1S2 f) = option_and_then (λ n. option_map (λ v. (f n v, at + 3)) (s2 code (at + 1))) (u1 code at)
+read code at (U1U2U1 f) = option_and_then (λ n. option_and_then (λ v. option_map (λ m. (f n v m, at + 4)) (u1 code (at + 3))) (u2 code (at + 1))) (u1 code at)
+read code at (Listed f) = option_and_then (λ b. option_map (λ instr. (instr, at + 1)) (f b)) (u1 code at)
+read code at (ListedU2 f) = option_and_then (λ b. option_and_then (λ v. option_map (λ instr. (instr, at + 3)) (f b v)) (u2 code (at + 1))) (u1 code at)
 read code at (Halves f) = option_and_then (λ b. option_map (λ instr. (instr, at + 1)) (f (b / 16) (b % 16))) (u1 code at)
 read code at TableSwitch =
     option_and_then (λ otherwise. option_and_then (λ low. option_and_then (λ high.

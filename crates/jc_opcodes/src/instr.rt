@@ -17,6 +17,14 @@ pub enum Instr {
     Jump(Branch),
     /// Ends the method.
     Leave(Return),
+    /// Reads or writes a field.
+    Reach(Field),
+    /// Makes an array, or reads or writes its elements.
+    Index(ArrayOp),
+    /// Makes, throws or tests an object.
+    Operate(Object),
+    /// Calls a method.
+    Call(Invoke),
 }
 
 /// What is put on the stack.
@@ -135,8 +143,104 @@ pub enum Branch {
 /// How a method ends.
 #[derive(Clone, Copy, PartialEq, Eq, Debug)]
 pub enum Return {
-    /// With the short on top.
+    /// With the reference on top (`areturn`).
+    WithReference,
+    /// With the short on top (`sreturn`).
     WithShort,
-    /// With nothing.
+    /// With nothing (`return`).
     WithNothing,
+}
+
+/// What a field or an element of an array holds.
+#[derive(Clone, Copy, PartialEq, Eq, Debug)]
+pub enum ValueType {
+    /// A reference.
+    Reference,
+    /// A byte or a boolean.
+    Byte,
+    /// A short.
+    Short,
+}
+
+/// A use of the field of this type that the entry of the constant pool with this index names.
+#[derive(Clone, Copy, PartialEq, Eq, Debug)]
+pub enum Field {
+    /// Reads a static field.
+    GetStatic(ValueType, u16),
+    /// Writes a static field.
+    PutStatic(ValueType, u16),
+    /// Reads a field of the object on the stack.
+    Get(ValueType, u16),
+    /// Writes a field of the object on the stack.
+    Put(ValueType, u16),
+    /// Reads a field of the object in local 0 (`getfield_a_this` and its kin).
+    GetOfThis(ValueType, u16),
+    /// Writes a field of the object in local 0 (`putfield_a_this` and its kin).
+    PutOfThis(ValueType, u16),
+}
+
+/// The elements of an array of numbers.
+#[derive(Clone, Copy, PartialEq, Eq, Debug)]
+pub enum PrimitiveArray {
+    Booleans,
+    Bytes,
+    Shorts,
+}
+
+/// An operation on an array.
+#[derive(Clone, Copy, PartialEq, Eq, Debug)]
+pub enum ArrayOp {
+    /// Reads an element. Arrays of bytes and of booleans are read alike.
+    Load(ValueType),
+    /// Writes an element.
+    Store(ValueType),
+    /// Makes an array of numbers (`newarray`).
+    MakePrimitives(PrimitiveArray),
+    /// Makes an array of references to the class that the entry of the constant pool with this index
+    /// names (`anewarray`).
+    MakeReferences(u16),
+    /// Counts the elements (`arraylength`).
+    CountElements,
+}
+
+/// A type that an object may be an instance of.
+#[derive(Clone, Copy, PartialEq, Eq, Debug)]
+pub enum TestedType {
+    /// The class or interface that the entry of the constant pool with this index names.
+    OfClass(u16),
+    /// Arrays of numbers.
+    OfPrimitives(PrimitiveArray),
+    /// Arrays of references to the class that the entry of the constant pool with this index names.
+    OfReferences(u16),
+}
+
+/// An operation on an object.
+#[derive(Clone, Copy, PartialEq, Eq, Debug)]
+pub enum Object {
+    /// Makes an instance of the class that the entry of the constant pool with this index names.
+    New(u16),
+    /// Throws it (`athrow`).
+    Throw,
+    /// Throws an exception where it is not of this type (`checkcast`).
+    CheckCast(TestedType),
+    /// Whether it is of this type (`instanceof`).
+    InstanceOf(TestedType),
+}
+
+/// A call of the method that the entry of the constant pool with this index names.
+#[derive(Clone, Copy, PartialEq, Eq, Debug)]
+pub enum Invoke {
+    /// By the class of its receiver (`invokevirtual`).
+    Virtual(u16),
+    /// Of a constructor, of a private method or of a method of a superclass (`invokespecial`).
+    Special(u16),
+    /// Without a receiver (`invokestatic`).
+    Static(u16),
+    /// Of an interface that the entry names: the cells of its arguments, and its token there
+    /// (`invokeinterface`).
+    Interface {
+        arguments: u8,
+        index: u16,
+        token: u8,
+    },
 }

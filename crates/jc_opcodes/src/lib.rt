@@ -2,11 +2,15 @@
 #![tactic(auto)]
 
 mod arithmetic;
+mod arrays;
 mod branches;
+mod calls;
 mod constants;
 pub mod decode;
+mod fields;
 pub mod instr;
 mod locals;
+mod objects;
 pub mod operands;
 mod returns;
 pub mod short;

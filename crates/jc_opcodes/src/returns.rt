@@ -1,4 +1,4 @@
-//! Returns: `sreturn`, `return`.
+//! Returns: `areturn`, `sreturn`, `return`.
 ghost use Rattle.std.specs.Prelude.{IfSome, ◌≡◌, List, ℕ};
 ghost use Rattle.std.specs.Option.{option_and_then};
 ghost use Rattle.jc_opcodes.specs.Table.{HasListedOperands, form_in, read, returns};
@@ -12,6 +12,7 @@ pub(crate) fn decode_return(opcode: u8, at: usize) -> Option<(Instr, usize)>
     ensures listed { IfSome result (λ p. HasListedOperands p.0) }
 {
     match opcode {
+        0x77 => Some((Instr::Leave(Return::WithReference), at)),
         0x78 => Some((Instr::Leave(Return::WithShort), at)),
         0x7A => Some((Instr::Leave(Return::WithNothing), at)),
         _ => None,

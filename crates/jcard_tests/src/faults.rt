@@ -1,6 +1,6 @@
 //! Code faults.
 use crate::running::{Case, bytes_of, end_of, run_all};
-use jc_interp::outcome::Outcome;
+use jc_frames::Outcome;
 use std::test::Fail;
 
 const UNDER: [Case; 6] = [
@@ -131,4 +131,26 @@ fn a_stack_over_its_limit_is_a_fault(rt: HostRuntime) -> Result<(), Fail> {
 fn no_code_is_a_fault(rt: HostRuntime) -> Result<(), Fail> {
     assert_eq!(rt; end_of(1, &[])?, Outcome::Fault);
     Ok(())
+}
+
+/// Instructions that only code of a package has, with a frame in which their operands would be there.
+const OF_PACKAGES: [Case; 13] = [
+    ("areturn", "01 77", Outcome::Fault),
+    ("getstatic_s", "7D 00 00 78", Outcome::Fault),
+    ("putstatic_s", "03 81 00 00 7A", Outcome::Fault),
+    ("getfield_s", "01 85 00 78", Outcome::Fault),
+    ("putfield_s_this", "03 B7 00 7A", Outcome::Fault),
+    ("baload", "01 03 25 78", Outcome::Fault),
+    ("arraylength", "01 92 78", Outcome::Fault),
+    ("newarray", "03 90 0B 7A", Outcome::Fault),
+    ("new", "8F 00 00 7A", Outcome::Fault),
+    ("athrow", "01 93", Outcome::Fault),
+    ("instanceof", "01 95 00 00 00 78", Outcome::Fault),
+    ("invokestatic", "8D 00 00 7A", Outcome::Fault),
+    ("invokeinterface", "01 8E 01 00 00 00 7A", Outcome::Fault),
+];
+
+#[test]
+fn code_of_no_package_has_no_objects(rt: HostRuntime) -> Result<(), Fail> {
+    run_all(&rt, &OF_PACKAGES)
 }

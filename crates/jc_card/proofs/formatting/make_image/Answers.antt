@@ -1,7 +1,7 @@
 use Rattle.std.proofs.Common.{◌≡◌, length, ap, ◌∙◌}
 use Rattle.jc_commit.specs.Image.{recovered_of}
 use Rattle.jc_heap.specs.Heap.{heap_of}
-use Rattle.jc_heap.specs.Laying.{sealed}
+use Rattle.jc_image.specs.Laying.{sealed}
 use Rattle.jc_card.specs.Fixed.{fixed_objects, with_objects}
 use Rattle.jc_card.specs.Made.{formatted}
 use Rattle.jc_card.proofs.MadeImages.{made_if, mapped_if}

@@ -1,5 +1,5 @@
 use Rattle.std.proofs.Common.{arith}
-use Rattle.jc_heap.proofs.LaidImages.{packed-word}
+use Rattle.jc_heap.proofs.Packing.{packed-word}
 use Rattle.jc_heap.proofs.packed.packed_word.Goals as goal
 
 pub returns-clause-word : goal.returns-clause-word

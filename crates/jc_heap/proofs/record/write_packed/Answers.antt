@@ -1,6 +1,6 @@
 use Rattle.std.proofs.Common.{◌≡◌, ◌+◌, take, arith}
 use Rattle.jc_heap.specs.Fresh.{KeepsBelow, Fills}
-use Rattle.jc_heap.specs.Laying.{packed}
+use Rattle.jc_heap.specs.Packed.{packed}
 use Rattle.jc_commit.specs.Image.{top_of}
 use Rattle.jc_heap.proofs.Added.{top-same_below}
 use Rattle.jc_heap.proofs.Streams.{word_more}

@@ -1,7 +1,7 @@
 -- The words before the index are written.
 use Rattle.std.proofs.Common.{take}
 use Rattle.jc_heap.specs.Fresh.{KeepsBelow, Fills}
-use Rattle.jc_heap.specs.Laying.{packed}
+use Rattle.jc_heap.specs.Packed.{packed}
 use Rattle.jc_heap.proofs.record.write_packed.Given as goal
 
 abbrev pub invariant-loop-k : goal.invariant-loop-k

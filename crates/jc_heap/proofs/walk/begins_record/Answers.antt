@@ -1,6 +1,7 @@
 use Rattle.std.proofs.Common.{arith, ◌≡◌, ◌<◌, ◌≤◌, ◌+◌, ◌∙◌, ◌||◌, ap, sym, refl, true, get_or, drop, length}
 use Rattle.std.proofs.lemmas.Bool.{eq-eqb, ne_eqb}
 use Rattle.std.proofs.lemmas.List.{length-take-le, drop_all}
+use Rattle.jc_words.specs.Layout.{top_address}
 use Rattle.jc_heap.specs.Cut.{cut}
 use Rattle.jc_heap.specs.Table.{has}
 use Rattle.jc_heap.specs.Image.{image, package_addresses, sizes}
@@ -9,7 +10,7 @@ use Rattle.jc_heap.proofs.walk.begins_record.Goals as goal
 
 pub returns-then-at-address : goal.returns-then-at-address
 returns-then-at-address g c =
-    let below : c.loop-at.at < get_or c.args.journal.now.plain 5 0 = omega arith in
+    let below : c.loop-at.at < get_or c.args.journal.now.plain top_address 0 = omega arith in
     let size = sizes (package_addresses (image c.args.journal.now.plain)) c.loop-at.at (drop c.loop-at.at (image c.args.journal.now.plain)) + 1 in
     let found : has (cut (sizes (package_addresses (image c.args.journal.now.plain))) 0 c.loop-at.at (drop c.loop-at.at (image c.args.journal.now.plain))) c.args.address ≡ true =
     ap (λ l. has l c.args.address) (step_cut c.args.journal.now.plain c.loop-at.at size c.requires.laid below c.loop-at.invariant.whole refl)
@@ -18,19 +19,19 @@ returns-then-at-address g c =
 
 pub overflow_cast-at : goal.overflow_cast-at
 overflow_cast-at g c =
-    let below : c.loop-at.at < get_or c.args.journal.now.plain 5 0 = omega arith in
+    let below : c.loop-at.at < get_or c.args.journal.now.plain top_address 0 = omega arith in
     let f = step_fits c.args.journal.now.plain c.loop-at.at c.record_size-size.result c.requires.laid below c.loop-at.invariant.whole c.record_size-size.ensures in
     omega (arith, f, c.requires.laid.fits, c.requires.small)
 
 pub overflow_add-at : goal.overflow_add-at
 overflow_add-at g c =
-    let below : c.loop-at.at < get_or c.args.journal.now.plain 5 0 = omega arith in
+    let below : c.loop-at.at < get_or c.args.journal.now.plain top_address 0 = omega arith in
     let f = step_fits c.args.journal.now.plain c.loop-at.at c.record_size-size.result c.requires.laid below c.loop-at.invariant.whole c.record_size-size.ensures in
     omega (arith, f, c.requires.laid.fits, c.requires.small)
 
 pub loop-at-preserved : goal.loop-at-preserved
 loop-at-preserved g c =
-    let below : c.loop-at.at < get_or c.args.journal.now.plain 5 0 = omega arith in
+    let below : c.loop-at.at < get_or c.args.journal.now.plain top_address 0 = omega arith in
     let f = step_fits c.args.journal.now.plain c.loop-at.at c.record_size-size.result c.requires.laid below c.loop-at.invariant.whole c.record_size-size.ensures in
     let next : has (cut (sizes (package_addresses (image c.args.journal.now.plain))) 0 c.loop-at.at (drop c.loop-at.at (image c.args.journal.now.plain))) c.args.address ≡ has (cut (sizes (package_addresses (image c.args.journal.now.plain))) 0 (c.loop-at.at + c.record_size-size.result) (drop (c.loop-at.at + c.record_size-size.result) (image c.args.journal.now.plain))) c.args.address =
     ap (λ l. has l c.args.address) (step_cut c.args.journal.now.plain c.loop-at.at c.record_size-size.result c.requires.laid below c.loop-at.invariant.whole c.record_size-size.ensures)
@@ -44,5 +45,5 @@ loop-at-preserved g c =
 
 pub returns : goal.returns
 returns g c =
-    let past : length (image c.args.journal.now.plain) ≤ c.loop-at.at = omega (arith, length-take-le (get_or c.args.journal.now.plain 5 0) c.args.journal.now.plain c.requires.laid.fits) in
+    let past : length (image c.args.journal.now.plain) ≤ c.loop-at.at = omega (arith, length-take-le (get_or c.args.journal.now.plain top_address 0) c.args.journal.now.plain c.requires.laid.fits) in
     ap (λ l. has (cut (sizes (package_addresses (image c.args.journal.now.plain))) 0 c.loop-at.at l) c.args.address) (sym (drop_all c.loop-at.at (image c.args.journal.now.plain) past)) ∙ c.loop-at.invariant.left

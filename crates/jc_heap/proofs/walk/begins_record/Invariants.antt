@@ -1,5 +1,6 @@
 -- What is left of the walk has the answer, and it is whole.
 use Rattle.std.proofs.Common.{◌≡◌, ◌≤◌, ◌-◌, drop}
+use Rattle.jc_words.specs.Layout.{text_start}
 use Rattle.jc_heap.specs.Cut.{cut, lacking}
 use Rattle.jc_heap.specs.Table.{has}
 use Rattle.jc_heap.specs.Image.{image, package_addresses, sizes}
@@ -7,7 +8,7 @@ use Rattle.jc_heap.proofs.walk.begins_record.Given as goal
 
 abbrev pub invariant-loop-at : goal.invariant-loop-at
 invariant-loop-at g l = record {
-  low : 752 ≤ l.at;
+  low : text_start ≤ l.at;
   high : l.at ≤ l.top;
   whole : lacking (sizes (package_addresses (image l.journal.plain))) 0 l.at (drop l.at (image l.journal.plain)) ≡ 0;
   left : has (cut (sizes (package_addresses (image l.journal.plain))) 0 l.at (drop l.at (image l.journal.plain))) l.address

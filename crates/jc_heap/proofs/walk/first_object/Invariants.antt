@@ -1,5 +1,6 @@
 -- What is left of the walk has the answer, and it is whole.
 use Rattle.std.proofs.Common.{◌≡◌, ◌≤◌, ◌-◌, drop, map}
+use Rattle.jc_words.specs.Layout.{text_start}
 use Rattle.jc_heap.specs.Cut.{cut, lacking}
 use Rattle.jc_heap.specs.Image.{image, package_addresses, sizes, item_entry}
 use Rattle.jc_heap.specs.Heap.{first_above}
@@ -7,7 +8,7 @@ use Rattle.jc_heap.proofs.walk.first_object.Given as goal
 
 abbrev pub invariant-loop-at : goal.invariant-loop-at
 invariant-loop-at g l = record {
-  low : 752 ≤ l.at;
+  low : text_start ≤ l.at;
   high : l.at ≤ l.top;
   whole : lacking (sizes (package_addresses (image l.journal.plain))) 0 l.at (drop l.at (image l.journal.plain)) ≡ 0;
   left : first_above (map (item_entry (package_addresses (image l.journal.plain))) (cut (sizes (package_addresses (image l.journal.plain))) 0 l.at (drop l.at (image l.journal.plain)))) l.above

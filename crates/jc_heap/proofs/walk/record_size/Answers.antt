@@ -1,6 +1,7 @@
 use Rattle.std.proofs.Common.{arith, refl, ◌+◌, ◌≡◌, ◌/◌, ◌∙◌, ◌==◌, ap, sym, get_or, true, false, drop}
 use Rattle.std.proofs.lemmas.Bool.{ne_eqb, eq-eqb}
 use Rattle.std.proofs.lemmas.List.{length-drop, length-take, get_or_past}
+use Rattle.jc_words.specs.Layout.{top_address}
 use Rattle.jc_heap.specs.Object.{is_header}
 use Rattle.jc_heap.specs.Image.{image, package_addresses, is_package}
 use Rattle.jc_heap.proofs.Walks.{word_at, word_from}
@@ -32,7 +33,7 @@ returns-then-top-at-lt4 g c =
     let word : c.read-word.result ≡ get_or (drop c.args.at (image c.args.journal.now.plain)) 0 0 = c.read-word.ensures ∙ sym (word_at c.args.journal.now.plain c.args.at c.requires.inside) in
     let header : is_header (get_or (drop c.args.at (image c.args.journal.now.plain)) 0 0) ≡ true = ap is_header (sym word) ∙ sym c.begins_header.ensures ∙ c.if-not-begins_header.false in
     let persistent : (get_or (drop c.args.at (image c.args.journal.now.plain)) 0 0 / 256 == 0) ≡ true = eq-eqb _ _ (ap (λ w. w / 256) (sym word) ∙ (omega arith)) in
-    let behind : get_or (drop c.args.at (image c.args.journal.now.plain)) 3 0 ≡ 0 = get_or_past (drop c.args.at (image c.args.journal.now.plain)) 3 0 (omega (arith, length-drop c.args.at (image c.args.journal.now.plain), length-take (get_or c.args.journal.now.plain 5 0) c.args.journal.now.plain)) in
+    let behind : get_or (drop c.args.at (image c.args.journal.now.plain)) 3 0 ≡ 0 = get_or_past (drop c.args.at (image c.args.journal.now.plain)) 3 0 (omega (arith, length-drop c.args.at (image c.args.journal.now.plain), length-take (get_or c.args.journal.now.plain top_address 0) c.args.journal.now.plain)) in
     rw (is, header, persistent, behind) refl
 
 pub returns : goal.returns

@@ -1,4 +1,5 @@
 use Rattle.std.proofs.Common.{◌≡◌, ◌+◌, ◌≤◌, ◌∙◌, get_or, length, take, drop, max, sym, ap, subst, arith, IfSome}
+use Rattle.jc_words.specs.Layout.{text_start}
 use Rattle.jc_heap.specs.Components.{record_of, info_of, IsWithin}
 use Rattle.jc_heap.proofs.Changing.{up_is}
 use Rattle.jc_heap.proofs.Views.{readable}
@@ -7,19 +8,19 @@ use Rattle.jc_heap.proofs.heap.Heap.component.Goals as goal
 
 pub read-requires : goal.read-requires
 read-requires g c =
-    let low : 752 ≤ c.args.at = record_low c.self.inside.journal.plain c.args.at (c.self.invariant.now (up_is c.self.inside.journal c.args.self.now c.self.inside.size c.self.view_is c.requires.up)) (record_view c.self.inside.journal c.args.self.now c.self.inside.size c.args.at c.self.view_is c.requires.package) in
+    let low : text_start ≤ c.args.at = record_low c.self.inside.journal.plain c.args.at (c.self.invariant.now (up_is c.self.inside.journal c.args.self.now c.self.inside.size c.self.view_is c.requires.up)) (record_view c.self.inside.journal c.args.self.now c.self.inside.size c.args.at c.self.view_is c.requires.package) in
     let within : c.args.at + record_long c.self.inside.journal.plain c.args.at ≤ length c.self.inside.journal.plain = record_within c.self.inside.journal.plain c.args.at (c.self.invariant.now (up_is c.self.inside.journal c.args.self.now c.self.inside.size c.self.view_is c.requires.up)) (record_view c.self.inside.journal c.args.self.now c.self.inside.size c.args.at c.self.view_is c.requires.package) in
     readable (length c.self.inside.journal.plain) c.address-base.result (omega (arith, c.address-base.ensures)) (omega (arith, c.address-base.ensures))
 
 pub find_info-requires-clause-behind : goal.find_info-requires-clause-behind
 find_info-requires-clause-behind g c =
-    let low : 752 ≤ c.args.at = record_low c.self.inside.journal.plain c.args.at (c.self.invariant.now (up_is c.self.inside.journal c.args.self.now c.self.inside.size c.self.view_is c.requires.up)) (record_view c.self.inside.journal c.args.self.now c.self.inside.size c.args.at c.self.view_is c.requires.package) in
+    let low : text_start ≤ c.args.at = record_low c.self.inside.journal.plain c.args.at (c.self.invariant.now (up_is c.self.inside.journal c.args.self.now c.self.inside.size c.self.view_is c.requires.up)) (record_view c.self.inside.journal c.args.self.now c.self.inside.size c.args.at c.self.view_is c.requires.package) in
     let within : c.args.at + record_long c.self.inside.journal.plain c.args.at ≤ length c.self.inside.journal.plain = record_within c.self.inside.journal.plain c.args.at (c.self.invariant.now (up_is c.self.inside.journal c.args.self.now c.self.inside.size c.self.view_is c.requires.up)) (record_view c.self.inside.journal c.args.self.now c.self.inside.size c.args.at c.self.view_is c.requires.package) in
     omega (arith, c.address-base.ensures)
 
 pub find_info-requires-clause-there : goal.find_info-requires-clause-there
 find_info-requires-clause-there g c =
-    let low : 752 ≤ c.args.at = record_low c.self.inside.journal.plain c.args.at (c.self.invariant.now (up_is c.self.inside.journal c.args.self.now c.self.inside.size c.self.view_is c.requires.up)) (record_view c.self.inside.journal c.args.self.now c.self.inside.size c.args.at c.self.view_is c.requires.package) in
+    let low : text_start ≤ c.args.at = record_low c.self.inside.journal.plain c.args.at (c.self.invariant.now (up_is c.self.inside.journal c.args.self.now c.self.inside.size c.self.view_is c.requires.up)) (record_view c.self.inside.journal c.args.self.now c.self.inside.size c.args.at c.self.view_is c.requires.package) in
     let within : c.args.at + record_long c.self.inside.journal.plain c.args.at ≤ length c.self.inside.journal.plain = record_within c.self.inside.journal.plain c.args.at (c.self.invariant.now (up_is c.self.inside.journal c.args.self.now c.self.inside.size c.self.view_is c.requires.up)) (record_view c.self.inside.journal c.args.self.now c.self.inside.size c.args.at c.self.view_is c.requires.package) in
     let long : c.max-long.result ≡ record_long c.self.inside.journal.plain c.args.at = c.max-long.ensures ∙ ap (λ w. max w 1) (c.read.ensures ∙ ap (λ a. get_or c.self.inside.journal.plain a 0) c.address-base.ensures) in
     omega (arith, c.address-base.ensures, long, within)

@@ -2,7 +2,7 @@ use Rattle.std.proofs.Common.{◌∙◌, ap, sym, arith}
 use Rattle.jc_commit.specs.Image.{recovered_of}
 use Rattle.jc_commit.specs.State.{State, resumed}
 use Rattle.jc_heap.specs.Heap.{heap_view}
-use Rattle.jc_heap.proofs.LaidStores.{same_sound}
+use Rattle.jc_heap.proofs.Changing.{same_sound}
 use Rattle.jc_heap.proofs.heap.Heap.resume.Goals as goal
 
 pub invariant_of-result : goal.invariant_of-result

@@ -1,4 +1,5 @@
 use Rattle.std.proofs.Common.{◌≡◌, ◌+◌, ◌<◌, ◌≤◌, ◌∙◌, get_or, length, max, take, drop, sym, ap, subst, arith, IfSome}
+use Rattle.jc_words.specs.Layout.{text_start}
 use Rattle.jc_heap.specs.Components.{record_of, record_parts}
 use Rattle.jc_heap.specs.Statics.{image_from}
 use Rattle.jc_heap.proofs.Changing.{up_is}
@@ -9,7 +10,7 @@ use Rattle.jc_heap.proofs.heap.Heap.statics.Goals as goal
 
 pub read-requires : goal.read-requires
 read-requires g c =
-    let low : 752 ≤ c.args.at = record_low c.self.inside.journal.plain c.args.at (c.self.invariant.now (up_is c.self.inside.journal c.args.self.now c.self.inside.size c.self.view_is c.requires.up)) (record_view c.self.inside.journal c.args.self.now c.self.inside.size c.args.at c.self.view_is c.requires.there) in
+    let low : text_start ≤ c.args.at = record_low c.self.inside.journal.plain c.args.at (c.self.invariant.now (up_is c.self.inside.journal c.args.self.now c.self.inside.size c.self.view_is c.requires.up)) (record_view c.self.inside.journal c.args.self.now c.self.inside.size c.args.at c.self.view_is c.requires.there) in
     let within : c.args.at + record_long c.self.inside.journal.plain c.args.at ≤ length c.self.inside.journal.plain = record_within c.self.inside.journal.plain c.args.at (c.self.invariant.now (up_is c.self.inside.journal c.args.self.now c.self.inside.size c.self.view_is c.requires.up)) (record_view c.self.inside.journal c.args.self.now c.self.inside.size c.args.at c.self.view_is c.requires.there) in
     readable (length c.self.inside.journal.plain) c.address-base.result (omega (arith, c.address-base.ensures)) (omega (arith, c.address-base.ensures))
 
@@ -21,7 +22,7 @@ returns-then-long-eq1-clause-exact g c =
 
 pub overflow_add-base : goal.overflow_add-base
 overflow_add-base g c =
-    let low : 752 ≤ c.args.at = record_low c.self.inside.journal.plain c.args.at (c.self.invariant.now (up_is c.self.inside.journal c.args.self.now c.self.inside.size c.self.view_is c.requires.up)) (record_view c.self.inside.journal c.args.self.now c.self.inside.size c.args.at c.self.view_is c.requires.there) in
+    let low : text_start ≤ c.args.at = record_low c.self.inside.journal.plain c.args.at (c.self.invariant.now (up_is c.self.inside.journal c.args.self.now c.self.inside.size c.self.view_is c.requires.up)) (record_view c.self.inside.journal c.args.self.now c.self.inside.size c.args.at c.self.view_is c.requires.there) in
     let within : c.args.at + record_long c.self.inside.journal.plain c.args.at ≤ length c.self.inside.journal.plain = record_within c.self.inside.journal.plain c.args.at (c.self.invariant.now (up_is c.self.inside.journal c.args.self.now c.self.inside.size c.self.view_is c.requires.up)) (record_view c.self.inside.journal c.args.self.now c.self.inside.size c.args.at c.self.view_is c.requires.there) in
     let long : c.max-long.result ≡ record_long c.self.inside.journal.plain c.args.at = c.max-long.ensures ∙ ap (λ w. max w 1) (c.read.ensures ∙ ap (λ a. get_or c.self.inside.journal.plain a 0) c.address-base.ensures) in
     let size : length c.self.inside.journal.plain < 65536 = omega (arith, c.self.invariant.small, c.self.invariant.size_now (up_is c.self.inside.journal c.args.self.now c.self.inside.size c.self.view_is c.requires.up)) in
@@ -29,7 +30,7 @@ overflow_add-base g c =
 
 pub read-first-requires : goal.read-first-requires
 read-first-requires g c =
-    let low : 752 ≤ c.args.at = record_low c.self.inside.journal.plain c.args.at (c.self.invariant.now (up_is c.self.inside.journal c.args.self.now c.self.inside.size c.self.view_is c.requires.up)) (record_view c.self.inside.journal c.args.self.now c.self.inside.size c.args.at c.self.view_is c.requires.there) in
+    let low : text_start ≤ c.args.at = record_low c.self.inside.journal.plain c.args.at (c.self.invariant.now (up_is c.self.inside.journal c.args.self.now c.self.inside.size c.self.view_is c.requires.up)) (record_view c.self.inside.journal c.args.self.now c.self.inside.size c.args.at c.self.view_is c.requires.there) in
     let within : c.args.at + record_long c.self.inside.journal.plain c.args.at ≤ length c.self.inside.journal.plain = record_within c.self.inside.journal.plain c.args.at (c.self.invariant.now (up_is c.self.inside.journal c.args.self.now c.self.inside.size c.self.view_is c.requires.up)) (record_view c.self.inside.journal c.args.self.now c.self.inside.size c.args.at c.self.view_is c.requires.there) in
     let long : c.max-long.result ≡ record_long c.self.inside.journal.plain c.args.at = c.max-long.ensures ∙ ap (λ w. max w 1) (c.read.ensures ∙ ap (λ a. get_or c.self.inside.journal.plain a 0) c.address-base.ensures) in
     readable (length c.self.inside.journal.plain) (c.address-base.result + 1) (omega (arith, within, long, c.if-long-eq1.false, c.max-long.ensures, c.address-base.ensures)) (omega (arith, low, c.address-base.ensures))
@@ -47,13 +48,13 @@ returns-then-first-eq0-clause-exact g c =
 
 pub find_image-requires-clause-behind : goal.find_image-requires-clause-behind
 find_image-requires-clause-behind g c =
-    let low : 752 ≤ c.args.at = record_low c.self.inside.journal.plain c.args.at (c.self.invariant.now (up_is c.self.inside.journal c.args.self.now c.self.inside.size c.self.view_is c.requires.up)) (record_view c.self.inside.journal c.args.self.now c.self.inside.size c.args.at c.self.view_is c.requires.there) in
+    let low : text_start ≤ c.args.at = record_low c.self.inside.journal.plain c.args.at (c.self.invariant.now (up_is c.self.inside.journal c.args.self.now c.self.inside.size c.self.view_is c.requires.up)) (record_view c.self.inside.journal c.args.self.now c.self.inside.size c.args.at c.self.view_is c.requires.there) in
     let within : c.args.at + record_long c.self.inside.journal.plain c.args.at ≤ length c.self.inside.journal.plain = record_within c.self.inside.journal.plain c.args.at (c.self.invariant.now (up_is c.self.inside.journal c.args.self.now c.self.inside.size c.self.view_is c.requires.up)) (record_view c.self.inside.journal c.args.self.now c.self.inside.size c.args.at c.self.view_is c.requires.there) in
     omega (arith, c.address-base.ensures)
 
 pub find_image-requires-clause-there : goal.find_image-requires-clause-there
 find_image-requires-clause-there g c =
-    let low : 752 ≤ c.args.at = record_low c.self.inside.journal.plain c.args.at (c.self.invariant.now (up_is c.self.inside.journal c.args.self.now c.self.inside.size c.self.view_is c.requires.up)) (record_view c.self.inside.journal c.args.self.now c.self.inside.size c.args.at c.self.view_is c.requires.there) in
+    let low : text_start ≤ c.args.at = record_low c.self.inside.journal.plain c.args.at (c.self.invariant.now (up_is c.self.inside.journal c.args.self.now c.self.inside.size c.self.view_is c.requires.up)) (record_view c.self.inside.journal c.args.self.now c.self.inside.size c.args.at c.self.view_is c.requires.there) in
     let within : c.args.at + record_long c.self.inside.journal.plain c.args.at ≤ length c.self.inside.journal.plain = record_within c.self.inside.journal.plain c.args.at (c.self.invariant.now (up_is c.self.inside.journal c.args.self.now c.self.inside.size c.self.view_is c.requires.up)) (record_view c.self.inside.journal c.args.self.now c.self.inside.size c.args.at c.self.view_is c.requires.there) in
     let long : c.max-long.result ≡ record_long c.self.inside.journal.plain c.args.at = c.max-long.ensures ∙ ap (λ w. max w 1) (c.read.ensures ∙ ap (λ a. get_or c.self.inside.journal.plain a 0) c.address-base.ensures) in
     omega (arith, c.address-base.ensures, long, within)

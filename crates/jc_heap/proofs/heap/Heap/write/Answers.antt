@@ -1,17 +1,17 @@
-use Rattle.std.proofs.Common.{◌≡◌, ◌<◌, ◌≤◌, ◌∙◌, [], ◌∷◌, length, refl, subst, sym, ap, inl, inr, Err, true}
+use Rattle.std.proofs.Common.{◌≡◌, ◌∙◌, [], ◌∷◌, length, refl, subst, sym, ap, inl, inr, Err, true}
 use Rattle.jc_commit.specs.State.{Changes, has_room_for as journal_room}
 use Rattle.jc_heap.specs.Heap.{IsSound, heap_view, has_room_for}
 use Rattle.jc_heap.specs.Moves.{Write, full_at}
 use Rattle.jc_heap.specs.Places.{place_word}
 use Rattle.jc_heap.proofs.Changing.{up_is, refusal_cases, journal_stopped_sound}
 use Rattle.jc_heap.proofs.Calls.{ok_not_err, not_false, room_is, not_full, unless_done}
-use Rattle.jc_heap.proofs.Places.{place_spot, place_logged, place_view, place_sound}
+use Rattle.jc_heap.proofs.Places.{PlaceSpot, place_spot, place_logged, place_view, place_sound}
 use Rattle.jc_heap.proofs.heap.Heap.write.Goals as goal
 
 pub write-requires-clause-place : goal.write-requires-clause-place
 write-requires-clause-place g c =
-    let spot : (place_word c.args.place < length c.self.inside.journal.plain) × (560 ≤ place_word c.args.place) = place_spot c.self.inside.journal c.args.self.now c.self.inside.size c.args.place c.self.view_is (c.self.invariant.now (up_is c.self.inside.journal c.args.self.now c.self.inside.size c.self.view_is c.requires.up)) c.requires.there in
-    rw c.place_word-word.ensures (place_logged (length c.self.inside.journal.plain) (place_word c.args.place) spot.0 spot.1)
+    let spot : PlaceSpot (length c.self.inside.journal.plain) (place_word c.args.place) = place_spot c.self.inside.journal c.args.self.now c.self.inside.size c.args.place c.self.view_is (c.self.invariant.now (up_is c.self.inside.journal c.args.self.now c.self.inside.size c.self.view_is c.requires.up)) c.requires.there in
+    rw c.place_word-word.ensures (place_logged (length c.self.inside.journal.plain) (place_word c.args.place) spot)
 
 pub invariant_of-self : goal.invariant_of-self
 invariant_of-self g c = elim (refusal_cases c.in_err-write.field-0.0) [

@@ -1,13 +1,13 @@
-use Rattle.std.proofs.Common.{◌<◌, ◌≤◌, length, refl}
+use Rattle.std.proofs.Common.{length, refl}
 use Rattle.jc_heap.specs.Places.{place_word}
 use Rattle.jc_heap.proofs.Changing.{up_is}
-use Rattle.jc_heap.proofs.Places.{place_spot, place_unlogged, both_view, both_sound}
+use Rattle.jc_heap.proofs.Places.{PlaceSpot, place_spot, place_unlogged, both_view, both_sound}
 use Rattle.jc_heap.proofs.heap.Heap.write_both.Goals as goal
 
 pub write_both-requires-clause-place : goal.write_both-requires-clause-place
 write_both-requires-clause-place g c =
-    let spot : (place_word c.args.place < length c.self.inside.journal.plain) × (560 ≤ place_word c.args.place) = place_spot c.self.inside.journal c.args.self.now c.self.inside.size c.args.place c.self.view_is (c.self.invariant.now (up_is c.self.inside.journal c.args.self.now c.self.inside.size c.self.view_is c.requires.up)) c.requires.there in
-    rw c.place_word-word.ensures (place_unlogged (length c.self.inside.journal.plain) (place_word c.args.place) spot.0 spot.1)
+    let spot : PlaceSpot (length c.self.inside.journal.plain) (place_word c.args.place) = place_spot c.self.inside.journal c.args.self.now c.self.inside.size c.args.place c.self.view_is (c.self.invariant.now (up_is c.self.inside.journal c.args.self.now c.self.inside.size c.self.view_is c.requires.up)) c.requires.there in
+    rw c.place_word-word.ensures (place_unlogged (length c.self.inside.journal.plain) (place_word c.args.place) spot)
 
 pub invariant_of-self-2 : goal.invariant_of-self-2
 invariant_of-self-2 g c =

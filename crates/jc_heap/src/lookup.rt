@@ -1,0 +1,64 @@
+//! Reading objects of the words of a journal.
+ghost use Rattle.std.specs.Prelude.{◌≡◌, ◌<◌, ◌≤◌, ◌+◌, ◌/◌, ◌==◌, if◌then◌else◌, None, IfSome, length, slice_index};
+ghost use Rattle.jc_words.specs.Layout.{text_start};
+ghost use Rattle.jc_heap.specs.Image.{IsLaid};
+ghost use Rattle.jc_heap.specs.Heap.{heap_of, cells, facts, IsObject, next_object};
+
+use crate::layout::HEADER;
+use crate::object::{Facts, Kind, event_of_number};
+use crate::walk::first_object;
+use jc_commit::Journal;
+use jc_transient::Ref;
+use jc_words::WordStore;
+use jc_words::layout::{TEXT_LENGTH, TEXT_START};
+
+// The word behind a transient object's header, 0 where there is none.
+fn place_word<S: WordStore>(journal: &Journal<S>, at: u16, word: u16) -> u16
+    requires behind { text_start ≤ at }
+    requires there { (word / 256 ≡ 0 → ⊥) → at + 4 < length journal.now.plain }
+    requires small { length journal.now.plain < 65536 }
+    ensures { result ≡ (if word / 256 == 0 then 0 else slice_index journal.now.plain (at + 4)) }
+{
+    if word / 256 == 0 {
+        return 0;
+    }
+    journal.read(at + HEADER)
+}
+
+/// What the header of an object says.
+pub fn facts_at<S: WordStore>(journal: &Journal<S>, object: Ref) -> Facts
+    requires laid { IsLaid journal.now.plain }
+    requires small { length journal.now.plain < 65536 }
+    requires there { IsObject (heap_of journal.now.plain) object }
+    ensures facts { result ≡ facts (heap_of journal.now.plain) object }
+    ensures cells { result.event ≡ None → length (cells (heap_of journal.now.plain) object) ≡ result.length }
+{
+    let at = object.address();
+    let word = journal.read(at);
+    let place = place_word(journal, at, word);
+    Facts {
+        kind: Kind::of(word % 256),
+        event: event_of_number(word / 256),
+        class: journal.read(at + 1),
+        owner: journal.read(at + 2),
+        length: journal.read(at + 3),
+        place,
+    }
+}
+
+/// The object behind another one in the order of addresses, or the first one of all behind null.
+pub fn next_behind<S: WordStore>(journal: &Journal<S>, object: Ref) -> Option<Ref>
+    requires laid { IsLaid journal.now.plain }
+    requires small { length journal.now.plain < 65536 }
+    requires there { (object ≡ 0 → ⊥) → IsObject (heap_of journal.now.plain) object }
+    ensures next { result ≡ next_object (heap_of journal.now.plain) object }
+    ensures object { IfSome result (λ q. IsObject (heap_of journal.now.plain) q) }
+{
+    if object.is_null() {
+        let text = u32::from(journal.read(TEXT_LENGTH));
+        let from = TEXT_START + (text + 1) / 2;
+        return first_object(journal, from as u16, 0);
+    }
+    let at = object.address();
+    first_object(journal, at, at)
+}

@@ -1,0 +1,180 @@
+-- What the words of an image without objects stand for.
+use Rattle.std.proofs.Common.{◌≡◌, ℕ, ◌+◌, ◌-◌, ◌*◌, ◌/◌, ◌%◌, ◌<◌, ◌≤◌, inl, inr, List, [], ◌∷◌, ◌++◌, length, take, drop, get_or, map, replicate, refl, sym, ◌∙◌, ap, arith, lit<}
+use Rattle.std.proofs.lemmas.List.{ext_get_or, drop_at, drop_all, drop-drop, drop-append-le, take_all, take-append-le, length-append, length-replicate, length-take-le, get_or_append_left, get_or-append_right, get_or-replicate, get_or-take, drop-replicate}
+use Rattle.std.proofs.lemmas.List.FromFn.{length-map-range_with_len, get_or-map-range_with_len}
+use Rattle.std.proofs.lemmas.Bool.{cases_eq, cases_lt, eq-eqb, ne_eqb}
+use Rattle.jc_words.specs.Layout.{count_address, top_address, packages_address, applets_address, reset_end_address, deselect_end_address, text_length_address, front_length, addresses_start, most_packages, registry_start, registry_length, text_start, version}
+use Rattle.jc_commit.specs.Image.{count_of, plain_of}
+use Rattle.jc_commit.proofs.InPlace.{length-plain, plain_word}
+use Rattle.jc_heap.specs.Cut.{cut, lacking}
+use Rattle.jc_heap.specs.Heap.{read_image, heap_of}
+use Rattle.jc_heap.proofs.RawWords.{plain_zero}
+use Rattle.jc_heap.specs.Image.{packed_byte, unpacked, image, base, package_addresses, is_package, sizes, item_entry, records, missing, table_text, IsLaid}
+use Rattle.jc_heap.specs.Packed.{packed}
+use Rattle.jc_heap.proofs.Packing.{packed-word}
+use Rattle.jc_image.specs.Laying.{AreBytes, first_free, laid_front, laid_words, laid_heap}
+
+pub length-packed : (text : List ℕ) → length (packed text) ≡ (length text + 1) / 2
+length-packed [] = refl
+length-packed (b ∷ []) = refl
+length-packed (b ∷ c ∷ bytes) = omega (arith, length-packed bytes)
+
+packed_byte-packed : (text : List ℕ) (i : ℕ) → AreBytes text → packed_byte (packed text) i ≡ get_or text i 0
+packed_byte-packed text i bytes =
+    let word : get_or (packed text) (i / 2) 0 ≡ 256 * get_or text (2 * (i / 2)) 0 + get_or text (2 * (i / 2) + 1) 0 = packed-word text (i / 2) in
+    elim (cases_eq (i % 2) 0) [
+      | inl e ↦
+          let at : get_or text (2 * (i / 2)) 0 ≡ get_or text i 0 = ap (λ k. get_or text k 0) (omega (arith, e)) in
+          rw (eq-eqb (i % 2) 0 e) (omega (arith, word, at, bytes (2 * (i / 2) + 1)))
+      | inr n ↦
+          let at : get_or text (2 * (i / 2) + 1) 0 ≡ get_or text i 0 = ap (λ k. get_or text k 0) (omega (arith, n)) in
+          rw (ne_eqb (i % 2) 0 n) (omega (arith, word, at, bytes (2 * (i / 2) + 1)))
+    ]
+
+-- packed words hold the bytes
+pub unpacked-packed : (text : List ℕ) → AreBytes text → unpacked (length text) (packed text) ≡ text
+unfolding unpacked
+unpacked-packed text bytes =
+    ext_get_or 0 (unpacked (length text) (packed text)) text
+    (length-map-range_with_len (packed_byte (packed text)) 0 (length text))
+    (λ i h. get_or-map-range_with_len (packed_byte (packed text)) 0 (length text) i i 0 (omega (arith, h, length-map-range_with_len (packed_byte (packed text)) 0 (length text))) (omega arith) ∙ packed_byte-packed text i bytes)
+
+module _ (n : ℕ) (text : List ℕ) where
+  -- the words before the table text
+  abbrev fixed : List ℕ
+  fixed = laid_front n (length text) ++ replicate (text_start - front_length) 0
+
+  length-fixed : length fixed ≡ text_start
+  length-fixed = omega (arith, length-append (laid_front n (length text)) (replicate {A = ℕ} (text_start - front_length) 0), length-replicate {A = ℕ} (text_start - front_length) 0)
+
+  pub length-laid : length (laid_words n text) ≡ first_free (length text)
+  unfolding laid_words
+  length-laid = omega (arith, length-append fixed (packed text), length-fixed, length-packed text)
+
+  pub front-word : (i : ℕ) → i < front_length → get_or (laid_words n text) i 0 ≡ get_or (laid_front n (length text)) i 0
+  unfolding laid_words
+  front-word i h = get_or_append_left fixed (packed text) 0 i (omega (arith, length-fixed)) ∙ get_or_append_left (laid_front n (length text)) (replicate (text_start - front_length) 0) 0 i h
+
+  pub zero-word : (i : ℕ) → front_length ≤ i → i < text_start → get_or (laid_words n text) i 0 ≡ 0
+  unfolding laid_words
+  zero-word i low high =
+      get_or_append_left fixed (packed text) 0 i (omega (arith, length-fixed))
+      ∙ get_or-append_right (laid_front n (length text)) (replicate (text_start - front_length) 0) front_length i 0 refl low
+      ∙ get_or-replicate (text_start - front_length) (i - front_length) 0 0 (omega arith)
+
+  pub text-word : (i : ℕ) → text_start ≤ i → get_or (laid_words n text) i 0 ≡ get_or (packed text) (i - text_start) 0
+  unfolding laid_words
+  text-word i h = get_or-append_right fixed (packed text) text_start i 0 length-fixed h
+
+  drop-text : drop text_start (laid_words n text) ≡ packed text
+  unfolding laid_words
+  drop-text = drop_at fixed (packed text) text_start length-fixed
+
+  applets-laid : take registry_length (drop registry_start (laid_words n text)) ≡ replicate registry_length 0
+  unfolding laid_words
+  applets-laid =
+      let zeros : drop registry_start fixed ≡ replicate registry_length 0 =
+      sym (drop-drop (registry_start - front_length) front_length fixed) ∙ ap (drop (registry_start - front_length)) (drop_at (laid_front n (length text)) (replicate (text_start - front_length) 0) front_length refl) ∙ drop-replicate (registry_start - front_length) (text_start - front_length) 0 in
+      let few : length (drop registry_start fixed) ≡ registry_length = ap length zeros ∙ length-replicate {A = ℕ} registry_length 0 in
+      ap (take registry_length) (drop-append-le registry_start fixed (packed text) (omega (arith, length-fixed)))
+      ∙ take-append-le registry_length (drop registry_start fixed) (packed text) (omega (arith, few))
+      ∙ take_all registry_length (drop registry_start fixed) (omega (arith, few))
+      ∙ zeros
+
+  packages-laid : package_addresses (laid_words n text) ≡ []
+  packages-laid = ap (λ k. take k (take most_packages (drop addresses_start (laid_words n text)))) (front-word packages_address (lit< tt))
+
+  base-laid : base (laid_words n text) ≡ first_free (length text)
+  base-laid = ap (λ k. text_start + (k + 1) / 2) (front-word text_length_address (lit< tt))
+
+  table-laid : drop (base (laid_words n text)) (laid_words n text) ≡ []
+  table-laid = drop_all (base (laid_words n text)) (laid_words n text) (omega (arith, length-laid, base-laid))
+
+  missing-laid : missing (laid_words n text) ≡ 0
+  unfolding missing
+  missing-laid = ap (lacking (sizes (package_addresses (laid_words n text))) 0 (base (laid_words n text))) table-laid
+
+  items-laid : map (item_entry (package_addresses (laid_words n text))) (records (laid_words n text)) ≡ []
+  items-laid = ap (λ l. map (item_entry (package_addresses (laid_words n text))) (cut (sizes (package_addresses (laid_words n text))) 0 (base (laid_words n text)) l)) table-laid
+
+  head-laid : take 3 (laid_words n text) ≡ 0 ∷ version ∷ n ∷ []
+  unfolding laid_words
+  head-laid = refl
+
+  module _ (bytes : AreBytes text) where
+    text-laid : table_text (laid_words n text) ≡ text
+    text-laid =
+        ap (λ k. unpacked k (take ((k + 1) / 2) (drop text_start (laid_words n text)))) (front-word text_length_address (lit< tt))
+        ∙ ap (λ l. unpacked (length text) (take ((length text + 1) / 2) l)) drop-text
+        ∙ ap (unpacked (length text)) (take_all ((length text + 1) / 2) (packed text) (omega (arith, length-packed text)))
+        ∙ unpacked-packed text bytes
+
+    read-laid : read_image (laid_words n text) ≡ laid_heap n text
+    unfolding read_image
+    read-laid = λ k. record {
+      head = head-laid k;
+      text = text-laid k;
+      items = items-laid k;
+      counts = (front-word packages_address (lit< tt) k, front-word applets_address (lit< tt) k);
+      packages = packages-laid k;
+      applets = applets-laid k;
+      area_ends = (front-word reset_end_address (lit< tt) k, front-word deselect_end_address (lit< tt) k);
+      top = length-laid k;
+    }
+
+    -- the words of a store, of which these are the first
+    module _ (rest : List ℕ) where
+      abbrev all : List ℕ
+      all = laid_words n text ++ rest
+
+      within : (i : ℕ) → i < first_free (length text) → i < length all
+      within i h = omega (arith, length-append (laid_words n text) rest, length-laid)
+
+      all-word : (i : ℕ) → i < first_free (length text) → get_or all i 0 ≡ get_or (laid_words n text) i 0
+      all-word i h = get_or_append_left (laid_words n text) rest 0 i (omega (arith, length-laid))
+
+      log-word : (i : ℕ) → i < first_free (length text) → get_or (laid_words n text) i 0 ≡ 0 → get_or (plain_of all) i 0 ≡ get_or (laid_words n text) i 0
+      log-word i h z = plain_zero all i (within i h) (all-word i h ∙ z) ∙ sym z
+
+      own-word : (i : ℕ) → i < first_free (length text) → (i ≡ count_address → ⊥) → (front_length ≤ i → addresses_start ≤ i) → get_or (plain_of all) i 0 ≡ get_or (laid_words n text) i 0
+      own-word i h ne beside = plain_word all i (record { below = within i h; not_count = ne; beside = beside }) ∙ all-word i h
+
+      plain-laid_word : (i : ℕ) → i < first_free (length text) → get_or (plain_of all) i 0 ≡ get_or (laid_words n text) i 0
+      plain-laid_word i h = elim (cases_lt i front_length) [
+        | inl front ↦ elim (cases_eq i 3) [
+          | inl e ↦ log-word i h (front-word i front ∙ ap (λ k. get_or (laid_front n (length text)) k 0) e)
+          | inr ne ↦ own-word i h ne (λ high. absurd (omega arith))
+        ]
+        | inr behind ↦ elim (cases_lt i text_start) [
+          | inl low ↦ log-word i h (zero-word i behind low)
+          | inr high ↦ own-word i h (λ e. omega arith) (λ _. omega arith)
+        ]
+      ]
+
+      top-laid : get_or (plain_of all) top_address 0 ≡ first_free (length text)
+      top-laid = plain-laid_word top_address (omega arith) ∙ front-word top_address (lit< tt)
+
+      length-below : length (take (first_free (length text)) (plain_of all)) ≡ length (laid_words n text)
+      length-below = omega (arith, length-take-le (first_free (length text)) (plain_of all) (omega (arith, length-plain all, length-append (laid_words n text) rest, length-laid)), length-laid)
+
+      image-laid : image (plain_of all) ≡ laid_words n text
+      image-laid =
+          ap (λ t. take t (plain_of all)) top-laid
+          ∙ ext_get_or 0 (take (first_free (length text)) (plain_of all)) (laid_words n text) length-below
+          (λ i h. let near : i < first_free (length text) = omega (arith, h, length-below, length-laid) in
+          get_or-take (first_free (length text)) (plain_of all) i 0 near ∙ plain-laid_word i near)
+
+      pub heap_of-laid : heap_of (plain_of all) ≡ laid_heap n text
+      heap_of-laid = ap read_image image-laid ∙ read-laid
+
+      pub IsLaid-laid : IsLaid (plain_of all)
+      IsLaid-laid = record {
+        based = omega (arith, ap base image-laid, base-laid, top-laid);
+        fits = omega (arith, top-laid, length-plain all, length-append (laid_words n text) rest, length-laid);
+        whole = ap missing image-laid ∙ missing-laid;
+        packages = λ a le. ap (λ l. is_package (package_addresses l) a) image-laid ∙ ap (λ ps. is_package ps a) packages-laid;
+      }
+
+      -- no entry counts
+      pub count-laid : count_of all ≡ 0
+      count-laid = all-word 3 (omega arith) ∙ front-word 3 (lit< tt)

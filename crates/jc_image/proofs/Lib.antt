@@ -1,0 +1,10 @@
+pub mod Marking
+pub mod PackageTable
+pub mod Sealing
+pub mod TextBytes
+pub mod Wholes
+pub mod LaidImages
+pub mod LaidStores
+pub mod Filling
+pub mod Referring
+pub mod Stepping

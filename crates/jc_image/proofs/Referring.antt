@@ -1,0 +1,123 @@
+-- The references that the cells of a heap hold.
+use Rattle.std.proofs.Common.{◌≡◌, ℕ, zero, suc, ◌+◌, ◌/◌, ◌%◌, ◌<◌, ◌≤◌, ◌||◌, not, Bool, true, false, inl, inr, List, [], ◌∷◌, length, get_or, drop, map, refl, sym, ◌∙◌, ap, subst, arith}
+use Rattle.std.proofs.lemmas.Bool.{cases_eq, cases_Bool, eq-eqb, ne_eqb, false≢true}
+use Rattle.jc_words.specs.Layout.{top_address}
+use Rattle.jc_heap.specs.declared.object.Kind.TheVariants.{Instance, BooleanArray, ByteArray, ShortArray, ReferenceArray}
+use Rattle.jc_heap.specs.Cut.{Sizes, cut}
+use Rattle.jc_heap.specs.Table.{at_or, has}
+use Rattle.jc_heap.specs.Object.{Item, APackage, facts_of, cells_of, kind_of}
+use Rattle.jc_heap.specs.Image.{image, base, package_addresses, is_package, sizes, item, item_entry, IsLaid}
+use Rattle.jc_heap.specs.Heap.{HeapState, heap_of, read_image, item_at}
+use Rattle.jc_image.specs.Steps.{IsAt, item_from}
+use Rattle.jc_heap.specs.Whole.{IsReference, HoldsReferences}
+use Rattle.jc_heap.proofs.Tables.{has-map}
+use Rattle.jc_heap.proofs.Records.{has_behind}
+use Rattle.jc_image.proofs.Stepping.{package_here, facts_here, cells_long, cell_here, transient_cells}
+
+-- a kind's number
+kind_five : (n : ℕ) → kind_of n ≡ ReferenceArray → n ≡ 5
+kind_five n e = elim (cases_eq n 2) [
+  | inl a ↦ let k : BooleanArray ≡ ReferenceArray = sym (rw (eq-eqb n 2 a) refl) ∙ e in absurd (cc)
+  | inr a ↦ elim (cases_eq n 3) [
+    | inl b ↦ let k : ByteArray ≡ ReferenceArray = sym (rw (ne_eqb n 2 a, eq-eqb n 3 b) refl) ∙ e in absurd (cc)
+    | inr b ↦ elim (cases_eq n 4) [
+      | inl c ↦ let k : ShortArray ≡ ReferenceArray = sym (rw (ne_eqb n 2 a, ne_eqb n 3 b, eq-eqb n 4 c) refl) ∙ e in absurd (cc)
+      | inr c ↦ elim (cases_eq n 5) [
+        | inl d ↦ d
+        | inr d ↦ let k : Instance ≡ ReferenceArray = sym (rw (ne_eqb n 2 a, ne_eqb n 3 b, ne_eqb n 4 c, ne_eqb n 5 d) refl) ∙ e in absurd (cc)
+      ]
+    ]
+  ]
+]
+
+-- the record at an address
+module _ (h : HeapState) (ws : List ℕ) (at : ℕ) (laid : IsLaid ws) (here : IsAt ws at) (below : at < get_or ws top_address 0) where
+  -- a package has no cells
+  pub holds_package : is_package (package_addresses (image ws)) at ≡ true → HoldsReferences h (item_from ws at)
+  holds_package there kind i lt =
+      let none : i < 0 = subst (λ t. i < length (cells_of t)) (package_here ws at laid here below there) lt in
+      absurd (omega arith)
+
+  module _ (small : length ws < 65536) (other : is_package (package_addresses (image ws)) at ≡ false) where
+    kind_here : (facts_of (item_from ws at)).kind ≡ kind_of (get_or ws at 0 % 256)
+    kind_here = ap (λ f. f.kind) (facts_here ws at laid here below small other)
+
+    -- another object has no references
+    pub holds_other : (get_or ws at 0 ≡ 5 → ⊥) → HoldsReferences h (item_from ws at)
+    holds_other ne kind i lt = elim (cases_eq (get_or ws at 0 / 256) 0) [
+      | inl e ↦ let five : get_or ws at 0 % 256 ≡ 5 = kind_five (get_or ws at 0 % 256) (sym kind_here ∙ kind) in absurd (ne (omega arith))
+      | inr n ↦ let none : i < 0 = omega (arith, lt, transient_cells ws at laid here below small other n) in absurd (omega arith)
+    ]
+
+    module _ (five : get_or ws at 0 ≡ 5) where
+      persistent : get_or ws at 0 / 256 ≡ 0
+      persistent = omega arith
+
+      is_array : (facts_of (item_from ws at)).kind ≡ ReferenceArray
+      is_array = kind_here ∙ ap (λ w. kind_of (w % 256)) five
+
+      pub cells_count : length (cells_of (item_from ws at)) ≡ get_or ws (at + 3) 0
+      cells_count = cells_long ws at laid here below small other persistent
+
+      pub cell_within_at : (i : ℕ) → i < get_or ws (at + 3) 0 → at + 4 + i < get_or ws top_address 0
+      cell_within_at i lt = omega (arith, (cell_here ws at laid here below small other persistent i (omega (arith, cells_count, lt))).0)
+
+      cell_is : (i : ℕ) → i < length (cells_of (item_from ws at)) → get_or (cells_of (item_from ws at)) i 0 ≡ get_or ws (at + 4 + i) 0
+      cell_is i lt = (cell_here ws at laid here below small other persistent i lt).1 ∙ ap (λ a. get_or ws a 0) (omega arith)
+
+      pub holds_of : ((i : ℕ) → i < get_or ws (at + 3) 0 → IsReference h (get_or ws (at + 4 + i) 0)) → HoldsReferences h (item_from ws at)
+      holds_of all kind i lt = subst (IsReference h) (sym (cell_is i lt)) (all i (omega (arith, cells_count, lt)))
+
+      pub of_holds : HoldsReferences h (item_from ws at) → (i : ℕ) → i < get_or ws (at + 3) 0 → IsReference h (get_or ws (at + 4 + i) 0)
+      of_holds holds i lt =
+          let there : i < length (cells_of (item_from ws at)) = omega (arith, cells_count, lt) in
+          subst (IsReference h) (cell_is i there) (holds is_array i there)
+
+-- all items hold references
+abbrev pub AllHold : HeapState → List (ℕ × Item) → Type 0
+AllHold h [] = Unit {0}
+AllHold h (e ∷ es) = HoldsReferences h e.1 × AllHold h es
+
+-- no address twice
+abbrev Apart : List (ℕ × Item) → Type 0
+Apart [] = Unit {0}
+Apart (e ∷ es) = (has es e.0 ≡ false) × Apart es
+
+apart_cut : (ps : List ℕ) (more : Sizes) (s at : ℕ) (ws : List ℕ) → Apart (map (item_entry ps) (cut more s at ws))
+apart_cut ps more s at [] = tt
+apart_cut ps more (suc s) at (w ∷ ws) = apart_cut ps more s (suc at) ws
+apart_cut ps more zero at (w ∷ ws) = (
+  has-map (item ps) (cut more (more at (w ∷ ws)) (suc at) ws) at ∙ elim (cases_Bool (has (cut more (more at (w ∷ ws)) (suc at) ws) at)) [
+    | inl e ↦ let b : suc at + more at (w ∷ ws) ≤ at = has_behind more (more at (w ∷ ws)) (suc at) ws at e in absurd (omega arith)
+    | inr e ↦ e
+  ],
+  apart_cut ps more (more at (w ∷ ws)) (suc at) ws,
+)
+
+all_at : (h : HeapState) (es : List (ℕ × Item)) → AllHold h es → (r : ℕ) → HoldsReferences h (at_or (APackage []) es r)
+all_at h [] all r = λ kind i lt. absurd (omega arith)
+all_at h (e ∷ es) all r = elim (cases_eq e.0 r) [
+  | inl is ↦ rw (eq-eqb e.0 r is) all.0
+  | inr n ↦ rw (ne_eqb e.0 r n) (all_at h es all.1 r)
+]
+
+all_from : (h : HeapState) (es : List (ℕ × Item)) → Apart es → ((r : ℕ) → has es r ≡ true → HoldsReferences h (at_or (APackage []) es r)) → AllHold h es
+all_from h [] apart all = tt
+all_from h (e ∷ es) apart all = (
+  rw (eq-eqb e.0 e.0 refl) at (all e.0 (ap (λ b. b || has es e.0) (eq-eqb e.0 e.0 refl))),
+  all_from h es apart.1 (λ r there.
+      let n : e.0 ≡ r → ⊥ = λ is. false≢true (sym apart.0 ∙ ap (has es) is ∙ there) in
+      rw (ne_eqb e.0 r n) at (all r (ap (λ b. b || has es r) (ne_eqb e.0 r n) ∙ there))),
+)
+
+pub all_of_list : (h : HeapState) → AllHold h h.items → (r : ℕ) → HoldsReferences h (item_at h r)
+unfolding item_at
+all_of_list h all r = all_at h h.items all r
+
+pub list_of_all : (ws : List ℕ) → ((r : ℕ) → HoldsReferences (heap_of ws) (item_at (heap_of ws) r)) → AllHold (heap_of ws) ((heap_of ws).items)
+unfolding item_at read_image
+list_of_all ws all = all_from (heap_of ws) ((heap_of ws).items) (apart_cut (package_addresses (image ws)) (sizes (package_addresses (image ws))) 0 (base (image ws)) (drop (base (image ws)) (image ws))) (λ r there. all r)
+
+pub not_true : (b : Bool) → not b ≡ true → b ≡ false
+not_true true e = absurd (false≢true e)
+not_true false e = refl

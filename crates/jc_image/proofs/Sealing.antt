@@ -1,0 +1,100 @@
+-- The magic word, written in place.
+use Rattle.std.proofs.Common.{◌≡◌, ℕ, ◌+◌, ◌/◌, ◌<◌, ◌&&◌, Bool, true, false, List, [], ◌∷◌, length, take, drop, set, get_or, map, refl, ◌∙◌, ap, arith, if◌then◌else◌, lit<}
+use Rattle.std.proofs.lemmas.List.{get_or-set_other, drop-set-lt, length-set, length-take-le}
+use Rattle.std.proofs.lemmas.Bool.{true≢false}
+use Rattle.jc_words.specs.Layout.{top_address, packages_address, applets_address, reset_end_address, deselect_end_address, text_length_address, addresses_start, registry_start, registry_length, text_start, magic}
+use Rattle.jc_commit.specs.State.{State, written_in_place, is_touched}
+use Rattle.jc_heap.specs.Cut.{cut, lacking}
+use Rattle.jc_heap.specs.Image.{image, base, package_addresses, is_package, sizes, item_entry, records, missing, table_text, IsLaid}
+use Rattle.jc_heap.specs.Heap.{HeapView, heap_of, heap_view, read_image, IsSound}
+use Rattle.jc_image.specs.Laying.{sealed}
+use Rattle.jc_heap.proofs.Images.{text-same}
+use Rattle.jc_heap.proofs.Records.{take-set_comm}
+use Rattle.jc_heap.proofs.Changing.{up_is}
+
+-- an image with another word 0
+module _ (img : List ℕ) (v : ℕ) where
+  word : (k : ℕ) → 0 < k → get_or (set img 0 v) k 0 ≡ get_or img k 0
+  word k h = get_or-set_other img 0 k v 0 (λ e. omega (arith, h, e))
+
+  tail : (from : ℕ) → 0 < from → drop from (set img 0 v) ≡ drop from img
+  tail from h = drop-set-lt from img 0 v h
+
+  addresses-magic : package_addresses (set img 0 v) ≡ package_addresses img
+  addresses-magic = rw (word packages_address (lit< tt), tail addresses_start (lit< tt)) refl
+
+  base-magic : base (set img 0 v) ≡ base img
+  base-magic = rw (word text_length_address (lit< tt)) refl
+
+  records-magic : records (set img 0 v) ≡ records img
+  records-magic =
+      ap (λ ps. cut (sizes ps) 0 (base (set img 0 v)) (drop (base (set img 0 v)) (set img 0 v))) addresses-magic
+      ∙ ap (λ b. cut (sizes (package_addresses img)) 0 b (drop b (set img 0 v))) base-magic
+      ∙ ap (cut (sizes (package_addresses img)) 0 (base img)) (tail (base img) (omega arith))
+
+  missing-magic : missing (set img 0 v) ≡ missing img
+  unfolding missing
+  missing-magic =
+      ap (λ ps. lacking (sizes ps) 0 (base (set img 0 v)) (drop (base (set img 0 v)) (set img 0 v))) addresses-magic
+      ∙ ap (λ b. lacking (sizes (package_addresses img)) 0 b (drop b (set img 0 v))) base-magic
+      ∙ ap (lacking (sizes (package_addresses img)) 0 (base img)) (tail (base img) (omega arith))
+
+  items-magic : map (item_entry (package_addresses (set img 0 v))) (records (set img 0 v)) ≡ map (item_entry (package_addresses img)) (records img)
+  items-magic = ap (λ ps. map (item_entry ps) (records (set img 0 v))) addresses-magic ∙ ap (map (item_entry (package_addresses img))) records-magic
+
+  text-magic : table_text (set img 0 v) ≡ table_text img
+  text-magic = text-same img (set img 0 v) (word text_length_address (lit< tt)) (ap (take ((get_or img text_length_address 0 + 1) / 2)) (tail text_start (lit< tt)))
+
+head-magic : (img : List ℕ) (v : ℕ) → 0 < length img → take 3 (set img 0 v) ≡ v ∷ drop 1 (take 3 img)
+head-magic [] v h = absurd (omega arith)
+head-magic (w ∷ ws) v h = refl
+
+read-magic : (img : List ℕ) (v : ℕ) → 0 < length img → read_image (set img 0 v) ≡ record (read_image img) { head = v ∷ drop 1 ((read_image img).head) }
+unfolding read_image
+read-magic img v h = λ k. record {
+  head = head-magic img v h k;
+  text = text-magic img v k;
+  items = items-magic img v k;
+  counts = (word img v packages_address (lit< tt) k, word img v applets_address (lit< tt) k);
+  packages = addresses-magic img v k;
+  applets = ap (take registry_length) (tail img v registry_start (lit< tt)) k;
+  area_ends = (word img v reset_end_address (lit< tt) k, word img v deselect_end_address (lit< tt) k);
+  top = length-set img 0 v k;
+}
+
+image-magic : (ws : List ℕ) (v : ℕ) → image (set ws 0 v) ≡ set (image ws) 0 v
+image-magic ws v = ap (λ t. take t (set ws 0 v)) (word ws v top_address (lit< tt)) ∙ take-set_comm (get_or ws top_address 0) ws 0 v
+
+heap_of-magic : (ws : List ℕ) (v : ℕ) → IsLaid ws → heap_of (set ws 0 v) ≡ record (heap_of ws) { head = v ∷ drop 1 ((heap_of ws).head) }
+heap_of-magic ws v laid = ap read_image (image-magic ws v) ∙ read-magic (image ws) v (omega (arith, laid.based, length-take-le (get_or ws top_address 0) ws laid.fits))
+
+IsLaid-magic : (ws : List ℕ) (v : ℕ) → IsLaid ws → IsLaid (set ws 0 v)
+IsLaid-magic ws v laid =
+    let top : get_or (set ws 0 v) top_address 0 ≡ get_or ws top_address 0 = word ws v top_address (lit< tt) in
+    let same_base : base (image (set ws 0 v)) ≡ base (image ws) = ap base (image-magic ws v) ∙ base-magic (image ws) v in
+    record {
+      based = omega (arith, same_base, top, laid.based);
+      fits = omega (arith, top, length-set ws 0 v, laid.fits);
+      whole = ap missing (image-magic ws v) ∙ missing-magic (image ws) v ∙ laid.whole;
+      packages = λ b le. ap (λ ps. is_package ps b) (ap package_addresses (image-magic ws v) ∙ addresses-magic (image ws) v) ∙ laid.packages b (omega (arith, top, le));
+    }
+
+-- what the words with the magic word stand for
+pub record IsSealed (v : HeapView) (k : State) : Type 0 where
+  pub now : heap_of k.plain ≡ sealed v.now
+  pub laid : IsLaid k.plain
+  pub recovered : k.recovered ≡ k.plain
+
+closed_words : (b c : Bool) (rec set_rec : List ℕ) → b ≡ false → (if b && c then rec else set_rec) ≡ set_rec
+closed_words false c rec set_rec e = refl
+closed_words true c rec set_rec e = absurd (true≢false e)
+
+pub is_sealed : (j : State) (v : HeapView) (n : ℕ) → heap_view j n ≡ v → IsSound j n → v.down ≡ false → v.begun ≡ false → IsSealed v (written_in_place j 0 magic)
+is_sealed j v n is s up closed =
+    let here : j.down ≡ false = up_is j v n is up in
+    let outside : j.in_transaction ≡ false = ap (λ u. u.begun) is ∙ closed in
+    record {
+      now = heap_of-magic j.plain magic (s.now here) ∙ ap (λ u. sealed (u.now)) is;
+      laid = IsLaid-magic j.plain magic (s.now here);
+      recovered = closed_words j.in_transaction (is_touched j 0) j.recovered (set j.recovered 0 magic) outside ∙ ap (λ l. set l 0 magic) (s.settled here outside);
+    }

@@ -1,0 +1,4 @@
+pub mod Laying
+pub mod Beginning
+pub mod Steps
+pub mod Opening

@@ -1,0 +1,24 @@
+-- Steps over the records of a heap's words.
+use Rattle.std.specs.Prelude.{ℕ, ◌+◌, ◌≡◌, ◌≤◌, List, map, take, drop, slice_index}
+use Rattle.jc_words.specs.Layout.{top_address, text_start}
+use Rattle.jc_heap.specs.Cut.{cut, lacking}
+use Rattle.jc_heap.specs.Object.{Item}
+use Rattle.jc_heap.specs.Image.{image, package_addresses, sizes, item, item_entry}
+
+-- a record begins at this address, or the table ends there; and the records from there on are whole
+pub record IsAt (words : List ℕ) (at : ℕ) : Type 0 where
+  pub low : text_start ≤ at
+  pub high : at ≤ slice_index words top_address
+  pub whole : lacking (sizes (package_addresses (image words))) 0 at (drop at (image words)) ≡ 0
+
+-- the items from an address on
+unfoldable pub items_from : List ℕ → ℕ → List (ℕ × Item)
+items_from words at = map (item_entry (package_addresses (image words))) (cut (sizes (package_addresses (image words))) 0 at (drop at (image words)))
+
+-- how many words the record at an address has
+unfoldable pub size_from : List ℕ → ℕ → ℕ
+size_from words at = sizes (package_addresses (image words)) at (drop at (image words)) + 1
+
+-- the item of the record at an address
+unfoldable pub item_from : List ℕ → ℕ → Item
+item_from words at = item (package_addresses (image words)) at (take (size_from words at) (drop at (image words)))

@@ -1,0 +1,136 @@
+//! Making an image: its words without objects, and at the end the magic word.
+ghost use Rattle.std.specs.Prelude.{◌≡◌, ◌<◌, ◌≤◌, ◌+◌, ◌-◌, ◌*◌, ◌/◌, ◌++◌, ◌⊎◌, true, false, drop, length, slice_index, take, is_ok, if◌then◌else◌, OnOk, OnErr, IfOk, IfErr};
+ghost use Rattle.jc_words.specs.Count.{raised};
+ghost use Rattle.jc_words.specs.Layout.{magic_address, text_start};
+ghost use Rattle.jc_commit.specs.Image.{IsGoodLog, plain_of, recovered_of};
+ghost use Rattle.jc_heap.specs.Image.{IsLaid};
+ghost use Rattle.jc_heap.specs.Heap.{heap_of};
+ghost use Rattle.jc_image.specs.Laying.{AreBytes, IsPartlyLaid, first_free, laid_front, laid_to, laid_view, laid_words, sealed};
+
+use jc_commit::Journal;
+use jc_heap::Heap;
+use jc_heap::packed::packed_word;
+use jc_words::layout::{FRONT_LENGTH, JOURNAL_CAPACITY, MAGIC, MAGIC_WORD, TEXT_START, VERSION};
+use jc_words::{StoreDown, WordStore};
+
+/// How many words an image without objects takes, whose table text has so many bytes.
+pub fn first_free(text: u16) -> u32
+    ensures { result ≡ first_free text }
+{
+    TEXT_START + (u32::from(text) + 1) / 2
+}
+
+// The first words of an image without objects, all but the magic word.
+fn front_of(size: u16, text: u16) -> [u16; FRONT_LENGTH]
+    requires { first_free text < 65536 }
+    ensures { result ≡ laid_front size text }
+{
+    let top = first_free(text) as u16;
+    [
+        0, // no magic word yet
+        VERSION,
+        size, // of the store
+        0,
+        JOURNAL_CAPACITY,
+        top,
+        0,
+        0,
+        0,
+        0,
+        text,
+        0,
+        0,
+        0,
+        0,
+        0,
+    ]
+}
+
+// A word of an image of n words without objects.
+fn laid_word(n: u16, text: &[u8], i: u16) -> u16
+    requires short { length text.now < 65536 }
+    requires fits { first_free (length text.now) ≤ n }
+    requires low { i < first_free (length text.now) }
+    ensures word { result ≡ slice_index (laid_words n text.now) i }
+    ensures bytes { text_start ≤ i → (slice_index text.now (2 * (i - text_start)) < 256) × (slice_index text.now (2 * (i - text_start) + 1) < 256) }
+{
+    if (i as usize) < FRONT_LENGTH {
+        return front_of(n, text.len() as u16)[i as usize];
+    }
+    if u32::from(i) < TEXT_START {
+        return 0;
+    }
+    packed_word(text, i - TEXT_START as u16)
+}
+
+// Writes the words of an image without objects, from word 0 on.
+fn write_image<S: WordStore>(store: &mut S, text: &[u8]) -> Result<(), StoreDown>
+    requires short { length text.now < 65536 }
+    requires fits { first_free (length text.now) ≤ length (S.words store.old) }
+    ensures done { OnOk result (S.words store.new ≡ laid_to (first_free (length text.now)) (length (S.words store.old)) text.now (S.words store.old)) }
+    ensures part { IsPartlyLaid text.now (S.words store.old) (S.words store.new) }
+    ensures size { length (S.words store.new) ≡ length (S.words store.old) }
+    ensures bytes { OnOk result (AreBytes text.now) }
+    ensures up { OnOk result (S.down store.new ≡ false) }
+    ensures down { OnErr result (S.down store.new ≡ true) }
+    ensures passed { OnOk result (S.passed store.new ≡ raised (S.passed store.old) (first_free (length text.now))) }
+    ensures refused { S.refused store.new ≡ (if is_ok result then S.refused store.old else raised (S.refused store.old) 1) }
+{
+    let n = store.size();
+    for i in 0..first_free(text.len() as u16) as u16 {
+        store.write(i, laid_word(n, text, i))?;
+    }
+    Ok(())
+}
+
+/// Lays the words of an image without objects over a store, with this table text. The magic word
+/// comes last, by `seal`; until then word 0 is 0. Where the store refuses a write it is given back.
+pub fn lay<S: WordStore>(mut store: S, text: &[u8]) -> Result<Heap<S>, S>
+    requires short { length text.now < 65536 }
+    requires fits { first_free (length text.now) ≤ length (S.words store) }
+    ensures done { IfOk result (λ h. h ≡ laid_view (length (S.words store)) text.now (raised (S.passed store) (first_free (length text.now))) (S.refused store)) }
+    ensures down { IfErr result (λ s. S.down s ≡ true) }
+    ensures refused { IfErr result (λ s. S.refused s ≡ raised (S.refused store) 1) }
+    ensures part { IfErr result (λ s. IsPartlyLaid text.now (S.words store) (S.words s)) }
+    ensures size { IfErr result (λ s. length (S.words s) ≡ length (S.words store)) }
+    ensures unmarked { IfErr result (λ s. (S.words s ≡ S.words store) ⊎ (slice_index (S.words s) magic_address ≡ 0)) }
+{
+    let size = store.size();
+    let Ok(()) = write_image(&mut store, text) else {
+        return Err(store);
+    };
+    match Journal::open(store) {
+        Ok(journal) => Ok(Heap::of_journal(journal, size)),
+        Err((_, store)) => Err(store),
+    }
+}
+
+/// Ends the making of an image: writes the magic word, and gives the store back.
+pub fn seal<S: WordStore>(heap: Heap<S>) -> Result<S, S>
+    requires up { heap.down ≡ false }
+    requires outside { heap.begun ≡ false }
+    ensures good { IfOk result (λ s. IsGoodLog (S.words s)) }
+    ensures now { IfOk result (λ s. heap_of (plain_of (S.words s)) ≡ sealed heap.now) }
+    ensures durable { IfOk result (λ s. heap_of (recovered_of (S.words s)) ≡ sealed heap.now) }
+    ensures laid { IfOk result (λ s. IsLaid (recovered_of (S.words s))) }
+    ensures head { IfOk result (λ s. take 3 (S.words s) ≡ (sealed heap.now).head) }
+    ensures up { IfOk result (λ s. S.down s ≡ false) }
+    ensures passed { IfOk result (λ s. S.passed s ≡ raised heap.passed 1) }
+    ensures refused { IfOk result (λ s. S.refused s ≡ heap.refused) }
+    ensures size { IfOk result (λ s. length (S.words s) ≡ heap.size) }
+    ensures stopped_good { IfErr result (λ s. IsGoodLog (S.words s)) }
+    ensures stopped_now { IfErr result (λ s. heap_of (plain_of (S.words s)) ≡ heap.now) }
+    ensures stopped_durable { IfErr result (λ s. heap_of (recovered_of (S.words s)) ≡ heap.durable) }
+    ensures stopped_laid { IfErr result (λ s. IsLaid (recovered_of (S.words s))) }
+    ensures stopped_head { IfErr result (λ s. take 3 (S.words s) ≡ heap.now.head) }
+    ensures stopped_down { IfErr result (λ s. S.down s ≡ true) }
+    ensures stopped_passed { IfErr result (λ s. S.passed s ≡ heap.passed) }
+    ensures stopped_refused { IfErr result (λ s. S.refused s ≡ raised heap.refused 1) }
+    ensures stopped_size { IfErr result (λ s. length (S.words s) ≡ heap.size) }
+{
+    let mut journal = heap.into_journal();
+    match journal.write_both(MAGIC_WORD, MAGIC) {
+        Ok(()) => Ok(journal.into_store()),
+        Err(StoreDown) => Err(journal.into_store()),
+    }
+}

@@ -1,0 +1,207 @@
+//! Opening an image, and whether its heap is whole.
+ghost use Rattle.std.specs.Prelude.{ℕ, ◌+◌, ◌/◌, ◌≡◌, ◌<◌, ◌≤◌, ◌^◌, ◌↔◌, IsTrue, IsOk, IfOk, IfErr, OnOk, true, false, length, slice_index, take};
+ghost use Rattle.jc_words.specs.Count.{raised};
+ghost use Rattle.jc_words.specs.Layout.{top_address, text_length_address, text_start};
+ghost use Rattle.jc_commit.specs.Image.{count_of, plain_of, recovered_of, IsGoodLog, StillRecovers};
+ghost use Rattle.jc_commit.specs.Replay.{IsPartOfReplay};
+ghost use Rattle.jc_commit.specs.State.{opened};
+ghost use Rattle.jc_heap.specs.Cut.{lacking};
+ghost use Rattle.jc_heap.specs.Image.{text_byte, table_text, IsLaid, image, base, missing, package_addresses, is_package, sizes};
+ghost use Rattle.jc_heap.specs.Heap.{heap_view, heap_of};
+ghost use Rattle.jc_heap.specs.Whole.{IsWhole};
+ghost use Rattle.jc_image.specs.Beginning.{BeginsWith};
+
+use crate::beginning::begins_with;
+use crate::whole::words_agree;
+use jc_commit::{Journal, OpenRefusal};
+use jc_heap::walk::record_size;
+use jc_heap::{Facts, Heap};
+use jc_words::WordStore;
+use jc_words::layout::{ADDRESSES, MOST_PACKAGES, PACKAGES, TEXT_LENGTH, TEXT_START, TOP};
+use std::marker::Model;
+
+/// A recovered image whose heap is not checked yet.
+#[derive(Drop)]
+pub struct OpenImage<S: WordStore> {
+    journal: Journal<S>,
+    size: u16,
+}
+
+impl<S: WordStore> Model for OpenImage<S> {
+    ghost use Rattle.jc_commit.specs.State.{State};
+    ghost use Rattle.jc_image.specs.Opening.{IsOpen};
+
+    ghost Value = { State };
+
+    ghost view = { λ o. o.journal };
+
+    ghost invariant = { λ o. IsOpen o.journal o.size };
+}
+
+// The records end where the table ends.
+fn is_whole<S: WordStore>(journal: &Journal<S>) -> bool
+    requires wide { base (image journal.now.plain) ≤ slice_index journal.now.plain top_address }
+    requires fits { slice_index journal.now.plain top_address ≤ length journal.now.plain }
+    requires small { length journal.now.plain < 65536 }
+    ensures { IsTrue result ↔ (missing (image journal.now.plain) ≡ 0) }
+{
+    let top = u32::from(journal.read(TOP));
+    let mut at = TEXT_START + (u32::from(journal.read(TEXT_LENGTH)) + 1) / 2;
+    while at < top {
+        let size = record_size(journal, at as u16, top as u16);
+        if size > top - at {
+            return false;
+        }
+        at += size;
+    }
+    true
+}
+
+// No package begins at or above the top.
+fn packages_below<S: WordStore>(journal: &Journal<S>, top: u16) -> bool
+    requires wide { text_start ≤ slice_index journal.now.plain top_address }
+    requires fits { slice_index journal.now.plain top_address ≤ length journal.now.plain }
+    requires small { length journal.now.plain < 65536 }
+    ensures { IsTrue result ↔ ((a : ℕ) → top ≤ a → is_package (package_addresses (image journal.now.plain)) a ≡ false) }
+{
+    let count = journal.read(PACKAGES).min(MOST_PACKAGES);
+    for k in 0..count {
+        if journal.read(ADDRESSES + k) >= top {
+            return false;
+        }
+    }
+    true
+}
+
+// The heap's records end where the top says.
+fn is_laid<S: WordStore>(journal: &Journal<S>, size: u16) -> bool
+    requires size { size ≡ length journal.now.plain }
+    requires wide { text_start ≤ size }
+    ensures { IsTrue result ↔ IsLaid journal.now.plain }
+{
+    let top = journal.read(TOP);
+    let text = u32::from(journal.read(TEXT_LENGTH));
+    if u32::from(top) < TEXT_START + (text + 1) / 2 || top > size {
+        return false;
+    }
+    if packages_below(journal, top) {
+        return is_whole(journal);
+    }
+    false
+}
+
+// The words are a heap, and it is whole.
+fn is_heap<S: WordStore>(journal: &Journal<S>, size: u16) -> bool
+    requires size { size ≡ length journal.now.plain }
+    requires wide { text_start ≤ size }
+    ensures { IsTrue result ↔ (IsLaid journal.now.plain × IsWhole (heap_of journal.now.plain)) }
+{
+    is_laid(journal, size) && words_agree(journal)
+}
+
+impl<S: WordStore> OpenImage<S> {
+    /// Opens a store, and first takes back what a loss of power left open.
+    pub fn open(store: S) -> Result<OpenImage<S>, (OpenRefusal, S)>
+        requires { text_start ≤ length (S.words store) }
+        ensures ok { IfOk result (λ o. o ≡ opened (S.words store) (S.passed store) (S.refused store)) }
+        ensures good { OnOk result (IsGoodLog (S.words store)) }
+        ensures bad_log { IfErr result (λ e. e.0 ≡ OpenRefusal.BadLog → (IsGoodLog (S.words store) → ⊥) × (e.1 ≡ store)) }
+        ensures stopped { IfErr result (λ e. e.0 ≡ OpenRefusal.StoreDown → IsGoodLog (S.words store) × StillRecovers (S.words store) (S.words e.1) × (S.down e.1 ≡ true)) }
+        ensures part { IfErr result (λ e. e.0 ≡ OpenRefusal.StoreDown → IsPartOfReplay (S.words store) (S.words e.1) (S.passed store) (S.passed e.1)) }
+        ensures was_up { OnOk result (S.down store ≡ false) }
+        ensures was_down { IfErr result (λ e. S.down store ≡ true → e.1 ≡ store) }
+        ensures refused { IfErr result (λ e. e.0 ≡ OpenRefusal.StoreDown → S.down store ≡ false → S.refused e.1 ≡ raised (S.refused store) 1) }
+    {
+        let size = store.size();
+        match Journal::open(store) {
+            Ok(journal) => Ok(OpenImage { journal, size }),
+            Err(refused) => Err(refused),
+        }
+    }
+
+    /// How many bytes the table text has, as the image says.
+    pub fn text_length(&self) -> u16
+        ensures { result ≡ slice_index self.now.plain text_length_address }
+    {
+        self.journal.read(TEXT_LENGTH)
+    }
+
+    /// A byte of the table text.
+    pub fn text_byte(&self, i: u16) -> u8
+        requires { text_start + i / 2 < length self.now.plain }
+        ensures { result ≡ text_byte self.now.plain i }
+    {
+        let word = self.journal.read((TEXT_START + u32::from(i / 2)) as u16);
+        if i % 2 == 0 {
+            return (word / 256) as u8;
+        }
+        (word % 256) as u8
+    }
+
+    /// Whether the store has the words of a table text of that length.
+    pub fn has_text(&self) -> bool
+        ensures { IsTrue result ↔ (text_start + (slice_index self.now.plain text_length_address + 1) / 2 ≤ length self.now.plain) }
+    {
+        let text = u32::from(self.text_length());
+        TEXT_START + (text + 1) / 2 <= u32::from(self.size)
+    }
+
+    /// The table text, into a slice that is as long.
+    pub fn read_text(&self, into: &mut [u8])
+        requires long { length into.old ≡ slice_index self.now.plain text_length_address }
+        requires there { text_start + (length into.old + 1) / 2 ≤ length self.now.plain }
+        ensures { into.new ≡ table_text self.now.plain }
+    {
+        for i in 0..self.text_length() {
+            into[i as usize] = self.text_byte(i);
+        }
+    }
+
+    /// The number of words of the store.
+    pub fn size(&self) -> u16
+        ensures { result ≡ length self.now.plain }
+    {
+        self.size
+    }
+
+    /// The store, with its recovered words.
+    pub fn into_store(self) -> S
+        ensures good { IsGoodLog (S.words result) }
+        ensures words { plain_of (S.words result) ≡ self.plain }
+        ensures recovered { recovered_of (S.words result) ≡ self.plain }
+        ensures head { take 3 (S.words result) ≡ take 3 self.plain }
+        ensures size { length (S.words result) ≡ length self.plain }
+        ensures up { S.down result ≡ false }
+        ensures closed { count_of (S.words result) ≡ 0 }
+        ensures passed { S.passed result ≡ self.passed }
+        ensures refused { S.refused result ≡ self.refused }
+    {
+        let OpenImage { journal, size: _ } = self;
+        journal.into_store()
+    }
+
+    /// The heap, where it is whole and its first objects have these headers; else the store, with its
+    /// recovered words.
+    pub fn check(self, first: &[Facts]) -> Result<Heap<S>, S>
+        requires { self.down ≡ false }
+        ensures exact { IsOk result ↔ (IsLaid self.plain × IsWhole (heap_of self.plain) × BeginsWith (heap_of self.plain) first.now) }
+        ensures whole { IfOk result (λ h. IsWhole h.now) }
+        ensures heap { IfOk result (λ h. h ≡ heap_view self (length self.plain)) }
+        ensures words { IfErr result (λ s. plain_of (S.words s) ≡ self.plain) }
+        ensures recovered { IfErr result (λ s. recovered_of (S.words s) ≡ self.plain) }
+        ensures up { IfErr result (λ s. S.down s ≡ false) }
+        ensures good { IfErr result (λ s. IsGoodLog (S.words s)) }
+        ensures closed { IfErr result (λ s. count_of (S.words s) ≡ 0) }
+        ensures passed { IfErr result (λ s. S.passed s ≡ self.passed) }
+        ensures refused { IfErr result (λ s. S.refused s ≡ self.refused) }
+    {
+        let OpenImage { journal, size } = self;
+        if !is_heap(&journal, size) {
+            return Err(journal.into_store());
+        }
+        if !begins_with(&journal, first) {
+            return Err(journal.into_store());
+        }
+        Ok(Heap::of_journal(journal, size))
+    }
+}

@@ -1,0 +1,69 @@
+//! Whether the table of the packages' addresses agrees with the records.
+ghost use Rattle.std.specs.Prelude.{ℕ, ◌≡◌, ◌<◌, ◌≤◌, ◌↔◌, IsTrue, false, length, slice_index, slice_index_or};
+ghost use Rattle.jc_words.specs.Layout.{most_packages};
+ghost use Rattle.jc_heap.specs.Image.{IsLaid};
+ghost use Rattle.jc_heap.specs.Heap.{heap_of, names};
+ghost use Rattle.jc_heap.specs.Whole.{AreMet, AreDistinct};
+
+use crate::marks::ALL;
+use jc_commit::Journal;
+use jc_words::WordStore;
+use jc_words::layout::{ADDRESSES, PACKAGES};
+
+// At each package's address something stands.
+fn are_met<S: WordStore>(journal: &Journal<S>, marks: &[bool; ALL]) -> bool
+    requires laid { IsLaid journal.now.plain }
+    requires small { length journal.now.plain < 65536 }
+    requires few { (heap_of journal.now.plain).counts.0 ≤ most_packages }
+    requires marks { (r : ℕ) → slice_index_or marks.now r false ≡ names (heap_of journal.now.plain) r }
+    ensures { IsTrue result ↔ AreMet (heap_of journal.now.plain) (heap_of journal.now.plain).packages }
+{
+    let count = journal.read(PACKAGES);
+    for k in 0..count {
+        if !marks[usize::from(journal.read(ADDRESSES + k))] {
+            return false;
+        }
+    }
+    true
+}
+
+// The address of a package is none of those before it.
+fn is_new<S: WordStore>(journal: &Journal<S>, k: u16) -> bool
+    requires laid { IsLaid journal.now.plain }
+    requires there { k < length (heap_of journal.now.plain).packages }
+    ensures { IsTrue result ↔ ((j : ℕ) → j < k → slice_index (heap_of journal.now.plain).packages j ≡ slice_index (heap_of journal.now.plain).packages k → ⊥) }
+{
+    let address = journal.read(ADDRESSES + k);
+    for j in 0..k {
+        if journal.read(ADDRESSES + j) == address {
+            return false;
+        }
+    }
+    true
+}
+
+// No package's address is repeated.
+fn are_distinct<S: WordStore>(journal: &Journal<S>) -> bool
+    requires laid { IsLaid journal.now.plain }
+    requires few { (heap_of journal.now.plain).counts.0 ≤ most_packages }
+    ensures { IsTrue result ↔ AreDistinct (heap_of journal.now.plain).packages }
+{
+    let count = journal.read(PACKAGES);
+    for k in 0..count {
+        if !is_new(journal, k) {
+            return false;
+        }
+    }
+    true
+}
+
+// Each package has a record of its own.
+pub(crate) fn table_agrees<S: WordStore>(journal: &Journal<S>, marks: &[bool; ALL]) -> bool
+    requires laid { IsLaid journal.now.plain }
+    requires small { length journal.now.plain < 65536 }
+    requires few { (heap_of journal.now.plain).counts.0 ≤ most_packages }
+    requires marks { (r : ℕ) → slice_index_or marks.now r false ≡ names (heap_of journal.now.plain) r }
+    ensures { IsTrue result ↔ (AreMet (heap_of journal.now.plain) (heap_of journal.now.plain).packages × AreDistinct (heap_of journal.now.plain).packages) }
+{
+    are_met(journal, marks) && are_distinct(journal)
+}

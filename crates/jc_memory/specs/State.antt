@@ -1,0 +1,81 @@
+-- What running code sees and changes, and what is done to it, as data.
+use Rattle.std.specs.Prelude.{ℕ, ◌+◌, ◌≡◌, ◌<◌, Bool, false, List, [], ◌∷◌, ◌++◌, map, slice_set, Option, Some, None}
+use Rattle.jc_transient.specs.declared.cell.CellValue.{CellValue}
+use Rattle.jc_transient.specs.declared.cell.ClearEvent.{ClearEvent}
+use Rattle.jc_transient.specs.Cells.{cleared, without_dead}
+use Rattle.jc_transient.specs.State.{RamState, HasSizes, area, with_area, with_cells}
+use Rattle.jc_heap.specs.Heap.{HeapState, HeapView, facts, names}
+use Rattle.jc_heap.specs.Keeping.{AreWhole}
+use Rattle.jc_heap.specs.Moves.{Move, apply}
+use Rattle.jc_memory.specs.declared.registers.Registers.{Registers}
+
+-- the heap; the transient contents; for whom code runs; the bytes of the command that is carried out; the
+-- bytes that were sent in answer to it
+pub record MemoryState : Type 0 where
+  pub heap : HeapView
+  pub ram : RamState
+  pub registers : Registers
+  pub command : List ℕ
+  pub sent : List ℕ
+
+-- one thing done to a memory: a move of its heap; the cells of a transient object set from an index on; an
+-- object's flag set; the transient objects of an event cleared; each transient reference to an object that
+-- the heap has not made null; the registers set; a command begun; bytes sent
+pub data Effect : Type 0 where
+  Changes : Move → Effect
+  Fills : ℕ → ℕ → List CellValue → Effect
+  Flags : ℕ → Bool → Effect
+  Clears : ClearEvent → Effect
+  Buries : Effect
+  Turns : Registers → Effect
+  Starts : List ℕ → Effect
+  Sends : List ℕ → Effect
+
+-- these values stand in an event's area from a place on; there is no area for persistent objects
+abbrev pub filled : RamState → Option ClearEvent → ℕ → List CellValue → RamState
+filled ram None place values = ram
+filled ram (Some event) place values = with_area ram event (with_cells (area ram event) place values)
+
+-- each reference to something at or above the top is null
+abbrev pub buried : ℕ → RamState → RamState
+buried top ram = record ram { reset_cells = map (without_dead top) ram.reset_cells; deselect_cells = map (without_dead top) ram.deselect_cells }
+
+-- the memory after an effect
+abbrev pub effected : Effect → MemoryState → MemoryState
+effected (Changes m) s = record s { heap = apply m s.heap }
+effected (Fills r i values) s = record s { ram = filled s.ram (facts s.heap.now r).event ((facts s.heap.now r).place + i) values }
+effected (Flags r flag) s = record s { ram = record s.ram { flags = slice_set s.ram.flags r flag } }
+effected (Clears event) s = record s { ram = with_area s.ram event (map cleared (area s.ram event)) }
+effected Buries s = record s { ram = buried s.heap.now.top s.ram }
+effected (Turns registers) s = record s { registers = registers }
+effected (Starts bytes) s = record s { command = bytes; sent = [] }
+effected (Sends bytes) s = record s { sent = s.sent ++ bytes }
+
+-- the memory after these effects
+abbrev pub effected_all : List Effect → MemoryState → MemoryState
+effected_all [] s = s
+effected_all (e ∷ es) s = effected_all es (effected e s)
+
+-- the moves of the heap among these effects
+abbrev pub moves_of : List Effect → List Move
+moves_of [] = []
+moves_of (Changes m ∷ es) = m ∷ moves_of es
+moves_of (e ∷ es) = moves_of es
+
+-- a reference that the next new object may have: nothing stands there, and it is not null. A move puts a new
+-- object at the heap's end, so it is the end's
+pub record IsNew (h : HeapState) (r : ℕ) : Type 0 where
+  pub free : names h r ≡ false
+  pub some : r ≡ 0 → ⊥
+  pub chosen : r ≡ h.top
+
+-- what a heap meets that a memory has: it is whole, now and after a loss of power, and neither heap ends at null
+pub record IsKept (v : HeapView) : Type 0 where
+  pub whole : AreWhole v
+  pub now : 0 < v.now.top
+  pub durable : 0 < v.durable.top
+
+-- what the parts of each memory meet; the heap's while its store is up
+pub record AreParts (v : HeapView) (contents : RamState) : Type 0 where
+  pub heap : v.down ≡ false → IsKept v
+  pub ram : HasSizes contents

@@ -1,0 +1,125 @@
+//! For whom code runs, and how far a command has come.
+ghost use Rattle.std.specs.Prelude.{◌≡◌};
+ghost use Rattle.jc_memory.specs.Owners.{owner_number, owner_of, at_reset};
+
+/// An applet instance by its number in the registry, 1 to 64.
+#[derive(Clone, Copy, Debug, PartialEq, Eq)]
+pub struct AppletNumber(pub u8);
+
+/// A package by its number.
+#[derive(Clone, Copy, Debug, PartialEq, Eq)]
+pub struct PackageNumber(pub u8);
+
+/// Who owns objects, and for whom code runs.
+#[derive(Clone, Copy, Debug, PartialEq, Eq)]
+pub enum Owner {
+    /// The runtime environment.
+    Runtime,
+    /// An applet instance.
+    Applet(AppletNumber),
+    /// A package: it owns its initialised arrays.
+    Package(PackageNumber),
+}
+
+impl Owner {
+    /// The owner as an object header has it: 0, the number of the applet, or 256 and the number of
+    /// the package.
+    pub const fn number(self) -> u16
+        ensures { result ≡ owner_number self }
+    {
+        match self {
+            Owner::Runtime => 0,
+            Owner::Applet(applet) => applet.0 as u16,
+            Owner::Package(package) => 256 + package.0 as u16,
+        }
+    }
+
+    /// The owner that an object header names.
+    pub const fn of(number: u16) -> Owner
+        ensures { result ≡ owner_of number }
+    {
+        if number == 0 {
+            return Owner::Runtime;
+        }
+        if number < 256 {
+            return Owner::Applet(AppletNumber(number as u8));
+        }
+        Owner::Package(PackageNumber((number % 256) as u8))
+    }
+}
+
+/// Whether the applet has begun a transaction: the nesting level 1 or 0.
+#[derive(Clone, Copy, Debug, PartialEq, Eq)]
+pub enum Depth {
+    Outside,
+    Inside,
+}
+
+/// Whether an applet is being installed.
+#[derive(Clone, Copy, Debug, PartialEq, Eq)]
+pub enum Installation {
+    /// None is.
+    Idle,
+    /// Its `install` runs and has not registered an instance yet: the package, and the entry of its
+    /// Applet component.
+    Open(PackageNumber, u8),
+    /// Its `install` has registered an instance.
+    Registered,
+}
+
+/// How far an APDU has come.
+#[derive(Clone, Copy, Debug, PartialEq, Eq)]
+pub enum ApduPhase {
+    /// Nothing but the header has been received.
+    Waiting,
+    /// The data have been received.
+    Received,
+    /// It turned to sending; how much is not said yet.
+    Outgoing,
+    /// So many bytes are left to be sent.
+    Sending(u16),
+}
+
+/// The APDU that is carried out.
+#[derive(Clone, Copy, Debug, PartialEq, Eq)]
+pub struct ApduState {
+    /// How many bytes the command expects, 0 to 256.
+    pub expected: u16,
+    pub phase: ApduPhase,
+}
+
+/// What is known of running code besides objects.
+#[derive(Clone, Copy, Debug, PartialEq, Eq)]
+pub struct Registers {
+    /// For whom code runs.
+    pub active: Owner,
+    /// For whom it ran before the last switch.
+    pub previous: Owner,
+    /// The selected applet; none, where the manager answers.
+    pub selected: Option<AppletNumber>,
+    /// The command is the one that selected the applet.
+    pub selecting: bool,
+    pub depth: Depth,
+    pub installation: Installation,
+    pub apdu: ApduState,
+}
+
+impl Registers {
+    /// After a reset: the runtime environment runs, and no applet is selected.
+    pub const fn at_reset() -> Registers
+        ensures { result ≡ at_reset }
+    {
+        Registers {
+            active: Owner::Runtime,
+            previous: Owner::Runtime,
+            selected: None,
+            selecting: false,
+            depth: Depth::Outside,
+            installation: Installation::Idle,
+            apdu: ApduState {
+                expected: 0,
+                phase: ApduPhase::Waiting,
+            },
+        }
+    }
+}

@@ -1,0 +1,43 @@
+//! Objects: `new`, `athrow`, `checkcast`, `instanceof`.
+ghost use Rattle.std.specs.Prelude.{IfSome, ◌≡◌, ◌≤◌, length};
+ghost use Rattle.std.specs.Option.{option_and_then};
+ghost use Rattle.jc_opcodes.specs.Table.{HasListedOperands, form_in, objects, read, tested_type};
+
+use crate::arrays::primitive_array_of;
+use crate::instr::{Instr, Object, TestedType};
+use crate::operands::{u1_at, u2_at};
+
+#[inline(always)]
+pub(crate) fn decode_object(opcode: u8, code: &[u8], at: usize) -> Option<(Instr, usize)>
+    requires { at ≤ length code.now }
+    ensures value { result ≡ option_and_then (read code.now at) (form_in objects opcode) }
+    ensures within { IfSome result (λ p. p.1 ≤ length code.now) }
+    ensures listed { IfSome result (λ p. HasListedOperands p.0) }
+{
+    let (operation, next) = match opcode {
+        0x8F => (Object::New(u2_at(code, at)?), at + 2),
+        0x93 => (Object::Throw, at),
+        0x94 => (
+            Object::CheckCast(tested_type_of(u1_at(code, at)?, u2_at(code, at + 1)?)?),
+            at + 3,
+        ),
+        0x95 => (
+            Object::InstanceOf(tested_type_of(u1_at(code, at)?, u2_at(code, at + 1)?)?),
+            at + 3,
+        ),
+        _ => return None,
+    };
+    Some((Instr::Operate(operation), next))
+}
+
+// The type that an operand and a pool index say, if there is one.
+#[inline(always)]
+fn tested_type_of(operand: u8, index: u16) -> Option<TestedType>
+    ensures { result ≡ tested_type operand index }
+{
+    match operand {
+        0 => Some(TestedType::OfClass(index)),
+        14 => Some(TestedType::OfReferences(index)),
+        _ => Some(TestedType::OfPrimitives(primitive_array_of(operand)?)),
+    }
+}
