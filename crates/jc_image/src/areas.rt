@@ -8,11 +8,10 @@ ghost use Rattle.jc_heap.specs.Heap.{heap_of};
 ghost use Rattle.jc_image.specs.Steps.{IsAt, item_from};
 ghost use Rattle.jc_heap.specs.Whole.{lies_in, cells_in, FitsAt, IsFilled};
 
-use jc_heap::layout::{HEADER, LENGTH};
-use jc_heap::layout::area_word;
 use crate::steps::{end_of_record, first_record};
-use jc_heap::walk::begins_package;
 use jc_commit::Journal;
+use jc_heap::layout::{HEADER, LENGTH, area_word};
+use jc_heap::walk::begins_package;
 use jc_transient::{AREA_CELLS, ClearEvent};
 use jc_words::WordStore;
 use jc_words::layout::TOP;

@@ -7,9 +7,9 @@ ghost use Rattle.jc_heap.specs.Image.{IsLaid};
 ghost use Rattle.jc_heap.specs.Heap.{heap_of};
 ghost use Rattle.jc_image.specs.Laying.{AreBytes, IsPartlyLaid, first_free, laid_front, laid_to, laid_view, laid_words, sealed};
 
+use jc_commit::Journal;
 use jc_heap::Heap;
 use jc_heap::packed::packed_word;
-use jc_commit::Journal;
 use jc_words::layout::{FRONT_LENGTH, JOURNAL_CAPACITY, MAGIC, MAGIC_WORD, TEXT_START, VERSION};
 use jc_words::{StoreDown, WordStore};
 

@@ -11,11 +11,10 @@ ghost use Rattle.jc_heap.specs.Whole.{IsWhole};
 ghost use Rattle.jc_image.specs.Beginning.{BeginsWith};
 
 use crate::beginning::begins_with;
-use jc_heap::Heap;
-use jc_heap::Facts;
-use jc_heap::walk::record_size;
 use crate::whole::words_agree;
 use jc_commit::{Journal, OpenRefusal};
+use jc_heap::walk::record_size;
+use jc_heap::{Facts, Heap};
 use jc_words::WordStore;
 use jc_words::layout::{ADDRESSES, MOST_PACKAGES, PACKAGES, TEXT_LENGTH, TEXT_START, TOP};
 use std::marker::Model;

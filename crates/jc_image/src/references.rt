@@ -6,11 +6,11 @@ ghost use Rattle.jc_heap.specs.Heap.{heap_of, names, item_at};
 ghost use Rattle.jc_image.specs.Steps.{IsAt, item_from};
 ghost use Rattle.jc_heap.specs.Whole.{IsReference, HoldsReferences};
 
-use jc_heap::layout::{HEADER, LENGTH, REFERENCES};
 use crate::marks::ALL;
 use crate::steps::{end_of_record, first_record};
-use jc_heap::walk::begins_package;
 use jc_commit::Journal;
+use jc_heap::layout::{HEADER, LENGTH, REFERENCES};
+use jc_heap::walk::begins_package;
 use jc_words::WordStore;
 use jc_words::layout::TOP;
 

@@ -5,8 +5,8 @@ ghost use Rattle.jc_heap.specs.Image.{IsLaid};
 ghost use Rattle.jc_heap.specs.Heap.{heap_of};
 ghost use Rattle.jc_image.specs.Steps.{IsAt, items_from, item_from};
 
-use jc_heap::walk::record_size;
 use jc_commit::Journal;
+use jc_heap::walk::record_size;
 use jc_words::WordStore;
 use jc_words::layout::{TEXT_LENGTH, TEXT_START};
 
