@@ -7,5 +7,6 @@ pub mod fault;
 pub mod fields;
 pub mod formats;
 pub mod laws;
+pub mod lists;
 pub mod packages;
 pub mod parts;

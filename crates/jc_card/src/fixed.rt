@@ -1,5 +1,6 @@
 //! The objects that the runtime environment owns from an image's making on.
-ghost use Rattle.std.specs.Prelude.{◌≡◌, ◌≤◌, ◌<◌, ◌+◌, ◌*◌, false, true, OnOk, OnErr, length, [], ◌∷◌, ◌++◌};
+ghost use Rattle.std.specs.Prelude.{◌≡◌, ◌≤◌, ◌<◌, ◌+◌, ◌*◌, false, true, OnOk, OnErr, is_ok, if◌then◌else◌, length, [], ◌∷◌, ◌++◌};
+ghost use Rattle.jc_words.specs.Count.{raised};
 ghost use Rattle.jc_transient.specs.State.{area_size};
 ghost use Rattle.jc_transient.specs.declared.cell.ClearEvent.TheVariants.{Reset};
 ghost use Rattle.jc_heap.specs.Heap.{area_end};
@@ -137,6 +138,7 @@ pub(crate) fn make_fixed<S: WordStore>(heap: &mut Heap<S>, table: &Table) -> Res
     ensures outside { OnOk result (heap.new.begun ≡ false) }
     ensures settled { OnOk result (heap.new.durable ≡ heap.new.now) }
     ensures stopped { OnErr result (heap.new.down ≡ true) }
+    ensures refused { heap.new.refused ≡ (if is_ok result then heap.old.refused else raised heap.old.refused 1) }
     ensures head { heap.new.durable.head ≡ heap.old.durable.head }
 {
     make_all(heap, table, all_fixed())
@@ -159,6 +161,7 @@ fn make_all<S: WordStore>(
     ensures outside { OnOk result (heap.new.begun ≡ false) }
     ensures settled { OnOk result (heap.new.durable ≡ heap.new.now) }
     ensures stopped { OnErr result (heap.new.down ≡ true) }
+    ensures refused { heap.new.refused ≡ (if is_ok result then heap.old.refused else raised heap.old.refused 1) }
     ensures head { heap.new.durable.head ≡ heap.old.durable.head }
 {
     let Some((first, more)) = objects.split_first() else {
@@ -187,6 +190,7 @@ fn make<S: WordStore>(
     ensures top { OnOk result (heap.new.now.top ≡ heap.old.now.top + 5) }
     ensures end { OnOk result (area_end heap.new.now Reset ≡ area_end heap.old.now Reset + object.now.cells) }
     ensures stopped { OnErr result (heap.new.down ≡ true) }
+    ensures refused { heap.new.refused ≡ (if is_ok result then heap.old.refused else raised heap.old.refused 1) }
     ensures head { heap.new.durable.head ≡ heap.old.durable.head }
 {
     let class = class_number(table, object.class);

@@ -2,13 +2,14 @@
 ghost use Rattle.std.specs.Prelude.{ℕ, List, ◌≡◌, ◌⊎◌, ◌+◌, ◌/◌, ◌≤◌, length, slice_index, IfOk, IfErr, OnOk, false, true, MatchResult};
 ghost use Rattle.jc_words.specs.Count.{raised};
 ghost use Rattle.jc_words.specs.Layout.{text_length_address, text_start, magic, version};
+ghost use Rattle.jc_commit.specs.Replay.{IsPartOfReplay};
 ghost use Rattle.jc_commit.specs.State.{opened};
 ghost use Rattle.jc_heap.specs.Heap.{heap_view};
 ghost use Rattle.jc_heap.specs.Image.{table_text};
 ghost use Rattle.jc_transient.specs.State.{IsBlank};
 ghost use Rattle.jc_platform.specs.Tokens.{Tokens};
 ghost use Rattle.jc_card.specs.Made.{IsMade};
-ghost use Rattle.jc_card.specs.PowerUp.{Refuses, Fails, Stands, HasTable, HasHeap, IsRecovered, fault_of};
+ghost use Rattle.jc_card.specs.PowerUp.{Refuses, Fails, Stands, IsFoundFirst, IsFoundAfter, HasTable, HasHeap, IsRecovered, fault_of};
 
 use crate::card::Card;
 use crate::fixed::fixed_headers;
@@ -71,6 +72,10 @@ impl<S: WordStore> Card<S> {
         ensures was_up { OnOk result (S.down store ≡ false) }
         ensures down { IfErr result (λ e. e.0 ≡ PowerFault.StoreDown → S.down e.1 ≡ true) }
         ensures was_down { IfErr result (λ e. S.down store ≡ true → e.1 ≡ store) }
+        // Before a recovery the store is given back as it came; after it, as the recovery left it.
+        ensures untouched { IfErr result (λ e. IsFoundFirst e.0 → e.1 ≡ store) }
+        ensures after { IfErr result (λ e. IsFoundAfter e.0 → (S.down e.1 ≡ false) × (S.passed e.1 ≡ (opened (S.words store) (S.passed store) (S.refused store)).passed) × (S.refused e.1 ≡ S.refused store)) }
+        ensures part { IfErr result (λ e. e.0 ≡ PowerFault.StoreDown → IsPartOfReplay (S.words store) (S.words e.1) (S.passed store) (S.passed e.1)) }
         ensures refused { IfErr result (λ e. e.0 ≡ PowerFault.StoreDown → S.down store ≡ false → S.refused e.1 ≡ raised (S.refused store) 1) }
     {
         if let Err(fault) = check_image(&store) {
@@ -92,6 +97,9 @@ fn start<S: WordStore>(alloc: Global, image: OpenImage<S>) -> Result<Card<S>, (P
     ensures blank { IfOk result (λ card. IsBlank card.ram) }
     ensures cause { IfErr result (λ e. Fails e.0 image.plain) }
     ensures stands { IfErr result (λ e. IsRecovered image.plain (S.words e.1)) }
+    ensures up { IfErr result (λ e. S.down e.1 ≡ false) }
+    ensures counts { IfErr result (λ e. (S.passed e.1 ≡ image.passed) × (S.refused e.1 ≡ image.refused)) }
+    ensures found { IfErr result (λ e. IsFoundAfter e.0) }
 {
     let table = match platform_of(alloc, &image) {
         Ok(table) => table,

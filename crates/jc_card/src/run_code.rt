@@ -7,8 +7,9 @@ ghost use Rattle.jc_card.specs.Answers.{AnswersRunCode, RunsTo};
 use crate::command::Command;
 use crate::response::Response;
 use crate::status::StatusWord;
+use jc_frames::Outcome;
 use jc_interp::machine::Machine;
-use jc_interp::outcome::{Outcome, Status};
+use jc_interp::status::Status;
 
 /// A command carries out at most so many instructions.
 const MOST_INSTRUCTIONS: u32 = 100_000;

@@ -1,10 +1,10 @@
 -- What the layer above sees of a journal.
-use Rattle.std.specs.Prelude.{◌≡◌, ℕ, ◌+◌, ◌*◌, Bool, true, false, List, [], ◌++◌, length, take, slice_set, if◌then◌else◌, ◌==◌, ◌&&◌, nat_le, MatchBool}
+use Rattle.std.specs.Prelude.{◌≡◌, ◌≤◌, ℕ, ◌+◌, ◌*◌, Bool, true, false, List, [], ◌++◌, length, take, slice_set, if◌then◌else◌, ◌==◌, ◌&&◌, nat_le, MatchBool}
 use Rattle.std.specs.List.{list_any}
 use Rattle.jc_words.specs.Count.{raised}
 use Rattle.jc_commit.specs.Image.{plain_of, recovered_of, touched_of, with_words, top_of, count_of, capacity, IsGoodLog}
 use Rattle.jc_commit.specs.Entries.{addresses_of}
-use Rattle.jc_commit.specs.Replay.{stopped_after}
+use Rattle.jc_commit.specs.Replay.{replay_writes, stopped_after}
 
 pub record State : Type 0 where
   -- the words as they are
@@ -127,4 +127,4 @@ pub record StandsFor (w : List ℕ) (s : State) : Type 0 where
 -- the new state is that of the old one's words where a replay of them is stopped after some of its writes,
 -- and so many writes have passed
 abbrev pub IsPartlyReplayed : State → State → Type 0
-IsPartlyReplayed old new = (w : List ℕ) × (n : ℕ) × StandsFor w old × StandsFor (stopped_after n w) new × (new.passed ≡ raised old.passed n)
+IsPartlyReplayed old new = (w : List ℕ) × (n : ℕ) × (n ≤ length (replay_writes w)) × StandsFor w old × StandsFor (stopped_after n w) new × (new.passed ≡ raised old.passed n)

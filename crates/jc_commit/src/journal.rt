@@ -187,6 +187,7 @@ impl<S: WordStore> Journal<S> {
         ensures err { OnErr result (self.new ≡ record (refusing self.old) { plain = self.new.plain; passed = self.new.passed }) }
         // The words are those of a recovery that was stopped.
         ensures part { OnErr result (IsPartlyReplayed self.old self.new) }
+        ensures size { length self.new.plain ≡ length self.old.plain }
     {
         replay(&mut self.store)?;
         self.in_transaction = false;

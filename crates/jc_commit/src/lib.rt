@@ -7,8 +7,6 @@ mod journal;
 mod law;
 mod log;
 mod refusal;
-#[cfg(test)]
-mod tests;
 mod undo;
 
 pub use journal::Journal;

@@ -69,6 +69,7 @@ fn write_image<S: WordStore>(store: &mut S, text: &[u8]) -> Result<(), StoreDown
     requires fits { first_free (length text.now) ≤ length (S.words store.old) }
     ensures done { OnOk result (S.words store.new ≡ laid_to (first_free (length text.now)) (length (S.words store.old)) text.now (S.words store.old)) }
     ensures part { IsPartlyLaid text.now (S.words store.old) (S.words store.new) }
+    ensures size { length (S.words store.new) ≡ length (S.words store.old) }
     ensures bytes { OnOk result (AreBytes text.now) }
     ensures up { OnOk result (S.down store.new ≡ false) }
     ensures down { OnErr result (S.down store.new ≡ true) }
@@ -91,6 +92,7 @@ pub fn lay<S: WordStore>(mut store: S, text: &[u8]) -> Result<Heap<S>, S>
     ensures down { IfErr result (λ s. S.down s ≡ true) }
     ensures refused { IfErr result (λ s. S.refused s ≡ raised (S.refused store) 1) }
     ensures part { IfErr result (λ s. IsPartlyLaid text.now (S.words store) (S.words s)) }
+    ensures size { IfErr result (λ s. length (S.words s) ≡ length (S.words store)) }
     ensures unmarked { IfErr result (λ s. (S.words s ≡ S.words store) ⊎ (slice_index (S.words s) magic_address ≡ 0)) }
 {
     let size = store.size();

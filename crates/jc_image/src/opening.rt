@@ -3,6 +3,7 @@ ghost use Rattle.std.specs.Prelude.{ℕ, ◌+◌, ◌/◌, ◌≡◌, ◌<◌, �
 ghost use Rattle.jc_words.specs.Count.{raised};
 ghost use Rattle.jc_words.specs.Layout.{top_address, text_length_address, text_start};
 ghost use Rattle.jc_commit.specs.Image.{count_of, plain_of, recovered_of, IsGoodLog, StillRecovers};
+ghost use Rattle.jc_commit.specs.Replay.{IsPartOfReplay};
 ghost use Rattle.jc_commit.specs.State.{opened};
 ghost use Rattle.jc_heap.specs.Cut.{lacking};
 ghost use Rattle.jc_heap.specs.Image.{text_byte, table_text, IsLaid, image, base, missing, package_addresses, is_package, sizes};
@@ -106,6 +107,7 @@ impl<S: WordStore> OpenImage<S> {
         ensures good { OnOk result (IsGoodLog (S.words store)) }
         ensures bad_log { IfErr result (λ e. e.0 ≡ OpenRefusal.BadLog → (IsGoodLog (S.words store) → ⊥) × (e.1 ≡ store)) }
         ensures stopped { IfErr result (λ e. e.0 ≡ OpenRefusal.StoreDown → IsGoodLog (S.words store) × StillRecovers (S.words store) (S.words e.1) × (S.down e.1 ≡ true)) }
+        ensures part { IfErr result (λ e. e.0 ≡ OpenRefusal.StoreDown → IsPartOfReplay (S.words store) (S.words e.1) (S.passed store) (S.passed e.1)) }
         ensures was_up { OnOk result (S.down store ≡ false) }
         ensures was_down { IfErr result (λ e. S.down store ≡ true → e.1 ≡ store) }
         ensures refused { IfErr result (λ e. e.0 ≡ OpenRefusal.StoreDown → S.down store ≡ false → S.refused e.1 ≡ raised (S.refused store) 1) }
@@ -190,6 +192,8 @@ impl<S: WordStore> OpenImage<S> {
         ensures up { IfErr result (λ s. S.down s ≡ false) }
         ensures good { IfErr result (λ s. IsGoodLog (S.words s)) }
         ensures closed { IfErr result (λ s. count_of (S.words s) ≡ 0) }
+        ensures passed { IfErr result (λ s. S.passed s ≡ self.passed) }
+        ensures refused { IfErr result (λ s. S.refused s ≡ self.refused) }
     {
         let OpenImage { journal, size } = self;
         if !is_heap(&journal, size) {

@@ -1,10 +1,11 @@
 -- What running code sees and changes, and what is done to it, as data.
-use Rattle.std.specs.Prelude.{ℕ, ◌+◌, ◌≡◌, Bool, false, List, [], ◌∷◌, ◌++◌, map, slice_set, Option, Some, None}
+use Rattle.std.specs.Prelude.{ℕ, ◌+◌, ◌≡◌, ◌<◌, Bool, false, List, [], ◌∷◌, ◌++◌, map, slice_set, Option, Some, None}
 use Rattle.jc_transient.specs.declared.cell.CellValue.{CellValue}
 use Rattle.jc_transient.specs.declared.cell.ClearEvent.{ClearEvent}
 use Rattle.jc_transient.specs.Cells.{cleared, without_dead}
-use Rattle.jc_transient.specs.State.{RamState, area, with_area, with_cells}
+use Rattle.jc_transient.specs.State.{RamState, HasSizes, area, with_area, with_cells}
 use Rattle.jc_heap.specs.Heap.{HeapState, HeapView, facts, names}
+use Rattle.jc_heap.specs.Keeping.{AreWhole}
 use Rattle.jc_heap.specs.Moves.{Move, apply}
 use Rattle.jc_memory.specs.declared.registers.Registers.{Registers}
 
@@ -67,3 +68,14 @@ pub record IsNew (h : HeapState) (r : ℕ) : Type 0 where
   pub free : names h r ≡ false
   pub some : r ≡ 0 → ⊥
   pub chosen : r ≡ h.top
+
+-- what a heap meets that a memory has: it is whole, now and after a loss of power, and neither heap ends at null
+pub record IsKept (v : HeapView) : Type 0 where
+  pub whole : AreWhole v
+  pub now : 0 < v.now.top
+  pub durable : 0 < v.durable.top
+
+-- what the parts of each memory meet; the heap's while its store is up
+pub record AreParts (v : HeapView) (contents : RamState) : Type 0 where
+  pub heap : v.down ≡ false → IsKept v
+  pub ram : HasSizes contents

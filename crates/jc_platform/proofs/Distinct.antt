@@ -26,7 +26,7 @@ use Rattle.jc_platform.proofs.Fitting.{IsFitting, row_fits}
 use Rattle.jc_platform.proofs.Lists.{and_true}
 use Rattle.jc_platform.proofs.Numbers.{class_below, method_below}
 
-both : (x y : Bool) → x ≡ true → y ≡ true → (x && y) ≡ true
+pub both : (x y : Bool) → x ≡ true → y ≡ true → (x && y) ≡ true
 both true y p q = q
 both false y p q = absurd (false≢true p)
 
@@ -56,21 +56,21 @@ found_has q p (x ∷ xs) e all h =
     let parts = and_true (q x) (list_all q xs) all in
     found_case q p x xs e (p x) parts.0 (found_has q p xs e parts.1) h
 
-class_at_place : (c : PlatformClass) → (entry_of_class (class_number c)).class ≡ c
+pub class_at_place : (c : PlatformClass) → (entry_of_class (class_number c)).class ≡ c
 unfolding classes
 class_at_place Object = refl
 class_at_place _ = refl
 
-method_at_place : (m : PlatformMethod) → (entry_of_method (method_number m)).method ≡ m
+pub method_at_place : (m : PlatformMethod) → (entry_of_method (method_number m)).method ≡ m
 unfolding methods
 method_at_place ObjectInit = refl
 method_at_place _ = refl
 
-class_places : length classes ≡ 28
+pub class_places : length classes ≡ 28
 unfolding classes
 class_places = refl
 
-method_places : length methods ≡ 83
+pub method_places : length methods ≡ 83
 unfolding methods
 method_places = refl
 
@@ -78,14 +78,14 @@ pub homes : list_all (λ e. same_package (home_of e.class) e.home) classes ≡ t
 unfolding classes
 homes = refl
 
-method_homes : list_all (λ e. same_class (class_of e.method) e.class && same_kind (kind_of_method e.method) e.kind) methods ≡ true
+pub method_homes : list_all (λ e. same_class (class_of e.method) e.class && same_kind (kind_of_method e.method) e.kind) methods ≡ true
 unfolding methods
 method_homes = refl
 
 pub class_by_number : (c d : PlatformClass) → class_number c ≡ class_number d → c ≡ d
 class_by_number c d e = sym (class_at_place c) ∙ ap (λ (n : ℕ). (entry_of_class n).class) e ∙ class_at_place d
 
-method_by_number : (m n : PlatformMethod) → method_number m ≡ method_number n → m ≡ n
+pub method_by_number : (m n : PlatformMethod) → method_number m ≡ method_number n → m ≡ n
 method_by_number m n e = sym (method_at_place m) ∙ ap (λ (k : ℕ). (entry_of_method k).method) e ∙ method_at_place n
 
 -- ---- a name that may stand has a free token

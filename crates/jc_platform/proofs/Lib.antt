@@ -6,5 +6,6 @@ pub mod Fitting
 pub mod Lines
 pub mod Lists
 pub mod Numbers
+pub mod NamesTold
 pub mod OneAnswer
 pub mod Versions

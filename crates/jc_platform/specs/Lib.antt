@@ -6,3 +6,5 @@ pub mod Seen
 pub mod Table
 pub mod Tokens
 pub mod Distinct
+pub mod Hierarchy
+pub mod Platform

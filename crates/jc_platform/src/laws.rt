@@ -2,6 +2,7 @@
 
 ghost use Rattle.std.specs.Prelude.{List, ℕ, ◌≡◌};
 ghost use Rattle.jc_platform.specs.Distinct.{AreDistinct, class_word};
+ghost use Rattle.jc_platform.specs.Platform.{TellNames};
 ghost use Rattle.jc_platform.specs.Table.{Reads};
 ghost use Rattle.jc_platform.specs.Tokens.{TellTheSame, Tokens};
 
@@ -21,4 +22,10 @@ pub fn a_text_has_one_answer()
     ensures one_table { (text : List ℕ) (t u : Tokens) → Reads text (Ok t) → Reads text (Ok u) → TellTheSame t u }
     ensures same_words { (text : List ℕ) (t u : Tokens) → Reads text (Ok t) → Reads text (Ok u) → (c : PlatformClass) → class_word t c ≡ class_word u c }
     ensures one_fault { (text : List ℕ) (f g : TableFault) → Reads text (Err f) → Reads text (Err g) → f ≡ g }
+{}
+
+/// Law: in a table that was read, a package's number, a class's token in its package, and a method's token among those
+/// of its class and kind stand for it. It does nothing.
+pub fn tokens_tell_names()
+    ensures { (text : List ℕ) (t : Tokens) → Reads text (Ok t) → TellNames t }
 {}

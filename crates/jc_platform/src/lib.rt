@@ -3,9 +3,11 @@
 
 pub mod example;
 pub mod fault;
+pub mod hierarchy;
 pub mod laws;
 mod lookup;
 pub mod names;
+pub mod platform;
 pub mod read;
 mod reading;
 pub mod row;

@@ -2,7 +2,7 @@
 
 ghost use Rattle.std.specs.Prelude.{◌≡◌, ◌<◌, ◌&&◌};
 ghost use Rattle.jc_platform.specs.Distinct.{home_of};
-ghost use Rattle.jc_platform.specs.Numbers.{class_number, kind_number, method_number, package_number, same_class, same_kind};
+ghost use Rattle.jc_platform.specs.Numbers.{class_number, kind_number, method_number, package_number, same_class, same_kind, same_package};
 ghost use Rattle.jc_platform.specs.Rows.{largest_token};
 
 /// A package of the platform.
@@ -154,6 +154,13 @@ pub(crate) const CLASS_COUNT: usize = 28;
 pub(crate) const METHOD_COUNT: usize = 83;
 
 impl PlatformPackage {
+    /// The two are one, told by their places.
+    pub(crate) const fn is(self, other: PlatformPackage) -> bool
+        ensures { result ≡ same_package self other }
+    {
+        self.index() == other.index()
+    }
+
     /// Its place among the packages.
     pub(crate) const fn index(self) -> usize
         ensures place { result ≡ package_number self }

@@ -8,6 +8,7 @@ ghost use Rattle.jc_platform.specs.Tokens.{Tokens, number_in};
 use crate::names::{
     CLASS_COUNT, METHOD_COUNT, PACKAGE_COUNT, PlatformClass, PlatformMethod, PlatformPackage,
 };
+use crate::platform::Platform;
 use crate::row::Version;
 use std::marker::Model;
 
@@ -85,5 +86,18 @@ impl Table {
     {
         let number = u16::from(self.package_number(class.home()));
         256 * number + u16::from(self.class_token(class))
+    }
+
+    /// The packages of the platform, as other packages name them.
+    pub fn platform(&self) -> Platform
+        ensures { result ≡ self.now }
+    {
+        let table = Table::new(
+            self.first,
+            self.versions,
+            self.class_tokens,
+            self.method_tokens,
+        );
+        Platform::new(table)
     }
 }

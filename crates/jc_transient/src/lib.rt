@@ -5,8 +5,6 @@
 mod cell;
 mod ram;
 mod reference;
-#[cfg(test)]
-mod tests;
 
 pub use cell::{CellValue, ClearEvent};
 pub use ram::{AREA_CELLS, BUFFER_CELLS, BUFFER_PLACE, Ram};

@@ -130,6 +130,13 @@ impl Ram {
         null_dead_cells(self.deselect_cells.as_mut_slice(), top);
     }
 
+    /// How many bytes the APDU buffer holds, one in each of its cells.
+    pub fn buffer_cells() -> u16
+        ensures { result ≡ buffer_size }
+    {
+        BUFFER_CELLS
+    }
+
     /// A byte of the APDU buffer.
     pub fn buffer_byte(&self, index: u16) -> u8
         requires { index < buffer_size }

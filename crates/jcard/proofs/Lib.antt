@@ -1,6 +1,0 @@
-pub mod CommandLine
-pub mod Dumps
-pub mod FlagWords
-pub mod News
-pub mod RunLines
-pub mod Runs

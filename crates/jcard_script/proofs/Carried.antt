@@ -1,7 +1,9 @@
 -- Lines that are carried out one after another.
 use Rattle.std.proofs.Common.{◌≡◌, ℕ, ◌+◌, List, [], ◌∷◌, ◌++◌, length, refl, sym, ◌∙◌, ap, subst, append_assoc, append-nil}
 use Rattle.jcard_script.specs.Texts.{IsCutOf}
-use Rattle.jcard_script.specs.Script.{Bad, Resets, Standing, form_of, IsWrittenFor, AreCarriedOut, StopsAtBad, StopsAtReset, StopsInside}
+use Rattle.jc_card.specs.declared.power_up.PowerFault.{PowerFault}
+use Rattle.jcard_script.specs.Standing.{Standing, FailsReset}
+use Rattle.jcard_script.specs.Script.{Bad, Resets, form_of, IsWrittenFor, AreCarriedOut, StopsAtBad, StopsAtReset, StopsInside}
 
 -- one more line is carried out
 pub carried_more : (all : List (List ℕ)) (line text more : List ℕ) (s t u : Standing) → AreCarriedOut all s t text → IsWrittenFor (form_of line) t u more
@@ -17,8 +19,9 @@ pub bad_more : (n : ℕ) (all : List (List ℕ)) (line text : List ℕ) (s t : S
 bad_more n all line text s t h bad number = (all, line, [], refl, number, bad, h)
 
 -- a reset that found a fault after those that were carried out
-pub reset_more : (all : List (List ℕ)) (line text : List ℕ) (s t : Standing) → AreCarriedOut all s t text → form_of line ≡ Resets → StopsAtReset (all ++ line ∷ []) s text
-reset_more all line text s t h reset = (all, line, [], refl, reset, (t, h))
+pub reset_more : (fault : PowerFault) (all : List (List ℕ)) (line text : List ℕ) (s t u : Standing) → AreCarriedOut all s t text → form_of line ≡ Resets → FailsReset fault t u
+    → StopsAtReset fault (all ++ line ∷ []) s u text
+reset_more fault all line text s t u h reset fails = (all, line, [], refl, reset, (t, h, fails))
 
 -- a line whose answer is cut after those that were carried out
 pub cut_more : (all : List (List ℕ)) (line text answer part : List ℕ) (s t u : Standing) → AreCarriedOut all s t text → IsWrittenFor (form_of line) t u answer → IsCutOf answer part
@@ -29,8 +32,8 @@ cut_more all line text answer part s t u h k cut = (all, line, [], refl, (text, 
 pub bad_then : (n : ℕ) (all rest : List (List ℕ)) (text : List ℕ) (s t : Standing) → StopsAtBad n all s t text → StopsAtBad n (all ++ rest) s t text
 bad_then n all rest text s t h = (h.0, h.1, h.2 ++ rest, ap (λ l. l ++ rest) h.3 ∙ append_assoc h.0 (h.1 ∷ h.2) rest, h.4, h.5, h.6)
 
-pub reset_then : (all rest : List (List ℕ)) (text : List ℕ) (s : Standing) → StopsAtReset all s text → StopsAtReset (all ++ rest) s text
-reset_then all rest text s h = (h.0, h.1, h.2 ++ rest, ap (λ l. l ++ rest) h.3 ∙ append_assoc h.0 (h.1 ∷ h.2) rest, h.4, h.5)
+pub reset_then : (fault : PowerFault) (all rest : List (List ℕ)) (text : List ℕ) (s t : Standing) → StopsAtReset fault all s t text → StopsAtReset fault (all ++ rest) s t text
+reset_then fault all rest text s t h = (h.0, h.1, h.2 ++ rest, ap (λ l. l ++ rest) h.3 ∙ append_assoc h.0 (h.1 ∷ h.2) rest, h.4, h.5)
 
 pub cut_then : (all rest : List (List ℕ)) (text : List ℕ) (s t : Standing) → StopsInside all s t text → StopsInside (all ++ rest) s t text
 cut_then all rest text s t h = (h.0, h.1, h.2 ++ rest, ap (λ l. l ++ rest) h.3 ∙ append_assoc h.0 (h.1 ∷ h.2) rest, h.4)

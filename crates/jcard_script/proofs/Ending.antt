@@ -3,7 +3,8 @@ use Rattle.std.proofs.Common.{◌≡◌, ℕ, ◌+◌, ◌<◌, true, false, Lis
 use Rattle.std.proofs.lemmas.List.{take_more}
 use Rattle.std.specs.Prelude.{OnOk}
 use Rattle.std.specs.Str.Lines.{lines}
-use Rattle.jcard_script.specs.Script.{Form, Standing, form_of, AreCarriedOut, StopsAtBad, StopsAtReset, StopsInside, EndsFrom, ended_lines, bound}
+use Rattle.jcard_script.specs.Standing.{Standing}
+use Rattle.jcard_script.specs.Script.{Form, form_of, AreCarriedOut, StopsAtBad, StopsAtReset, StopsInside, EndsFrom, ended_lines, bound}
 use Rattle.jcard_script.specs.Session.{LineEnds, LineFails, LinesEnd, begun_line}
 use Rattle.jcard_script.specs.declared.script.ScriptFault.{ScriptFault}
 use Rattle.jcard_script.specs.declared.script.ScriptFault.TheVariants.{ReadFailed, WriteFailed, BadLine, TooLong, PowerFault}
@@ -20,7 +21,7 @@ line_done (Err (BadLine b)) n all line text more s t u h number k =
     (subst (StopsAtBad b (all ++ line ∷ []) s t) (sym same) (bad_more b all line text s t h k.0 (k.1 ∙ number)))
 line_done (Err (PowerFault f)) n all line text more s t u h number k =
     let same : text ++ more ≡ text = ap (λ l. text ++ l) k.2 ∙ append-nil text in
-    (k.0, subst (StopsAtReset (all ++ line ∷ []) s) (sym same) (reset_more all line text s t h k.1))
+    subst (StopsAtReset f (all ++ line ∷ []) s u) (sym same) (reset_more f all line text s t u h k.0 k.1)
 line_done (Err WriteFailed) n all line text more s t u h number k = cut_more all line text k.0 more s t u h k.1 k.2
 line_done (Err ReadFailed) n all line text more s t u h number k = absurd k
 line_done (Err TooLong) n all line text more s t u h number k = absurd k
@@ -38,7 +39,7 @@ script_done r n script text more s t u h number k =
         subst (λ all'. AreCarriedOut all' s u (text ++ more)) (sym (append-nil all))
         (subst (λ x. AreCarriedOut all s x (text ++ more)) (sym k.0) (subst (AreCarriedOut all s t) (sym same) h))
     none_done (Err (BadLine b)) n all text more s t u h k = cc k.0
-    none_done (Err (PowerFault f)) n all text more s t u h k = cc k.1
+    none_done (Err (PowerFault f)) n all text more s t u h k = cc k.0
     none_done (Err WriteFailed) n all text more s t u h k =
         let none : k.0 ≡ [] = k.1.1 in
         let cut : k.0 ≡ more ++ k.2.0 = k.2.1 in
@@ -57,7 +58,7 @@ pub ended_then : (fault : ScriptFault) (script rest text : List ℕ) (s t : Stan
 ended_then (BadLine n) script rest text s t h =
     let more = ended_more script rest in subst (λ all. StopsAtBad n all s t text) (sym more.1) (bad_then n (ended_lines script) more.0 text s t h)
 ended_then (PowerFault f) script rest text s t h =
-    let more = ended_more script rest in (h.0, subst (λ all. StopsAtReset all s text) (sym more.1) (reset_then (ended_lines script) more.0 text s h.1))
+    let more = ended_more script rest in subst (λ all. StopsAtReset f all s t text) (sym more.1) (reset_then f (ended_lines script) more.0 text s t h)
 ended_then WriteFailed script rest text s t h =
     let more = ended_more script rest in subst (λ all. StopsInside all s t text) (sym more.1) (cut_then (ended_lines script) more.0 text s t h)
 ended_then ReadFailed script rest text s t h = absurd h

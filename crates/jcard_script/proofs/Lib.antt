@@ -1,6 +1,7 @@
 pub mod Carried
 pub mod Decoding
 pub mod Ending
+pub mod Kept
 pub mod Known
 pub mod LineSteps
 pub mod LongCommands

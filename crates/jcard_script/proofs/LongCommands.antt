@@ -10,6 +10,7 @@ use Rattle.jc_card.specs.Apdu.{apdu_of, data_of}
 use Rattle.jc_card.specs.StatusWord.{status_bytes, wrong_length}
 use Rattle.jc_card.specs.Answers.{Answers, AnswersApdu}
 use Rattle.jcard_script.specs.Script.{IsAnswered}
+use Rattle.jcard_script.specs.Standing.{Standing, Up, Down}
 
 -- a command of more than 261 bytes has no data
 data_none : (c : List ℕ) → 261 < length c → slice_index c 4 < 256 → data_of c ≡ None
@@ -49,6 +50,6 @@ answers_whole whole given answer bytes e h =
     first_four whole = grind (arith, common_steps)
 
 -- the same of what a session writes
-pub answered_whole : (up : Bool) (whole given text : List ℕ) → IsBytes whole → given ≡ take 262 whole → IsAnswered up given text → IsAnswered up whole text
-answered_whole true whole given text bytes same a = (a.0, answers_whole whole given a.0 bytes same a.1, a.2)
-answered_whole false whole given text bytes same a = a
+pub answered_whole : (s t : Standing) (whole given text : List ℕ) → IsBytes whole → given ≡ take 262 whole → IsAnswered given s t text → IsAnswered whole s t text
+answered_whole (Up card) t whole given text bytes same a = (a.0, answers_whole whole given a.0 bytes same a.1, a.2, a.3)
+answered_whole (Down store) t whole given text bytes same a = a

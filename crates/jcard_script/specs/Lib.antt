@@ -4,5 +4,6 @@ pub mod Line
 pub mod Reply
 pub mod Script
 pub mod Session
+pub mod Standing
 pub mod Texts
 pub mod Word

@@ -7,10 +7,11 @@ use Rattle.std.specs.Str.Parse.{digits_value}
 use Rattle.std.specs.Str.Lines.{lines, strip_carriage_return}
 use Rattle.hex.specs.Hex.{decode_of, encode_upper}
 use Rattle.hex.specs.declared.error.FromHexError.{FromHexError}
-use Rattle.jc_words.specs.Count.{raised}
+use Rattle.jc_words.specs.Stores.{Fused}
 use Rattle.jc_card.specs.Answers.{Answers}
 use Rattle.jc_card.specs.declared.power_up.PowerFault.{PowerFault as Fault}
-use Rattle.jc_card.specs.declared.power_up.PowerFault.TheVariants.{StoreDown}
+use Rattle.jc_card.specs.declared.power_up.PowerFault.TheVariants.{NoMemory}
+use Rattle.jcard_script.specs.Standing.{Standing, Up, Down, Holds, PowersUp, FailsUp, IsReset, FailsReset, armed}
 use Rattle.jcard_script.specs.Texts.{IsCutOf}
 use Rattle.jcard_script.specs.declared.script.ScriptFault.{ScriptFault}
 use Rattle.jcard_script.specs.declared.script.ScriptFault.TheVariants.{ReadFailed, WriteFailed, BadLine, TooLong, PowerFault}
@@ -75,21 +76,6 @@ stop_of digits = if is_number digits then Stops (digits_value 10 digits) else Ba
 abbrev pub form_of : List ℕ → Form
 form_of line = if bytes_eq line (codes "reset") then Resets else (if starts_with nat_eq line (codes "stop ") then stop_of (drop 5 line) else plain_form_of line)
 
--- ---- how a session stands
-
--- whether the card is up, and how many writes its store has refused
-pub record Standing : Type 0 where
-  pub up : Bool
-  pub refused : ℕ
-
--- a store that has refused n writes is powered up so: no more is refused and the card is up, or one more is and it is down
-abbrev pub IsPoweredUp : ℕ → Standing → Type 0
-IsPoweredUp n s = MatchBool s.up (s.refused ≡ n) (s.refused ≡ raised n 1)
-
--- the fault is not that the store refused a write
-abbrev pub IsOther : Fault → Type 0
-IsOther fault = fault ≡ StoreDown → ⊥
-
 -- ---- what is written
 
 -- the text of an answer: its bytes in hexadecimal, and a line feed
@@ -106,16 +92,22 @@ down_text = codes "down\n"
 abbrev pub armed_text : ℕ → List ℕ
 armed_text k = codes "armed " ++ decimal k ++ codes "\n"
 
--- what is written for a command: the text of an answer, or that the store is down
-abbrev pub IsAnswered : Bool → List ℕ → List ℕ → Type 0
-IsAnswered up bytes text = MatchBool up ((answer : List ℕ) × Answers bytes answer × (text ≡ text_of answer)) (text ≡ down_text)
+-- what is told after a power up
+abbrev pub power_text : Standing → List ℕ
+power_text (Up card) = ready_text
+power_text (Down store) = down_text
+
+-- what is written for a command, and how the session stands before and after it: the text of an answer, or that the card is down
+abbrev pub IsAnswered : List ℕ → Standing → Standing → List ℕ → Type 0
+IsAnswered bytes (Up card) t text = (answer : List ℕ) × Answers bytes answer × (text ≡ text_of answer) × (t ≡ Up card)
+IsAnswered bytes (Down store) t text = (text ≡ down_text) × (t ≡ Down store)
 
 -- what is written for a line, and how the session stands before and after it
 abbrev pub IsWrittenFor : Form → Standing → Standing → List ℕ → Type 0
 IsWrittenFor Skipped s t text = (t ≡ s) × (text ≡ [])
-IsWrittenFor (Command bytes) s t text = (t ≡ s) × IsAnswered s.up bytes text
-IsWrittenFor Resets s t text = IsPoweredUp s.refused t × MatchBool t.up (text ≡ ready_text) (text ≡ down_text)
-IsWrittenFor (Stops k) s t text = (t ≡ s) × (text ≡ armed_text k)
+IsWrittenFor (Command bytes) s t text = IsAnswered bytes s t text
+IsWrittenFor Resets s t text = IsReset s t × (text ≡ power_text t)
+IsWrittenFor (Stops k) s t text = (t ≡ armed k s) × (text ≡ armed_text k)
 IsWrittenFor Bad s t text = ⊥
 
 -- the lines are carried out one after another, from one standing to the other, and this is what is written for them
@@ -127,9 +119,10 @@ AreCarriedOut (line ∷ more) s t text = (first rest : List ℕ) × (between : S
 abbrev pub StopsAtBad : ℕ → List (List ℕ) → Standing → Standing → List ℕ → Type 0
 StopsAtBad n all s t text = (before : List (List ℕ)) × (line : List ℕ) × (after : List (List ℕ)) × (all ≡ before ++ line ∷ after) × (n ≡ length before + 1) × (form_of line ≡ Bad) × AreCarriedOut before s t text
 
--- a reset found a fault, and the lines before it were carried out
-abbrev pub StopsAtReset : List (List ℕ) → Standing → List ℕ → Type 0
-StopsAtReset all s text = (before : List (List ℕ)) × (line : List ℕ) × (after : List (List ℕ)) × (all ≡ before ++ line ∷ after) × (form_of line ≡ Resets) × ((t : Standing) × AreCarriedOut before s t text)
+-- a reset found this fault, and the lines before it were carried out
+abbrev pub StopsAtReset : Fault → List (List ℕ) → Standing → Standing → List ℕ → Type 0
+StopsAtReset fault all s t text = (before : List (List ℕ)) × (line : List ℕ) × (after : List (List ℕ)) × (all ≡ before ++ line ∷ after) × (form_of line ≡ Resets)
+    × ((u : Standing) × AreCarriedOut before s u text × FailsReset fault u t)
 
 -- some first lines were carried out, and of what is to be written for the next only a beginning was written
 abbrev pub StopsInside : List (List ℕ) → Standing → Standing → List ℕ → Type 0
@@ -142,20 +135,25 @@ StopsInside all s t text = (before : List (List ℕ)) × (line : List ℕ) × (a
 abbrev pub EndsFrom : Result Unit ScriptFault → Bool → List ℕ → Standing → Standing → List ℕ → Type 0
 EndsFrom (Ok done) at_end script s t text = IsTrue at_end × AreCarriedOut (lines script) s t text
 EndsFrom (Err (BadLine n)) at_end script s t text = StopsAtBad n (lines_so_far at_end script) s t text
-EndsFrom (Err (PowerFault fault)) at_end script s t text = IsOther fault × StopsAtReset (lines_so_far at_end script) s text
+EndsFrom (Err (PowerFault fault)) at_end script s t text = StopsAtReset fault (lines_so_far at_end script) s t text
 EndsFrom (Err TooLong) at_end script s t text = (bound < length script) × AreCarriedOut (lines_so_far false script) s t text
 EndsFrom (Err ReadFailed) at_end script s t text = (length script ≤ bound) × AreCarriedOut (lines_so_far false script) s t text
 EndsFrom (Err WriteFailed) at_end script s t text = StopsInside (lines_so_far at_end script) s t text
 
 -- the first power up found a fault: nothing was read or written
-abbrev pub FailsAtOnce : Result Unit ScriptFault → List ℕ → List ℕ → Type 0
-FailsAtOnce (Err (PowerFault fault)) script text = IsOther fault × (script ≡ []) × (text ≡ [])
-FailsAtOnce _ script text = ⊥
+abbrev pub FailsAtOnce : Result Unit ScriptFault → Fused → Fused → List ℕ → List ℕ → Type 0
+FailsAtOnce (Err (PowerFault fault)) before after script text = FailsUp before fault after × (script ≡ []) × (text ≡ [])
+FailsAtOnce _ before after script text = ⊥
 
--- a script on a store that had refused so many writes before and so many after: it failed at once, or it was carried out from a power up on
-abbrev pub Ends : Result Unit ScriptFault → ℕ → ℕ → Bool → List ℕ → List ℕ → Type 0
+-- a script on a store that was so before and is so after: it failed at once, or it was carried out from a power up on
+abbrev pub Ends : Result Unit ScriptFault → Fused → Fused → Bool → List ℕ → List ℕ → Type 0
 Ends result before after at_end script text =
-    FailsAtOnce result script text ⊎ ((first last : Standing) × IsPoweredUp before first × (last.refused ≡ after) × EndsFrom result at_end script first last text)
+    FailsAtOnce result before after script text ⊎ ((first last : Standing) × PowersUp before first × Holds last after × EndsFrom result at_end script first last text)
+
+-- where a card does not power up, memory was refused
+abbrev pub FailsForMemoryAlone : Result Unit ScriptFault → Type 0
+FailsForMemoryAlone (Err (PowerFault fault)) = fault ≡ NoMemory
+FailsForMemoryAlone _ = Unit {0}
 
 -- whether a read failed
 abbrev pub is_read_failed : Result Unit ScriptFault → Bool

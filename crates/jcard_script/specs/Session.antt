@@ -4,7 +4,8 @@ use Rattle.std.specs.List.{slice_split}
 use Rattle.std.specs.Str.Lines.{strip_carriage_return}
 use Rattle.jcard_script.specs.Held.{standing_in}
 use Rattle.jcard_script.specs.Line.{IsLineOf, ends_in_return}
-use Rattle.jcard_script.specs.Script.{Form, Resets, Bad, Standing, IsOther, IsWrittenFor, AreCarriedOut, StopsAtBad, StopsAtReset, StopsInside, ended_lines}
+use Rattle.jcard_script.specs.Standing.{Standing, FailsReset}
+use Rattle.jcard_script.specs.Script.{Form, Resets, Bad, IsWrittenFor, AreCarriedOut, StopsAtBad, StopsAtReset, StopsInside, ended_lines}
 use Rattle.jcard_script.specs.Texts.{IsCutOf}
 use Rattle.jcard_script.specs.Word.{IsWordOf}
 use Rattle.jcard_script.specs.declared.line.Line.{Line}
@@ -33,7 +34,7 @@ StandsAt s first script text = IsKeptOf s.line (begun_line script) × (s.number 
 -- why nothing is written for line n: it has no form, or it is a reset that found a fault
 abbrev pub LineFails : ScriptFault → ℕ → Form → Standing → Standing → Type 0
 LineFails (BadLine k) n form s t = (form ≡ Bad) × (k ≡ n) × (t ≡ s)
-LineFails (PowerFault fault) n form s t = IsOther fault × (form ≡ Resets)
+LineFails (PowerFault fault) n form s t = (form ≡ Resets) × FailsReset fault s t
 LineFails ReadFailed n form s t = ⊥
 LineFails WriteFailed n form s t = ⊥
 LineFails TooLong n form s t = ⊥
@@ -42,7 +43,7 @@ LineFails TooLong n form s t = ⊥
 abbrev pub LineEnds : Result Unit ScriptFault → ℕ → Form → Standing → Standing → List ℕ → Type 0
 LineEnds (Ok done) n form s t text = IsWrittenFor form s t text
 LineEnds (Err (BadLine k)) n form s t text = (form ≡ Bad) × (k ≡ n) × (t ≡ s) × (text ≡ [])
-LineEnds (Err (PowerFault fault)) n form s t text = IsOther fault × (form ≡ Resets) × (text ≡ [])
+LineEnds (Err (PowerFault fault)) n form s t text = (form ≡ Resets) × FailsReset fault s t × (text ≡ [])
 LineEnds (Err WriteFailed) n form s t text = (answer : List ℕ) × IsWrittenFor form s t answer × IsCutOf answer text
 LineEnds (Err ReadFailed) n form s t text = ⊥
 LineEnds (Err TooLong) n form s t text = ⊥
@@ -51,7 +52,7 @@ LineEnds (Err TooLong) n form s t text = ⊥
 abbrev pub LinesEnd : Result Unit ScriptFault → List (List ℕ) → Standing → Standing → List ℕ → Type 0
 LinesEnd (Ok done) all s t text = AreCarriedOut all s t text
 LinesEnd (Err (BadLine n)) all s t text = StopsAtBad n all s t text
-LinesEnd (Err (PowerFault fault)) all s t text = IsOther fault × StopsAtReset all s text
+LinesEnd (Err (PowerFault fault)) all s t text = StopsAtReset fault all s t text
 LinesEnd (Err WriteFailed) all s t text = StopsInside all s t text
 LinesEnd (Err ReadFailed) all s t text = ⊥
 LinesEnd (Err TooLong) all s t text = ⊥

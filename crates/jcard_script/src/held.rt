@@ -1,9 +1,14 @@
 //! A card, or the store of a card that does not power up.
-ghost use Rattle.std.specs.Prelude.{◌≡◌, ℕ, OnOk, IfErr, MatchOption, true, false};
+ghost use Rattle.std.specs.Prelude.{◌≡◌, OnOk, IfErr, IfNone, IfSome};
+ghost use Rattle.jc_words.specs.Stores.{Fused};
+ghost use Rattle.jc_card.specs.CardState.{CardState};
 ghost use Rattle.jc_card.specs.Answers.{Answers};
-ghost use Rattle.jcard_script.specs.Script.{IsPoweredUp, IsOther};
-ghost use Rattle.jcard_script.specs.Held.{standing_of, durable_of, durable_words};
+ghost use Rattle.jcard_script.specs.Standing.{Up, Down, Holds, PowersUp, FailsUp, armed};
+ghost use Rattle.jcard_script.specs.Held.{standing_of};
+ghost use Rattle.jcard_script.specs.Reply.{text_of_reply};
+ghost use Rattle.jcard_script.specs.Script.{power_text};
 
+use crate::reply::Reply;
 use jc_card::card::Card;
 use jc_card::power_up::PowerFault;
 use jc_card::response::Response;
@@ -26,9 +31,8 @@ impl<S: WordStore> Held<S> {
         alloc: Global,
         mut store: FuseStore<S>,
     ) -> (Held<S>, Result<(), PowerFault>)
-        ensures powered { OnOk result.1 (IsPoweredUp store.refused (standing_of result.0)) }
-        ensures fault { IfErr result.1 (λ fault. IsOther fault) }
-        ensures durable { durable_of result.0 ≡ durable_words store.words }
+        ensures powered { OnOk result.1 (PowersUp store (standing_of result.0)) }
+        ensures fault { IfErr result.1 (λ fault. (after : Fused) × FailsUp store fault after × (standing_of result.0 ≡ Down after)) }
     {
         store.power_on();
         match Card::power_up(alloc, store) {
@@ -40,8 +44,7 @@ impl<S: WordStore> Held<S> {
 
     /// The store.
     pub(crate) fn into_store(self) -> FuseStore<S>
-        ensures refused { result.refused ≡ (standing_of self).refused }
-        ensures durable { durable_words result.words ≡ durable_of self }
+        ensures { Holds (standing_of self) result }
     {
         match self {
             Held::Card(card) => card.into_store(),
@@ -51,8 +54,7 @@ impl<S: WordStore> Held<S> {
 
     /// With the store's fuse armed: `k` further writes pass, and the next is refused.
     pub(crate) fn armed(self, k: u64) -> Held<S>
-        ensures standing { standing_of result ≡ standing_of self }
-        ensures durable { durable_of result ≡ durable_of self }
+        ensures { standing_of result ≡ armed k (standing_of self) }
     {
         match self {
             Held::Card(card) => {
@@ -69,10 +71,9 @@ impl<S: WordStore> Held<S> {
 
     /// The card's response to a command, if there is a card.
     pub(crate) fn exchange(&mut self, command: &[u8]) -> Option<Response>
-        ensures answer { MatchOption result ((standing_of self.old).up ≡ false)
-            (λ response. ((standing_of self.old).up ≡ true) × Answers command.now response) }
+        ensures some { IfSome result (λ response. (card : CardState) × (standing_of self.old ≡ Up card) × Answers command.now response) }
+        ensures none { IfNone result ((store : Fused) × (standing_of self.old ≡ Down store)) }
         ensures standing { standing_of self.new ≡ standing_of self.old }
-        ensures durable { durable_of self.new ≡ durable_of self.old }
     {
         match self {
             Held::Card(card) => Some(card.exchange(command)),
@@ -80,13 +81,13 @@ impl<S: WordStore> Held<S> {
         }
     }
 
-    /// Whether there is a card.
-    pub(crate) fn is_up(&self) -> bool
-        ensures { result ≡ (standing_of self.now).up }
+    /// What is told after a power up.
+    pub(crate) fn told(&self) -> Reply
+        ensures { text_of_reply result ≡ power_text (standing_of self.now) }
     {
         match self {
-            Held::Card(_) => true,
-            Held::Store(_) => false,
+            Held::Card(_) => Reply::Ready,
+            Held::Store(_) => Reply::Down,
         }
     }
 }

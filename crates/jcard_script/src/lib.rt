@@ -9,6 +9,4 @@ pub mod script;
 mod session;
 pub mod std_text;
 pub mod streams;
-#[cfg(test)]
-mod tests;
 mod word;

@@ -1,5 +1,5 @@
 //! What is written for a line.
-ghost use Rattle.std.specs.Prelude.{◌≡◌, ◌*◌, ◌++◌, length, is_err, MatchResult};
+ghost use Rattle.std.specs.Prelude.{◌≡◌, ◌*◌, length, is_err, MatchResult};
 ghost use Rattle.std.specs.Io.KnownBytes.{Appends};
 ghost use Rattle.hex.specs.Hex.{encode_upper};
 ghost use Rattle.jcard_script.specs.Failures.{failures_after};
@@ -7,7 +7,7 @@ ghost use Rattle.jcard_script.specs.Texts.{AppendsCut};
 ghost use Rattle.jcard_script.specs.Script.{text_of, armed_text};
 ghost use Rattle.jcard_script.specs.Reply.{text_of_reply};
 
-use crate::streams::{TextOut, WriteFailed, write_all};
+use crate::streams::{TextOut, WriteFailed, write_all, write_parts};
 use itoa::Buffer;
 use jc_card::response::Response;
 
@@ -49,24 +49,7 @@ fn write_armed<W: TextOut>(k: u16, writer: &mut W) -> Result<(), WriteFailed>
     ensures count { W.failures writer.new ≡ failures_after (W.failures writer.old) (is_err result) }
 {
     let mut digits = Buffer::new();
-    write_three(writer, b"armed ", digits.format(k).as_bytes(), b"\n")
-}
-
-// Writes three texts in a row.
-fn write_three<W: TextOut>(
-    writer: &mut W,
-    first: &[u8],
-    second: &[u8],
-    third: &[u8],
-) -> Result<(), WriteFailed>
-    ensures text { MatchResult result
-        (λ _. Appends (W.contents writer.old) (W.contents writer.new) (first.now ++ second.now ++ third.now))
-        (λ _. AppendsCut (W.contents writer.old) (W.contents writer.new) (first.now ++ second.now ++ third.now)) }
-    ensures count { W.failures writer.new ≡ failures_after (W.failures writer.old) (is_err result) }
-{
-    write_all(writer, first)?;
-    write_all(writer, second)?;
-    write_all(writer, third)
+    write_parts(writer, b"armed ", digits.format(k).as_bytes(), b"\n")
 }
 
 // Writes a response in hexadecimal, and a line feed.

@@ -1,13 +1,15 @@
 //! A script that is being carried out.
-ghost use Rattle.std.specs.Prelude.{◌≡◌, ◌+◌, ◌-◌, ◌^◌, ◌<◌, ◌≤◌, ℕ, List, [], ◌∷◌, ◌++◌, Bool, length, IsSome, IfOk, IfErr, OnOk, MatchBool, MatchResult, Err, false};
+ghost use Rattle.std.specs.Prelude.{◌≡◌, ◌+◌, ◌-◌, ◌^◌, ◌<◌, ◌≤◌, ℕ, List, [], ◌∷◌, ◌++◌, Bool, length, IsSome, IfOk, IfErr, OnOk, MatchResult, Err, false};
 ghost use Rattle.std.specs.Bool.{OnTrue};
 ghost use Rattle.std.specs.Io.KnownBytes.{Appends, Consumes};
 ghost use Rattle.std.specs.Str.Lines.{lines};
+ghost use Rattle.jc_words.specs.Stores.{Fused};
 ghost use Rattle.jcard_script.specs.Failures.{failures_after};
-ghost use Rattle.jcard_script.specs.Held.{standing_in, durable_in, durable_words};
+ghost use Rattle.jcard_script.specs.Held.{standing_in};
 ghost use Rattle.jcard_script.specs.Line.{AsksFor};
 ghost use Rattle.jcard_script.specs.Reply.{text_of_reply};
-ghost use Rattle.jcard_script.specs.Script.{EndsFrom, IsAnswered, IsOther, IsPoweredUp, IsWholeScript, IsWrittenFor, Standing, armed_text, down_text, form_of, ready_text, is_read_failed, is_write_failed, ended_lines};
+ghost use Rattle.jcard_script.specs.Script.{EndsFrom, IsAnswered, IsWholeScript, IsWrittenFor, armed_text, form_of, power_text, is_read_failed, is_write_failed, ended_lines};
+ghost use Rattle.jcard_script.specs.Standing.{Standing, Down, Holds, PowersUp, FailsUp, IsReset, FailsReset, armed};
 ghost use Rattle.jcard_script.specs.Session.{StandsAt, LineEnds, LineFails, LinesEnd};
 
 use crate::held::Held;
@@ -34,9 +36,8 @@ impl<S: WordStore + Drop> Session<S> {
     pub(crate) fn start(alloc: Global, fuse: FuseStore<S>) -> (Session<S>, Result<(), PowerFault>)
         ensures held { IsSome result.0.held }
         ensures stands { StandsAt result.0 (standing_in result.0.held) [] [] }
-        ensures powered { OnOk result.1 (IsPoweredUp fuse.refused (standing_in result.0.held)) }
-        ensures fault { IfErr result.1 (λ fault. IsOther fault) }
-        ensures durable { durable_in result.0.held ≡ durable_words fuse.words }
+        ensures powered { OnOk result.1 (PowersUp fuse (standing_in result.0.held)) }
+        ensures fault { IfErr result.1 (λ fault. (after : Fused) × FailsUp fuse fault after × (standing_in result.0.held ≡ Down after)) }
     {
         let (held, started) = Held::power_up(alloc, fuse);
         let session = Session {
@@ -51,8 +52,7 @@ impl<S: WordStore + Drop> Session<S> {
     /// The store.
     pub(crate) fn into_store(self) -> FuseStore<S>
         requires { IsSome self.held }
-        ensures refused { result.refused ≡ (standing_in self.held).refused }
-        ensures durable { durable_words result.words ≡ durable_in self.held }
+        ensures { Holds (standing_in self.held) result }
     {
         let Session {
             alloc: _,
@@ -79,7 +79,6 @@ impl<S: WordStore + Drop> Session<S> {
             × EndsFrom result at_end script (standing_in self.old.held) (standing_in self.new.held) text }
         ensures reads { R.failures reader.new ≡ failures_after (R.failures reader.old) (is_read_failed result) }
         ensures writes { W.failures writer.new ≡ failures_after (W.failures writer.old) (is_write_failed result) }
-        ensures durable { durable_in self.new.held ≡ durable_in self.old.held }
     {
         let mut piece = [0u8; 4096];
         let mut left = BOUND;
@@ -109,7 +108,6 @@ impl<S: WordStore + Drop> Session<S> {
             × OnOk result (StandsAt self.new first (script ++ piece.now) (text ++ more))
             × LinesEnd result (ended_lines (script ++ piece.now)) first (standing_in self.new.held) (text ++ more) }
         ensures writes { W.failures writer.new ≡ failures_after (W.failures writer.old) (is_write_failed result) }
-        ensures durable { durable_in self.new.held ≡ durable_in self.old.held }
     {
         for byte in piece {
             self.push(*byte, writer)?;
@@ -128,7 +126,6 @@ impl<S: WordStore + Drop> Session<S> {
             × OnOk result (StandsAt self.new first (script ++ byte ∷ []) (text ++ more))
             × LinesEnd result (ended_lines (script ++ byte ∷ [])) first (standing_in self.new.held) (text ++ more) }
         ensures writes { W.failures writer.new ≡ failures_after (W.failures writer.old) (is_write_failed result) }
-        ensures durable { durable_in self.new.held ≡ durable_in self.old.held }
     {
         if byte == b'\n' {
             return self.end_line(writer);
@@ -148,7 +145,6 @@ impl<S: WordStore + Drop> Session<S> {
             × OnOk result (StandsAt self.new first (script ++ 10 ∷ []) (text ++ more))
             × LinesEnd result (ended_lines (script ++ 10 ∷ [])) first (standing_in self.new.held) (text ++ more) }
         ensures writes { W.failures writer.new ≡ failures_after (W.failures writer.old) (is_write_failed result) }
-        ensures durable { durable_in self.new.held ≡ durable_in self.old.held }
     {
         let asked = self.line.ended();
         self.number += 1;
@@ -166,7 +162,6 @@ impl<S: WordStore + Drop> Session<S> {
             → (more : List ℕ) × Appends (W.contents writer.old) (W.contents writer.new) more
             × LinesEnd result (lines script) first (standing_in self.new.held) (text ++ more) }
         ensures writes { W.failures writer.new ≡ failures_after (W.failures writer.old) (is_write_failed result) }
-        ensures durable { durable_in self.new.held ≡ durable_in self.old.held }
     {
         let asked = self.line.last();
         self.number += 1;
@@ -182,7 +177,6 @@ impl<S: WordStore + Drop> Session<S> {
             → (more : List ℕ) × Appends (W.contents writer.old) (W.contents writer.new) more
             × LineEnds result self.old.number (form_of line) (standing_in self.old.held) (standing_in self.new.held) more }
         ensures writes { W.failures writer.new ≡ failures_after (W.failures writer.old) (is_write_failed result) }
-        ensures durable { durable_in self.new.held ≡ durable_in self.old.held }
     {
         match self.reply(asked) {
             Ok(reply) => match write_reply(&reply, writer) {
@@ -202,7 +196,6 @@ impl<S: WordStore + Drop> Session<S> {
             (λ reply. IsWrittenFor (form_of line) (standing_in self.old.held) (standing_in self.new.held) (text_of_reply reply))
             (λ fault. LineFails fault self.old.number (form_of line) (standing_in self.old.held) (standing_in self.new.held)) }
         ensures unwritten { IfErr result (λ fault. is_write_failed (Err fault) ≡ false) }
-        ensures durable { durable_in self.new.held ≡ durable_in self.old.held }
     {
         match asked {
             Asked::Nothing => Ok(Reply::Silent),
@@ -221,9 +214,7 @@ impl<S: WordStore + Drop> Session<S> {
         requires held { IsSome self.old.held }
         ensures held { IsSome self.new.held }
         ensures number { self.new.number ≡ self.old.number }
-        ensures answer { IsAnswered (standing_in self.old.held).up command.now (text_of_reply result) }
-        ensures standing { standing_in self.new.held ≡ standing_in self.old.held }
-        ensures durable { durable_in self.new.held ≡ durable_in self.old.held }
+        ensures answer { IsAnswered command.now (standing_in self.old.held) (standing_in self.new.held) (text_of_reply result) }
     {
         let Some(held) = &mut self.held else {
             return Reply::Down;
@@ -239,20 +230,18 @@ impl<S: WordStore + Drop> Session<S> {
         requires held { IsSome self.old.held }
         ensures held { IsSome self.new.held }
         ensures number { self.new.number ≡ self.old.number }
-        ensures ready { IfOk result (λ reply. IsPoweredUp (standing_in self.old.held).refused (standing_in self.new.held)
-            × MatchBool (standing_in self.new.held).up (text_of_reply reply ≡ ready_text) (text_of_reply reply ≡ down_text)) }
-        ensures fault { IfErr result (λ fault. IsOther fault) }
-        ensures durable { durable_in self.new.held ≡ durable_in self.old.held }
+        ensures powered { IfOk result (λ reply. IsReset (standing_in self.old.held) (standing_in self.new.held)
+            × (text_of_reply reply ≡ power_text (standing_in self.new.held))) }
+        ensures fault { IfErr result (λ fault. FailsReset fault (standing_in self.old.held) (standing_in self.new.held)) }
     {
         let store = self.held.take().unwrap().into_store();
         let (held, result) = Held::power_up(self.alloc, store);
-        let is_up = held.is_up();
+        let reply = held.told();
         self.held = Some(held);
-        result?;
-        if is_up {
-            return Ok(Reply::Ready);
+        match result {
+            Ok(()) => Ok(reply),
+            Err(fault) => Err(fault),
         }
-        Ok(Reply::Down)
     }
 
     // Arms the fuse.
@@ -261,8 +250,7 @@ impl<S: WordStore + Drop> Session<S> {
         ensures held { IsSome self.new.held }
         ensures number { self.new.number ≡ self.old.number }
         ensures armed { text_of_reply result ≡ armed_text k }
-        ensures standing { standing_in self.new.held ≡ standing_in self.old.held }
-        ensures durable { durable_in self.new.held ≡ durable_in self.old.held }
+        ensures standing { standing_in self.new.held ≡ armed k (standing_in self.old.held) }
     {
         let held = self.held.take().unwrap();
         self.held = Some(held.armed(u64::from(k)));

@@ -1,5 +1,5 @@
 //! Text that comes in and goes out in pieces.
-ghost use Rattle.std.specs.Prelude.{◌≡◌, ◌<◌, ◌≤◌, ℕ, List, Option, length, is_err, MatchResult, IfOk};
+ghost use Rattle.std.specs.Prelude.{◌≡◌, ◌<◌, ◌≤◌, ◌++◌, ℕ, List, Option, length, is_err, MatchResult, IfOk};
 ghost use Rattle.std.specs.Io.{ReadsAtMost};
 ghost use Rattle.std.specs.Io.KnownBytes.{Appends, ReadConsumes, WriteAppends};
 ghost use Rattle.jcard_script.specs.Failures.{failures_after};
@@ -62,4 +62,21 @@ pub fn write_all<W: TextOut>(writer: &mut W, bytes: &[u8]) -> Result<(), WriteFa
         done += writer.write(&bytes[done..])?;
     }
     Ok(())
+}
+
+/// Writes three texts one after another, and stops at the first write that fails.
+pub fn write_parts<W: TextOut>(
+    writer: &mut W,
+    first: &[u8],
+    second: &[u8],
+    third: &[u8],
+) -> Result<(), WriteFailed>
+    ensures text { MatchResult result
+        (λ _. Appends (W.contents writer.old) (W.contents writer.new) (first.now ++ second.now ++ third.now))
+        (λ _. AppendsCut (W.contents writer.old) (W.contents writer.new) (first.now ++ second.now ++ third.now)) }
+    ensures count { W.failures writer.new ≡ failures_after (W.failures writer.old) (is_err result) }
+{
+    write_all(writer, first)?;
+    write_all(writer, second)?;
+    write_all(writer, third)
 }

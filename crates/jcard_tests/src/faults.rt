@@ -1,6 +1,6 @@
 //! Code faults.
 use crate::running::{Case, bytes_of, end_of, run_all};
-use jc_interp::outcome::Outcome;
+use jc_frames::Outcome;
 use std::test::Fail;
 
 const UNDER: [Case; 6] = [

@@ -1,6 +1,6 @@
 //! Branches: each condition with both outcomes, in both forms and both directions; the other jumps.
 use crate::running::{Case, bytes_of, end_of, run_all};
-use jc_interp::outcome::Outcome;
+use jc_frames::Outcome;
 use std::test::Fail;
 
 /// The opcode of a conditional branch, what is pushed before it, and whether it is taken.

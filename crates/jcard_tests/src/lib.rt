@@ -1,11 +1,13 @@
-//! Tests of the card's crates together: instructions with values from the standard's descriptions, and
-//! worked scripts. It has no code of its own.
+//! Tests of the card's crates together: instructions with values from the standard's descriptions. It has
+//! no code of its own.
 #![tactic(auto)]
 
 #[cfg(test)]
 mod decoding;
 #[cfg(test)]
 mod faults;
+#[cfg(test)]
+mod framing;
 #[cfg(test)]
 mod instructions;
 #[cfg(test)]
@@ -14,7 +16,5 @@ mod jumps;
 mod operands;
 #[cfg(test)]
 mod running;
-#[cfg(test)]
-mod scripts;
 #[cfg(test)]
 mod stack_order;

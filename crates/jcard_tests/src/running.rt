@@ -1,6 +1,7 @@
 //! Running a method given in hexadecimal.
+use jc_frames::Outcome;
 use jc_interp::machine::Machine;
-use jc_interp::outcome::{Outcome, Status};
+use jc_interp::status::Status;
 use std::test::Fail;
 
 /// More instructions than any of the methods carries out.
@@ -24,13 +25,19 @@ pub(crate) fn bytes_of(rt: &HostRuntime, text: &str) -> Result<Vec<u8>, Fail> {
     )
 }
 
-/// How a method with so many cells on its stack and four locals ends.
-pub(crate) fn end_of(max_stack: u8, code: &[u8]) -> Result<Outcome, Fail> {
+/// What a run of a method with so many cells on its stack and four locals leaves.
+pub(crate) fn status_of(max_stack: u8, code: &[u8]) -> Result<Status, Fail> {
     if code.len() > 65_535 {
         return Err("a method is shorter".into());
     }
-    match Machine::of_code(max_stack, 4, code).run(MANY) {
+    Ok(Machine::of_code(max_stack, 4, code).run(MANY))
+}
+
+/// How such a method ends.
+pub(crate) fn end_of(max_stack: u8, code: &[u8]) -> Result<Outcome, Fail> {
+    match status_of(max_stack, code)? {
         Status::Ended(outcome) => Ok(outcome),
+        Status::Uncaught(_) => Err("it throws".into()),
         Status::Running => Err("it goes on".into()),
     }
 }

@@ -1,6 +1,6 @@
 //! `pop`, `pop2`, `dup`, `dup2`, and `dup_x` and `swap_x` with every operand that they take.
 use crate::running::{Case, end_of, run_all};
-use jc_interp::outcome::Outcome;
+use jc_frames::Outcome;
 use std::test::Fail;
 
 const PLAIN: [Case; 6] = [

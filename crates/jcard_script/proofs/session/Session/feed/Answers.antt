@@ -24,5 +24,4 @@ loop-byte-init g c = record {
   failures = refl;
   goes = λ script text first h.
       ([], appends_same _, subst (λ l. StandsAt c.args.self.now first l (text ++ [])) (sym (append-nil script)) (subst (λ t. StandsAt c.args.self.now first script t) (sym (append-nil text)) h));
-  durable = refl;
 }

@@ -1,8 +1,7 @@
 use Rattle.std.proofs.Common.{◌≡◌, ◌+◌, ◌≤◌, ℕ, List, ◌++◌, take}
 use Rattle.std.specs.Prelude.{IsSome}
 use Rattle.std.specs.Io.KnownBytes.{Appends}
-use Rattle.jcard_script.specs.Held.{durable_in}
-use Rattle.jcard_script.specs.Script.{Standing}
+use Rattle.jcard_script.specs.Standing.{Standing}
 use Rattle.jcard_script.specs.Session.{StandsAt}
 use Rattle.jcard_script.proofs.session.Session.feed.Given as goal
 
@@ -14,5 +13,4 @@ invariant-loop-byte g l = record {
   goes : (script text : List ℕ) → (first : Standing) → StandsAt l.fn.self first script text
       → (more : List ℕ) × Appends (g.W.TextOut.contents l.fn.writer) (g.W.TextOut.contents l.writer) more
       × StandsAt l.self first (script ++ take l.byte-index l.piece) (text ++ more);
-  durable : durable_in l.self.held ≡ durable_in l.fn.self.held;
 }

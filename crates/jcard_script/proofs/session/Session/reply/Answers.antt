@@ -9,5 +9,5 @@ use Rattle.jcard_script.proofs.session.Session.reply.Goals as goal
 pub returns-in-Exchange-clause-goes : goal.returns-in-Exchange-clause-goes
 returns-in-Exchange-clause-goes g c = λ line h.
     let k = rw c.in-Exchange.is at h in
-    let answered = answered_whole (standing_in c.args.self.now.held).up k.0 c.as_slice.result.now (text_of_reply c.exchange.result) (command_bytes line k.0 (form_command line k.0 k.1)) (c.as_slice.ensures.value ∙ k.2) c.exchange.ensures.answer in
-    rw k.1 (c.exchange.ensures.standing, answered)
+    let answered = answered_whole (standing_in c.args.self.now.held) (standing_in c.exchange.new.self.held) k.0 c.as_slice.result.now (text_of_reply c.exchange.result) (command_bytes line k.0 (form_command line k.0 k.1)) (c.as_slice.ensures.value ∙ k.2) c.exchange.ensures.answer in
+    rw k.1 answered

@@ -109,7 +109,6 @@ loop-count-preserved g c =
     record {
       reads = search rules;
       held = search rules;
-      durable = search rules;
       writes = search rules;
       stands = (
         s.0 ++ piece,

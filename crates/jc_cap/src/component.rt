@@ -1,0 +1,77 @@
+//! One component of any tag.
+ghost use Rattle.std.specs.Prelude.{◌≡◌, ◌<◌, ◌^◌, length, Ok, IfOk};
+ghost use Rattle.jc_cap_fields.specs.Reading.{Gives};
+ghost use Rattle.jc_cap.specs.Contents.{Content};
+ghost use Rattle.jc_cap.specs.Components.{content_at, component_at, IsComponent};
+ghost use Rattle.jc_cap.specs.Views.{content};
+
+use jc_cap_code::classes::{Classes, read_class};
+use jc_cap_code::methods::{Methods, read_method};
+use jc_cap_code::statics::{StaticFields, read_static_field};
+use jc_cap_fields::fault::CapFault;
+use jc_cap_fields::formats::Format;
+use jc_cap_text::applets::{Applets, read_applets};
+use jc_cap_text::directory::{Directory, read_directory};
+use jc_cap_text::envelope::info_of;
+use jc_cap_text::exports::{Exports, read_exports};
+use jc_cap_text::header::{Header, read_header};
+use jc_cap_text::imports::{Imports, read_imports};
+use jc_cap_text::pool::{ConstantPool, read_pool};
+
+/// What a component says. It is lent from the component's bytes.
+#[derive(Drop)]
+pub enum Component<'a> {
+    Header(Header<'a>),
+    Directory(Directory<'a>),
+    Applet(Applets<'a>),
+    Import(Imports<'a>),
+    ConstantPool(ConstantPool<'a>),
+    Class(Classes<'a>),
+    Method(Methods<'a>),
+    StaticField(StaticFields<'a>),
+    Export(Exports<'a>),
+    /// ReferenceLocation, Descriptor, Debug or a custom component: its tag and its size are right, and it is not used.
+    Unused,
+}
+
+/// What the info of the component with this tag says.
+#[tactic(auto, unfolding(crate::specs::Components::content_at))]
+fn of_info(format: Format, tag: u8, info: &[u8]) -> Result<Component<'_>, CapFault>
+    requires { length info.now < 2 ^ 16 }
+    ensures { Gives content result (content_at format tag info.now) }
+{
+    match tag {
+        1 => Ok(Component::Header(read_header(format, info)?)),
+        2 => Ok(Component::Directory(read_directory(format, info)?)),
+        3 => Ok(Component::Applet(read_applets(info)?)),
+        4 => Ok(Component::Import(read_imports(info)?)),
+        5 => Ok(Component::ConstantPool(read_pool(info)?)),
+        6 => Ok(Component::Class(read_class(format, info)?)),
+        7 => Ok(Component::Method(read_method(info)?)),
+        8 => Ok(Component::StaticField(read_static_field(info)?)),
+        10 => Ok(Component::Export(read_exports(info)?)),
+        _ => Ok(Component::Unused),
+    }
+}
+
+#[tactic(auto, unfolding(crate::specs::Components::component_at))]
+fn of_bytes(format: Format, tag: u8, bytes: &[u8]) -> Result<Component<'_>, CapFault>
+    ensures { Gives content result (component_at format tag bytes.now) }
+{
+    let info = info_of(tag, bytes)?;
+    of_info(format, tag, info)
+}
+
+/// The component with this tag that the bytes are, all of the bytes: the tag, two bytes of size, and the info.
+///
+/// The tag is 1 to 12 or 128 to 255. No memory is taken, and nothing is copied.
+pub fn read_component(format: Format, tag: u8, bytes: &[u8]) -> Result<Component<'_>, CapFault>
+    // What is read stands in the bytes.
+    ensures found { IfOk result (λ c. IsComponent format tag (content c) bytes.now) }
+    // A component that the bytes are is read.
+    ensures only { (x : Content) → IsComponent format tag x bytes.now → Gives content result (Ok x) }
+    // Otherwise the fault is the first one from the left.
+    ensures exact { Gives content result (component_at format tag bytes.now) }
+{
+    of_bytes(format, tag, bytes)
+}

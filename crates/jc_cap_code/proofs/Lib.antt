@@ -1,0 +1,12 @@
+pub mod Texts
+pub mod MethodTelling
+pub mod StaticTelling
+pub mod Sizes
+pub mod Offsets
+pub mod Supers
+pub mod Among
+pub mod ClassTelling
+pub mod RecordWalk
+pub mod Starts
+pub mod Every
+pub mod ArraySizes

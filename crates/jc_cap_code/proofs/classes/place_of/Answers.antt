@@ -1,0 +1,9 @@
+use Rattle.jc_cap_code.specs.ClassReading.{is_among}
+use Rattle.jc_cap_code.proofs.RecordWalk.{among_goes_on, among_ends}
+use Rattle.jc_cap_code.proofs.classes.place_of.Goals as goal
+
+pub loop-i-preserved : goal.loop-i-preserved
+loop-i-preserved c = among_goes_on c.args.offset c.args.offsets.now c.loop-i.i c.offset_at-here.result (is_among c.args.offset c.args.offsets.now) c.offset_at-here.ensures c.if-here-offset.false c.loop-i.invariant
+
+pub returns : goal.returns
+returns c = among_ends c.args.offset c.args.offsets.now c.loop-i.i c.loop-i-test.false c.loop-i.invariant

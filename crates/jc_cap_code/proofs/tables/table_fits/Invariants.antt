@@ -1,0 +1,7 @@
+use Rattle.std.proofs.Common.{◌≡◌, drop}
+use Rattle.jc_cap_code.specs.MethodViews.{method_parts}
+use Rattle.jc_cap_code.specs.Tables.{every, entry_fits}
+use Rattle.jc_cap_code.proofs.tables.table_fits.Given as goal
+
+abbrev pub invariant-loop-i : goal.invariant-loop-i
+invariant-loop-i l = every (entry_fits (method_parts l.methods) l.inherits) (drop l.i l.offsets) ≡ every (entry_fits (method_parts l.methods) l.inherits) l.offsets

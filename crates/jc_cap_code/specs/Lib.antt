@@ -1,0 +1,15 @@
+pub mod Implemented
+pub mod ClassValues
+pub mod ClassReading
+pub mod ClassGrammar
+pub mod MethodValues
+pub mod MethodReading
+pub mod MethodGrammar
+pub mod StaticValues
+pub mod StaticReading
+pub mod StaticGrammar
+pub mod StaticViews
+pub mod MethodViews
+pub mod ImplementedViews
+pub mod Known
+pub mod Tables

@@ -1,0 +1,15 @@
+-- What is lent from a Method component, without where it lies.
+use Rattle.std.specs.Prelude.{Option, Some, None}
+use Rattle.jc_cap_code.specs.declared.methods.Method.{Method}
+use Rattle.jc_cap_code.specs.declared.methods.Methods.{Methods}
+use Rattle.jc_cap_code.specs.MethodValues.{MethodParts, MethodText}
+
+abbrev pub method_parts : Methods → MethodParts
+method_parts m = record { handlers = m.handlers; code = m.code.now }
+
+abbrev pub method_text : Method → MethodText
+method_text m = record { header = m.header; bytes = m.bytes.now }
+
+abbrev pub found_method : Option Method → Option MethodText
+found_method (Some m) = Some (method_text m)
+found_method None = None

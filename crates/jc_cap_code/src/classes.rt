@@ -1,0 +1,169 @@
+//! The Class component.
+ghost use Rattle.std.specs.Prelude.{◌≡◌, ◌<◌, ◌^◌, List, length, false, Some, Ok, IsOk, IfOk, MatchOption, slice_get};
+ghost use Rattle.jc_cap_fields.specs.Reading.{Gives};
+ghost use Rattle.jc_cap_code.specs.ClassValues.{Placed, offsets_of, contents_of};
+ghost use Rattle.jc_cap_code.specs.ClassReading.{is_among, records_start, classes_of, placed_offsets};
+ghost use Rattle.jc_cap_code.specs.ClassGrammar.{AreClasses};
+
+use crate::class_reading::{Known, is_among, read_record};
+use crate::class_records::ClassRecord;
+use arrayvec::ArrayVec;
+use jc_cap_fields::fault::CapFault;
+use jc_cap_fields::formats::Format;
+use std::marker::Model;
+
+/// What stands behind the things in front of the records.
+fn records_start(format: Format, info: &[u8]) -> Result<&[u8], CapFault>
+    ensures { Gives (λ x. x.now) result (records_start format info.now) }
+{
+    match format {
+        Format::V2_1 => Ok(info),
+    }
+}
+
+/// The offsets of all records.
+fn record_offsets(format: Format, info: &[u8]) -> Result<ArrayVec<u16, 256>, CapFault>
+    requires { length info.now < 2 ^ 16 }
+    ensures { Gives (λ o. o.items) result (placed_offsets (classes_of format info.now)) }
+{
+    let mut before: ArrayVec<u16, 256> = ArrayVec::new();
+    let mut rest = records_start(format, info)?;
+    while !rest.is_empty() {
+        if before.len() == 256 {
+            return Err(CapFault::BadOffset);
+        }
+        let (_, next) = read_record(Known::Earlier(before.as_slice()), rest)?;
+        before.push((info.len() - rest.len()) as u16);
+        rest = next;
+    }
+    Ok(before)
+}
+
+fn offset_at(offsets: &[u16], number: usize) -> u16
+    requires { number < length offsets.now }
+    ensures { slice_get offsets.now number ≡ Some result }
+{
+    offsets[number]
+}
+
+/// The place of the offset in the list.
+fn place_of(offset: u16, offsets: &[u16]) -> Option<usize>
+    ensures { MatchOption result (is_among offset offsets.now ≡ false) (λ i. slice_get offsets.now i ≡ Some offset) }
+{
+    for i in 0..offsets.len() {
+        let here = offset_at(offsets, i);
+        if here == offset {
+            return Some(i);
+        }
+    }
+    None
+}
+
+/// The classes and interfaces of a package, in the order of their records. They are lent from the component.
+///
+/// A class's number is its place among the records, of which there are 256 at most.
+#[derive(Drop)]
+pub struct Classes<'a> {
+    format: Format,
+    info: &'a [u8],
+    offsets: ArrayVec<u16, 256>,
+}
+
+impl<'a> Model for Classes<'a> {
+    ghost use Rattle.std.specs.Prelude.{◌≡◌, List, Ok};
+    ghost use Rattle.jc_cap_code.specs.ClassValues.{Placed, offsets_of};
+    ghost use Rattle.jc_cap_code.specs.ClassReading.{classes_of, placed};
+
+    ghost Value = { List Placed };
+
+    ghost view = { λ a. placed (classes_of a.format a.info.now) };
+
+    ghost invariant = { λ a. (classes_of a.format a.info.now ≡ Ok (placed (classes_of a.format a.info.now)))
+        × (a.offsets.items ≡ offsets_of (placed (classes_of a.format a.info.now))) };
+}
+
+fn read_classes(format: Format, info: &[u8]) -> Result<Classes<'_>, CapFault>
+    requires { length info.now < 2 ^ 16 }
+    ensures { Gives (λ x. x) result (classes_of format info.now) }
+{
+    let offsets = record_offsets(format, info)?;
+    let classes = Classes {
+        format,
+        info,
+        offsets,
+    };
+    Ok(classes)
+}
+
+/// Reads the info of a Class component.
+///
+/// The faults, record after record from the left: BadOffset for a 257th record; Remote for a remote interface; BadOffset
+/// for a reserved flag, for a superclass or superinterface of this package that is no earlier record, and where the
+/// fields that hold references don't lie among the declared ones; Truncated.
+pub fn read_class(format: Format, info: &[u8]) -> Result<Classes<'_>, CapFault>
+    requires { length info.now < 2 ^ 16 }
+    // What is read stands in the info.
+    ensures found { IfOk result (λ x. AreClasses format x info.now) }
+    // An info that is a Class component is read.
+    ensures only { (rs : List Placed) → AreClasses format rs info.now → Gives (λ x. x) result (Ok rs) }
+    // Otherwise the fault is the first one from the left.
+    ensures exact { Gives (λ x. x) result (classes_of format info.now) }
+{
+    read_classes(format, info)
+}
+
+/// The same, of an info that was read before.
+pub fn reopen_class(format: Format, info: &[u8]) -> Classes<'_>
+    requires fits { length info.now < 2 ^ 16 }
+    requires was_read { IsOk (classes_of format info.now) }
+    ensures { classes_of format info.now ≡ Ok result }
+{
+    match read_classes(format, info) {
+        Ok(classes) => classes,
+        Err(_) => unreachable!(),
+    }
+}
+
+impl<'a> Classes<'a> {
+    /// How many there are, 256 at most.
+    pub fn count(&self) -> usize
+        ensures { result ≡ length self.now }
+    {
+        self.offsets.len()
+    }
+
+    /// The offset, in the info, of the record with this number.
+    pub fn offset(&self, number: usize) -> u16
+        requires { number < length self.now }
+        ensures { slice_get (offsets_of self.now) number ≡ Some result }
+    {
+        offset_at(self.offsets.as_slice(), number)
+    }
+
+    /// Whether a record begins at this offset.
+    pub fn begins_record(&self, offset: u16) -> bool
+        ensures { result ≡ is_among offset (offsets_of self.now) }
+    {
+        is_among(offset, self.offsets.as_slice())
+    }
+
+    /// The number of the record that begins at this offset, if one does.
+    pub fn number_of(&self, offset: u16) -> Option<usize>
+        ensures { MatchOption result (is_among offset (offsets_of self.now) ≡ false) (λ i. slice_get (offsets_of self.now) i ≡ Some offset) }
+    {
+        place_of(offset, self.offsets.as_slice())
+    }
+
+    /// The record with this number.
+    pub fn get(&self, number: usize) -> ClassRecord<'a>
+        requires { number < length self.now }
+        ensures { slice_get (contents_of self.now) number ≡ Some result }
+    {
+        let at = offset_at(self.offsets.as_slice(), number);
+        let (_, bytes) = self.info.split_at(at as usize);
+        match read_record(Known::Any, bytes) {
+            Ok((record, _)) => record,
+            Err(_) => unreachable!(),
+        }
+    }
+}

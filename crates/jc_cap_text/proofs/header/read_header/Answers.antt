@@ -1,0 +1,11 @@
+use Rattle.jc_cap_fields.proofs.Wholes.{is_found, is_only}
+use Rattle.jc_cap_text.specs.Header.{header_at, IsHeader}
+use Rattle.jc_cap_text.proofs.ToldHeader.{header_tells}
+use Rattle.jc_cap_text.specs.Views.{head}
+use Rattle.jc_cap_text.proofs.header.read_header.Goals as goal
+
+pub returns-clause-found : goal.returns-clause-found
+returns-clause-found c = is_found head (header_at c.args.format) (IsHeader c.args.format) (header_tells c.args.format) c.args.info.now c.whole_header.result c.whole_header.ensures
+
+pub returns-clause-only : goal.returns-clause-only
+returns-clause-only c = is_only head (header_at c.args.format) (IsHeader c.args.format) (header_tells c.args.format) c.args.info.now c.whole_header.result c.whole_header.ensures

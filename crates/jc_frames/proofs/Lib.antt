@@ -1,0 +1,4 @@
+pub mod Stores
+pub mod Orders
+pub mod Entered
+pub mod Buried

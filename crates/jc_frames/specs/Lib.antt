@@ -1,0 +1,4 @@
+pub mod Cells
+pub mod Frames
+pub mod Layout
+pub mod Calls

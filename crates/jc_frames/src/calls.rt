@@ -1,0 +1,87 @@
+//! Calls and returns.
+ghost use Rattle.std.specs.Prelude.{IsNone, ◌≡◌};
+ghost use Rattle.std.specs.Option.{option_map};
+ghost use Rattle.jc_frames.specs.Frames.{in_frame, unless_fault};
+ghost use Rattle.jc_frames.specs.Calls.{entered, left_to, received};
+
+use crate::cell::Cell;
+use crate::frames::{Frames, MOST_CELLS, MOST_FRAMES, Region, Saved, push_zeros};
+use crate::method::{CallKind, Entry, Resume};
+use crate::outcome::CodeFault;
+
+impl Frames {
+    /// Begins the frame of a method that is called: the arguments on top of the caller's stack become
+    /// its first locals.
+    pub fn enter(&mut self, entry: Entry) -> Result<(), CodeFault>
+        ensures { unless_fault result self.new ≡ entered entry self.old }
+    {
+        let length = self.cells.len();
+        let arguments = usize::from(entry.arguments);
+        let height = length - self.current.bottom;
+        if height < arguments {
+            return Err(CodeFault);
+        }
+        let callers = self.saved.len();
+        let frames = callers + 2;
+        if frames > MOST_FRAMES {
+            return Err(CodeFault);
+        }
+        let locals = usize::from(entry.locals);
+        let limit = usize::from(entry.limit);
+        let base = length - arguments;
+        let bottom = length + locals;
+        let ceiling = bottom + limit;
+        if ceiling > MOST_CELLS {
+            return Err(CodeFault);
+        }
+        push_zeros(&mut self.cells, entry.locals);
+        self.saved.push(Saved {
+            region: self.current,
+            resume: entry.resume,
+        });
+        self.current = Region {
+            base,
+            bottom,
+            ceiling,
+            place: entry.place,
+            origin: entry.origin,
+        };
+        Ok(())
+    }
+
+    /// Ends the frame that runs: its caller's goes on. `None`, and nothing changes, where nothing
+    /// called it.
+    pub fn leave(&mut self) -> Option<Resume>
+        ensures caller { left_to self.old.callers ≡ option_map (λ resume. (resume, self.new)) result }
+        ensures same { IsNone result → self.new ≡ self.old }
+    {
+        let caller = self.saved.pop()?;
+        self.cells.truncate(self.current.base);
+        self.current = caller.region;
+        Some(caller.resume)
+    }
+
+    /// What the return of the frame that runs comes back to; `None` where nothing called it.
+    pub fn resume(&self) -> Option<Resume>
+        ensures { result ≡ option_map (λ p. p.0) (left_to self.now.callers) }
+    {
+        Some(self.saved.last()?.resume)
+    }
+
+    /// Puts what a called method hands over on the stack of its caller, which goes on.
+    pub fn receive(&mut self, call: CallKind, value: Option<Cell>) -> Result<(), CodeFault>
+        ensures { unless_fault result self.new ≡ in_frame self.old (received call value self.old.current) }
+    {
+        let _ = &self.cells;
+        match call {
+            CallKind::Plain => match value {
+                Some(cell) => self.try_push(cell),
+                None => Ok(()),
+            },
+            CallKind::Sharing => match value.ok_or(CodeFault)? {
+                Cell::Reference(r) => self.try_push(Cell::Reference(r)),
+                _ => Err(CodeFault),
+            },
+        }
+    }
+}

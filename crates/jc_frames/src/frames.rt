@@ -1,0 +1,124 @@
+//! The frames of a run, and the reads of the frame that runs.
+ghost use Rattle.std.specs.Prelude.{◌≡◌, ◌+◌, ◌<◌, ◌≤◌, ◌++◌, [], length, pos, replicate};
+ghost use Rattle.jc_frames.specs.declared.cell.Cell.TheVariants.{Short};
+ghost use Rattle.jc_frames.specs.Frames.{Frames};
+ghost use Rattle.jc_frames.specs.Calls.{first_frame};
+
+use crate::cell::Cell;
+use crate::method::{Origin, Resume};
+use arrayvec::ArrayVec;
+use std::marker::Model;
+
+/// The most cells of all frames.
+pub const MOST_CELLS: usize = 512;
+
+/// The most frames.
+pub const MOST_FRAMES: usize = 32;
+
+/// Where the cells of a frame lie: its locals from `base` on, its stack from `bottom` on and below
+/// `ceiling`.
+#[derive(Clone, Copy, Default)]
+pub(crate) struct Region {
+    pub(crate) base: usize,
+    pub(crate) bottom: usize,
+    pub(crate) ceiling: usize,
+    pub(crate) place: u16,
+    pub(crate) origin: Origin,
+}
+
+/// A frame that waits for a call.
+#[derive(Clone, Copy, Default)]
+pub(crate) struct Saved {
+    pub(crate) region: Region,
+    pub(crate) resume: Resume,
+}
+
+/// The frame that runs, and its callers.
+#[derive(Drop)]
+pub struct Frames {
+    pub(crate) cells: ArrayVec<Cell, MOST_CELLS>,
+    pub(crate) current: Region,
+    pub(crate) saved: ArrayVec<Saved, 31>,
+}
+
+impl Model for Frames {
+    ghost use Rattle.std.specs.Prelude.{◌≤◌, length, reverse};
+    ghost use Rattle.jc_frames.specs.Frames.{Frames};
+    ghost use Rattle.jc_frames.specs.Layout.{frames_of, AreStacked};
+
+    ghost Value = { Frames };
+
+    ghost view = { λ f. frames_of f.cells.items f.current (reverse f.saved.items) };
+
+    ghost invariant = { λ f. (f.current.base ≤ f.current.bottom) × (f.current.bottom ≤ length f.cells.items) × (length f.cells.items ≤ f.current.ceiling) × (f.current.ceiling ≤ 512)
+        × AreStacked f.current.base (reverse f.saved.items) };
+}
+
+impl Frames {
+    /// The frame of a method with these arguments, which nothing called.
+    pub fn begin(arguments: &[Cell], locals: u8, limit: u8, place: u16, origin: Origin) -> Self
+        requires { length arguments.now + locals + limit ≤ 512 }
+        ensures { result ≡ record { current = first_frame arguments.now locals limit place origin; callers = [] } }
+    {
+        let mut cells = ArrayVec::new();
+        push_all(&mut cells, arguments);
+        push_zeros(&mut cells, locals);
+        let bottom = cells.len();
+        Frames {
+            cells,
+            current: Region {
+                base: 0,
+                bottom,
+                ceiling: bottom + usize::from(limit),
+                place,
+                origin,
+            },
+            saved: ArrayVec::new(),
+        }
+    }
+
+    /// The place of the next instruction.
+    #[inline(always)]
+    pub fn place(&self) -> u16
+        ensures { result ≡ self.now.current.place }
+    {
+        let Region { place, .. } = self.current;
+        place
+    }
+
+    /// Moves the next instruction.
+    #[inline(always)]
+    pub fn set_place(&mut self, place: u16)
+        ensures { self.new ≡ record self.old { current = record self.old.current { place = place } } }
+    {
+        self.current.place = place;
+    }
+
+    /// The method that runs.
+    #[inline]
+    pub fn origin(&self) -> Origin
+        ensures { result ≡ self.now.current.origin }
+    {
+        self.current.origin
+    }
+}
+
+// Puts cells behind the others.
+fn push_all(cells: &mut ArrayVec<Cell, MOST_CELLS>, more: &[Cell])
+    requires { length cells.old.items + length more.now ≤ 512 }
+    ensures { cells.new.items ≡ cells.old.items ++ more.now }
+{
+    for cell in more {
+        cells.push(*cell);
+    }
+}
+
+// Puts cells that are short 0 behind the others.
+pub(crate) fn push_zeros(cells: &mut ArrayVec<Cell, MOST_CELLS>, count: u8)
+    requires { length cells.old.items + count ≤ 512 }
+    ensures { cells.new.items ≡ cells.old.items ++ replicate count (Short (pos 0)) }
+{
+    for _done in 0..count {
+        cells.push(Cell::Short(0));
+    }
+}

@@ -1,0 +1,50 @@
+//! Which method a frame runs, and what it comes back to.
+
+/// Which method a frame runs, and for whom.
+#[derive(Clone, Copy, PartialEq, Eq, Debug, Default)]
+pub struct Origin {
+    /// The number of the package that the method belongs to.
+    pub package_number: u16,
+    /// Where the method begins in its package's Method component.
+    pub method: u16,
+    /// The owner that is active while it runs.
+    pub owner: u16,
+}
+
+/// Who called a method.
+#[derive(Clone, Copy, PartialEq, Eq, Debug, Default)]
+pub enum CallKind {
+    /// An instruction.
+    #[default]
+    Plain,
+    /// The runtime environment, which asks a server for its shareable interface object.
+    Sharing,
+}
+
+/// What a return comes back to.
+#[derive(Clone, Copy, PartialEq, Eq, Debug, Default)]
+pub struct Resume {
+    /// The owner that was active before the call.
+    pub active: u16,
+    /// The owner that was active before the last switch, at that time.
+    pub previous: u16,
+    /// Who called.
+    pub call: CallKind,
+}
+
+/// A method as it is called.
+#[derive(Clone, Copy, PartialEq, Eq, Debug)]
+pub struct Entry {
+    /// How many cells its arguments have, which lie on the caller's stack.
+    pub arguments: u8,
+    /// How many locals it has besides its arguments.
+    pub locals: u8,
+    /// How many cells its stack holds at most.
+    pub limit: u8,
+    /// The place of its first instruction.
+    pub place: u16,
+    /// The method.
+    pub origin: Origin,
+    /// What its return comes back to.
+    pub resume: Resume,
+}

@@ -1,0 +1,85 @@
+//! How instructions and runs end.
+ghost use Rattle.std.specs.Prelude.{◌≡◌};
+ghost use Rattle.jc_frames.specs.Calls.{outcome_of};
+
+use crate::cell::Cell;
+use jc_transient::Ref;
+
+/// An exception that the runtime environment throws, by its class: an instance of its own. Those of
+/// the card's framework carry a reason.
+#[derive(Clone, Copy, PartialEq, Eq, Debug)]
+pub enum Exception {
+    ArithmeticException,
+    ArrayIndexOutOfBoundsException,
+    ArrayStoreException,
+    ClassCastException,
+    NegativeArraySizeException,
+    NullPointerException,
+    SecurityException,
+    CardException(i16),
+    CardRuntimeException(i16),
+    ISOException(i16),
+    PINException(i16),
+    SystemException(i16),
+    TransactionException(i16),
+    APDUException(i16),
+    UserException(i16),
+}
+
+/// How a run ended.
+#[derive(Clone, Copy, PartialEq, Eq, Debug)]
+pub enum Outcome {
+    /// By `return`.
+    Return,
+    /// By `sreturn`, with this short.
+    Short(i16),
+    /// By `areturn`, with this reference.
+    Reference(Ref),
+    /// By this exception, which nothing caught.
+    Thrown(Ref),
+    /// By a code fault, which no code can catch.
+    Fault,
+}
+
+impl Outcome {
+    /// How a run ends whose outermost method hands this over.
+    #[inline]
+    pub fn of_value(value: Option<Cell>) -> Outcome
+        ensures { result ≡ outcome_of value }
+    {
+        let Some(cell) = value else {
+            return Outcome::Return;
+        };
+        match cell {
+            Cell::Short(v) => Outcome::Short(v),
+            Cell::Reference(r) => Outcome::Reference(r),
+            Cell::ReturnAddress(_) => Outcome::Fault,
+        }
+    }
+}
+
+/// A code fault: a stack over or under its limits, a cell of the wrong kind, a jump outside the method,
+/// an instruction that is not one or is cut, too many frames or cells.
+#[derive(Clone, Copy, PartialEq, Eq, Debug)]
+pub struct CodeFault;
+
+/// Why a method does not go on with its next instruction.
+#[derive(Clone, Copy, PartialEq, Eq, Debug)]
+pub enum Stop {
+    /// The runtime environment throws.
+    Throw(Exception),
+    /// The run ends.
+    End(Outcome),
+}
+
+impl From<CodeFault> for Stop {
+    ghost use Rattle.std.specs.Prelude.{◌≡◌};
+    ghost use Rattle.jc_frames.specs.declared.outcome.Stop.TheVariants.{End};
+    ghost use Rattle.jc_frames.specs.declared.outcome.Outcome.TheVariants.{Fault};
+
+    ghost from_gives = { λ _ stop. stop ≡ End Fault };
+
+    fn from(_: CodeFault) -> Self {
+        Stop::End(Outcome::Fault)
+    }
+}

@@ -1,0 +1,164 @@
+//! The packages of a card.
+ghost use Rattle.std.specs.Prelude.{◌≡◌, ◌<◌, ◌≤◌, ◌++◌, [], ◌∷◌, length, slice_get, IfOk, option_copied};
+ghost use Rattle.jc_packages.specs.Classes.{is_below, is_class, is_made, is_shareable, package_in, reference_cell, size_of, superclass_in};
+ghost use Rattle.jc_packages.specs.Methods.{interface_method_at, method_at};
+
+use crate::package::LinkedPackage;
+use crate::scope::Scope;
+use jc_cap_text::pool::VirtualToken;
+use jc_packages::target::Method;
+use jc_platform::platform::Platform;
+use std::alloc::{AllocError, Global};
+use std::marker::Model;
+
+/// How many packages can be loaded.
+pub const MOST_PACKAGES: usize = 32;
+
+/// The packages of a card: the platform's, and those that were loaded, whose entries all resolve.
+#[derive(Drop)]
+pub struct Linked {
+    pub(crate) platform: Platform,
+    pub(crate) loaded: Vec<LinkedPackage>,
+}
+
+impl Model for Linked {
+    ghost use Rattle.std.specs.Prelude.{◌≤◌, length, vec_capacity};
+    ghost use Rattle.jc_packages.specs.Values.{Packages};
+
+    ghost Value = { Packages };
+
+    ghost view = { λ l. record { platform = l.platform; loaded = l.loaded.items } };
+
+    ghost invariant = { λ l. (length l.loaded.items ≤ 32) × (32 ≤ vec_capacity l.loaded) };
+}
+
+/// A package that was linked, to be added.
+#[derive(Drop)]
+pub struct Addition {
+    pub(crate) package: LinkedPackage,
+}
+
+impl Model for Addition {
+    ghost use Rattle.jc_packages.specs.Values.{PackageValue};
+
+    ghost Value = { PackageValue };
+
+    ghost view = { λ a. a.package };
+}
+
+impl Linked {
+    /// The platform's packages alone. There is room for all others from then on.
+    pub fn new(alloc: Global, platform: Platform) -> Result<Linked, AllocError>
+        ensures { IfOk result (λ linked. linked ≡ record { platform = platform; loaded = [] }) }
+    {
+        Ok(Linked {
+            platform,
+            loaded: Vec::with_capacity(alloc, MOST_PACKAGES)?,
+        })
+    }
+
+    /// Adds a package, which gets the next number.
+    pub fn add(&mut self, addition: Addition)
+        requires { length self.old.loaded < 32 }
+        ensures { self.new ≡ record self.old { loaded = self.old.loaded ++ addition ∷ [] } }
+    {
+        match self.loaded.push(addition.package) {
+            Ok(()) => {}
+            Err(_) => unreachable!(),
+        }
+    }
+
+    /// How many packages were loaded.
+    pub fn count(&self) -> usize
+        ensures { result ≡ length self.now.loaded }
+    {
+        self.loaded.len()
+    }
+
+    #[tactic(auto, unfolding(jc_packages::specs::Classes::package_in))]
+    pub(crate) fn package(&self, number: u8) -> Option<&LinkedPackage>
+        ensures { option_copied result ≡ package_in self.now number }
+    {
+        if number == 0 {
+            None
+        } else {
+            self.loaded.get(number as usize - 1)
+        }
+    }
+
+    pub(crate) fn scope(&self) -> Scope<'_>
+        ensures { result ≡ self.entry.now }
+    {
+        Scope {
+            platform: &self.platform,
+            loaded: &self.loaded,
+            own: None,
+        }
+    }
+
+    /// A class or an interface stands behind this word.
+    pub fn is_class(&self, class: u16) -> bool
+        ensures { result ≡ is_class self.now class }
+    {
+        self.scope().is_class(class)
+    }
+
+    /// The superclass. `Object` and interfaces have none.
+    pub fn superclass(&self, class: u16) -> Option<u16>
+        ensures { result ≡ superclass_in self.now class }
+    {
+        self.scope().superclass(class)
+    }
+
+    /// A subtype: the class is the other, below it, or implements it. It takes time that grows with the number of
+    /// classes above.
+    pub fn is_below(&self, class: u16, of: u16) -> bool
+        ensures { result ≡ is_below self.now class of }
+    {
+        self.scope().is_below(class, of)
+    }
+
+    /// An interface that extends `Shareable`, or a class with such an interface.
+    pub fn is_shareable(&self, class: u16) -> bool
+        ensures { result ≡ is_shareable self.now class }
+    {
+        self.scope().is_shareable(class)
+    }
+
+    /// How many cells an instance has.
+    pub fn size_of(&self, class: u16) -> u32
+        ensures { result ≡ size_of self.now class }
+    {
+        self.scope().size_of(class)
+    }
+
+    /// `new` makes instances of it.
+    pub fn is_made(&self, class: u16) -> bool
+        ensures { result ≡ is_made self.now class }
+    {
+        self.scope().is_made(class)
+    }
+
+    /// A cell of an instance holds a reference.
+    pub fn reference_cell(&self, class: u16, cell: u16) -> bool
+        ensures { result ≡ reference_cell self.now class cell }
+    {
+        self.scope().reference_cell(class, cell)
+    }
+
+    /// The method that a call by token on an instance of a class runs, through a class of the package with this
+    /// number. It takes time that grows with the number of classes above.
+    pub fn method_at(&self, class: u16, package_number: u8, token: VirtualToken) -> Option<Method>
+        ensures { result ≡ method_at self.now class package_number token }
+    {
+        self.scope().method_at(class, package_number, token)
+    }
+
+    /// The method that a call of an interface's method by token on an instance of a class runs. It takes time that
+    /// grows with the number of classes above.
+    pub fn interface_method_at(&self, class: u16, interface: u16, token: u8) -> Option<Method>
+        ensures { result ≡ interface_method_at self.now class interface token }
+    {
+        self.scope().interface_method_at(class, interface, token)
+    }
+}

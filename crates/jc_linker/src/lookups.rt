@@ -1,0 +1,75 @@
+//! What packages hold, by number, index and offset.
+ghost use Rattle.std.specs.Prelude.{◌≡◌, ◌<◌, ◌≤◌, IfSome, length, position};
+ghost use Rattle.std.specs.Str.{bytes_eq};
+ghost use Rattle.jc_packages.specs.Classes.{package_in};
+ghost use Rattle.jc_packages.specs.Lookups.{code_at, entry_at, found, methods_of, statics_at, target_at};
+
+use crate::linked::Linked;
+use jc_packages::target::Target;
+use jc_platform::names::PlatformPackage;
+
+impl Linked {
+    /// What an entry of a package's constant pool resolves to, in constant time; none only past the pool's end.
+    #[tactic(auto, unfolding(jc_packages::specs::Lookups::target_at))]
+    pub fn target_at(&self, package_number: u8, index: u16) -> Option<Target>
+        ensures { result ≡ target_at self.now package_number index }
+    {
+        self.package(package_number)?
+            .targets
+            .get(index as usize)
+            .copied()
+    }
+
+    /// The bytes of a package's Method component from an offset on.
+    #[tactic(auto, unfolding(jc_packages::specs::Lookups::code_at))]
+    pub fn code_at(&self, package_number: u8, offset: u16) -> &[u8]
+        requires { offset ≤ length (methods_of (package_in self.now package_number)) }
+        ensures { result.now ≡ code_at self.entry.now package_number offset }
+    {
+        match self.package(package_number) {
+            Some(package) => &package.methods[offset as usize..],
+            None => &[],
+        }
+    }
+
+    /// The size of a package's static image in bytes, and how many references it begins with.
+    #[tactic(auto, unfolding(jc_packages::specs::Lookups::statics_at))]
+    pub fn statics_at(&self, package_number: u8) -> (u16, u16)
+        ensures { result ≡ statics_at self.now package_number }
+    {
+        match self.package(package_number) {
+            Some(package) => (package.image_size, package.image_references),
+            None => (0, 0),
+        }
+    }
+
+    /// Where the install method of the first applet with this AID stands in a package.
+    #[tactic(auto, unfolding(jc_packages::specs::Lookups::entry_at))]
+    pub fn entry_at(&self, package_number: u8, aid: &[u8]) -> Option<u16>
+        ensures { result ≡ entry_at self.now package_number aid.now }
+    {
+        self.package(package_number)?.install_offset(aid)
+    }
+
+    /// The number of the package with this AID.
+    #[tactic(auto, unfolding(jc_packages::specs::Lookups::found))]
+    pub fn found(&self, aid: &[u8]) -> Option<u8>
+        ensures { result ≡ found self.now aid.now }
+    {
+        if let Some(named) = PlatformPackage::with_aid(aid) {
+            return Some(self.platform.number(named));
+        }
+        let place = self.place_of(aid)?;
+        Some(place as u8 + 1)
+    }
+
+    // The place of the first loaded package with this AID.
+    fn place_of(&self, aid: &[u8]) -> Option<usize>
+        ensures place { result ≡ position (λ q. bytes_eq q.name.aid aid.now) self.now.loaded }
+        ensures few { IfSome result (λ place. place < 32) }
+    {
+        self.loaded
+            .iter()
+            .position(|package| package.name.aid.as_slice() == aid)
+    }
+}

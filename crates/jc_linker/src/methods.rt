@@ -1,0 +1,174 @@
+//! Methods by class and token.
+ghost use Rattle.std.specs.Prelude.{◌≡◌};
+ghost use Rattle.jc_packages.specs.Classes.{lineage};
+ghost use Rattle.jc_packages.specs.Methods.{carried_in, if_native, interface_method_at, method_at, method_in, natively, searched};
+ghost use Rattle.jc_platform.specs.Platform.{method_by_token};
+
+use crate::scope::Scope;
+use jc_cap_text::pool::VirtualToken;
+use jc_packages::search::{CarriedOut, Search};
+use jc_packages::target::Method;
+use jc_platform::names::{MethodKind, PlatformClass};
+
+impl Scope<'_> {
+    /// The method that a call by token on an instance of a class runs, through a class of the package with this
+    /// number. It takes time that grows with the number of classes above.
+    #[tactic(auto, unfolding(jc_packages::specs::Methods::method_at))]
+    pub(crate) fn method_at(
+        &self,
+        class: u16,
+        package_number: u8,
+        token: VirtualToken,
+    ) -> Option<Method>
+        ensures { result ≡ method_at self.now class package_number token }
+    {
+        match token {
+            VirtualToken::Public(token) => self.public_method(class, token),
+            VirtualToken::PackageVisible(token) => self.package_method(
+                class,
+                package_number,
+                token,
+            ),
+        }
+    }
+
+    #[tactic(auto, unfolding(jc_packages::specs::Methods::method_at, jc_packages::specs::Methods::searched))]
+    fn public_method(&self, class: u16, token: u8) -> Option<Method>
+        ensures { result ≡ method_at self.now class 0 (VirtualToken.Public token) }
+    {
+        let mut walk = self.lineage(class);
+        while let Some(above) = walk.pop() {
+            match self.method_in(VirtualToken::Public(token), above) {
+                Search::Found(method) => return Some(method),
+                Search::Above => {}
+                Search::Nowhere => return None,
+            }
+        }
+        None
+    }
+
+    #[tactic(auto, unfolding(jc_packages::specs::Methods::method_at, jc_packages::specs::Methods::searched))]
+    fn package_method(&self, class: u16, package_number: u8, token: u8) -> Option<Method>
+        ensures { result ≡ method_at self.now class package_number (VirtualToken.PackageVisible token) }
+    {
+        let mut walk = self.lineage(class);
+        while let Some(above) = walk.pop() {
+            if above / 256 != u16::from(package_number) {
+                continue;
+            }
+            match self.method_in(VirtualToken::PackageVisible(token), above) {
+                Search::Found(method) => return Some(method),
+                Search::Above => {}
+                Search::Nowhere => return None,
+            }
+        }
+        None
+    }
+
+    // What a class says of a token.
+    #[tactic(auto, unfolding(jc_packages::specs::Methods::method_in))]
+    fn method_in(&self, token: VirtualToken, class: u16) -> Search<Method>
+        ensures { result ≡ method_in self.now token class }
+    {
+        if let Some(loaded) = self.loaded_class(class) {
+            let package_number = (class / 256) as u8;
+            return match token {
+                VirtualToken::Public(token) => loaded.public_methods.find(package_number, token),
+                VirtualToken::PackageVisible(token) => {
+                    loaded.package_methods.find(package_number, token)
+                }
+            };
+        }
+        let Some(named) = self.platform.class_by_word(class) else {
+            return Search::Nowhere;
+        };
+        match token {
+            VirtualToken::Public(token) => self.native_in(named, token),
+            VirtualToken::PackageVisible(_) => Search::Nowhere,
+        }
+    }
+
+    fn native_in(&self, named: PlatformClass, token: u8) -> Search<Method>
+        ensures { result ≡ if_native (method_by_token self.now.platform named MethodKind.Virtual token) }
+    {
+        match self
+            .platform
+            .method_by_token(named, MethodKind::Virtual, token)
+        {
+            Some(method) => Search::Found(Method::Native(method)),
+            None => Search::Above,
+        }
+    }
+
+    /// The method that a call of an interface's method by token on an instance of a class runs. It takes time that
+    /// grows with the number of classes above.
+    #[tactic(auto, unfolding(jc_packages::specs::Methods::interface_method_at))]
+    pub(crate) fn interface_method_at(
+        &self,
+        class: u16,
+        interface: u16,
+        token: u8,
+    ) -> Option<Method>
+        ensures { result ≡ interface_method_at self.now class interface token }
+    {
+        match self.carried_out(class, interface, token)? {
+            CarriedOut::Virtually(own) => self.public_method(class, own),
+            CarriedOut::Natively(method) => Some(Method::Native(method)),
+        }
+    }
+
+    #[tactic(auto, unfolding(jc_packages::specs::Methods::searched))]
+    fn carried_out(&self, class: u16, interface: u16, token: u8) -> Option<CarriedOut>
+        ensures { result ≡ searched (carried_in self.now interface token) (lineage self.now class) }
+    {
+        let mut walk = self.lineage(class);
+        while let Some(above) = walk.pop() {
+            match self.carried_in(interface, token, above) {
+                Search::Found(how) => return Some(how),
+                Search::Above => {}
+                Search::Nowhere => return None,
+            }
+        }
+        None
+    }
+
+    // How a class carries out a method of an interface.
+    #[tactic(auto, unfolding(jc_packages::specs::Methods::carried_in))]
+    fn carried_in(&self, interface: u16, token: u8, class: u16) -> Search<CarriedOut>
+        ensures { result ≡ carried_in self.now interface token class }
+    {
+        if let Some(loaded) = self.loaded_class(class) {
+            return loaded.carries(interface, token);
+        }
+        match self.platform.class_by_word(class) {
+            Some(named) => self.natively(interface, token, named.interface()),
+            None => Search::Nowhere,
+        }
+    }
+
+    fn natively(
+        &self,
+        interface: u16,
+        token: u8,
+        implemented: Option<PlatformClass>,
+    ) -> Search<CarriedOut>
+        ensures { result ≡ natively self.now interface token implemented }
+    {
+        let Some(named) = implemented else {
+            return Search::Above;
+        };
+        if self.platform.class_word(named) != interface {
+            return Search::Above;
+        }
+        let Some(method) = self
+            .platform
+            .method_by_token(named, MethodKind::Interface, token)
+        else {
+            return Search::Nowhere;
+        };
+        match method.implementation() {
+            Some(own) => Search::Found(CarriedOut::Natively(own)),
+            None => Search::Nowhere,
+        }
+    }
+}

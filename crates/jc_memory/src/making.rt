@@ -1,0 +1,79 @@
+//! New objects.
+ghost use Rattle.std.specs.Prelude.{◌≡◌, false, None, Some};
+ghost use Rattle.jc_memory.specs.Doing.{Makes, after_of};
+ghost use Rattle.jc_memory.specs.Making.{made, zero_of};
+
+use crate::memory::Memory;
+use crate::registers::Owner;
+use jc_heap::{HeapRefusal, Kind};
+use jc_transient::{CellValue, ClearEvent, Ref};
+use jc_words::WordStore;
+
+/// What a new object is to be.
+#[derive(Clone, Copy, Debug, PartialEq, Eq)]
+pub struct NewObject {
+    pub kind: Kind,
+    /// What is to clear its cells; none, where it is to be persistent.
+    pub event: Option<ClearEvent>,
+    /// The package number times 256 and the class number, or 0.
+    pub class: u16,
+    pub owner: Owner,
+    /// How many cells it is to have.
+    pub length: u16,
+}
+
+// What the cells of a new object hold.
+fn zero_of(kind: Kind) -> CellValue
+    ensures { result ≡ zero_of kind }
+{
+    match kind {
+        Kind::ReferenceArray => CellValue::Reference(Ref::null()),
+        _ => CellValue::Short(0),
+    }
+}
+
+impl<S: WordStore> Memory<S> {
+    // Makes a persistent object.
+    fn make_persistent(&mut self, object: NewObject) -> Result<Ref, HeapRefusal>
+        requires up { self.old.heap.down ≡ false }
+        requires event { object.event ≡ None }
+        ensures { Makes (made self.old object) self.old (after_of result self.new) }
+    {
+        let owner = object.owner.number();
+        let r = self
+            .heap
+            .new_persistent(object.kind, object.class, owner, object.length)?;
+        self.ram.set_flag(r, false);
+        Ok(r)
+    }
+
+    // Makes a transient object.
+    fn make_transient(&mut self, event: ClearEvent, object: NewObject) -> Result<Ref, HeapRefusal>
+        requires up { self.old.heap.down ≡ false }
+        requires event { object.event ≡ Some event }
+        ensures { Makes (made self.old object) self.old (after_of result self.new) }
+    {
+        let owner = object.owner.number();
+        let (kind, length) = (object.kind, object.length);
+        let r = self
+            .heap
+            .new_transient(kind, event, object.class, owner, length)?;
+        let place = self.heap.facts(r).place;
+        self.ram.fill(event, place, length, zero_of(kind));
+        self.ram.set_flag(r, false);
+        Ok(r)
+    }
+
+    /// Makes an object, whose cells are zero or null and whose flag is not set. Refused, in this
+    /// order: no space in the area of a transient object, no space in the heap, no room in the
+    /// transaction.
+    pub fn make(&mut self, object: NewObject) -> Result<Ref, HeapRefusal>
+        requires up { self.old.heap.down ≡ false }
+        ensures { Makes (made self.old object) self.old (after_of result self.new) }
+    {
+        match object.event {
+            None => self.make_persistent(object),
+            Some(event) => self.make_transient(event, object),
+        }
+    }
+}

@@ -1,0 +1,89 @@
+//! A memory: its parts, and what headers say.
+ghost use Rattle.std.specs.Prelude.{◌≡◌, [], false};
+ghost use Rattle.jc_heap.specs.Heap.{IsObject};
+ghost use Rattle.jc_memory.specs.State.{AreParts};
+ghost use Rattle.jc_memory.specs.Owners.{at_reset};
+ghost use Rattle.jc_memory.specs.Cells.{IsHeaderOf};
+
+use crate::registers::Registers;
+use arrayvec::ArrayVec;
+use jc_heap::{Facts, Heap};
+use jc_transient::{Ram, Ref};
+use jc_words::WordStore;
+use std::marker::Model;
+
+/// How many bytes a command has at most.
+pub const MOST_COMMAND: usize = 261;
+
+/// How many bytes are sent in answer to it at most.
+pub const MOST_SENT: usize = 256;
+
+/// What running code sees and changes: the heap, the transient contents, for whom code runs, the
+/// command that is carried out, and what was sent in answer to it.
+///
+/// After a refused write nothing but a power up may follow.
+#[derive(Drop)]
+pub struct Memory<S: WordStore> {
+    pub(crate) heap: Heap<S>,
+    pub(crate) ram: Ram,
+    pub(crate) registers: Registers,
+    pub(crate) command: ArrayVec<u8, MOST_COMMAND>,
+    pub(crate) sent: ArrayVec<u8, MOST_SENT>,
+}
+
+impl<S: WordStore> Model for Memory<S> {
+    ghost use Rattle.jc_memory.specs.State.{MemoryState, AreParts};
+
+    ghost Value = { MemoryState };
+
+    ghost view = { λ m. record { heap = m.heap; ram = m.ram; registers = m.registers; command = m.command.items; sent = m.sent.items } };
+
+    ghost invariant = { λ m. AreParts m.heap m.ram };
+}
+
+impl<S: WordStore> Memory<S> {
+    /// A memory of its parts, as a reset leaves it.
+    pub fn new(heap: Heap<S>, ram: Ram) -> Memory<S>
+        requires { AreParts heap ram }
+        ensures { result ≡ record { heap = heap; ram = ram; registers = at_reset; command = []; sent = [] } }
+    {
+        Memory {
+            heap,
+            ram,
+            registers: Registers::at_reset(),
+            command: ArrayVec::new(),
+            sent: ArrayVec::new(),
+        }
+    }
+
+    /// The parts that outlive a command.
+    pub fn into_parts(self) -> (Heap<S>, Ram)
+        ensures heap { result.0 ≡ self.heap }
+        ensures ram { result.1 ≡ self.ram }
+    {
+        let Memory {
+            heap,
+            ram,
+            registers: _,
+            command: _,
+            sent: _,
+        } = self;
+        (heap, ram)
+    }
+
+    /// The heap, to be read.
+    pub fn heap(&self) -> &Heap<S>
+        ensures { result.now ≡ self.now.heap }
+    {
+        &self.heap
+    }
+
+    /// What an object's header says.
+    pub fn facts(&self, object: Ref) -> Facts
+        requires up { self.now.heap.down ≡ false }
+        requires there { IsObject self.now.heap.now object }
+        ensures { IsHeaderOf self.now object result }
+    {
+        self.heap.facts(object)
+    }
+}

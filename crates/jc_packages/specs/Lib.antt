@@ -1,0 +1,5 @@
+pub mod Values
+pub mod Classes
+pub mod Methods
+pub mod Lookups
+pub mod Resolves

@@ -1,0 +1,108 @@
+-- What a token stands for is what has it.
+use Rattle.std.proofs.Common.{◌≡◌, ◌<◌, ◌==◌, ◌&&◌, cond, ℕ, zero, suc, Bool, true, false, List, [], ◌∷◌, Option, Some, None, Ok, length, get_or, refl, ap, sym, subst, ◌∙◌, arith}
+use Rattle.std.specs.Prelude.{find, if◌then◌else◌, slice_index}
+use Rattle.std.specs.Option.{option_map}
+use Rattle.std.proofs.lemmas.Bool.{false≢true}
+use Rattle.std.proofs.lemmas.Bool.Decides.{Decides-eqb}
+use Rattle.jc_platform.specs.declared.names.PlatformClass.{PlatformClass}
+use Rattle.jc_platform.specs.declared.names.PlatformClass.TheVariants.{Object}
+use Rattle.jc_platform.specs.declared.names.MethodKind.{MethodKind}
+use Rattle.jc_platform.specs.declared.names.MethodKind.TheVariants.{Static, Virtual, Interface}
+use Rattle.jc_platform.specs.declared.names.PlatformMethod.{PlatformMethod}
+use Rattle.jc_platform.specs.declared.names.PlatformMethod.TheVariants.{ObjectInit}
+use Rattle.jc_platform.specs.declared.names.PlatformPackage.{PlatformPackage}
+use Rattle.jc_platform.specs.declared.names.PlatformPackage.TheVariants.{JavaLang, JavacardFramework}
+use Rattle.jc_platform.specs.Distinct.{AreDistinct, class_of, entry_of_class, entry_of_method, home_of, kind_of_method}
+use Rattle.jc_platform.specs.Names.{ClassEntry, MethodEntry, class_entry, classes, method_entry, methods}
+use Rattle.jc_platform.specs.Numbers.{class_number, kind_number, method_number, package_number, same_class, same_kind, same_package}
+use Rattle.jc_platform.specs.Platform.{TellNames, class_by_token, method_by_token, package_by_number}
+use Rattle.jc_platform.specs.Table.{Reads}
+use Rattle.jc_platform.specs.Tokens.{Tokens, number_in}
+use Rattle.jc_platform.proofs.Distinct.{both, class_at_place, class_by_number, class_places, distinct, found_has, homes, method_at_place, method_homes, method_places}
+use Rattle.jc_platform.proofs.Lists.{and_true}
+use Rattle.jc_platform.proofs.Numbers.{class_below, method_below}
+
+-- an element that passes is found
+abbrev Found : {X : Type 0} → (X → Bool) → List X → Type 0
+Found {X = X} p xs = (e : X) × (find p xs ≡ Some e) × (p e ≡ true)
+
+found_case : {X : Type 0} (p : X → Bool) (x : X) (xs : List X) (b : Bool) → p x ≡ b → (b ≡ false → Found p xs) → Found p (x ∷ xs)
+found_case p x xs true is later = (x, rw is refl, is)
+found_case p x xs false is later = let f : Found p xs = later refl in (f.0, rw is f.1, f.2)
+
+found_at : {X : Type 0} (p : X → Bool) (xs : List X) (k : ℕ) (d : X) → k < length xs → p (get_or xs k d) ≡ true → Found p xs
+found_at p [] k d h passes = absurd (omega arith)
+found_at p (x ∷ xs) zero d h passes = found_case p x xs true passes (λ no. absurd (let e : true ≡ false = no in cc))
+found_at p (x ∷ xs) (suc k) d h passes = found_case p x xs (p x) refl (λ no. found_at p xs k d (omega arith) passes)
+
+same_package_is : (p q : PlatformPackage) → same_package p q ≡ true → p ≡ q
+same_package_is JavaLang JavaLang e = refl
+same_package_is JavaLang JavacardFramework e = absurd (false≢true e)
+same_package_is JavacardFramework JavaLang e = absurd (false≢true e)
+same_package_is JavacardFramework JavacardFramework e = refl
+
+same_kind_is : (k l : MethodKind) → same_kind k l ≡ true → k ≡ l
+same_kind_is Static Static e = refl
+same_kind_is Static Virtual e = absurd (false≢true e)
+same_kind_is Static Interface e = absurd (false≢true e)
+same_kind_is Virtual Static e = absurd (false≢true e)
+same_kind_is Virtual Virtual e = refl
+same_kind_is Virtual Interface e = absurd (false≢true e)
+same_kind_is Interface Static e = absurd (false≢true e)
+same_kind_is Interface Virtual e = absurd (false≢true e)
+same_kind_is Interface Interface e = refl
+
+same_class_is : (c d : PlatformClass) → same_class c d ≡ true → c ≡ d
+same_class_is c d e = class_by_number c d ((Decides-eqb (class_number c) (class_number d)).0 e)
+
+-- the number of a package where this one stands first
+abbrev numbered : PlatformPackage → PlatformPackage → ℕ
+numbered first p = if same_package p first then 64 else 65
+
+package_told : (first p : PlatformPackage) → (if numbered first p == numbered first JavaLang then Some JavaLang else (if numbered first p == numbered first JavacardFramework then Some JavacardFramework else None)) ≡ Some p
+package_told JavaLang JavaLang = refl
+package_told JavaLang JavacardFramework = refl
+package_told JavacardFramework JavaLang = refl
+package_told JavacardFramework JavacardFramework = refl
+
+told_package : (t : Tokens) (p : PlatformPackage) → package_by_number t (number_in t p) ≡ Some p
+unfolding package_by_number
+told_package t p = package_told t.first p
+
+told_class : (t : Tokens) → AreDistinct t → (c : PlatformClass) → class_by_token t (home_of c) (slice_index t.class_tokens (class_number c)) ≡ Some c
+unfolding class_by_token
+told_class t distinct c =
+    let token = slice_index t.class_tokens (class_number c) in
+    let passes : ClassEntry → Bool = λ e. same_package e.home (home_of c) && slice_index t.class_tokens (class_number e.class) == token in
+    let place : class_number c < length classes = omega (arith, class_below c, class_places) in
+    let home : same_package (home_of c) (home_of c) ≡ true = (Decides-eqb _ _).1 refl in
+    let there : passes (entry_of_class (class_number c)) ≡ true = both _ _ home (ap (λ (d : PlatformClass). slice_index t.class_tokens (class_number d) == token) (class_at_place c) ∙ (Decides-eqb token token).1 refl) in
+    let f : Found passes classes = found_at passes classes (class_number c) (class_entry JavaLang Object []) place there in
+    let e = f.0 in
+    let parts = and_true (same_package e.home (home_of c)) (slice_index t.class_tokens (class_number e.class) == token) f.2 in
+    let its : same_package (home_of e.class) e.home ≡ true = found_has (λ g. same_package (home_of g.class) g.home) passes classes e homes f.1 in
+    let homes_agree : home_of e.class ≡ home_of c = same_package_is _ _ its ∙ same_package_is _ _ parts.0 in
+    let same : e.class ≡ c = distinct.of_classes e.class c homes_agree ((Decides-eqb _ _).0 parts.1) in
+    ap (option_map (λ g. g.class)) f.1 ∙ ap Some same
+
+told_method : (t : Tokens) → AreDistinct t → (m : PlatformMethod) → method_by_token t (class_of m) (kind_of_method m) (slice_index t.method_tokens (method_number m)) ≡ Some m
+unfolding method_by_token
+told_method t distinct m =
+    let token = slice_index t.method_tokens (method_number m) in
+    let passes : MethodEntry → Bool = λ e. same_class e.class (class_of m) && same_kind e.kind (kind_of_method m) && slice_index t.method_tokens (method_number e.method) == token in
+    let place : method_number m < length methods = omega (arith, method_below m, method_places) in
+    let class : same_class (class_of m) (class_of m) ≡ true = (Decides-eqb _ _).1 refl in
+    let kind : same_kind (kind_of_method m) (kind_of_method m) ≡ true = (Decides-eqb _ _).1 refl in
+    let there : passes (entry_of_method (method_number m)) ≡ true = both _ _ (both _ _ class kind) (ap (λ (n : PlatformMethod). slice_index t.method_tokens (method_number n) == token) (method_at_place m) ∙ (Decides-eqb token token).1 refl) in
+    let f : Found passes methods = found_at passes methods (method_number m) (method_entry Object Static ObjectInit []) place there in
+    let e = f.0 in
+    let parts = and_true (same_class e.class (class_of m) && same_kind e.kind (kind_of_method m)) (slice_index t.method_tokens (method_number e.method) == token) f.2 in
+    let places = and_true (same_class e.class (class_of m)) (same_kind e.kind (kind_of_method m)) parts.0 in
+    let its = and_true (same_class (class_of e.method) e.class) (same_kind (kind_of_method e.method) e.kind) (found_has (λ g. same_class (class_of g.method) g.class && same_kind (kind_of_method g.method) g.kind) passes methods e method_homes f.1) in
+    let same : e.method ≡ m = distinct.of_methods e.method m (same_class_is _ _ its.0 ∙ same_class_is _ _ places.0) (same_kind_is _ _ its.1 ∙ same_kind_is _ _ places.1) ((Decides-eqb _ _).0 parts.1) in
+    ap (option_map (λ g. g.method)) f.1 ∙ ap Some same
+
+pub names_told : (text : List ℕ) (t : Tokens) → Reads text (Ok t) → TellNames t
+names_told text t read =
+    let apart : AreDistinct t = distinct text t read in
+    record { packages = told_package t; classes = told_class t apart; methods = told_method t apart }

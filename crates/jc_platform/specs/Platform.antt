@@ -1,0 +1,44 @@
+-- What AIDs, numbers and tokens stand for on the platform.
+use Rattle.std.specs.Prelude.{ℕ, ◌≡◌, ◌&&◌, ◌==◌, ◌/◌, ◌%◌, if◌then◌else◌, List, [], ◌∷◌, Option, None, Some, find, slice_index}
+use Rattle.std.specs.Option.{option_map, option_and_then}
+use Rattle.std.specs.Str.{bytes_eq}
+use Rattle.jc_platform.specs.declared.names.PlatformPackage.{PlatformPackage}
+use Rattle.jc_platform.specs.declared.names.PlatformPackage.TheVariants.{JavaLang, JavacardFramework}
+use Rattle.jc_platform.specs.declared.names.PlatformClass.{PlatformClass}
+use Rattle.jc_platform.specs.declared.names.MethodKind.{MethodKind}
+use Rattle.jc_platform.specs.declared.names.PlatformMethod.{PlatformMethod}
+use Rattle.jc_platform.specs.Distinct.{class_of, home_of, kind_of_method}
+use Rattle.jc_platform.specs.Names.{classes, methods}
+use Rattle.jc_platform.specs.Numbers.{class_number, method_number, same_class, same_kind, same_package}
+use Rattle.jc_platform.specs.Tokens.{Tokens, number_in}
+
+-- a package's AID
+unfoldable pub aid_of : PlatformPackage → List ℕ
+aid_of JavaLang = 160 ∷ 0 ∷ 0 ∷ 0 ∷ 98 ∷ 0 ∷ 1 ∷ []
+aid_of JavacardFramework = 160 ∷ 0 ∷ 0 ∷ 0 ∷ 98 ∷ 1 ∷ 1 ∷ []
+
+-- the package with this AID
+unfoldable pub package_by_aid : List ℕ → Option PlatformPackage
+package_by_aid aid = if bytes_eq aid (aid_of JavaLang) then Some JavaLang else (if bytes_eq aid (aid_of JavacardFramework) then Some JavacardFramework else None)
+
+-- the package with this number
+unfoldable pub package_by_number : Tokens → ℕ → Option PlatformPackage
+package_by_number t n = if n == number_in t JavaLang then Some JavaLang else (if n == number_in t JavacardFramework then Some JavacardFramework else None)
+
+-- the class of a package with this token
+unfoldable pub class_by_token : Tokens → PlatformPackage → ℕ → Option PlatformClass
+class_by_token t home token = option_map (λ e. e.class) (find (λ e. same_package e.home home && slice_index t.class_tokens (class_number e.class) == token) classes)
+
+-- the class that an object's header names so
+unfoldable pub class_by_word : Tokens → ℕ → Option PlatformClass
+class_by_word t word = option_and_then (λ home. class_by_token t home (word % 256)) (package_by_number t (word / 256))
+
+-- the method of a class with this kind and token
+unfoldable pub method_by_token : Tokens → PlatformClass → MethodKind → ℕ → Option PlatformMethod
+method_by_token t class kind token = option_map (λ e. e.method) (find (λ e. same_class e.class class && same_kind e.kind kind && slice_index t.method_tokens (method_number e.method) == token) methods)
+
+-- tokens stand for one class and one method: what has a token is what the token stands for
+pub record TellNames (t : Tokens) : Type 0 where
+  pub packages : (p : PlatformPackage) → package_by_number t (number_in t p) ≡ Some p
+  pub classes : (c : PlatformClass) → class_by_token t (home_of c) (slice_index t.class_tokens (class_number c)) ≡ Some c
+  pub methods : (m : PlatformMethod) → method_by_token t (class_of m) (kind_of_method m) (slice_index t.method_tokens (method_number m)) ≡ Some m

@@ -1,0 +1,151 @@
+//! The platform's packages as other packages name them: what AIDs, numbers and tokens stand for.
+
+ghost use Rattle.std.specs.Prelude.{◌≡◌, ◌&&◌, ◌==◌, find, slice_get, slice_index};
+ghost use Rattle.std.specs.Option.{option_map};
+ghost use Rattle.jc_platform.specs.Distinct.{class_word};
+ghost use Rattle.jc_platform.specs.Names.{classes, methods};
+ghost use Rattle.jc_platform.specs.Numbers.{class_number, method_number, package_number, same_class, same_kind, same_package};
+ghost use Rattle.jc_platform.specs.Platform.{aid_of, class_by_token, class_by_word, method_by_token, package_by_aid, package_by_number};
+ghost use Rattle.jc_platform.specs.Seen.{seen_class, seen_method};
+ghost use Rattle.jc_platform.specs.Tokens.{number_in};
+
+use crate::lookup::{all_classes, all_methods};
+use crate::names::{
+    ClassName, MethodKind, MethodName, PlatformClass, PlatformMethod, PlatformPackage,
+};
+use crate::row::Version;
+use crate::table::Table;
+use std::marker::Model;
+
+/// The packages of the platform with their tokens.
+#[derive(Drop)]
+pub struct Platform {
+    table: Table,
+}
+
+impl Model for Platform {
+    ghost use Rattle.jc_platform.specs.Tokens.{Tokens};
+
+    ghost Value = { Tokens };
+
+    ghost view = { λ p. p.table };
+}
+
+impl PlatformPackage {
+    /// Its AID.
+    #[tactic(auto, unfolding(crate::specs::Platform::aid_of))]
+    pub const fn aid(self) -> &'static [u8]
+        ensures { result.now ≡ aid_of self }
+    {
+        match self {
+            PlatformPackage::JavaLang => &[0xA0, 0, 0, 0, 0x62, 0, 1],
+            PlatformPackage::JavacardFramework => &[0xA0, 0, 0, 0, 0x62, 1, 1],
+        }
+    }
+
+    /// The package with this AID.
+    #[tactic(auto, unfolding(crate::specs::Platform::package_by_aid))]
+    pub fn with_aid(aid: &[u8]) -> Option<PlatformPackage>
+        ensures { result ≡ package_by_aid aid.now }
+    {
+        if aid == PlatformPackage::JavaLang.aid() {
+            Some(PlatformPackage::JavaLang)
+        } else if aid == PlatformPackage::JavacardFramework.aid() {
+            Some(PlatformPackage::JavacardFramework)
+        } else {
+            None
+        }
+    }
+}
+
+impl Platform {
+    pub(crate) fn new(table: Table) -> Self
+        ensures { result ≡ table }
+    {
+        Platform { table }
+    }
+
+    /// The version of a package.
+    pub fn version(&self, named: PlatformPackage) -> Version
+        ensures { slice_get self.now.versions (package_number named) ≡ Some result }
+    {
+        self.table.version(named)
+    }
+
+    /// The number of a package, from 64 on in the table's order.
+    pub fn number(&self, named: PlatformPackage) -> u8
+        ensures { result ≡ number_in self.now named }
+    {
+        self.table.package_number(named)
+    }
+
+    /// The package with this number.
+    #[tactic(auto, unfolding(crate::specs::Platform::package_by_number))]
+    pub fn package(&self, number: u8) -> Option<PlatformPackage>
+        ensures { result ≡ package_by_number self.now number }
+    {
+        if number == self.number(PlatformPackage::JavaLang) {
+            Some(PlatformPackage::JavaLang)
+        } else if number == self.number(PlatformPackage::JavacardFramework) {
+            Some(PlatformPackage::JavacardFramework)
+        } else {
+            None
+        }
+    }
+
+    /// The class as an object's header names it.
+    pub fn class_word(&self, class: PlatformClass) -> u16
+        ensures { result ≡ class_word self.now class }
+    {
+        self.table.class_word(class)
+    }
+
+    /// The class of a package with this token.
+    #[tactic(auto, unfolding(crate::specs::Platform::class_by_token))]
+    pub fn class_by_token(&self, home: PlatformPackage, token: u8) -> Option<PlatformClass>
+        ensures { result ≡ class_by_token self.now home token }
+    {
+        Some(self.class_entry(home, token)?.class)
+    }
+
+    /// The class that an object's header names so.
+    #[tactic(auto, unfolding(crate::specs::Platform::class_by_word))]
+    pub fn class_by_word(&self, word: u16) -> Option<PlatformClass>
+        ensures { result ≡ class_by_word self.now word }
+    {
+        let home = self.package((word / 256) as u8)?;
+        self.class_by_token(home, (word % 256) as u8)
+    }
+
+    /// The method of a class with this kind and token.
+    #[tactic(auto, unfolding(crate::specs::Platform::method_by_token))]
+    pub fn method_by_token(
+        &self,
+        class: PlatformClass,
+        kind: MethodKind,
+        token: u8,
+    ) -> Option<PlatformMethod>
+        ensures { result ≡ method_by_token self.now class kind token }
+    {
+        Some(self.method_entry(class, kind, token)?.method)
+    }
+
+    fn class_entry(&self, home: PlatformPackage, token: u8) -> Option<ClassName>
+        ensures { option_map seen_class result ≡ find (λ e. same_package e.home home && slice_index self.now.class_tokens (class_number e.class) == token) classes }
+    {
+        all_classes()
+            .iter()
+            .find(|entry| entry.home.is(home) && self.table.class_token(entry.class) == token)
+            .copied()
+    }
+
+    fn method_entry(&self, class: PlatformClass, kind: MethodKind, token: u8) -> Option<MethodName>
+        ensures { option_map seen_method result ≡ find (λ e. same_class e.class class && same_kind e.kind kind && slice_index self.now.method_tokens (method_number e.method) == token) methods }
+    {
+        all_methods()
+            .iter()
+            .find(|entry| entry.is_of(class, kind)
+                && self.table.method_token(entry.method) == token)
+            .copied()
+    }
+}

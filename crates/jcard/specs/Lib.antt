@@ -1,5 +1,0 @@
-pub mod CommandLine
-pub mod Dumps
-pub mod Faults
-pub mod Images
-pub mod NewImages

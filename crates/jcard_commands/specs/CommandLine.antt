@@ -1,0 +1,142 @@
+-- What a command line is taken for: the program's commands, in the grammar that clap's definitions give to them.
+use Rattle.std.specs.Prelude.{◌≡◌, ◌==◌, ◌&&◌, Bool, true, false, is_some, List, [], ◌∷◌, codes, Option, Some, None, if◌then◌else◌, option_map, option_and_then, slice_get, Result, Ok, Err}
+use Rattle.std.specs.Str.{bytes_eq, chars}
+use Rattle.clap.specs.Words.{App, Kinds, Row, Rule, Text, fault_of, first_of, new_app, new_rule, subcommand_of, with_rule, with_subcommand}
+use Rattle.clap.specs.declared.builder.action.ArgAction.TheVariants.{Set}
+use Rattle.jcard_commands.specs.declared.arguments.Action.{Action}
+use Rattle.jcard_commands.specs.declared.arguments.Action.TheVariants.{New, Run, Dump}
+use Rattle.jcard_commands.specs.declared.fault.Fault.{Fault}
+use Rattle.jcard_commands.specs.declared.fault.Fault.TheVariants.{BadCommandLine, NoMemory}
+
+-- what a command line asks for
+pub data Request : Type 0 where
+  -- an image of this name is made, with so many words, with the platform table of this name
+  ToMake : Text → Text → Text → Request
+  -- the script of the second name is carried out, on the card of the image of the first
+  ToRun : Text → Text → Request
+  -- what the image of this name holds is told
+  ToTell : Text → Request
+
+-- ---- the grammar
+
+-- a word that must stand there
+abbrev pub operand : Text → Rule
+operand name = record (new_rule name) { required = true; action = Some Set }
+
+-- an option that must be given, once and with one value
+abbrev pub given_option : Text → Rule
+given_option name = record (operand name) { long = Some name }
+
+-- `new IMAGE --words N --table FILE`
+abbrev pub new_grammar : App
+new_grammar = with_rule (with_rule (with_rule (new_app (codes "new")) (operand (codes "image"))) (given_option (codes "words"))) (given_option (codes "table"))
+
+-- `run IMAGE SCRIPT`
+abbrev pub run_grammar : App
+run_grammar = with_rule (with_rule (new_app (codes "run")) (operand (codes "image"))) (operand (codes "script"))
+
+-- `dump IMAGE`
+abbrev pub dump_grammar : App
+dump_grammar = with_rule (new_app (codes "dump")) (operand (codes "image"))
+
+-- the program's name and one of its commands
+abbrev pub program_grammar : App
+program_grammar = with_subcommand (with_subcommand (with_subcommand (new_app (codes "jcard")) new_grammar.top) run_grammar.top) dump_grammar.top
+
+-- ---- what the words are taken for
+
+-- what `new` asks for, with these operands and options
+abbrev pub new_by : Option Text → Option Text → Option Text → Option Request
+new_by (Some image) (Some words) (Some table) = Some (ToMake image words table)
+new_by image words table = None
+
+-- what `run` asks for, with these operands
+abbrev pub run_by : Option Text → Option Text → Option Request
+run_by (Some image) (Some script) = Some (ToRun image script)
+run_by image script = None
+
+-- the same, with these values of all operands and options
+abbrev pub new_of : List Row → Option Request
+new_of rows = new_by (first_of (codes "image") rows) (first_of (codes "words") rows) (first_of (codes "table") rows)
+
+abbrev pub run_of : List Row → Option Request
+run_of rows = run_by (first_of (codes "image") rows) (first_of (codes "script") rows)
+
+abbrev pub dump_of : List Row → Option Request
+dump_of rows = option_map ToTell (first_of (codes "image") rows)
+
+-- what the command of this name asks for, with these values of its operands
+abbrev pub request_of : Text × List Row → Option Request
+request_of named =
+    if bytes_eq named.0 (codes "new") then new_of named.1
+    else (if bytes_eq named.0 (codes "run") then run_of named.1
+    else (if bytes_eq named.0 (codes "dump") then dump_of named.1 else None))
+
+-- nothing where the words are refused for a cause
+abbrev pub unless_refused : Kinds → Option Request → Option Request
+unless_refused [] asked = asked
+unless_refused (cause ∷ causes) asked = None
+
+-- what the words are taken for, the program's name among them as the first; nothing where they do not fit the grammar or name no
+-- command
+unfoldable pub taken_for : List Text → Option Request
+taken_for words = unless_refused (fault_of program_grammar words) (option_and_then request_of (subcommand_of program_grammar words))
+
+-- the word is no flag: it does not begin with a hyphen (45)
+abbrev pub IsNoFlag : Text → Type 0
+IsNoFlag word = slice_get word 0 ≡ Some 45 → ⊥
+
+-- `NAME run IMAGE SCRIPT` asks to run, with exactly these words
+abbrev pub TakesRuns : Type 0
+TakesRuns = (name image script : Text) → IsNoFlag image → IsNoFlag script
+    → taken_for (name ∷ codes "run" ∷ image ∷ script ∷ []) ≡ Some (ToRun image script)
+
+-- `NAME dump IMAGE` asks to tell what exactly this image holds
+abbrev pub TakesDumps : Type 0
+TakesDumps = (name image : Text) → IsNoFlag image → taken_for (name ∷ codes "dump" ∷ image ∷ []) ≡ Some (ToTell image)
+
+-- `NAME new IMAGE --words N --table FILE` asks to make exactly this image, in either order of the options
+abbrev pub TakesNews : Type 0
+TakesNews = (name image words table : Text) → IsNoFlag image → IsNoFlag words → IsNoFlag table
+    → (taken_for (name ∷ codes "new" ∷ image ∷ codes "--words" ∷ words ∷ codes "--table" ∷ table ∷ []) ≡ Some (ToMake image words table))
+    × (taken_for (name ∷ codes "new" ∷ image ∷ codes "--table" ∷ table ∷ codes "--words" ∷ words ∷ []) ≡ Some (ToMake image words table))
+
+-- ---- every line of a command
+
+-- a hyphen and a character after it
+abbrev pub is_flag : Text → Bool
+is_flag [] = false
+is_flag (x ∷ xs) = (x == 45) && is_some (slice_get (chars xs) 0)
+
+-- the words, if none of them is a flag. The first `--` is no operand, and what follows it is no flag, however it begins
+abbrev pub operands : List Text → Option (List Text)
+operands [] = Some []
+operands (word ∷ words) = if bytes_eq word (codes "--") then Some words
+    else (if is_flag word then None else option_map (λ rest. word ∷ rest) (operands words))
+
+-- a run asks for an image and a script
+abbrev pub run_with : Option (List Text) → Option Request
+run_with None = None
+run_with (Some []) = None
+run_with (Some (image ∷ [])) = None
+run_with (Some (image ∷ script ∷ [])) = Some (ToRun image script)
+run_with (Some (image ∷ script ∷ more ∷ words)) = None
+
+-- what follows `NAME run` is taken for a run exactly where its operands are two
+abbrev pub TakesRunLines : Type 0
+TakesRunLines = (name : Text) (words : List Text) → taken_for (name ∷ codes "run" ∷ words) ≡ run_with (operands words)
+
+-- ---- the parse
+
+-- what the action does
+abbrev pub request_by : Action → Request
+request_by (New image words table) = ToMake image.now words.now table.now
+request_by (Run image script) = ToRun image.now script.now
+request_by (Dump image) = ToTell image.now
+
+-- the action is the one that is asked for; the command line is bad only where nothing is; else memory was refused
+abbrev pub IsTakenAs : Option Request → Result Action Fault → Type 0
+IsTakenAs asked (Ok action) = asked ≡ Some (request_by action)
+IsTakenAs asked (Err BadCommandLine) = asked ≡ None
+IsTakenAs asked (Err NoMemory) = Unit {0}
+IsTakenAs asked (Err other) = ⊥

@@ -1,0 +1,33 @@
+-- What is told of an image.
+use Rattle.std.specs.Prelude.{ℕ, ◌≡◌, ◌⊎◌, ◌*◌, List, [], ◌++◌, codes, decimal, length, Result, Ok, Err}
+use Rattle.jc_words.specs.Files.{IsImageSize}
+use Rattle.jc_words.specs.declared.image.ImageFault.{ImageFault}
+use Rattle.jc_card.specs.Inventory.{inventory_of}
+use Rattle.jc_card.specs.PowerUp.{HasHead, Refuses, fault_of}
+use Rattle.jc_card.specs.declared.inventory.Inventory.{Inventory}
+use Rattle.jcard_script.specs.Texts.{IsCutOf}
+use Rattle.jcard_commands.specs.Asked.{Asked, asked}
+use Rattle.jcard_commands.specs.Images.{IsNotOpened, damage_of}
+use Rattle.jcard_commands.specs.declared.fault.Fault.{Fault}
+use Rattle.jcard_commands.specs.declared.fault.Fault.TheVariants.{BadImage, WriteFailed}
+
+-- the line of a count: its name and the count in decimal digits
+abbrev pub count_line : List ℕ → ℕ → List ℕ
+count_line name n = name ++ decimal n ++ codes "\n"
+
+-- the four lines of an inventory
+abbrev pub lines_of : Inventory → List ℕ
+lines_of found = (count_line (codes "words ") found.words ++ count_line (codes "journal ") found.journal)
+    ++ (count_line (codes "packages ") found.packages ++ count_line (codes "applets ") found.applets)
+
+-- of these words their inventory was told, or the beginning of it where a write failed; or they are no image's, and nothing was
+abbrev pub IsTold : List ℕ → Result Unit Fault → List ℕ → Type 0
+IsTold w (Ok done) text = HasHead w × (text ≡ lines_of (inventory_of w))
+IsTold w (Err WriteFailed) text = HasHead w × IsCutOf (lines_of (inventory_of w)) text
+IsTold w (Err (BadImage damage)) text = (text ≡ []) × ((fault : ImageFault) × Refuses (fault_of fault) w × (damage ≡ damage_of fault))
+IsTold w (Err other) text = ⊥
+
+-- the image of this name was asked for alone; it could not be opened, and nothing was written, or its words were told
+abbrev pub IsDump : List ℕ → Result Unit Fault → List ℕ → Asked → Type 0
+IsDump image ended text files = (files ≡ asked 1 0) × (((fault : Fault) × (ended ≡ Err fault) × IsNotOpened image fault × (text ≡ []))
+    ⊎ ((w : List ℕ) × IsImageSize (2 * length w) × IsTold w ended text))

@@ -1,0 +1,6 @@
+pub mod Asked
+pub mod CommandLine
+pub mod Dumps
+pub mod Faults
+pub mod Images
+pub mod NewImages

@@ -1,0 +1,160 @@
+//! The command line.
+ghost use Rattle.std.specs.Prelude.{◌≡◌, ◌⊎◌, None, false, true, map, option_map, option_and_then, IfErr, IfOk};
+ghost use Rattle.std.specs.String.{string_bytes};
+ghost use Rattle.clap.specs.Words.{app_of, found_of, kind_of, rows_of, rule_of, subcommand_rows_of, with_subcommand};
+ghost use Rattle.jcard_commands.specs.CommandLine.{IsTakenAs, TakesDumps, TakesNews, TakesRunLines, TakesRuns, dump_grammar, dump_of, given_option, new_grammar, new_of, operand, program_grammar, request_by, request_of, run_grammar, run_of, taken_for};
+
+use crate::fault::Fault;
+use clap::error::ErrorKind;
+use clap::{Arg, ArgAction, ArgMatches, Command, Error};
+use std::alloc::{AllocError, Global};
+
+/// What the words ask for.
+#[derive(Clone, Copy, Debug, PartialEq, Eq, Drop)]
+pub enum Action<'a> {
+    /// An image with so many words is made, from the platform table of this name.
+    New {
+        image: &'a str,
+        words: &'a str,
+        table: &'a str,
+    },
+    /// The script is carried out, on the card of the image.
+    Run {
+        image: &'a str,
+        script: &'a str,
+    },
+    /// What the image holds is told.
+    Dump {
+        image: &'a str,
+    },
+}
+
+/// What the words ask for, the program's name among them as the first. BadCommandLine comes only for
+/// words that ask for nothing, and NoMemory where memory was refused.
+#[tactic(auto, using(crate::proofs::RunLines::run_lines, crate::proofs::Runs::runs, crate::proofs::Dumps::dumps))]
+pub fn parse(alloc: Global, words: &[String]) -> Result<Action<'_>, Fault<'_>>
+    ensures taken { IsTakenAs (taken_for (map string_bytes words.now)) result }
+    ensures run_lines { TakesRunLines }
+    ensures plain_runs { TakesRuns }
+    ensures plain_dumps { TakesDumps }
+    ensures plain_news { TakesNews }
+{
+    match matched(alloc, words) {
+        Ok(Some(action)) => Ok(action),
+        Ok(None) => Err(Fault::BadCommandLine),
+        Err(error) => Err(match error.kind() {
+            ErrorKind::OutOfMemory => Fault::NoMemory,
+            _ => Fault::BadCommandLine,
+        }),
+    }
+}
+
+// What the words ask for, by clap; nothing where they fit the grammar and name no command.
+fn matched(alloc: Global, words: &[String]) -> Result<Option<Action<'_>>, Error>
+    ensures found { IfOk result (λ found. taken_for (map string_bytes words.now) ≡ option_map request_by found) }
+    ensures refused { IfErr result (λ e. (kind_of e ≡ ErrorKind.OutOfMemory) ⊎ (taken_for (map string_bytes words.now) ≡ None)) }
+{
+    let matches = commands(alloc)?.try_get_matches_from(words)?;
+    Ok(asked(&matches))
+}
+
+// The program's commands.
+fn commands<'a>(alloc: Global) -> Result<Command<'a>, AllocError>
+    ensures { IfOk result (λ c. app_of c ≡ program_grammar) }
+{
+    let new = new_command(alloc)?;
+    let run = run_command(alloc)?;
+    let dump = dump_command(alloc)?;
+    let program = with_command(Command::new(alloc, "jcard"), new)?;
+    let program = with_command(program, run)?;
+    with_command(program, dump)
+}
+
+// The program with one command more.
+fn with_command<'a>(program: Command<'a>, command: Command<'a>) -> Result<Command<'a>, AllocError>
+    requires { (app_of command).top.is_plain ≡ true }
+    ensures { IfOk result (λ c. app_of c ≡ with_subcommand (app_of program.entry) (app_of command.entry).top) }
+{
+    program.subcommand(command)
+}
+
+// `new IMAGE --words N --table FILE`.
+fn new_command<'a>(alloc: Global) -> Result<Command<'a>, AllocError>
+    ensures { IfOk result (λ c. app_of c ≡ new_grammar) }
+{
+    Command::new(alloc, "new")
+        .arg(required(alloc, "image"))?
+        .arg(given(alloc, "words"))?
+        .arg(given(alloc, "table"))
+}
+
+// `run IMAGE SCRIPT`.
+fn run_command<'a>(alloc: Global) -> Result<Command<'a>, AllocError>
+    ensures { IfOk result (λ c. app_of c ≡ run_grammar) }
+{
+    Command::new(alloc, "run")
+        .arg(required(alloc, "image"))?
+        .arg(required(alloc, "script"))
+}
+
+// `dump IMAGE`.
+fn dump_command<'a>(alloc: Global) -> Result<Command<'a>, AllocError>
+    ensures { IfOk result (λ c. app_of c ≡ dump_grammar) }
+{
+    Command::new(alloc, "dump").arg(required(alloc, "image"))
+}
+
+fn required<'a>(alloc: Global, name: &'a str) -> Arg<'a>
+    ensures rule { rule_of result ≡ operand name.entry.now }
+    ensures local { result.global ≡ false }
+{
+    Arg::new(alloc, name).required(true).action(ArgAction::Set)
+}
+
+fn given<'a>(alloc: Global, name: &'a str) -> Arg<'a>
+    ensures rule { rule_of result ≡ given_option name.entry.now }
+    ensures local { result.global ≡ false }
+{
+    required(alloc, name).long(name)
+}
+
+// What the matches ask for.
+fn asked<'a>(matches: &ArgMatches<'a>) -> Option<Action<'a>>
+    ensures { option_map request_by result ≡ option_and_then request_of (subcommand_rows_of matches.now) }
+{
+    let (name, operands) = matches.subcommand()?;
+    match name {
+        "new" => new_asked(operands),
+        "run" => run_asked(operands),
+        "dump" => dump_asked(operands),
+        _ => None,
+    }
+}
+
+fn new_asked<'a>(operands: &ArgMatches<'a>) -> Option<Action<'a>>
+    ensures { option_map request_by result ≡ new_of (rows_of (found_of operands.now)) }
+{
+    let image = operands.get_str("image")?;
+    let words = operands.get_str("words")?;
+    let table = operands.get_str("table")?;
+    Some(Action::New {
+        image,
+        words,
+        table,
+    })
+}
+
+fn run_asked<'a>(operands: &ArgMatches<'a>) -> Option<Action<'a>>
+    ensures { option_map request_by result ≡ run_of (rows_of (found_of operands.now)) }
+{
+    let image = operands.get_str("image")?;
+    let script = operands.get_str("script")?;
+    Some(Action::Run { image, script })
+}
+
+fn dump_asked<'a>(operands: &ArgMatches<'a>) -> Option<Action<'a>>
+    ensures { option_map request_by result ≡ dump_of (rows_of (found_of operands.now)) }
+{
+    let image = operands.get_str("image")?;
+    Some(Action::Dump { image })
+}

@@ -1,0 +1,97 @@
+//! Telling what an image holds.
+ghost use Rattle.std.specs.Prelude.{◌≡◌, ◌++◌, ℕ, List, is_err, MatchResult};
+ghost use Rattle.std.specs.Io.KnownBytes.{Appends};
+ghost use Rattle.jcard_script.specs.Texts.{AppendsCut};
+ghost use Rattle.jcard_script.specs.Failures.{failures_after};
+ghost use Rattle.jcard_commands.specs.Asked.{Asked, more};
+ghost use Rattle.jcard_commands.specs.Faults.{is_unwritten};
+ghost use Rattle.jcard_commands.specs.Dumps.{IsDump, IsTold, count_line, lines_of};
+ghost use Rattle.jcard_commands.specs.Images.{damage_of};
+
+use crate::disk::Disk;
+use crate::fault::{Damage, Fault};
+use itoa::Buffer;
+use jc_card::inventory::Inventory;
+use jc_words::{ImageFault, WordStore};
+use jcard_script::streams::{TextOut, WriteFailed, write_parts};
+use std::rt::Files;
+
+/// A count and what stands before it in its line.
+type Count<'a> = (&'a [u8], u16);
+
+/// Writes what the image of this name holds: its words, the entries of its journal, its packages
+/// and its applets, a line each. Nothing is recovered.
+pub fn dump_image<'n, R: Files + AllocGlobal, W: TextOut>(
+    disk: &mut Disk<R>,
+    image: &'n str,
+    out: &mut W,
+) -> Result<(), Fault<'n>>
+    ensures told { (text : List ℕ) × (files : Asked) × Appends (W.contents out.old) (W.contents out.new) text
+        × IsDump image.now result text files × (disk.new ≡ more files disk.old) }
+    ensures writes { W.failures out.new ≡ failures_after (W.failures out.old) (is_unwritten result) }
+{
+    match disk.open_image(image) {
+        Ok(store) => dump_store(&store, out),
+        Err(fault) => Err(fault),
+    }
+}
+
+// Writes what the words of a store hold.
+fn dump_store<'a, S: WordStore, W: TextOut>(store: &S, out: &mut W) -> Result<(), Fault<'a>>
+    ensures told { (text : List ℕ) × Appends (W.contents out.old) (W.contents out.new) text × IsTold (S.words store.now) result text }
+    ensures writes { W.failures out.new ≡ failures_after (W.failures out.old) (is_unwritten result) }
+{
+    match Inventory::of(store) {
+        Ok(found) => match write_inventory(found, out) {
+            Ok(()) => Ok(()),
+            Err(WriteFailed) => Err(Fault::WriteFailed),
+        },
+        Err(fault) => Err(Fault::BadImage(damage_by(fault))),
+    }
+}
+
+// The damage that a fault of the first words is.
+fn damage_by(fault: ImageFault) -> Damage
+    ensures { result ≡ damage_of fault }
+{
+    match fault {
+        ImageFault::BadMagic => Damage::Magic,
+        ImageFault::BadVersion => Damage::Version,
+        ImageFault::BadSize => Damage::Size,
+    }
+}
+
+fn write_inventory<W: TextOut>(found: Inventory, out: &mut W) -> Result<(), WriteFailed>
+    ensures text { MatchResult result
+        (λ _. Appends (W.contents out.old) (W.contents out.new) (lines_of found))
+        (λ _. AppendsCut (W.contents out.old) (W.contents out.new) (lines_of found)) }
+    ensures count { W.failures out.new ≡ failures_after (W.failures out.old) (is_err result) }
+{
+    write_counts(out, (b"words ", found.words), (b"journal ", found.journal))?;
+    write_counts(
+        out,
+        (b"packages ", found.packages),
+        (b"applets ", found.applets),
+    )
+}
+
+// Writes the lines of two counts.
+fn write_counts<W: TextOut>(out: &mut W, first: Count, second: Count) -> Result<(), WriteFailed>
+    ensures text { MatchResult result
+        (λ _. Appends (W.contents out.old) (W.contents out.new) (count_line first.entry.0.now first.entry.1 ++ count_line second.entry.0.now second.entry.1))
+        (λ _. AppendsCut (W.contents out.old) (W.contents out.new) (count_line first.entry.0.now first.entry.1 ++ count_line second.entry.0.now second.entry.1)) }
+    ensures count { W.failures out.new ≡ failures_after (W.failures out.old) (is_err result) }
+{
+    write_count(out, first.0, first.1)?;
+    write_count(out, second.0, second.1)
+}
+
+fn write_count<W: TextOut>(out: &mut W, name: &[u8], count: u16) -> Result<(), WriteFailed>
+    ensures text { MatchResult result
+        (λ _. Appends (W.contents out.old) (W.contents out.new) (count_line name.now count))
+        (λ _. AppendsCut (W.contents out.old) (W.contents out.new) (count_line name.now count)) }
+    ensures count { W.failures out.new ≡ failures_after (W.failures out.old) (is_err result) }
+{
+    let mut digits = Buffer::new();
+    write_parts(out, name, digits.format(count).as_bytes(), b"\n")
+}

@@ -1,0 +1,123 @@
+//! Why the program ends early, and how it tells that.
+ghost use Rattle.std.specs.Prelude.{◌≡◌, ℕ, List, Bool, is_err, MatchResult};
+ghost use Rattle.std.specs.Io.KnownBytes.{Appends};
+ghost use Rattle.jcard_script.specs.Texts.{AppendsCut};
+ghost use Rattle.jcard_script.specs.Failures.{failures_after};
+ghost use Rattle.jcard_commands.specs.Faults.{check_of, status_of, line_of, IsLastLine};
+
+use itoa::Buffer;
+use jcard_script::streams::{TextOut, WriteFailed, write_all, write_parts};
+
+/// What is wrong with an image, by the check that refuses it, in their order.
+#[derive(Clone, Copy, Debug, PartialEq, Eq, Drop)]
+pub enum Damage {
+    /// Its first word is not the magic word.
+    Magic,
+    /// Its version is not known.
+    Version,
+    /// Its size is not the one that it tells, or none that an image has.
+    Size,
+    /// Its journal.
+    Log,
+    /// Its platform table.
+    Table,
+    /// Its heap or its packages.
+    Package,
+}
+
+/// Why the program ended early.
+#[derive(Clone, Copy, Debug, PartialEq, Eq, Drop)]
+pub enum Fault<'a> {
+    /// The words are no command line, or ask for help or the version.
+    BadCommandLine,
+    /// Memory was refused.
+    NoMemory,
+    /// An image cannot have so many words.
+    BadWords,
+    /// This line of the platform table, counted from 1, is bad; or 0.
+    BadTable(u16),
+    /// The platform table and the objects of the runtime environment don't fit.
+    ImageTooSmall,
+    /// This file cannot be opened or read.
+    CannotRead(&'a str),
+    /// This file cannot be made or written.
+    CannotWrite(&'a str),
+    /// The image is damaged.
+    BadImage(Damage),
+    /// This line of the script, counted from 1, has no form.
+    BadCommand(u32),
+    /// The script is longer than its bound.
+    ScriptTooLong,
+    /// Standard output cannot be written.
+    WriteFailed,
+}
+
+/// Writes the last line, if there is a fault that has one, and answers the exit status: 0, 2 for
+/// a bad command line, 1 for every other fault.
+pub fn tell<W: TextOut>(ended: Result<(), Fault>, out: &mut W) -> u8
+    ensures status { result ≡ status_of ended.entry }
+    ensures line { (text : List ℕ) × (failed : Bool) × Appends (W.contents out.old) (W.contents out.new) text
+        × IsLastLine ended.entry failed text × (W.failures out.new ≡ failures_after (W.failures out.old) failed) }
+{
+    let Err(fault) = ended else {
+        return 0;
+    };
+    let _ = write_line(fault, out);
+    match fault {
+        Fault::BadCommandLine => 2,
+        _ => 1,
+    }
+}
+
+fn write_line<W: TextOut>(fault: Fault, out: &mut W) -> Result<(), WriteFailed>
+    ensures text { MatchResult result
+        (λ _. Appends (W.contents out.old) (W.contents out.new) (line_of fault.entry))
+        (λ _. AppendsCut (W.contents out.old) (W.contents out.new) (line_of fault.entry)) }
+    ensures count { W.failures out.new ≡ failures_after (W.failures out.old) (is_err result) }
+{
+    let mut digits = Buffer::new();
+    match fault {
+        Fault::BadCommandLine => write_all(out, b"jcard: bad command line\n"),
+        Fault::NoMemory => write_all(out, b"jcard: no memory\n"),
+        Fault::BadWords => write_all(out, b"jcard: words must be 4096 to 65535\n"),
+        Fault::BadTable(n) => write_parts(
+            out,
+            b"jcard: bad table line ",
+            digits.format(n).as_bytes(),
+            b"\n",
+        ),
+        Fault::ImageTooSmall => write_all(out, b"jcard: image too small\n"),
+        Fault::CannotRead(path) => write_parts(out, b"jcard: cannot read ", path.as_bytes(), b"\n"),
+        Fault::CannotWrite(path) => {
+            write_parts(out, b"jcard: cannot write ", path.as_bytes(), b"\n")
+        }
+        Fault::BadImage(damage) => write_parts(
+            out,
+            b"jcard: bad image ",
+            digits.format(number_of(damage)).as_bytes(),
+            b"\n",
+        ),
+        Fault::BadCommand(n) => write_parts(
+            out,
+            b"jcard: line ",
+            digits.format(n).as_bytes(),
+            b": bad command\n",
+        ),
+        Fault::ScriptTooLong => write_all(out, b"jcard: script too long\n"),
+        Fault::WriteFailed => Ok(()),
+    }
+}
+
+// The number of the check that finds a damage.
+fn number_of(damage: Damage) -> u8
+    ensures { result ≡ check_of damage }
+{
+    match damage {
+        Damage::Magic => 1,
+        Damage::Version => 2,
+        Damage::Size => 3,
+        Damage::Log => 4,
+        Damage::Table => 5,
+        Damage::Package => 6,
+    }
+}

@@ -1,0 +1,65 @@
+-- How a session stands, and what a power up makes of it.
+use Rattle.std.specs.Prelude.{ℕ, ◌≡◌, List, length, true, Some}
+use Rattle.jc_words.specs.Count.{raised}
+use Rattle.jc_words.specs.Stores.{Fused}
+use Rattle.jc_commit.specs.Image.{IsGoodLog, StillRecovers, recovered_of}
+use Rattle.jc_commit.specs.State.{opened}
+use Rattle.jc_heap.specs.Heap.{HeapState, heap_of, heap_view, resting}
+use Rattle.jc_heap.specs.Image.{IsLaid}
+use Rattle.jc_transient.specs.State.{IsBlank}
+use Rattle.jc_card.specs.CardState.{CardState}
+use Rattle.jc_card.specs.Made.{IsMade}
+use Rattle.jc_card.specs.PowerUp.{Refuses, Stands}
+use Rattle.jc_card.specs.declared.power_up.PowerFault.{PowerFault as Fault}
+use Rattle.jc_card.specs.declared.power_up.PowerFault.TheVariants.{StoreDown}
+
+-- the card is up, in this state; or it is down, and its store is so
+pub data Standing : Type 0 where
+  Up : CardState → Standing
+  Down : Fused → Standing
+
+-- the heap that a recovery leaves
+abbrev pub durable_of : Standing → HeapState
+durable_of (Up card) = card.heap.durable
+durable_of (Down store) = heap_of (recovered_of store.words)
+
+-- the store of a card in this state: its words stand for the durable heap, and its counts are the card's
+pub record IsStoreOf (card : CardState) (store : Fused) : Type 0 where
+  pub good : IsGoodLog store.words
+  pub laid : IsLaid (recovered_of store.words)
+  pub durable : heap_of (recovered_of store.words) ≡ card.heap.durable
+  pub size : length store.words ≡ card.heap.size
+  pub down : store.down ≡ card.heap.down
+  pub passed : store.passed ≡ card.heap.passed
+  pub refused : store.refused ≡ card.heap.refused
+
+-- the session's store is so
+abbrev pub Holds : Standing → Fused → Type 0
+Holds (Up card) store = IsStoreOf card store
+Holds (Down held) store = store ≡ held
+
+-- a power up over a store that was so ends so: the card is up, with the heap of the recovered words and blank memory, and no
+-- write was refused; or one was, and a recovery leaves what it would have left
+abbrev pub PowersUp : Fused → Standing → Type 0
+PowersUp before (Up card) = IsMade before.words × (card.heap ≡ heap_view (opened before.words before.passed before.refused) (length before.words)) × IsBlank card.ram
+PowersUp before (Down after) = Refuses StoreDown before.words × StillRecovers before.words after.words × (after.down ≡ true) × (after.refused ≡ raised before.refused 1)
+
+-- a power up over a store that was so finds this fault, which these words have and which is not that a write was refused, and
+-- leaves the store so
+pub record FailsUp (before : Fused) (fault : Fault) (after : Fused) : Type 0 where
+  pub cause : Refuses fault before.words
+  pub other : fault ≡ StoreDown → ⊥
+  pub stands : Stands fault before.words after.words
+
+-- a reset: the power comes back to the session's store, and the card powers up
+abbrev pub IsReset : Standing → Standing → Type 0
+IsReset s t = (store : Fused) × Holds s store × PowersUp store t
+
+-- a reset that finds a fault
+abbrev pub FailsReset : Fault → Standing → Standing → Type 0
+FailsReset fault s t = (before after : Fused) × Holds s before × FailsUp before fault after × (t ≡ Down after)
+
+-- the fuse is armed with k. The state of a card that is up does not tell its fuse: the card is as it was, at rest
+abbrev pub armed : ℕ → Standing → Standing
+armed k (Up card) = Up (record card { heap = resting card.heap.durable card.heap.passed card.heap.refused card.heap.size })
+armed k (Down store) = Down (record store { fuse = Some k })
