@@ -1,4 +1,4 @@
-use Rattle.std.proofs.Common.{IsTrue, ◌↔◌, not, ◌≡◌, ◌+◌, ◌/◌, ◌∙◌, ap, sym, subst, refl, drop}
+use Rattle.std.proofs.Common.{IsTrue, false, ◌↔◌, not, ◌≡◌, ◌+◌, ◌/◌, ◌∙◌, ap, sym, subst, refl, drop}
 use Rattle.jc_words.specs.Layout.{text_start}
 use Rattle.jc_heap.specs.Cut.{cut, lacking}
 use Rattle.jc_heap.specs.Table.{has}
