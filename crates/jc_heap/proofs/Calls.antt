@@ -28,7 +28,7 @@ pub makes-cut : {A B : Type 0} (old new : HeapView) (a : A) (b : B) (ms ns : Lis
 makes-cut old new a b ms ns first = cut-before ms ns old new first
 
 pub cut_one : (m : Move) (old new : HeapView) → IsStopped old new → IsCut (m ∷ []) old new
-cut_one m old new st = record { left = inl st.durable; down = st.down; refused = st.refused }
+cut_one m old new st = record { left = inl st.durable; down = st.down; refused = st.refused; size = st.size }
 
 module _ {A : Type 0} (reason : Option HeapRefusal) (old new : HeapView) where
   pub unless_refused : (r : HeapRefusal) (ms : List Move) (a : A) → reason ≡ Some r → new ≡ old → MakesUnless reason old (Made (Refused r) new) ms a

@@ -210,6 +210,7 @@ pub record IsStopped (old new : HeapView) : Type 0 where
   pub durable : new.durable ≡ old.durable
   pub down : new.down ≡ true
   pub refused : new.refused ≡ raised old.refused 1
+  pub size : new.size ≡ old.size
 
 -- an event's area has no space for so many cells
 abbrev pub LacksCells : HeapState → ClearEvent → ℕ → Type 0

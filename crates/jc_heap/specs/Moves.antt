@@ -76,6 +76,7 @@ pub record IsCut (moves : List Move) (old new : HeapView) : Type 0 where
   pub left : Left moves old new.durable
   pub down : new.down ≡ true
   pub refused : new.refused ≡ raised old.refused 1
+  pub size : new.size ≡ old.size
 
 -- how a call ends: with an answer, or cut by the store
 pub data After (A : Type 0) : Type 0 where

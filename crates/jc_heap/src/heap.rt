@@ -10,15 +10,15 @@ ghost use Rattle.jc_heap.specs.declared.place.Place.TheVariants.{Cell};
 ghost use Rattle.jc_heap.specs.Moves.{Write, SetCells, Begin, Commit, Abort, Made, Makes, MakesUnless, after_change, after_step, no_room, no_run};
 
 use crate::layout::HEADER;
+use crate::lookup::{facts_at, next_behind};
 use crate::object::Facts;
 use crate::place::Place;
-use crate::lookup::{facts_at, next_behind};
 use crate::refusal::ChangeRefusal;
 use crate::walk::{begins_package, begins_record};
 use jc_commit::Journal;
 use jc_transient::Ref;
-use jc_words::{StoreDown, WordStore};
 use jc_words::layout::{JOURNAL_CAPACITY, TEXT_LENGTH, TEXT_START, TOP};
+use jc_words::{StoreDown, WordStore};
 use std::marker::Model;
 
 // How many words one change may have.

@@ -1,13 +1,21 @@
 -- Dead references.
 use Rattle.std.proofs.Common.{◌≡◌, ℕ, zero, ◌<◌, ◌≤◌, Bool, true, false, refl, sym, subst, ◌∙◌, ap, inl, inr, if◌then◌else◌}
-use Rattle.std.proofs.lemmas.Bool.{ltb-true, ltb-false}
+use Rattle.std.proofs.lemmas.Bool.{ltb-true, ltb-false, cases_Bool, true≢false}
 use Rattle.std.specs.Prelude.{nat_lt}
 use Rattle.jc_transient.specs.declared.cell.CellValue.TheVariants.{Reference}
 use Rattle.jc_transient.specs.Cells.{without_dead}
-use Rattle.jc_heap.specs.Heap.{HeapState, HeapView, names, aborted, SameShape, KeepsBelowTop}
+use Rattle.jc_heap.specs.Heap.{HeapState, HeapView, IsObject, names, aborted, SameShape, KeepsBelowTop}
 use Rattle.jc_heap.specs.Whole.{IsReference}
-use Rattle.jc_heap.proofs.Referring.{object_named}
+use Rattle.jc_heap.specs.Object.{is_object}
+use Rattle.jc_heap.proofs.Laws.{item_at-absent}
 use Rattle.jc_memory.specs.Dead.{living, BuriesDead}
+
+-- where an object stands something stands
+object_named : (h : HeapState) (r : ℕ) → IsObject h r → names h r ≡ true
+object_named h r there = elim (cases_Bool (names h r)) [
+  | inl e ↦ e
+  | inr e ↦ absurd (true≢false (sym there ∙ ap is_object (item_at-absent h r e)))
+]
 
 below_top : (d h : HeapState) (r : ℕ) → SameShape d h → ((q : ℕ) → d.top ≤ q → names d q ≡ false) → (b : Bool) → nat_lt r d.top ≡ b → names d r ≡ (if b then names h r else false)
 below_top d h r shape end true e = sym (shape.names r (ltb-true r d.top e))

@@ -2,21 +2,18 @@
 use Rattle.std.specs.Prelude.{ℕ, ℤ, ◌+◌, ◌%◌, ◌≡◌, ◌<◌, ◌≤◌, List, [], ◌∷◌, map, length, slice_index, Option, Some, None}
 use Rattle.std.specs.List.{range_with_len}
 use Rattle.std.specs.Int.{w16, cast_unsigned, cast_signed}
-use Rattle.jc_commit.specs.Entries.{addresses_of}
 use Rattle.jc_transient.specs.declared.cell.CellValue.{CellValue}
 use Rattle.jc_transient.specs.declared.cell.CellValue.TheVariants.{Short, Reference}
 use Rattle.jc_transient.specs.declared.cell.ClearEvent.{ClearEvent}
 use Rattle.jc_transient.specs.State.{area_size, cell_at}
 use Rattle.jc_heap.specs.declared.object.Facts.{Facts}
-use Rattle.jc_heap.specs.declared.object.Kind.TheVariants.{Instance, ReferenceArray}
-use Rattle.jc_heap.specs.declared.place.Place.{Place}
+use Rattle.jc_heap.specs.declared.object.Kind.TheVariants.{ReferenceArray}
 use Rattle.jc_heap.specs.declared.place.Place.TheVariants.{Cell}
 use Rattle.jc_heap.specs.declared.refusal.HeapRefusal.{HeapRefusal}
 use Rattle.jc_heap.specs.Object.{IsElement}
-use Rattle.jc_heap.specs.Heap.{cells, facts, cell_place, run_words}
-use Rattle.jc_heap.specs.Places.{place_word}
+use Rattle.jc_heap.specs.Heap.{cells, facts}
 use Rattle.jc_heap.specs.Whole.{IsReference}
-use Rattle.jc_heap.specs.Moves.{Write, SetCells, Answer, Done, full_at}
+use Rattle.jc_heap.specs.Moves.{Write, SetCells, Answer, Done, no_room, no_run}
 use Rattle.jc_memory.specs.State.{MemoryState, Effect, Changes, Fills}
 use Rattle.jc_memory.specs.Doing.{Doing, Gives, Then, unless_refused}
 
@@ -63,27 +60,14 @@ sets_in (Some event) r i v = Fills r i (v ∷ [])
 abbrev pub sets : MemoryState → ℕ → ℕ → CellValue → Effect
 sets s r i v = sets_in (facts s.heap.now r).event r i v
 
--- why a change of a persistent object's cells is refused; others change without a transaction
-abbrev pub no_room_in : Option ClearEvent → MemoryState → List ℕ → Option HeapRefusal
-no_room_in None s places = full_at s.heap places
-no_room_in (Some event) s places = None
+-- why cells of an object that is kept so can't be set: the transaction has no room; a transient one needs none
+abbrev pub no_room_in : Option ClearEvent → Option HeapRefusal → Option HeapRefusal
+no_room_in None reason = reason
+no_room_in (Some event) reason = None
 
--- why a place can't be written: the transaction has no room
-abbrev pub no_room_at : MemoryState → Place → Option HeapRefusal
-no_room_at s place = full_at s.heap (place_word place ∷ [])
-
--- what writing a place may do
-abbrev pub written : MemoryState → Place → ℕ → Doing (Answer (Unit {0}))
-written s place v = unless_refused (no_room_at s place) (Then (Changes (Write place v)) (Gives (Done tt)))
-
--- an object with counters: a persistent instance, which is no array in the durable heap either
-pub record HasCounters (s : MemoryState) (r : ℕ) : Type 0 where
-  pub now : (facts s.heap.now r).kind ≡ Instance
-  pub durable : (facts s.heap.durable r).kind ≡ Instance
-
--- why a cell can't be set: the transaction has no room
+-- why a cell can't be set
 abbrev pub no_room_for : MemoryState → ℕ → ℕ → Option HeapRefusal
-no_room_for s r i = no_room_in (facts s.heap.now r).event s (cell_place r i ∷ [])
+no_room_for s r i = no_room_in (facts s.heap.now r).event (no_room s.heap (Cell r i ∷ []))
 
 -- what setting a cell may do
 abbrev pub stored : MemoryState → ℕ → ℕ → CellValue → Doing (Answer (Unit {0}))
@@ -99,7 +83,7 @@ sets_run s r i words = sets_run_in (facts s.heap.now r).event r i words
 
 -- why they can't be set
 abbrev pub no_room_for_run : MemoryState → ℕ → ℕ → List ℕ → Option HeapRefusal
-no_room_for_run s r i words = no_room_in (facts s.heap.now r).event s (addresses_of (run_words (cell_place r i) words))
+no_room_for_run s r i words = no_room_in (facts s.heap.now r).event (no_run s.heap r i words)
 
 -- what setting them may do
 abbrev pub stored_run : MemoryState → ℕ → ℕ → List ℕ → Doing (Answer (Unit {0}))

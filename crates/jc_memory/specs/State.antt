@@ -69,13 +69,8 @@ pub record IsNew (h : HeapState) (r : ℕ) : Type 0 where
   pub some : r ≡ 0 → ⊥
   pub chosen : r ≡ h.top
 
--- what a heap meets that a memory has: it is whole, now and after a loss of power, and neither heap ends at null
-pub record IsKept (v : HeapView) : Type 0 where
-  pub whole : AreWhole v
-  pub now : 0 < v.now.top
-  pub durable : 0 < v.durable.top
-
--- what the parts of each memory meet; the heap's while its store is up
+-- what the parts of each memory meet: while its store is up the heap is whole, now and after a loss of power;
+-- the contents have their sizes
 pub record AreParts (v : HeapView) (contents : RamState) : Type 0 where
-  pub heap : v.down ≡ false → IsKept v
+  pub heap : v.down ≡ false → AreWhole v
   pub ram : HasSizes contents

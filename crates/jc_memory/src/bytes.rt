@@ -2,13 +2,20 @@
 ghost use Rattle.std.specs.Prelude.{◌≡◌, ◌+◌, ◌≤◌, false, length, map, take};
 ghost use Rattle.jc_transient.specs.State.{HasSizes, area, area_size, with_area, with_cells};
 ghost use Rattle.jc_heap.specs.Heap.{IsObject, facts};
-ghost use Rattle.jc_memory.specs.Doing.{Makes, after_of};
+ghost use Rattle.jc_memory.specs.Doing.{Makes, after_change};
 ghost use Rattle.jc_memory.specs.Cells.{bytes_at, words_at, number_of, stored_run, MayHaveAll};
 
 use crate::memory::{MOST_COMMAND, Memory};
-use jc_heap::HeapRefusal;
+use jc_heap::ChangeRefusal;
 use jc_transient::{CellValue, ClearEvent, Ram, Ref};
 use jc_words::WordStore;
+
+// A word as a number.
+fn number_of(word: u16) -> CellValue
+    ensures { result ≡ number_of word }
+{
+    CellValue::Short(word.cast_signed())
+}
 
 // Puts numbers into an event's area from a place on.
 fn fill_run(ram: &mut Ram, event: ClearEvent, place: u16, words: &[u16])
@@ -18,11 +25,7 @@ fn fill_run(ram: &mut Ram, event: ClearEvent, place: u16, words: &[u16])
     ensures sizes { HasSizes ram.new }
 {
     for (k, word) in words.iter().enumerate() {
-        ram.set(
-            event,
-            place + k as u16,
-            CellValue::Short(word.cast_signed()),
-        );
+        ram.set(event, place + k as u16, number_of(*word));
     }
 }
 
@@ -65,12 +68,12 @@ impl<S: WordStore> Memory<S> {
 
     /// Sets cells of an object to numbers from an index on. A persistent object's are one change:
     /// refused, where the transaction has no room for all of them.
-    pub fn set_run(&mut self, object: Ref, i: u16, words: &[u16]) -> Result<(), HeapRefusal>
+    pub fn set_run(&mut self, object: Ref, i: u16, words: &[u16]) -> Result<(), ChangeRefusal>
         requires up { self.old.heap.down ≡ false }
         requires there { IsObject self.old.heap.now object }
         requires cells { i + length words.now ≤ (facts self.old.heap.now object).length }
         requires values { MayHaveAll self.old object words.now }
-        ensures { Makes (stored_run self.old object i words.now) self.old (after_of result self.new) }
+        ensures { Makes (stored_run self.old object i words.now) self.old (after_change result self.new) }
     {
         let facts = self.facts(object);
         match facts.event {
@@ -83,13 +86,13 @@ impl<S: WordStore> Memory<S> {
     }
 
     /// The same for bytes, at most as many as a command has.
-    pub fn set_bytes(&mut self, object: Ref, i: u16, bytes: &[u8]) -> Result<(), HeapRefusal>
+    pub fn set_bytes(&mut self, object: Ref, i: u16, bytes: &[u8]) -> Result<(), ChangeRefusal>
         requires up { self.old.heap.down ≡ false }
         requires there { IsObject self.old.heap.now object }
         requires cells { i + length bytes.now ≤ (facts self.old.heap.now object).length }
         requires values { MayHaveAll self.old object bytes.now }
         requires few { length bytes.now ≤ MOST_COMMAND }
-        ensures { Makes (stored_run self.old object i bytes.now) self.old (after_of result self.new) }
+        ensures { Makes (stored_run self.old object i bytes.now) self.old (after_change result self.new) }
     {
         let mut words = [0; MOST_COMMAND];
         widen(&mut words, bytes);

@@ -1,6 +1,7 @@
 //! The memory of a card that runs: what code may do to it, as data, and the calls that do it.
 #![tactic(auto)]
 
+mod adding;
 mod bytes;
 mod cells;
 mod flags;

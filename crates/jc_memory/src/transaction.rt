@@ -1,16 +1,16 @@
-//! Transactions, and places written for a while and for good.
+//! Transactions, and changes of places: for a while, several as one, and for good.
 ghost use Rattle.std.specs.Prelude.{◌≡◌, ◌<◌, false, true, length};
-ghost use Rattle.jc_heap.specs.declared.place.Place.TheVariants.{Cell};
-ghost use Rattle.jc_heap.specs.Heap.{cells};
-ghost use Rattle.jc_heap.specs.Keeping.{MayStand};
-ghost use Rattle.jc_heap.specs.Places.{HasPlace, MayHold};
-ghost use Rattle.jc_heap.specs.Moves.{Begin, Commit, Abort, Count};
-ghost use Rattle.jc_memory.specs.State.{Changes, Buries, effected};
-ghost use Rattle.jc_memory.specs.Doing.{Gives, Then, Makes, after_of, after_down};
-ghost use Rattle.jc_memory.specs.Cells.{HasCounters, written};
+ghost use Rattle.jc_heap.specs.declared.object.Kind.TheVariants.{Instance};
+ghost use Rattle.jc_heap.specs.Heap.{cells, facts};
+ghost use Rattle.jc_heap.specs.Keeping.{MayStand, MayAllStand};
+ghost use Rattle.jc_heap.specs.Places.{HasPlace, MayHold, AreThere, AreApart, places_of};
+ghost use Rattle.jc_heap.specs.Moves.{Begin};
+ghost use Rattle.jc_memory.specs.State.{Changes, effected};
+ghost use Rattle.jc_memory.specs.Doing.{Makes, after_change, after_step};
+ghost use Rattle.jc_memory.specs.Changing.{written, written_all, counted, committed, aborted};
 
 use crate::memory::Memory;
-use jc_heap::{HeapRefusal, Place};
+use jc_heap::{ChangeRefusal, Place};
 use jc_transient::Ref;
 use jc_words::{StoreDown, WordStore};
 
@@ -28,12 +28,9 @@ impl<S: WordStore> Memory<S> {
     pub fn commit(&mut self) -> Result<(), StoreDown>
         requires up { self.old.heap.down ≡ false }
         requires inside { self.old.heap.begun ≡ true }
-        ensures { Makes (Then (Changes Commit) (Gives tt)) self.old (after_down result self.new) }
+        ensures { Makes committed self.old (after_step result self.new) }
     {
-        let Ok(()) = self.heap.commit() else {
-            return Err(StoreDown);
-        };
-        Ok(())
+        self.heap.commit()
     }
 
     /// Takes the transaction back, and makes each transient reference null whose object was made in it.
@@ -41,24 +38,33 @@ impl<S: WordStore> Memory<S> {
     pub fn abort(&mut self) -> Result<(), StoreDown>
         requires up { self.old.heap.down ≡ false }
         requires inside { self.old.heap.begun ≡ true }
-        ensures { Makes (Then (Changes Abort) (Then Buries (Gives tt))) self.old (after_down result self.new) }
+        ensures { Makes aborted self.old (after_step result self.new) }
     {
-        let Ok(()) = self.heap.abort() else {
-            return Err(StoreDown);
-        };
+        self.heap.abort()?;
         self.ram.null_dead(self.heap.top());
         Ok(())
     }
 
     /// Writes a place: a word of a static image or of the registry, or a cell of a persistent object.
-    pub fn write(&mut self, place: Place, v: u16) -> Result<(), HeapRefusal>
+    pub fn write(&mut self, place: Place, v: u16) -> Result<(), ChangeRefusal>
         requires up { self.old.heap.down ≡ false }
         requires there { HasPlace self.old.heap.now place }
         requires value { MayHold self.old.heap.now place v }
         requires reference { MayStand self.old.heap.now place v }
-        ensures { Makes (written self.old place v) self.old (after_of result self.new) }
+        ensures { Makes (written self.old place v) self.old (after_change result self.new) }
     {
         self.heap.write(place, v)
+    }
+
+    /// Writes several places as one change: none, where the transaction has no room for all of them.
+    pub fn write_all(&mut self, changes: &[(Place, u16)]) -> Result<(), ChangeRefusal>
+        requires up { self.old.heap.down ≡ false }
+        requires there { AreThere self.old.heap.now changes.now }
+        requires apart { AreApart (places_of changes.now) }
+        requires references { MayAllStand self.old.heap.now changes.now }
+        ensures { Makes (written_all self.old changes.now) self.old (after_change result self.new) }
+    {
+        self.heap.set_all(changes)
     }
 
     /// Sets a counter of a persistent instance for good: no abort takes it back, unless an earlier change
@@ -66,13 +72,10 @@ impl<S: WordStore> Memory<S> {
     pub fn count(&mut self, object: Ref, i: u16, v: u16) -> Result<(), StoreDown>
         requires up { self.old.heap.down ≡ false }
         requires cell { i < length (cells self.old.heap.now object) }
-        requires counters { HasCounters self.old object }
-        ensures { Makes (Then (Changes (Count (Cell object i) v)) (Gives tt)) self.old (after_down result self.new) }
+        requires kind { (facts self.old.heap.now object).kind ≡ Instance }
+        ensures { Makes (counted object i v) self.old (after_step result self.new) }
     {
-        let Ok(()) = self.heap.write_both(Place::Cell(object, i), v) else {
-            return Err(StoreDown);
-        };
-        Ok(())
+        self.heap.write_both(Place::Cell(object, i), v)
     }
 
     /// The address that the next object gets: each object lies below it.

@@ -1,5 +1,4 @@
-use Rattle.std.proofs.Common.{◌≡◌, ◌<◌, length, arith, refl, sym, ◌∙◌, ap}
-use Rattle.jc_transient.specs.declared.cell.CellValue.TheVariants.{Short}
+use Rattle.std.proofs.Common.{◌≡◌, ◌<◌, length, arith}
 use Rattle.jc_memory.proofs.Running.{fill_none, fill_more, fill_all}
 use Rattle.jc_memory.proofs.bytes.fill_run.Goals as goal
 
@@ -8,7 +7,7 @@ loop-k-init c = record { done = fill_none c.args.event c.args.ram.now c.args.pla
 
 pub loop-k-preserved : goal.loop-k-preserved
 loop-k-preserved c = record {
-  done = fill_more c.args.event c.args.ram.now c.loop-k.ram c.set.new.self c.args.place c.args.words.now c.loop-k.k _ c.requires.sizes c.requires.fits c.loop-k-test.true c.loop-k.invariant.done (ap Short c.cast_signed.ensures) c.set.ensures.done;
+  done = fill_more c.args.event c.args.ram.now c.loop-k.ram c.set.new.self c.args.place c.args.words.now c.loop-k.k c.number_of.result c.requires.sizes c.requires.fits c.loop-k-test.true c.loop-k.invariant.done c.number_of.ensures c.set.ensures.done;
   sizes = c.set.ensures.sizes;
 }
 

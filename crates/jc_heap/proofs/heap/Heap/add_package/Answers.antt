@@ -117,4 +117,3 @@ returns-clause-record g c =
     let change : Changes ((addresses_start + c.read-count.result, (get_or c.self.inside.journal.plain top_address 0)) ∷ (packages_address, c.read-count.result + 1) ∷ (top_address, (c.from.result + c.size_of_record-size.result + c.size_of_arrays.result)) ∷ []) c.write_package-written.new.journal c.write_all.new.self = subst (λ t. Changes ((addresses_start + c.read-count.result, t) ∷ (packages_address, c.read-count.result + 1) ∷ (top_address, (c.from.result + c.size_of_record-size.result + c.size_of_arrays.result)) ∷ []) c.write_package-written.new.journal c.write_all.new.self) c.read-top.ensures c.in-Ok-write_all.ensures.ok in
     let done : heap_view c.write_all.new.self c.self.inside.size ≡ changed c.args.self.now (add_package c.args.self.now.now (parts c.args.components.now) (initials c.args.arrays.now) c.args.image.now) (addresses_of_package c.args.self.now.now) (package_size (parts c.args.components.now) (initials c.args.arrays.now) c.args.image.now) = package_view c.self.inside.journal c.write_package-written.new.journal c.write_all.new.self c.self.inside.size (parts c.args.components.now) (initials c.args.arrays.now) c.args.image.now c.read-count.result (c.from.result + c.size_of_record-size.result + c.size_of_arrays.result) c.self.invariant (up_is c.self.inside.journal c.args.self.now c.self.inside.size c.self.view_is c.requires.up) below fills c.read-count.ensures few end fits change c.args.self.now c.self.view_is in
     subst (λ r. item_at ((heap_view c.write_all.new.self c.self.inside.size).now) r ≡ APackage (package_record r (parts c.args.components.now) (initials c.args.arrays.now) c.args.image.now)) (sym (c.at.ensures ∙ c.read-top.ensures ∙ sym (view_top c.self.inside.journal c.args.self.now c.self.inside.size c.self.view_is (c.self.invariant.now (up_is c.self.inside.journal c.args.self.now c.self.inside.size c.self.view_is c.requires.up))))) (ap (λ v. item_at (v.now) c.args.self.now.now.top) done ∙ item-package c.args.self.now.now (parts c.args.components.now) (initials c.args.arrays.now) c.args.image.now (nothing_at_top c.self.inside.journal c.args.self.now c.self.inside.size c.self.view_is (c.self.invariant.now (up_is c.self.inside.journal c.args.self.now c.self.inside.size c.self.view_is c.requires.up))))
-
