@@ -1,7 +1,8 @@
 //! A package is put together of the components that came.
-ghost use Rattle.std.specs.Prelude.{◌≡◌};
+ghost use Rattle.std.specs.Prelude.{◌≡◌, Ok, IfOk};
 ghost use Rattle.jc_cap_fields.specs.Reading.{Gives};
 ghost use Rattle.jc_cap.specs.Assembling.{present, asked, flags_in, required, checked, assembled};
+ghost use Rattle.jc_cap.specs.Packages.{IsPackage};
 ghost use Rattle.jc_cap.specs.Reading.{contents_of};
 ghost use Rattle.jc_cap.specs.Views.{package_contents};
 
@@ -108,13 +109,8 @@ impl Model for Package {
     ghost invariant = { λ a. checked a.texts ≡ Ok tt };
 }
 
-/// Puts a package together of the components that came. They are moved, and no memory is taken.
-///
-/// The first of these is answered: Missing with the lowest tag of a component that every package needs, or that the
-/// header's flags ask for; the fault of a component that cannot be read (none, where `read_component` read them all);
-/// SizesDisagree where the directory does not agree with them; BadOffset where an offset names no record or no method.
 #[tactic(auto, unfolding(crate::specs::Assembling::assembled))]
-pub fn assemble(load: Load) -> Result<Package, CapFault>
+fn put_together(load: Load) -> Result<Package, CapFault>
     ensures { Gives (λ x. x) result (assembled load) }
 {
     let texts = required(load)?;
@@ -122,10 +118,25 @@ pub fn assemble(load: Load) -> Result<Package, CapFault>
     Ok(Package { texts })
 }
 
+/// Puts a package together of the components that came. They are moved, and no memory is taken.
+///
+/// The first of these is answered: Missing with the lowest tag of a component that every package needs, or that the
+/// header's flags ask for; the fault of a component that cannot be read (none, where `read_component` read them all);
+/// SizesDisagree where the directory does not agree with them; BadOffset where an offset names no record or no method.
+pub fn assemble(load: Load) -> Result<Package, CapFault>
+    // What is put together is a package, of the components that came.
+    ensures found { IfOk result (λ p. IsPackage p) }
+    // Otherwise the fault is the first one, in the order above.
+    ensures exact { Gives (λ x. x) result (assembled load) }
+{
+    put_together(load)
+}
+
 impl Package {
-    /// What the components say.
+    /// What the components say. They are read again.
     pub fn contents(&self) -> Contents<'_>
-        ensures { contents_of self.now ≡ Ok (package_contents result) }
+        ensures read { contents_of self.now ≡ Ok (package_contents result) }
+        ensures sound { IsPackage self.now }
     {
         match read_contents(&self.texts) {
             Ok(contents) => contents,

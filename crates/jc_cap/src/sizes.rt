@@ -1,11 +1,10 @@
 //! Whether a package's Directory component agrees with the components that came.
-ghost use Rattle.std.specs.Prelude.{◌≡◌, ◌==◌};
-ghost use Rattle.jc_cap.specs.Assembling.{size_of, size_there, expected_sizes, is_expected, are_expected, array_bytes, count_there, sizes_agree};
+ghost use Rattle.std.specs.Prelude.{◌≡◌, ◌<◌};
+ghost use Rattle.jc_cap.specs.Sizes.{size_of, size_there, said_of, agrees_there, came_agree, infos_agree, counts_agree, count_there, sizes_agree};
 ghost use Rattle.jc_cap.specs.Views.{package_contents};
 
 use crate::contents::Contents;
 use crate::texts::{Text, Texts};
-use jc_cap_code::static_arrays::ArrayInits;
 use jc_cap_fields::lists::U2List;
 use jc_cap_text::applets::Applets;
 
@@ -24,75 +23,49 @@ fn size_there(text: &Option<Text>) -> usize
     }
 }
 
-fn size_kept(size: Option<u16>) -> Option<usize>
-    ensures { result ≡ size }
+/// The size that a directory gives for the component with this tag.
+fn said_of(sizes: &U2List<'_>, tag: u16) -> usize
+    requires { 0 < tag }
+    ensures { result ≡ said_of sizes.now tag }
+{
+    if tag > sizes.count() {
+        return 0;
+    }
+    sizes.get(tag - 1) as usize
+}
+
+/// Whether the size of a component that came is the one that the directory gives. An absent one is not compared.
+fn agrees_there(sizes: &U2List<'_>, tag: u16, size: Option<u16>) -> bool
+    requires { 0 < tag }
+    ensures { result ≡ agrees_there sizes.now tag size }
 {
     match size {
-        Some(size) => Some(size as usize),
-        None => None,
-    }
-}
-
-fn expected_sizes(texts: &Texts) -> [Option<usize>; 11]
-    ensures { result ≡ expected_sizes texts.now }
-{
-    [
-        Some(size_of(&texts.header)),
-        Some(size_of(&texts.directory)),
-        Some(size_there(&texts.applets)),
-        Some(size_of(&texts.imports)),
-        Some(size_of(&texts.pool)),
-        Some(size_of(&texts.classes)),
-        Some(size_of(&texts.methods)),
-        Some(size_of(&texts.statics)),
-        size_kept(texts.reference_location),
-        Some(size_there(&texts.exports)),
-        size_kept(texts.descriptor),
-    ]
-}
-
-fn is_expected(expected: Option<usize>, size: u16) -> bool
-    ensures { result ≡ is_expected expected size }
-{
-    match expected {
-        Some(expected) => size as usize == expected,
+        Some(size) => said_of(sizes, tag) == size as usize,
         None => true,
     }
 }
 
-fn are_expected(expected: &[Option<usize>], sizes: &U2List<'_>) -> bool
-    ensures { result ≡ are_expected expected.now sizes.now }
+/// The sizes of the components that every package has.
+fn infos_agree(texts: &Texts, sizes: &U2List<'_>) -> bool
+    ensures { result ≡ infos_agree texts.now sizes.now }
 {
-    for i in 0..sizes.count() {
-        if i as usize >= expected.len() {
-            return true;
-        }
-        if !is_expected(expected[i as usize], sizes.get(i)) {
-            return false;
-        }
-    }
-    true
+    said_of(sizes, 1) == size_of(&texts.header)
+        && said_of(sizes, 2) == size_of(&texts.directory)
+        && said_of(sizes, 4) == size_of(&texts.imports)
+        && said_of(sizes, 5) == size_of(&texts.pool)
+        && said_of(sizes, 6) == size_of(&texts.classes)
+        && said_of(sizes, 7) == size_of(&texts.methods)
+        && said_of(sizes, 8) == size_of(&texts.statics)
 }
 
-/// Whether the arrays have so many bytes together.
-fn arrays_have(arrays: &ArrayInits<'_>, size: u16) -> bool
-    ensures { result ≡ (size == array_bytes arrays.now) }
+/// The sizes of the others: 0 where an Applet or an Export component is absent.
+fn came_agree(texts: &Texts, sizes: &U2List<'_>) -> bool
+    ensures { result ≡ came_agree texts.now sizes.now }
 {
-    let mut left = size as usize;
-    let mut rest = arrays.split_first();
-    for _ in 0..arrays.count() {
-        match rest {
-            None => return left == 0,
-            Some((first, others)) => {
-                if left < first.values.len() {
-                    return false;
-                }
-                left -= first.values.len();
-                rest = others.split_first();
-            }
-        }
-    }
-    left == 0
+    said_of(sizes, 3) == size_there(&texts.applets)
+        && said_of(sizes, 10) == size_there(&texts.exports)
+        && agrees_there(sizes, 9, texts.reference_location)
+        && agrees_there(sizes, 11, texts.descriptor)
 }
 
 fn applet_count(applets: &Option<Applets<'_>>) -> u8
@@ -104,16 +77,24 @@ fn applet_count(applets: &Option<Applets<'_>>) -> u8
     }
 }
 
+/// What the directory says of the static image, and its counts.
+fn counts_agree(contents: &Contents<'_>) -> bool
+    ensures { result ≡ counts_agree (package_contents contents.now) }
+{
+    let size = contents.directory.static_field_size;
+    let statics = &contents.statics;
+    size.image_size == statics.image_size
+        && size.array_init_count == statics.arrays.count()
+        && size.array_init_size as usize == statics.arrays.values_size()
+        && contents.directory.import_count == contents.imports.count()
+        && contents.directory.applet_count == applet_count(&contents.applets)
+}
+
 /// Whether what the directory says agrees with the components.
 pub(crate) fn sizes_agree(texts: &Texts, contents: &Contents<'_>) -> bool
     ensures { result ≡ sizes_agree texts.now (package_contents contents.now) }
 {
-    let directory = &contents.directory;
-    let statics = &contents.statics;
-    are_expected(&expected_sizes(texts), &directory.component_sizes)
-        && directory.static_field_size.image_size == statics.image_size
-        && directory.static_field_size.array_init_count == statics.arrays.count()
-        && arrays_have(&statics.arrays, directory.static_field_size.array_init_size)
-        && directory.import_count == contents.imports.count()
-        && directory.applet_count == applet_count(&contents.applets)
+    infos_agree(texts, &contents.directory.component_sizes)
+        && came_agree(texts, &contents.directory.component_sizes)
+        && counts_agree(contents)
 }

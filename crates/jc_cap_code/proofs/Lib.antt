@@ -10,3 +10,4 @@ pub mod RecordWalk
 pub mod Starts
 pub mod Every
 pub mod ArraySizes
+pub mod Earlier

@@ -1,9 +1,9 @@
 //! The Class component.
-ghost use Rattle.std.specs.Prelude.{◌≡◌, ◌<◌, ◌^◌, List, length, false, Some, Ok, IsOk, IfOk, MatchOption, slice_get};
+ghost use Rattle.std.specs.Prelude.{◌≡◌, ◌<◌, ◌^◌, List, length, false, Some, Ok, IsOk, IfOk, MatchOption, slice_get, take};
 ghost use Rattle.jc_cap_fields.specs.Reading.{Gives};
 ghost use Rattle.jc_cap_code.specs.ClassValues.{Placed, offsets_of, contents_of};
 ghost use Rattle.jc_cap_code.specs.ClassReading.{is_among, records_start, classes_of, placed_offsets};
-ghost use Rattle.jc_cap_code.specs.ClassGrammar.{AreClasses};
+ghost use Rattle.jc_cap_code.specs.ClassGrammar.{LooksBack, AreClasses};
 
 use crate::class_reading::{Known, is_among, read_record};
 use crate::class_records::ClassRecord;
@@ -46,9 +46,9 @@ fn offset_at(offsets: &[u16], number: usize) -> u16
     offsets[number]
 }
 
-/// The place of the offset in the list.
+/// The first place of the offset in the list.
 fn place_of(offset: u16, offsets: &[u16]) -> Option<usize>
-    ensures { MatchOption result (is_among offset offsets.now ≡ false) (λ i. slice_get offsets.now i ≡ Some offset) }
+    ensures { MatchOption result (is_among offset offsets.now ≡ false) (λ i. (slice_get offsets.now i ≡ Some offset) × (is_among offset (take i offsets.now) ≡ false)) }
 {
     for i in 0..offsets.len() {
         let here = offset_at(offsets, i);
@@ -149,7 +149,7 @@ impl<'a> Classes<'a> {
 
     /// The number of the record that begins at this offset, if one does.
     pub fn number_of(&self, offset: u16) -> Option<usize>
-        ensures { MatchOption result (is_among offset (offsets_of self.now) ≡ false) (λ i. slice_get (offsets_of self.now) i ≡ Some offset) }
+        ensures { MatchOption result (is_among offset (offsets_of self.now) ≡ false) (λ i. (slice_get (offsets_of self.now) i ≡ Some offset) × (is_among offset (take i (offsets_of self.now)) ≡ false)) }
     {
         place_of(offset, self.offsets.as_slice())
     }
@@ -157,7 +157,9 @@ impl<'a> Classes<'a> {
     /// The record with this number.
     pub fn get(&self, number: usize) -> ClassRecord<'a>
         requires { number < length self.now }
-        ensures { slice_get (contents_of self.now) number ≡ Some result }
+        ensures found { slice_get (contents_of self.now) number ≡ Some result }
+        // Its superclass and its superinterfaces are earlier records, or stand in other packages.
+        ensures earlier { LooksBack (take number (offsets_of self.now)) result }
     {
         let at = offset_at(self.offsets.as_slice(), number);
         let (_, bytes) = self.info.split_at(at as usize);

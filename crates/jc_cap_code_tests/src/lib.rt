@@ -8,3 +8,5 @@ mod class_rows;
 mod method_rows;
 #[cfg(test)]
 mod static_rows;
+#[cfg(test)]
+mod table_rows;

@@ -125,6 +125,11 @@ fn headers_at_offsets(rt: HostRuntime) {
     assert!(rt; methods.method(8).is_none());
     assert!(rt; methods.method(9).is_none());
     assert!(rt; methods.method(65535).is_none());
+    assert!(rt; !methods.has_room(0));
+    assert!(rt; methods.has_room(1));
+    assert!(rt; methods.has_room(3));
+    assert!(rt; !methods.has_room(7));
+    assert!(rt; !methods.has_room(65535));
 }
 
 // An extended header has four bytes.

@@ -41,6 +41,7 @@ fn initialised_arrays(rt: HostRuntime) {
     assert_eq!(rt; fields.image_size, 9);
     assert_eq!(rt; fields.reference_count, 3);
     assert_eq!(rt; fields.arrays.count(), 2);
+    assert_eq!(rt; fields.arrays.values_size(), 5);
     assert_eq!(rt; fields.default_value_count, 1);
     assert_eq!(rt; fields.non_default_values, [7, 8].as_slice());
     let Some((first, others)) = fields.arrays.split_first() else {

@@ -188,7 +188,11 @@ fn offsets_that_name_nothing(rt: HostRuntime) -> Result<(), Fail> {
         load.pool = text(rt.alloc(), digits)?;
         assert_eq!(rt; fault(load), Some(CapFault::BadOffset));
     }
-    for digits in ["03000A0106F000000001010000", "03000A0106F000000001010053", "03000A0106F000000001010100"] {
+    for digits in [
+        "03000A0106F000000001010000",
+        "03000A0106F000000001010053",
+        "03000A0106F000000001010100",
+    ] {
         let mut load = counter(rt.alloc())?;
         load.applets = text(rt.alloc(), digits)?;
         assert_eq!(rt; fault(load), Some(CapFault::BadOffset));
@@ -221,7 +225,10 @@ fn offsets_of_exports(rt: HostRuntime) -> Result<(), Fail> {
     for row in rows.as_slice() {
         let mut load = counter(rt.alloc())?;
         load.header = text(rt.alloc(), "01000FDECAFFED010206000105F000000001")?;
-        load.directory = text(rt.alloc(), "02001F000F001F000A000B0032000C0054000A000000070000000200000000010100")?;
+        load.directory = text(
+            rt.alloc(),
+            "02001F000F001F000A000B0032000C0054000A000000070000000200000000010100",
+        )?;
         load.exports = text(rt.alloc(), row.0)?;
         assert_eq!(rt; fault(load), row.1);
     }

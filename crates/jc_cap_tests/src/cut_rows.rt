@@ -33,7 +33,11 @@ fn each_cut(rt: HostRuntime) -> Result<(), Fail> {
         let full = bytes.len();
         for _ in 0..full {
             bytes.pop();
-            let expected = if bytes.is_empty() { CapFault::Missing(row.0) } else { CapFault::Truncated };
+            let expected = if bytes.is_empty() {
+                CapFault::Missing(row.0)
+            } else {
+                CapFault::Truncated
+            };
             assert_eq!(rt; fault(row.0, &bytes), Some(expected));
             cuts += 1;
         }

@@ -35,14 +35,38 @@ const ROWS: [(u8, &str, CapFault); 69] = [
     (1, "01000ADECAFFED010200000104", CapFault::BadOffset),
     (1, "01000ADECAFFED010200000111", CapFault::BadOffset),
     (1, "01000EDECAFFED01020000010500000000", CapFault::Truncated),
-    (1, "010010DECAFFED0102000001050000000000FF", CapFault::Trailing),
+    (
+        1,
+        "010010DECAFFED0102000001050000000000FF",
+        CapFault::Trailing,
+    ),
     // Directory.
     (2, "020000", CapFault::Truncated),
-    (2, "02001E000F001F000A000B0032000C0054000A0000000000000002000000000101", CapFault::Truncated),
-    (2, "020020000F001F000A000B0032000C0054000A000000000000000200000000010100FF", CapFault::Trailing),
-    (2, "020020000F001F000A000B0032000C0054000A0000000000000002000000000101017F", CapFault::BadOffset),
-    (2, "020020000F001F000A000B0032000C0054000A00000000000000020000000001010180", CapFault::Truncated),
-    (2, "020023000F001F000A000B0032000C0054000A00000000000000020000000001010180000004", CapFault::BadOffset),
+    (
+        2,
+        "02001E000F001F000A000B0032000C0054000A0000000000000002000000000101",
+        CapFault::Truncated,
+    ),
+    (
+        2,
+        "020020000F001F000A000B0032000C0054000A000000000000000200000000010100FF",
+        CapFault::Trailing,
+    ),
+    (
+        2,
+        "020020000F001F000A000B0032000C0054000A0000000000000002000000000101017F",
+        CapFault::BadOffset,
+    ),
+    (
+        2,
+        "020020000F001F000A000B0032000C0054000A00000000000000020000000001010180",
+        CapFault::Truncated,
+    ),
+    (
+        2,
+        "020023000F001F000A000B0032000C0054000A00000000000000020000000001010180000004",
+        CapFault::BadOffset,
+    ),
     // Applet.
     (3, "030000", CapFault::Truncated),
     (3, "03000101", CapFault::Truncated),
@@ -105,15 +129,30 @@ fn faults(rt: HostRuntime) -> Result<(), Fail> {
 fn refused_at_the_component_s_end(rt: HostRuntime) -> Result<(), Fail> {
     let mut method = of(rt.alloc(), METHOD)?;
     let last = method.pop();
-    assert!(rt; matches!(read_component(Format::V2_1, 7, &method), Err(CapFault::Truncated)));
+    assert!(rt;
+        matches!(
+            read_component(Format::V2_1, 7, &method),
+            Err(CapFault::Truncated)
+        )
+    );
     if let Some(last) = last {
         method.push(last)?;
     }
     assert!(rt; read_component(Format::V2_1, 7, &method).is_ok());
     method.push(0)?;
-    assert!(rt; matches!(read_component(Format::V2_1, 7, &method), Err(CapFault::Trailing)));
+    assert!(rt;
+        matches!(
+            read_component(Format::V2_1, 7, &method),
+            Err(CapFault::Trailing)
+        )
+    );
     let header = of(rt.alloc(), "01000FDECAFFED010205000105F000000001")?;
-    assert!(rt; matches!(read_component(Format::V2_1, 1, &header), Err(CapFault::UsesInt)));
+    assert!(rt;
+        matches!(
+            read_component(Format::V2_1, 1, &header),
+            Err(CapFault::UsesInt)
+        )
+    );
     Ok(())
 }
 
@@ -135,6 +174,8 @@ fn numbers_and_words(rt: HostRuntime) -> Result<(), Fail> {
     for i in 0..faults.len() {
         assert_eq!(rt; usize::from(faults[i].number()), i + 1);
     }
-    assert!(rt; format!(in rt.alloc(); "{}", CapFault::Missing(6))?.as_str() == "component 6 is missing");
+    assert!(rt;
+        format!(in rt.alloc(); "{}", CapFault::Missing(6))?.as_str() == "component 6 is missing"
+    );
     Ok(())
 }

@@ -6,7 +6,13 @@ use std::alloc::Global;
 use std::test::*;
 
 // A component: its tag, its size, what its info begins with, and a part so many times.
-fn repeated(alloc: Global, tag: u8, front: &[u8], part: &[u8], times: u16) -> Result<Vec<u8>, Fail> {
+fn repeated(
+    alloc: Global,
+    tag: u8,
+    front: &[u8],
+    part: &[u8],
+    times: u16,
+) -> Result<Vec<u8>, Fail> {
     let mut bytes = Vec::new(alloc);
     for b in [tag, 0, 0] {
         bytes.push(b)?;
@@ -42,7 +48,13 @@ fn counts_of_0(rt: HostRuntime) -> Result<(), Fail> {
 #[test]
 fn counts_of_255(rt: HostRuntime) -> Result<(), Fail> {
     // An AID and an offset of two bytes, of which the second is the next part's first.
-    let applets = repeated(rt.alloc(), 3, &[255], &[0x05, 0xA0, 0x00, 0x00, 0x00, 0x01, 0x00, 0x02], 255)?;
+    let applets = repeated(
+        rt.alloc(),
+        3,
+        &[255],
+        &[0x05, 0xA0, 0x00, 0x00, 0x00, 0x01, 0x00, 0x02],
+        255,
+    )?;
     let Ok(Component::Applet(read)) = read_component(Format::V2_1, 3, &applets) else {
         return Err("no applets")?;
     };
@@ -50,7 +62,13 @@ fn counts_of_255(rt: HostRuntime) -> Result<(), Fail> {
     if read.count() == 255 {
         assert_eq!(rt; read.get(254).install_method_offset, 2);
     }
-    let imports = repeated(rt.alloc(), 4, &[255], &[0x00, 0x01, 0x05, 0xA0, 0x00, 0x00, 0x00, 0x01], 255)?;
+    let imports = repeated(
+        rt.alloc(),
+        4,
+        &[255],
+        &[0x00, 0x01, 0x05, 0xA0, 0x00, 0x00, 0x00, 0x01],
+        255,
+    )?;
     let Ok(Component::Import(read)) = read_component(Format::V2_1, 4, &imports) else {
         return Err("no imports")?;
     };
@@ -58,7 +76,13 @@ fn counts_of_255(rt: HostRuntime) -> Result<(), Fail> {
     if read.count() == 255 {
         assert_eq!(rt; read.get(254).major_version, 1);
     }
-    let exports = repeated(rt.alloc(), 10, &[255], &[0x00, 0x07, 0x00, 0x01, 0x12, 0x34], 255)?;
+    let exports = repeated(
+        rt.alloc(),
+        10,
+        &[255],
+        &[0x00, 0x07, 0x00, 0x01, 0x12, 0x34],
+        255,
+    )?;
     let Ok(Component::Export(read)) = read_component(Format::V2_1, 10, &exports) else {
         return Err("no exports")?;
     };
@@ -66,10 +90,32 @@ fn counts_of_255(rt: HostRuntime) -> Result<(), Fail> {
     if read.count() == 255 {
         assert_eq!(rt; read.get(254).class_offset, 7);
     }
-    let fewer = repeated(rt.alloc(), 3, &[255], &[0x05, 0xA0, 0x00, 0x00, 0x00, 0x01, 0x00, 0x02], 254)?;
-    assert!(rt; matches!(read_component(Format::V2_1, 3, &fewer), Err(CapFault::Truncated)));
-    let more = repeated(rt.alloc(), 4, &[254], &[0x00, 0x01, 0x05, 0xA0, 0x00, 0x00, 0x00, 0x01], 255)?;
-    assert!(rt; matches!(read_component(Format::V2_1, 4, &more), Err(CapFault::Trailing)));
+    let fewer = repeated(
+        rt.alloc(),
+        3,
+        &[255],
+        &[0x05, 0xA0, 0x00, 0x00, 0x00, 0x01, 0x00, 0x02],
+        254,
+    )?;
+    assert!(rt;
+        matches!(
+            read_component(Format::V2_1, 3, &fewer),
+            Err(CapFault::Truncated)
+        )
+    );
+    let more = repeated(
+        rt.alloc(),
+        4,
+        &[254],
+        &[0x00, 0x01, 0x05, 0xA0, 0x00, 0x00, 0x00, 0x01],
+        255,
+    )?;
+    assert!(rt;
+        matches!(
+            read_component(Format::V2_1, 4, &more),
+            Err(CapFault::Trailing)
+        )
+    );
     Ok(())
 }
 
@@ -89,6 +135,11 @@ fn infos_of_65535_bytes(rt: HostRuntime) -> Result<(), Fail> {
         pool[1] = 0xFF;
         pool[2] = 0xFF;
     }
-    assert!(rt; matches!(read_component(Format::V2_1, 5, &pool), Err(CapFault::Trailing)));
+    assert!(rt;
+        matches!(
+            read_component(Format::V2_1, 5, &pool),
+            Err(CapFault::Trailing)
+        )
+    );
     Ok(())
 }

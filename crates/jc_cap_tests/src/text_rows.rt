@@ -45,7 +45,10 @@ fn the_header_of_the_counter_package(rt: HostRuntime) -> Result<(), Fail> {
     assert!(rt; !header.exports);
     assert_eq!(rt; header.this_package.minor_version, 0);
     assert_eq!(rt; header.this_package.major_version, 1);
-    assert_eq!(rt; header.this_package.aid, [0xF0, 0x00, 0x00, 0x00, 0x01].as_slice());
+    assert_eq!(rt;
+        header.this_package.aid,
+        [0xF0, 0x00, 0x00, 0x00, 0x01].as_slice()
+    );
     Ok(())
 }
 
@@ -73,7 +76,8 @@ fn the_directory_of_the_counter_package(rt: HostRuntime) -> Result<(), Fail> {
 
 #[test]
 fn a_custom_component_of_a_directory(rt: HostRuntime) -> Result<(), Fail> {
-    let digits = "020028000F002800000000000000000000000000000000000000000000000000000180123405A000000001";
+    let digits =
+        "020028000F002800000000000000000000000000000000000000000000000000000180123405A000000001";
     let bytes = of(rt.alloc(), digits)?;
     let Ok(Component::Directory(directory)) = read_component(Format::V2_1, 2, &bytes) else {
         return Err("no directory")?;
@@ -123,7 +127,10 @@ fn the_import_of_the_counter_package(rt: HostRuntime) -> Result<(), Fail> {
     };
     assert_eq!(rt; framework.minor_version, 0);
     assert_eq!(rt; framework.major_version, 1);
-    assert_eq!(rt; framework.aid, [0xA0, 0x00, 0x00, 0x00, 0x62, 0x01, 0x01].as_slice());
+    assert_eq!(rt;
+        framework.aid,
+        [0xA0, 0x00, 0x00, 0x00, 0x62, 0x01, 0x01].as_slice()
+    );
     assert_eq!(rt; others.count(), 0);
     if imports.count() == 1 {
         assert_eq!(rt; imports.get(0).major_version, 1);
@@ -245,7 +252,12 @@ fn components_that_are_not_used(rt: HostRuntime) -> Result<(), Fail> {
         let Some(tag) = bytes.first() else {
             return Err("no tag")?;
         };
-        assert!(rt; matches!(read_component(Format::V2_1, *tag, &bytes), Ok(Component::Unused)));
+        assert!(rt;
+            matches!(
+                read_component(Format::V2_1, *tag, &bytes),
+                Ok(Component::Unused)
+            )
+        );
     }
     Ok(())
 }

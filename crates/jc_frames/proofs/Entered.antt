@@ -10,9 +10,8 @@ use Rattle.jc_frames.specs.declared.frames.Region.{Region}
 use Rattle.jc_frames.specs.declared.frames.Saved.{Saved}
 use Rattle.jc_frames.specs.declared.method.Entry.{Entry}
 use Rattle.jc_frames.specs.declared.method.Origin.{Origin}
-use Rattle.jc_frames.specs.declared.method.Resume.{Resume}
 use Rattle.jc_frames.specs.declared.outcome.Outcome.TheVariants.{Fault}
-use Rattle.jc_frames.specs.Frames.{Frame, Caller, Frames, Next, Goes, Ends}
+use Rattle.jc_frames.specs.Frames.{Frame, Caller, Frames, Goes, Ends}
 use Rattle.jc_frames.specs.Calls.{first_frame, calling_cells, counted, called, entered}
 use Rattle.jc_frames.specs.Layout.{framed, frame_in, caller_of, callers_in, frames_of, AreStacked}
 

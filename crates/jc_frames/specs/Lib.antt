@@ -2,3 +2,4 @@ pub mod Cells
 pub mod Frames
 pub mod Layout
 pub mod Calls
+pub mod Laws

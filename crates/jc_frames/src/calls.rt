@@ -11,7 +11,9 @@ use crate::outcome::CodeFault;
 
 impl Frames {
     /// Begins the frame of a method that is called: the arguments on top of the caller's stack become
-    /// its first locals.
+    /// its first locals. A code fault where they are not there, where it would be the 33rd frame, or
+    /// where the callers' locals and stacks and the new frame's locals and whole stack are more than
+    /// 512 cells.
     pub fn enter(&mut self, entry: Entry) -> Result<(), CodeFault>
         ensures { unless_fault result self.new ≡ entered entry self.old }
     {
@@ -68,7 +70,8 @@ impl Frames {
         Some(self.saved.last()?.resume)
     }
 
-    /// Puts what a called method hands over on the stack of its caller, which goes on.
+    /// Puts what a called method hands over on the stack of its caller, which goes on. A code fault
+    /// where there is no room, or where the runtime environment awaits a reference and gets none.
     pub fn receive(&mut self, call: CallKind, value: Option<Cell>) -> Result<(), CodeFault>
         ensures { unless_fault result self.new ≡ in_frame self.old (received call value self.old.current) }
     {

@@ -6,6 +6,7 @@ mod bury;
 mod calls;
 pub mod cell;
 pub mod frames;
+pub mod law;
 mod locals;
 pub mod method;
 pub mod outcome;

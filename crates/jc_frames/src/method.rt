@@ -7,7 +7,7 @@ pub struct Origin {
     pub package_number: u16,
     /// Where the method begins in its package's Method component.
     pub method: u16,
-    /// The owner that is active while it runs.
+    /// The number of the owner that is active while it runs.
     pub owner: u16,
 }
 
@@ -24,9 +24,9 @@ pub enum CallKind {
 /// What a return comes back to.
 #[derive(Clone, Copy, PartialEq, Eq, Debug, Default)]
 pub struct Resume {
-    /// The owner that was active before the call.
+    /// The number of the owner that was active before the call.
     pub active: u16,
-    /// The owner that was active before the last switch, at that time.
+    /// The number of the owner that was active before the last switch, as it was then.
     pub previous: u16,
     /// Who called.
     pub call: CallKind,

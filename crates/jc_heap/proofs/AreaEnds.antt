@@ -6,7 +6,7 @@ use Rattle.jc_transient.specs.declared.cell.ClearEvent.{ClearEvent}
 use Rattle.jc_transient.specs.declared.cell.ClearEvent.TheVariants.{Reset, Deselect}
 use Rattle.jc_heap.specs.Cut.{cut, lacking}
 use Rattle.jc_heap.specs.Image.{image, base, package_addresses, is_package, sizes, item_entry, records, missing, table_text, IsLaid}
-use Rattle.jc_heap.specs.Heap.{HeapState, read_image, heap_of, area_end, with_area_end, area_place, SameShape, item_at, names}
+use Rattle.jc_heap.specs.Heap.{HeapState, read_image, heap_of, area_end, with_area_end, area_end_address, SameShape, item_at, names}
 use Rattle.jc_heap.proofs.Images.{image-set, text-same}
 
 -- an image with another end of an area
@@ -54,7 +54,7 @@ module _ (img : List ℕ) (a v : ℕ) (wide : text_start ≤ length img) (low : 
   pub own-end : get_or (set img a v) a 0 ≡ v
   own-end = get_or-set_same img a v 0 (omega arith)
 
-read-end : (img : List ℕ) (event : ClearEvent) (v : ℕ) → text_start ≤ length img → read_image (set img (area_place event) v) ≡ with_area_end (read_image img) event v
+read-end : (img : List ℕ) (event : ClearEvent) (v : ℕ) → text_start ≤ length img → read_image (set img (area_end_address event) v) ≡ with_area_end (read_image img) event v
 unfolding read_image
 read-end img Reset v wide = λ k. record {
   head = head-end img reset_end_address v wide (lit< tt) (lit< tt) k;
@@ -105,30 +105,30 @@ laid-front ws a v low high laid =
       packages = λ b le. ap (λ ps. is_package ps b) (ap package_addresses img ∙ addresses-end (image ws) a v wide low high) ∙ laid.packages b (rw top at le);
     }
 
-place_low : (event : ClearEvent) → packages_address < area_place event
+place_low : (event : ClearEvent) → packages_address < area_end_address event
 place_low Reset = lit< tt
 place_low Deselect = lit< tt
 
-place_high : (event : ClearEvent) → area_place event < text_length_address
+place_high : (event : ClearEvent) → area_end_address event < text_length_address
 place_high Reset = lit< tt
 place_high Deselect = lit< tt
 
 -- the end's word is the end
-pub area_read : (ws : List ℕ) (event : ClearEvent) → IsLaid ws → area_end (heap_of ws) event ≡ get_or ws (area_place event) 0
+pub area_read : (ws : List ℕ) (event : ClearEvent) → IsLaid ws → area_end (heap_of ws) event ≡ get_or ws (area_end_address event) 0
 unfolding read_image
 area_read ws Reset laid = get_or-take (get_or ws top_address 0) ws reset_end_address 0 (omega (arith, laid.based))
 area_read ws Deselect laid = get_or-take (get_or ws top_address 0) ws deselect_end_address 0 (omega (arith, laid.based))
 
-pub top-end : (ws : List ℕ) (event : ClearEvent) (v : ℕ) → get_or (set ws (area_place event) v) top_address 0 ≡ get_or ws top_address 0
-top-end ws event v = get_or-set_other ws (area_place event) top_address v 0 (λ e. omega (arith, place_low event))
+pub top-end : (ws : List ℕ) (event : ClearEvent) (v : ℕ) → get_or (set ws (area_end_address event) v) top_address 0 ≡ get_or ws top_address 0
+top-end ws event v = get_or-set_other ws (area_end_address event) top_address v 0 (λ e. omega (arith, place_low event))
 
-pub with_area_end-heap_of : (ws : List ℕ) (event : ClearEvent) (v : ℕ) → IsLaid ws → heap_of (set ws (area_place event) v) ≡ with_area_end (heap_of ws) event v
+pub with_area_end-heap_of : (ws : List ℕ) (event : ClearEvent) (v : ℕ) → IsLaid ws → heap_of (set ws (area_end_address event) v) ≡ with_area_end (heap_of ws) event v
 with_area_end-heap_of ws event v laid =
     let wide : text_start ≤ length (image ws) = omega (arith, laid.based, length-take-le (get_or ws top_address 0) ws laid.fits) in
-    ap read_image (image-set ws (area_place event) v (omega (arith, place_low event))) ∙ read-end (image ws) event v wide
+    ap read_image (image-set ws (area_end_address event) v (omega (arith, place_low event))) ∙ read-end (image ws) event v wide
 
-pub IsLaid-end : (ws : List ℕ) (event : ClearEvent) (v : ℕ) → IsLaid ws → IsLaid (set ws (area_place event) v)
-IsLaid-end ws event v laid = laid-front ws (area_place event) v (place_low event) (place_high event) laid
+pub IsLaid-end : (ws : List ℕ) (event : ClearEvent) (v : ℕ) → IsLaid ws → IsLaid (set ws (area_end_address event) v)
+IsLaid-end ws event v laid = laid-front ws (area_end_address event) v (place_low event) (place_high event) laid
 
 pub shape-end : (d h : HeapState) (event : ClearEvent) (v : ℕ) → SameShape d h → SameShape d (with_area_end h event v)
 unfolding item_at names

@@ -10,7 +10,7 @@ use Rattle.jc_heap.specs.declared.refusal.ChangeRefusal.{ChangeRefusal}
 use Rattle.jc_heap.specs.declared.refusal.ChangeRefusal.TheVariants.{StoreDown, CommitFull as Full}
 use Rattle.jc_heap.specs.declared.refusal.HeapRefusal.{HeapRefusal}
 use Rattle.jc_heap.specs.declared.refusal.HeapRefusal.TheVariants.{CommitFull, HeapFull, NoTransientSpace}
-use Rattle.jc_heap.specs.Heap.{HeapView, heap_view, has_room_for, area_end, area_place, end_place, IsStopped, LacksSpace, LacksCells}
+use Rattle.jc_heap.specs.Heap.{HeapView, heap_view, has_room_for, area_end, area_end_address, end_address, IsStopped, LacksSpace, LacksCells}
 use Rattle.jc_heap.specs.declared.place.Place.{Place}
 use Rattle.jc_heap.specs.declared.place.Place.TheVariants.{Registry, AppletCount}
 use Rattle.jc_heap.specs.declared.place.AppletEntry.{AppletEntry}
@@ -28,7 +28,7 @@ pub makes-cut : {A B : Type 0} (old new : HeapView) (a : A) (b : B) (ms ns : Lis
 makes-cut old new a b ms ns first = cut-before ms ns old new first
 
 pub cut_one : (m : Move) (old new : HeapView) → IsStopped old new → IsCut (m ∷ []) old new
-cut_one m old new st = record { left = inl st.durable; down = st.down; refused = st.refused }
+cut_one m old new st = record { left = inl st.durable; down = st.down; refused = st.refused; size = st.size }
 
 module _ {A : Type 0} (reason : Option HeapRefusal) (old new : HeapView) where
   pub unless_refused : (r : HeapRefusal) (ms : List Move) (a : A) → reason ≡ Some r → new ≡ old → MakesUnless reason old (Made (Refused r) new) ms a
@@ -66,21 +66,21 @@ has_some_space v size places fits =
     ap (λ b. if b then Some HeapFull else full_at v places) (le-ltb v.size (v.now.top + size) le)
 
 pub has_no_cells : (v : HeapView) (event : ClearEvent) (n : ℕ) → LacksCells v.now event n → no_transient v event n ≡ Some NoTransientSpace
-has_no_cells v event n lacks = ap (λ b. if b then Some NoTransientSpace else no_object v 5 (end_place ∷ area_place event ∷ [])) (lt-ltb area_size (area_end v.now event + n) lacks)
+has_no_cells v event n lacks = ap (λ b. if b then Some NoTransientSpace else no_object v 5 (end_address ∷ area_end_address event ∷ [])) (lt-ltb area_size (area_end v.now event + n) lacks)
 
-pub has_some_cells : (v : HeapView) (event : ClearEvent) (n : ℕ) → (LacksCells v.now event n → ⊥) → no_transient v event n ≡ no_object v 5 (end_place ∷ area_place event ∷ [])
+pub has_some_cells : (v : HeapView) (event : ClearEvent) (n : ℕ) → (LacksCells v.now event n → ⊥) → no_transient v event n ≡ no_object v 5 (end_address ∷ area_end_address event ∷ [])
 has_some_cells v event n fits =
     let le : area_end v.now event + n ≤ area_size = omega (arith, fits) in
-    ap (λ b. if b then Some NoTransientSpace else no_object v 5 (end_place ∷ area_place event ∷ [])) (le-ltb area_size (area_end v.now event + n) le)
+    ap (λ b. if b then Some NoTransientSpace else no_object v 5 (end_address ∷ area_end_address event ∷ [])) (le-ltb area_size (area_end v.now event + n) le)
 
 -- the journal's room for a new object's change
-pub end_room : (j : State) (v : HeapView) (n : ℕ) → heap_view j n ≡ v → has_room_for v (end_place ∷ []) ≡ journal_room j (top_address ∷ [])
-unfolding end_place
+pub end_room : (j : State) (v : HeapView) (n : ℕ) → heap_view j n ≡ v → has_room_for v (end_address ∷ []) ≡ journal_room j (top_address ∷ [])
+unfolding end_address
 end_room j v n is = room_is j v n (top_address ∷ []) is
 
-pub ends_room : (j : State) (v : HeapView) (n : ℕ) (event : ClearEvent) (w : ℕ) → heap_view j n ≡ v → w ≡ area_place event → has_room_for v (end_place ∷ area_place event ∷ []) ≡ journal_room j (top_address ∷ w ∷ [])
-unfolding end_place
-ends_room j v n event w is e = room_is j v n (top_address ∷ area_place event ∷ []) is ∙ ap (λ a. journal_room j (top_address ∷ a ∷ [])) (sym e)
+pub ends_room : (j : State) (v : HeapView) (n : ℕ) (event : ClearEvent) (w : ℕ) → heap_view j n ≡ v → w ≡ area_end_address event → has_room_for v (end_address ∷ area_end_address event ∷ []) ≡ journal_room j (top_address ∷ w ∷ [])
+unfolding end_address
+ends_room j v n event w is e = room_is j v n (top_address ∷ area_end_address event ∷ []) is ∙ ap (λ a. journal_room j (top_address ∷ a ∷ [])) (sym e)
 
 pub object_full : (v : HeapView) (size : ℕ) (places : List ℕ) → (LacksSpace v size → ⊥) → has_room_for v places ≡ false → no_object v size places ≡ Some CommitFull
 object_full v size places fits none = has_some_space v size places fits ∙ is_full v places none

@@ -108,7 +108,7 @@ stopped_sound k m n same long down back size small = record {
 }
 
 pub stopped_view : (k m : State) (v : HeapView) (n : ℕ) → heap_view k n ≡ v → live m.recovered ≡ live k.recovered → m.down ≡ true → m.refused ≡ raised k.refused 1 → IsStopped v (heap_view m n)
-stopped_view k m v n is same down refused = subst (λ u. IsStopped u (heap_view m n)) is (record { durable = heap_of-live k.recovered m.recovered same; down = down; refused = refused })
+stopped_view k m v n is same down refused = subst (λ u. IsStopped u (heap_view m n)) is (record { durable = heap_of-live k.recovered m.recovered same; down = down; refused = refused; size = refl })
 
 pub journal_stopped_sound : (k m : State) (n : ℕ) → JournalStopped k m → IsSound k n → IsSound m n
 journal_stopped_sound k m n st s = stopped_sound k m n st.recovered st.size_recovered st.down s.back s.size_recovered s.small

@@ -43,6 +43,18 @@ refused-apply Begin h = refl
 refused-apply Commit h = refl
 refused-apply Abort h = refl
 
+size-apply : (m : Move) (h : HeapView) → (apply m h).size ≡ h.size
+size-apply (Write p v) h = refl
+size-apply (SetPlaces cs) h = refl
+size-apply (Count p v) h = refl
+size-apply (SetCells r i vs) h = refl
+size-apply (AddObject o size) h = refl
+size-apply (AddTransient kind event class owner long) h = refl
+size-apply (AddPackage components arrays rest) h = refl
+size-apply Begin h = refl
+size-apply Commit h = refl
+size-apply Abort h = refl
+
 pub down-applied : (ms : List Move) (h : HeapView) → (applied ms h).down ≡ h.down
 down-applied [] h = refl
 down-applied (m ∷ ms) h = down-applied ms (apply m h) ∙ down-apply m h
@@ -51,14 +63,18 @@ pub refused-applied : (ms : List Move) (h : HeapView) → (applied ms h).refused
 refused-applied [] h = refl
 refused-applied (m ∷ ms) h = refused-applied ms (apply m h) ∙ refused-apply m h
 
+pub size-applied : (ms : List Move) (h : HeapView) → (applied ms h).size ≡ h.size
+size-applied [] h = refl
+size-applied (m ∷ ms) h = size-applied ms (apply m h) ∙ size-apply m h
+
 -- a cut within what follows
 pub cut-after : (a b : List Move) (h mid new : HeapView) → mid ≡ applied a h → IsCut b mid new → IsCut (a ++ b) h new
 cut-after a b h mid new e p =
     let q : IsCut b (applied a h) new = subst (λ u. IsCut b u new) e p in
-    record { left = left-after a b h new.durable q.left; down = q.down; refused = q.refused ∙ ap (λ r. raised r 1) (refused-applied a h) }
+    record { left = left-after a b h new.durable q.left; down = q.down; refused = q.refused ∙ ap (λ r. raised r 1) (refused-applied a h); size = q.size ∙ size-applied a h }
 
 pub cut-before : (a b : List Move) (h new : HeapView) → IsCut a h new → IsCut (a ++ b) h new
-cut-before a b h new p = record { left = left-before a b h new.durable p.left; down = p.down; refused = p.refused }
+cut-before a b h new p = record { left = left-before a b h new.durable p.left; down = p.down; refused = p.refused; size = p.size }
 
 -- the durable heap of a change inside
 kept_inside : (h : HeapView) (x : HeapState) → h.begun ≡ true → (if h.begun then h.durable else x) ≡ h.durable

@@ -18,7 +18,7 @@ use Rattle.jc_transient.specs.declared.cell.ClearEvent.TheVariants.{Reset, Desel
 use Rattle.jc_heap.specs.Object.{Object, AnObject, header_word, new_transient, kind_number, object_of, new_object, payload}
 use Rattle.jc_heap.specs.Image.{IsLaid}
 use Rattle.jc_heap.specs.Fresh.{IsFree, KeepsBelow, Fills, StopsFresh}
-use Rattle.jc_heap.specs.Heap.{HeapState, HeapView, heap_view, read_image, heap_of, add_object, end_place, changed, IsSound, IsStopped, LacksSpace, SameShape, names, item_at, add_transient, area_place, area_end, with_area_end}
+use Rattle.jc_heap.specs.Heap.{HeapState, HeapView, heap_view, read_image, heap_of, add_object, end_address, changed, IsSound, IsStopped, LacksSpace, SameShape, names, item_at, add_transient, area_end_address, area_end, with_area_end}
 use Rattle.jc_heap.proofs.Laws.{shape-add, item_at-add_object}
 use Rattle.jc_heap.proofs.Added.{heap_of-grown, top-moved, IsLaid-grown, image-same_below, IsLaid-same_below}
 use Rattle.jc_heap.proofs.Changing.{change_view, change_sound, stopped_sound, stopped_view, top-live}
@@ -152,8 +152,8 @@ module _ (j k : State) (n : ℕ) (s : IsSound j n) (up : j.down ≡ false) (b : 
 
 pub view_made : (j k m : State) (v : HeapView) (n : ℕ) (kind : Kind) (class owner count end : ℕ) → heap_view j n ≡ v → IsSound j n → j.down ≡ false → KeepsBelow (get_or j.plain top_address 0) j k →
     Fills (get_or j.plain top_address 0) (new_record (kind_number kind) class owner count) j k → end ≡ get_or j.plain top_address 0 + (4 + count) → end ≤ n → Changes ((top_address, end) ∷ []) k m →
-    heap_view m n ≡ changed v (add_object v.now (new_object kind class owner count) (4 + count)) (end_place ∷ []) (4 + count)
-unfolding end_place
+    heap_view m n ≡ changed v (add_object v.now (new_object kind class owner count) (4 + count)) (end_address ∷ []) (4 + count)
+unfolding end_address
 view_made j k m v n kind class owner count end is s up b f e fits c =
     let long : length (new_record (kind_number kind) class owner count) ≡ 4 + count = length-new_record (kind_number kind) class owner count in
     let there : Changes ((top_address, get_or j.plain top_address 0 + length (new_record (kind_number kind) class owner count)) ∷ []) k m = subst (λ t. Changes ((top_address, t) ∷ []) k m) (e ∙ ap (λ l. get_or j.plain top_address 0 + l) (sym long)) c in
@@ -213,8 +213,8 @@ own-transient ReferenceArray Deselect class owner long place = refl
 
 -- a new transient object: the top and its area's end move together
 module _ (j k m : State) (n : ℕ) (kind : Kind) (event : ClearEvent) (class owner long place end : ℕ) (s : IsSound j n) (up : j.down ≡ false) (b : KeepsBelow (get_or j.plain top_address 0) j k)
-    (f : Fills (get_or j.plain top_address 0) (transient_record kind event class owner long place) j k) (at : place ≡ get_or j.plain (area_place event) 0) (e : end ≡ get_or j.plain top_address 0 + 5) (fits : end ≤ n)
-    (c : Changes ((top_address, end) ∷ (area_place event, place + long) ∷ []) k m) where
+    (f : Fills (get_or j.plain top_address 0) (transient_record kind event class owner long place) j k) (at : place ≡ get_or j.plain (area_end_address event) 0) (e : end ≡ get_or j.plain top_address 0 + 5) (fits : end ≤ n)
+    (c : Changes ((top_address, end) ∷ (area_end_address event, place + long) ∷ []) k m) where
   own_fits : get_or j.plain top_address 0 + 5 ≤ n
   own_fits = omega (arith, e, fits)
 
@@ -228,10 +228,10 @@ module _ (j k m : State) (n : ℕ) (kind : Kind) (event : ClearEvent) (class own
   heap_first = heap_now j k n s up b (transient_record kind event class owner long place) f (own-transient kind event class owner long place) own_fits
       ∙ ap (λ o. add_object (heap_of j.plain) o 5) (object_of-transient kind event class owner long place)
 
-  there : Changes ((top_address, get_or j.plain top_address 0 + 5) ∷ (area_place event, place + long) ∷ []) k m
-  there = subst (λ t. Changes ((top_address, t) ∷ (area_place event, place + long) ∷ []) k m) e c
+  there : Changes ((top_address, get_or j.plain top_address 0 + 5) ∷ (area_end_address event, place + long) ∷ []) k m
+  there = subst (λ t. Changes ((top_address, t) ∷ (area_end_address event, place + long) ∷ []) k m) e c
 
-  heap_both : heap_of (set first (area_place event) (place + long)) ≡ add_transient (heap_of j.plain) kind event class owner long
+  heap_both : heap_of (set first (area_end_address event) (place + long)) ≡ add_transient (heap_of j.plain) kind event class owner long
   unfolding add_transient
   heap_both =
       let end_is : place ≡ area_end (heap_of j.plain) event = at ∙ sym (area_read j.plain event (s.now up)) in
@@ -246,14 +246,14 @@ module _ (j k m : State) (n : ℕ) (kind : Kind) (event : ClearEvent) (class own
       (shape_now j k n s up b (transient_record kind event class owner long place) f (own-transient kind event class owner long place) own_fits)))
 
   pub transient_sound : IsSound m n
-  transient_sound = sound_then j k n s up b (transient_record kind event class owner long place) f ((top_address, get_or j.plain top_address 0 + 5) ∷ (area_place event, place + long) ∷ [])
+  transient_sound = sound_then j k n s up b (transient_record kind event class owner long place) f ((top_address, get_or j.plain top_address 0 + 5) ∷ (area_end_address event, place + long) ∷ [])
       (add_transient (heap_of j.plain) kind event class owner long) m there heap_both (IsLaid-end first event (place + long) laid_first)
       (omega (arith, top-end first event (place + long), top_now j k n s up b (transient_record kind event class owner long place) f (own-transient kind event class owner long place) own_fits)) shape_both
 
-  pub transient_view : (v : HeapView) → heap_view j n ≡ v → heap_view m n ≡ changed v (add_transient v.now kind event class owner long) (end_place ∷ area_place event ∷ []) 5
-  unfolding end_place
-  transient_view v is = subst (λ u. heap_view m n ≡ changed u (add_transient (u.now) kind event class owner long) (top_address ∷ area_place event ∷ []) 5) is
-      (view_then j k n s up b (transient_record kind event class owner long place) f ((top_address, get_or j.plain top_address 0 + 5) ∷ (area_place event, place + long) ∷ []) (add_transient (heap_of j.plain) kind event class owner long) m there heap_both)
+  pub transient_view : (v : HeapView) → heap_view j n ≡ v → heap_view m n ≡ changed v (add_transient v.now kind event class owner long) (end_address ∷ area_end_address event ∷ []) 5
+  unfolding end_address
+  transient_view v is = subst (λ u. heap_view m n ≡ changed u (add_transient (u.now) kind event class owner long) (top_address ∷ area_end_address event ∷ []) 5) is
+      (view_then j k n s up b (transient_record kind event class owner long place) f ((top_address, get_or j.plain top_address 0 + 5) ∷ (area_end_address event, place + long) ∷ []) (add_transient (heap_of j.plain) kind event class owner long) m there heap_both)
 
 -- of these places, those that a change keeps
 abbrev kept_of : List ℕ → Bool → List ℕ
@@ -272,5 +272,5 @@ pub only_down : (at : ℕ) (j k : State) → KeepsBelow at j k → (places : Lis
 only_down at j k b places fit StoreDown f = refl
 only_down at j k b places fit Full f = absurd (false≢true (sym (f refl) ∙ room_kept at j k b places ∙ fit))
 
-pub view_area : (j : State) (v : HeapView) (n : ℕ) (event : ClearEvent) → heap_view j n ≡ v → IsLaid j.plain → area_end v.now event ≡ get_or j.plain (area_place event) 0
-view_area j v n event is laid = subst (λ u. area_end (u.now) event ≡ get_or j.plain (area_place event) 0) is (area_read j.plain event laid)
+pub view_area : (j : State) (v : HeapView) (n : ℕ) (event : ClearEvent) → heap_view j n ≡ v → IsLaid j.plain → area_end v.now event ≡ get_or j.plain (area_end_address event) 0
+view_area j v n event is laid = subst (λ u. area_end (u.now) event ≡ get_or j.plain (area_end_address event) 0) is (area_read j.plain event laid)

@@ -8,8 +8,8 @@ use Rattle.jc_heap.specs.declared.object.Kind.{Kind}
 use Rattle.jc_heap.specs.Object.{APackage, bare}
 use Rattle.jc_heap.specs.Image.{IsLaid}
 use Rattle.jc_heap.specs.Fresh.{KeepsBelow, Fills}
-use Rattle.jc_heap.specs.Heap.{HeapState, HeapView, heap_view, read_image, heap_of, add_object, end_place, changed, has_room_for, IsSound, SameShape, names, item_at}
-use Rattle.jc_heap.specs.Packages.{components_words, image_words, record_size, package_record, package_size, package_owner, package_words, package_places, push_package, add_arrays, add_package, array_object, array_size, arrays_words, array_addresses}
+use Rattle.jc_heap.specs.Heap.{HeapState, HeapView, heap_view, read_image, heap_of, add_object, end_address, changed, has_room_for, IsSound, SameShape, names, item_at}
+use Rattle.jc_heap.specs.Packages.{components_words, image_words, record_size, package_record, package_size, package_owner, package_words, addresses_of_package, push_package, add_arrays, add_package, array_object, array_size, arrays_words, array_addresses}
 use Rattle.jc_heap.specs.Packed.{packed}
 use Rattle.jc_heap.proofs.Tables.{at_or-push_same, at_or-push_other, has-push}
 use Rattle.jc_heap.proofs.Laws.{shape-add, item_at-add_other, top-add_object}
@@ -151,8 +151,8 @@ module _ (j k m : State) (n : ℕ) (cs : List (ℕ × List ℕ)) (xs : List (Kin
   pub package_sound : IsSound m n
   package_sound = sound_then j k n s up b new f (cs_written (get_or j.plain packages_address 0) (get_or j.plain top_address 0 + length new)) (add_package (heap_of j.plain) cs xs rest) m there heap_is laid_is (omega (arith, top_new)) shape_is
 
-  pub package_view : (v : HeapView) → heap_view j n ≡ v → heap_view m n ≡ changed v (add_package v.now cs xs rest) (package_places v.now) (package_size cs xs rest)
-  unfolding package_places end_place
+  pub package_view : (v : HeapView) → heap_view j n ≡ v → heap_view m n ≡ changed v (add_package v.now cs xs rest) (addresses_of_package v.now) (package_size cs xs rest)
+  unfolding addresses_of_package end_address
   package_view v is = subst (λ u. heap_view m n ≡ changed u (add_package (u.now) cs xs rest) ((addresses_start + u.now.counts.0) ∷ packages_address ∷ top_address ∷ []) (package_size cs xs rest)) is
       (subst (λ a. heap_view m n ≡ changed (heap_view j n) (add_package (heap_of j.plain) cs xs rest) ((addresses_start + a) ∷ packages_address ∷ top_address ∷ []) (package_size cs xs rest)) (sym (count_is j.plain (s.now up)))
       (subst (λ l. heap_view m n ≡ changed (heap_view j n) (add_package (heap_of j.plain) cs xs rest) ((addresses_start + get_or j.plain packages_address 0) ∷ packages_address ∷ top_address ∷ []) l) long
@@ -166,14 +166,14 @@ package_are_places n number t e wide few (suc (suc zero)) h = record { above = o
 package_are_places n number t e wide few (suc (suc (suc k))) h = absurd (omega arith)
 
 -- what the journal has no room for the heap has none for
-pub view_no_room : (j : State) (v : HeapView) (n number : ℕ) → heap_view j n ≡ v → IsLaid j.plain → number ≡ get_or j.plain packages_address 0 → journal_room j ((addresses_start + number) ∷ packages_address ∷ top_address ∷ []) ≡ false → has_room_for v (package_places v.now) ≡ false
-unfolding package_places end_place
+pub view_no_room : (j : State) (v : HeapView) (n number : ℕ) → heap_view j n ≡ v → IsLaid j.plain → number ≡ get_or j.plain packages_address 0 → journal_room j ((addresses_start + number) ∷ packages_address ∷ top_address ∷ []) ≡ false → has_room_for v (addresses_of_package v.now) ≡ false
+unfolding addresses_of_package end_address
 view_no_room j v n number is laid e none =
     let count : number ≡ (heap_of j.plain).counts.0 = e ∙ sym (count_is j.plain laid) in
     subst (λ u. has_room_for u ((addresses_start + u.now.counts.0) ∷ packages_address ∷ top_address ∷ []) ≡ false) is (subst (λ a. has_room_for (heap_view j n) ((addresses_start + a) ∷ packages_address ∷ top_address ∷ []) ≡ false) count none)
 
-pub view_room : (j : State) (v : HeapView) (n number : ℕ) → heap_view j n ≡ v → IsLaid j.plain → number ≡ get_or j.plain packages_address 0 → journal_room j ((addresses_start + number) ∷ packages_address ∷ top_address ∷ []) ≡ true → has_room_for v (package_places v.now) ≡ true
-unfolding package_places end_place
+pub view_room : (j : State) (v : HeapView) (n number : ℕ) → heap_view j n ≡ v → IsLaid j.plain → number ≡ get_or j.plain packages_address 0 → journal_room j ((addresses_start + number) ∷ packages_address ∷ top_address ∷ []) ≡ true → has_room_for v (addresses_of_package v.now) ≡ true
+unfolding addresses_of_package end_address
 view_room j v n number is laid e some =
     let count : number ≡ (heap_of j.plain).counts.0 = e ∙ sym (count_is j.plain laid) in
     subst (λ u. has_room_for u ((addresses_start + u.now.counts.0) ∷ packages_address ∷ top_address ∷ []) ≡ true) is (subst (λ a. has_room_for (heap_view j n) ((addresses_start + a) ∷ packages_address ∷ top_address ∷ []) ≡ true) count some)

@@ -11,7 +11,7 @@ use Rattle.jc_heap.specs.declared.place.Place.TheVariants.{Cell, Static, Registr
 use Rattle.jc_heap.specs.Cut.{lacking}
 use Rattle.jc_heap.specs.Object.{bare}
 use Rattle.jc_heap.specs.Image.{IsLaid, image, base, package_addresses, is_package, sizes, missing}
-use Rattle.jc_heap.specs.Heap.{HeapState, HeapView, heap_view, heap_of, cells, cell_place, is_touched, IsSound, SameShape, read_image, item_at, names}
+use Rattle.jc_heap.specs.Heap.{HeapState, HeapView, heap_view, heap_of, cells, cell_address, is_touched, IsSound, SameShape, read_image, item_at, names}
 use Rattle.jc_heap.specs.Places.{place_word, HasPlace, set_place, written, counted}
 use Rattle.jc_heap.specs.Components.{record_of}
 use Rattle.jc_heap.specs.Statics.{set_word}
@@ -103,7 +103,7 @@ word_stays h p x AppletCount there = tt
 -- words with a place set stand for the heap with it set
 pub word_set : (ws : List ℕ) (p : Place) (x : ℕ) → IsLaid ws → HasWord (heap_of ws) p →
     (heap_of (set ws (place_word p) x) ≡ set_place (heap_of ws) p x) × IsLaid (set ws (place_word p) x) × (get_or (set ws (place_word p) x) top_address 0 ≡ get_or ws top_address 0)
-unfolding cell_place
+unfolding cell_address
 word_set ws (Cell r i) x laid h = (set_cell-heap_of ws r i x h, IsLaid-set ws r i x h laid, top-set ws r i x h)
 word_set ws (Static r j) x laid h = (heap_of-set_word ws r j x laid h.0 h.1, laid-set_word ws r j x laid h.0 h.1, top-set_word ws r j x laid h.0 h.1)
 word_set ws (Registry a) x laid h = (registry-heap_of ws a x laid h, IsLaid-registry ws a x laid h, top-registry ws a x)
@@ -130,7 +130,7 @@ word_back j n r i x four h up s = elim (cases_lt r (get_or j.recovered top_addre
 -- in the recovered words too, or the place lies above their top
 place_back : (j : State) (n : ℕ) (p : Place) (x : ℕ) → HasPlace (heap_of j.plain) p → j.down ≡ false → IsSound j n →
     (heap_of (set j.recovered (place_word p) x) ≡ set_place (heap_of j.recovered) p x) × IsLaid (set j.recovered (place_word p) x) × (get_or (set j.recovered (place_word p) x) top_address 0 ≡ get_or j.recovered top_address 0)
-unfolding cell_place
+unfolding cell_address
 place_back j n (Cell r i) x h up s = back_set j n r i x h up s
 place_back j n (Static r i) x h up s = word_back j n r i x (static_behind (record_of (heap_of j.plain) r) i h) h.within up s
 place_back j n (Registry a) x h up s = (registry-heap_of j.recovered a x s.back h, IsLaid-registry j.recovered a x s.back h, top-registry j.recovered a x)
@@ -160,7 +160,7 @@ pub far_spot : (n a : ℕ) → a < n → registry_start ≤ a → PlaceSpot n a
 far_spot n a below high = record { below = below; high = omega (arith, high); beside = λ _. high }
 
 pub place_spot : (j : State) (v : HeapView) (n : ℕ) (p : Place) → heap_view j n ≡ v → IsLaid j.plain → HasPlace v.now p → PlaceSpot (length j.plain) (place_word p)
-place_spot j v n (Cell r i) is laid h = let spot : (cell_place r i < length j.plain) × (text_start ≤ cell_place r i) = cell_spot j v n r i is h in far_spot (length j.plain) (cell_place r i) spot.0 (omega (arith, spot.1))
+place_spot j v n (Cell r i) is laid h = let spot : (cell_address r i < length j.plain) × (text_start ≤ cell_address r i) = cell_spot j v n r i is h in far_spot (length j.plain) (cell_address r i) spot.0 (omega (arith, spot.1))
 place_spot j v n (Static r i) is laid h =
     let some : 0 < length (record_of (v.now) r) = omega (arith, h.within) in
     let there : 0 < length (record_of (heap_of j.plain) r) = record_view j v n r is some in

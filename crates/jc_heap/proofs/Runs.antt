@@ -8,7 +8,7 @@ use Rattle.jc_commit.specs.Image.{with_words, IsPlace, capacity}
 use Rattle.jc_commit.specs.Entries.{addresses_of, ArePlaces}
 use Rattle.jc_heap.specs.Image.{IsLaid}
 use Rattle.jc_commit.specs.State.{State, Changes}
-use Rattle.jc_heap.specs.Heap.{HeapState, HeapView, heap_view, heap_of, cells, set_cell, set_cells, run_words, cell_place, changed, has_room_for, SameShape, IsSound}
+use Rattle.jc_heap.specs.Heap.{HeapState, HeapView, heap_view, heap_of, cells, set_cell, set_cells, run_words, cell_address, changed, has_room_for, SameShape, IsSound}
 use Rattle.jc_heap.proofs.Changing.{change_view, change_sound}
 use Rattle.jc_heap.proofs.Laws.{shape-set, length-cells-set_cell}
 use Rattle.jc_heap.proofs.Images.{set_cell-heap_of, IsLaid-set, top-set}
@@ -70,8 +70,8 @@ too_many v places h = elim v.begun as (λ g. (if g then nat_le (length v.touched
 ]
 
 -- a run's words are places
-pub places_of_run : (j : State) (v : HeapView) (n r i : ℕ) (vs : List ℕ) → heap_view j n ≡ v → i + length vs ≤ length (cells v.now r) → ArePlaces (length j.plain) (run_words (cell_place r i) vs)
-unfolding cell_place
+pub places_of_run : (j : State) (v : HeapView) (n r i : ℕ) (vs : List ℕ) → heap_view j n ≡ v → i + length vs ≤ length (cells v.now r) → ArePlaces (length j.plain) (run_words (cell_address r i) vs)
+unfolding cell_address
 places_of_run j v n r i vs is h = λ k within.
     let there : i + k < length (cells v.now r) = omega (arith, length-run_words (r + (4 + i)) vs) in
     let spot : (r + (4 + (i + k)) < length j.plain) × (text_start ≤ r + (4 + (i + k))) = cell_spot j v n r (i + k) is there in
@@ -99,9 +99,9 @@ shape-run d h r i [] s = s
 shape-run d h r i (v ∷ vs) s = shape-run d (set_cell h r i v) r (suc i) vs (shape-set d h r i v s)
 
 -- a run set through the journal is a run of the heap
-pub run_view : (j k : State) (v : HeapView) (n r i : ℕ) (vs : List ℕ) → heap_view j n ≡ v → IsLaid j.plain → i + length vs ≤ length (cells v.now r) → Changes (run_words (cell_place r i) vs) j k →
-    heap_view k n ≡ changed v (set_cells v.now r i vs) (addresses_of (run_words (cell_place r i) vs)) 0
-unfolding cell_place
+pub run_view : (j k : State) (v : HeapView) (n r i : ℕ) (vs : List ℕ) → heap_view j n ≡ v → IsLaid j.plain → i + length vs ≤ length (cells v.now r) → Changes (run_words (cell_address r i) vs) j k →
+    heap_view k n ≡ changed v (set_cells v.now r i vs) (addresses_of (run_words (cell_address r i) vs)) 0
+unfolding cell_address
 run_view j k v n r i vs is laid h c = subst (λ u. i + length vs ≤ length (cells (u.now) r) → heap_view k n ≡ changed u (set_cells (u.now) r i vs) (addresses_of (run_words (r + (4 + i)) vs)) 0) is
     (λ there. change_view (run_words (r + (4 + i)) vs) j k n (set_cells (heap_of j.plain) r i vs) c (run-heap_of j.plain r i vs there laid).0) h
 
@@ -112,6 +112,6 @@ run_sound_at j k n r i vs h up s c =
     (λ _. omega (arith, s.order up, run.2))
     (λ _. subst (SameShape (heap_of j.recovered)) (sym run.0) (shape-run (heap_of j.recovered) (heap_of j.plain) r i vs (s.shape up)))
 
-pub run_sound : (j k : State) (v : HeapView) (n r i : ℕ) (vs : List ℕ) → heap_view j n ≡ v → i + length vs ≤ length (cells v.now r) → j.down ≡ false → IsSound j n → Changes (run_words (cell_place r i) vs) j k → IsSound k n
-unfolding cell_place
+pub run_sound : (j k : State) (v : HeapView) (n r i : ℕ) (vs : List ℕ) → heap_view j n ≡ v → i + length vs ≤ length (cells v.now r) → j.down ≡ false → IsSound j n → Changes (run_words (cell_address r i) vs) j k → IsSound k n
+unfolding cell_address
 run_sound j k v n r i vs is h up s c = run_sound_at j k n r i vs (subst (λ u. i + length vs ≤ length (cells (u.now) r)) (sym is) h) up s c

@@ -11,7 +11,7 @@ use Rattle.jc_heap.specs.declared.place.Place.TheVariants.{Cell, Static, Registr
 use Rattle.jc_heap.specs.Cut.{Sizes, cut}
 use Rattle.jc_heap.specs.Table.{at_or, has}
 use Rattle.jc_heap.specs.Image.{IsLaid, image, base, package_addresses, is_package, sizes, records, item}
-use Rattle.jc_heap.specs.Heap.{HeapState, HeapView, heap_view, heap_of, read_image, item_at, names, changed, has_room_for, cell_place, cells, SameShape, IsSound}
+use Rattle.jc_heap.specs.Heap.{HeapState, HeapView, heap_view, heap_of, read_image, item_at, names, changed, has_room_for, cell_address, cells, SameShape, IsSound}
 use Rattle.jc_heap.specs.Places.{place_word, HasPlace, set_place, set_places, places_of, words_of, AreThere, IsBeside, AreApart}
 use Rattle.jc_heap.proofs.Records.{has_behind}
 use Rattle.jc_heap.proofs.Changing.{change_view, change_sound}
@@ -132,7 +132,7 @@ static_far ws r j laid h = omega (arith, behind ws r laid (omega (arith, h)))
 
 -- places that differ have different words
 words_apart : (ws : List ℕ) → IsLaid ws → (p q : Place) → HasWord (heap_of ws) p → HasWord (heap_of ws) q → (p ≡ q → ⊥) → place_word p ≡ place_word q → ⊥
-unfolding cell_place
+unfolding cell_address
 words_apart ws laid (Cell r i) (Cell q k) hp hq ne e = elim (cases_eq r q) [
   | inl s ↦ let same : i ≡ k = omega (arith, s, e) in ne (λ t. Cell (s t) (same t))
   | inr n ↦ two_records ws r (4 + i) q (4 + k) false false (cell_in ws r i hp) (cell_in ws q k hq) n e

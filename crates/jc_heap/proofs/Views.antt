@@ -6,15 +6,15 @@ use Rattle.jc_words.specs.Layout.{top_address, text_start}
 use Rattle.jc_commit.specs.Image.{IsPlace, IsReadable, IsUnlogged}
 use Rattle.jc_commit.specs.State.{State}
 use Rattle.jc_heap.specs.Image.{IsLaid, image}
-use Rattle.jc_heap.specs.Heap.{HeapView, heap_view, heap_of, cells, set_cell, cell_place, IsSound, SameShape, KeepsBelowTop, HasEnd, read_image, item_at, names}
+use Rattle.jc_heap.specs.Heap.{HeapView, heap_view, heap_of, cells, set_cell, cell_address, IsSound, SameShape, KeepsBelowTop, HasEnd, read_image, item_at, names}
 use Rattle.jc_heap.proofs.Laws.{same_length, set_cell-absent, names-heap_of, keeps_below_top}
 use Rattle.jc_heap.proofs.Images.{cell_within-heap_of, cell_behind-heap_of, cell-heap_of, set_cell-heap_of, IsLaid-set, top-set}
 use Rattle.jc_heap.proofs.Added.{image-same_below, top-same_below, IsLaid-same_below}
 use Rattle.jc_heap.proofs.Changing.{shape-same}
 
 -- a cell's word lies among the words, behind the registry
-pub cell_spot : (j : State) (v : HeapView) (n r i : ℕ) → heap_view j n ≡ v → i < length (cells v.now r) → (cell_place r i < length j.plain) × (text_start ≤ cell_place r i)
-unfolding cell_place
+pub cell_spot : (j : State) (v : HeapView) (n r i : ℕ) → heap_view j n ≡ v → i < length (cells v.now r) → (cell_address r i < length j.plain) × (text_start ≤ cell_address r i)
+unfolding cell_address
 cell_spot j v n r i is h = (cell_within-heap_of j.plain r i (subst (λ u. i < length (cells (u.now) r)) (sym is) h), cell_behind-heap_of j.plain r i (subst (λ u. i < length (cells (u.now) r)) (sym is) h))
 
 pub readable : (n a : ℕ) → a < n → text_start ≤ a → IsReadable n a
@@ -26,8 +26,8 @@ is_place n a below high = record { above = omega arith; below = below; beside = 
 pub is_unlogged : (n a : ℕ) → a < n → text_start ≤ a → IsUnlogged n a
 is_unlogged n a below high = record { below = below; not_top = λ e. omega arith; place = λ _. is_place n a below high }
 
-pub cell_read : (j : State) (v : HeapView) (n r i : ℕ) → heap_view j n ≡ v → i < length (cells v.now r) → get_or j.plain (cell_place r i) 0 ≡ get_or (cells v.now r) i 0
-unfolding cell_place
+pub cell_read : (j : State) (v : HeapView) (n r i : ℕ) → heap_view j n ≡ v → i < length (cells v.now r) → get_or j.plain (cell_address r i) 0 ≡ get_or (cells v.now r) i 0
+unfolding cell_address
 cell_read j v n r i is h = subst (λ u. i < length (cells (u.now) r) → get_or j.plain (r + (4 + i)) 0 ≡ get_or (cells (u.now) r) i 0) is (λ k. sym (cell-heap_of j.plain r i k)) h
 
 pub top_is : (ws : List ℕ) (r : ℕ) → IsLaid ws → r < get_or ws top_address 0 → r < (heap_of ws).top

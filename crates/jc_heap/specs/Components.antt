@@ -46,8 +46,8 @@ abbrev pub IsWithin : Span → List ℕ → Type 0
 IsWithin s words = s.at + words_for s.size ≤ length words
 
 -- each info is of bytes
-abbrev pub AreBytes : List (ℕ × List ℕ) → Type 0
-AreBytes cs = (k i : ℕ) → k < length cs → slice_index ((slice_index_or cs k (0, [])).1) i < 256
+abbrev pub AreInfosOfBytes : List (ℕ × List ℕ) → Type 0
+AreInfosOfBytes cs = (k i : ℕ) → k < length cs → slice_index ((slice_index_or cs k (0, [])).1) i < 256
 
 -- a span of a record has these bytes
 pub record HasBytes (s : Span) (words info : List ℕ) : Type 0 where
@@ -56,7 +56,7 @@ pub record HasBytes (s : Span) (words info : List ℕ) : Type 0 where
 
 -- from a package's record each of its components is read, byte by byte, and no other one
 pub record ReadsBack : Type 0 where
-  pub each : (at : ℕ) (cs : List (ℕ × List ℕ)) (xs : List (Kind × List ℕ)) (rest : List ℕ) → AreComponents cs → AreBytes cs → (k : ℕ) → k < length cs →
+  pub each : (at : ℕ) (cs : List (ℕ × List ℕ)) (xs : List (Kind × List ℕ)) (rest : List ℕ) → AreComponents cs → AreInfosOfBytes cs → (k : ℕ) → k < length cs →
       (s : Span) × ((info_of (package_record at cs xs rest) ((slice_index_or cs k (0, [])).0) ≡ Some s) × HasBytes s (package_record at cs xs rest) ((slice_index_or cs k (0, [])).1))
   pub no_other : (at : ℕ) (cs : List (ℕ × List ℕ)) (xs : List (Kind × List ℕ)) (rest : List ℕ) → AreComponents cs → (tag : ℕ) → 0 < tag →
       ((k : ℕ) → k < length cs → (slice_index_or cs k (0, [])).0 ≡ tag → ⊥) → info_of (package_record at cs xs rest) tag ≡ None

@@ -82,10 +82,10 @@ abbrev pub with_area_end : HeapState → ClearEvent → ℕ → HeapState
 with_area_end h Reset end = record h { area_ends = (end, h.area_ends.1) }
 with_area_end h Deselect end = record h { area_ends = (h.area_ends.0, end) }
 
--- the place of an area's end
-abbrev pub area_place : ClearEvent → ℕ
-area_place Reset = reset_end_address
-area_place Deselect = deselect_end_address
+-- the address of the word with an area's end
+abbrev pub area_end_address : ClearEvent → ℕ
+area_end_address Reset = reset_end_address
+area_end_address Deselect = deselect_end_address
 
 -- a new transient object behind the others, whose cells are the first free ones of its area
 unfoldable pub add_transient : HeapState → Kind → ClearEvent → ℕ → ℕ → ℕ → HeapState
@@ -181,13 +181,13 @@ changed v h places fresh = record v {
   passed = raised v.passed (fresh + writes_for v places);
 }
 
--- the place of a cell
-unfoldable pub cell_place : ℕ → ℕ → ℕ
-cell_place r i = r + (4 + i)
+-- the address of a cell
+unfoldable pub cell_address : ℕ → ℕ → ℕ
+cell_address r i = r + (4 + i)
 
--- the place of the heap's end
-unfoldable pub end_place : ℕ
-end_place = top_address
+-- the address of the word with the heap's end
+unfoldable pub end_address : ℕ
+end_address = top_address
 
 -- the open transaction keeps the old value of a place
 unfoldable pub is_touched : HeapView → ℕ → Bool
@@ -210,6 +210,7 @@ pub record IsStopped (old new : HeapView) : Type 0 where
   pub durable : new.durable ≡ old.durable
   pub down : new.down ≡ true
   pub refused : new.refused ≡ raised old.refused 1
+  pub size : new.size ≡ old.size
 
 -- an event's area has no space for so many cells
 abbrev pub LacksCells : HeapState → ClearEvent → ℕ → Type 0

@@ -6,11 +6,11 @@ use Rattle.jc_commit.specs.Entries.{addresses_of}
 use Rattle.jc_transient.specs.declared.cell.ClearEvent.{ClearEvent}
 use Rattle.jc_heap.specs.declared.object.Kind.{Kind}
 use Rattle.jc_heap.specs.Object.{Object, new_object, object_size, transient_size}
-use Rattle.jc_heap.specs.Heap.{HeapState, HeapView, set_cells, run_words, add_object, add_transient, area_place, area_end, is_touched, has_room_for, changed, begun, committed, aborted, cell_place, end_place}
+use Rattle.jc_heap.specs.Heap.{HeapState, HeapView, set_cells, run_words, add_object, add_transient, area_end_address, area_end, is_touched, has_room_for, changed, begun, committed, aborted, cell_address, end_address}
 use Rattle.jc_heap.specs.declared.place.Place.{Place}
 use Rattle.jc_heap.specs.declared.place.AppletEntry.{AppletEntry}
 use Rattle.jc_heap.specs.Places.{place_word, set_place, written, counted, places_of, set_places, applet_changes}
-use Rattle.jc_heap.specs.Packages.{add_package, package_places, package_size}
+use Rattle.jc_heap.specs.Packages.{add_package, addresses_of_package, package_size}
 use Rattle.jc_heap.specs.declared.refusal.ChangeRefusal.{ChangeRefusal}
 use Rattle.jc_heap.specs.declared.refusal.ChangeRefusal.TheVariants as change
 use Rattle.jc_heap.specs.declared.refusal.HeapRefusal.{HeapRefusal}
@@ -35,10 +35,10 @@ abbrev pub apply : Move → HeapView → HeapView
 apply (Write p v) h = written h p v
 apply (SetPlaces changes) h = changed h (set_places h.now changes) (map place_word (places_of changes)) 0
 apply (Count p v) h = counted h p v
-apply (SetCells r i vs) h = changed h (set_cells h.now r i vs) (addresses_of (run_words (cell_place r i) vs)) 0
-apply (AddTransient kind event class owner long) h = changed h (add_transient h.now kind event class owner long) (end_place ∷ area_place event ∷ []) transient_size
-apply (AddPackage components arrays rest) h = changed h (add_package h.now components arrays rest) (package_places h.now) (package_size components arrays rest)
-apply (AddObject o size) h = changed h (add_object h.now o size) (end_place ∷ []) size
+apply (SetCells r i vs) h = changed h (set_cells h.now r i vs) (addresses_of (run_words (cell_address r i) vs)) 0
+apply (AddTransient kind event class owner long) h = changed h (add_transient h.now kind event class owner long) (end_address ∷ area_end_address event ∷ []) transient_size
+apply (AddPackage components arrays rest) h = changed h (add_package h.now components arrays rest) (addresses_of_package h.now) (package_size components arrays rest)
+apply (AddObject o size) h = changed h (add_object h.now o size) (end_address ∷ []) size
 apply Begin h = begun h
 apply Commit h = committed h
 apply Abort h = aborted h
@@ -76,6 +76,7 @@ pub record IsCut (moves : List Move) (old new : HeapView) : Type 0 where
   pub left : Left moves old new.durable
   pub down : new.down ≡ true
   pub refused : new.refused ≡ raised old.refused 1
+  pub size : new.size ≡ old.size
 
 -- how a call ends: with an answer, or cut by the store
 pub data After (A : Type 0) : Type 0 where
@@ -121,7 +122,7 @@ no_room v places = full_at v (map place_word places)
 
 -- why a change of a run of cells is
 abbrev pub no_run : HeapView → ℕ → ℕ → List ℕ → Option HeapRefusal
-no_run v r i values = full_at v (addresses_of (run_words (cell_place r i) values))
+no_run v r i values = full_at v (addresses_of (run_words (cell_address r i) values))
 
 -- why something new of so many words is: first there is no space
 abbrev pub no_object : HeapView → ℕ → List ℕ → Option HeapRefusal
@@ -129,15 +130,15 @@ no_object v size addresses = if nat_lt v.size (v.now.top + size) then Some HeapF
 
 -- why a new persistent object with so many cells is
 abbrev pub no_new : HeapView → ℕ → Option HeapRefusal
-no_new v long = no_object v (object_size long) (end_place ∷ [])
+no_new v long = no_object v (object_size long) (end_address ∷ [])
 
 -- why a new transient object with so many cells is: first its area has no space
 abbrev pub no_transient : HeapView → ClearEvent → ℕ → Option HeapRefusal
-no_transient v event long = if nat_lt area_size (area_end v.now event + long) then Some NoTransientSpace else no_object v transient_size (end_place ∷ area_place event ∷ [])
+no_transient v event long = if nat_lt area_size (area_end v.now event + long) then Some NoTransientSpace else no_object v transient_size (end_address ∷ area_end_address event ∷ [])
 
 -- why a new package is
 abbrev pub no_package : HeapView → List (ℕ × List ℕ) → List (Kind × List ℕ) → List ℕ → Option HeapRefusal
-no_package v components arrays rest = no_object v (package_size components arrays rest) (package_places v.now)
+no_package v components arrays rest = no_object v (package_size components arrays rest) (addresses_of_package v.now)
 
 -- the move that makes a new persistent object
 abbrev pub new_move : Kind → ℕ → ℕ → ℕ → Move

@@ -6,7 +6,7 @@ use Rattle.jc_heap.specs.declared.object.Kind.TheVariants.{Instance, ReferenceAr
 use Rattle.jc_heap.specs.declared.package.Component.{Component}
 use Rattle.jc_heap.specs.declared.package.StaticArray.{StaticArray}
 use Rattle.jc_heap.specs.Object.{Object, APackage, kind_number, has_bytes}
-use Rattle.jc_heap.specs.Heap.{HeapState, add_object, end_place}
+use Rattle.jc_heap.specs.Heap.{HeapState, add_object, end_address}
 use Rattle.jc_heap.specs.Packed.{packed}
 
 -- a component as values: its tag and its info
@@ -108,9 +108,9 @@ add_arrays h owner (a ∷ xs) = add_arrays (add_object h (array_object owner a) 
 abbrev pub add_package : HeapState → List (ℕ × List ℕ) → List (Kind × List ℕ) → List ℕ → HeapState
 add_package h cs xs rest = add_arrays (push_package h (package_record h.top cs xs rest)) (package_owner (h.counts.0 + 1)) xs
 
--- the places that change: the record's address, the number of packages, the heap's end
-unfoldable pub package_places : HeapState → List ℕ
-package_places h = (addresses_start + h.counts.0) ∷ packages_address ∷ end_place ∷ []
+-- the addresses of the words that change: the one with the record's address, the number of packages, the heap's end
+unfoldable pub addresses_of_package : HeapState → List ℕ
+addresses_of_package h = (addresses_start + h.counts.0) ∷ packages_address ∷ end_address ∷ []
 
 -- 1 to 8, or 10
 abbrev pub IsTag : ℕ → Type 0

@@ -6,13 +6,13 @@ use Rattle.jc_heap.specs.declared.place.Place.{Place}
 use Rattle.jc_heap.specs.declared.place.Place.TheVariants.{Cell, Static, Registry, AppletCount}
 use Rattle.jc_heap.specs.declared.place.AppletEntry.{AppletEntry}
 use Rattle.jc_heap.specs.Object.{IsElement}
-use Rattle.jc_heap.specs.Heap.{HeapState, HeapView, cells, facts, set_cell, cell_place, changed, is_touched}
+use Rattle.jc_heap.specs.Heap.{HeapState, HeapView, cells, facts, set_cell, cell_address, changed, is_touched}
 use Rattle.jc_heap.specs.Components.{record_of}
 use Rattle.jc_heap.specs.Statics.{set_word, IsStatic}
 
 -- the address of a place's word
 abbrev pub place_word : Place → ℕ
-place_word (Cell r i) = cell_place r i
+place_word (Cell r i) = cell_address r i
 place_word (Static r j) = r + j
 place_word (Registry i) = registry_start + i
 place_word AppletCount = applets_address

@@ -5,7 +5,7 @@ ghost use Rattle.jc_heap.specs.Fresh.{IsFree, KeepsBelow, Fills, StopsFresh};
 ghost use Rattle.jc_heap.specs.Object.{APackage};
 ghost use Rattle.jc_heap.specs.Moves.{AddPackage, MakesUnless, after_making, no_package};
 ghost use Rattle.jc_heap.specs.Heap.{changed, IsStopped, has_room_for, LacksSpace, names, item_at};
-ghost use Rattle.jc_heap.specs.Packages.{parts, initials, AreComponents, AreArrays, image_size, record_size, package_record, package_size, package_words, add_package, package_places};
+ghost use Rattle.jc_heap.specs.Packages.{parts, initials, AreComponents, AreArrays, image_size, record_size, package_record, package_size, package_words, add_package, addresses_of_package};
 
 use crate::heap::Heap;
 use crate::package::{Component, StaticArray, size_of_arrays, size_of_record};

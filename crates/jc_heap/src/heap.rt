@@ -5,19 +5,20 @@ ghost use Rattle.jc_commit.specs.Image.{capacity, count_of, plain_of, recovered_
 ghost use Rattle.jc_commit.specs.Entries.{addresses_of};
 ghost use Rattle.jc_heap.specs.Object.{IsElement};
 ghost use Rattle.jc_heap.specs.Image.{IsLaid};
-ghost use Rattle.jc_heap.specs.Heap.{HeapView, HeapState, heap_of, heap_view, IsSound, cells, facts, IsObject, HasEnd, next_object, set_cell, set_cells, run_words, changed, cell_place, IsStopped, has_room_for, room_left, begun, committed, aborted, resting, KeepsBelowTop};
+ghost use Rattle.jc_heap.specs.Heap.{HeapView, HeapState, heap_of, heap_view, IsSound, cells, facts, IsObject, HasEnd, next_object, set_cell, set_cells, run_words, changed, cell_address, IsStopped, has_room_for, room_left, begun, committed, aborted, resting, KeepsBelowTop};
 ghost use Rattle.jc_heap.specs.declared.place.Place.TheVariants.{Cell};
 ghost use Rattle.jc_heap.specs.Moves.{Write, SetCells, Begin, Commit, Abort, Made, Makes, MakesUnless, after_change, after_step, no_room, no_run};
 
 use crate::layout::HEADER;
+use crate::lookup::{facts_at, next_behind};
 use crate::object::Facts;
 use crate::place::Place;
-use crate::lookup::{facts_at, is_object_at, next_behind};
 use crate::refusal::ChangeRefusal;
+use crate::walk::{begins_package, begins_record};
 use jc_commit::Journal;
 use jc_transient::Ref;
+use jc_words::layout::{JOURNAL_CAPACITY, TEXT_LENGTH, TEXT_START, TOP};
 use jc_words::{StoreDown, WordStore};
-use jc_words::layout::{JOURNAL_CAPACITY, TOP};
 use std::marker::Model;
 
 // How many words one change may have.
@@ -60,9 +61,9 @@ impl<S: WordStore> Heap<S> {
     pub(crate) fn cell_word(&self, object: Ref, i: u16) -> u16
         requires up { self.now.down ≡ false }
         requires cell { i < length (cells self.now.now object) }
-        ensures { result ≡ cell_place object i }
+        ensures { result ≡ cell_address object i }
     {
-        let _ = &self.journal;
+        let _ = &self.journal; // so that the proof knows what holds of every heap: cells lie below its end
         let offset = u32::from(HEADER) + u32::from(i);
         (u32::from(object.address()) + offset) as u16
     }
@@ -71,13 +72,13 @@ impl<S: WordStore> Heap<S> {
     fn run_word(&self, object: Ref, i: u16, values: &[u16]) -> u16
         requires up { self.now.down ≡ false }
         requires cells { i + length values.now ≤ length (cells self.now.now object) }
-        ensures words { run_words result values.now ≡ run_words (cell_place object i) values.now }
+        ensures words { run_words result values.now ≡ run_words (cell_address object i) values.now }
         ensures fits { result + length values.now ≤ 65536 }
     {
         if values.is_empty() {
             return 0;
         }
-        let _ = &self.journal;
+        let _ = &self.journal; // so that the proof knows what holds of every heap
         self.cell_word(object, i)
     }
 
@@ -116,7 +117,12 @@ impl<S: WordStore> Heap<S> {
         requires { self.now.down ≡ false }
         ensures { IsTrue result ↔ IsObject self.now.now word }
     {
-        is_object_at(&self.journal, word)
+        let text = u32::from(self.journal.read(TEXT_LENGTH));
+        let from = TEXT_START + (text + 1) / 2;
+        if !begins_record(&self.journal, from as u16, word) {
+            return false;
+        }
+        !begins_package(&self.journal, word)
     }
 
     /// The object behind another one in the order of addresses, or the first one of all behind null.
@@ -135,8 +141,8 @@ impl<S: WordStore> Heap<S> {
         requires cell { i < length (cells self.old.now object) }
         requires value { IsElement (facts self.old.now object).kind v }
         ensures moves { MakesUnless (no_room self.old (Cell object i ∷ [])) self.old (after_change result self.new) (Write (Cell object i) v ∷ []) tt }
-        ensures done { OnOk result (self.new ≡ changed self.old (set_cell self.old.now object i v) (cell_place object i ∷ []) 0) }
-        ensures full { (result ≡ Err ChangeRefusal.CommitFull) ↔ (has_room_for self.old (cell_place object i ∷ []) ≡ false) }
+        ensures done { OnOk result (self.new ≡ changed self.old (set_cell self.old.now object i v) (cell_address object i ∷ []) 0) }
+        ensures full { (result ≡ Err ChangeRefusal.CommitFull) ↔ (has_room_for self.old (cell_address object i ∷ []) ≡ false) }
         ensures kept { result ≡ Err ChangeRefusal.CommitFull → self.new ≡ self.old }
         ensures stopped { result ≡ Err ChangeRefusal.StoreDown → IsStopped self.old self.new }
     {
@@ -149,8 +155,8 @@ impl<S: WordStore> Heap<S> {
         requires cells { i + length values.now ≤ length (cells self.old.now object) }
         requires values { (k : ℕ) → k < length values.now → IsElement (facts self.old.now object).kind (slice_index values.now k) }
         ensures moves { MakesUnless (no_run self.old object i values.now) self.old (after_change result self.new) (SetCells object i values.now ∷ []) tt }
-        ensures done { OnOk result (self.new ≡ changed self.old (set_cells self.old.now object i values.now) (addresses_of (run_words (cell_place object i) values.now)) 0) }
-        ensures full { (result ≡ Err ChangeRefusal.CommitFull) ↔ (has_room_for self.old (addresses_of (run_words (cell_place object i) values.now)) ≡ false) }
+        ensures done { OnOk result (self.new ≡ changed self.old (set_cells self.old.now object i values.now) (addresses_of (run_words (cell_address object i) values.now)) 0) }
+        ensures full { (result ≡ Err ChangeRefusal.CommitFull) ↔ (has_room_for self.old (addresses_of (run_words (cell_address object i) values.now)) ≡ false) }
         ensures kept { result ≡ Err ChangeRefusal.CommitFull → self.new ≡ self.old }
         ensures stopped { result ≡ Err ChangeRefusal.StoreDown → IsStopped self.old self.new }
     {

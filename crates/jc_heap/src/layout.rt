@@ -1,6 +1,6 @@
 //! What an object's header says, and where; and where the ends of the areas stand.
 ghost use Rattle.std.specs.Prelude.{◌≡◌};
-ghost use Rattle.jc_heap.specs.Heap.{area_place};
+ghost use Rattle.jc_heap.specs.Heap.{area_end_address};
 
 use jc_transient::ClearEvent;
 use jc_words::layout::{DESELECT_END, RESET_END};
@@ -16,7 +16,7 @@ pub const REFERENCES: u16 = 5;
 
 /// The word with the end of an event's area.
 pub fn area_word(event: ClearEvent) -> u16
-    ensures { result ≡ area_place event }
+    ensures { result ≡ area_end_address event }
 {
     match event {
         ClearEvent::Reset => RESET_END,

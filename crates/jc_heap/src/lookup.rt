@@ -1,12 +1,12 @@
 //! Reading objects of the words of a journal.
-ghost use Rattle.std.specs.Prelude.{◌≡◌, ◌<◌, ◌≤◌, ◌+◌, ◌/◌, ◌==◌, if◌then◌else◌, None, IfSome, IsTrue, ◌↔◌, length, slice_index};
+ghost use Rattle.std.specs.Prelude.{◌≡◌, ◌<◌, ◌≤◌, ◌+◌, ◌/◌, ◌==◌, if◌then◌else◌, None, IfSome, length, slice_index};
 ghost use Rattle.jc_words.specs.Layout.{text_start};
 ghost use Rattle.jc_heap.specs.Image.{IsLaid};
 ghost use Rattle.jc_heap.specs.Heap.{heap_of, cells, facts, IsObject, next_object};
 
 use crate::layout::HEADER;
 use crate::object::{Facts, Kind, event_of_number};
-use crate::walk::{begins_package, begins_record, first_object};
+use crate::walk::first_object;
 use jc_commit::Journal;
 use jc_transient::Ref;
 use jc_words::WordStore;
@@ -46,18 +46,6 @@ pub fn facts_at<S: WordStore>(journal: &Journal<S>, object: Ref) -> Facts
     }
 }
 
-// The first object of all.
-fn first<S: WordStore>(journal: &Journal<S>) -> Option<Ref>
-    requires laid { IsLaid journal.now.plain }
-    requires small { length journal.now.plain < 65536 }
-    ensures next { result ≡ next_object (heap_of journal.now.plain) 0 }
-    ensures object { IfSome result (λ q. IsObject (heap_of journal.now.plain) q) }
-{
-    let text = u32::from(journal.read(TEXT_LENGTH));
-    let from = TEXT_START + (text + 1) / 2;
-    first_object(journal, from as u16, 0)
-}
-
 /// The object behind another one in the order of addresses, or the first one of all behind null.
 pub fn next_behind<S: WordStore>(journal: &Journal<S>, object: Ref) -> Option<Ref>
     requires laid { IsLaid journal.now.plain }
@@ -67,22 +55,10 @@ pub fn next_behind<S: WordStore>(journal: &Journal<S>, object: Ref) -> Option<Re
     ensures object { IfSome result (λ q. IsObject (heap_of journal.now.plain) q) }
 {
     if object.is_null() {
-        return first(journal);
+        let text = u32::from(journal.read(TEXT_LENGTH));
+        let from = TEXT_START + (text + 1) / 2;
+        return first_object(journal, from as u16, 0);
     }
     let at = object.address();
     first_object(journal, at, at)
-}
-
-/// Whether an object begins at an address: a walk over the records.
-pub fn is_object_at<S: WordStore>(journal: &Journal<S>, address: u16) -> bool
-    requires laid { IsLaid journal.now.plain }
-    requires small { length journal.now.plain < 65536 }
-    ensures { IsTrue result ↔ IsObject (heap_of journal.now.plain) address }
-{
-    let text = u32::from(journal.read(TEXT_LENGTH));
-    let from = TEXT_START + (text + 1) / 2;
-    if !begins_record(journal, from as u16, address) {
-        return false;
-    }
-    !begins_package(journal, address)
 }

@@ -1,7 +1,7 @@
 //! New objects.
 ghost use Rattle.std.specs.Prelude.{IsTrue, ◌≡◌, ◌<◌, ◌≤◌, [], ◌∷◌, true, false, Ok, Err, length, OnOk, OnErr, IfOk, Some, replicate, ◌+◌, ◌↔◌};
 ghost use Rattle.jc_heap.specs.Object.{new_object, new_transient, header_word};
-ghost use Rattle.jc_heap.specs.Heap.{changed, add_object, end_place, IsStopped, has_room_for, LacksSpace, names, IsObject, cells, facts, add_transient, area_end, area_place, LacksCells};
+ghost use Rattle.jc_heap.specs.Heap.{changed, add_object, end_address, IsStopped, has_room_for, LacksSpace, names, IsObject, cells, facts, add_transient, area_end, area_end_address, LacksCells};
 ghost use Rattle.jc_heap.specs.Moves.{AddTransient, MakesUnless, after_making, new_move, no_new, no_transient};
 
 use crate::fresh::{write_record, write_run};
@@ -29,10 +29,10 @@ impl<S: WordStore> Heap<S> {
         ensures facts { IfOk result (λ r. facts self.new.now r ≡ (new_object kind class owner length).facts) }
         ensures named { IfOk result (λ r. r ≡ self.old.now.top) }
         ensures free { names self.old.now self.old.now.top ≡ false }
-        ensures done { OnOk result (self.new ≡ changed self.old (add_object self.old.now (new_object kind class owner length) (4 + length)) (end_place ∷ []) (4 + length)) }
+        ensures done { OnOk result (self.new ≡ changed self.old (add_object self.old.now (new_object kind class owner length) (4 + length)) (end_address ∷ []) (4 + length)) }
         ensures heap_full { (result ≡ Err HeapRefusal.HeapFull) ↔ LacksSpace self.old (4 + length) }
         ensures heap_full_kept { result ≡ Err HeapRefusal.HeapFull → self.new ≡ self.old }
-        ensures full { result ≡ Err HeapRefusal.CommitFull → (self.new ≡ self.old) × (has_room_for self.old (end_place ∷ []) ≡ false) }
+        ensures full { result ≡ Err HeapRefusal.CommitFull → (self.new ≡ self.old) × (has_room_for self.old (end_address ∷ []) ≡ false) }
         ensures stopped { result ≡ Err HeapRefusal.StoreDown → IsStopped self.old self.new }
     {
         let top = self.journal.read(TOP);
@@ -70,11 +70,11 @@ impl<S: WordStore> Heap<S> {
         ensures facts { IfOk result (λ r. facts self.new.now r ≡ (new_transient kind event class owner length (area_end self.old.now event)).facts) }
         ensures named { IfOk result (λ r. r ≡ self.old.now.top) }
         ensures free { names self.old.now self.old.now.top ≡ false }
-        ensures done { OnOk result (self.new ≡ changed self.old (add_transient self.old.now kind event class owner length) (end_place ∷ area_place event ∷ []) 5) }
+        ensures done { OnOk result (self.new ≡ changed self.old (add_transient self.old.now kind event class owner length) (end_address ∷ area_end_address event ∷ []) 5) }
         ensures area_full { (result ≡ Err HeapRefusal.NoTransientSpace) ↔ LacksCells self.old.now event length }
         ensures area_full_kept { result ≡ Err HeapRefusal.NoTransientSpace → self.new ≡ self.old }
         ensures heap_full { result ≡ Err HeapRefusal.HeapFull → (self.new ≡ self.old) × LacksSpace self.old 5 }
-        ensures full { result ≡ Err HeapRefusal.CommitFull → (self.new ≡ self.old) × (has_room_for self.old (end_place ∷ area_place event ∷ []) ≡ false) }
+        ensures full { result ≡ Err HeapRefusal.CommitFull → (self.new ≡ self.old) × (has_room_for self.old (end_address ∷ area_end_address event ∷ []) ≡ false) }
         ensures stopped { result ≡ Err HeapRefusal.StoreDown → IsStopped self.old self.new }
     {
         let end_word = area_word(event);

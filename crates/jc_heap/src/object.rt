@@ -5,8 +5,9 @@ ghost use Rattle.jc_heap.specs.Object.{kind_number, kind_of, event_of, is_header
 use jc_transient::ClearEvent;
 
 /// What an object holds.
-#[derive(Clone, Copy, Debug, PartialEq, Eq)]
+#[derive(Clone, Copy, Debug, Default, PartialEq, Eq)]
 pub enum Kind {
+    #[default]
     Instance,
     BooleanArray,
     ByteArray,
@@ -62,7 +63,7 @@ pub(crate) fn event_of_number(number: u16) -> Option<ClearEvent>
 }
 
 /// What an object's header says.
-#[derive(Clone, Copy, Debug, PartialEq, Eq)]
+#[derive(Clone, Copy, Debug, Default, PartialEq, Eq)]
 pub struct Facts {
     pub kind: Kind,
     /// What clears the object's cells; none, where it is persistent.

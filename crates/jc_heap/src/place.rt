@@ -36,11 +36,7 @@ pub struct AppletEntry {
 }
 
 // The words of changes, with their new values.
-fn fill_words<S: WordStore>(
-    heap: &Heap<S>,
-    changes: &[(Place, u16)],
-    words: &mut [(u16, u16)],
-)
+fn fill_words<S: WordStore>(heap: &Heap<S>, changes: &[(Place, u16)], words: &mut [(u16, u16)])
     requires up { heap.now.down ≡ false }
     requires there { AreThere heap.now.now changes.now }
     requires room { length changes.now ≤ length words.old }

@@ -107,7 +107,7 @@ fn write_references<S: WordStore>(
 }
 
 // Writes a static image: references to the arrays, then the other bytes.
-fn write_image<S: WordStore>(
+fn write_static_image<S: WordStore>(
     journal: &mut Journal<S>,
     at: u16,
     arrays: &[StaticArray],
@@ -201,6 +201,6 @@ pub(crate) fn write_package_record<S: WordStore>(
     write_run(journal, at, &[size])?;
     let next = write_components(journal, at + 1, components)?;
     write_run(journal, next, &[0])?;
-    write_image(journal, next + 1, arrays, at + size, image)?;
+    write_static_image(journal, next + 1, arrays, at + size, image)?;
     Ok(())
 }

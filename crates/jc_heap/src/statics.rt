@@ -77,7 +77,7 @@ impl<S: WordStore> Heap<S> {
         requires word { IsStatic (record_of self.now.now at) j }
         ensures { result ≡ at + j }
     {
-        let _ = &self.journal;
+        let _ = &self.journal; // so that the proof knows what holds of every heap: records lie below its end
         at.address() + j
     }
 }

@@ -81,7 +81,15 @@ fn an_applet_is_three_words_and_a_count(rt: HostRuntime) -> Result<(), Fail> {
     };
     let (number, heap) = with_applet(heap, second)?;
     assert_eq!(rt; (number, heap.applets()), (1, 2));
-    for (i, word) in [(0, 800), (1, 1), (2, 810), (3, 820), (4, 2), (5, 830), (6, 0)] {
+    for (i, word) in [
+        (0, 800),
+        (1, 1),
+        (2, 810),
+        (3, 820),
+        (4, 2),
+        (5, 830),
+        (6, 0),
+    ] {
         if i < 192 {
             assert_eq!(rt; heap.registry(i), word, "word {i}");
         }

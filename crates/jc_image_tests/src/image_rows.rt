@@ -365,3 +365,20 @@ fn a_card_answers_a_command(rt: HostRuntime) -> Result<(), Fail> {
     );
     Ok(())
 }
+
+// What no heap shows: the word that tells the journal's capacity, the words behind the text's length, and the
+// registries, in which nothing stands yet.
+#[test]
+fn a_new_image_has_zeros_where_nothing_stands(rt: HostRuntime) -> Result<(), Fail> {
+    let store = formatted(rt.alloc(), 4096)?;
+    let words = words_of(rt.alloc(), &store)?;
+    assert!(rt; words.len() == 4096);
+    assert!(rt; words[3] == 0 && words[4] == 256);
+    for i in 11..16usize {
+        assert_eq!(rt; words[i], 0, "word {i}");
+    }
+    for i in 528..752usize {
+        assert_eq!(rt; words[i], 0, "word {i}");
+    }
+    Ok(())
+}

@@ -7,8 +7,9 @@ ghost use Rattle.jc_interp_plain.specs.Returns.{handed, returned};
 use jc_frames::{Cell, CodeFault, Frames, Outcome, Stop};
 use jc_opcodes::instr::Return;
 
-/// Ends the method: its caller goes on, or the run ends where nothing called it. The registers that
-/// the caller comes back to are those of `Frames::resume` before.
+/// Ends the method with the value on top, if the instruction has one: its caller goes on with it, or
+/// the run ends with it where nothing called the method. The registers that the caller comes back to
+/// are those of `Frames::resume` before.
 #[inline(always)]
 pub fn leave(how: Return, frames: &mut Frames) -> Result<(), Stop>
     ensures { after_of result frames.new ≡ returned how frames.old }

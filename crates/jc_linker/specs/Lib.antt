@@ -1,0 +1,4 @@
+pub mod Answers
+pub mod Imports
+pub mod Linking
+pub mod Whole

@@ -3,10 +3,17 @@
 
 mod class;
 mod classes;
+mod classes_linked;
+pub mod components;
+mod copies;
+pub mod fault;
+mod imports;
 mod lineage;
+pub mod link;
 pub mod linked;
 mod lookups;
 mod methods;
 mod package;
 mod resolve;
 mod scope;
+mod whole;

@@ -1,6 +1,7 @@
 //! The packages of a card.
 ghost use Rattle.std.specs.Prelude.{◌≡◌, ◌<◌, ◌≤◌, ◌++◌, [], ◌∷◌, length, slice_get, IfOk, option_copied};
 ghost use Rattle.jc_packages.specs.Classes.{is_below, is_class, is_made, is_shareable, package_in, reference_cell, size_of, superclass_in};
+ghost use Rattle.jc_linker.specs.Linking.{with_package};
 ghost use Rattle.jc_packages.specs.Methods.{interface_method_at, method_at};
 
 use crate::package::LinkedPackage;
@@ -93,6 +94,18 @@ impl Linked {
             platform: &self.platform,
             loaded: &self.loaded,
             own: None,
+        }
+    }
+
+    /// These packages, and the one that is being linked behind them.
+    pub(crate) fn scope_with<'a>(&'a self, own: &'a LinkedPackage) -> Scope<'a>
+        ensures { result ≡ with_package self.entry.now own.entry.now }
+    {
+        let own = Some(own);
+        Scope {
+            platform: &self.platform,
+            loaded: &self.loaded,
+            own,
         }
     }
 

@@ -1,2 +1,4 @@
 pub mod Doings
 pub mod Usable
+pub mod Burying
+pub mod Running

@@ -2,7 +2,6 @@
 use Rattle.std.specs.Prelude.{ℕ, ℤ, ◌+◌, ◌%◌, ◌≡◌, ◌<◌, ◌≤◌, List, [], ◌∷◌, map, length, slice_index, Option, Some, None}
 use Rattle.std.specs.List.{range_with_len}
 use Rattle.std.specs.Int.{w16, cast_unsigned, cast_signed}
-use Rattle.jc_commit.specs.Entries.{addresses_of}
 use Rattle.jc_transient.specs.declared.cell.CellValue.{CellValue}
 use Rattle.jc_transient.specs.declared.cell.CellValue.TheVariants.{Short, Reference}
 use Rattle.jc_transient.specs.declared.cell.ClearEvent.{ClearEvent}
@@ -12,10 +11,9 @@ use Rattle.jc_heap.specs.declared.object.Kind.TheVariants.{ReferenceArray}
 use Rattle.jc_heap.specs.declared.place.Place.TheVariants.{Cell}
 use Rattle.jc_heap.specs.declared.refusal.HeapRefusal.{HeapRefusal}
 use Rattle.jc_heap.specs.Object.{IsElement}
-use Rattle.jc_heap.specs.Heap.{cells, facts, cell_place, run_words}
-use Rattle.jc_heap.specs.Places.{place_word}
+use Rattle.jc_heap.specs.Heap.{cells, facts}
 use Rattle.jc_heap.specs.Whole.{IsReference}
-use Rattle.jc_heap.specs.Moves.{Write, SetCells, Answer, Done, full_at}
+use Rattle.jc_heap.specs.Moves.{Write, SetCells, Answer, Done, no_room, no_run}
 use Rattle.jc_memory.specs.State.{MemoryState, Effect, Changes, Fills}
 use Rattle.jc_memory.specs.Doing.{Doing, Gives, Then, unless_refused}
 
@@ -49,6 +47,10 @@ byte_at s r i = word_at s r i % 256
 abbrev pub bytes_at : MemoryState → ℕ → ℕ → ℕ → List ℕ
 bytes_at s r i count = map (byte_at s r) (range_with_len i count)
 
+-- so many words of an object from an index on
+abbrev pub words_at : MemoryState → ℕ → ℕ → ℕ → List ℕ
+words_at s r i count = map (word_at s r) (range_with_len i count)
+
 -- what setting a cell does to an object that is kept so
 abbrev pub sets_in : Option ClearEvent → ℕ → ℕ → CellValue → Effect
 sets_in None r i v = Changes (Write (Cell r i) (word_of v))
@@ -58,14 +60,14 @@ sets_in (Some event) r i v = Fills r i (v ∷ [])
 abbrev pub sets : MemoryState → ℕ → ℕ → CellValue → Effect
 sets s r i v = sets_in (facts s.heap.now r).event r i v
 
--- why a change of a persistent object's cells is refused; others change without a transaction
-abbrev pub no_room_in : Option ClearEvent → MemoryState → List ℕ → Option HeapRefusal
-no_room_in None s places = full_at s.heap places
-no_room_in (Some event) s places = None
+-- why cells of an object that is kept so can't be set: the transaction has no room; a transient one needs none
+abbrev pub no_room_in : Option ClearEvent → Option HeapRefusal → Option HeapRefusal
+no_room_in None reason = reason
+no_room_in (Some event) reason = None
 
--- why a cell can't be set: the transaction has no room
+-- why a cell can't be set
 abbrev pub no_room_for : MemoryState → ℕ → ℕ → Option HeapRefusal
-no_room_for s r i = no_room_in (facts s.heap.now r).event s (cell_place r i ∷ [])
+no_room_for s r i = no_room_in (facts s.heap.now r).event (no_room s.heap (Cell r i ∷ []))
 
 -- what setting a cell may do
 abbrev pub stored : MemoryState → ℕ → ℕ → CellValue → Doing (Answer (Unit {0}))
@@ -81,7 +83,7 @@ sets_run s r i words = sets_run_in (facts s.heap.now r).event r i words
 
 -- why they can't be set
 abbrev pub no_room_for_run : MemoryState → ℕ → ℕ → List ℕ → Option HeapRefusal
-no_room_for_run s r i words = no_room_in (facts s.heap.now r).event s (addresses_of (run_words (cell_place r i) words))
+no_room_for_run s r i words = no_room_in (facts s.heap.now r).event (no_run s.heap r i words)
 
 -- what setting them may do
 abbrev pub stored_run : MemoryState → ℕ → ℕ → List ℕ → Doing (Answer (Unit {0}))
@@ -91,6 +93,11 @@ stored_run s r i words = unless_refused (no_room_for_run s r i words) (Then (set
 pub record MayHave (s : MemoryState) (r : ℕ) (v : CellValue) : Type 0 where
   pub element : IsElement (facts s.heap.now r).kind (word_of v)
   pub reference : (facts s.heap.now r).kind ≡ ReferenceArray → IsReference s.heap.now (word_of v)
+
+-- numbers that the cells of an object may have: bytes in an array of bytes, and none in an array of references
+pub record MayHaveAll (s : MemoryState) (r : ℕ) (words : List ℕ) : Type 0 where
+  pub elements : (k : ℕ) → k < length words → IsElement (facts s.heap.now r).kind (slice_index words k)
+  pub numbers : (facts s.heap.now r).kind ≡ ReferenceArray → ⊥
 
 -- what the header of an object says of its cells: a persistent one has so many, a transient one's lie within its area
 pub record IsHeaderOf (s : MemoryState) (r : ℕ) (f : Facts) : Type 0 where

@@ -1,9 +1,10 @@
 -- What may be done, as data, and how it ends: the form of instructions, calls, runs and commands.
 use Rattle.std.specs.Prelude.{ℕ, ◌≡◌, ◌⊎◌, true, Option, Some, None, Result, Ok, Err}
 use Rattle.jc_words.specs.Count.{raised}
-use Rattle.jc_words.specs.declared.store.StoreDown.{StoreDown}
 use Rattle.jc_heap.specs.declared.refusal.HeapRefusal.{HeapRefusal}
-use Rattle.jc_heap.specs.declared.refusal.HeapRefusal.TheVariants as refusals
+use Rattle.jc_heap.specs.declared.refusal.HeapRefusal.TheVariants as making
+use Rattle.jc_heap.specs.declared.refusal.ChangeRefusal.{ChangeRefusal}
+use Rattle.jc_heap.specs.declared.refusal.ChangeRefusal.TheVariants as change
 use Rattle.jc_heap.specs.Heap.{HeapState}
 use Rattle.jc_heap.specs.Moves.{Answer, Done, Refused}
 use Rattle.jc_memory.specs.State.{MemoryState, Effect, Changes, effected, IsNew}
@@ -45,18 +46,24 @@ abbrev pub Makes : {A : Type 0} → Doing A → MemoryState → After A → Type
 Makes d s (Made answer new) = Did d s answer new
 Makes d s (Cut new) = IsCutIn d s new
 
--- a refusal but that of the store is an answer
-abbrev pub after_of : {A : Type 0} → Result A HeapRefusal → MemoryState → After (Answer A)
-after_of (Ok a) s = Made (Done a) s
-after_of (Err refusals.StoreDown) s = Cut s
-after_of (Err refusals.CommitFull) s = Made (Refused refusals.CommitFull) s
-after_of (Err refusals.HeapFull) s = Made (Refused refusals.HeapFull) s
-after_of (Err refusals.NoTransientSpace) s = Made (Refused refusals.NoTransientSpace) s
+-- a refusal but that of the store is an answer: how a call ends that makes something
+abbrev pub after_making : {A : Type 0} → Result A HeapRefusal → MemoryState → After (Answer A)
+after_making (Ok a) s = Made (Done a) s
+after_making (Err making.StoreDown) s = Cut s
+after_making (Err making.CommitFull) s = Made (Refused making.CommitFull) s
+after_making (Err making.HeapFull) s = Made (Refused making.HeapFull) s
+after_making (Err making.NoTransientSpace) s = Made (Refused making.NoTransientSpace) s
 
--- nothing but the store refuses
-abbrev pub after_down : {A : Type 0} → Result A StoreDown → MemoryState → After A
-after_down (Ok a) s = Made a s
-after_down (Err down) s = Cut s
+-- how a change ends
+abbrev pub after_change : {A : Type 0} → Result A ChangeRefusal → MemoryState → After (Answer A)
+after_change (Ok a) s = Made (Done a) s
+after_change (Err change.StoreDown) s = Cut s
+after_change (Err change.CommitFull) s = Made (Refused making.CommitFull) s
+
+-- how a call ends that nothing but the store refuses
+abbrev pub after_step : {A E : Type 0} → Result A E → MemoryState → After A
+after_step (Ok a) s = Made a s
+after_step (Err e) s = Cut s
 
 -- first this, and then what its answer and the memory then ask for
 abbrev pub bind : {A B : Type 0} → Doing A → MemoryState → (A → MemoryState → Doing B) → Doing B

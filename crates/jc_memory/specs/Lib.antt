@@ -5,3 +5,5 @@ pub mod Reading
 pub mod Laws
 pub mod Cells
 pub mod Making
+pub mod Changing
+pub mod Dead

@@ -1,14 +1,12 @@
 -- New objects.
-use Rattle.std.specs.Prelude.{ℕ, ◌+◌, false, [], ◌∷◌, replicate, pos, Option, Some, None}
+use Rattle.std.specs.Prelude.{ℕ, false, replicate, pos, Option, Some, None}
 use Rattle.jc_transient.specs.declared.cell.CellValue.{CellValue}
 use Rattle.jc_transient.specs.declared.cell.CellValue.TheVariants.{Short, Reference}
 use Rattle.jc_transient.specs.declared.cell.ClearEvent.{ClearEvent}
 use Rattle.jc_heap.specs.declared.object.Kind.{Kind}
 use Rattle.jc_heap.specs.declared.object.Kind.TheVariants.{ReferenceArray}
 use Rattle.jc_heap.specs.declared.refusal.HeapRefusal.{HeapRefusal}
-use Rattle.jc_heap.specs.Object.{new_object}
-use Rattle.jc_heap.specs.Heap.{end_place}
-use Rattle.jc_heap.specs.Moves.{Move, AddObject, AddTransient, Answer, Done, no_object, no_transient}
+use Rattle.jc_heap.specs.Moves.{Move, AddTransient, Answer, Done, new_move, no_transient, no_new as no_persistent}
 use Rattle.jc_memory.specs.declared.making.NewObject.{NewObject}
 use Rattle.jc_memory.specs.Owners.{owner_number}
 use Rattle.jc_memory.specs.State.{MemoryState, Effect, Changes, Fills, Flags}
@@ -21,12 +19,12 @@ zero_of _ = Short (pos 0)
 
 -- the move that makes an object that is to be kept so
 abbrev pub new_move_in : Option ClearEvent → NewObject → Move
-new_move_in None o = AddObject (new_object o.kind o.class (owner_number o.owner) o.length) (4 + o.length)
+new_move_in None o = new_move o.kind o.class (owner_number o.owner) o.length
 new_move_in (Some event) o = AddTransient o.kind event o.class (owner_number o.owner) o.length
 
 -- why it can't be made
 abbrev pub no_new_in : Option ClearEvent → MemoryState → NewObject → Option HeapRefusal
-no_new_in None s o = no_object s.heap (4 + o.length) (end_place ∷ [])
+no_new_in None s o = no_persistent s.heap o.length
 no_new_in (Some event) s o = no_transient s.heap event o.length
 
 -- the cells of a new transient object are zero or null, as those of a persistent one are

@@ -3,7 +3,7 @@ use Rattle.std.specs.Prelude.{ℕ, ◌+◌, ◌≡◌, ◌<◌, Bool, false, Lis
 use Rattle.jc_transient.specs.declared.cell.CellValue.{CellValue}
 use Rattle.jc_transient.specs.declared.cell.ClearEvent.{ClearEvent}
 use Rattle.jc_transient.specs.Cells.{cleared, without_dead}
-use Rattle.jc_transient.specs.State.{RamState, area, with_area, with_cells}
+use Rattle.jc_transient.specs.State.{RamState, HasSizes, area, with_area, with_cells}
 use Rattle.jc_heap.specs.Heap.{HeapState, HeapView, facts, names}
 use Rattle.jc_heap.specs.Keeping.{AreWhole}
 use Rattle.jc_heap.specs.Moves.{Move, apply}
@@ -69,9 +69,8 @@ pub record IsNew (h : HeapState) (r : ℕ) : Type 0 where
   pub some : r ≡ 0 → ⊥
   pub chosen : r ≡ h.top
 
--- what the heap of each memory meets while its store is up: it is whole, now and after a loss of power, and
--- neither heap ends at null
-pub record IsKept (v : HeapView) : Type 0 where
-  pub whole : AreWhole v
-  pub now : 0 < v.now.top
-  pub durable : 0 < v.durable.top
+-- what the parts of each memory meet: while its store is up the heap is whole, now and after a loss of power;
+-- the contents have their sizes
+pub record AreParts (v : HeapView) (contents : RamState) : Type 0 where
+  pub heap : v.down ≡ false → AreWhole v
+  pub ram : HasSizes contents

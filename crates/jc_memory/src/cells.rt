@@ -1,11 +1,11 @@
 //! Cells of objects, wherever they are kept.
 ghost use Rattle.std.specs.Prelude.{◌≡◌, ◌<◌, false};
 ghost use Rattle.jc_heap.specs.Heap.{IsObject, facts};
-ghost use Rattle.jc_memory.specs.Doing.{Makes, after_of};
+ghost use Rattle.jc_memory.specs.Doing.{Makes, after_change};
 ghost use Rattle.jc_memory.specs.Cells.{word_of, word_at, short_at, byte_at, stored, MayHave};
 
 use crate::memory::Memory;
-use jc_heap::HeapRefusal;
+use jc_heap::ChangeRefusal;
 use jc_transient::{CellValue, Ref};
 use jc_words::WordStore;
 
@@ -66,12 +66,12 @@ impl<S: WordStore> Memory<S> {
 
     /// Sets a cell of an object. A persistent one's is a change: refused, where the transaction has no
     /// room for it.
-    pub fn set(&mut self, object: Ref, i: u16, value: CellValue) -> Result<(), HeapRefusal>
+    pub fn set(&mut self, object: Ref, i: u16, value: CellValue) -> Result<(), ChangeRefusal>
         requires up { self.old.heap.down ≡ false }
         requires there { IsObject self.old.heap.now object }
         requires cell { i < (facts self.old.heap.now object).length }
         requires value { MayHave self.old object value }
-        ensures { Makes (stored self.old object i value) self.old (after_of result self.new) }
+        ensures { Makes (stored self.old object i value) self.old (after_change result self.new) }
     {
         let facts = self.facts(object);
         match facts.event {

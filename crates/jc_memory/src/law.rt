@@ -1,6 +1,7 @@
 //! Laws of the definitions, for answers of any types and for whatever holds.
 ghost use Rattle.jc_heap.specs.Heap.{HeapState};
 ghost use Rattle.jc_memory.specs.State.{Effect, MemoryState};
+ghost use Rattle.jc_memory.specs.Dead.{BuriesDead};
 ghost use Rattle.jc_memory.specs.Laws.{IsSequence, IsByEffects, HoldsOfEach, Keeps, KeepsDue, IsApart};
 
 /// Something that may hold of an answer and of the memory that was left with it.
@@ -44,4 +45,9 @@ pub fn due_effects_keep_what_holds<A, K: Kept>()
 /// A law of the definitions: a new reference is not null, and names nothing that stood.
 pub fn new_references_are_apart()
     ensures { IsApart }
+{}
+
+/// A law of the definitions: an abort makes the references to what is no longer there null, and no others.
+pub fn aborts_bury_the_dead()
+    ensures { BuriesDead }
 {}

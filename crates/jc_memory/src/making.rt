@@ -1,6 +1,6 @@
 //! New objects.
 ghost use Rattle.std.specs.Prelude.{◌≡◌, false, None, Some};
-ghost use Rattle.jc_memory.specs.Doing.{Makes, after_of};
+ghost use Rattle.jc_memory.specs.Doing.{Makes, after_making};
 ghost use Rattle.jc_memory.specs.Making.{made, zero_of};
 
 use crate::memory::Memory;
@@ -37,7 +37,7 @@ impl<S: WordStore> Memory<S> {
     fn make_persistent(&mut self, object: NewObject) -> Result<Ref, HeapRefusal>
         requires up { self.old.heap.down ≡ false }
         requires event { object.event ≡ None }
-        ensures { Makes (made self.old object) self.old (after_of result self.new) }
+        ensures { Makes (made self.old object) self.old (after_making result self.new) }
     {
         let owner = object.owner.number();
         let r = self
@@ -51,7 +51,7 @@ impl<S: WordStore> Memory<S> {
     fn make_transient(&mut self, event: ClearEvent, object: NewObject) -> Result<Ref, HeapRefusal>
         requires up { self.old.heap.down ≡ false }
         requires event { object.event ≡ Some event }
-        ensures { Makes (made self.old object) self.old (after_of result self.new) }
+        ensures { Makes (made self.old object) self.old (after_making result self.new) }
     {
         let owner = object.owner.number();
         let (kind, length) = (object.kind, object.length);
@@ -69,7 +69,7 @@ impl<S: WordStore> Memory<S> {
     /// transaction.
     pub fn make(&mut self, object: NewObject) -> Result<Ref, HeapRefusal>
         requires up { self.old.heap.down ≡ false }
-        ensures { Makes (made self.old object) self.old (after_of result self.new) }
+        ensures { Makes (made self.old object) self.old (after_making result self.new) }
     {
         match object.event {
             None => self.make_persistent(object),

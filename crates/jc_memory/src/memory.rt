@@ -1,7 +1,8 @@
 //! A memory: its parts, and what headers say.
 ghost use Rattle.std.specs.Prelude.{◌≡◌, [], false};
 ghost use Rattle.jc_heap.specs.Heap.{IsObject};
-ghost use Rattle.jc_memory.specs.State.{IsKept};
+ghost use Rattle.jc_heap.specs.Whole.{IsWhole};
+ghost use Rattle.jc_transient.specs.State.{HasSizes};
 ghost use Rattle.jc_memory.specs.Owners.{at_reset};
 ghost use Rattle.jc_memory.specs.Cells.{IsHeaderOf};
 
@@ -32,22 +33,26 @@ pub struct Memory<S: WordStore> {
 }
 
 impl<S: WordStore> Model for Memory<S> {
-    ghost use Rattle.std.specs.Prelude.{◌≡◌, false};
-    ghost use Rattle.jc_memory.specs.State.{MemoryState, IsKept};
+    ghost use Rattle.jc_memory.specs.State.{MemoryState, AreParts};
 
     ghost Value = { MemoryState };
 
     ghost view = { λ m. record { heap = m.heap; ram = m.ram; registers = m.registers; command = m.command.items; sent = m.sent.items } };
 
-    ghost invariant = { λ m. (m.heap.down ≡ false → IsKept m.heap) };
+    ghost invariant = { λ m. AreParts m.heap m.ram };
 }
 
 impl<S: WordStore> Memory<S> {
-    /// A memory of its parts, as a reset leaves it.
+    /// A memory over a whole heap at rest, as a reset leaves it.
     pub fn new(heap: Heap<S>, ram: Ram) -> Memory<S>
-        requires whole { heap.down ≡ false → IsKept heap }
+        requires up { heap.down ≡ false }
+        requires rests { heap.begun ≡ false }
+        requires whole { IsWhole heap.now }
+        requires sizes { HasSizes ram }
         ensures { result ≡ record { heap = heap; ram = ram; registers = at_reset; command = []; sent = [] } }
     {
+        // Nothing stands at or above the top, and the durable heap is this one.
+        let _ = (heap.top(), heap.is_open());
         Memory {
             heap,
             ram,

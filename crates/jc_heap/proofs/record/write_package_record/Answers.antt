@@ -37,9 +37,9 @@ returns-in_err-write_run-2-clause-below g c =
     let s2 : Stands c.args.at c.in_ok-next.next (c.args.size ∷ comps) c.args.journal.now c.write_components.new.journal = next_piece c.args.at (c.args.at + 1) c.in_ok-next.next (c.args.size ∷ []) comps c.args.journal.now c.write_run.new.journal c.write_components.new.journal s1 c.write_components.ensures.below c.in_ok-next.ensures.done c.in_ok-next.ensures.behind in
     stands_below c.args.at c.in_ok-next.next (c.args.size ∷ comps) c.args.journal.now c.write_components.new.journal c.write_run-2.new.journal s2 c.write_run-2.ensures.below
 
-pub write_image-requires-clause-free : goal.write_image-requires-clause-free
+pub write_static_image-requires-clause-free : goal.write_static_image-requires-clause-free
 unfolding record_size
-write_image-requires-clause-free g c =
+write_static_image-requires-clause-free g c =
     let comps : List ℕ = components_words (parts c.args.components.now) in
     let s1 : Stands c.args.at (c.args.at + 1) (c.args.size ∷ []) c.args.journal.now c.write_run.new.journal = first_piece c.args.at (c.args.at + 1) (c.args.size ∷ []) c.args.journal.now c.write_run.new.journal c.write_run.ensures.below c.in_ok-write_run.ensures.done refl in
     let s2 : Stands c.args.at c.in_ok-next.next (c.args.size ∷ comps) c.args.journal.now c.write_components.new.journal = next_piece c.args.at (c.args.at + 1) c.in_ok-next.next (c.args.size ∷ []) comps c.args.journal.now c.write_run.new.journal c.write_components.new.journal s1 c.write_components.ensures.below c.in_ok-next.ensures.done c.in_ok-next.ensures.behind in
@@ -47,13 +47,13 @@ write_image-requires-clause-free g c =
     stands_free c.args.at (c.in_ok-next.next + 1) c.args.size (length c.args.arrays.now + length (packed c.args.image.now)) ((c.args.size ∷ comps) ++ 0 ∷ []) c.args.journal.now c.write_run-2.new.journal c.requires.free s3
     (omega (arith, c.requires.size, length-append (c.args.size ∷ comps) (0 ∷ []), length-initials c.args.arrays.now))
 
-pub returns-in_err-write_image-clause-below : goal.returns-in_err-write_image-clause-below
-returns-in_err-write_image-clause-below g c =
+pub returns-in_err-write_static_image-clause-below : goal.returns-in_err-write_static_image-clause-below
+returns-in_err-write_static_image-clause-below g c =
     let comps : List ℕ = components_words (parts c.args.components.now) in
     let s1 : Stands c.args.at (c.args.at + 1) (c.args.size ∷ []) c.args.journal.now c.write_run.new.journal = first_piece c.args.at (c.args.at + 1) (c.args.size ∷ []) c.args.journal.now c.write_run.new.journal c.write_run.ensures.below c.in_ok-write_run.ensures.done refl in
     let s2 : Stands c.args.at c.in_ok-next.next (c.args.size ∷ comps) c.args.journal.now c.write_components.new.journal = next_piece c.args.at (c.args.at + 1) c.in_ok-next.next (c.args.size ∷ []) comps c.args.journal.now c.write_run.new.journal c.write_components.new.journal s1 c.write_components.ensures.below c.in_ok-next.ensures.done c.in_ok-next.ensures.behind in
     let s3 : Stands c.args.at (c.in_ok-next.next + 1) ((c.args.size ∷ comps) ++ 0 ∷ []) c.args.journal.now c.write_run-2.new.journal = next_piece c.args.at c.in_ok-next.next (c.in_ok-next.next + 1) (c.args.size ∷ comps) (0 ∷ []) c.args.journal.now c.write_components.new.journal c.write_run-2.new.journal s2 c.write_run-2.ensures.below c.in_ok-write_run-2.ensures.done refl in
-    stands_below c.args.at (c.in_ok-next.next + 1) ((c.args.size ∷ comps) ++ 0 ∷ []) c.args.journal.now c.write_run-2.new.journal c.write_image.new.journal s3 c.write_image.ensures.below
+    stands_below c.args.at (c.in_ok-next.next + 1) ((c.args.size ∷ comps) ++ 0 ∷ []) c.args.journal.now c.write_run-2.new.journal c.write_static_image.new.journal s3 c.write_static_image.ensures.below
 
 pub returns-clause-below : goal.returns-clause-below
 returns-clause-below g c =
@@ -61,7 +61,7 @@ returns-clause-below g c =
     let s1 : Stands c.args.at (c.args.at + 1) (c.args.size ∷ []) c.args.journal.now c.write_run.new.journal = first_piece c.args.at (c.args.at + 1) (c.args.size ∷ []) c.args.journal.now c.write_run.new.journal c.write_run.ensures.below c.in_ok-write_run.ensures.done refl in
     let s2 : Stands c.args.at c.in_ok-next.next (c.args.size ∷ comps) c.args.journal.now c.write_components.new.journal = next_piece c.args.at (c.args.at + 1) c.in_ok-next.next (c.args.size ∷ []) comps c.args.journal.now c.write_run.new.journal c.write_components.new.journal s1 c.write_components.ensures.below c.in_ok-next.ensures.done c.in_ok-next.ensures.behind in
     let s3 : Stands c.args.at (c.in_ok-next.next + 1) ((c.args.size ∷ comps) ++ 0 ∷ []) c.args.journal.now c.write_run-2.new.journal = next_piece c.args.at c.in_ok-next.next (c.in_ok-next.next + 1) (c.args.size ∷ comps) (0 ∷ []) c.args.journal.now c.write_components.new.journal c.write_run-2.new.journal s2 c.write_run-2.ensures.below c.in_ok-write_run-2.ensures.done refl in
-    stands_below c.args.at (c.in_ok-next.next + 1) ((c.args.size ∷ comps) ++ 0 ∷ []) c.args.journal.now c.write_run-2.new.journal c.write_image.new.journal s3 c.write_image.ensures.below
+    stands_below c.args.at (c.in_ok-next.next + 1) ((c.args.size ∷ comps) ++ 0 ∷ []) c.args.journal.now c.write_run-2.new.journal c.write_static_image.new.journal s3 c.write_static_image.ensures.below
 
 pub returns-clause-done : goal.returns-clause-done
 unfolding package_record
@@ -71,7 +71,7 @@ returns-clause-done g c =
     let s1 : Stands c.args.at (c.args.at + 1) (c.args.size ∷ []) c.args.journal.now c.write_run.new.journal = first_piece c.args.at (c.args.at + 1) (c.args.size ∷ []) c.args.journal.now c.write_run.new.journal c.write_run.ensures.below c.in_ok-write_run.ensures.done refl in
     let s2 : Stands c.args.at c.in_ok-next.next (c.args.size ∷ comps) c.args.journal.now c.write_components.new.journal = next_piece c.args.at (c.args.at + 1) c.in_ok-next.next (c.args.size ∷ []) comps c.args.journal.now c.write_run.new.journal c.write_components.new.journal s1 c.write_components.ensures.below c.in_ok-next.ensures.done c.in_ok-next.ensures.behind in
     let s3 : Stands c.args.at (c.in_ok-next.next + 1) ((c.args.size ∷ comps) ++ 0 ∷ []) c.args.journal.now c.write_run-2.new.journal = next_piece c.args.at c.in_ok-next.next (c.in_ok-next.next + 1) (c.args.size ∷ comps) (0 ∷ []) c.args.journal.now c.write_components.new.journal c.write_run-2.new.journal s2 c.write_run-2.ensures.below c.in_ok-write_run-2.ensures.done refl in
-    let s4 : Stands c.args.at (c.in_ok-next.next + 1 + length img) (((c.args.size ∷ comps) ++ 0 ∷ []) ++ img) c.args.journal.now c.write_image.new.journal = next_piece c.args.at (c.in_ok-next.next + 1) (c.in_ok-next.next + 1 + length img) ((c.args.size ∷ comps) ++ 0 ∷ []) img c.args.journal.now c.write_run-2.new.journal c.write_image.new.journal s3 c.write_image.ensures.below c.in_ok-write_image.ensures.done refl in
-    subst (λ l. Fills c.args.at l c.args.journal.now c.write_image.new.journal)
+    let s4 : Stands c.args.at (c.in_ok-next.next + 1 + length img) (((c.args.size ∷ comps) ++ 0 ∷ []) ++ img) c.args.journal.now c.write_static_image.new.journal = next_piece c.args.at (c.in_ok-next.next + 1) (c.in_ok-next.next + 1 + length img) ((c.args.size ∷ comps) ++ 0 ∷ []) img c.args.journal.now c.write_run-2.new.journal c.write_static_image.new.journal s3 c.write_static_image.ensures.below c.in_ok-write_static_image.ensures.done refl in
+    subst (λ l. Fills c.args.at l c.args.journal.now c.write_static_image.new.journal)
     (append_assoc (c.args.size ∷ comps) (0 ∷ []) img ∙ ap (λ n. n ∷ (comps ++ 0 ∷ image_words (c.args.at + n) (initials c.args.arrays.now) c.args.image.now)) c.requires.size)
     s4.words

@@ -61,3 +61,9 @@ returns-in-Err-clause-unmarked g c =
     let down : c.in-Err.field-0-0 ≡ StoreDown = only_down (g.S.WordStore.words c.write_image.new.store) c.in-Err.field-0-0 good (λ e. (c.in-Err.ensures.bad_log e).0) in
     unmarked c.args.text.now (g.S.WordStore.words c.args.store) (g.S.WordStore.words c.in-Err.store)
     (part_after c.args.text.now (g.S.WordStore.words c.args.store) (g.S.WordStore.words c.write_image.new.store) c.in-Ok.ensures.bytes c.requires.fits c.in-Ok.ensures.done (g.S.WordStore.words c.in-Err.store) (c.in-Err.ensures.part down).0 (c.in-Err.ensures.part down).2)
+
+pub returns-in-Err-clause-size : goal.returns-in-Err-clause-size
+returns-in-Err-clause-size g c =
+    let good : IsGoodLog (g.S.WordStore.words c.write_image.new.store) = good_all c.args.text.now (g.S.WordStore.words c.args.store) (g.S.WordStore.words c.write_image.new.store) c.in-Ok.ensures.bytes c.requires.fits c.in-Ok.ensures.done in
+    let down : c.in-Err.field-0-0 ≡ StoreDown = only_down (g.S.WordStore.words c.write_image.new.store) c.in-Err.field-0-0 good (λ e. (c.in-Err.ensures.bad_log e).0) in
+    (c.in-Err.ensures.stopped down).1.size ∙ c.write_image.ensures.size

@@ -4,7 +4,7 @@ use Rattle.jc_commit.specs.State.{has_room_for}
 use Rattle.jc_commit.specs.declared.refusal.WriteRefusal.TheVariants.{StoreDown}
 use Rattle.jc_heap.specs.Fresh.{KeepsBelow, Fills}
 use Rattle.jc_heap.specs.Object.{kind_number, new_object, AnObject, is_object, cells_of, facts_of}
-use Rattle.jc_heap.specs.Heap.{heap_view, changed, add_object, end_place, item_at}
+use Rattle.jc_heap.specs.Heap.{heap_view, changed, add_object, end_address, item_at}
 use Rattle.jc_heap.proofs.Changing.{up_is}
 use Rattle.jc_heap.proofs.Views.{nothing_at_top, view_top}
 use Rattle.jc_heap.proofs.NewObjects.{lacks_space, has_space, new_record, only_down, fresh_stopped_sound, fresh_stopped_view, top_stopped_sound, top_stopped_view, view_made, sound_made, made_object}
@@ -81,9 +81,9 @@ returns-clause-object g c =
     (unfold new_record in subst (λ t. Fills t (c.number.result ∷ c.args.class ∷ c.args.owner ∷ c.args.length ∷ [] ++ replicate c.args.length 0) c.self.inside.journal c.write_record.new.journal) c.read-top.ensures c.in-Ok.ensures.done) in
     let end : (c.from.result + c.from-2.result + c.from-3.result) ≡ (get_or c.self.inside.journal.plain top_address 0) + (4 + c.args.length) = omega arith in
     let fits : (c.from.result + c.from-2.result + c.from-3.result) ≤ c.self.inside.size = omega arith in
-    let done : heap_view c.write.new.self c.self.inside.size ≡ changed c.args.self.now (add_object c.args.self.now.now (new_object c.args.kind c.args.class c.args.owner c.args.length) (4 + c.args.length)) (end_place ∷ []) (4 + c.args.length) = view_made c.self.inside.journal c.write_record.new.journal c.write.new.self c.args.self.now c.self.inside.size c.args.kind c.args.class c.args.owner c.args.length (c.from.result + c.from-2.result + c.from-3.result) c.self.view_is c.self.invariant (up_is c.self.inside.journal c.args.self.now c.self.inside.size c.self.view_is c.requires) below fills end fits c.in-Ok-write.ensures.ok in
+    let done : heap_view c.write.new.self c.self.inside.size ≡ changed c.args.self.now (add_object c.args.self.now.now (new_object c.args.kind c.args.class c.args.owner c.args.length) (4 + c.args.length)) (end_address ∷ []) (4 + c.args.length) = view_made c.self.inside.journal c.write_record.new.journal c.write.new.self c.args.self.now c.self.inside.size c.args.kind c.args.class c.args.owner c.args.length (c.from.result + c.from-2.result + c.from-3.result) c.self.view_is c.self.invariant (up_is c.self.inside.journal c.args.self.now c.self.inside.size c.self.view_is c.requires) below fills end fits c.in-Ok-write.ensures.ok in
     let there : item_at ((heap_view c.write.new.self c.self.inside.size).now) c.at.result ≡ AnObject (new_object c.args.kind c.args.class c.args.owner c.args.length) =
-    ap (item_at ((heap_view c.write.new.self c.self.inside.size).now)) (c.at.ensures ∙ c.read-top.ensures ∙ sym (view_top c.self.inside.journal c.args.self.now c.self.inside.size c.self.view_is (c.self.invariant.now (up_is c.self.inside.journal c.args.self.now c.self.inside.size c.self.view_is c.requires)))) ∙ ap (λ v. item_at (v.now) c.args.self.now.now.top) done ∙ made_object c.args.self.now (new_object c.args.kind c.args.class c.args.owner c.args.length) (4 + c.args.length) (4 + c.args.length) (end_place ∷ []) (nothing_at_top c.self.inside.journal c.args.self.now c.self.inside.size c.self.view_is (c.self.invariant.now (up_is c.self.inside.journal c.args.self.now c.self.inside.size c.self.view_is c.requires))) in
+    ap (item_at ((heap_view c.write.new.self c.self.inside.size).now)) (c.at.ensures ∙ c.read-top.ensures ∙ sym (view_top c.self.inside.journal c.args.self.now c.self.inside.size c.self.view_is (c.self.invariant.now (up_is c.self.inside.journal c.args.self.now c.self.inside.size c.self.view_is c.requires)))) ∙ ap (λ v. item_at (v.now) c.args.self.now.now.top) done ∙ made_object c.args.self.now (new_object c.args.kind c.args.class c.args.owner c.args.length) (4 + c.args.length) (4 + c.args.length) (end_address ∷ []) (nothing_at_top c.self.inside.journal c.args.self.now c.self.inside.size c.self.view_is (c.self.invariant.now (up_is c.self.inside.journal c.args.self.now c.self.inside.size c.self.view_is c.requires))) in
     ap is_object there
 
 pub returns-clause-cells : goal.returns-clause-cells
@@ -93,9 +93,9 @@ returns-clause-cells g c =
     (unfold new_record in subst (λ t. Fills t (c.number.result ∷ c.args.class ∷ c.args.owner ∷ c.args.length ∷ [] ++ replicate c.args.length 0) c.self.inside.journal c.write_record.new.journal) c.read-top.ensures c.in-Ok.ensures.done) in
     let end : (c.from.result + c.from-2.result + c.from-3.result) ≡ (get_or c.self.inside.journal.plain top_address 0) + (4 + c.args.length) = omega arith in
     let fits : (c.from.result + c.from-2.result + c.from-3.result) ≤ c.self.inside.size = omega arith in
-    let done : heap_view c.write.new.self c.self.inside.size ≡ changed c.args.self.now (add_object c.args.self.now.now (new_object c.args.kind c.args.class c.args.owner c.args.length) (4 + c.args.length)) (end_place ∷ []) (4 + c.args.length) = view_made c.self.inside.journal c.write_record.new.journal c.write.new.self c.args.self.now c.self.inside.size c.args.kind c.args.class c.args.owner c.args.length (c.from.result + c.from-2.result + c.from-3.result) c.self.view_is c.self.invariant (up_is c.self.inside.journal c.args.self.now c.self.inside.size c.self.view_is c.requires) below fills end fits c.in-Ok-write.ensures.ok in
+    let done : heap_view c.write.new.self c.self.inside.size ≡ changed c.args.self.now (add_object c.args.self.now.now (new_object c.args.kind c.args.class c.args.owner c.args.length) (4 + c.args.length)) (end_address ∷ []) (4 + c.args.length) = view_made c.self.inside.journal c.write_record.new.journal c.write.new.self c.args.self.now c.self.inside.size c.args.kind c.args.class c.args.owner c.args.length (c.from.result + c.from-2.result + c.from-3.result) c.self.view_is c.self.invariant (up_is c.self.inside.journal c.args.self.now c.self.inside.size c.self.view_is c.requires) below fills end fits c.in-Ok-write.ensures.ok in
     let there : item_at ((heap_view c.write.new.self c.self.inside.size).now) c.at.result ≡ AnObject (new_object c.args.kind c.args.class c.args.owner c.args.length) =
-    ap (item_at ((heap_view c.write.new.self c.self.inside.size).now)) (c.at.ensures ∙ c.read-top.ensures ∙ sym (view_top c.self.inside.journal c.args.self.now c.self.inside.size c.self.view_is (c.self.invariant.now (up_is c.self.inside.journal c.args.self.now c.self.inside.size c.self.view_is c.requires)))) ∙ ap (λ v. item_at (v.now) c.args.self.now.now.top) done ∙ made_object c.args.self.now (new_object c.args.kind c.args.class c.args.owner c.args.length) (4 + c.args.length) (4 + c.args.length) (end_place ∷ []) (nothing_at_top c.self.inside.journal c.args.self.now c.self.inside.size c.self.view_is (c.self.invariant.now (up_is c.self.inside.journal c.args.self.now c.self.inside.size c.self.view_is c.requires))) in
+    ap (item_at ((heap_view c.write.new.self c.self.inside.size).now)) (c.at.ensures ∙ c.read-top.ensures ∙ sym (view_top c.self.inside.journal c.args.self.now c.self.inside.size c.self.view_is (c.self.invariant.now (up_is c.self.inside.journal c.args.self.now c.self.inside.size c.self.view_is c.requires)))) ∙ ap (λ v. item_at (v.now) c.args.self.now.now.top) done ∙ made_object c.args.self.now (new_object c.args.kind c.args.class c.args.owner c.args.length) (4 + c.args.length) (4 + c.args.length) (end_address ∷ []) (nothing_at_top c.self.inside.journal c.args.self.now c.self.inside.size c.self.view_is (c.self.invariant.now (up_is c.self.inside.journal c.args.self.now c.self.inside.size c.self.view_is c.requires))) in
     ap cells_of there
 
 pub returns-clause-named : goal.returns-clause-named
@@ -120,30 +120,30 @@ pub returns-clause-facts : goal.returns-clause-facts
 returns-clause-facts g c =
     let there : item_at ((heap_view c.write.new.self c.self.inside.size).now) c.at.result ≡ AnObject (new_object c.args.kind c.args.class c.args.owner c.args.length) =
     ap (item_at ((heap_view c.write.new.self c.self.inside.size).now)) (returns-clause-named g c) ∙ ap (λ v. item_at (v.now) c.args.self.now.now.top) (returns-clause-done g c)
-    ∙ made_object c.args.self.now (new_object c.args.kind c.args.class c.args.owner c.args.length) (4 + c.args.length) (4 + c.args.length) (end_place ∷ []) (returns-clause-free g c) in
+    ∙ made_object c.args.self.now (new_object c.args.kind c.args.class c.args.owner c.args.length) (4 + c.args.length) (4 + c.args.length) (end_address ∷ []) (returns-clause-free g c) in
     ap facts_of there
 
 pub returns-then-end-from-clause-moves : goal.returns-then-end-from-clause-moves
 returns-then-end-from-clause-moves g c =
-    unless_refused (no_object c.args.self.now (4 + c.args.length) (end_place ∷ [])) c.args.self.now c.args.self.now HeapFull (AddObject (new_object c.args.kind c.args.class c.args.owner c.args.length) (4 + c.args.length) ∷ []) c.args.self.now.now.top
-    (has_no_space c.args.self.now (4 + c.args.length) (end_place ∷ []) (lacks_space c.self.inside.journal c.args.self.now c.self.inside.size (4 + c.args.length) c.self.view_is (c.self.invariant.now (up_is c.self.inside.journal c.args.self.now c.self.inside.size c.self.view_is c.requires)) (omega arith))) refl
+    unless_refused (no_object c.args.self.now (4 + c.args.length) (end_address ∷ [])) c.args.self.now c.args.self.now HeapFull (AddObject (new_object c.args.kind c.args.class c.args.owner c.args.length) (4 + c.args.length) ∷ []) c.args.self.now.now.top
+    (has_no_space c.args.self.now (4 + c.args.length) (end_address ∷ []) (lacks_space c.self.inside.journal c.args.self.now c.self.inside.size (4 + c.args.length) c.self.view_is (c.self.invariant.now (up_is c.self.inside.journal c.args.self.now c.self.inside.size c.self.view_is c.requires)) (omega arith))) refl
 
 pub returns-then-not-fits-clause-moves : goal.returns-then-not-fits-clause-moves
 returns-then-not-fits-clause-moves g c =
-    unless_refused (no_object c.args.self.now (4 + c.args.length) (end_place ∷ [])) c.args.self.now c.args.self.now CommitFull (AddObject (new_object c.args.kind c.args.class c.args.owner c.args.length) (4 + c.args.length) ∷ []) c.args.self.now.now.top
-    (object_full c.args.self.now (4 + c.args.length) (end_place ∷ []) (has_space c.self.inside.journal c.args.self.now c.self.inside.size (4 + c.args.length) c.self.view_is (c.self.invariant.now (up_is c.self.inside.journal c.args.self.now c.self.inside.size c.self.view_is c.requires)) (omega arith)) (end_room c.self.inside.journal c.args.self.now c.self.inside.size c.self.view_is ∙ sym c.fits.ensures ∙ c.if-not-fits.true)) refl
+    unless_refused (no_object c.args.self.now (4 + c.args.length) (end_address ∷ [])) c.args.self.now c.args.self.now CommitFull (AddObject (new_object c.args.kind c.args.class c.args.owner c.args.length) (4 + c.args.length) ∷ []) c.args.self.now.now.top
+    (object_full c.args.self.now (4 + c.args.length) (end_address ∷ []) (has_space c.self.inside.journal c.args.self.now c.self.inside.size (4 + c.args.length) c.self.view_is (c.self.invariant.now (up_is c.self.inside.journal c.args.self.now c.self.inside.size c.self.view_is c.requires)) (omega arith)) (end_room c.self.inside.journal c.args.self.now c.self.inside.size c.self.view_is ∙ sym c.fits.ensures ∙ c.if-not-fits.true)) refl
 
 pub returns-in_default-clause-moves : goal.returns-in_default-clause-moves
 returns-in_default-clause-moves g c =
-    unless_cut (no_object c.args.self.now (4 + c.args.length) (end_place ∷ [])) c.args.self.now (heap_view c.write_record.new.journal c.self.inside.size) (AddObject (new_object c.args.kind c.args.class c.args.owner c.args.length) (4 + c.args.length)) c.args.self.now.now.top
-    (object_fits c.args.self.now (4 + c.args.length) (end_place ∷ []) (has_space c.self.inside.journal c.args.self.now c.self.inside.size (4 + c.args.length) c.self.view_is (c.self.invariant.now (up_is c.self.inside.journal c.args.self.now c.self.inside.size c.self.view_is c.requires)) (omega arith)) (end_room c.self.inside.journal c.args.self.now c.self.inside.size c.self.view_is ∙ (sym c.fits.ensures ∙ c.if-not-fits.false))) (returns-in_default-clause-stopped g c refl)
+    unless_cut (no_object c.args.self.now (4 + c.args.length) (end_address ∷ [])) c.args.self.now (heap_view c.write_record.new.journal c.self.inside.size) (AddObject (new_object c.args.kind c.args.class c.args.owner c.args.length) (4 + c.args.length)) c.args.self.now.now.top
+    (object_fits c.args.self.now (4 + c.args.length) (end_address ∷ []) (has_space c.self.inside.journal c.args.self.now c.self.inside.size (4 + c.args.length) c.self.view_is (c.self.invariant.now (up_is c.self.inside.journal c.args.self.now c.self.inside.size c.self.view_is c.requires)) (omega arith)) (end_room c.self.inside.journal c.args.self.now c.self.inside.size c.self.view_is ∙ (sym c.fits.ensures ∙ c.if-not-fits.false))) (returns-in_default-clause-stopped g c refl)
 
 pub returns-in_default-write-clause-moves : goal.returns-in_default-write-clause-moves
 returns-in_default-write-clause-moves g c =
-    unless_cut (no_object c.args.self.now (4 + c.args.length) (end_place ∷ [])) c.args.self.now (heap_view c.write.new.self c.self.inside.size) (AddObject (new_object c.args.kind c.args.class c.args.owner c.args.length) (4 + c.args.length)) c.args.self.now.now.top
-    (object_fits c.args.self.now (4 + c.args.length) (end_place ∷ []) (has_space c.self.inside.journal c.args.self.now c.self.inside.size (4 + c.args.length) c.self.view_is (c.self.invariant.now (up_is c.self.inside.journal c.args.self.now c.self.inside.size c.self.view_is c.requires)) (omega arith)) (end_room c.self.inside.journal c.args.self.now c.self.inside.size c.self.view_is ∙ (sym c.fits.ensures ∙ c.if-not-fits.false))) (returns-in_default-write-clause-stopped g c refl)
+    unless_cut (no_object c.args.self.now (4 + c.args.length) (end_address ∷ [])) c.args.self.now (heap_view c.write.new.self c.self.inside.size) (AddObject (new_object c.args.kind c.args.class c.args.owner c.args.length) (4 + c.args.length)) c.args.self.now.now.top
+    (object_fits c.args.self.now (4 + c.args.length) (end_address ∷ []) (has_space c.self.inside.journal c.args.self.now c.self.inside.size (4 + c.args.length) c.self.view_is (c.self.invariant.now (up_is c.self.inside.journal c.args.self.now c.self.inside.size c.self.view_is c.requires)) (omega arith)) (end_room c.self.inside.journal c.args.self.now c.self.inside.size c.self.view_is ∙ (sym c.fits.ensures ∙ c.if-not-fits.false))) (returns-in_default-write-clause-stopped g c refl)
 
 pub returns-clause-moves : goal.returns-clause-moves
 returns-clause-moves g c =
-    unless_done (no_object c.args.self.now (4 + c.args.length) (end_place ∷ [])) c.args.self.now (heap_view c.write.new.self c.self.inside.size) (AddObject (new_object c.args.kind c.args.class c.args.owner c.args.length) (4 + c.args.length)) c.at.result c.args.self.now.now.top
-    (object_fits c.args.self.now (4 + c.args.length) (end_place ∷ []) (has_space c.self.inside.journal c.args.self.now c.self.inside.size (4 + c.args.length) c.self.view_is (c.self.invariant.now (up_is c.self.inside.journal c.args.self.now c.self.inside.size c.self.view_is c.requires)) (omega arith)) (end_room c.self.inside.journal c.args.self.now c.self.inside.size c.self.view_is ∙ (sym c.fits.ensures ∙ c.if-not-fits.false))) (returns-clause-named g c) (returns-clause-done g c)
+    unless_done (no_object c.args.self.now (4 + c.args.length) (end_address ∷ [])) c.args.self.now (heap_view c.write.new.self c.self.inside.size) (AddObject (new_object c.args.kind c.args.class c.args.owner c.args.length) (4 + c.args.length)) c.at.result c.args.self.now.now.top
+    (object_fits c.args.self.now (4 + c.args.length) (end_address ∷ []) (has_space c.self.inside.journal c.args.self.now c.self.inside.size (4 + c.args.length) c.self.view_is (c.self.invariant.now (up_is c.self.inside.journal c.args.self.now c.self.inside.size c.self.view_is c.requires)) (omega arith)) (end_room c.self.inside.journal c.args.self.now c.self.inside.size c.self.view_is ∙ (sym c.fits.ensures ∙ c.if-not-fits.false))) (returns-clause-named g c) (returns-clause-done g c)

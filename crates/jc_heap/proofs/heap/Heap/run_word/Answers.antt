@@ -1,7 +1,7 @@
 use Rattle.std.proofs.Common.{arith, ◌≡◌, ◌<◌, ◌≤◌, ◌+◌, ◌-◌, ◌∙◌, ap, sym, length, inl, inr}
 use Rattle.std.proofs.lemmas.Bool.{cases_eq, eq-eqb, ne_eqb, false≢true}
 use Rattle.jc_words.specs.Layout.{text_start}
-use Rattle.jc_heap.specs.Heap.{cell_place, cells, run_words}
+use Rattle.jc_heap.specs.Heap.{cell_address, cells, run_words}
 use Rattle.jc_heap.proofs.Changing.{up_is}
 use Rattle.jc_heap.proofs.Views.{cell_spot}
 use Rattle.jc_heap.proofs.Runs.{run_words-none}
@@ -13,7 +13,7 @@ returns-then-is_empty-clause-words g c =
       | inl e ↦ e
       | inr n ↦ absurd (false≢true (sym (ne_eqb (length c.args.values.now) 0 n) ∙ sym c.is_empty.ensures ∙ c.if-is_empty.true))
     ] in
-    run_words-none 0 (cell_place c.args.object c.args.i) c.args.values.now none
+    run_words-none 0 (cell_address c.args.object c.args.i) c.args.values.now none
 
 pub returns-then-is_empty-clause-fits : goal.returns-then-is_empty-clause-fits
 returns-then-is_empty-clause-fits g c =
@@ -35,7 +35,7 @@ pub returns-clause-words : goal.returns-clause-words
 returns-clause-words g c = ap (λ a. run_words a c.args.values.now) c.cell_word.ensures
 
 pub returns-clause-fits : goal.returns-clause-fits
-unfolding cell_place
+unfolding cell_address
 returns-clause-fits g c =
     let some : 0 < length c.args.values.now = elim (cases_eq (length c.args.values.now) 0) [
       | inl e ↦ absurd (false≢true (sym c.if-is_empty.false ∙ c.is_empty.ensures ∙ eq-eqb (length c.args.values.now) 0 e))

@@ -1,0 +1,96 @@
+//! Linking a package.
+ghost use Rattle.std.specs.Prelude.{◌≡◌, ◌<◌, ◌≤◌, ◌++◌, [], ◌∷◌, IfOk, OnOk, length};
+ghost use Rattle.jc_linker.specs.Answers.{Answers};
+ghost use Rattle.jc_linker.specs.Linking.{classes_behind, linking, targets_from, with_package};
+
+use crate::class::LinkedClass;
+use crate::classes_linked::Linking;
+use crate::components::Components;
+use crate::copies::outlined;
+use crate::fault::LinkFault;
+use crate::linked::{Addition, Linked};
+use crate::package::LinkedPackage;
+use crate::scope::Scope;
+use jc_cap_code::classes::Classes;
+use jc_cap_text::pool::ConstantPool;
+use jc_packages::target::Target;
+use std::alloc::{AllocError, Global};
+
+/// Links a package against those that are there: what each entry of its constant pool resolves to is found here, once.
+/// The fault is that of the first import that fails; else the lowest index of an entry that does not resolve; else 65535
+/// where the Class component names what is not there.
+#[tactic(auto, unfolding(crate::specs::Linking::linking))]
+pub fn link(
+    alloc: Global,
+    linked: &Linked,
+    components: &Components<'_>,
+) -> Result<Addition, LinkFault>
+    requires room { length linked.now.loaded < 32 }
+    requires few { length components.now.classes ≤ 256 }
+    ensures { Answers (λ added. added) result (linking linked.now components.now) }
+{
+    let number = linked.count() as u8 + 1;
+    let imports = linked.import_numbers(alloc, &components.imports)?;
+    let mut package = outlined(alloc, components, imports)?;
+    let classes = linked_classes(alloc, linked, &package, number, &components.classes)?;
+    package.classes = classes;
+    let scope = linked.scope_with(&package);
+    let targets = scope.targets(alloc, number, &components.pool)?;
+    if !scope.are_whole(number, &package.classes) {
+        return Err(LinkFault::Unresolved(65535));
+    }
+    package.targets = targets;
+    Ok(Addition { package })
+}
+
+// The classes of the records. Names are looked up in the package as it is outlined.
+fn linked_classes(
+    alloc: Global,
+    linked: &Linked,
+    outlined: &LinkedPackage,
+    number: u8,
+    records: &Classes<'_>,
+) -> Result<Vec<LinkedClass>, AllocError>
+    requires { length records.now ≤ 256 }
+    ensures classes { IfOk result (λ made. made.items ≡ classes_behind linked.now (with_package linked.now outlined.now) number [] records.now) }
+    ensures few { IfOk result (λ made. length made.items ≤ 256) }
+{
+    let loaded = linked.scope();
+    let names = linked.scope_with(outlined);
+    let linking = Linking {
+        loaded: &loaded,
+        names: &names,
+        number,
+    };
+    let classes = linking.classes(alloc, records)?;
+    Ok(classes)
+}
+
+impl Scope<'_> {
+    // What the entries resolve to, or the index of the first that does not.
+    fn targets(
+        &self,
+        alloc: Global,
+        number: u8,
+        pool: &ConstantPool<'_>,
+    ) -> Result<Vec<Target>, LinkFault>
+        ensures { Answers (λ targets. targets.items) result (targets_from self.now number 0 pool.now) }
+    {
+        let mut targets = Vec::new(alloc);
+        for index in 0..pool.count() {
+            let target = match self.resolution(number, pool.get(index)) {
+                Some(target) => target,
+                None => return Err(LinkFault::Unresolved(index)),
+            };
+            push_target(&mut targets, target)?;
+        }
+        Ok(targets)
+    }
+}
+
+fn push_target(targets: &mut Vec<Target>, target: Target) -> Result<(), AllocError>
+    ensures { OnOk result (targets.new.items ≡ targets.old.items ++ target ∷ []) }
+{
+    targets.push(target)?;
+    Ok(())
+}

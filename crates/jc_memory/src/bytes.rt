@@ -1,0 +1,101 @@
+//! Runs of cells.
+ghost use Rattle.std.specs.Prelude.{◌≡◌, ◌+◌, ◌≤◌, false, length, map, take};
+ghost use Rattle.jc_transient.specs.State.{HasSizes, area, area_size, with_area, with_cells};
+ghost use Rattle.jc_heap.specs.Heap.{IsObject, facts};
+ghost use Rattle.jc_memory.specs.Doing.{Makes, after_change};
+ghost use Rattle.jc_memory.specs.Cells.{bytes_at, words_at, number_of, stored_run, MayHaveAll};
+
+use crate::memory::{MOST_COMMAND, Memory};
+use jc_heap::ChangeRefusal;
+use jc_transient::{CellValue, ClearEvent, Ram, Ref};
+use jc_words::WordStore;
+
+// A word as a number.
+fn number_of(word: u16) -> CellValue
+    ensures { result ≡ number_of word }
+{
+    CellValue::Short(word.cast_signed())
+}
+
+// Puts numbers into an event's area from a place on.
+fn fill_run(ram: &mut Ram, event: ClearEvent, place: u16, words: &[u16])
+    requires sizes { HasSizes ram.old }
+    requires fits { place + length words.now ≤ area_size }
+    ensures done { ram.new ≡ with_area ram.old event (with_cells (area ram.old event) place (map number_of words.now)) }
+    ensures sizes { HasSizes ram.new }
+{
+    for (k, word) in words.iter().enumerate() {
+        ram.set(event, place + k as u16, number_of(*word));
+    }
+}
+
+// Bytes as words.
+fn widen(words: &mut [u16], bytes: &[u8])
+    requires { length bytes.now ≤ length words.old }
+    ensures { take (length bytes.now) words.new ≡ bytes.now }
+{
+    for (k, byte) in bytes.iter().enumerate() {
+        words[k] = u16::from(*byte);
+    }
+}
+
+impl<S: WordStore> Memory<S> {
+    /// Reads bytes of an object from an index on.
+    pub fn bytes(&self, object: Ref, i: u16, out: &mut [u8])
+        requires up { self.now.heap.down ≡ false }
+        requires there { IsObject self.now.heap.now object }
+        requires cells { i + length out.old ≤ (facts self.now.heap.now object).length }
+        ensures { out.new ≡ bytes_at self.now object i (length out.old) }
+    {
+        let _header = self.facts(object);
+        for k in 0..out.len() {
+            out[k] = self.byte(object, i + k as u16);
+        }
+    }
+
+    /// Reads the words of an object's cells from an index on.
+    pub fn words(&self, object: Ref, i: u16, out: &mut [u16])
+        requires up { self.now.heap.down ≡ false }
+        requires there { IsObject self.now.heap.now object }
+        requires cells { i + length out.old ≤ (facts self.now.heap.now object).length }
+        ensures { out.new ≡ words_at self.now object i (length out.old) }
+    {
+        let _header = self.facts(object);
+        for k in 0..out.len() {
+            out[k] = self.word(object, i + k as u16);
+        }
+    }
+
+    /// Sets cells of an object to numbers from an index on. A persistent object's are one change:
+    /// refused, where the transaction has no room for all of them.
+    pub fn set_run(&mut self, object: Ref, i: u16, words: &[u16]) -> Result<(), ChangeRefusal>
+        requires up { self.old.heap.down ≡ false }
+        requires there { IsObject self.old.heap.now object }
+        requires cells { i + length words.now ≤ (facts self.old.heap.now object).length }
+        requires values { MayHaveAll self.old object words.now }
+        ensures { Makes (stored_run self.old object i words.now) self.old (after_change result self.new) }
+    {
+        let facts = self.facts(object);
+        match facts.event {
+            None => self.heap.set_run(object, i, words),
+            Some(event) => {
+                fill_run(&mut self.ram, event, facts.place + i, words);
+                Ok(())
+            }
+        }
+    }
+
+    /// The same for bytes, at most as many as a command has.
+    pub fn set_bytes(&mut self, object: Ref, i: u16, bytes: &[u8]) -> Result<(), ChangeRefusal>
+        requires up { self.old.heap.down ≡ false }
+        requires there { IsObject self.old.heap.now object }
+        requires cells { i + length bytes.now ≤ (facts self.old.heap.now object).length }
+        requires values { MayHaveAll self.old object bytes.now }
+        requires few { length bytes.now ≤ MOST_COMMAND }
+        ensures { Makes (stored_run self.old object i bytes.now) self.old (after_change result self.new) }
+    {
+        let mut words = [0; MOST_COMMAND];
+        widen(&mut words, bytes);
+        self.set_run(object, i, &words[..bytes.len()])
+    }
+}

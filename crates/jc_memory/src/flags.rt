@@ -1,0 +1,46 @@
+//! Flags of objects, clear events, and for whom code runs.
+ghost use Rattle.std.specs.Prelude.{◌≡◌};
+ghost use Rattle.jc_transient.specs.State.{flag_of};
+ghost use Rattle.jc_memory.specs.State.{Flags, Clears, Turns, effected};
+
+use crate::memory::Memory;
+use crate::registers::Registers;
+use jc_transient::{ClearEvent, Ref};
+use jc_words::WordStore;
+
+impl<S: WordStore> Memory<S> {
+    /// The flag of an object.
+    pub fn flag(&self, object: Ref) -> bool
+        ensures { result ≡ flag_of self.now.ram object }
+    {
+        self.ram.flag(object)
+    }
+
+    /// Sets the flag of an object. No abort takes it back.
+    pub fn set_flag(&mut self, object: Ref, value: bool)
+        ensures { self.new ≡ effected (Flags object value) self.old }
+    {
+        self.ram.set_flag(object, value);
+    }
+
+    /// Clears the transient objects of an event.
+    pub fn clear(&mut self, event: ClearEvent)
+        ensures { self.new ≡ effected (Clears event) self.old }
+    {
+        self.ram.clear(event);
+    }
+
+    /// For whom code runs, and how far the command has come.
+    pub fn registers(&self) -> Registers
+        ensures { result ≡ self.now.registers }
+    {
+        self.registers
+    }
+
+    /// Sets the registers.
+    pub fn turn(&mut self, registers: Registers)
+        ensures { self.new ≡ effected (Turns registers) self.old }
+    {
+        self.registers = registers;
+    }
+}

@@ -1,0 +1,88 @@
+//! Transactions, and changes of places: for a while, several as one, and for good.
+ghost use Rattle.std.specs.Prelude.{◌≡◌, ◌<◌, false, true, length};
+ghost use Rattle.jc_heap.specs.declared.object.Kind.TheVariants.{Instance};
+ghost use Rattle.jc_heap.specs.Heap.{cells, facts};
+ghost use Rattle.jc_heap.specs.Keeping.{MayStand, MayAllStand};
+ghost use Rattle.jc_heap.specs.Places.{HasPlace, MayHold, AreThere, AreApart, places_of};
+ghost use Rattle.jc_heap.specs.Moves.{Begin};
+ghost use Rattle.jc_memory.specs.State.{Changes, effected};
+ghost use Rattle.jc_memory.specs.Doing.{Makes, after_change, after_step};
+ghost use Rattle.jc_memory.specs.Changing.{written, written_all, counted, committed, aborted};
+
+use crate::memory::Memory;
+use jc_heap::{ChangeRefusal, Place};
+use jc_transient::Ref;
+use jc_words::{StoreDown, WordStore};
+
+impl<S: WordStore> Memory<S> {
+    /// Begins a transaction.
+    pub fn begin(&mut self)
+        requires up { self.old.heap.down ≡ false }
+        requires outside { self.old.heap.begun ≡ false }
+        ensures { self.new ≡ effected (Changes Begin) self.old }
+    {
+        self.heap.begin();
+    }
+
+    /// Ends the transaction, whose changes then stay.
+    pub fn commit(&mut self) -> Result<(), StoreDown>
+        requires up { self.old.heap.down ≡ false }
+        requires inside { self.old.heap.begun ≡ true }
+        ensures { Makes committed self.old (after_step result self.new) }
+    {
+        self.heap.commit()
+    }
+
+    /// Takes the transaction back, and makes each transient reference null whose object was made in it.
+    /// Nothing else in memory changes.
+    pub fn abort(&mut self) -> Result<(), StoreDown>
+        requires up { self.old.heap.down ≡ false }
+        requires inside { self.old.heap.begun ≡ true }
+        ensures { Makes aborted self.old (after_step result self.new) }
+    {
+        self.heap.abort()?;
+        self.ram.null_dead(self.heap.top());
+        Ok(())
+    }
+
+    /// Writes a place: a word of a static image or of the registry, or a cell of a persistent object.
+    pub fn write(&mut self, place: Place, v: u16) -> Result<(), ChangeRefusal>
+        requires up { self.old.heap.down ≡ false }
+        requires there { HasPlace self.old.heap.now place }
+        requires value { MayHold self.old.heap.now place v }
+        requires reference { MayStand self.old.heap.now place v }
+        ensures { Makes (written self.old place v) self.old (after_change result self.new) }
+    {
+        self.heap.write(place, v)
+    }
+
+    /// Writes several places as one change: none, where the transaction has no room for all of them.
+    pub fn write_all(&mut self, changes: &[(Place, u16)]) -> Result<(), ChangeRefusal>
+        requires up { self.old.heap.down ≡ false }
+        requires there { AreThere self.old.heap.now changes.now }
+        requires apart { AreApart (places_of changes.now) }
+        requires references { MayAllStand self.old.heap.now changes.now }
+        ensures { Makes (written_all self.old changes.now) self.old (after_change result self.new) }
+    {
+        self.heap.set_all(changes)
+    }
+
+    /// Sets a counter of a persistent instance for good: no abort takes it back, unless an earlier change
+    /// of the transaction has touched it.
+    pub fn count(&mut self, object: Ref, i: u16, v: u16) -> Result<(), StoreDown>
+        requires up { self.old.heap.down ≡ false }
+        requires cell { i < length (cells self.old.heap.now object) }
+        requires kind { (facts self.old.heap.now object).kind ≡ Instance }
+        ensures { Makes (counted object i v) self.old (after_step result self.new) }
+    {
+        self.heap.write_both(Place::Cell(object, i), v)
+    }
+
+    /// The address that the next object gets: each object lies below it.
+    pub fn top(&self) -> u16
+        requires { self.now.heap.down ≡ false }
+        ensures { result ≡ self.now.heap.now.top }
+    {
+        self.heap.top()
+    }
+}
