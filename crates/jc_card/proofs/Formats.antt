@@ -17,9 +17,10 @@ format_fault (BadLine n) = BadTable n
 pub read_bad : (r : Result (Unit {0}) FormatFault) (text : List ℕ) (n k : ℕ) → r ≡ Err (BadTable k) → least_size ≤ n → Reads text (Err (BadLine k))
     → (line : ℕ) → (r ≡ Err (BadTable line)) ↔ ((least_size ≤ n) × Reads text (Err (BadLine line)))
 unfolding format_fault
-read_bad r text n k is low reads = λ line.
-    (λ e. let same : k ≡ line = cc in (low, subst (λ j. Reads text (Err (BadLine j))) same reads),
-    λ x. is ∙ ap (λ f. Err (format_fault f)) (one_fault text (BadLine k) (BadLine line) reads x.1))
+read_bad r text n k is low reads = λ line. (
+  (λ e. let same : k ≡ line = cc in (low, subst (λ j. Reads text (Err (BadLine j))) same reads)),
+  λ x. is ∙ ap (λ f. Err (format_fault f)) (one_fault text (BadLine k) (BadLine line) reads x.1),
+)
 
 pub read_well : (r : Result (Unit {0}) FormatFault) (text : List ℕ) (n : ℕ) (t : Tokens) → ((line : ℕ) → r ≡ Err (BadTable line) → ⊥) → Reads text (Ok t)
     → (line : ℕ) → (r ≡ Err (BadTable line)) ↔ ((least_size ≤ n) × Reads text (Err (BadLine line)))
