@@ -39,7 +39,7 @@ fn each_cut(rt: HostRuntime) -> Result<(), Fail> {
                 CapFault::Truncated
             };
             assert_eq!(rt; fault(row.0, &bytes), Some(expected));
-            cuts += 1;
+            cuts = cuts.saturating_add(1);
         }
     }
     // Those of the counter package are 247, of the arrays package 18, 34, 14, 13, 13 and 43 bytes.

@@ -14,6 +14,18 @@ const RESET: Option<ClearEvent> = Some(ClearEvent::Reset);
 
 const DESELECT: Option<ClearEvent> = Some(ClearEvent::Deselect);
 
+// Sends two bytes.
+fn send_two(memory: &mut Memory<MemStore>) -> Result<(), Fail>
+    requires up { memory.old.heap.down ≡ false }
+    ensures up { OnOk result (memory.new.heap.down ≡ false) }
+{
+    if memory.sent().len() > 200 {
+        return Err("no room")?;
+    }
+    memory.send(&[1, 2]);
+    Ok(())
+}
+
 #[test]
 fn an_abort_nulls_dead_references_and_nothing_else(rt: HostRuntime) -> Result<(), Fail> {
     let mut memory = blank_memory(rt.alloc())?;
@@ -31,7 +43,7 @@ fn an_abort_nulls_dead_references_and_nothing_else(rt: HostRuntime) -> Result<()
     set_short(&mut memory, numbers, 0, 7)?;
     set_short(&mut memory, before, 0, 6)?;
     memory.set_flag(before, true);
-    memory.send(&[1, 2]);
+    send_two(&mut memory)?;
     abort(&mut memory)?;
 
     let null = Ref::null();
@@ -112,7 +124,7 @@ fn fill_transaction(memory: &mut Memory<MemStore>, array: Ref, n: u16) -> Result
     requires few { n ≤ 256 }
     ensures up { OnOk result (memory.new.heap.down ≡ false) }
 {
-    for _ in 0..n {
+    for _turn in 0..n {
         if set_short(memory, array, 0, 1)?.is_some() {
             return Err("refused")?;
         }

@@ -1,9 +1,9 @@
 //! Memories over small stores, and calls that ask what a caller must know.
 ghost use Rattle.std.specs.Prelude.{◌≡◌, ◌≤◌, ◌+◌, false, length, IfOk, OnOk};
 ghost use Rattle.jc_heap.specs.Heap.{IsObject, facts};
-ghost use Rattle.jc_heap.specs.Whole.{IsReference};
+ghost use Rattle.jc_heap.specs.Whole.{IsWhole};
 
-use jc_heap::{ChangeRefusal, Facts, HeapRefusal, Kind};
+use jc_heap::{ChangeRefusal, Facts, Heap, HeapRefusal, Kind};
 use jc_image::OpenImage;
 use jc_memory::{Memory, NewObject, Owner};
 use jc_transient::{CellValue, ClearEvent, Ram, Ref};
@@ -11,9 +11,11 @@ use jc_words::{MemStore, WordStore, blank};
 use std::alloc::Global;
 use std::test::Fail;
 
-// A memory over a blank image of 4096 words, whose heap begins at word 752.
-pub(crate) fn blank_memory(alloc: Global) -> Result<Memory<MemStore>, Fail>
-    ensures up { IfOk result (λ memory. memory.heap.down ≡ false) }
+// The heap of a blank image of 4096 words, which begins at word 752.
+fn blank_heap(alloc: Global) -> Result<Heap<MemStore>, Fail>
+    ensures up { IfOk result (λ heap. heap.down ≡ false) }
+    ensures rests { IfOk result (λ heap. heap.begun ≡ false) }
+    ensures whole { IfOk result (λ heap. IsWhole heap.now) }
 {
     let mut store = MemStore::new(alloc, 4096)?;
     blank(&mut store, 752)?;
@@ -25,10 +27,17 @@ pub(crate) fn blank_memory(alloc: Global) -> Result<Memory<MemStore>, Fail>
         Ok(image) => image,
         Err(_) => Err("not opened")?,
     };
-    let heap = match image.check(&[]) {
-        Ok(heap) => heap,
+    match image.check(&[]) {
+        Ok(heap) => Ok(heap),
         Err(_) => Err("no heap")?,
-    };
+    }
+}
+
+// A memory over it.
+pub(crate) fn blank_memory(alloc: Global) -> Result<Memory<MemStore>, Fail>
+    ensures up { IfOk result (λ memory. memory.heap.down ≡ false) }
+{
+    let heap = blank_heap(alloc)?;
     let ram = Ram::new(alloc)?;
     Ok(Memory::new(heap, ram))
 }

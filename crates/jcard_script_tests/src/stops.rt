@@ -8,17 +8,22 @@ use jcard_script::script::run_script;
 use std::alloc::{AllocError, Global};
 use std::test::Fail;
 
-// A new image of 4096 words whose journal has so many entries, of the last words of the image. Their
-// recovery is so many writes and one more.
+// Writes a word that the store has.
+fn put(store: &mut MemStore, i: u16, v: u16) {
+    if i < store.size() {
+        let _ = store.write(i, v);
+    }
+}
+
+// A new image of 4096 words whose journal has so many entries, at most 256, of the last words of the
+// image. Their recovery is so many writes and one more.
 fn interrupted(alloc: Global, entries: u16) -> Result<MemStore, AllocError> {
     let (mut store, _) = format(MemStore::new(alloc, 4096)?, EXAMPLE.as_bytes());
-    if store.size() == 4096 && entries <= 256 {
-        for k in 0..entries {
-            let _ = store.write(16 + 2 * k, 4095 - k);
-            let _ = store.write(17 + 2 * k, 0);
-        }
-        let _ = store.write(3, entries);
+    for k in 0..entries.min(256) {
+        put(&mut store, 16 + 2 * k, 4095 - k);
+        put(&mut store, 17 + 2 * k, 0);
     }
+    put(&mut store, 3, entries);
     Ok(store)
 }
 
