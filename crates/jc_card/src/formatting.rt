@@ -47,10 +47,9 @@ pub fn format<S: WordStore>(store: S, text: &[u8]) -> (S, Result<(), FormatFault
     ensures size { OnOk result.1 (length (S.words result.0) ≡ length (S.words store)) }
     ensures up { OnOk result.1 (S.down result.0 ≡ false) }
     ensures none_refused { OnOk result.1 (S.refused result.0 ≡ S.refused store) }
-    // These refusals come in this order, and before anything is written; a store that is down counts last.
     ensures bad_size { (result.1 ≡ Err FormatFault.BadSize) ↔ (length (S.words store) < least_size) }
-    ensures bad_table { (line : ℕ) → (result.1 ≡ Err (FormatFault.BadTable line)) ↔ ((least_size ≤ length (S.words store)) × Reads text.now (Err (TableFault.BadTable line))) }
-    ensures too_small { (result.1 ≡ Err FormatFault.TooSmall) ↔ ((least_size ≤ length (S.words store)) × ((t : Tokens) × Reads text.now (Ok t)) × (length (S.words store) < first_free (length text.now) + 85)) }
+    ensures bad_table { (line : ℕ) → result.1 ≡ Err (FormatFault.BadTable line) → (least_size ≤ length (S.words store)) × Reads text.now (Err (TableFault.BadTable line)) }
+    ensures too_small { result.1 ≡ Err FormatFault.TooSmall → (least_size ≤ length (S.words store)) × (length (S.words store) < first_free (length text.now) + 85) × ((t : Tokens) × Reads text.now (Ok t)) }
     ensures kept { OnErr result.1 ((result.1 ≡ Err FormatFault.StoreDown → ⊥) → result.0 ≡ store) }
     ensures stopped { result.1 ≡ Err FormatFault.StoreDown → (S.down result.0 ≡ true) × (S.refused result.0 ≡ raised (S.refused store) 1) × ((S.words result.0 ≡ S.words store) ⊎ (slice_index (S.words result.0) magic_address ≢ magic)) }
 {

@@ -90,7 +90,7 @@ impl Seek for FailFile {
 type Store = FileStore<StdFile<FailFile>>;
 
 // Writes a word that the store has.
-fn put(store: &mut Store, i: u16, v: u16) -> Result<(), StoreDown> {
+fn put<S: WordStore>(store: &mut S, i: u16, v: u16) -> Result<(), StoreDown> {
     if i < store.size() {
         store.write(i, v)?;
     }
@@ -98,7 +98,7 @@ fn put(store: &mut Store, i: u16, v: u16) -> Result<(), StoreDown> {
 }
 
 // A word that the store has.
-fn word(store: &Store, i: u16) -> Option<u16> {
+fn word<S: WordStore>(store: &S, i: u16) -> Option<u16> {
     if i < store.size() {
         Some(store.read(i))
     } else {
@@ -242,9 +242,7 @@ fn a_file_that_is_made_has_its_bytes_and_no_others(rt: HostRuntime) -> Result<()
     let path = "made_shorter.image";
     let mut made = FileStore::create(&rt, path, 5000)?;
     for i in [0, 4095, 4096, 4999] {
-        if i < made.size() {
-            made.write(i, 0xABCD)?;
-        }
+        put(&mut made, i, 0xABCD)?;
     }
     let shorter = FileStore::create(&rt, path, 4096)?;
     assert_eq!(rt; shorter.size(), 4096);
@@ -263,13 +261,13 @@ fn a_file_is_made_and_opened_again(rt: HostRuntime) -> Result<(), Fail> {
     let path = "words_of_a_test.image";
     let mut made = FileStore::create(&rt, path, 4096)?;
     for i in 0..made.size() {
-        made.write(i, i)?;
+        put(&mut made, i, i)?;
     }
     let before = bytes_of(&rt, path)?;
     let again = FileStore::open(&rt, path)?;
     assert_eq!(rt; again.size(), 4096);
     for i in 0..again.size() {
-        assert_eq!(rt; again.read(i), i);
+        assert_eq!(rt; word(&again, i), Some(i));
     }
     assert!(rt; bytes_of(&rt, path)? == before);
     fs::remove_file(&rt, path)?;

@@ -151,8 +151,10 @@ fn stopped_ever_later(store: Store) -> Result<Store, Fail>
 {
     let most = writes_to_recover(&store);
     let mut store = store;
-    for step in 0..=most / 16 {
-        store = recovered_in_part(store, 16 * step)?;
+    for step in 0..=most {
+        if step % 16 == 0 {
+            store = recovered_in_part(store, step)?;
+        }
     }
     Ok(store)
 }
