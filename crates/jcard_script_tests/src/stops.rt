@@ -19,11 +19,13 @@ fn put(store: &mut MemStore, i: u16, v: u16) {
 // image. Their recovery is so many writes and one more.
 fn interrupted(alloc: Global, entries: u16) -> Result<MemStore, AllocError> {
     let (mut store, _) = format(MemStore::new(alloc, 4096)?, EXAMPLE.as_bytes());
-    for k in 0..entries.min(256) {
-        put(&mut store, 16 + 2 * k, 4095 - k);
-        put(&mut store, 17 + 2 * k, 0);
+    if entries <= 256 {
+        for k in 0..entries {
+            put(&mut store, 16 + 2 * k, 4095 - k);
+            put(&mut store, 17 + 2 * k, 0);
+        }
+        put(&mut store, 3, entries);
     }
-    put(&mut store, 3, entries);
     Ok(store)
 }
 
