@@ -301,7 +301,10 @@ fn the_largest_class(rt: HostRuntime) {
         info[1032 + 258 * i] = 0xFF;
     }
     info[4899] = 0x56;
-    assert!(rt; matches!(fault(&info[..4899]), Some(CapFault::Truncated)));
+    let Some((_, cut)) = info.split_last() else {
+        panic!(rt; "no bytes");
+    };
+    assert!(rt; matches!(fault(cut), Some(CapFault::Truncated)));
     let Ok(classes) = read_class(Format::V2_1, &info) else {
         panic!(rt; "refused");
     };

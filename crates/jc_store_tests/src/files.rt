@@ -288,7 +288,7 @@ fn a_maker_without_memory_says_so(rt: HostRuntime) -> Result<(), Fail> {
     };
     match FileStore::over(rt.alloc(), StdFile::new(FailFile::of(bytes, None))) {
         Ok(store) => assert_eq!(rt; store.size(), 4096),
-        Err((fault, _)) => assert_eq!(rt; fault, FileOpenFault::NoMemory),
+        Err((fault, _file)) => assert_eq!(rt; fault, FileOpenFault::NoMemory),
     }
     let path = "made_without_memory.image";
     match FileStore::create(&rt, path, 4096) {
