@@ -33,9 +33,15 @@ pub enum Target {
         method: Method,
     },
     /// A method of a superclass, called on an instance of this class.
-    SuperMethod { class: u16, method: Method },
+    SuperMethod {
+        class: u16,
+        method: Method,
+    },
     /// A field in the static image of the package with this number, at this offset.
-    StaticField { package_number: u8, offset: u16 },
+    StaticField {
+        package_number: u8,
+        offset: u16,
+    },
     /// A static method, a constructor or a private method; its class, where the entry tells it.
     StaticMethod {
         class: Option<u16>,
