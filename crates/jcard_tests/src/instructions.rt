@@ -1,7 +1,6 @@
 //! Constants, locals, arithmetic and returns, with values from the instruction set's descriptions.
-use crate::running::{Case, bytes_of, run_all, status_of};
+use crate::running::{Case, bytes_of, run_all, thrown_by};
 use jc_frames::{Exception, Outcome};
-use jc_interp::status::Status;
 use std::test::Fail;
 
 const CONSTANTS: [Case; 12] = [
@@ -163,8 +162,8 @@ const ARITHMETIC: [Case; 20] = [
 fn a_division_by_0_throws(rt: HostRuntime) -> Result<(), Fail> {
     for code in ["04 03 47 78", "04 03 49 78"] {
         let code = bytes_of(&rt, code)?;
-        let thrown = Status::Uncaught(Exception::ArithmeticException);
-        assert_eq!(rt; status_of(8, &code)?, thrown);
+        let thrown = thrown_by(8, &code)?;
+        assert!(rt; thrown == Exception::ArithmeticException);
     }
     Ok(())
 }

@@ -1,5 +1,5 @@
 //! Running a method given in hexadecimal.
-use jc_frames::Outcome;
+use jc_frames::{Exception, Outcome};
 use jc_interp::machine::Machine;
 use jc_interp::status::Status;
 use std::test::Fail;
@@ -26,7 +26,7 @@ pub(crate) fn bytes_of(rt: &HostRuntime, text: &str) -> Result<Vec<u8>, Fail> {
 }
 
 /// What a run of a method with so many cells on its stack and four locals leaves.
-pub(crate) fn status_of(max_stack: u8, code: &[u8]) -> Result<Status, Fail> {
+fn status_of(max_stack: u8, code: &[u8]) -> Result<Status, Fail> {
     if code.len() > 65_535 {
         return Err("a method is shorter".into());
     }
@@ -38,6 +38,15 @@ pub(crate) fn end_of(max_stack: u8, code: &[u8]) -> Result<Outcome, Fail> {
     match status_of(max_stack, code)? {
         Status::Ended(outcome) => Ok(outcome),
         Status::Uncaught(_) => Err("it throws".into()),
+        Status::Running => Err("it goes on".into()),
+    }
+}
+
+/// The exception that such a method leaves uncaught.
+pub(crate) fn thrown_by(max_stack: u8, code: &[u8]) -> Result<Exception, Fail> {
+    match status_of(max_stack, code)? {
+        Status::Uncaught(exception) => Ok(exception),
+        Status::Ended(_) => Err("it ends".into()),
         Status::Running => Err("it goes on".into()),
     }
 }
