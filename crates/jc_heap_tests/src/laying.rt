@@ -85,6 +85,7 @@ fn an_image_is_checked_for_its_first_objects(rt: HostRuntime) -> Result<(), Fail
     let Err(store) = image.check(&[facts, facts]) else {
         return Err("an object too many")?;
     };
+    assert!(rt; store.size() >= 752);
     let Ok(image) = OpenImage::open(store) else {
         return Err("not opened")?;
     };
