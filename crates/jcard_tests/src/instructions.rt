@@ -1,6 +1,6 @@
 //! Constants, locals, arithmetic and returns, with values from the instruction set's descriptions.
-use crate::running::{Case, bytes_of, run_all, thrown_by};
-use jc_frames::{Exception, Outcome};
+use crate::running::{Case, run_all};
+use jc_frames::Outcome;
 use std::test::Fail;
 
 const CONSTANTS: [Case; 12] = [
@@ -157,16 +157,6 @@ const ARITHMETIC: [Case; 20] = [
     ("s2b of 0180", "11 01 80 5B 78", Outcome::Short(-128)),
     ("s2b of FF7F", "11 FF 7F 5B 78", Outcome::Short(127)),
 ];
-
-#[test]
-fn a_division_by_0_throws(rt: HostRuntime) -> Result<(), Fail> {
-    for code in ["04 03 47 78", "04 03 49 78"] {
-        let code = bytes_of(&rt, code)?;
-        let thrown = thrown_by(8, &code)?;
-        assert!(rt; thrown == Exception::ArithmeticException);
-    }
-    Ok(())
-}
 
 #[test]
 fn arithmetic_wraps_at_16_bits(rt: HostRuntime) -> Result<(), Fail> {

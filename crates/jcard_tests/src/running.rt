@@ -1,5 +1,5 @@
 //! Running a method given in hexadecimal.
-use jc_frames::{Exception, Outcome};
+use jc_frames::Outcome;
 use jc_interp::machine::Machine;
 use jc_interp::status::Status;
 use std::test::Fail;
@@ -38,15 +38,6 @@ pub(crate) fn end_of(max_stack: u8, code: &[u8]) -> Result<Outcome, Fail> {
     match status_of(max_stack, code)? {
         Status::Ended(outcome) => Ok(outcome),
         Status::Uncaught(_) => Err("it throws".into()),
-        Status::Running => Err("it goes on".into()),
-    }
-}
-
-/// The exception that such a method leaves uncaught.
-pub(crate) fn thrown_by(max_stack: u8, code: &[u8]) -> Result<Exception, Fail> {
-    match status_of(max_stack, code)? {
-        Status::Uncaught(exception) => Ok(exception),
-        Status::Ended(_) => Err("it ends".into()),
         Status::Running => Err("it goes on".into()),
     }
 }
