@@ -1,5 +1,5 @@
 -- Cells of objects, wherever they are kept.
-use Rattle.std.specs.Prelude.{ℕ, ℤ, ◌+◌, ◌%◌, ◌≡◌, ◌<◌, ◌≤◌, List, [], ◌∷◌, map, length, slice_index, Option, Some, None}
+use Rattle.std.specs.Prelude.{ℕ, ℤ, ◌+◌, ◌%◌, ◌≡◌, ◌<◌, ◌≤◌, List, [], ◌∷◌, map, length, slice_index, Option, Some, None, if◌then◌else◌}
 use Rattle.std.specs.List.{range_with_len}
 use Rattle.std.specs.Int.{w16, cast_unsigned, cast_signed}
 use Rattle.jc_transient.specs.declared.cell.CellValue.{CellValue}
@@ -10,8 +10,8 @@ use Rattle.jc_heap.specs.declared.object.Facts.{Facts}
 use Rattle.jc_heap.specs.declared.object.Kind.TheVariants.{ReferenceArray}
 use Rattle.jc_heap.specs.declared.place.Place.TheVariants.{Cell}
 use Rattle.jc_heap.specs.declared.refusal.HeapRefusal.{HeapRefusal}
-use Rattle.jc_heap.specs.Object.{IsElement}
-use Rattle.jc_heap.specs.Heap.{cells, facts}
+use Rattle.jc_heap.specs.Object.{IsElement, is_object}
+use Rattle.jc_heap.specs.Heap.{cells, facts, item_at}
 use Rattle.jc_heap.specs.Whole.{IsReference}
 use Rattle.jc_heap.specs.Moves.{Write, SetCells, Answer, Done, no_room, no_run}
 use Rattle.jc_memory.specs.State.{MemoryState, Effect, Changes, Fills}
@@ -98,6 +98,10 @@ pub record MayHave (s : MemoryState) (r : ℕ) (v : CellValue) : Type 0 where
 pub record MayHaveAll (s : MemoryState) (r : ℕ) (words : List ℕ) : Type 0 where
   pub elements : (k : ℕ) → k < length words → IsElement (facts s.heap.now r).kind (slice_index words k)
   pub numbers : (facts s.heap.now r).kind ≡ ReferenceArray → ⊥
+
+-- what the header of the object behind a reference says, if an object stands there
+abbrev pub header_at : MemoryState → ℕ → Option Facts
+header_at s r = if is_object (item_at s.heap.now r) then Some (facts s.heap.now r) else None
 
 -- what the header of an object says of its cells: a persistent one has so many, a transient one's lie within its area
 pub record IsHeaderOf (s : MemoryState) (r : ℕ) (f : Facts) : Type 0 where

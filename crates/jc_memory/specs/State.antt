@@ -9,11 +9,12 @@ use Rattle.jc_heap.specs.Keeping.{AreWhole}
 use Rattle.jc_heap.specs.Moves.{Move, apply}
 use Rattle.jc_memory.specs.declared.registers.Registers.{Registers}
 
--- the heap; the transient contents; for whom code runs; the bytes of the command that is carried out; the
--- bytes that were sent in answer to it
+-- the heap; the transient contents; the objects with which the heap begins, in their order; for whom code runs;
+-- the bytes of the command that is carried out; the bytes that were sent in answer to it
 pub record MemoryState : Type 0 where
   pub heap : HeapView
   pub ram : RamState
+  pub fixed : List ℕ
   pub registers : Registers
   pub command : List ℕ
   pub sent : List ℕ

@@ -17,7 +17,7 @@ pub use law::{
     losses_fall_before_a_move, new_references_are_apart, what_holds_of_each_holds,
 };
 pub use making::NewObject;
-pub use memory::{MOST_COMMAND, MOST_SENT, Memory};
+pub use memory::{FIXED_OBJECTS, MOST_COMMAND, MOST_SENT, Memory};
 pub use registers::{
     ApduPhase, ApduState, AppletNumber, Depth, Installation, Owner, PackageNumber, Registers,
 };

@@ -1,10 +1,10 @@
 //! A memory: its parts, and what headers say.
-ghost use Rattle.std.specs.Prelude.{◌≡◌, [], false};
+ghost use Rattle.std.specs.Prelude.{◌≡◌, ◌<◌, [], false, IfSome, slice_index};
 ghost use Rattle.jc_heap.specs.Heap.{IsObject};
 ghost use Rattle.jc_heap.specs.Whole.{IsWhole};
 ghost use Rattle.jc_transient.specs.State.{HasSizes};
 ghost use Rattle.jc_memory.specs.Owners.{at_reset};
-ghost use Rattle.jc_memory.specs.Cells.{IsHeaderOf};
+ghost use Rattle.jc_memory.specs.Cells.{IsHeaderOf, header_at};
 
 use crate::registers::Registers;
 use arrayvec::ArrayVec;
@@ -19,6 +19,9 @@ pub const MOST_COMMAND: usize = 261;
 /// How many bytes are sent in answer to it at most.
 pub const MOST_SENT: usize = 256;
 
+/// With how many objects the heap begins.
+pub const FIXED_OBJECTS: usize = 17;
+
 /// What running code sees and changes: the heap, the transient contents, for whom code runs, the
 /// command that is carried out, and what was sent in answer to it.
 ///
@@ -27,6 +30,7 @@ pub const MOST_SENT: usize = 256;
 pub struct Memory<S: WordStore> {
     pub(crate) heap: Heap<S>,
     pub(crate) ram: Ram,
+    pub(crate) fixed: [Ref; FIXED_OBJECTS],
     pub(crate) registers: Registers,
     pub(crate) command: ArrayVec<u8, MOST_COMMAND>,
     pub(crate) sent: ArrayVec<u8, MOST_SENT>,
@@ -37,25 +41,27 @@ impl<S: WordStore> Model for Memory<S> {
 
     ghost Value = { MemoryState };
 
-    ghost view = { λ m. record { heap = m.heap; ram = m.ram; registers = m.registers; command = m.command.items; sent = m.sent.items } };
+    ghost view = { λ m. record { heap = m.heap; ram = m.ram; fixed = m.fixed; registers = m.registers; command = m.command.items; sent = m.sent.items } };
 
     ghost invariant = { λ m. AreParts m.heap m.ram };
 }
 
 impl<S: WordStore> Memory<S> {
-    /// A memory over a whole heap at rest, as a reset leaves it.
-    pub fn new(heap: Heap<S>, ram: Ram) -> Memory<S>
+    /// A memory over a whole heap at rest, as a reset leaves it; with the objects with which the heap
+    /// begins, in their order.
+    pub fn new(heap: Heap<S>, ram: Ram, fixed: [Ref; FIXED_OBJECTS]) -> Memory<S>
         requires up { heap.down ≡ false }
         requires rests { heap.begun ≡ false }
         requires whole { IsWhole heap.now }
         requires sizes { HasSizes ram }
-        ensures { result ≡ record { heap = heap; ram = ram; registers = at_reset; command = []; sent = [] } }
+        ensures { result ≡ record { heap = heap; ram = ram; fixed = fixed; registers = at_reset; command = []; sent = [] } }
     {
         // Nothing stands at or above the top, and the durable heap is this one.
         let _ = (heap.top(), heap.is_open());
         Memory {
             heap,
             ram,
+            fixed,
             registers: Registers::at_reset(),
             command: ArrayVec::new(),
             sent: ArrayVec::new(),
@@ -70,6 +76,7 @@ impl<S: WordStore> Memory<S> {
         let Memory {
             heap,
             ram,
+            fixed: _,
             registers: _,
             command: _,
             sent: _,
@@ -82,6 +89,27 @@ impl<S: WordStore> Memory<S> {
         ensures { result.now ≡ self.now.heap }
     {
         &self.heap
+    }
+
+    /// The object with this number, from 0, among those with which the heap begins.
+    pub fn fixed(&self, number: usize) -> Ref
+        requires { number < 17 }
+        ensures { result ≡ slice_index self.now.fixed number }
+    {
+        self.fixed[number]
+    }
+
+    /// What the header of the object behind a reference says; `None` where no object stands there.
+    pub fn header(&self, reference: Ref) -> Option<Facts>
+        requires up { self.now.heap.down ≡ false }
+        ensures header { result ≡ header_at self.now reference }
+        ensures there { IfSome result (λ facts. IsObject self.now.heap.now reference × IsHeaderOf self.now reference facts) }
+    {
+        if self.heap.is_object(reference.address()) {
+            Some(self.facts(reference))
+        } else {
+            None
+        }
     }
 
     /// What an object's header says.
