@@ -37,3 +37,20 @@ place_of w = Static w.owner w.offset
 -- the heap has it
 abbrev pub IsThere : HeapState → ImageWord → Type 0
 IsThere h w = IsStatic (record_of h w.owner) w.offset
+
+-- a byte of a word: the high one at an even offset of the image
+abbrev pub byte_of : ℕ → ℕ → ℕ
+byte_of word offset = if offset % 2 == 0 then word / 256 else word % 256
+
+-- a word with another byte there
+abbrev pub with_byte : ℕ → ℕ → ℕ → ℕ
+with_byte word offset byte = if offset % 2 == 0 then 256 * byte + word % 256 else 256 * (word / 256) + byte
+
+-- the byte at an offset of a package's static image
+unfoldable pub image_byte : HeapState → ℕ → ℕ → Option ℕ
+image_byte h package_number offset = option_map (λ w. byte_of (held h w) offset) (image_word h package_number (offset / 2))
+
+-- the word whose two bytes stand from an offset on, the high one first
+unfoldable pub image_pair : HeapState → ℕ → ℕ → Option ℕ
+image_pair h package_number offset =
+    option_and_then (λ high. option_map (λ low. 256 * high + low) (image_byte h package_number (offset + 1))) (image_byte h package_number offset)

@@ -2,7 +2,7 @@
 ghost use Rattle.std.specs.Prelude.{◌≡◌, ◌<◌, false, length, IfSome};
 ghost use Rattle.jc_heap.specs.Components.{record_of};
 ghost use Rattle.jc_heap.specs.Heap.{names};
-ghost use Rattle.jc_interp_fields.specs.Images.{record_at, image_word, held, IsThere};
+ghost use Rattle.jc_interp_fields.specs.Images.{record_at, image_word, held, byte_of, with_byte, image_byte, image_pair, IsThere};
 
 use jc_heap::Heap;
 use jc_transient::Ref;
@@ -58,4 +58,48 @@ pub(crate) fn held<S: WordStore>(heap: &Heap<S>, word: ImageWord) -> u16
     ensures { result ≡ held heap.now.now word }
 {
     heap.record_word(word.owner, word.offset)
+}
+
+// A byte of a word: the high one at an even offset.
+fn byte_of(word: u16, offset: u16) -> u8
+    ensures { result ≡ byte_of word offset }
+{
+    if offset % 2 == 0 {
+        (word / 256) as u8
+    } else {
+        (word % 256) as u8
+    }
+}
+
+/// A word with another byte there.
+pub(crate) fn with_byte(word: u16, offset: u16, byte: u8) -> u16
+    ensures { result ≡ with_byte word offset byte }
+{
+    if offset % 2 == 0 {
+        256 * u16::from(byte) + word % 256
+    } else {
+        256 * (word / 256) + u16::from(byte)
+    }
+}
+
+/// The byte at an offset of a package's static image.
+#[tactic(auto, unfolding(crate::specs::Images::image_byte))]
+pub(crate) fn image_byte<S: WordStore>(heap: &Heap<S>, package_number: u8, offset: u16) -> Option<u8>
+    requires { heap.now.down ≡ false }
+    ensures { result ≡ image_byte heap.now.now package_number offset }
+{
+    let word = image_word(heap, package_number, offset / 2)?;
+    Some(byte_of(held(heap, word), offset))
+}
+
+/// The word whose two bytes stand from an offset on.
+#[tactic(auto, unfolding(crate::specs::Images::image_pair))]
+pub(crate) fn image_pair<S: WordStore>(heap: &Heap<S>, package_number: u8, offset: u16) -> Option<u16>
+    requires up { heap.now.down ≡ false }
+    requires next { offset < 65535 }
+    ensures { result ≡ image_pair heap.now.now package_number offset }
+{
+    let high = image_byte(heap, package_number, offset)?;
+    let low = image_byte(heap, package_number, offset + 1)?;
+    Some(u16::from(high) * 256 + u16::from(low))
 }
