@@ -158,7 +158,7 @@ const ITSELF: Entry = Entry {
     limit: 3,
     place: 2,
     origin: METHOD,
-    resume: Resume { active: 1, previous: 0, call: CallKind::Plain },
+    resume: Resume { active: 1, previous: 0, place: 0, call: CallKind::Plain },
 };
 
 #[inline(never)]
