@@ -28,6 +28,7 @@ enum CallKind {
 struct Resume {
     active: u16,
     previous: u16,
+    place: u16,
     call: CallKind,
 }
 
