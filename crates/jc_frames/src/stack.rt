@@ -2,7 +2,7 @@
 ghost use Rattle.std.specs.Prelude.{IsTrue, ◌≡◌, ◌+◌, ◌<◌, ◌≤◌, [], ◌∷◌, ◌++◌, length, slice_get, OnOk, OnErr, IfOk};
 ghost use Rattle.jc_opcodes.specs.Table.{can_duplicate_below, can_swap};
 ghost use Rattle.jc_frames.specs.Cells.{cell_on, short_on, two_shorts_on, reference_on, storable_on, taken, taken_two};
-ghost use Rattle.jc_frames.specs.Frames.{in_frame, with_stack, unless_fault, pushed, copied, exchanged};
+ghost use Rattle.jc_frames.specs.Frames.{in_frame, with_stack, unless_fault, has_room, pushed, copied, exchanged};
 
 use crate::cell::Cell;
 use crate::frames::Frames;
@@ -95,6 +95,14 @@ impl Frames {
         } else {
             None
         }
+    }
+
+    /// Whether there is room for one more cell.
+    #[inline]
+    pub fn has_room(&self) -> bool
+        ensures { result ≡ has_room self.now.current }
+    {
+        self.cells.len() < self.current.ceiling
     }
 
     /// Puts a cell on top of a stack with room.

@@ -1,5 +1,5 @@
 -- Values of fields and of elements of arrays: on the stack, and as they are kept. A byte is a short on the stack.
-use Rattle.std.specs.Prelude.{ℕ, ℤ, pos, ◌%◌, List, ◌∷◌, Option, Result, Ok}
+use Rattle.std.specs.Prelude.{ℕ, ℤ, pos, ◌%◌, List, ◌∷◌, Option, Result, Ok, Err}
 use Rattle.std.specs.Option.{option_map}
 use Rattle.std.specs.Int.{w8, w16, cast_signed, cast_unsigned}
 use Rattle.jc_transient.specs.declared.cell.CellValue.{CellValue}
@@ -35,7 +35,12 @@ value_at types.Reference m r i = Reference (word_at m r i)
 value_at types.Byte m r i = Short (signed_byte (byte_at m r i))
 value_at types.Short m r i = Short (short_at m r i)
 
--- a reference may be kept where the firewall lets it be; a number always may
-abbrev pub may_keep : Packages → MemoryState → CellValue → Result (Unit {0}) Stop
-may_keep p m (kept.Short x) = Ok tt
-may_keep p m (kept.Reference r) = storable_of p m r
+-- the value, where it may be kept
+abbrev pub kept_if : CellValue → Result (Unit {0}) Stop → Result CellValue Stop
+kept_if value (Ok u) = Ok value
+kept_if value (Err e) = Err e
+
+-- a value to be kept: a reference where the firewall lets it be, a number always
+abbrev pub keepable : Packages → MemoryState → CellValue → Result CellValue Stop
+keepable p m (kept.Short x) = Ok (kept.Short x)
+keepable p m (kept.Reference r) = kept_if (kept.Reference r) (storable_of p m r)

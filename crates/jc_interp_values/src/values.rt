@@ -3,7 +3,7 @@ ghost use Rattle.std.specs.Prelude.{◌≡◌, ◌<◌, ◌≤◌, false, length
 ghost use Rattle.jc_heap.specs.Heap.{IsObject, facts};
 ghost use Rattle.jc_frames.specs.Cells.{taken};
 ghost use Rattle.jc_frames.specs.Frames.{with_stack};
-ghost use Rattle.jc_interp_values.specs.Values.{value_on, value_at, may_keep};
+ghost use Rattle.jc_interp_values.specs.Values.{value_on, value_at, keepable};
 
 use jc_frames::{Cell, CodeFault, Frames, Stop};
 use jc_linker::linked::Linked;
@@ -42,17 +42,20 @@ pub fn value_at<S: WordStore>(of_type: ValueType, memory: &Memory<S>, object: Re
     }
 }
 
-/// Whether a value may be kept: a reference where the firewall lets it be, a number always.
-pub fn allow_value<S: WordStore>(
+/// A value that is to be kept: a reference where the firewall lets it be, a number always.
+pub fn keepable<S: WordStore>(
     value: CellValue,
     memory: &Memory<S>,
     linked: &Linked,
-) -> Result<(), Stop>
+) -> Result<CellValue, Stop>
     requires up { memory.now.heap.down ≡ false }
-    ensures { result ≡ may_keep linked.now memory.now value }
+    ensures { result ≡ keepable linked.now memory.now value }
 {
     match value {
-        CellValue::Short(_) => Ok(()),
-        CellValue::Reference(reference) => allow_store(reference, memory, linked),
+        CellValue::Short(number) => Ok(CellValue::Short(number)),
+        CellValue::Reference(reference) => {
+            allow_store(reference, memory, linked)?;
+            Ok(CellValue::Reference(reference))
+        }
     }
 }
