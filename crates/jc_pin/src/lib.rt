@@ -1,0 +1,9 @@
+//! PINs with a limited number of tries, as `OwnerPIN` keeps them: a record of five cells, an array with the value,
+//! and a flag that tells whether the value was given.
+#![tactic(auto)]
+
+mod checking;
+mod pin;
+
+pub use checking::check;
+pub use pin::{PinRecord, is_pin, is_validated, record, tries};
