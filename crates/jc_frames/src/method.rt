@@ -4,7 +4,7 @@
 #[derive(Clone, Copy, PartialEq, Eq, Debug, Default)]
 pub struct Origin {
     /// The number of the package that the method belongs to.
-    pub package_number: u16,
+    pub package_number: u8,
     /// Where the method begins in its package's Method component.
     pub method: u16,
     /// The number of the owner that is active while it runs.

@@ -1,6 +1,6 @@
 -- Branches: where the run goes on.
 use Rattle.std.specs.Option.{option_map, option_and_then}
-use Rattle.std.specs.Prelude.{ℕ, zero, suc, ◌+◌, ◌*◌, ℤ, pos, negsuc, ◌+ℤ◌, ◌-ℤ◌, unsigned_abs, int_lt, ◌==◌, nat_lt, not, Bool, if◌then◌else◌, List, length, slice_get, Option, Some, None}
+use Rattle.std.specs.Prelude.{ℕ, zero, suc, ◌+◌, ◌*◌, ℤ, pos, negsuc, ◌+ℤ◌, ◌-ℤ◌, unsigned_abs, int_lt, ◌==◌, ◌&&◌, nat_lt, nat_le, not, Bool, if◌then◌else◌, List, length, slice_get, Option, Some, None}
 use Rattle.std.specs.Ordering.{int_eq}
 use Rattle.jc_opcodes.specs.declared.instr.Condition.{Condition}
 use Rattle.jc_opcodes.specs.declared.instr.Condition.TheVariants.{Zero, IsNull, NotNull, SameReference, OtherReference, Shorts}
@@ -14,14 +14,14 @@ use Rattle.jc_frames.specs.declared.outcome.Outcome.TheVariants.{Fault}
 use Rattle.jc_frames.specs.Cells.{as_address, short_on, reference_on, two_shorts_on, two_references_on}
 use Rattle.jc_frames.specs.Frames.{Frame, Next, Goes, Throws, Ends, if_some, pushed}
 
--- a place of the code: one below its length
-abbrev pub place_in : List ℕ → ℤ → Option ℕ
-place_in code (pos t) = if nat_lt t (length code) then Some t else None
-place_in code (negsuc t) = None
+-- a place of the method whose header begins at this one: from there to the end of the code
+abbrev pub place_in : ℕ → List ℕ → ℤ → Option ℕ
+place_in method code (pos t) = if nat_le method t && nat_lt t (length code) then Some t else None
+place_in method code (negsuc t) = None
 
 -- where a branch at pc leads by its offset
-abbrev pub landing : List ℕ → ℕ → ℤ → Option ℕ
-landing code pc offset = place_in code (pos pc +ℤ offset)
+abbrev pub landing : ℕ → List ℕ → ℕ → ℤ → Option ℕ
+landing method code pc offset = place_in method code (pos pc +ℤ offset)
 
 -- whether a condition holds of the cells on top, and the cells below them
 abbrev pub tested : Condition → List Cell → Option (Bool × List Cell)
@@ -57,11 +57,11 @@ jumped_to (Ends o) place = Ends o
 -- the frame after a branch at pc, whose next instruction was the one behind the branch
 abbrev pub branched : List ℕ → ℕ → Branch → Frame → Next Frame
 branched code pc (If condition offset) s =
-    if_some (tested condition s.stack) (λ p. if p.0 then to_place (landing code pc offset) (record s { stack = p.1 }) else Goes (record s { stack = p.1 }))
-branched code pc (Goto offset) s = to_place (landing code pc offset) s
-branched code pc (Subroutine offset) s = jumped_to (pushed (ReturnAddress s.place) s) (landing code pc offset)
-branched code pc (Back n) s = if_some (option_and_then as_address (slice_get s.locals n)) (λ a. to_place (place_in code (pos a)) s)
+    if_some (tested condition s.stack) (λ p. if p.0 then to_place (landing s.origin.method code pc offset) (record s { stack = p.1 }) else Goes (record s { stack = p.1 }))
+branched code pc (Goto offset) s = to_place (landing s.origin.method code pc offset) s
+branched code pc (Subroutine offset) s = jumped_to (pushed (ReturnAddress s.place) s) (landing s.origin.method code pc offset)
+branched code pc (Back n) s = if_some (option_and_then as_address (slice_get s.locals n)) (λ a. to_place (place_in s.origin.method code (pos a)) s)
 branched code pc (Table otherwise low high) s =
-    if_some (short_on s.stack) (λ p. if_some (in_table code otherwise low high (pc + 7) p.0) (λ offset. to_place (landing code pc offset) (record s { stack = p.1 })))
+    if_some (short_on s.stack) (λ p. if_some (in_table code otherwise low high (pc + 7) p.0) (λ offset. to_place (landing s.origin.method code pc offset) (record s { stack = p.1 })))
 branched code pc (Lookup otherwise count) s =
-    if_some (short_on s.stack) (λ p. if_some (in_pairs code otherwise count (pc + 5) p.0) (λ offset. to_place (landing code pc offset) (record s { stack = p.1 })))
+    if_some (short_on s.stack) (λ p. if_some (in_pairs code otherwise count (pc + 5) p.0) (λ offset. to_place (landing s.origin.method code pc offset) (record s { stack = p.1 })))

@@ -9,28 +9,30 @@ use jc_opcodes::instr::{Branch, Condition};
 use jc_opcodes::operands::s2_at;
 use jc_opcodes::short;
 
-/// Goes on where a branch at `pc` leads. The next instruction was the one behind the branch.
+/// Goes on where a branch at `pc` leads, within the method that runs: from its header to the end of the
+/// code. The next instruction was the one behind the branch.
 #[inline(always)]
 pub fn branch(branch: Branch, code: &[u8], pc: usize, frames: &mut Frames) -> Result<(), CodeFault>
     requires short { length code.now < 2 ^ 16 }
     requires at { pc < length code.now }
     ensures { unless_fault result frames.new ≡ in_frame frames.old (branched code.now pc branch frames.old.current) }
 {
+    let method = frames.origin().method;
     match branch {
         Branch::If(condition, offset) => {
             if test(condition, frames)? {
-                frames.set_place(land(code, pc, offset)?);
+                frames.set_place(land(method, code, pc, offset)?);
             }
         }
-        Branch::Goto(offset) => frames.set_place(land(code, pc, offset)?),
+        Branch::Goto(offset) => frames.set_place(land(method, code, pc, offset)?),
         Branch::Subroutine(offset) => {
             let next = frames.place();
             frames.try_push(Cell::ReturnAddress(next))?;
-            frames.set_place(land(code, pc, offset)?);
+            frames.set_place(land(method, code, pc, offset)?);
         }
         Branch::Back(n) => {
             let target = frames.local_address(n)?;
-            if usize::from(target) >= code.len() {
+            if target < method || usize::from(target) >= code.len() {
                 return Err(CodeFault);
             }
             frames.set_place(target);
@@ -42,26 +44,26 @@ pub fn branch(branch: Branch, code: &[u8], pc: usize, frames: &mut Frames) -> Re
         } => {
             let key = frames.pop_short()?;
             let offset = table_offset(code, otherwise, low, high, pc + 7, key)?;
-            frames.set_place(land(code, pc, offset)?);
+            frames.set_place(land(method, code, pc, offset)?);
         }
         Branch::Lookup { otherwise, count } => {
             let key = frames.pop_short()?;
             let offset = pair_offset(code, otherwise, count, pc + 5, key)?;
-            frames.set_place(land(code, pc, offset)?);
+            frames.set_place(land(method, code, pc, offset)?);
         }
     }
     Ok(())
 }
 
-// The place that lies so far from a branch at `pc`, if the method has it.
+// The place that lies so far from a branch at `pc`, if the method has it, whose header begins at `method`.
 #[inline(always)]
-fn land(code: &[u8], pc: usize, offset: i16) -> Result<u16, CodeFault>
+fn land(method: u16, code: &[u8], pc: usize, offset: i16) -> Result<u16, CodeFault>
     requires short { length code.now < 2 ^ 16 }
     requires at { pc < length code.now }
-    ensures { found result ≡ landing code.now pc offset }
+    ensures { found result ≡ landing method code.now pc offset }
 {
     let target = pc as i32 + i32::from(offset);
-    if target < 0 || target >= code.len() as i32 {
+    if target < i32::from(method) || target >= code.len() as i32 {
         return Err(CodeFault);
     }
     Ok(target as u16)

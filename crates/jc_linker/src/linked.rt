@@ -69,6 +69,13 @@ impl Linked {
         }
     }
 
+    /// The platform's packages.
+    pub fn platform(&self) -> &Platform
+        ensures { result.now ≡ self.now.platform }
+    {
+        &self.platform
+    }
+
     /// How many packages were loaded.
     pub fn count(&self) -> usize
         ensures { result ≡ length self.now.loaded }

@@ -63,8 +63,8 @@ pub enum Installation {
     /// Its `install` runs and has not registered an instance yet: the package, and the entry of its
     /// Applet component.
     Open(PackageNumber, u8),
-    /// Its `install` has registered an instance.
-    Registered,
+    /// Its `install` has registered an instance, which is of this package.
+    Registered(PackageNumber),
 }
 
 /// How far an APDU has come.

@@ -1,0 +1,4 @@
+//! The instructions that read and write fields: `getstatic`, `putstatic`, `getfield`, `putfield`.
+#![tactic(auto)]
+
+mod images;

@@ -1,0 +1,110 @@
+-- Contexts: to whom objects belong, for whom code runs, and what the firewall answers.
+use Rattle.std.specs.Prelude.{ℕ, ◌+◌, ◌*◌, ◌-◌, ◌%◌, ◌==◌, ◌&&◌, nat_lt, nat_le, Bool, true, false, not, slice_index, Option, Some, None, Result, Ok, Err, if◌then◌else◌}
+use Rattle.jc_transient.specs.declared.cell.ClearEvent.{ClearEvent}
+use Rattle.jc_transient.specs.declared.cell.ClearEvent.TheVariants.{Reset, Deselect}
+use Rattle.jc_heap.specs.declared.object.Facts.{Facts}
+use Rattle.jc_heap.specs.declared.object.Kind.{Kind}
+use Rattle.jc_heap.specs.declared.object.Kind.TheVariants.{Instance, BooleanArray, ByteArray, ShortArray, ReferenceArray}
+use Rattle.jc_memory.specs.declared.registers.AppletNumber.{AppletNumber}
+use Rattle.jc_memory.specs.declared.registers.Installation.{Installation}
+use Rattle.jc_memory.specs.declared.registers.Installation.TheVariants.{Idle, Open, Registered}
+use Rattle.jc_memory.specs.declared.registers.Owner.{Owner}
+use Rattle.jc_memory.specs.declared.registers.Owner.TheVariants.{Runtime, Applet, Package}
+use Rattle.jc_memory.specs.Owners.{owner_of}
+use Rattle.jc_memory.specs.State.{MemoryState}
+use Rattle.jc_platform.specs.declared.names.PlatformClass.TheVariants.{Aid}
+use Rattle.jc_platform.specs.Distinct.{class_word}
+use Rattle.jc_packages.specs.Values.{Packages}
+use Rattle.jc_packages.specs.Classes.{is_shareable}
+use Rattle.jc_firewall.specs.declared.access.Access.{Access}
+use Rattle.jc_firewall.specs.declared.decide.Decision.{Decision}
+use Rattle.jc_firewall.specs.declared.decide.Decision.TheVariants.{Allow, Switch, Deny}
+use Rattle.jc_firewall.specs.declared.subject.Context.{Context}
+use Rattle.jc_firewall.specs.declared.subject.Context.TheVariants as context
+use Rattle.jc_firewall.specs.declared.subject.Designation.{Designation}
+use Rattle.jc_firewall.specs.declared.subject.Designation.TheVariants.{Ordinary, PermanentEntryPoint, TemporaryEntryPoint, GlobalArray}
+use Rattle.jc_firewall.specs.declared.subject.Subject.{Subject}
+use Rattle.jc_firewall.specs.declared.subject.Situation.{Situation}
+use Rattle.jc_firewall.specs.Table.{decision}
+use Rattle.jc_frames.specs.declared.outcome.Exception.TheVariants.{SecurityException}
+use Rattle.jc_frames.specs.declared.outcome.Stop.{Stop}
+use Rattle.jc_frames.specs.declared.outcome.Stop.TheVariants.{Throw}
+
+-- the package of the applet that is being installed; 0, where none is
+abbrev pub installed_package : Installation → ℕ
+installed_package Idle = 0
+installed_package (Open p entry) = p.0
+installed_package (Registered p) = p.0
+
+-- the package of an applet instance: the registry says it, and of the applet that is not registered yet its installation
+unfoldable pub package_of_applet : MemoryState → ℕ → ℕ
+package_of_applet m a = if not (a == 0) && nat_le a 64 && nat_le a m.heap.now.counts.1 then slice_index m.heap.now.applets (3 * (a - 1) + 1) else installed_package m.registers.installation
+
+-- the context of an owner: all applets of a package share one with it
+abbrev pub context_of : MemoryState → Owner → Context
+context_of m Runtime = context.Jcre
+context_of m (Applet a) = context.Package (package_of_applet m a.0 % 256)
+context_of m (Package p) = context.Package p.0
+
+-- the context of the selected applet; the applet that is being installed counts as selected
+abbrev pub selected_in : MemoryState → Installation → Option AppletNumber → Context
+selected_in m Idle None = context.Jcre
+selected_in m Idle (Some a) = context_of m (Applet a)
+selected_in m (Open p entry) selected = context.Package p.0
+selected_in m (Registered p) selected = context.Package p.0
+
+abbrev pub selected_context : MemoryState → Context
+selected_context m = selected_in m m.registers.installation m.registers.selected
+
+-- instances are entry points of the runtime environment where it owns them: AIDs permanent ones, all others
+-- temporary ones. Its array is a global one
+abbrev pub own_designation : Packages → Kind → ℕ → Designation
+own_designation p Instance class = if class == class_word p.platform Aid then PermanentEntryPoint else TemporaryEntryPoint
+own_designation p BooleanArray class = GlobalArray
+own_designation p ByteArray class = GlobalArray
+own_designation p ShortArray class = GlobalArray
+own_designation p ReferenceArray class = GlobalArray
+
+abbrev pub designation_of : Packages → Facts → Designation
+designation_of p f = if f.owner == 0 then own_designation p f.kind f.class else Ordinary
+
+-- an instance is of a class with an interface that extends Shareable
+abbrev pub shares : Packages → Kind → ℕ → Bool
+shares p Instance class = is_shareable p class
+shares p BooleanArray class = false
+shares p ByteArray class = false
+shares p ShortArray class = false
+shares p ReferenceArray class = false
+
+-- cleared as its applet is deselected
+abbrev pub is_for_selection : Option ClearEvent → Bool
+is_for_selection None = false
+is_for_selection (Some Reset) = false
+is_for_selection (Some Deselect) = true
+
+-- what the firewall sees of an object
+unfoldable pub subject_of : Packages → MemoryState → Facts → Subject
+subject_of p m f = record {
+  owner = context_of m (owner_of f.owner);
+  designation = designation_of p f;
+  has_shareable_interface = shares p f.kind f.class;
+  is_clear_on_deselect = is_for_selection f.event;
+}
+
+-- an access to an object by the code that runs
+unfoldable pub situation_of : Packages → MemoryState → Facts → Situation
+situation_of p m f = record { active = context_of m m.registers.active; selected = selected_context m; object = subject_of p m f }
+
+-- what the firewall answers to it
+unfoldable pub decided : Access → Packages → MemoryState → Facts → Decision
+decided access p m f = decision access (situation_of p m f)
+
+-- a refused access throws
+abbrev pub unless_denied : Decision → Result (Unit {0}) Stop
+unless_denied Allow = Ok tt
+unless_denied (Switch c) = Ok tt
+unless_denied (Deny rule) = Err (Throw SecurityException)
+
+-- an access is allowed, or throws
+abbrev pub allowed : Access → Packages → MemoryState → Facts → Result (Unit {0}) Stop
+allowed access p m f = unless_denied (decided access p m f)

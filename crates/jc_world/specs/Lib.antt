@@ -1,0 +1,5 @@
+pub mod Stops
+pub mod Contexts
+pub mod Objects
+pub mod Groups
+pub mod Calls

@@ -1,0 +1,67 @@
+//! Objects behind references.
+ghost use Rattle.std.specs.Prelude.{◌≡◌, false, IfOk};
+ghost use Rattle.jc_heap.specs.Heap.{IsObject};
+ghost use Rattle.jc_memory.specs.Cells.{IsHeaderOf, header_at};
+ghost use Rattle.jc_world.specs.Objects.{object_at, is_instance, is_instance_of, storable_of};
+
+use crate::contexts::allow;
+use jc_firewall::access::Access;
+use jc_frames::{Exception, Outcome, Stop};
+use jc_heap::{Facts, Kind};
+use jc_linker::linked::Linked;
+use jc_memory::Memory;
+use jc_transient::Ref;
+use jc_words::WordStore;
+
+/// The header of the object behind a reference. Null throws; a reference to nothing is a code fault.
+#[tactic(auto, unfolding(crate::specs::Objects::object_at))]
+pub fn object<S: WordStore>(reference: Ref, memory: &Memory<S>) -> Result<Facts, Stop>
+    requires up { memory.now.heap.down ≡ false }
+    ensures header { result ≡ object_at memory.now reference }
+    ensures there { IfOk result (λ facts. IsObject memory.now.heap.now reference × IsHeaderOf memory.now reference facts) }
+{
+    if reference.is_null() {
+        return Err(Stop::Throw(Exception::NullPointerException));
+    }
+    match memory.header(reference) {
+        Some(facts) => Ok(facts),
+        None => Err(Stop::End(Outcome::Fault)),
+    }
+}
+
+/// Whether an object with this header is no array.
+pub fn is_instance(kind: Kind) -> bool
+    ensures { result ≡ is_instance kind }
+{
+    match kind {
+        Kind::Instance => true,
+        _ => false,
+    }
+}
+
+/// Whether an object with this header is an instance of the class, of one below it, or of one that
+/// implements it.
+pub fn is_instance_of(facts: Facts, class: u16, linked: &Linked) -> bool
+    ensures { result ≡ is_instance_of linked.now facts class }
+{
+    is_instance(facts.kind) && linked.is_below(facts.class, class)
+}
+
+/// Whether the firewall lets a reference be stored: null may be. A reference to nothing is a code fault.
+#[tactic(auto, unfolding(crate::specs::Objects::storable_of))]
+pub fn allow_store<S: WordStore>(
+    reference: Ref,
+    memory: &Memory<S>,
+    linked: &Linked,
+) -> Result<(), Stop>
+    requires up { memory.now.heap.down ≡ false }
+    ensures { result ≡ storable_of linked.now memory.now reference }
+{
+    if reference.is_null() {
+        return Ok(());
+    }
+    match memory.header(reference) {
+        Some(facts) => allow(Access::StoreReference, facts, memory, linked),
+        None => Err(Stop::End(Outcome::Fault)),
+    }
+}
