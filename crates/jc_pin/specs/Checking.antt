@@ -1,22 +1,17 @@
 -- A PIN is checked.
 use Rattle.std.specs.Prelude.{ℕ, ◌-◌, ◌==◌, ◌&&◌, Bool, true, false, List, length, if◌then◌else◌, Option, Some, None}
 use Rattle.std.specs.Str.{bytes_eq}
-use Rattle.jc_heap.specs.Moves.{Count}
-use Rattle.jc_memory.specs.State.{MemoryState, Changes, Flags, effected}
+use Rattle.jc_memory.specs.State.{MemoryState, Flags, effected}
 use Rattle.jc_memory.specs.Doing.{Doing, Gives, Then, bind}
 use Rattle.jc_memory.specs.Cells.{bytes_at}
 use Rattle.jc_memory.specs.Changing.{counted}
-use Rattle.jc_pin.specs.Pins.{record_of, counter}
+use Rattle.jc_pin.specs.Pins.{record_of, refills}
 
 -- these bytes are the value. There is none before the first update
 abbrev pub is_value : MemoryState → ℕ → List ℕ → Bool
 is_value s r bytes =
     let pin = record_of s r in
     if length bytes == 0 then false else (if length bytes == pin.length then bytes_eq bytes (bytes_at s pin.value 0 pin.length) else false)
-
--- the counter is the limit
-abbrev pub refills : {A : Type 0} → MemoryState → ℕ → Doing A → Doing A
-refills s r rest = Then (Changes (Count (counter r) (record_of s r).limit)) rest
 
 -- once a try was taken: the value gives the tries back, and says so
 abbrev pub judged : MemoryState → ℕ → Option (List ℕ) → Doing Bool

@@ -7,7 +7,9 @@ use Rattle.jc_heap.specs.declared.place.Place.{Place}
 use Rattle.jc_heap.specs.declared.place.Place.TheVariants.{Cell}
 use Rattle.jc_heap.specs.Object.{kind_number}
 use Rattle.jc_heap.specs.Heap.{cells, facts, IsObject}
-use Rattle.jc_memory.specs.State.{MemoryState}
+use Rattle.jc_heap.specs.Moves.{Count}
+use Rattle.jc_memory.specs.State.{MemoryState, Changes}
+use Rattle.jc_memory.specs.Doing.{Doing, Then}
 use Rattle.jc_memory.specs.Cells.{word_at, header_at}
 use Rattle.jc_pin.specs.declared.pin.PinRecord.{PinRecord}
 
@@ -18,6 +20,10 @@ record_of s r = record { limit = word_at s r 0; maximum = word_at s r 1; tries =
 -- where the counter of tries stands
 abbrev pub counter : ℕ → Place
 counter r = Cell r 2
+
+-- all tries are given back, which no abort takes away
+abbrev pub refills : {A : Type 0} → MemoryState → ℕ → Doing A → Doing A
+refills s r rest = Then (Changes (Count (counter r) (record_of s r).limit)) rest
 
 -- a persistent object of this kind, with so many cells
 abbrev pub fits : Kind → ℕ → Option Facts → Bool

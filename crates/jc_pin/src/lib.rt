@@ -4,6 +4,10 @@
 
 mod checking;
 mod pin;
+mod resetting;
+mod updating;
 
 pub use checking::check;
 pub use pin::{PinRecord, is_pin, is_validated, record, tries};
+pub use resetting::{reset, reset_and_unblock};
+pub use updating::{PinRefusal, update};
