@@ -1,3 +1,4 @@
 pub mod Texts
 pub mod Signatures
 pub mod Choosing
+pub mod Entering

@@ -3,5 +3,6 @@
 #![tactic(auto)]
 
 pub mod choose;
+pub mod enter;
 pub mod signatures;
 pub mod text;
