@@ -2,3 +2,4 @@ pub mod Texts
 pub mod Signatures
 pub mod Choosing
 pub mod Entering
+pub mod Catching
