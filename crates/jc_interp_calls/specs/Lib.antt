@@ -1,0 +1,5 @@
+pub mod Texts
+pub mod Signatures
+pub mod Choosing
+pub mod Entering
+pub mod Catching
