@@ -1,0 +1,4 @@
+pub mod Pins
+pub mod Checking
+pub mod Resetting
+pub mod Updating
