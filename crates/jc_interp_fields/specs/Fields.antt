@@ -1,5 +1,5 @@
 -- Fields of objects: `getfield`, `putfield` and their other forms.
-use Rattle.std.specs.Prelude.{ℕ, ◌&&◌, nat_lt, Bool, slice_get, ◌∷◌, Option, Some, None, Result, Ok, Err, if◌then◌else◌}
+use Rattle.std.specs.Prelude.{ℕ, ◌&&◌, nat_lt, Bool, slice_get, ◌∷◌, Option, None, Result, Ok, Err, if◌then◌else◌}
 use Rattle.std.specs.Option.{option_and_then}
 use Rattle.jc_transient.specs.declared.cell.CellValue.{CellValue}
 use Rattle.jc_heap.specs.declared.object.Facts.{Facts}

@@ -1,5 +1,5 @@
 -- Values of fields and of elements of arrays: on the stack, and as they are kept. A byte is a short on the stack.
-use Rattle.std.specs.Prelude.{ℕ, ℤ, pos, ◌%◌, List, ◌∷◌, Option, Result, Ok, Err}
+use Rattle.std.specs.Prelude.{ℕ, ℤ, pos, ◌%◌, List, Option, Result, Ok, Err}
 use Rattle.std.specs.Option.{option_map}
 use Rattle.std.specs.Int.{w8, w16, cast_signed, cast_unsigned}
 use Rattle.jc_transient.specs.declared.cell.CellValue.{CellValue}

@@ -3,6 +3,7 @@ ghost use Rattle.std.specs.Prelude.{◌≡◌, ◌<◌, ◌≤◌, false, length
 ghost use Rattle.jc_heap.specs.Heap.{IsObject, facts};
 ghost use Rattle.jc_frames.specs.Cells.{taken};
 ghost use Rattle.jc_frames.specs.Frames.{with_stack};
+ghost use Rattle.jc_memory.specs.Cells.{word_of};
 ghost use Rattle.jc_interp_values.specs.Values.{value_on, value_at, keepable};
 
 use jc_frames::{Cell, CodeFault, Frames, Stop};
@@ -57,5 +58,15 @@ pub fn keepable<S: WordStore>(
             allow_store(reference, memory, linked)?;
             Ok(CellValue::Reference(reference))
         }
+    }
+}
+
+/// A value as a word: a number modulo 2^16, or a reference.
+pub fn word_of(value: CellValue) -> u16
+    ensures { result ≡ word_of value }
+{
+    match value {
+        CellValue::Short(number) => number.cast_unsigned(),
+        CellValue::Reference(reference) => reference.address(),
     }
 }
