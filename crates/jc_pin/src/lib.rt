@@ -5,6 +5,7 @@
 mod checking;
 mod pin;
 mod resetting;
+mod starting;
 mod updating;
 
 pub use checking::check;
