@@ -1,26 +1,16 @@
 -- A PIN is set up.
-use Rattle.std.specs.Prelude.{ℕ, ◌+◌, ◌&&◌, Bool, false, not, nat_lt, nat_le, List, [], ◌∷◌, if◌then◌else◌, None, Result, Ok, Err}
+use Rattle.std.specs.Prelude.{ℕ, false, not, List, [], ◌∷◌, if◌then◌else◌, None, Result, Ok, Err}
 use Rattle.jc_heap.specs.declared.object.Kind.TheVariants.{ByteArray}
 use Rattle.jc_heap.specs.declared.place.Place.{Place}
 use Rattle.jc_heap.specs.declared.place.Place.TheVariants.{Cell}
-use Rattle.jc_heap.specs.Object.{object_size}
-use Rattle.jc_heap.specs.Heap.{room_left}
 use Rattle.jc_heap.specs.Moves.{SetPlaces}
 use Rattle.jc_memory.specs.declared.making.NewObject.{NewObject}
-use Rattle.jc_memory.specs.declared.registers.Owner.{Owner}
 use Rattle.jc_memory.specs.State.{MemoryState, Changes, Flags}
 use Rattle.jc_memory.specs.Doing.{Doing, Gives, Then}
 use Rattle.jc_memory.specs.Making.{makes_new}
+use Rattle.jc_room.specs.Room.{has_space, lacks_room}
 use Rattle.jc_pin.specs.declared.updating.PinRefusal.{PinRefusal}
 use Rattle.jc_pin.specs.declared.updating.PinRefusal.TheVariants.{CommitFull, HeapFull}
-
--- there is space for a persistent object with so many cells
-abbrev pub has_space : MemoryState → ℕ → Bool
-has_space s cells = nat_le (s.heap.now.top + object_size cells) s.heap.size
-
--- the open transaction has no room for so many words
-abbrev pub lacks_room : MemoryState → ℕ → Bool
-lacks_room s words = s.heap.begun && nat_lt (room_left s.heap) words
 
 -- the array for values of so many bytes, which belongs to whom the code runs for
 abbrev pub value_array : MemoryState → ℕ → NewObject

@@ -11,4 +11,5 @@ mod updating;
 pub use checking::check;
 pub use pin::{PinRecord, is_pin, is_validated, record, tries};
 pub use resetting::{reset, reset_and_unblock};
+pub use starting::init;
 pub use updating::{PinRefusal, update};

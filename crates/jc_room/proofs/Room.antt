@@ -1,7 +1,7 @@
 -- Where there is room, the store alone refuses.
-use Rattle.std.proofs.Common.{◌≡◌, ℕ, ◌+◌, ◌-◌, ◌<◌, ◌≤◌, Bool, true, false, List, [], ◌∷◌, ◌++◌, length, map, refl, sym, ◌∙◌, ap, subst, arith}
-use Rattle.std.specs.Prelude.{◌&&◌, nat_lt, nat_le, if◌then◌else◌, Option, Some, None, Result, Ok, Err}
-use Rattle.std.proofs.lemmas.Bool.{true≢false, ltb-false, le-ltb, le-leb}
+use Rattle.std.proofs.Common.{◌≡◌, ℕ, ◌+◌, ◌-◌, ◌<◌, ◌≤◌, Bool, true, false, List, [], length, map, refl, sym, ◌∙◌, ap, subst, arith}
+use Rattle.std.specs.Prelude.{◌&&◌, nat_lt, nat_le, if◌then◌else◌, Option, Some, None, Err}
+use Rattle.std.proofs.lemmas.Bool.{true≢false, ltb-false, le-leb}
 use Rattle.std.proofs.lemmas.List.{length-map}
 use Rattle.std.proofs.lemmas.Option.{none-some}
 use Rattle.jc_transient.specs.declared.cell.ClearEvent.{ClearEvent}
@@ -11,16 +11,15 @@ use Rattle.jc_heap.specs.declared.refusal.ChangeRefusal.TheVariants as change
 use Rattle.jc_heap.specs.declared.refusal.HeapRefusal.{HeapRefusal}
 use Rattle.jc_heap.specs.declared.refusal.HeapRefusal.TheVariants as making
 use Rattle.jc_heap.specs.Object.{AnObject, Object, new_object, object_size}
-use Rattle.jc_heap.specs.Heap.{HeapState, HeapView, has_room_for, item_at, names, IsObject, add_object}
+use Rattle.jc_heap.specs.Heap.{item_at, names, add_object}
 use Rattle.jc_heap.specs.Moves.{Answer, Done, Refused, SetPlaces, no_room}
 use Rattle.jc_heap.specs.Places.{places_of, place_word}
 use Rattle.jc_heap.proofs.Laws.{item_at-add_object, item_at-add_other, object_named}
 use Rattle.jc_memory.specs.declared.making.NewObject.{NewObject}
 use Rattle.jc_memory.specs.Owners.{owner_number}
 use Rattle.jc_memory.specs.State.{MemoryState, Changes, Flags, IsNew}
-use Rattle.jc_memory.specs.Doing.{Doing, Gives, Then, Picks, Did, IsCutIn, Makes, after_change, unless_refused}
-use Rattle.jc_memory.specs.Making.{made, new_move_in, zeroed_in, no_new}
-use Rattle.jc_memory.specs.Changing.{written_all}
+use Rattle.jc_memory.specs.Doing.{Gives, Then, Picks, Did, IsCutIn, Makes, after_change, unless_refused}
+use Rattle.jc_memory.specs.Making.{new_move_in, zeroed_in}
 use Rattle.jc_room.specs.Room.{lacks_room, sets_places, KeepsObjects}
 
 -- places within the room of a heap
@@ -57,9 +56,10 @@ IsMade s new o r = (item_at new.heap.now r ≡ AnObject o) × KeepsObjects s.hea
 
 added : (s new : MemoryState) (o : Object) (size r : ℕ) → IsNew s.heap.now r → new.heap.now ≡ add_object s.heap.now o size → IsMade s new o r
 added s new o size r new_one is =
-    let free : names s.heap.now s.heap.now.top ≡ false = subst (λ q. names s.heap.now q ≡ false) new_one.chosen new_one.free in
-    (ap (item_at new.heap.now) new_one.chosen ∙ ap (λ h. item_at h s.heap.now.top) is ∙ item_at-add_object s.heap.now o size free,
-     λ q there. ap (λ h. item_at h q) is ∙ item_at-add_other s.heap.now o size q (λ e. true≢false (sym (object_named s.heap.now q there) ∙ ap (names s.heap.now) (sym e) ∙ free)))
+    let free : names s.heap.now s.heap.now.top ≡ false = subst (λ q. names s.heap.now q ≡ false) new_one.chosen new_one.free in (
+      ap (item_at new.heap.now) new_one.chosen ∙ ap (λ h. item_at h s.heap.now.top) is ∙ item_at-add_object s.heap.now o size free,
+      λ q there. ap (λ h. item_at h q) is ∙ item_at-add_other s.heap.now o size q (λ e. true≢false (sym (object_named s.heap.now q there) ∙ ap (names s.heap.now) (sym e) ∙ free)),
+    )
 
 made_one : (event : Option ClearEvent) (s new : MemoryState) (o : NewObject) (x : ℕ) → event ≡ None →
     Did (Picks (λ r. Then (Changes (new_move_in event o)) (zeroed_in event o r (Then (Flags r false) (Gives (Done r)))))) s (Done x) new →

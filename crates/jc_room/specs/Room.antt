@@ -1,5 +1,5 @@
 -- Room for calls of several changes, which ask for all of it before the first one.
-use Rattle.std.specs.Prelude.{ℕ, ◌+◌, ◌≡◌, ◌≤◌, ◌&&◌, Bool, false, nat_lt, nat_le, List}
+use Rattle.std.specs.Prelude.{ℕ, ◌+◌, ◌≡◌, ◌&&◌, Bool, nat_lt, nat_le, List}
 use Rattle.jc_heap.specs.declared.place.Place.{Place}
 use Rattle.jc_heap.specs.Object.{object_size}
 use Rattle.jc_heap.specs.Heap.{HeapState, IsObject, item_at, room_left}

@@ -32,7 +32,10 @@ pub fn lacks_room<S: WordStore>(memory: &Memory<S>, words: u16) -> bool
 }
 
 /// Makes a persistent object, for which there is space and room. All that was there stays as it was.
-pub fn make_in_room<S: WordStore>(memory: &mut Memory<S>, object: NewObject) -> Result<Ref, StoreDown>
+pub fn make_in_room<S: WordStore>(
+    memory: &mut Memory<S>,
+    object: NewObject,
+) -> Result<Ref, StoreDown>
     requires up { memory.old.heap.down ≡ false }
     requires persistent { object.event ≡ None }
     requires space { has_space memory.old object.length ≡ true }
@@ -50,7 +53,10 @@ pub fn make_in_room<S: WordStore>(memory: &mut Memory<S>, object: NewObject) -> 
 }
 
 /// Sets places as one change, for which there is room.
-pub fn write_in_room<S: WordStore>(memory: &mut Memory<S>, changes: &[(Place, u16)]) -> Result<(), StoreDown>
+pub fn write_in_room<S: WordStore>(
+    memory: &mut Memory<S>,
+    changes: &[(Place, u16)],
+) -> Result<(), StoreDown>
     requires up { memory.old.heap.down ≡ false }
     requires there { AreThere memory.old.heap.now changes.now }
     requires apart { AreApart (places_of changes.now) }
