@@ -36,7 +36,11 @@ fn record_at<S: WordStore>(heap: &Heap<S>, number: u8) -> Option<Ref>
 
 /// The word of a package's static image with this number, from 0.
 #[tactic(auto, unfolding(crate::specs::Images::image_word))]
-pub(crate) fn image_word<S: WordStore>(heap: &Heap<S>, package_number: u8, number: u16) -> Option<ImageWord>
+pub(crate) fn image_word<S: WordStore>(
+    heap: &Heap<S>,
+    package_number: u8,
+    number: u16,
+) -> Option<ImageWord>
     requires { heap.now.down ≡ false }
     ensures exact { result ≡ image_word heap.now.now package_number number }
     ensures there { IfSome result (IsThere heap.now.now) }
@@ -84,7 +88,11 @@ pub(crate) fn with_byte(word: u16, offset: u16, byte: u8) -> u16
 
 /// The byte at an offset of a package's static image.
 #[tactic(auto, unfolding(crate::specs::Images::image_byte))]
-pub(crate) fn image_byte<S: WordStore>(heap: &Heap<S>, package_number: u8, offset: u16) -> Option<u8>
+pub(crate) fn image_byte<S: WordStore>(
+    heap: &Heap<S>,
+    package_number: u8,
+    offset: u16,
+) -> Option<u8>
     requires { heap.now.down ≡ false }
     ensures { result ≡ image_byte heap.now.now package_number offset }
 {
@@ -94,7 +102,11 @@ pub(crate) fn image_byte<S: WordStore>(heap: &Heap<S>, package_number: u8, offse
 
 /// The word whose two bytes stand from an offset on.
 #[tactic(auto, unfolding(crate::specs::Images::image_pair))]
-pub(crate) fn image_pair<S: WordStore>(heap: &Heap<S>, package_number: u8, offset: u16) -> Option<u16>
+pub(crate) fn image_pair<S: WordStore>(
+    heap: &Heap<S>,
+    package_number: u8,
+    offset: u16,
+) -> Option<u16>
     requires up { heap.now.down ≡ false }
     requires next { offset < 65535 }
     ensures { result ≡ image_pair heap.now.now package_number offset }
