@@ -3,7 +3,7 @@ ghost use Rattle.std.specs.Prelude.{IsTrue, ◌≡◌, ◌+◌, ◌<◌, ◌≤�
 ghost use Rattle.jc_opcodes.specs.Table.{can_duplicate_below, can_swap};
 ghost use Rattle.jc_frames.specs.Cells.{cell_on, short_on, two_shorts_on, reference_on, storable_on, taken, taken_two};
 ghost use Rattle.jc_frames.specs.Calls.{arguments_on};
-ghost use Rattle.jc_frames.specs.Frames.{in_frame, with_stack, unless_fault, pushed, copied, exchanged};
+ghost use Rattle.jc_frames.specs.Frames.{in_frame, with_stack, unless_fault, has_room, pushed, copied, exchanged};
 
 use crate::cell::Cell;
 use crate::frames::Frames;
@@ -118,6 +118,14 @@ impl Frames {
     {
         let length = self.cells.len();
         self.cells.truncate(length - usize::from(count));
+    }
+
+    /// Whether there is room for one more cell.
+    #[inline]
+    pub fn has_room(&self) -> bool
+        ensures { result ≡ has_room self.now.current }
+    {
+        self.cells.len() < self.current.ceiling
     }
 
     /// Puts a cell on top of a stack with room.

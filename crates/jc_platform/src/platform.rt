@@ -100,6 +100,13 @@ impl Platform {
         self.table.class_word(class)
     }
 
+    /// The token of a method in its class.
+    pub fn method_token(&self, named: PlatformMethod) -> u8
+        ensures { result ≡ slice_index self.now.method_tokens (method_number named) }
+    {
+        self.table.method_token(named)
+    }
+
     /// The class of a package with this token.
     #[tactic(auto, unfolding(crate::specs::Platform::class_by_token))]
     pub fn class_by_token(&self, home: PlatformPackage, token: u8) -> Option<PlatformClass>
