@@ -3,3 +3,5 @@ pub mod Signatures
 pub mod Choosing
 pub mod Entering
 pub mod Catching
+pub mod Returning
+pub mod Throwing

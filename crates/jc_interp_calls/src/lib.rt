@@ -4,6 +4,8 @@
 
 pub mod catch;
 pub mod choose;
+pub mod come_back;
 pub mod enter;
 pub mod signatures;
 pub mod text;
+pub mod throw;
