@@ -1,18 +1,14 @@
 -- What a change of a cell leaves of a PIN.
-use Rattle.std.proofs.Common.{◌≡◌, ℕ, ◌+◌, ◌<◌, ◌≤◌, true, List, set, length, get_or, refl, sym, ◌∙◌, ap, subst, arith}
-use Rattle.std.specs.Prelude.{Option, None, slice_index}
-use Rattle.jc_transient.specs.declared.cell.ClearEvent.{ClearEvent}
+use Rattle.std.proofs.Common.{◌≡◌, ℕ, ◌<◌, ◌≤◌, length, get_or, sym, ◌∙◌, ap, subst, arith}
+use Rattle.std.specs.Prelude.{None, slice_index}
 use Rattle.std.proofs.lemmas.List.{get_or-set_other}
 use Rattle.jc_heap.specs.declared.object.Kind.{Kind}
 use Rattle.jc_heap.specs.declared.object.Kind.TheVariants.{Instance, ByteArray}
-use Rattle.jc_heap.specs.declared.object.Facts.{Facts}
-use Rattle.jc_heap.specs.declared.place.Place.TheVariants.{Cell}
-use Rattle.jc_heap.specs.Object.{Item, bare, is_object, cells_of, facts_of}
+use Rattle.jc_heap.specs.Object.{bare, is_object}
 use Rattle.jc_heap.specs.Heap.{item_at, cells, facts, set_cell}
-use Rattle.jc_heap.specs.Moves.{Count}
 use Rattle.jc_heap.proofs.Laws.{same_length, same_facts, bare-set_cell, cells-set_cell}
 use Rattle.jc_heap.proofs.Keeping.{object-bare}
-use Rattle.jc_memory.specs.State.{MemoryState, Changes, effected}
+use Rattle.jc_memory.specs.State.{MemoryState}
 use Rattle.jc_memory.specs.Cells.{word_at, word_in}
 use Rattle.jc_pin.specs.Pins.{IsKept, IsPin}
 
@@ -50,9 +46,12 @@ counted_pin s v r x is pin = record {
   where
     along : (kind : Kind) (n q : ℕ) → IsKept s kind n q → IsKept v kind n q
     along kind n q = kept_along s v kind n q (ap (λ h. bare (item_at h q)) is ∙ bare-set_cell s.heap.now r 2 x q)
+
     itself : IsKept v Instance 5 r
     itself = along Instance 5 r pin.itself
+
     word : (j : ℕ) → (j ≡ 2 → ⊥) → word_at v r j ≡ word_at s r j
     word j other = let five = pin.itself.cells in other_word s v r 2 j x is (omega (arith, five)) other pin.itself.event itself.event
+
     maximum : word_at v r 1 ≡ word_at s r 1
     maximum = word 1 (λ e. absurd (omega (arith, e)))

@@ -1,10 +1,10 @@
 -- Bytes that are put into an array as one change.
-use Rattle.std.proofs.Common.{◌≡◌, ℕ, suc, ◌+◌, ◌<◌, ◌≤◌, List, [], ◌∷◌, ◌++◌, set, take, length, get_or, refl, sym, ◌∙◌, ap, subst, arith, append_assoc, add-suc, add-zero}
+use Rattle.std.proofs.Common.{◌≡◌, ℕ, suc, ◌+◌, ◌<◌, ◌≤◌, List, [], ◌∷◌, ◌++◌, set, take, length, get_or, sym, ◌∙◌, ap, arith, append_assoc, add-zero}
 use Rattle.std.proofs.lemmas.List.{take_more, take_more_set, length-take-le, length-set}
 use Rattle.jc_heap.specs.declared.place.Place.{Place}
 use Rattle.jc_heap.specs.declared.place.Place.TheVariants.{Cell}
 use Rattle.jc_heap.specs.declared.object.Kind.{Kind}
-use Rattle.jc_heap.specs.declared.object.Kind.TheVariants.{Instance, ByteArray, ReferenceArray}
+use Rattle.jc_heap.specs.declared.object.Kind.TheVariants.{ByteArray, ReferenceArray}
 use Rattle.jc_heap.specs.Heap.{HeapState, cells, facts}
 use Rattle.jc_heap.specs.Places.{AreThere, AreApart, IsBeside, places_of}
 use Rattle.jc_heap.specs.Keeping.{MayAllStand}
@@ -56,4 +56,3 @@ module _ (h : HeapState) (array : ℕ) (is : (facts h array).kind ≡ ByteArray)
   pub puts_apart : (i : ℕ) (bytes : List ℕ) → ((k : ℕ) → IsBeside (Cell array k) (places_of more)) → AreApart (places_of more) → AreApart (places_of (bytes_put array i bytes ++ more))
   puts_apart i [] others apart = apart
   puts_apart i (b ∷ bs) others apart = (beside i (suc i) bs (omega arith) others, puts_apart (suc i) bs others apart)
-

@@ -1,6 +1,6 @@
 -- An update is a change that the heap can make.
-use Rattle.std.proofs.Common.{◌≡◌, ℕ, suc, ◌+◌, ◌<◌, ◌≤◌, true, false, List, [], ◌∷◌, length, map, get_or, refl, sym, ◌∙◌, ap, subst, arith}
-use Rattle.std.specs.Prelude.{nat_lt, if◌then◌else◌, Some, None, Result, Ok, Err}
+use Rattle.std.proofs.Common.{◌≡◌, ℕ, suc, ◌<◌, ◌≤◌, true, false, List, [], ◌∷◌, length, map, get_or, refl, sym, ◌∙◌, ap, arith}
+use Rattle.std.specs.Prelude.{if◌then◌else◌, Some, None, Result, Ok, Err}
 use Rattle.std.proofs.lemmas.Bool.{true≢false, le-ltb}
 use Rattle.std.proofs.lemmas.List.{length-map, length-append}
 use Rattle.jc_heap.specs.declared.object.Kind.{Kind}
@@ -8,7 +8,7 @@ use Rattle.jc_heap.specs.declared.object.Kind.TheVariants.{Instance, ByteArray, 
 use Rattle.jc_heap.specs.declared.place.Place.{Place}
 use Rattle.jc_heap.specs.declared.place.Place.TheVariants.{Cell}
 use Rattle.jc_heap.specs.Object.{has_bytes}
-use Rattle.jc_heap.specs.Heap.{HeapView, facts, has_room_for}
+use Rattle.jc_heap.specs.Heap.{facts}
 use Rattle.jc_heap.specs.declared.refusal.HeapRefusal.TheVariants as making
 use Rattle.jc_heap.specs.Moves.{SetPlaces, no_room}
 use Rattle.jc_heap.specs.Places.{AreThere, AreApart, IsBeside, places_of, place_word}
@@ -93,8 +93,10 @@ too_long s r bytes within long =
   where
     change : List (Place × ℕ)
     change = update_of (record_of s r) r bytes
+
     rest : Doing (Result (Unit {0}) PinRefusal)
     rest = Then (Changes (SetPlaces change)) (Then (Flags r false) (Gives (Ok tt)))
+
     many : 256 < length (map place_word (places_of change))
     many =
         let words = length-map (places_of change) place_word in

@@ -1,5 +1,5 @@
 -- A PIN is checked.
-use Rattle.std.specs.Prelude.{ℕ, ◌-◌, ◌==◌, ◌&&◌, Bool, true, false, List, length, if◌then◌else◌, Option, Some, None}
+use Rattle.std.specs.Prelude.{ℕ, ◌-◌, ◌==◌, Bool, true, false, List, length, if◌then◌else◌, Option, Some, None}
 use Rattle.std.specs.Str.{bytes_eq}
 use Rattle.jc_memory.specs.State.{MemoryState, Flags, effected}
 use Rattle.jc_memory.specs.Doing.{Doing, Gives, Then, bind}

@@ -1,5 +1,5 @@
 -- A PIN is reset.
-use Rattle.std.specs.Prelude.{ℕ, Bool, false, if◌then◌else◌}
+use Rattle.std.specs.Prelude.{ℕ, false, if◌then◌else◌}
 use Rattle.jc_transient.specs.State.{flag_of}
 use Rattle.jc_memory.specs.State.{MemoryState, Flags}
 use Rattle.jc_memory.specs.Doing.{Doing, Gives, Then}

@@ -42,7 +42,11 @@ fn is_value<S: WordStore>(memory: &Memory<S>, pin: Ref, bytes: &[u8]) -> bool
 }
 
 // Compares, once a try was taken.
-fn judge<S: WordStore>(memory: &mut Memory<S>, pin: Ref, guess: Option<&[u8]>) -> Result<bool, StoreDown>
+fn judge<S: WordStore>(
+    memory: &mut Memory<S>,
+    pin: Ref,
+    guess: Option<&[u8]>,
+) -> Result<bool, StoreDown>
     requires up { memory.old.heap.down ≡ false }
     requires pin { IsPin memory.old pin }
     ensures { Makes (judged memory.old pin (option_copied guess.entry)) memory.old (after_step result memory.new) }
@@ -63,7 +67,11 @@ fn judge<S: WordStore>(memory: &mut Memory<S>, pin: Ref, guess: Option<&[u8]>) -
 /// anything is compared the flag is taken away and a try is counted, which no abort gives back. The value gives all
 /// tries back, and sets the flag. Without a try left nothing is done.
 #[tactic(auto, unfolding(crate::specs::Checking::checked))]
-pub fn check<S: WordStore>(memory: &mut Memory<S>, pin: Ref, guess: Option<&[u8]>) -> Result<bool, StoreDown>
+pub fn check<S: WordStore>(
+    memory: &mut Memory<S>,
+    pin: Ref,
+    guess: Option<&[u8]>,
+) -> Result<bool, StoreDown>
     requires up { memory.old.heap.down ≡ false }
     requires pin { IsPin memory.old pin }
     ensures { Makes (checked memory.old pin (option_copied guess.entry)) memory.old (after_step result memory.new) }

@@ -5,9 +5,11 @@
 mod checking;
 mod pin;
 mod resetting;
+mod starting;
 mod updating;
 
 pub use checking::check;
 pub use pin::{PinRecord, is_pin, is_validated, record, tries};
 pub use resetting::{reset, reset_and_unblock};
+pub use starting::init;
 pub use updating::{PinRefusal, update};

@@ -9,7 +9,7 @@ use crate::pin::{PinRecord, record};
 use jc_heap::{ChangeRefusal, Place};
 use jc_memory::Memory;
 use jc_transient::Ref;
-use jc_words::WordStore;
+use jc_words::{StoreDown, WordStore};
 
 // How many places one change may have at most.
 const MOST_CHANGES: usize = 256;
@@ -41,6 +41,17 @@ impl From<ChangeRefusal> for PinRefusal {
     }
 }
 
+impl From<StoreDown> for PinRefusal {
+    ghost use Rattle.std.specs.Prelude.{◌≡◌};
+    ghost use Rattle.jc_pin.specs.declared.updating.PinRefusal.TheVariants as refusal;
+
+    ghost from_gives = { λ _ p. p ≡ refusal.StoreDown };
+
+    fn from(_: StoreDown) -> Self {
+        PinRefusal::StoreDown
+    }
+}
+
 // The changes that put bytes into an array.
 fn put_bytes(changes: &mut [(Place, u16)], array: Ref, bytes: &[u8])
     requires room { length bytes.now ≤ length changes.old }
@@ -65,7 +76,11 @@ fn fill_changes(changes: &mut [(Place, u16)], pin: Ref, kept: PinRecord, bytes: 
 }
 
 // Sets the value, its length and all tries as one change.
-fn set_value<S: WordStore>(memory: &mut Memory<S>, pin: Ref, bytes: &[u8]) -> Result<(), ChangeRefusal>
+fn set_value<S: WordStore>(
+    memory: &mut Memory<S>,
+    pin: Ref,
+    bytes: &[u8],
+) -> Result<(), ChangeRefusal>
     requires up { memory.old.heap.down ≡ false }
     requires pin { IsPin memory.old pin }
     requires within { length bytes.now ≤ (record_of memory.old pin).maximum }
@@ -80,7 +95,11 @@ fn set_value<S: WordStore>(memory: &mut Memory<S>, pin: Ref, bytes: &[u8]) -> Re
 /// Gives a PIN another value, by one change with the length and all tries, and takes the flag away, which no abort
 /// brings back. Refused: a value above the maximum; one for which the transaction has no room.
 #[tactic(auto, unfolding(crate::specs::Updating::updated))]
-pub fn update<S: WordStore>(memory: &mut Memory<S>, pin: Ref, bytes: &[u8]) -> Result<(), PinRefusal>
+pub fn update<S: WordStore>(
+    memory: &mut Memory<S>,
+    pin: Ref,
+    bytes: &[u8],
+) -> Result<(), PinRefusal>
     requires up { memory.old.heap.down ≡ false }
     requires pin { IsPin memory.old pin }
     ensures { Makes (updated memory.old pin bytes.now) memory.old (after_pin result memory.new) }

@@ -7,4 +7,4 @@ pub judge-requires-clause-pin : goal.judge-requires-clause-pin
 judge-requires-clause-pin g c =
     let left = c.record-tries.result.tries - 1 in
     counted_pin c.args.memory.now c.count.new.self c.args.pin left
-        (ap (λ s. s.heap.now) c.in_ok-count.ensures.1 ∙ ap (λ s. set_cell s.heap.now c.args.pin 2 left) c.set_flag.ensures) c.requires.pin
+    (ap (λ s. s.heap.now) c.in_ok-count.ensures.1 ∙ ap (λ s. set_cell s.heap.now c.args.pin 2 left) c.set_flag.ensures) c.requires.pin
