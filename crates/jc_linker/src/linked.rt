@@ -83,6 +83,14 @@ impl Linked {
         self.loaded.len()
     }
 
+    /// The number of the package that was loaded last; 0 where none was.
+    pub fn last(&self) -> u8
+        ensures number { result ≡ length self.now.loaded }
+        ensures few { result ≤ 32 }
+    {
+        self.loaded.len() as u8
+    }
+
     #[tactic(auto, unfolding(jc_packages::specs::Classes::package_in))]
     pub(crate) fn package(&self, number: u8) -> Option<&LinkedPackage>
         ensures { option_copied result ≡ package_in self.now number }

@@ -1,4 +1,5 @@
 pub mod Owners
+pub mod Power
 pub mod State
 pub mod Doing
 pub mod Reading

@@ -8,6 +8,7 @@ mod flags;
 mod law;
 mod making;
 mod memory;
+mod power;
 mod registers;
 mod sent;
 mod transaction;
@@ -18,6 +19,7 @@ pub use law::{
 };
 pub use making::NewObject;
 pub use memory::{FIXED_OBJECTS, MOST_COMMAND, MOST_SENT, Memory};
+pub use power::Volatile;
 pub use registers::{
     ApduPhase, ApduState, AppletNumber, Depth, Installation, Owner, PackageNumber, Registers,
 };
