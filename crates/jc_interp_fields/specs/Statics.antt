@@ -16,10 +16,9 @@ use Rattle.jc_memory.specs.Cells.{word_of}
 use Rattle.jc_memory.specs.Doing.{Doing, Then}
 use Rattle.jc_packages.specs.Values.{Packages}
 use Rattle.jc_world.specs.Groups.{goes, if_ok, if_some, unless}
-use Rattle.jc_interp_values.specs.Values.{keepable, signed_byte, value_on}
+use Rattle.jc_interp_values.specs.Values.{keepable, with_top, signed_byte, value_on}
 use Rattle.jc_interp_fields.specs.declared.images.ImageWord.{ImageWord}
 use Rattle.jc_interp_fields.specs.declared.named.FieldOfImage.{FieldOfImage}
-use Rattle.jc_interp_fields.specs.Fields.{with_top}
 use Rattle.jc_interp_fields.specs.Images.{held, image_byte, image_pair, image_word, next_word, place_of, with_byte}
 use Rattle.jc_interp_fields.specs.Named.{static_named}
 

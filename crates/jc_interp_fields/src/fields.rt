@@ -68,12 +68,12 @@ fn put<S: WordStore>(
     index: u16,
     reference: Ref,
     value: CellValue,
-    frames: &mut Frames,
+    frames: &Frames,
     memory: &mut Memory<S>,
     linked: &Linked,
 ) -> Result<(), Break>
     requires up { memory.old.heap.down ≡ false }
-    ensures { Makes (put of_type index reference value linked.now frames.old memory.old) memory.old (after_group result frames.new memory.new) }
+    ensures { Makes (put of_type index reference value linked.now frames.now memory.old) memory.old (after_group result frames.now memory.new) }
 {
     let package_number = frames.origin().package_number;
     let field = field_named(of_type, linked, package_number, index).ok_or(CodeFault)?;
