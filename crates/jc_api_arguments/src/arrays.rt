@@ -1,14 +1,16 @@
 //! Arrays of bytes as arguments, and their elements.
-ghost use Rattle.std.specs.Prelude.{◌≡◌, false, IfOk, pos};
+ghost use Rattle.std.specs.Prelude.{◌≡◌, ◌≤◌, false, length, IfOk, pos};
+ghost use Rattle.jc_memory.specs.Doing.{Makes, after_change};
+ghost use Rattle.jc_memory.specs.Cells.{stored_run};
 ghost use Rattle.jc_api_arguments.specs.Numbers.{not_negative};
 ghost use Rattle.jc_api_arguments.specs.Arrays.{bytes_argument, elements_of, within, IsBytesArgument, IsInArray};
 
 use crate::numbers::not_negative;
 use jc_firewall::access::Access;
 use jc_frames::{Exception, Outcome, Stop};
-use jc_heap::{Facts, Kind};
+use jc_heap::{ChangeRefusal, Facts, Kind};
 use jc_linker::linked::Linked;
-use jc_memory::Memory;
+use jc_memory::{MOST_COMMAND, Memory};
 use jc_transient::Ref;
 use jc_words::WordStore;
 use jc_world::contexts::allow;
@@ -91,4 +93,20 @@ pub fn elements<S: WordStore>(
     };
     allow(Access::ArrayElement, facts, memory, linked)?;
     within(array, facts.length, start, count)
+}
+
+/// Sets elements of an array of bytes, as one change: refused, where the transaction has no room for it.
+/// They are at most as many bytes as a command has.
+pub fn put<S: WordStore>(
+    memory: &mut Memory<S>,
+    to: Stretch,
+    bytes: &[u8],
+) -> Result<(), ChangeRefusal>
+    requires up { memory.old.heap.down ≡ false }
+    requires there { IsInArray memory.old to }
+    requires all { length bytes.now ≡ to.count }
+    requires few { length bytes.now ≤ MOST_COMMAND }
+    ensures { Makes (stored_run memory.old to.array to.start bytes.now) memory.old (after_change result memory.new) }
+{
+    memory.set_bytes(to.array, to.start, bytes)
 }

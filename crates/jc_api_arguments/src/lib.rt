@@ -1,8 +1,12 @@
-//! The arguments of the platform's methods that are arrays of bytes.
+//! Arguments of the platform's methods, and what they return.
 #![tactic(auto)]
 
+pub mod answers;
 pub mod arrays;
+pub mod instances;
 pub mod numbers;
 
-pub use arrays::{Stretch, bytes_argument, elements};
+pub use answers::{boolean, short};
+pub use arrays::{Stretch, bytes_argument, elements, put};
+pub use instances::instance;
 pub use numbers::not_negative;

@@ -12,7 +12,7 @@ use Rattle.jc_memory.specs.State.{MemoryState}
 use Rattle.jc_memory.specs.Doing.{Did, Gives, Then, unless_refused}
 use Rattle.jc_memory.specs.Cells.{no_room_in, no_room_for_run, sets_run, stored_run}
 use Rattle.jc_api_arguments.specs.declared.arrays.Stretch.{Stretch}
-use Rattle.jc_api_util.specs.Util.{bytes_in}
+use Rattle.jc_api_arguments.specs.Arrays.{bytes_in}
 
 pub widen_more : (ws bs : List ℕ) (k v : ℕ) → k < length ws → k < length bs → v ≡ get_or bs k 0 → take k ws ≡ take k bs → take (k + 1) (set ws k v) ≡ take (k + 1) bs
 widen_more ws bs k v here there is e = take_more_set ws k v here ∙ ap (λ l. l ++ v ∷ []) e ∙ ap (λ x. take k bs ++ x ∷ []) is ∙ sym (take_more bs k 0 there)

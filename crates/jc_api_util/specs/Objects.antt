@@ -1,17 +1,12 @@
 -- Constructors, and equals of Object (API specification).
-use Rattle.std.specs.Prelude.{pos, ◌==◌, Bool, true, false, List}
+use Rattle.std.specs.Prelude.{◌==◌, List}
 use Rattle.jc_frames.specs.declared.cell.Cell.{Cell}
 use Rattle.jc_platform.specs.declared.names.PlatformMethod.{PlatformMethod}
 use Rattle.jc_platform.specs.declared.names.PlatformMethod.TheVariants.{ObjectInit, ObjectEquals, ThrowableInit, ExceptionInit, RuntimeExceptionInit, IndexOutOfBoundsExceptionInit, ArithmeticExceptionInit, ArrayIndexOutOfBoundsExceptionInit, ArrayStoreExceptionInit, ClassCastExceptionInit, NegativeArraySizeExceptionInit, NullPointerExceptionInit, SecurityExceptionInit, AppletInit}
 use Rattle.jc_world.specs.declared.answer.Answer.TheVariants.{Nothing}
 use Rattle.jc_world.specs.Calls.{Calling, answers, faults, if_some}
 use Rattle.jc_world.specs.Objects.{reference_argument}
-use Rattle.jc_api_util.specs.Util.{returns_short}
-
--- it returns this boolean
-abbrev pub returns_bool : Bool → Calling
-returns_bool true = returns_short (pos 1)
-returns_bool false = returns_short (pos 0)
+use Rattle.jc_api_arguments.specs.Answers.{returns_bool}
 
 -- equals: the same object alone
 unfoldable pub same_object : List Cell → Calling

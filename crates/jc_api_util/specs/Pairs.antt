@@ -1,19 +1,15 @@
 -- The array arguments of `Util`'s methods, all checked.
-use Rattle.std.specs.Prelude.{pos, List, Result, Ok, Err}
+use Rattle.std.specs.Prelude.{pos, List, Result, Ok}
 use Rattle.jc_frames.specs.declared.cell.Cell.{Cell}
 use Rattle.jc_frames.specs.declared.outcome.Stop.{Stop}
 use Rattle.jc_memory.specs.State.{MemoryState}
 use Rattle.jc_packages.specs.Values.{Packages}
 use Rattle.jc_world.specs.Objects.{or_fault, short_argument, reference_argument}
 use Rattle.jc_api_arguments.specs.declared.arrays.Stretch.{Stretch}
+use Rattle.jc_api_arguments.specs.Answers.{and_then}
 use Rattle.jc_api_arguments.specs.Arrays.{bytes_argument, elements_of}
 use Rattle.jc_api_util.specs.declared.pairs.Named.{Named}
 use Rattle.jc_api_util.specs.declared.pairs.Pair.{Pair}
-
--- with what a check gave, the next
-abbrev pub and_then : {A B : Type 0} → Result A Stop → (A → Result B Stop) → Result B Stop
-and_then (Ok a) go = go a
-and_then (Err e) go = Err e
 
 -- the arguments of a method of two arrays, each with an offset, and a length: of the right kinds, or a code fault
 abbrev pub named_in : List Cell → Result Named Stop

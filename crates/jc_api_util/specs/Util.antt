@@ -6,22 +6,18 @@ use Rattle.std.specs.Ordering.{nat_cmp}
 use Rattle.std.specs.declared.cmp.Ordering.{Ordering}
 use Rattle.std.specs.declared.cmp.Ordering.TheVariants.{Less, Equal, Greater}
 use Rattle.jc_frames.specs.declared.cell.Cell.{Cell}
-use Rattle.jc_frames.specs.declared.cell.Cell.TheVariants.{Short}
 use Rattle.jc_memory.specs.State.{MemoryState}
 use Rattle.jc_memory.specs.Doing.{Then}
-use Rattle.jc_memory.specs.Cells.{byte_at, bytes_at, no_room_for_run, sets_run}
+use Rattle.jc_memory.specs.Cells.{byte_at, no_room_for_run, sets_run}
 use Rattle.jc_packages.specs.Values.{Packages}
 use Rattle.jc_platform.specs.declared.names.PlatformMethod.{PlatformMethod}
 use Rattle.jc_platform.specs.declared.names.PlatformMethod.TheVariants.{UtilArrayCompare, UtilArrayCopy, UtilGetShort, UtilMakeShort, UtilSetShort}
-use Rattle.jc_world.specs.declared.answer.Answer.TheVariants.{Value}
-use Rattle.jc_world.specs.Calls.{Calling, answers, faults, if_some, if_ok, unless}
+use Rattle.jc_world.specs.Calls.{Calling, faults, if_some, if_ok, unless}
 use Rattle.jc_world.specs.Objects.{short_argument}
 use Rattle.jc_api_arguments.specs.declared.arrays.Stretch.{Stretch}
+use Rattle.jc_api_arguments.specs.Answers.{returns_short}
+use Rattle.jc_api_arguments.specs.Arrays.{bytes_in}
 use Rattle.jc_api_util.specs.Pairs.{named_in, pair_of, two_of}
-
--- it returns this number
-abbrev pub returns_short : ℤ → Calling
-returns_short v = answers (Value (Short v))
 
 -- the bytes of a number, the high one first
 abbrev pub bytes_of_short : ℤ → List ℕ
@@ -34,10 +30,6 @@ short_of high low = cast_signed w16 (high * 256 + low)
 -- the index behind the last of some elements
 abbrev pub end_of : Stretch → ℤ
 end_of e = cast_signed w16 (e.start + e.count)
-
--- the bytes of some elements
-abbrev pub bytes_in : MemoryState → Stretch → List ℕ
-bytes_in m e = bytes_at m e.array e.start e.count
 
 -- which comes first, by the first byte that differs
 abbrev pub sign_of : Ordering → ℤ

@@ -2,10 +2,9 @@
 ghost use Rattle.std.specs.Prelude.{◌≡◌, ◌≤◌, false, length, take};
 ghost use Rattle.jc_memory.specs.Doing.{Makes, after_change};
 ghost use Rattle.jc_memory.specs.Cells.{stored_run};
-ghost use Rattle.jc_api_arguments.specs.Arrays.{IsInArray};
-ghost use Rattle.jc_api_util.specs.Util.{bytes_in};
+ghost use Rattle.jc_api_arguments.specs.Arrays.{IsInArray, bytes_in};
 
-use jc_api_arguments::Stretch;
+use jc_api_arguments::{Stretch, put};
 use jc_heap::ChangeRefusal;
 use jc_memory::{MOST_COMMAND, Memory};
 use jc_transient::AREA_CELLS;
@@ -39,21 +38,6 @@ fn put_many<S: WordStore>(
     let mut words = [0; MOST_TRANSIENT];
     widen(&mut words, bytes);
     memory.set_run(to.array, to.start, &words[..bytes.len()])
-}
-
-/// Sets elements of an array of bytes, at most as many as a command has.
-pub(crate) fn put<S: WordStore>(
-    memory: &mut Memory<S>,
-    to: Stretch,
-    bytes: &[u8],
-) -> Result<(), ChangeRefusal>
-    requires up { memory.old.heap.down ≡ false }
-    requires there { IsInArray memory.old to }
-    requires all { length bytes.now ≡ to.count }
-    requires few { length bytes.now ≤ MOST_COMMAND }
-    ensures { Makes (stored_run memory.old to.array to.start bytes.now) memory.old (after_change result memory.new) }
-{
-    memory.set_bytes(to.array, to.start, bytes)
 }
 
 // Copies no more bytes than a command has.

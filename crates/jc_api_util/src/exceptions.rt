@@ -1,33 +1,18 @@
 //! Exceptions of the card's framework (API specification): each has a reason.
-ghost use Rattle.std.specs.Prelude.{◌≡◌, false, IfOk};
+ghost use Rattle.std.specs.Prelude.{◌≡◌, false};
 ghost use Rattle.jc_frames.specs.declared.outcome.Exception.TheVariants as exceptions;
 ghost use Rattle.jc_memory.specs.Doing.{Makes};
 ghost use Rattle.jc_world.specs.Calls.{after_call};
-ghost use Rattle.jc_api_util.specs.Exceptions.{exception_at, HasReason, reason_set, reason_got, exception_called};
+ghost use Rattle.jc_api_util.specs.Exceptions.{reason_set, reason_got, exception_called};
 
-use jc_frames::{Cell, Exception, Outcome, Stop};
-use jc_heap::{Facts, Kind};
+use jc_api_arguments::{instance, short};
+use jc_frames::{Cell, Exception, Outcome};
 use jc_memory::Memory;
 use jc_platform::names::PlatformMethod;
-use jc_transient::{CellValue, Ref};
+use jc_transient::CellValue;
 use jc_words::WordStore;
 use jc_world::arguments::{reference_argument, short_argument};
-use jc_world::objects::object;
 use jc_world::{Answer, Break};
-
-// The header of the exception behind a reference.
-#[tactic(auto, unfolding(crate::specs::Exceptions::exception_at))]
-fn exception_at<S: WordStore>(reference: Ref, memory: &Memory<S>) -> Result<Facts, Stop>
-    requires up { memory.now.heap.down ≡ false }
-    ensures header { result ≡ exception_at memory.now reference }
-    ensures there { IfOk result (λ facts. HasReason memory.now reference) }
-{
-    let facts = object(reference, memory)?;
-    match facts.kind {
-        Kind::Instance if 0 < facts.length => Ok(facts),
-        _ => Err(Stop::End(Outcome::Fault)),
-    }
-}
 
 // The constructor and `setReason`.
 #[tactic(auto, unfolding(crate::specs::Exceptions::reason_set))]
@@ -37,7 +22,7 @@ fn set_reason<S: WordStore>(args: &[Cell], memory: &mut Memory<S>) -> Result<Ans
 {
     let own = reference_argument(args, 0)?;
     let reason = short_argument(args, 1)?;
-    let _facts = exception_at(own, memory)?;
+    let _facts = instance(own, 1, memory)?;
     memory.set(own, 0, CellValue::Short(reason))?;
     Ok(Answer::Nothing)
 }
@@ -49,8 +34,8 @@ fn get_reason<S: WordStore>(args: &[Cell], memory: &Memory<S>) -> Result<Answer,
     ensures { Makes (reason_got args.now memory.now) memory.now (after_call result memory.now) }
 {
     let own = reference_argument(args, 0)?;
-    let _facts = exception_at(own, memory)?;
-    Ok(Answer::Value(Cell::Short(memory.short(own, 0))))
+    let _facts = instance(own, 1, memory)?;
+    Ok(short(memory.short(own, 0)))
 }
 
 /// A call of a method of an exception with a reason. A method of another class is a code fault.

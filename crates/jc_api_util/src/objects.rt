@@ -1,24 +1,15 @@
 //! Constructors, and `equals` of `Object` (API specification).
-ghost use Rattle.std.specs.Prelude.{◌≡◌, if◌then◌else◌, pos};
-ghost use Rattle.jc_frames.specs.declared.cell.Cell.TheVariants.{Short};
-ghost use Rattle.jc_world.specs.declared.answer.Answer.TheVariants.{Value};
 ghost use Rattle.jc_memory.specs.Doing.{Makes};
 ghost use Rattle.jc_world.specs.Calls.{after_call};
 ghost use Rattle.jc_api_util.specs.Objects.{same_object, object_called};
 
+use jc_api_arguments::boolean;
 use jc_frames::{Cell, Outcome};
 use jc_memory::Memory;
 use jc_platform::names::PlatformMethod;
 use jc_words::WordStore;
 use jc_world::arguments::reference_argument;
 use jc_world::{Answer, Break};
-
-/// A boolean as a method returns it.
-pub fn boolean(value: bool) -> Answer
-    ensures { result ≡ Value (Short (if value then pos 1 else pos 0)) }
-{
-    Answer::Value(Cell::Short(i16::from(value)))
-}
 
 // `equals`.
 #[tactic(auto, unfolding(crate::specs::Objects::same_object))]

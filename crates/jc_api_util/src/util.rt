@@ -3,14 +3,14 @@ ghost use Rattle.std.specs.Prelude.{◌≡◌, ◌+◌, ◌<◌, false};
 ghost use Rattle.jc_memory.specs.Doing.{Makes, after_change};
 ghost use Rattle.jc_memory.specs.Cells.{stored_run};
 ghost use Rattle.jc_world.specs.Calls.{after_call};
-ghost use Rattle.jc_api_util.specs.Util.{array_copied, array_compared, short_got, short_set, short_made, short_of, bytes_of_short, end_of, bytes_in, sign_of, util_called};
+ghost use Rattle.jc_api_util.specs.Util.{array_copied, array_compared, short_got, short_set, short_made, short_of, bytes_of_short, end_of, sign_of, util_called};
 ghost use Rattle.std.specs.Ordering.{nat_cmp};
 ghost use Rattle.std.specs.Cmp.Lexicographic.{slice_cmp};
-ghost use Rattle.jc_api_arguments.specs.Arrays.{IsInArray};
+ghost use Rattle.jc_api_arguments.specs.Arrays.{IsInArray, bytes_in};
 
-use crate::copying::{copy, put};
+use crate::copying::copy;
 use crate::pairs::{named_in, pair_of, two_of};
-use jc_api_arguments::Stretch;
+use jc_api_arguments::{Stretch, put, short};
 use jc_frames::{Cell, Outcome};
 use jc_heap::ChangeRefusal;
 use jc_linker::linked::Linked;
@@ -49,7 +49,7 @@ fn array_copy<S: WordStore>(
     let named = named_in(args)?;
     let pair = pair_of(named, memory, linked)?;
     copy(memory, pair.from, pair.to)?;
-    Ok(Answer::Value(Cell::Short(end_of(&pair.to))))
+    Ok(short(end_of(&pair.to)))
 }
 
 // Sets two elements to the bytes of a number, the high one first.
@@ -81,7 +81,7 @@ fn set_short<S: WordStore>(
     let value = short_argument(args, 2)?;
     let to = two_of(args, memory, linked)?;
     put_short(memory, to, value)?;
-    Ok(Answer::Value(Cell::Short(end_of(&to))))
+    Ok(short(end_of(&to)))
 }
 
 // `getShort`.
@@ -97,7 +97,7 @@ fn get_short<S: WordStore>(
     let two = two_of(args, memory, linked)?;
     let high = memory.byte(two.array, two.start);
     let low = memory.byte(two.array, two.start + 1);
-    Ok(Answer::Value(Cell::Short(short_of(high, low))))
+    Ok(short(short_of(high, low)))
 }
 
 // `makeShort`.
@@ -107,7 +107,7 @@ fn make_short<S: WordStore>(args: &[Cell], memory: &Memory<S>) -> Result<Answer,
 {
     let high = (short_argument(args, 0)?.cast_unsigned() % 256) as u8;
     let low = (short_argument(args, 1)?.cast_unsigned() % 256) as u8;
-    Ok(Answer::Value(Cell::Short(short_of(high, low))))
+    Ok(short(short_of(high, low)))
 }
 
 // Which comes first, by the first byte that differs.
@@ -155,7 +155,7 @@ fn array_compare<S: WordStore>(
     let named = named_in(args)?;
     let pair = pair_of(named, memory, linked)?;
     let order = order_of(memory, pair.from, pair.to);
-    Ok(Answer::Value(Cell::Short(sign_of(order))))
+    Ok(short(sign_of(order)))
 }
 
 /// A call of a method of `Util`; a method of another class is a code fault.

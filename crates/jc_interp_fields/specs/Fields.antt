@@ -1,10 +1,9 @@
 -- Fields of objects: `getfield`, `putfield` and their other forms.
-use Rattle.std.specs.Prelude.{ℕ, ◌&&◌, nat_lt, Bool, slice_get, ◌∷◌, Option, Some, None, Result, Ok, Err, if◌then◌else◌}
+use Rattle.std.specs.Prelude.{ℕ, ◌&&◌, nat_lt, Bool, slice_get, Option, None, Result, Ok, Err, if◌then◌else◌}
 use Rattle.std.specs.Option.{option_and_then}
 use Rattle.jc_transient.specs.declared.cell.CellValue.{CellValue}
 use Rattle.jc_heap.specs.declared.object.Facts.{Facts}
 use Rattle.jc_opcodes.specs.declared.instr.ValueType.{ValueType}
-use Rattle.jc_frames.specs.declared.cell.Cell.{Cell}
 use Rattle.jc_frames.specs.declared.outcome.Outcome.TheVariants.{Fault}
 use Rattle.jc_frames.specs.declared.outcome.Stop.{Stop}
 use Rattle.jc_frames.specs.declared.outcome.Stop.TheVariants.{End}
@@ -18,7 +17,7 @@ use Rattle.jc_firewall.specs.declared.access.Access.TheVariants.{InstanceField}
 use Rattle.jc_world.specs.Contexts.{allowed}
 use Rattle.jc_world.specs.Groups.{goes, if_ok, if_some, unless}
 use Rattle.jc_world.specs.Objects.{is_instance_of, object_at}
-use Rattle.jc_interp_values.specs.Values.{keepable, value_at, value_on}
+use Rattle.jc_interp_values.specs.Values.{keepable, with_top, value_at, value_on}
 use Rattle.jc_interp_fields.specs.declared.named.FieldOfClass.{FieldOfClass}
 use Rattle.jc_interp_fields.specs.Named.{field_named}
 
@@ -43,10 +42,6 @@ reached field p m r = cell_in field p m (object_at m r)
 -- the field that an entry of the pool of the package that runs names
 abbrev pub own_field : ValueType → ℕ → Packages → Frames → Option FieldOfClass
 own_field of_type index p s = field_named of_type p s.current.origin.package_number index
-
--- a cell comes on the stack
-abbrev pub with_top : Cell → Frames → Frames
-with_top cell s = with_stack s (cell ∷ s.current.stack)
 
 -- the field of this object comes on the stack
 unfoldable pub got : ValueType → ℕ → ℕ → Packages → Frames → MemoryState → Doing (Next Frames)

@@ -21,7 +21,7 @@ use jc_world::objects::{is_instance_of, object};
 
 // The cell of a field in the object behind a reference, as the code that runs may reach it.
 #[tactic(auto, unfolding(crate::specs::Fields::reached))]
-fn reach<S: WordStore>(
+fn reached_cell<S: WordStore>(
     field: FieldOfClass,
     reference: Ref,
     memory: &Memory<S>,
@@ -56,7 +56,7 @@ fn get<S: WordStore>(
 {
     let package_number = frames.origin().package_number;
     let field = field_named(of_type, linked, package_number, index).ok_or(CodeFault)?;
-    let cell = reach(field, reference, memory, linked)?;
+    let cell = reached_cell(field, reference, memory, linked)?;
     frames.push(value_at(of_type, memory, reference, cell));
     Ok(())
 }
@@ -68,16 +68,16 @@ fn put<S: WordStore>(
     index: u16,
     reference: Ref,
     value: CellValue,
-    frames: &mut Frames,
+    frames: &Frames,
     memory: &mut Memory<S>,
     linked: &Linked,
 ) -> Result<(), Break>
     requires up { memory.old.heap.down ≡ false }
-    ensures { Makes (put of_type index reference value linked.now frames.old memory.old) memory.old (after_group result frames.new memory.new) }
+    ensures { Makes (put of_type index reference value linked.now frames.now memory.old) memory.old (after_group result frames.now memory.new) }
 {
     let package_number = frames.origin().package_number;
     let field = field_named(of_type, linked, package_number, index).ok_or(CodeFault)?;
-    let cell = reach(field, reference, memory, linked)?;
+    let cell = reached_cell(field, reference, memory, linked)?;
     let value = keepable(value, memory, linked)?;
     memory.set(reference, cell, value)?;
     Ok(())
@@ -85,7 +85,7 @@ fn put<S: WordStore>(
 
 /// Reads a field of the object on the stack (`getfield`).
 #[tactic(auto, unfolding(crate::specs::Fields::got_from_stack))]
-pub fn get_from_stack<S: WordStore>(
+pub(crate) fn get_from_stack<S: WordStore>(
     of_type: ValueType,
     index: u16,
     frames: &mut Frames,
@@ -101,7 +101,7 @@ pub fn get_from_stack<S: WordStore>(
 
 /// Writes a field of the object on the stack (`putfield`).
 #[tactic(auto, unfolding(crate::specs::Fields::put_from_stack))]
-pub fn put_from_stack<S: WordStore>(
+pub(crate) fn put_from_stack<S: WordStore>(
     of_type: ValueType,
     index: u16,
     frames: &mut Frames,
@@ -118,7 +118,7 @@ pub fn put_from_stack<S: WordStore>(
 
 /// Reads a field of the object whose method runs (`getfield_a_this` and its kin).
 #[tactic(auto, unfolding(crate::specs::Fields::got_of_this))]
-pub fn get_of_this<S: WordStore>(
+pub(crate) fn get_of_this<S: WordStore>(
     of_type: ValueType,
     index: u16,
     frames: &mut Frames,
@@ -137,7 +137,7 @@ pub fn get_of_this<S: WordStore>(
 
 /// Writes a field of the object whose method runs (`putfield_a_this` and its kin).
 #[tactic(auto, unfolding(crate::specs::Fields::put_of_this))]
-pub fn put_of_this<S: WordStore>(
+pub(crate) fn put_of_this<S: WordStore>(
     of_type: ValueType,
     index: u16,
     frames: &mut Frames,

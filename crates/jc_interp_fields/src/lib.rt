@@ -2,5 +2,9 @@
 #![tactic(auto)]
 
 mod fields;
+mod group;
 mod images;
-pub mod named;
+mod named;
+mod statics;
+
+pub use group::reach;

@@ -53,7 +53,7 @@ fn field_of(of_type: ValueType, target: Target) -> Option<FieldOfClass>
 
 /// The field of instances that an entry of a package's pool names, if it names one that holds values of this type.
 #[tactic(auto, unfolding(crate::specs::Named::field_named))]
-pub fn field_named(
+pub(crate) fn field_named(
     of_type: ValueType,
     linked: &Linked,
     package_number: u8,
@@ -101,7 +101,7 @@ fn static_of(of_type: ValueType, linked: &Linked, target: Target) -> Option<Fiel
 
 /// The static field that an entry of a package's pool names, if it names one that holds values of this type.
 #[tactic(auto, unfolding(crate::specs::Named::static_named))]
-pub fn static_named(
+pub(crate) fn static_named(
     of_type: ValueType,
     linked: &Linked,
     package_number: u8,

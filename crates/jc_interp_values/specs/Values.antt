@@ -1,5 +1,5 @@
 -- Values of fields and of elements of arrays: on the stack, and as they are kept. A byte is a short on the stack.
-use Rattle.std.specs.Prelude.{ℕ, ℤ, pos, ◌%◌, List, ◌∷◌, Option, Result, Ok, Err}
+use Rattle.std.specs.Prelude.{ℕ, ℤ, pos, ◌%◌, ◌<◌, List, ◌∷◌, Option, Result, Ok, Err}
 use Rattle.std.specs.Option.{option_map}
 use Rattle.std.specs.Int.{w8, w16, cast_signed, cast_unsigned}
 use Rattle.jc_transient.specs.declared.cell.CellValue.{CellValue}
@@ -10,6 +10,7 @@ use Rattle.jc_frames.specs.declared.cell.Cell.{Cell}
 use Rattle.jc_frames.specs.declared.cell.Cell.TheVariants.{Short, Reference}
 use Rattle.jc_frames.specs.declared.outcome.Stop.{Stop}
 use Rattle.jc_frames.specs.Cells.{short_on, reference_on}
+use Rattle.jc_frames.specs.Frames.{Frames, with_stack}
 use Rattle.jc_memory.specs.State.{MemoryState}
 use Rattle.jc_memory.specs.Cells.{word_at, short_at, byte_at}
 use Rattle.jc_packages.specs.Values.{Packages}
@@ -44,3 +45,16 @@ kept_if value (Err e) = Err e
 abbrev pub keepable : Packages → MemoryState → CellValue → Result CellValue Stop
 keepable p m (kept.Short x) = Ok (kept.Short x)
 keepable p m (kept.Reference r) = kept_if (kept.Reference r) (storable_of p m r)
+
+-- a value of this type, as it is kept
+abbrev pub IsOf : ValueType → CellValue → Type 0
+IsOf types.Reference (kept.Short x) = ⊥
+IsOf types.Reference (kept.Reference r) = Unit {0}
+IsOf types.Byte (kept.Short x) = cast_unsigned w16 x < 256
+IsOf types.Byte (kept.Reference r) = ⊥
+IsOf types.Short (kept.Short x) = Unit {0}
+IsOf types.Short (kept.Reference r) = ⊥
+
+-- a cell comes on the stack
+abbrev pub with_top : Cell → Frames → Frames
+with_top cell s = with_stack s (cell ∷ s.current.stack)

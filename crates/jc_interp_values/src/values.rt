@@ -1,9 +1,10 @@
 //! Values of fields and of elements of arrays.
-ghost use Rattle.std.specs.Prelude.{◌≡◌, ◌<◌, ◌≤◌, false, length, OnOk};
+ghost use Rattle.std.specs.Prelude.{◌≡◌, ◌<◌, ◌≤◌, false, length, OnOk, IfOk};
 ghost use Rattle.jc_heap.specs.Heap.{IsObject, facts};
 ghost use Rattle.jc_frames.specs.Cells.{taken};
 ghost use Rattle.jc_frames.specs.Frames.{with_stack};
-ghost use Rattle.jc_interp_values.specs.Values.{value_on, value_at, keepable};
+ghost use Rattle.jc_memory.specs.Cells.{word_of};
+ghost use Rattle.jc_interp_values.specs.Values.{IsOf, value_on, value_at, keepable};
 
 use jc_frames::{Cell, CodeFault, Frames, Stop};
 use jc_linker::linked::Linked;
@@ -17,6 +18,7 @@ use jc_world::objects::allow_store;
 pub fn pop_value(of_type: ValueType, frames: &mut Frames) -> Result<CellValue, CodeFault>
     ensures others { frames.new ≡ with_stack frames.old frames.new.current.stack }
     ensures taken { value_on of_type frames.old.current.stack ≡ taken result frames.new.current.stack }
+    ensures typed { IfOk result (IsOf of_type) }
 {
     match of_type {
         ValueType::Reference => Ok(CellValue::Reference(frames.pop_reference()?)),
@@ -57,5 +59,15 @@ pub fn keepable<S: WordStore>(
             allow_store(reference, memory, linked)?;
             Ok(CellValue::Reference(reference))
         }
+    }
+}
+
+/// A value as a word: a number modulo 2^16, or a reference.
+pub fn word_of(value: CellValue) -> u16
+    ensures { result ≡ word_of value }
+{
+    match value {
+        CellValue::Short(number) => number.cast_unsigned(),
+        CellValue::Reference(reference) => reference.address(),
     }
 }

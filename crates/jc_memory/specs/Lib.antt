@@ -1,4 +1,5 @@
 pub mod Owners
+pub mod Power
 pub mod State
 pub mod Doing
 pub mod Reading
@@ -7,3 +8,4 @@ pub mod Cells
 pub mod Making
 pub mod Changing
 pub mod Dead
+pub mod Marks

@@ -7,7 +7,9 @@ mod cells;
 mod flags;
 mod law;
 mod making;
+mod marks;
 mod memory;
+mod power;
 mod registers;
 mod sent;
 mod transaction;
@@ -17,7 +19,9 @@ pub use law::{
     losses_fall_before_a_move, new_references_are_apart, what_holds_of_each_holds,
 };
 pub use making::NewObject;
+pub use marks::Marks;
 pub use memory::{FIXED_OBJECTS, MOST_COMMAND, MOST_SENT, Memory};
+pub use power::Volatile;
 pub use registers::{
     ApduPhase, ApduState, AppletNumber, Depth, Installation, Owner, PackageNumber, Registers,
 };

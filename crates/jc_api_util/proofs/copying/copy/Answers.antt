@@ -1,5 +1,5 @@
 use Rattle.std.proofs.Common.{◌<◌, length, arith, ap, sym, ◌∙◌}
-use Rattle.jc_api_util.specs.Util.{bytes_in}
+use Rattle.jc_api_arguments.specs.Arrays.{bytes_in}
 use Rattle.jc_api_util.proofs.Runs.{refused, length-bytes_in}
 use Rattle.jc_api_util.proofs.copying.copy.Goals as goal
 

@@ -1,0 +1,4 @@
+pub mod Fit
+pub mod Statics
+pub mod Records
+pub mod Linkings

@@ -1,0 +1,4 @@
+pub mod Told
+pub mod Prepared
+pub mod Material
+pub mod Reading

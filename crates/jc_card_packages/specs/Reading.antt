@@ -1,0 +1,53 @@
+-- Packages as the records of a heap have them.
+use Rattle.std.specs.Prelude.{ℕ, ◌/◌, ◌%◌, List, [], ◌∷◌, drop, map, Option, Some, None, Result, Ok, Err}
+use Rattle.std.specs.Option.{option_and_then, option_map}
+use Rattle.jc_cap_fields.specs.declared.formats.Format.TheVariants.{V2_1}
+use Rattle.jc_cap.specs.declared.texts.Load.{Load}
+use Rattle.jc_heap.specs.declared.component.Span.{Span}
+use Rattle.jc_heap.specs.Components.{info_of, record_of}
+use Rattle.jc_heap.specs.Heap.{HeapState}
+use Rattle.jc_heap.specs.Image.{unpacked}
+use Rattle.jc_packages.specs.Values.{Packages}
+use Rattle.jc_platform.specs.Tokens.{Tokens}
+use Rattle.jc_linker.specs.Linking.{with_package}
+use Rattle.jc_card_packages.specs.declared.refusal.Refusal.{Refusal}
+use Rattle.jc_card_packages.specs.Prepared.{PreparedPackage, prepared}
+
+-- the bytes of a component whose info stands there in a record, with its tag and its size in front
+abbrev pub text_at : ℕ → List ℕ → Span → List ℕ
+text_at tag words span = tag ∷ span.size / 256 ∷ span.size % 256 ∷ unpacked span.size (drop span.at words)
+
+-- the bytes of a record's component with this tag, if there is one
+abbrev pub text_in : List ℕ → ℕ → Option (List ℕ)
+text_in words tag = option_map (text_at tag words) (info_of words tag)
+
+-- the components of a record
+abbrev pub load_of : List ℕ → Load
+load_of words = record {
+  format = V2_1;
+  header = text_in words 1;
+  directory = text_in words 2;
+  applets = text_in words 3;
+  imports = text_in words 4;
+  pool = text_in words 5;
+  classes = text_in words 6;
+  methods = text_in words 7;
+  statics = text_in words 8;
+  exports = text_in words 10;
+  reference_location = None;
+  descriptor = None;
+}
+
+-- the packages with the one that was prepared, if it was
+abbrev pub with_prepared : Packages → Result PreparedPackage Refusal → Option Packages
+with_prepared p (Err refusal) = None
+with_prepared p (Ok q) = Some (with_package p q.linked)
+
+-- with the packages of these records behind them, each linked against those before it; none, where one does not link
+abbrev pub with_records : Packages → List (List ℕ) → Option Packages
+with_records p [] = Some p
+with_records p (words ∷ more) = option_and_then (λ q. with_records q more) (with_prepared p (prepared p (load_of words)))
+
+-- the packages of a heap, behind those of a platform
+unfoldable pub packages_of : Tokens → HeapState → Option Packages
+packages_of t h = with_records (record { platform = t; loaded = [] }) (map (record_of h) h.packages)

@@ -1,0 +1,179 @@
+//! Packages read from the records of a heap.
+ghost use Rattle.std.specs.Prelude.{◌≡◌, ◌<◌, ◌++◌, [], ◌∷◌, false, length, slice_index, IfOk, OnOk, Some, None, Err, Result};
+ghost use Rattle.jc_heap.specs.Whole.{IsWhole};
+ghost use Rattle.jc_heap.specs.Components.{record_of, IsWithin};
+ghost use Rattle.jc_card_packages.specs.Reading.{load_of, packages_of, text_at, text_in, with_prepared};
+ghost use Rattle.jc_card_packages.specs.Prepared.{PreparedPackage, prepared, IsRefusal};
+
+use crate::prepare::prepare;
+use crate::refusal::Refusal;
+use jc_cap::texts::{Load, Text};
+use jc_cap_fields::formats::Format;
+use jc_heap::{Heap, Span};
+use jc_linker::fault::LinkFault;
+use jc_linker::linked::Linked;
+use jc_platform::platform::Platform;
+use jc_transient::Ref;
+use jc_words::WordStore;
+use std::alloc::{AllocError, Global};
+
+/// Why packages are not read.
+#[derive(Clone, Copy, Debug, PartialEq, Eq)]
+pub enum ReadFault {
+    /// A record holds no package that links.
+    Damaged,
+    /// Memory was refused.
+    NoMemory,
+}
+
+fn push_byte(bytes: &mut Vec<u8>, byte: u8) -> Result<(), AllocError>
+    ensures { OnOk result (bytes.new.items ≡ bytes.old.items ++ byte ∷ []) }
+{
+    bytes.push(byte)?;
+    Ok(())
+}
+
+// The bytes of a component whose info stands there, with its tag and its size in front.
+#[tactic(auto, unfolding(jc_heap::specs::Image::unpacked))]
+fn read_text<S: WordStore>(
+    alloc: Global,
+    heap: &Heap<S>,
+    at: Ref,
+    tag: u8,
+    span: Span,
+) -> Result<Text, AllocError>
+    requires up { heap.now.down ≡ false }
+    requires within { IsWithin span (record_of heap.now.now at) }
+    ensures { IfOk result (λ text. text ≡ text_at tag (record_of heap.now.now at) span) }
+{
+    let mut bytes = Vec::new(alloc);
+    push_byte(&mut bytes, tag)?;
+    push_byte(&mut bytes, (span.size / 256) as u8)?;
+    push_byte(&mut bytes, (span.size % 256) as u8)?;
+    for i in 0..span.size {
+        push_byte(&mut bytes, heap.info_byte(at, span, i))?;
+    }
+    Ok(Text::new(bytes))
+}
+
+// The bytes of a record's component with this tag, if there is one.
+fn text_in<S: WordStore>(
+    alloc: Global,
+    heap: &Heap<S>,
+    at: Ref,
+    tag: u8,
+) -> Result<Option<Text>, AllocError>
+    requires up { heap.now.down ≡ false }
+    requires there { 0 < length (record_of heap.now.now at) }
+    requires tag { 0 < tag }
+    ensures { IfOk result (λ text. text ≡ text_in (record_of heap.now.now at) tag) }
+{
+    match heap.component(at, tag) {
+        Some(span) => {
+            let text = read_text(alloc, heap, at, tag, span)?;
+            Ok(Some(text))
+        }
+        None => Ok(None),
+    }
+}
+
+// The components of a record.
+fn load_of<S: WordStore>(alloc: Global, heap: &Heap<S>, at: Ref) -> Result<Load, AllocError>
+    requires up { heap.now.down ≡ false }
+    requires there { 0 < length (record_of heap.now.now at) }
+    ensures { IfOk result (λ load. load ≡ load_of (record_of heap.now.now at)) }
+{
+    let header = text_in(alloc, heap, at, 1)?;
+    let directory = text_in(alloc, heap, at, 2)?;
+    let applets = text_in(alloc, heap, at, 3)?;
+    let imports = text_in(alloc, heap, at, 4)?;
+    let pool = text_in(alloc, heap, at, 5)?;
+    let classes = text_in(alloc, heap, at, 6)?;
+    let methods = text_in(alloc, heap, at, 7)?;
+    let statics = text_in(alloc, heap, at, 8)?;
+    let exports = text_in(alloc, heap, at, 10)?;
+    Ok(Load {
+        format: Format::V2_1,
+        header,
+        directory,
+        applets,
+        imports,
+        pool,
+        classes,
+        methods,
+        statics,
+        exports,
+        reference_location: None,
+        descriptor: None,
+    })
+}
+
+// Why a package that was refused is not read: it is damaged, if it is not that memory was refused.
+fn fault_of(refusal: Refusal) -> ReadFault
+    ensures { result ≡ ReadFault.Damaged → (said : Result PreparedPackage Refusal) → IsRefusal refusal said → said ≡ Err refusal }
+{
+    match refusal {
+        Refusal::Unlinked(LinkFault::NoMemory) => ReadFault::NoMemory,
+        _ => ReadFault::Damaged,
+    }
+}
+
+// Links the package of a record, and adds it.
+fn add_record<S: WordStore>(
+    alloc: Global,
+    linked: &mut Linked,
+    heap: &Heap<S>,
+    at: Ref,
+) -> Result<(), ReadFault>
+    requires up { heap.now.down ≡ false }
+    requires there { 0 < length (record_of heap.now.now at) }
+    ensures added { OnOk result (with_prepared linked.old (prepared linked.old (load_of (record_of heap.now.now at))) ≡ Some linked.new) }
+    ensures damaged { result ≡ Err ReadFault.Damaged → with_prepared linked.old (prepared linked.old (load_of (record_of heap.now.now at))) ≡ None }
+{
+    let Ok(load) = load_of(alloc, heap, at) else {
+        return Err(ReadFault::NoMemory);
+    };
+    match prepare(alloc, linked, load) {
+        Ok(prepared) => {
+            linked.add(prepared.addition);
+            Ok(())
+        }
+        Err(refusal) => Err(fault_of(refusal)),
+    }
+}
+
+/// The packages of a heap, linked, behind those of the platform.
+#[tactic(auto, unfolding(crate::specs::Reading::packages_of))]
+pub fn read_packages<S: WordStore>(
+    alloc: Global,
+    platform: Platform,
+    heap: &Heap<S>,
+) -> Result<Linked, ReadFault>
+    requires up { heap.now.down ≡ false }
+    requires whole { IsWhole heap.now.now }
+    ensures linked { IfOk result (λ linked. packages_of platform heap.now.now ≡ Some linked) }
+    ensures damaged { result ≡ Err ReadFault.Damaged → packages_of platform heap.now.now ≡ None }
+{
+    let Ok(mut linked) = Linked::new(alloc, platform) else {
+        return Err(ReadFault::NoMemory);
+    };
+    for k in 0..heap.packages() {
+        let at = record_at(heap, k);
+        add_record(alloc, &mut linked, heap, at)?;
+    }
+    Ok(linked)
+}
+
+// Where the record of a package stands, in a whole heap.
+fn record_at<S: WordStore>(heap: &Heap<S>, k: u16) -> Ref
+    requires up { heap.now.down ≡ false }
+    requires whole { IsWhole heap.now.now }
+    requires below { k < length heap.now.now.packages }
+    ensures place { result ≡ slice_index heap.now.now.packages k }
+    ensures there { 0 < length (record_of heap.now.now result) }
+{
+    match heap.package(k) {
+        Some(at) => at,
+        None => unreachable!(),
+    }
+}

@@ -1,0 +1,98 @@
+//! The store of a memory, and what of a memory is not kept in it.
+ghost use Rattle.std.specs.Prelude.{◌≡◌, false, length};
+ghost use Rattle.jc_commit.specs.Image.{count_of, recovered_of, IsGoodLog};
+ghost use Rattle.jc_heap.specs.Heap.{heap_of, resting};
+ghost use Rattle.jc_heap.specs.Image.{IsLaid};
+ghost use Rattle.jc_heap.specs.Whole.{IsWhole};
+ghost use Rattle.jc_memory.specs.Power.{resumed, volatile_of};
+
+use crate::marks::Marks;
+use crate::memory::{FIXED_OBJECTS, MOST_COMMAND, MOST_SENT, Memory};
+use crate::registers::Registers;
+use arrayvec::ArrayVec;
+use jc_heap::Heap;
+use jc_transient::{Ram, Ref};
+use jc_words::WordStore;
+use std::marker::Model;
+
+/// What of a memory is not kept in its store: a loss of power takes it.
+#[derive(Drop)]
+pub struct Volatile {
+    ram: Ram,
+    fixed: [Ref; FIXED_OBJECTS],
+    marks: Marks,
+    registers: Registers,
+    command: ArrayVec<u8, MOST_COMMAND>,
+    sent: ArrayVec<u8, MOST_SENT>,
+}
+
+impl Model for Volatile {
+    ghost use Rattle.jc_transient.specs.State.{HasSizes};
+    ghost use Rattle.jc_memory.specs.Power.{VolatileState};
+
+    ghost Value = { VolatileState };
+
+    ghost view = { λ m. record { ram = m.ram; fixed = m.fixed; registers = m.registers; command = m.command.items; sent = m.sent.items } };
+
+    ghost invariant = { λ m. HasSizes m.ram };
+}
+
+impl<S: WordStore> Memory<S> {
+    /// The store, and what is not kept in it.
+    pub fn into_store(self) -> (S, Volatile)
+        ensures good { IsGoodLog (S.words result.0) }
+        ensures durable { heap_of (recovered_of (S.words result.0)) ≡ self.heap.durable }
+        ensures laid { IsLaid (recovered_of (S.words result.0)) }
+        ensures size { length (S.words result.0) ≡ self.heap.size }
+        ensures down { S.down result.0 ≡ self.heap.down }
+        ensures passed { S.passed result.0 ≡ self.heap.passed }
+        ensures refused { S.refused result.0 ≡ self.heap.refused }
+        ensures closed { self.heap.down ≡ false → self.heap.begun ≡ false → count_of (S.words result.0) ≡ 0 }
+        ensures whole { self.heap.down ≡ false → IsWhole self.heap.durable }
+        ensures volatile { result.1 ≡ volatile_of self }
+    {
+        let Memory {
+            heap,
+            ram,
+            fixed,
+            marks,
+            registers,
+            command,
+            sent,
+        } = self;
+        let volatile = Volatile {
+            ram,
+            fixed,
+            marks,
+            registers,
+            command,
+            sent,
+        };
+        (heap.into_store(), volatile)
+    }
+
+    /// The memory of a store and of what was not kept in it, as `into_store` gives them while no transaction is open.
+    /// Nothing is read or written.
+    pub fn resume(store: S, volatile: Volatile) -> Memory<S>
+        requires up { S.down store ≡ false }
+        requires good { IsGoodLog (S.words store) }
+        requires closed { count_of (S.words store) ≡ 0 }
+        requires laid { IsLaid (recovered_of (S.words store)) }
+        requires whole { IsWhole (heap_of (recovered_of (S.words store))) }
+        ensures { result ≡ resumed (resting (heap_of (recovered_of (S.words store))) (S.passed store) (S.refused store) (length (S.words store))) volatile }
+    {
+        let Volatile {
+            ram,
+            fixed,
+            marks,
+            registers,
+            command,
+            sent,
+        } = volatile;
+        let mut memory = Memory::new(Heap::resume(store), ram, fixed, marks);
+        memory.registers = registers;
+        memory.command = command;
+        memory.sent = sent;
+        memory
+    }
+}
