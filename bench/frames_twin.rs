@@ -28,6 +28,7 @@ enum CallKind {
 struct Resume {
     active: u16,
     previous: u16,
+    place: u16,
     call: CallKind,
 }
 
@@ -158,7 +159,7 @@ const ITSELF: Entry = Entry {
     limit: 3,
     place: 2,
     origin: METHOD,
-    resume: Resume { active: 1, previous: 0, call: CallKind::Plain },
+    resume: Resume { active: 1, previous: 0, place: 0, call: CallKind::Plain },
 };
 
 #[inline(never)]

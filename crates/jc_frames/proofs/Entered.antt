@@ -29,7 +29,7 @@ in_two q ys = ap reverse (sym (take-append-drop q ys)) ∙ reverse-append (take 
 top_length : (q n : ℕ) (ys : List Cell) → length ys ≡ q + n → length (reverse (drop q ys)) ≡ n
 top_length q n ys h = omega (arith, length-reverse (drop q ys), length-drop q ys)
 
-top_cells : (q n : ℕ) (ys : List Cell) → length ys ≡ q + n → reverse (take n (reverse ys)) ≡ drop q ys
+pub top_cells : (q n : ℕ) (ys : List Cell) → length ys ≡ q + n → reverse (take n (reverse ys)) ≡ drop q ys
 top_cells q n ys h =
     ap reverse (ap (take n) (in_two q ys) ∙ take_front (reverse (drop q ys)) (reverse (take q ys)) n (top_length q n ys h)) ∙ reverse-reverse (drop q ys)
 
@@ -63,7 +63,7 @@ current_is xs bottom n q b t l k m place origin long low high top =
     (ap reverse (drop_all t (xs ++ zeros k) all))
     limit
 
-caller_is : (xs : List Cell) (r : Region) (n q b : ℕ) → r.base ≤ r.bottom → length xs ≡ r.bottom + (q + n) → b ≡ r.bottom + q →
+pub caller_is : (xs : List Cell) (r : Region) (n q b : ℕ) → r.base ≤ r.bottom → length xs ≡ r.bottom + (q + n) → b ≡ r.bottom + q →
     frame_in (take b xs) r ≡ framed (drop r.base (take r.bottom xs)) (drop n (reverse (drop r.bottom xs))) r
 caller_is xs r n q b low long is =
     let below : r.bottom ≤ b = omega arith in
@@ -126,7 +126,7 @@ decided : (e : Entry) (s : Frames) (a b c : Bool) → nat_le e.arguments (length
     entered e s ≡ (if a then (if b && c then Goes (called e s) else Ends Fault) else Ends Fault)
 decided e s a b c f g h = rw (← f, ← g, ← h) refl
 
-is_le : (m n : ℕ) → m ≤ n → nat_le m n ≡ true
+pub is_le : (m n : ℕ) → m ≤ n → nat_le m n ≡ true
 is_le m n h = grind (arith, nat_tests)
 
 is_more : (m n : ℕ) → n < m → nat_le m n ≡ false

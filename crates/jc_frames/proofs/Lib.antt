@@ -2,3 +2,4 @@ pub mod Stores
 pub mod Orders
 pub mod Entered
 pub mod Buried
+pub mod Arguments

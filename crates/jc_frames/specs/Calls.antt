@@ -37,6 +37,10 @@ called e s = record {
   callers = record { frame = record s.current { stack = drop e.arguments s.current.stack }; resume = e.resume } ∷ s.callers;
 }
 
+-- the arguments of a call that has so many; none where they are not there
+abbrev pub arguments_on : ℕ → List Cell → Option (List Cell)
+arguments_on n stack = if nat_le n (length stack) then Some (reverse (take n stack)) else None
+
 -- a call, or a code fault where the arguments are not there, or frames or cells are too many
 abbrev pub entered : Entry → Frames → Next Frames
 entered e s = if nat_le e.arguments (length s.current.stack) then within_limits (called e s) else Ends Fault

@@ -1,6 +1,6 @@
 -- Frames: the locals and the operand stack of a method (virtual machine specification, frames), and the
 -- frames of its callers.
-use Rattle.std.specs.Prelude.{◌+◌, ◌&&◌, nat_lt, nat_le, if◌then◌else◌, length, slice_set, take, drop, ℕ, List, [], ◌∷◌, ◌++◌, Option, Some, None, Result, Ok, Err}
+use Rattle.std.specs.Prelude.{◌+◌, ◌&&◌, Bool, nat_lt, nat_le, if◌then◌else◌, length, slice_set, take, drop, ℕ, List, [], ◌∷◌, ◌++◌, Option, Some, None, Result, Ok, Err}
 use Rattle.jc_frames.specs.declared.cell.Cell.{Cell}
 use Rattle.jc_frames.specs.declared.method.Origin.{Origin}
 use Rattle.jc_frames.specs.declared.method.Resume.{Resume}
@@ -46,6 +46,10 @@ if_some (Some a) go = go a
 -- an exception is thrown: the stack is lost
 abbrev pub raised : Exception → Frame → Next Frame
 raised e s = Throws e (record s { stack = [] })
+
+-- the stack has room for one more cell
+abbrev pub has_room : Frame → Bool
+has_room s = nat_lt (length s.stack) s.limit
 
 -- a cell put on top, where there is room
 abbrev pub pushed : Cell → Frame → Next Frame

@@ -28,6 +28,8 @@ pub struct Resume {
     pub active: u16,
     /// The number of the owner that was active before the last switch, as it was then.
     pub previous: u16,
+    /// Where the instruction stands that called.
+    pub place: u16,
     /// Who called.
     pub call: CallKind,
 }

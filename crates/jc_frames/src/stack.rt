@@ -1,8 +1,9 @@
 //! The stack of the frame that runs.
-ghost use Rattle.std.specs.Prelude.{IsTrue, ◌≡◌, ◌+◌, ◌<◌, ◌≤◌, [], ◌∷◌, ◌++◌, length, slice_get, OnOk, OnErr, IfOk};
+ghost use Rattle.std.specs.Prelude.{IsTrue, ◌≡◌, ◌+◌, ◌<◌, ◌≤◌, [], ◌∷◌, ◌++◌, drop, length, option_copied, slice_get, OnOk, OnErr, IfOk};
 ghost use Rattle.jc_opcodes.specs.Table.{can_duplicate_below, can_swap};
 ghost use Rattle.jc_frames.specs.Cells.{cell_on, short_on, two_shorts_on, reference_on, storable_on, taken, taken_two};
-ghost use Rattle.jc_frames.specs.Frames.{in_frame, with_stack, unless_fault, pushed, copied, exchanged};
+ghost use Rattle.jc_frames.specs.Calls.{arguments_on};
+ghost use Rattle.jc_frames.specs.Frames.{in_frame, with_stack, unless_fault, has_room, pushed, copied, exchanged};
 
 use crate::cell::Cell;
 use crate::frames::Frames;
@@ -95,6 +96,36 @@ impl Frames {
         } else {
             None
         }
+    }
+
+    /// The arguments of a call that has so many, the last of which is on top; `None` where they are not
+    /// there.
+    pub fn arguments(&self, count: u8) -> Option<&[Cell]>
+        ensures { option_copied result ≡ arguments_on count self.entry.now.current.stack }
+    {
+        let length = self.cells.len();
+        let count = usize::from(count);
+        if length - self.current.bottom < count {
+            return None;
+        }
+        Some(&self.cells.as_slice()[length - count..])
+    }
+
+    /// Takes so many cells from the top.
+    pub fn discard(&mut self, count: u8)
+        requires { count ≤ length self.old.current.stack }
+        ensures { self.new ≡ with_stack self.old (drop count self.old.current.stack) }
+    {
+        let length = self.cells.len();
+        self.cells.truncate(length - usize::from(count));
+    }
+
+    /// Whether there is room for one more cell.
+    #[inline]
+    pub fn has_room(&self) -> bool
+        ensures { result ≡ has_room self.now.current }
+    {
+        self.cells.len() < self.current.ceiling
     }
 
     /// Puts a cell on top of a stack with room.

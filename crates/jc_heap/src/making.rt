@@ -1,6 +1,6 @@
 //! New objects.
-ghost use Rattle.std.specs.Prelude.{IsTrue, ◌≡◌, ◌<◌, ◌≤◌, [], ◌∷◌, true, false, Ok, Err, length, OnOk, OnErr, IfOk, Some, replicate, ◌+◌, ◌↔◌};
-ghost use Rattle.jc_heap.specs.Object.{new_object, new_transient, header_word};
+ghost use Rattle.std.specs.Prelude.{IsTrue, nat_le, ◌≡◌, ◌<◌, ◌≤◌, [], ◌∷◌, true, false, Ok, Err, length, OnOk, OnErr, IfOk, Some, replicate, ◌+◌, ◌↔◌};
+ghost use Rattle.jc_heap.specs.Object.{new_object, object_size, new_transient, header_word};
 ghost use Rattle.jc_heap.specs.Heap.{changed, add_object, end_address, IsStopped, has_room_for, LacksSpace, names, IsObject, cells, facts, add_transient, area_end, area_end_address, LacksCells};
 ghost use Rattle.jc_heap.specs.Moves.{AddTransient, MakesUnless, after_making, new_move, no_new, no_transient};
 
@@ -14,6 +14,15 @@ use jc_words::WordStore;
 use jc_words::layout::TOP;
 
 impl<S: WordStore> Heap<S> {
+    /// Whether there is space for a persistent object with so many cells.
+    pub fn has_space(&self, length: u16) -> bool
+        requires { self.now.down ≡ false }
+        ensures { result ≡ nat_le (self.now.now.top + object_size length) self.now.size }
+    {
+        let size = u32::from(HEADER) + u32::from(length);
+        u32::from(self.top()) + size <= u32::from(self.size)
+    }
+
     /// Makes a persistent object whose cells are zero.
     pub fn new_persistent(
         &mut self,

@@ -1,5 +1,5 @@
 -- Static images: the bytes of a package's static fields, two in a word of its record, the high one first.
-use Rattle.std.specs.Prelude.{ℕ, ◌+◌, ◌-◌, ◌*◌, ◌/◌, ◌%◌, ◌==◌, ◌≡◌, ◌<◌, nat_lt, List, [], ◌∷◌, length, slice_get, slice_index, Option, Some, None, if◌then◌else◌}
+use Rattle.std.specs.Prelude.{ℕ, ◌+◌, ◌-◌, ◌*◌, ◌/◌, ◌%◌, ◌==◌, nat_lt, length, slice_get, slice_index, Option, Some, None, if◌then◌else◌}
 use Rattle.std.specs.Option.{option_map, option_and_then}
 use Rattle.jc_heap.specs.declared.place.Place.{Place}
 use Rattle.jc_heap.specs.declared.place.Place.TheVariants.{Static}
@@ -25,6 +25,10 @@ word_in h number r = option_and_then (word_behind h r number) (statics_of (recor
 -- the word of a package's static image with this number, from 0; none, where there is none
 unfoldable pub image_word : HeapState → ℕ → ℕ → Option ImageWord
 image_word h package_number number = option_and_then (word_in h number) (record_at h package_number)
+
+-- the word behind it; none past the image's end
+abbrev pub next_word : HeapState → ImageWord → Option ImageWord
+next_word h w = if nat_lt (w.offset + 1) (length (record_of h w.owner)) then Some (record { owner = w.owner; offset = w.offset + 1 }) else None
 
 -- what it holds
 abbrev pub held : HeapState → ImageWord → ℕ

@@ -1,10 +1,10 @@
 //! Static images: where their words stand, and what these hold.
-ghost use Rattle.std.specs.Prelude.{◌≡◌, ◌<◌, false, length, IfSome};
+ghost use Rattle.std.specs.Prelude.{◌≡◌, ◌<◌, ◌≤◌, false, length, IfSome};
 ghost use Rattle.jc_heap.specs.Components.{record_of};
 ghost use Rattle.jc_heap.specs.Heap.{names};
-ghost use Rattle.jc_interp_fields.specs.Images.{record_at, image_word, held, byte_of, with_byte, image_byte, image_pair, IsThere};
+ghost use Rattle.jc_interp_fields.specs.Images.{record_at, image_word, next_word, place_of, held, byte_of, with_byte, image_byte, image_pair, IsThere};
 
-use jc_heap::Heap;
+use jc_heap::{Heap, Place};
 use jc_transient::Ref;
 use jc_words::WordStore;
 
@@ -36,7 +36,11 @@ fn record_at<S: WordStore>(heap: &Heap<S>, number: u8) -> Option<Ref>
 
 /// The word of a package's static image with this number, from 0.
 #[tactic(auto, unfolding(crate::specs::Images::image_word))]
-pub(crate) fn image_word<S: WordStore>(heap: &Heap<S>, package_number: u8, number: u16) -> Option<ImageWord>
+pub(crate) fn image_word<S: WordStore>(
+    heap: &Heap<S>,
+    package_number: u8,
+    number: u16,
+) -> Option<ImageWord>
     requires { heap.now.down ≡ false }
     ensures exact { result ≡ image_word heap.now.now package_number number }
     ensures there { IfSome result (IsThere heap.now.now) }
@@ -52,16 +56,40 @@ pub(crate) fn image_word<S: WordStore>(heap: &Heap<S>, package_number: u8, numbe
 }
 
 /// What it holds.
-pub(crate) fn held<S: WordStore>(heap: &Heap<S>, word: ImageWord) -> u16
+pub(crate) fn held<S: WordStore>(heap: &Heap<S>, word: &ImageWord) -> u16
     requires up { heap.now.down ≡ false }
-    requires there { IsThere heap.now.now word }
-    ensures { result ≡ held heap.now.now word }
+    requires there { IsThere heap.now.now word.now }
+    ensures { result ≡ held heap.now.now word.now }
 {
     heap.record_word(word.owner, word.offset)
 }
 
+/// The word behind it; none past the image's end.
+#[tactic(auto, using(crate::proofs::Behind::is_static_behind))]
+pub(crate) fn next_word<S: WordStore>(heap: &Heap<S>, word: &ImageWord) -> Option<ImageWord>
+    requires up { heap.now.down ≡ false }
+    requires there { IsThere heap.now.now word.now }
+    ensures exact { result ≡ next_word heap.now.now word.now }
+    ensures there { IfSome result (IsThere heap.now.now) }
+{
+    let owner = word.owner;
+    let length = heap.record_length(owner);
+    if u32::from(word.offset) + 1 >= u32::from(length) {
+        return None;
+    }
+    let offset = word.offset + 1;
+    Some(ImageWord { owner, offset })
+}
+
+/// Its place.
+pub(crate) fn place_of(word: &ImageWord) -> Place
+    ensures { result ≡ place_of word.now }
+{
+    Place::Static(word.owner, word.offset)
+}
+
 // A byte of a word: the high one at an even offset.
-fn byte_of(word: u16, offset: u16) -> u8
+fn byte_of(word: u16, offset: u32) -> u8
     ensures { result ≡ byte_of word offset }
 {
     if offset % 2 == 0 {
@@ -72,7 +100,7 @@ fn byte_of(word: u16, offset: u16) -> u8
 }
 
 /// A word with another byte there.
-pub(crate) fn with_byte(word: u16, offset: u16, byte: u8) -> u16
+pub(crate) fn with_byte(word: u16, offset: u32, byte: u8) -> u16
     ensures { result ≡ with_byte word offset byte }
 {
     if offset % 2 == 0 {
@@ -84,22 +112,30 @@ pub(crate) fn with_byte(word: u16, offset: u16, byte: u8) -> u16
 
 /// The byte at an offset of a package's static image.
 #[tactic(auto, unfolding(crate::specs::Images::image_byte))]
-pub(crate) fn image_byte<S: WordStore>(heap: &Heap<S>, package_number: u8, offset: u16) -> Option<u8>
-    requires { heap.now.down ≡ false }
+pub(crate) fn image_byte<S: WordStore>(
+    heap: &Heap<S>,
+    package_number: u8,
+    offset: u32,
+) -> Option<u8>
+    requires up { heap.now.down ≡ false }
+    requires offset { offset ≤ 65536 }
     ensures { result ≡ image_byte heap.now.now package_number offset }
 {
-    let word = image_word(heap, package_number, offset / 2)?;
-    Some(byte_of(held(heap, word), offset))
+    let word = image_word(heap, package_number, (offset / 2) as u16)?;
+    Some(byte_of(held(heap, &word), offset))
 }
 
 /// The word whose two bytes stand from an offset on.
 #[tactic(auto, unfolding(crate::specs::Images::image_pair))]
-pub(crate) fn image_pair<S: WordStore>(heap: &Heap<S>, package_number: u8, offset: u16) -> Option<u16>
-    requires up { heap.now.down ≡ false }
-    requires next { offset < 65535 }
+pub(crate) fn image_pair<S: WordStore>(
+    heap: &Heap<S>,
+    package_number: u8,
+    offset: u16,
+) -> Option<u16>
+    requires { heap.now.down ≡ false }
     ensures { result ≡ image_pair heap.now.now package_number offset }
 {
-    let high = image_byte(heap, package_number, offset)?;
-    let low = image_byte(heap, package_number, offset + 1)?;
+    let high = image_byte(heap, package_number, u32::from(offset))?;
+    let low = image_byte(heap, package_number, u32::from(offset) + 1)?;
     Some(u16::from(high) * 256 + u16::from(low))
 }

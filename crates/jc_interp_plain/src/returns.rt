@@ -24,9 +24,10 @@ pub fn leave(how: Return, frames: &mut Frames) -> Result<(), Stop>
     }
 }
 
-// What the method hands to its caller.
+/// What the method that runs hands to its caller: the value on top, if the instruction has one. A code fault
+/// where a value of its kind is not there.
 #[inline(always)]
-fn hand_over(how: Return, frames: &mut Frames) -> Result<Option<Cell>, CodeFault>
+pub fn hand_over(how: Return, frames: &mut Frames) -> Result<Option<Cell>, CodeFault>
     ensures value { found result ≡ handed how frames.old.current.stack }
     ensures others { frames.new ≡ with_stack frames.old frames.new.current.stack }
 {

@@ -3,6 +3,7 @@ ghost use Rattle.std.specs.Prelude.{◌≡◌, ◌<◌, ◌≤◌, ◌++◌, [],
 ghost use Rattle.jc_packages.specs.Classes.{is_below, is_class, is_made, is_shareable, package_in, reference_cell, size_of, superclass_in};
 ghost use Rattle.jc_linker.specs.Linking.{with_package};
 ghost use Rattle.jc_packages.specs.Methods.{interface_method_at, method_at};
+ghost use Rattle.jc_packages.specs.Resolves.{names_interface};
 
 use crate::package::LinkedPackage;
 use crate::scope::Scope;
@@ -83,6 +84,14 @@ impl Linked {
         self.loaded.len()
     }
 
+    /// The number of the package that was loaded last; 0 where none was.
+    pub fn last(&self) -> u8
+        ensures number { result ≡ length self.now.loaded }
+        ensures few { result ≤ 32 }
+    {
+        self.loaded.len() as u8
+    }
+
     #[tactic(auto, unfolding(jc_packages::specs::Classes::package_in))]
     pub(crate) fn package(&self, number: u8) -> Option<&LinkedPackage>
         ensures { option_copied result ≡ package_in self.now number }
@@ -136,6 +145,13 @@ impl Linked {
         ensures { result ≡ is_below self.now class of }
     {
         self.scope().is_below(class, of)
+    }
+
+    /// The class is an interface.
+    pub fn names_interface(&self, class: u16) -> bool
+        ensures { result ≡ names_interface self.now class }
+    {
+        self.scope().names_interface(class)
     }
 
     /// An interface that extends `Shareable`, or a class with such an interface.

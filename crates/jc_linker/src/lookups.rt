@@ -1,8 +1,9 @@
 //! What packages hold, by number, index and offset.
-ghost use Rattle.std.specs.Prelude.{◌≡◌, ◌<◌, ◌≤◌, IfSome, length, position};
+ghost use Rattle.std.specs.Prelude.{◌≡◌, ◌<◌, ◌≤◌, IfSome, length, option_copied, position};
+ghost use Rattle.std.specs.Option.{option_map};
 ghost use Rattle.std.specs.Str.{bytes_eq};
 ghost use Rattle.jc_packages.specs.Classes.{package_in};
-ghost use Rattle.jc_packages.specs.Lookups.{code_at, entry_at, found, methods_of, statics_at, target_at};
+ghost use Rattle.jc_packages.specs.Lookups.{applet_entry, code_at, entry_at, entry_with_aid, found, methods_of, statics_at, target_at};
 
 use crate::linked::Linked;
 use jc_packages::target::Target;
@@ -49,6 +50,34 @@ impl Linked {
         ensures { result ≡ entry_at self.now package_number aid.now }
     {
         self.package(package_number)?.install_offset(aid)
+    }
+
+    /// The AID of the entry with this number in a package's Applet component.
+    #[tactic(auto, unfolding(jc_packages::specs::Lookups::applet_entry))]
+    pub fn applet_aid(&self, package_number: u8, entry: u8) -> Option<&[u8]>
+        ensures { option_copied result ≡ option_map (λ a. a.aid) (applet_entry self.entry.now package_number entry) }
+    {
+        let package = self.package(package_number)?;
+        Some(package.applets.get(entry as usize)?.aid.as_slice())
+    }
+
+    /// Where the install method of the entry with this number in a package's Applet component stands.
+    #[tactic(auto, unfolding(jc_packages::specs::Lookups::applet_entry))]
+    pub fn install_at(&self, package_number: u8, entry: u8) -> Option<u16>
+        ensures { result ≡ option_map (λ a. a.install_offset) (applet_entry self.now package_number entry) }
+    {
+        let package = self.package(package_number)?;
+        Some(package.applets.get(entry as usize)?.install_offset)
+    }
+
+    /// The number of the first entry with this AID in a package's Applet component.
+    #[tactic(auto, unfolding(jc_packages::specs::Lookups::entry_with_aid))]
+    pub fn entry_with_aid(&self, package_number: u8, aid: &[u8]) -> Option<u8>
+        ensures { result ≡ entry_with_aid self.now package_number aid.now }
+    {
+        let package = self.package(package_number)?;
+        let entry = package.entry_with_aid(aid)?;
+        if entry < 256 { Some(entry as u8) } else { None }
     }
 
     /// The number of the package with this AID.

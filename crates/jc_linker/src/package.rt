@@ -106,6 +106,15 @@ impl LinkedPackage {
         Some(self.applet(aid)?.install_offset)
     }
 
+    /// The number of the first applet with this AID.
+    pub(crate) fn entry_with_aid(&self, aid: &[u8]) -> Option<usize>
+        ensures { result ≡ position (λ a. bytes_eq a.aid aid.now) self.now.applets }
+    {
+        self.applets
+            .iter()
+            .position(|applet| applet.aid.as_slice() == aid)
+    }
+
     fn applet(&self, aid: &[u8]) -> Option<&Applet>
         ensures { option_copied result ≡ find (λ a. bytes_eq a.aid aid.now) self.now.applets }
     {

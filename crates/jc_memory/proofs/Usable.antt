@@ -19,9 +19,8 @@ use Rattle.jc_heap.specs.declared.refusal.HeapRefusal.TheVariants as making
 use Rattle.jc_heap.specs.Object.{facts_of}
 use Rattle.jc_heap.specs.Heap.{HeapState, HeapView, SameShape, HasEnd, item_at, cells, facts, area_end}
 use Rattle.jc_heap.specs.Whole.{IsReference, IsWhole}
-use Rattle.jc_heap.specs.Moves.{Move, Count, AddTransient, After, Made, Cut, Answer, Done, Refused, Makes, MakesUnless, after_making, after_change, after_step, new_move, no_transient, applet_move}
+use Rattle.jc_heap.specs.Moves.{Move, Count, AddTransient, After, Made, Cut, Answer, Done, Refused, Makes, MakesUnless, apply, after_making, after_change, after_step, new_move, no_transient, applet_move}
 use Rattle.jc_heap.specs.Keeping.{Suits, StandsWhole, AreWhole}
-use Rattle.jc_heap.proofs.KeepingMoves.{keeps}
 use Rattle.jc_heap.proofs.Laws.{item_at-absent, same_facts}
 use Rattle.jc_heap.proofs.OwnCells.{owns_cells}
 use Rattle.jc_memory.specs.State.{MemoryState}
@@ -62,30 +61,31 @@ step_heap : {A E : Type 0} (result : Result A E) (v : HeapView) → heap_of (aft
 step_heap (Ok a) v = refl
 step_heap (Err e) v = refl
 
--- a call of one move that has what it needs, if it is made, leaves a whole heap, unless the store went down
-made_whole : {A : Type 0} (old : HeapView) (after : After A) (m : Move) (a : A) → Makes old after (m ∷ []) a → Suits old m → AreWhole old → (heap_of after).down ≡ false → AreWhole (heap_of after)
-made_whole old (Made x new) m a made suits whole up = subst AreWhole (sym made.1) (keeps m old suits whole)
-made_whole old (Cut new) m a made suits whole up = absurd (not_both new.down made.down up)
+-- what holds of a heap and of it after the one move that a call makes, holds after the call, unless the store went down
+made_so : {A : Type 0} (P : HeapView → Type 0) (old : HeapView) (after : After A) (m : Move) (a : A) → Makes old after (m ∷ []) a → P (apply m old) → (heap_of after).down ≡ false → P (heap_of after)
+made_so P old (Made x new) m a made so up = subst P (sym made.1) so
+made_so P old (Cut new) m a made so up = absurd (not_both new.down made.down up)
 
-refused_whole : {A : Type 0} (old : HeapView) (after : After A) (a : A) → Makes old after [] a → AreWhole old → (heap_of after).down ≡ false → AreWhole (heap_of after)
-refused_whole old (Made x new) a made whole up = subst AreWhole (sym made.1) whole
-refused_whole old (Cut new) a made whole up = absurd (not_both new.down made.down up)
+refused_so : {A : Type 0} (P : HeapView → Type 0) (old : HeapView) (after : After A) (a : A) → Makes old after [] a → P old → (heap_of after).down ≡ false → P (heap_of after)
+refused_so P old (Made x new) a made so up = subst P (sym made.1) so
+refused_so P old (Cut new) a made so up = absurd (not_both new.down made.down up)
 
-unless_whole : {A : Type 0} (reason : Option HeapRefusal) (old : HeapView) (after : After (Answer A)) (m : Move) (a : A) → MakesUnless reason old after (m ∷ []) a → (reason ≡ None → Suits old m) → AreWhole old → (heap_of after).down ≡ false → AreWhole (heap_of after)
-unless_whole None old after m a made suits whole up = made_whole old after m (Done a) made (suits refl) whole up
-unless_whole (Some why) old after m a made suits whole up = refused_whole old after (Refused why) made whole up
+unless_so : {A : Type 0} (P : HeapView → Type 0) (reason : Option HeapRefusal) (old : HeapView) (after : After (Answer A)) (m : Move) (a : A) → MakesUnless reason old after (m ∷ []) a →
+    (reason ≡ None → P (apply m old)) → P old → (heap_of after).down ≡ false → P (heap_of after)
+unless_so P None old after m a made so before up = made_so P old after m (Done a) made (so refl) up
+unless_so P (Some why) old after m a made so before up = refused_so P old after (Refused why) made before up
 
-pub kept_making : {A : Type 0} (reason : Option HeapRefusal) (old new : HeapView) (result : Result A HeapRefusal) (m : Move) (a : A) →
-    MakesUnless reason old (after_making result new) (m ∷ []) a → (reason ≡ None → Suits old m) → AreWhole old → new.down ≡ false → AreWhole new
-kept_making reason old new result m a made suits whole = subst (λ v. v.down ≡ false → AreWhole v) (making_heap result new) (unless_whole reason old (after_making result new) m a made suits whole)
+pub made_by : {A : Type 0} (P : HeapView → Type 0) (reason : Option HeapRefusal) (old new : HeapView) (result : Result A HeapRefusal) (m : Move) (a : A) →
+    MakesUnless reason old (after_making result new) (m ∷ []) a → (reason ≡ None → P (apply m old)) → P old → new.down ≡ false → P new
+made_by P reason old new result m a made so before = subst (λ v. v.down ≡ false → P v) (making_heap result new) (unless_so P reason old (after_making result new) m a made so before)
 
-pub kept_change : {A : Type 0} (reason : Option HeapRefusal) (old new : HeapView) (result : Result A ChangeRefusal) (m : Move) (a : A) →
-    MakesUnless reason old (after_change result new) (m ∷ []) a → (reason ≡ None → Suits old m) → AreWhole old → new.down ≡ false → AreWhole new
-kept_change reason old new result m a made suits whole = subst (λ v. v.down ≡ false → AreWhole v) (change_heap result new) (unless_whole reason old (after_change result new) m a made suits whole)
+pub changed_by : {A : Type 0} (P : HeapView → Type 0) (reason : Option HeapRefusal) (old new : HeapView) (result : Result A ChangeRefusal) (m : Move) (a : A) →
+    MakesUnless reason old (after_change result new) (m ∷ []) a → (reason ≡ None → P (apply m old)) → P old → new.down ≡ false → P new
+changed_by P reason old new result m a made so before = subst (λ v. v.down ≡ false → P v) (change_heap result new) (unless_so P reason old (after_change result new) m a made so before)
 
-pub kept_step : {A E : Type 0} (old new : HeapView) (result : Result A E) (m : Move) (a : A) →
-    Makes old (after_step result new) (m ∷ []) a → Suits old m → AreWhole old → new.down ≡ false → AreWhole new
-kept_step old new result m a made suits whole = subst (λ v. v.down ≡ false → AreWhole v) (step_heap result new) (made_whole old (after_step result new) m a made suits whole)
+pub stepped_by : {A E : Type 0} (P : HeapView → Type 0) (old new : HeapView) (result : Result A E) (m : Move) (a : A) →
+    Makes old (after_step result new) (m ∷ []) a → P (apply m old) → P old → new.down ≡ false → P new
+stepped_by P old new result m a made so before = subst (λ v. v.down ≡ false → P v) (step_heap result new) (made_so P old (after_step result new) m a made so)
 
 -- a new object's cells are zero
 zero_cell : (long i : ℕ) → i < length {A = ℕ} (replicate long 0) → slice_index (replicate long 0) i ≡ 0

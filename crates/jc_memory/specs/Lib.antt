@@ -8,3 +8,4 @@ pub mod Cells
 pub mod Making
 pub mod Changing
 pub mod Dead
+pub mod Marks

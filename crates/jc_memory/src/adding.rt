@@ -26,7 +26,9 @@ impl<S: WordStore> Memory<S> {
         requires image { image_size (initials arrays.now) image.now < 65536 }
         ensures { Makes (package_added self.old (parts components.now) (initials arrays.now) image.now) self.old (after_making result self.new) }
     {
-        self.heap.add_package(components, arrays, image)
+        let package = self.heap.add_package(components, arrays, image)?;
+        self.marks.scan(&self.heap);
+        Ok(package)
     }
 
     /// Registers an applet. The answer is how many there were before it.

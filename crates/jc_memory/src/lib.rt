@@ -7,6 +7,7 @@ mod cells;
 mod flags;
 mod law;
 mod making;
+mod marks;
 mod memory;
 mod power;
 mod registers;
@@ -18,6 +19,7 @@ pub use law::{
     losses_fall_before_a_move, new_references_are_apart, what_holds_of_each_holds,
 };
 pub use making::NewObject;
+pub use marks::Marks;
 pub use memory::{FIXED_OBJECTS, MOST_COMMAND, MOST_SENT, Memory};
 pub use power::Volatile;
 pub use registers::{

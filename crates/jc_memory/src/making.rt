@@ -44,6 +44,7 @@ impl<S: WordStore> Memory<S> {
             .heap
             .new_persistent(object.kind, object.class, owner, object.length)?;
         self.ram.set_flag(r, false);
+        self.marks.mark(r);
         Ok(r)
     }
 
@@ -61,6 +62,7 @@ impl<S: WordStore> Memory<S> {
         let place = self.heap.facts(r).place;
         self.ram.fill(event, place, length, zero_of(kind));
         self.ram.set_flag(r, false);
+        self.marks.mark(r);
         Ok(r)
     }
 

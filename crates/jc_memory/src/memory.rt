@@ -6,6 +6,7 @@ ghost use Rattle.jc_transient.specs.State.{HasSizes};
 ghost use Rattle.jc_memory.specs.Owners.{at_reset};
 ghost use Rattle.jc_memory.specs.Cells.{IsHeaderOf, header_at};
 
+use crate::marks::Marks;
 use crate::registers::Registers;
 use arrayvec::ArrayVec;
 use jc_heap::{Facts, Heap};
@@ -31,6 +32,7 @@ pub struct Memory<S: WordStore> {
     pub(crate) heap: Heap<S>,
     pub(crate) ram: Ram,
     pub(crate) fixed: [Ref; FIXED_OBJECTS],
+    pub(crate) marks: Marks,
     pub(crate) registers: Registers,
     pub(crate) command: ArrayVec<u8, MOST_COMMAND>,
     pub(crate) sent: ArrayVec<u8, MOST_SENT>,
@@ -38,18 +40,19 @@ pub struct Memory<S: WordStore> {
 
 impl<S: WordStore> Model for Memory<S> {
     ghost use Rattle.jc_memory.specs.State.{MemoryState, AreParts};
+    ghost use Rattle.jc_memory.specs.Marks.{AreObjects};
 
     ghost Value = { MemoryState };
 
     ghost view = { λ m. record { heap = m.heap; ram = m.ram; fixed = m.fixed; registers = m.registers; command = m.command.items; sent = m.sent.items } };
 
-    ghost invariant = { λ m. AreParts m.heap m.ram };
+    ghost invariant = { λ m. AreParts m.heap m.ram × AreObjects m.marks m.heap };
 }
 
 impl<S: WordStore> Memory<S> {
     /// A memory over a whole heap at rest, as a reset leaves it; with the objects with which the heap
     /// begins, in their order.
-    pub fn new(heap: Heap<S>, ram: Ram, fixed: [Ref; FIXED_OBJECTS]) -> Memory<S>
+    pub fn new(heap: Heap<S>, ram: Ram, fixed: [Ref; FIXED_OBJECTS], mut marks: Marks) -> Memory<S>
         requires up { heap.down ≡ false }
         requires rests { heap.begun ≡ false }
         requires whole { IsWhole heap.now }
@@ -58,10 +61,12 @@ impl<S: WordStore> Memory<S> {
     {
         // Nothing stands at or above the top, and the durable heap is this one.
         let _ = (heap.top(), heap.is_open());
+        marks.scan(&heap);
         Memory {
             heap,
             ram,
             fixed,
+            marks,
             registers: Registers::at_reset(),
             command: ArrayVec::new(),
             sent: ArrayVec::new(),
@@ -77,6 +82,7 @@ impl<S: WordStore> Memory<S> {
             heap,
             ram,
             fixed: _,
+            marks: _,
             registers: _,
             command: _,
             sent: _,
@@ -105,7 +111,7 @@ impl<S: WordStore> Memory<S> {
         ensures header { result ≡ header_at self.now reference }
         ensures there { IfSome result (λ facts. IsObject self.now.heap.now reference × IsHeaderOf self.now reference facts) }
     {
-        if self.heap.is_object(reference.address()) {
+        if self.marks.has(reference) || self.heap.is_object(reference.address()) {
             Some(self.facts(reference))
         } else {
             None

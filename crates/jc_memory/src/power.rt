@@ -6,6 +6,7 @@ ghost use Rattle.jc_heap.specs.Image.{IsLaid};
 ghost use Rattle.jc_heap.specs.Whole.{IsWhole};
 ghost use Rattle.jc_memory.specs.Power.{resumed, volatile_of};
 
+use crate::marks::Marks;
 use crate::memory::{FIXED_OBJECTS, MOST_COMMAND, MOST_SENT, Memory};
 use crate::registers::Registers;
 use arrayvec::ArrayVec;
@@ -19,6 +20,7 @@ use std::marker::Model;
 pub struct Volatile {
     ram: Ram,
     fixed: [Ref; FIXED_OBJECTS],
+    marks: Marks,
     registers: Registers,
     command: ArrayVec<u8, MOST_COMMAND>,
     sent: ArrayVec<u8, MOST_SENT>,
@@ -53,6 +55,7 @@ impl<S: WordStore> Memory<S> {
             heap,
             ram,
             fixed,
+            marks,
             registers,
             command,
             sent,
@@ -60,6 +63,7 @@ impl<S: WordStore> Memory<S> {
         let volatile = Volatile {
             ram,
             fixed,
+            marks,
             registers,
             command,
             sent,
@@ -80,11 +84,12 @@ impl<S: WordStore> Memory<S> {
         let Volatile {
             ram,
             fixed,
+            marks,
             registers,
             command,
             sent,
         } = volatile;
-        let mut memory = Memory::new(Heap::resume(store), ram, fixed);
+        let mut memory = Memory::new(Heap::resume(store), ram, fixed, marks);
         memory.registers = registers;
         memory.command = command;
         memory.sent = sent;

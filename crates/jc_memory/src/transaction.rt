@@ -41,6 +41,7 @@ impl<S: WordStore> Memory<S> {
         ensures { Makes aborted self.old (after_step result self.new) }
     {
         self.heap.abort()?;
+        self.marks.scan(&self.heap);
         self.ram.null_dead(self.heap.top());
         Ok(())
     }

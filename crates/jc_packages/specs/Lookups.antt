@@ -1,6 +1,6 @@
 -- What packages hold, by number, index and offset.
-use Rattle.std.specs.Prelude.{ℕ, ◌+◌, List, [], ◌∷◌, Option, Some, None, slice_get, drop, find, position}
-use Rattle.std.specs.Option.{option_map, option_or}
+use Rattle.std.specs.Prelude.{ℕ, ◌+◌, List, [], ◌∷◌, Option, Some, None, slice_get, drop, find, nat_lt, position, if◌then◌else◌}
+use Rattle.std.specs.Option.{option_map, option_and_then, option_or}
 use Rattle.std.specs.Str.{bytes_eq}
 use Rattle.jc_platform.specs.Platform.{package_by_aid}
 use Rattle.jc_platform.specs.Tokens.{number_in}
@@ -39,6 +39,18 @@ applet_of (Some q) aid = find (λ a. bytes_eq a.aid aid) q.applets
 
 unfoldable pub entry_at : Packages → ℕ → List ℕ → Option ℕ
 entry_at p number aid = option_map (λ a. a.install_offset) (applet_of (package_in p number) aid)
+
+-- the entry of a package's Applet component with this number, of which the first is 0
+unfoldable pub applet_entry : Packages → ℕ → ℕ → Option AppletEntry
+applet_entry p number entry = option_and_then (λ q. slice_get q.applets entry) (package_in p number)
+
+-- an Applet component has 256 entries at most
+abbrev pub if_entry : ℕ → Option ℕ
+if_entry entry = if nat_lt entry 256 then Some entry else None
+
+-- the number of the first entry with this AID
+unfoldable pub entry_with_aid : Packages → ℕ → List ℕ → Option ℕ
+entry_with_aid p number aid = option_and_then if_entry (option_and_then (λ q. position (λ a. bytes_eq a.aid aid) q.applets) (package_in p number))
 
 -- the number of the package with this AID, one of the platform or the first that was loaded
 unfoldable pub found : Packages → List ℕ → Option ℕ

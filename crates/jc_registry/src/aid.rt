@@ -31,7 +31,8 @@ impl Model for Aid {
 impl Aid {
     /// Its bytes.
     pub fn bytes(&self) -> &[u8]
-        ensures { result.now ≡ self.now }
+        ensures bytes { result.now ≡ self.now }
+        ensures few { length self.now ≤ MOST_AID }
     {
         self.bytes.as_slice()
     }

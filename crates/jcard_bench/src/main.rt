@@ -24,6 +24,7 @@ const ITSELF: Entry = Entry {
     resume: Resume {
         active: 1,
         previous: 0,
+        place: 0,
         call: CallKind::Plain,
     },
 };

@@ -20,6 +20,7 @@ const CALLED: Origin = Origin {
 const BACK: Resume = Resume {
     active: 5,
     previous: 2,
+    place: 0,
     call: CallKind::Plain,
 };
 

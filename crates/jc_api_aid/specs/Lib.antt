@@ -1,0 +1,2 @@
+pub mod AidCells
+pub mod AidCalls

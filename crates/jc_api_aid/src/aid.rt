@@ -1,0 +1,182 @@
+//! `AID` (API specification).
+ghost use Rattle.std.specs.Prelude.{◌≡◌, ◌≤◌, false, length, Some};
+ghost use Rattle.jc_memory.specs.Doing.{Makes, after_change};
+ghost use Rattle.jc_memory.specs.Cells.{stored_run};
+ghost use Rattle.jc_world.specs.Calls.{after_call};
+ghost use Rattle.jc_registry.specs.Registry.{is_aid};
+ghost use Rattle.jc_api_arguments.specs.Arrays.{IsInArray, bytes_in};
+ghost use Rattle.jc_api_arguments.specs.Instances.{IsInstanceWith};
+ghost use Rattle.jc_api_aid.specs.AidCells.{cells_of_aid};
+ghost use Rattle.jc_api_aid.specs.AidCalls.{aid_of_object, aid_made, aid_equals, aid_equals_bytes, aid_got, aid_called};
+
+use crate::cells::{cells_of_aid, is_aid_length};
+use jc_api_arguments::{Stretch, boolean, bytes_argument, elements, instance, put, short};
+use jc_frames::{Cell, Exception, Outcome};
+use jc_heap::ChangeRefusal;
+use jc_linker::linked::Linked;
+use jc_memory::Memory;
+use jc_platform::names::{PlatformClass, PlatformMethod};
+use jc_registry::{Aid, MOST_AID, aid_at};
+use jc_transient::Ref;
+use jc_words::WordStore;
+use jc_world::arguments::{reference_argument, short_argument};
+use jc_world::objects::is_instance_of;
+use jc_world::{Answer, Break};
+
+// The AID of an instance of `AID`.
+fn aid_of_object<S: WordStore>(object: Ref, memory: &Memory<S>, linked: &Linked) -> Option<Aid>
+    requires up { memory.now.heap.down ≡ false }
+    ensures { result ≡ aid_of_object linked.now memory.now object }
+{
+    if object.is_null() {
+        return None;
+    }
+    let facts = memory.header(object)?;
+    let class = linked.platform().class_word(PlatformClass::Aid);
+    if is_instance_of(facts, class, linked) {
+        aid_at(memory, object)
+    } else {
+        None
+    }
+}
+
+// Whether elements of an array are the bytes of an AID.
+fn are_aid<S: WordStore>(aid: &[u8], e: Stretch, memory: &Memory<S>) -> bool
+    requires up { memory.now.heap.down ≡ false }
+    requires there { IsInArray memory.now e }
+    requires few { length aid.now ≤ MOST_AID }
+    ensures { result ≡ is_aid aid.now (Some (bytes_in memory.now e)) }
+{
+    let count = e.count as usize;
+    if count != aid.len() {
+        return false;
+    }
+    let mut bytes = [0; MOST_AID];
+    memory.bytes(e.array, e.start, &mut bytes[..count]);
+    let held = &bytes[..count];
+    held == aid
+}
+
+// Sets the cells of an AID object to those of as many bytes of an array as an AID has.
+fn set_aid<S: WordStore>(memory: &mut Memory<S>, own: Ref, e: Stretch) -> Result<(), ChangeRefusal>
+    requires up { memory.old.heap.down ≡ false }
+    requires own { IsInstanceWith memory.old own 9 }
+    requires there { IsInArray memory.old e }
+    requires few { e.count ≤ MOST_AID }
+    ensures { Makes (stored_run memory.old own 0 (cells_of_aid (bytes_in memory.old e))) memory.old (after_change result memory.new) }
+{
+    let count = e.count as usize;
+    let mut bytes = [0; MOST_AID];
+    memory.bytes(e.array, e.start, &mut bytes[..count]);
+    let cells = cells_of_aid(&bytes[..count]);
+    memory.set_run(own, 0, &cells)
+}
+
+// The constructor.
+#[tactic(auto, unfolding(crate::specs::AidCalls::aid_made))]
+fn make_aid<S: WordStore>(
+    args: &[Cell],
+    memory: &mut Memory<S>,
+    linked: &Linked,
+) -> Result<Answer, Break>
+    requires up { memory.old.heap.down ≡ false }
+    ensures { Makes (aid_made args.now linked.now memory.old) memory.old (after_call result memory.new) }
+{
+    let own = reference_argument(args, 0)?;
+    let array = reference_argument(args, 1)?;
+    let start = short_argument(args, 2)?;
+    let count = short_argument(args, 3)?;
+    let argument = bytes_argument(array, memory)?;
+    let _facts = instance(own, 9, memory)?;
+    let e = elements(array, argument, start, count, memory, linked)?;
+    if !is_aid_length(e.count) {
+        return Err(Break::Throw(Exception::SystemException(1)));
+    }
+    set_aid(memory, own, e)?;
+    Ok(Answer::Nothing)
+}
+
+// `equals`.
+#[tactic(auto, unfolding(crate::specs::AidCalls::aid_equals))]
+fn equals<S: WordStore>(args: &[Cell], memory: &Memory<S>, linked: &Linked) -> Result<Answer, Break>
+    requires up { memory.now.heap.down ≡ false }
+    ensures { Makes (aid_equals args.now linked.now memory.now) memory.now (after_call result memory.now) }
+{
+    let own = reference_argument(args, 0)?;
+    let other = reference_argument(args, 1)?;
+    let Some(aid) = aid_at(memory, own) else {
+        return Err(Break::End(Outcome::Fault));
+    };
+    match aid_of_object(other, memory, linked) {
+        Some(held) => Ok(boolean(held.bytes() == aid.bytes())),
+        None => Ok(boolean(false)),
+    }
+}
+
+// `equals` with bytes.
+#[tactic(auto, unfolding(crate::specs::AidCalls::aid_equals_bytes))]
+fn equals_bytes<S: WordStore>(
+    args: &[Cell],
+    memory: &Memory<S>,
+    linked: &Linked,
+) -> Result<Answer, Break>
+    requires up { memory.now.heap.down ≡ false }
+    ensures { Makes (aid_equals_bytes args.now linked.now memory.now) memory.now (after_call result memory.now) }
+{
+    let own = reference_argument(args, 0)?;
+    let array = reference_argument(args, 1)?;
+    let start = short_argument(args, 2)?;
+    let count = short_argument(args, 3)?;
+    let Some(aid) = aid_at(memory, own) else {
+        return Err(Break::End(Outcome::Fault));
+    };
+    let argument = bytes_argument(array, memory)?;
+    if array.is_null() {
+        return Ok(boolean(false));
+    }
+    let e = elements(array, argument, start, count, memory, linked)?;
+    Ok(boolean(are_aid(aid.bytes(), e, memory)))
+}
+
+// `getBytes`.
+#[tactic(auto, unfolding(crate::specs::AidCalls::aid_got))]
+fn get_bytes<S: WordStore>(
+    args: &[Cell],
+    memory: &mut Memory<S>,
+    linked: &Linked,
+) -> Result<Answer, Break>
+    requires up { memory.old.heap.down ≡ false }
+    ensures { Makes (aid_got args.now linked.now memory.old) memory.old (after_call result memory.new) }
+{
+    let own = reference_argument(args, 0)?;
+    let array = reference_argument(args, 1)?;
+    let start = short_argument(args, 2)?;
+    let Some(aid) = aid_at(memory, own) else {
+        return Err(Break::End(Outcome::Fault));
+    };
+    let argument = bytes_argument(array, memory)?;
+    let count = aid.bytes().len() as i16;
+    let e = elements(array, argument, start, count, memory, linked)?;
+    put(memory, e, aid.bytes())?;
+    Ok(short(count))
+}
+
+/// A call of a method of `AID`; a method of another class is a code fault.
+#[tactic(auto, unfolding(crate::specs::AidCalls::aid_called))]
+pub fn call_aid<S: WordStore>(
+    method: PlatformMethod,
+    args: &[Cell],
+    memory: &mut Memory<S>,
+    linked: &Linked,
+) -> Result<Answer, Break>
+    requires up { memory.old.heap.down ≡ false }
+    ensures { Makes (aid_called method args.now linked.now memory.old) memory.old (after_call result memory.new) }
+{
+    match method {
+        PlatformMethod::AidInit => make_aid(args, memory, linked),
+        PlatformMethod::AidEquals => equals(args, memory, linked),
+        PlatformMethod::AidEqualsBytes => equals_bytes(args, memory, linked),
+        PlatformMethod::AidGetBytes => get_bytes(args, memory, linked),
+        _ => Err(Break::End(Outcome::Fault)),
+    }
+}

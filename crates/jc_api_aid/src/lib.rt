@@ -1,0 +1,8 @@
+//! The calls of `AID`.
+#![tactic(auto)]
+
+pub mod aid;
+pub mod cells;
+
+pub use aid::call_aid;
+pub use cells::cells_of_aid;

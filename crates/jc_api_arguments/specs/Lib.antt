@@ -1,0 +1,4 @@
+pub mod Numbers
+pub mod Answers
+pub mod Arrays
+pub mod Instances

@@ -1,0 +1,4 @@
+pub mod Transactions
+pub mod Transient
+pub mod Sharing
+pub mod System

@@ -1,0 +1,4 @@
+pub mod Pairs
+pub mod Util
+pub mod Objects
+pub mod Exceptions

@@ -1,0 +1,24 @@
+-- Runs: so many steps at most.
+use Rattle.std.specs.Prelude.{ℕ, zero, suc, List, []}
+use Rattle.jc_memory.specs.State.{MemoryState}
+use Rattle.jc_memory.specs.Doing.{Doing, Gives, bind}
+use Rattle.jc_packages.specs.Values.{Packages}
+use Rattle.jc_frames.specs.declared.outcome.Outcome.{Outcome}
+use Rattle.jc_frames.specs.declared.outcome.Outcome.TheVariants.{Fault}
+use Rattle.jc_frames.specs.Frames.{Frames, Next, Goes, Throws, Ends}
+use Rattle.jc_interp.specs.Stepping.{stepped}
+
+-- on from a step after which so many are left, or the end (a step throws nothing that it does not catch)
+abbrev pub if_goes : ℕ → Next Frames → (Frames → Doing (ℕ × Outcome)) → Doing (ℕ × Outcome)
+if_goes left (Goes s) more = more s
+if_goes left (Throws e s) more = Gives (left, Fault)
+if_goes left (Ends o) more = Gives (left, o)
+
+-- what a run of at most so many steps may do: how many are left, and how it ended. One that has not ended then is a code fault
+unfoldable pub running_in : ℕ → List ℕ → Packages → Frames → MemoryState → Doing (ℕ × Outcome)
+running_in zero lent p s m = Gives (0, Fault)
+running_in (suc n) lent p s m = bind (stepped lent p s m) m (λ next v. if_goes n next (λ t. running_in n lent p t v))
+
+-- a run of methods of packages
+abbrev pub running : ℕ → Packages → Frames → MemoryState → Doing (ℕ × Outcome)
+running n p s m = running_in n [] p s m

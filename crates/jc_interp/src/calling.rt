@@ -1,0 +1,101 @@
+//! Calls: methods of the platform are carried out at once, those in bytecode get a frame.
+ghost use Rattle.std.specs.Prelude.{◌≡◌, false};
+ghost use Rattle.jc_memory.specs.Doing.{Makes};
+ghost use Rattle.jc_world.specs.Groups.{after_group};
+ghost use Rattle.jc_interp.specs.Calling.{answered, invoked, natively};
+
+use jc_frames::{CallKind, Frames, Outcome};
+use jc_interp_calls::choose::choose;
+use jc_interp_calls::enter::{CallSite, Callee, enter};
+use jc_interp_calls::signatures::argument_cells;
+use jc_linker::linked::Linked;
+use jc_memory::{Installation, Memory};
+use jc_natives::natives::call_native;
+use jc_opcodes::instr::Invoke;
+use jc_packages::target::Method;
+use jc_platform::names::PlatformMethod;
+use jc_words::WordStore;
+use jc_world::{Answer, Break};
+
+// The frames go on with what a method of the platform answered, whose arguments were taken.
+fn answer<S: WordStore>(
+    answer: Answer,
+    frames: &mut Frames,
+    memory: &mut Memory<S>,
+) -> Result<(), Break>
+    requires up { memory.old.heap.down ≡ false }
+    ensures { Makes (answered answer frames.old memory.old) memory.old (after_group result frames.new memory.new) }
+{
+    match answer {
+        Answer::Nothing => Ok(()),
+        Answer::Value(cell) => {
+            frames.try_push(cell)?;
+            Ok(())
+        }
+        Answer::Ask(_) => Err(Break::End(Outcome::Fault)),
+        Answer::Aborted => match memory.registers().installation {
+            Installation::Open(_, _) => Err(Break::End(Outcome::Fault)),
+            _ => {
+                frames.bury(memory.top());
+                Ok(())
+            }
+        },
+    }
+}
+
+// Carries out a method of the platform with so many cells as arguments.
+#[tactic(auto, using(jc_memory::proofs::Doings::bind_made, jc_memory::proofs::Doings::bind_cut, jc_memory::proofs::Doings::down_did), unfolding(crate::specs::Calling::natively))]
+fn call_natively<S: WordStore>(
+    method: PlatformMethod,
+    count: u8,
+    frames: &mut Frames,
+    memory: &mut Memory<S>,
+    linked: &Linked,
+) -> Result<(), Break>
+    requires up { memory.old.heap.down ≡ false }
+    ensures { Makes (natively method count linked.now frames.old memory.old) memory.old (after_group result frames.new memory.new) }
+{
+    if count != argument_cells(method) {
+        return Err(Break::End(Outcome::Fault));
+    }
+    let Some(arguments) = frames.arguments(count) else {
+        return Err(Break::End(Outcome::Fault));
+    };
+    let answered = call_native(method, arguments, memory, linked)?;
+    frames.discard(count);
+    answer(answered, frames, memory)
+}
+
+/// A call by the instruction at a place.
+#[tactic(auto, unfolding(crate::specs::Calling::invoked))]
+pub(crate) fn invoke<S: WordStore>(
+    invoke: Invoke,
+    place: u16,
+    frames: &mut Frames,
+    memory: &mut Memory<S>,
+    linked: &Linked,
+) -> Result<(), Break>
+    requires up { memory.old.heap.down ≡ false }
+    ensures { Makes (invoked invoke place linked.now frames.old memory.old) memory.old (after_group result frames.new memory.new) }
+{
+    let call = choose(invoke, frames, memory, linked)?;
+    match call.method {
+        Method::Code {
+            package_number,
+            offset,
+        } => {
+            let callee = Callee {
+                package_number,
+                offset,
+                arguments: call.arguments,
+                switches_to: call.switches_to,
+            };
+            let site = CallSite {
+                place,
+                kind: CallKind::Plain,
+            };
+            enter(callee, site, frames, memory, linked)
+        }
+        Method::Native(method) => { call_natively(method, call.arguments, frames, memory, linked) }
+    }
+}

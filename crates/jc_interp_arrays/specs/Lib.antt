@@ -1,0 +1,4 @@
+pub mod Elements
+pub mod Loads
+pub mod Making
+pub mod Group

@@ -1,0 +1,138 @@
+-- Which method a call runs, and for whom.
+use Rattle.std.specs.Prelude.{ℕ, ◌-◌, ◌/◌, ◌==◌, not, Bool, true, false, List, slice_get, Option, Some, None, Result, Ok, Err, if◌then◌else◌}
+use Rattle.std.specs.Option.{option_map, option_and_then}
+use Rattle.jc_heap.specs.declared.object.Facts.{Facts}
+use Rattle.jc_memory.specs.declared.registers.Owner.{Owner}
+use Rattle.jc_memory.specs.Owners.{owner_of}
+use Rattle.jc_memory.specs.State.{MemoryState}
+use Rattle.jc_cap_text.specs.declared.pool.VirtualToken.{VirtualToken}
+use Rattle.jc_platform.specs.declared.names.PlatformClass.TheVariants.{Object}
+use Rattle.jc_platform.specs.Distinct.{class_word}
+use Rattle.jc_packages.specs.declared.target.Method.{Method}
+use Rattle.jc_packages.specs.declared.target.Method.TheVariants.{Code, Native}
+use Rattle.jc_packages.specs.declared.target.Target.{Target}
+use Rattle.jc_packages.specs.declared.target.Target.TheVariants.{Class, VirtualMethod, SuperMethod, StaticMethod}
+use Rattle.jc_packages.specs.Values.{Packages}
+use Rattle.jc_packages.specs.Classes.{is_below, is_shareable}
+use Rattle.jc_packages.specs.Lookups.{target_at}
+use Rattle.jc_packages.specs.Methods.{interface_method_at, method_at}
+use Rattle.jc_firewall.specs.declared.access.Access.{Access}
+use Rattle.jc_firewall.specs.declared.access.Access.TheVariants.{InstanceField, VirtualCall, StandardInterfaceCall, ShareableInterfaceCall}
+use Rattle.jc_firewall.specs.declared.decide.Decision.{Decision}
+use Rattle.jc_firewall.specs.declared.decide.Decision.TheVariants.{Allow, Switch, Deny}
+use Rattle.jc_opcodes.specs.declared.instr.Invoke.{Invoke}
+use Rattle.jc_opcodes.specs.declared.instr.Invoke.TheVariants.{Virtual, Special, Static, Interface}
+use Rattle.jc_frames.specs.declared.cell.Cell.{Cell}
+use Rattle.jc_frames.specs.declared.outcome.Exception.TheVariants.{SecurityException}
+use Rattle.jc_frames.specs.declared.outcome.Outcome.TheVariants.{Fault}
+use Rattle.jc_frames.specs.declared.outcome.Stop.{Stop}
+use Rattle.jc_frames.specs.declared.outcome.Stop.TheVariants.{Throw, End}
+use Rattle.jc_frames.specs.Cells.{as_reference}
+use Rattle.jc_frames.specs.Frames.{Frames}
+use Rattle.jc_methods.specs.Headers.{header_in}
+use Rattle.jc_world.specs.Contexts.{allowed, decided}
+use Rattle.jc_world.specs.Objects.{object_at, or_fault, if_so, is_instance}
+use Rattle.jc_interp_calls.specs.declared.choose.Call.{Call}
+use Rattle.jc_interp_calls.specs.Signatures.{argument_cells, is_constructor}
+use Rattle.jc_interp_calls.specs.Texts.{text_of}
+
+-- with what a check gave; else what it gave stays
+abbrev pub if_fine : {A B : Type 0} → Result A Stop → (A → Result B Stop) → Result B Stop
+if_fine (Ok a) go = go a
+if_fine (Err e) go = Err e
+
+-- how many cells the arguments of a method have, the receiver among them; none where its header is cut
+unfoldable pub arguments_of : Packages → Method → Option ℕ
+arguments_of p (Code number offset) = option_map (λ h. h.arguments) (header_in (text_of p number) offset)
+arguments_of p (Native method) = Some (argument_cells method)
+
+-- ---- receivers
+
+-- the reference below the other arguments; none where there is none
+abbrev pub receiver_on : ℕ → List Cell → Option ℕ
+receiver_on n stack = if n == 0 then None else option_and_then as_reference (slice_get stack (n - 1))
+
+-- the header of the receiver of a method with so many arguments
+unfoldable pub receiver_of : ℕ → List Cell → MemoryState → Result Facts Stop
+receiver_of n stack m = if_fine (or_fault (receiver_on n stack)) (λ r. object_at m r)
+
+-- an object's class; arrays are instances of Object
+abbrev pub class_of : Packages → Facts → ℕ
+class_of p f = if is_instance f.kind then f.class else class_word p.platform Object
+
+abbrev pub is_of : Packages → Facts → ℕ → Bool
+is_of p f class = is_below p (class_of p f) class
+
+-- an entry that tells no class asks for none
+abbrev pub is_of_any : Packages → Facts → Option ℕ → Bool
+is_of_any p f None = true
+is_of_any p f (Some class) = is_of p f class
+
+-- ---- calls
+
+abbrev pub call_of : Method → ℕ → Option Owner → Call
+call_of method arguments owner = record { method = method; arguments = arguments; switches_to = owner }
+
+-- what the firewall says of a call on an object: in another context it runs for the object's owner
+abbrev pub judged : Decision → Facts → Method → ℕ → Result Call Stop
+judged Allow f method n = Ok (call_of method n None)
+judged (Switch context) f method n = Ok (call_of method n (Some (owner_of f.owner)))
+judged (Deny rule) f method n = Err (Throw SecurityException)
+
+-- by the receiver's class, among methods of this token: the arguments are those of the method of the class that the entry names
+unfoldable pub called_virtually : ℕ → VirtualToken → Method → Packages → List Cell → MemoryState → Result Call Stop
+called_virtually class token method p stack m =
+    if_fine (or_fault (arguments_of p method)) (λ n. if_fine (receiver_of n stack m) (λ f. if_fine (if_so (is_of p f class)) (λ u. if_fine (or_fault (method_at p (class_of p f) (class / 256) token)) (λ found.
+    judged (decided VirtualCall p m f) f found n))))
+
+-- the method itself, on an instance of a class where the entry tells one: the caller's context stays
+unfoldable pub called_specially : Option ℕ → Method → Packages → List Cell → MemoryState → Result Call Stop
+called_specially class method p stack m =
+    if_fine (or_fault (arguments_of p method)) (λ n. if_fine (receiver_of n stack m) (λ f. if_fine (if_so (is_of_any p f class)) (λ u. if_fine (allowed InstanceField p m f) (λ v.
+    Ok (call_of method n None)))))
+
+-- a constructor of the platform
+abbrev pub is_native_constructor : Method → Bool
+is_native_constructor (Code number offset) = false
+is_native_constructor (Native method) = is_constructor method
+
+-- without a receiver: constructors of the platform have one
+unfoldable pub called_statically : Method → Packages → Result Call Stop
+called_statically method p =
+    if_fine (if_so (not (is_native_constructor method))) (λ u. if_fine (or_fault (arguments_of p method)) (λ n. Ok (call_of method n None)))
+
+-- a call of an interface's method, as the firewall sees it
+abbrev pub interface_access : Packages → ℕ → Access
+interface_access p interface = if is_shareable p interface then ShareableInterfaceCall else StandardInterfaceCall
+
+-- by the interface, with so many arguments
+unfoldable pub called_by_interface : ℕ → ℕ → ℕ → Packages → List Cell → MemoryState → Result Call Stop
+called_by_interface interface n token p stack m =
+    if_fine (receiver_of n stack m) (λ f. if_fine (if_so (is_of p f interface)) (λ u. if_fine (or_fault (interface_method_at p (class_of p f) interface token)) (λ found.
+    judged (decided (interface_access p interface) p m f) f found n)))
+
+-- ---- by what the entry of the constant pool resolves to; another one is a code fault
+
+abbrev pub virtual_by : Option Target → Packages → List Cell → MemoryState → Result Call Stop
+virtual_by (Some (VirtualMethod class token method)) p stack m = called_virtually class token method p stack m
+virtual_by _ p stack m = Err (End Fault)
+
+abbrev pub special_by : Option Target → Packages → List Cell → MemoryState → Result Call Stop
+special_by (Some (StaticMethod class method)) p stack m = called_specially class method p stack m
+special_by (Some (SuperMethod class method)) p stack m = called_specially (Some class) method p stack m
+special_by _ p stack m = Err (End Fault)
+
+abbrev pub static_by : Option Target → Packages → Result Call Stop
+static_by (Some (StaticMethod class method)) p = called_statically method p
+static_by _ p = Err (End Fault)
+
+abbrev pub interface_by : Option Target → ℕ → ℕ → Packages → List Cell → MemoryState → Result Call Stop
+interface_by (Some (Class class)) n token p stack m = called_by_interface class n token p stack m
+interface_by _ n token p stack m = Err (End Fault)
+
+-- which method a call runs, with how many arguments, and for whom
+unfoldable pub chosen : Invoke → Packages → Frames → MemoryState → Result Call Stop
+chosen (Virtual index) p s m = virtual_by (target_at p s.current.origin.package_number index) p s.current.stack m
+chosen (Special index) p s m = special_by (target_at p s.current.origin.package_number index) p s.current.stack m
+chosen (Static index) p s m = static_by (target_at p s.current.origin.package_number index) p
+chosen (Interface n index token) p s m = interface_by (target_at p s.current.origin.package_number index) n token p s.current.stack m

@@ -1,0 +1,7 @@
+pub mod Texts
+pub mod Signatures
+pub mod Choosing
+pub mod Entering
+pub mod Catching
+pub mod Returning
+pub mod Throwing

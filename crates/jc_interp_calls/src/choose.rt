@@ -1,0 +1,282 @@
+//! Which method a call runs, and for whom.
+ghost use Rattle.std.specs.Prelude.{◌≡◌, false, None};
+ghost use Rattle.jc_world.specs.Objects.{if_so};
+ghost use Rattle.jc_interp_calls.specs.Choosing.{arguments_of, called_by_interface, called_specially, called_statically, called_virtually, call_of, chosen, class_of, interface_access, is_native_constructor, is_of_any, judged, receiver_of, receiver_on};
+
+use crate::signatures::{argument_cells, is_constructor};
+use crate::text::text_of;
+use jc_cap_text::pool::VirtualToken;
+use jc_firewall::access::Access;
+use jc_firewall::decide::Decision;
+use jc_frames::{Cell, Exception, Frames, Outcome, Stop};
+use jc_heap::Facts;
+use jc_linker::linked::Linked;
+use jc_memory::{Memory, Owner};
+use jc_methods::header_at;
+use jc_opcodes::instr::Invoke;
+use jc_packages::target::{Method, Target};
+use jc_platform::names::PlatformClass;
+use jc_transient::Ref;
+use jc_words::WordStore;
+use jc_world::contexts::{allow, decided};
+use jc_world::objects::{is_instance, object};
+
+/// A call whose method was found.
+#[derive(Clone, Copy, PartialEq, Eq, Debug)]
+pub struct Call {
+    pub method: Method,
+    /// How many cells its arguments have.
+    pub arguments: u8,
+    /// The owner that is active while it runs, where that is another one than the caller's.
+    pub switches_to: Option<Owner>,
+}
+
+impl Call {
+    // A call in the caller's context.
+    const fn of(method: Method, arguments: u8) -> Call
+        ensures { result ≡ call_of method arguments None }
+    {
+        Call {
+            method,
+            arguments,
+            switches_to: None,
+        }
+    }
+}
+
+// It holds, or a code fault.
+const fn check(holds: bool) -> Result<(), Stop>
+    ensures { result ≡ if_so holds }
+{
+    if holds {
+        Ok(())
+    } else {
+        Err(Stop::End(Outcome::Fault))
+    }
+}
+
+// How many cells the arguments of a method have; none where its header is cut.
+#[tactic(auto, unfolding(crate::specs::Choosing::arguments_of))]
+fn arguments_of(method: Method, linked: &Linked) -> Option<u8>
+    ensures { result ≡ arguments_of linked.now method }
+{
+    match method {
+        Method::Code {
+            package_number,
+            offset,
+        } => Some(header_at(text_of(package_number, linked), offset)?.arguments),
+        Method::Native(method) => Some(argument_cells(method)),
+    }
+}
+
+// The reference below the other arguments, of which there are so many with it.
+fn receiver_on(arguments: u8, frames: &Frames) -> Option<Ref>
+    ensures { result ≡ receiver_on arguments frames.now.current.stack }
+{
+    if arguments == 0 {
+        return None;
+    }
+    match frames.peek(arguments - 1)? {
+        Cell::Reference(receiver) => Some(receiver),
+        _ => None,
+    }
+}
+
+// The header of the receiver of a method with so many arguments.
+#[tactic(auto, unfolding(crate::specs::Choosing::receiver_of))]
+fn receiver_of<S: WordStore>(
+    arguments: u8,
+    frames: &Frames,
+    memory: &Memory<S>,
+) -> Result<Facts, Stop>
+    requires up { memory.now.heap.down ≡ false }
+    ensures { result ≡ receiver_of arguments frames.now.current.stack memory.now }
+{
+    let receiver = receiver_on(arguments, frames).ok_or(Stop::End(Outcome::Fault))?;
+    object(receiver, memory)
+}
+
+// An object's class. Arrays are instances of `Object`.
+fn class_of(facts: Facts, linked: &Linked) -> u16
+    ensures { result ≡ class_of linked.now facts }
+{
+    if is_instance(facts.kind) {
+        facts.class
+    } else {
+        linked.platform().class_word(PlatformClass::Object)
+    }
+}
+
+// What the firewall says of a call on an object.
+fn judged(decision: Decision, facts: Facts, method: Method, arguments: u8) -> Result<Call, Stop>
+    ensures { result ≡ judged decision facts method arguments }
+{
+    match decision {
+        Decision::Allow => Ok(Call::of(method, arguments)),
+        Decision::Switch(_) => Ok(Call {
+            method,
+            arguments,
+            switches_to: Some(Owner::of(facts.owner)),
+        }),
+        Decision::Deny(_) => Err(Stop::Throw(Exception::SecurityException)),
+    }
+}
+
+// A call by the receiver's class.
+#[tactic(auto, unfolding(crate::specs::Choosing::called_virtually))]
+fn call_virtually<S: WordStore>(
+    class: u16,
+    token: VirtualToken,
+    method: Method,
+    frames: &Frames,
+    memory: &Memory<S>,
+    linked: &Linked,
+) -> Result<Call, Stop>
+    requires up { memory.now.heap.down ≡ false }
+    ensures { result ≡ called_virtually class token method linked.now frames.now.current.stack memory.now }
+{
+    let arguments = arguments_of(method, linked).ok_or(Stop::End(Outcome::Fault))?;
+    let facts = receiver_of(arguments, frames, memory)?;
+    let own = class_of(facts, linked);
+    check(linked.is_below(own, class))?;
+    let found = linked
+        .method_at(own, (class / 256) as u8, token)
+        .ok_or(Stop::End(Outcome::Fault))?;
+    let decision = decided(Access::VirtualCall, facts, memory, linked);
+    judged(decision, facts, found, arguments)
+}
+
+// The receiver is of the class, where one is asked for.
+fn is_of_any(facts: Facts, class: Option<u16>, linked: &Linked) -> bool
+    ensures { result ≡ is_of_any linked.now facts class }
+{
+    match class {
+        None => true,
+        Some(class) => linked.is_below(class_of(facts, linked), class),
+    }
+}
+
+// A call of the method itself.
+#[tactic(auto, unfolding(crate::specs::Choosing::called_specially))]
+fn call_specially<S: WordStore>(
+    class: Option<u16>,
+    method: Method,
+    frames: &Frames,
+    memory: &Memory<S>,
+    linked: &Linked,
+) -> Result<Call, Stop>
+    requires up { memory.now.heap.down ≡ false }
+    ensures { result ≡ called_specially class method linked.now frames.now.current.stack memory.now }
+{
+    let arguments = arguments_of(method, linked).ok_or(Stop::End(Outcome::Fault))?;
+    let facts = receiver_of(arguments, frames, memory)?;
+    check(is_of_any(facts, class, linked))?;
+    allow(Access::InstanceField, facts, memory, linked)?;
+    Ok(Call::of(method, arguments))
+}
+
+fn is_native_constructor(method: Method) -> bool
+    ensures { result ≡ is_native_constructor method }
+{
+    match method {
+        Method::Code { .. } => false,
+        Method::Native(method) => is_constructor(method),
+    }
+}
+
+// A call without a receiver.
+#[tactic(auto, unfolding(crate::specs::Choosing::called_statically))]
+fn call_statically(method: Method, linked: &Linked) -> Result<Call, Stop>
+    ensures { result ≡ called_statically method linked.now }
+{
+    check(!is_native_constructor(method))?;
+    let arguments = arguments_of(method, linked).ok_or(Stop::End(Outcome::Fault))?;
+    Ok(Call::of(method, arguments))
+}
+
+// A call of an interface's method, as the firewall sees it.
+fn interface_access(interface: u16, linked: &Linked) -> Access
+    ensures { result ≡ interface_access linked.now interface }
+{
+    if linked.is_shareable(interface) {
+        Access::ShareableInterfaceCall
+    } else {
+        Access::StandardInterfaceCall
+    }
+}
+
+// A call by an interface.
+#[tactic(auto, unfolding(crate::specs::Choosing::called_by_interface))]
+fn call_by_interface<S: WordStore>(
+    interface: u16,
+    arguments: u8,
+    token: u8,
+    frames: &Frames,
+    memory: &Memory<S>,
+    linked: &Linked,
+) -> Result<Call, Stop>
+    requires up { memory.now.heap.down ≡ false }
+    ensures { result ≡ called_by_interface interface arguments token linked.now frames.now.current.stack memory.now }
+{
+    let facts = receiver_of(arguments, frames, memory)?;
+    let own = class_of(facts, linked);
+    check(linked.is_below(own, interface))?;
+    let found = linked
+        .interface_method_at(own, interface, token)
+        .ok_or(Stop::End(Outcome::Fault))?;
+    let decision = decided(interface_access(interface, linked), facts, memory, linked);
+    judged(decision, facts, found, arguments)
+}
+
+/// Which method a call runs, with how many arguments, and for whom.
+///
+/// A code fault where the entry of the constant pool is another one, where the receiver is no reference
+/// or no instance of the class that the entry names, or where its class has no such method; else a null
+/// receiver throws, and then a refused access does.
+#[tactic(auto, unfolding(crate::specs::Choosing::chosen))]
+pub fn choose<S: WordStore>(
+    invoke: Invoke,
+    frames: &Frames,
+    memory: &Memory<S>,
+    linked: &Linked,
+) -> Result<Call, Stop>
+    requires up { memory.now.heap.down ≡ false }
+    ensures { result ≡ chosen invoke linked.now frames.now memory.now }
+{
+    let package_number = frames.origin().package_number;
+    match invoke {
+        Invoke::Virtual(index) => match linked.target_at(package_number, index) {
+            Some(
+                Target::VirtualMethod {
+                    class,
+                    token,
+                    method,
+                },
+            ) => call_virtually(class, token, method, frames, memory, linked),
+            _ => Err(Stop::End(Outcome::Fault)),
+        },
+        Invoke::Special(index) => match linked.target_at(package_number, index) {
+            Some(Target::StaticMethod { class, method }) => {
+                call_specially(class, method, frames, memory, linked)
+            }
+            Some(Target::SuperMethod { class, method }) => {
+                call_specially(Some(class), method, frames, memory, linked)
+            }
+            _ => Err(Stop::End(Outcome::Fault)),
+        },
+        Invoke::Static(index) => match linked.target_at(package_number, index) {
+            Some(Target::StaticMethod { class: _, method }) => call_statically(method, linked),
+            _ => Err(Stop::End(Outcome::Fault)),
+        },
+        Invoke::Interface {
+            arguments,
+            index,
+            token,
+        } => match linked.target_at(package_number, index) {
+            Some(Target::Class(class)) => {
+                call_by_interface(class, arguments, token, frames, memory, linked)
+            }
+            _ => Err(Stop::End(Outcome::Fault)),
+        },
+    }
+}

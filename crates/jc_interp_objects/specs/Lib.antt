@@ -1,0 +1,3 @@
+pub mod Types
+pub mod Casts
+pub mod Making

@@ -1,0 +1,37 @@
+-- New instances: `new`.
+use Rattle.std.specs.Prelude.{ℕ, pos, ◌^◌, nat_lt, Option, Some, None, Result, Ok, Err, if◌then◌else◌}
+use Rattle.std.specs.Option.{option_and_then}
+use Rattle.jc_heap.specs.declared.object.Kind.TheVariants.{Instance}
+use Rattle.jc_frames.specs.declared.outcome.Exception.TheVariants.{SystemException}
+use Rattle.jc_frames.specs.declared.outcome.Stop.{Stop}
+use Rattle.jc_frames.specs.declared.outcome.Stop.TheVariants.{Throw}
+use Rattle.jc_frames.specs.Frames.{Frames, Next, has_room}
+use Rattle.jc_memory.specs.State.{MemoryState}
+use Rattle.jc_memory.specs.Doing.{Doing}
+use Rattle.jc_packages.specs.Classes.{is_made, size_of}
+use Rattle.jc_packages.specs.Values.{Packages}
+use Rattle.jc_world.specs.Groups.{if_ok, if_some}
+use Rattle.jc_interp_values.specs.Making.{new_on_top}
+use Rattle.jc_interp_values.specs.Types.{class_named}
+
+-- the class, where it has instances that code may make
+abbrev pub if_made : Packages → ℕ → Option ℕ
+if_made p class = if is_made p class then Some class else None
+
+-- the class that an entry of a package's pool names, if it is such a one
+unfoldable pub made_class : Packages → ℕ → ℕ → Option ℕ
+made_class p package_number index = option_and_then (if_made p) (class_named p package_number index)
+
+-- how many cells an instance gets: for more than an object can have there is no space
+abbrev pub cells_for : ℕ → Result ℕ Stop
+cells_for size = if nat_lt size (2 ^ 16) then Ok size else Err (Throw (SystemException (pos 5)))
+
+-- where the stack has room
+abbrev pub if_room : Frames → Option ℕ → Option ℕ
+if_room s class = if has_room s.current then class else None
+
+-- a new instance, which belongs to the owner for whom code runs, comes on the stack
+unfoldable pub instance_made : ℕ → Packages → Frames → MemoryState → Doing (Next Frames)
+instance_made index p s m =
+    if_some (if_room s (made_class p s.current.origin.package_number index)) (λ class. if_ok s (cells_for (size_of p class)) (λ n.
+    new_on_top (record { kind = Instance; event = None; class = class; owner = m.registers.active; length = n }) s m))

@@ -1,0 +1,26 @@
+//! New objects.
+ghost use Rattle.std.specs.Prelude.{◌≡◌, ◌<◌, false, length};
+ghost use Rattle.jc_memory.specs.Doing.{Makes};
+ghost use Rattle.jc_world.specs.Groups.{after_group};
+ghost use Rattle.jc_interp_values.specs.Making.{new_on_top};
+
+use jc_frames::{Cell, Frames};
+use jc_memory::{Memory, NewObject};
+use jc_words::WordStore;
+use jc_world::Break;
+
+/// Puts a new object on the stack. Throws where the heap has no space or the transaction no room for it.
+#[tactic(auto, unfolding(crate::specs::Making::new_on_top))]
+pub fn push_new<S: WordStore>(
+    object: NewObject,
+    frames: &mut Frames,
+    memory: &mut Memory<S>,
+) -> Result<(), Break>
+    requires up { memory.old.heap.down ≡ false }
+    requires room { length frames.old.current.stack < frames.old.current.limit }
+    ensures { Makes (new_on_top object frames.old memory.old) memory.old (after_group result frames.new memory.new) }
+{
+    let reference = memory.make(object)?;
+    frames.push(Cell::Reference(reference));
+    Ok(())
+}

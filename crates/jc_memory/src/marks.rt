@@ -1,0 +1,88 @@
+//! Marks: addresses at which objects are known to stand, so that a reference is known at once.
+ghost use Rattle.std.specs.Prelude.{◌≡◌, false, true, slice_set, vec_len, IfOk};
+ghost use Rattle.jc_memory.specs.Marks.{AreNone, AreObjects, is_marked};
+
+use jc_heap::Heap;
+use jc_transient::Ref;
+use jc_words::WordStore;
+use std::alloc::{AllocError, Global};
+use std::marker::Model;
+
+/// How many marks there are: one for each address.
+const MARK_COUNT: usize = 65536;
+
+/// A mark for each address.
+#[derive(Drop)]
+pub struct Marks {
+    marks: Vec<bool>,
+}
+
+impl Model for Marks {
+    ghost use Rattle.std.specs.Prelude.{List, Bool, ◌≡◌, length};
+    ghost use Rattle.jc_memory.specs.Marks.{mark_count};
+
+    ghost Value = { List Bool };
+
+    ghost view = { λ m. m.marks.items };
+
+    ghost invariant = { λ m. length m.marks.items ≡ mark_count };
+}
+
+// So many marks, none of which is set.
+fn unset(alloc: Global, count: usize) -> Result<Vec<bool>, AllocError>
+    ensures len { IfOk result (λ marks. vec_len marks ≡ count) }
+    ensures unset { IfOk result (λ marks. AreNone marks.items) }
+{
+    let marks = vec![in alloc; false; count]?;
+    Ok(marks)
+}
+
+impl Marks {
+    /// No mark yet.
+    pub fn new(alloc: Global) -> Result<Marks, AllocError>
+        ensures { IfOk result AreNone }
+    {
+        Ok(Marks {
+            marks: unset(alloc, MARK_COUNT)?,
+        })
+    }
+
+    // Whether an address is marked.
+    pub(crate) fn has(&self, address: Ref) -> bool
+        ensures { result ≡ is_marked self.now address }
+    {
+        self.marks[usize::from(address.address())]
+    }
+
+    // Marks an address.
+    pub(crate) fn mark(&mut self, address: Ref)
+        ensures { self.new ≡ slice_set self.old address true }
+    {
+        self.marks[usize::from(address.address())] = true;
+    }
+
+    // Takes all marks away.
+    fn clear(&mut self)
+        ensures { AreNone self.new }
+    {
+        for place in 0..MARK_COUNT {
+            self.marks[place] = false;
+        }
+    }
+
+    // Marks the objects of a heap, and nothing else.
+    pub(crate) fn scan<S: WordStore>(&mut self, heap: &Heap<S>)
+        requires { heap.now.down ≡ false }
+        ensures { AreObjects self.new heap.now }
+    {
+        self.clear();
+        let mut last = Ref::null();
+        for _turn in 0..MARK_COUNT {
+            let Some(next) = heap.next(last) else {
+                return;
+            };
+            self.mark(next);
+            last = next;
+        }
+    }
+}

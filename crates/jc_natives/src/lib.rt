@@ -1,0 +1,5 @@
+//! The methods of the platform: which part has each, and one call for all.
+#![tactic(auto)]
+
+pub mod natives;
+pub mod parts;

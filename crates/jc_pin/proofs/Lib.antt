@@ -1,0 +1,4 @@
+pub mod Comparing
+pub mod Kept
+pub mod Putting
+pub mod Updates

@@ -1,0 +1,5 @@
+pub mod Pins
+pub mod Checking
+pub mod Resetting
+pub mod Updating
+pub mod Starting

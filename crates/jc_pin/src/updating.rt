@@ -1,0 +1,116 @@
+//! A PIN gets another value.
+ghost use Rattle.std.specs.Prelude.{◌≡◌, ◌+◌, ◌<◌, ◌≤◌, false, length, take, Some};
+ghost use Rattle.jc_memory.specs.Doing.{Makes, after_change};
+ghost use Rattle.jc_memory.specs.Changing.{written_all};
+ghost use Rattle.jc_pin.specs.Pins.{IsPin, record_of};
+ghost use Rattle.jc_pin.specs.Updating.{after_pin, bytes_put, update_of, updated};
+
+use crate::pin::{PinRecord, record};
+use jc_heap::{ChangeRefusal, Place};
+use jc_memory::Memory;
+use jc_transient::Ref;
+use jc_words::{StoreDown, WordStore};
+
+// How many places one change may have at most.
+const MOST_CHANGES: usize = 256;
+
+/// Why a PIN is not changed.
+#[derive(Clone, Copy, Debug, PartialEq, Eq)]
+pub enum PinRefusal {
+    /// The store refused a write. Only a power up follows.
+    StoreDown,
+    /// The transaction has no room for the change.
+    CommitFull,
+    /// The value is longer than the maximum.
+    IllegalValue,
+    /// There is no space for the value.
+    HeapFull,
+}
+
+impl From<ChangeRefusal> for PinRefusal {
+    ghost use Rattle.std.specs.Prelude.{◌≡◌};
+    ghost use Rattle.jc_pin.specs.Updating.{of_change};
+
+    ghost from_gives = { λ r p. p ≡ of_change r };
+
+    fn from(refusal: ChangeRefusal) -> Self {
+        match refusal {
+            ChangeRefusal::StoreDown => PinRefusal::StoreDown,
+            ChangeRefusal::CommitFull => PinRefusal::CommitFull,
+        }
+    }
+}
+
+impl From<StoreDown> for PinRefusal {
+    ghost use Rattle.std.specs.Prelude.{◌≡◌};
+    ghost use Rattle.jc_pin.specs.declared.updating.PinRefusal.TheVariants as refusal;
+
+    ghost from_gives = { λ _ p. p ≡ refusal.StoreDown };
+
+    fn from(_: StoreDown) -> Self {
+        PinRefusal::StoreDown
+    }
+}
+
+// The changes that put bytes into an array.
+fn put_bytes(changes: &mut [(Place, u16)], array: Ref, bytes: &[u8])
+    requires room { length bytes.now ≤ length changes.old }
+    requires few { length bytes.now < 65536 }
+    ensures { take (length bytes.now) changes.new ≡ bytes_put array 0 bytes.now }
+{
+    for (k, byte) in bytes.iter().enumerate() {
+        changes[k] = (Place::Cell(array, k as u16), u16::from(*byte));
+    }
+}
+
+// The changes that are an update.
+fn fill_changes(changes: &mut [(Place, u16)], pin: Ref, kept: PinRecord, bytes: &[u8])
+    requires room { length bytes.now + 2 ≤ length changes.old }
+    requires few { length bytes.now < 65536 }
+    ensures { take (length bytes.now + 2) changes.new ≡ update_of kept pin bytes.now }
+{
+    let count = bytes.len();
+    put_bytes(changes, kept.value, bytes);
+    changes[count] = (Place::Cell(pin, 3), count as u16);
+    changes[count + 1] = (Place::Cell(pin, 2), kept.limit);
+}
+
+// Sets the value, its length and all tries as one change.
+fn set_value<S: WordStore>(
+    memory: &mut Memory<S>,
+    pin: Ref,
+    bytes: &[u8],
+) -> Result<(), ChangeRefusal>
+    requires up { memory.old.heap.down ≡ false }
+    requires pin { IsPin memory.old pin }
+    requires within { length bytes.now ≤ (record_of memory.old pin).maximum }
+    requires few { length bytes.now + 2 ≤ MOST_CHANGES }
+    ensures { Makes (written_all memory.old (update_of (record_of memory.old pin) pin bytes.now)) memory.old (after_change result memory.new) }
+{
+    let mut changes = [(Place::AppletCount, 0); MOST_CHANGES];
+    fill_changes(&mut changes, pin, record(memory, pin), bytes);
+    memory.write_all(&changes[..bytes.len() + 2])
+}
+
+/// Gives a PIN another value, by one change with the length and all tries, and takes the flag away, which no abort
+/// brings back. Refused: a value above the maximum; one for which the transaction has no room.
+#[tactic(auto, unfolding(crate::specs::Updating::updated))]
+pub fn update<S: WordStore>(
+    memory: &mut Memory<S>,
+    pin: Ref,
+    bytes: &[u8],
+) -> Result<(), PinRefusal>
+    requires up { memory.old.heap.down ≡ false }
+    requires pin { IsPin memory.old pin }
+    ensures { Makes (updated memory.old pin bytes.now) memory.old (after_pin result memory.new) }
+{
+    if bytes.len() > record(memory, pin).maximum as usize {
+        return Err(PinRefusal::IllegalValue);
+    }
+    if bytes.len() > MOST_CHANGES - 2 {
+        return Err(PinRefusal::CommitFull);
+    }
+    set_value(memory, pin, bytes)?;
+    memory.set_flag(pin, false);
+    Ok(())
+}

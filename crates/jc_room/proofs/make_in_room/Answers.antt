@@ -1,0 +1,11 @@
+use Rattle.jc_memory.specs.Making.{no_new}
+use Rattle.jc_room.proofs.Room.{made_object}
+use Rattle.jc_room.proofs.make_in_room.Goals as goal
+
+pub returns-in-Ok-clause-new : goal.returns-in-Ok-clause-new
+returns-in-Ok-clause-new g c =
+    (made_object (no_new c.args.memory.now c.args.object) c.args.memory.now c.make.new.self c.args.object c.in-Ok.made c.requires.persistent c.in-Ok.ensures).0
+
+pub returns-in-Ok-clause-kept : goal.returns-in-Ok-clause-kept
+returns-in-Ok-clause-kept g c =
+    (made_object (no_new c.args.memory.now c.args.object) c.args.memory.now c.make.new.self c.args.object c.in-Ok.made c.requires.persistent c.in-Ok.ensures).1

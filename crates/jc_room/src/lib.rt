@@ -1,0 +1,73 @@
+//! Calls of several changes ask room for all of them before the first one. After that the store alone may refuse.
+#![tactic(auto)]
+
+ghost use Rattle.std.specs.Prelude.{ℕ, ◌≡◌, ◌+◌, ◌<◌, ◌≤◌, false, true, None, length, IfOk, OnOk};
+ghost use Rattle.jc_heap.specs.Object.{AnObject, new_object};
+ghost use Rattle.jc_heap.specs.Heap.{item_at};
+ghost use Rattle.jc_heap.specs.Keeping.{MayAllStand};
+ghost use Rattle.jc_heap.specs.Places.{AreThere, AreApart, places_of};
+ghost use Rattle.jc_memory.specs.Owners.{owner_number};
+ghost use Rattle.jc_memory.specs.Doing.{Makes, Gives, after_step};
+ghost use Rattle.jc_memory.specs.Making.{makes_new};
+ghost use Rattle.jc_room.specs.Room.{has_space, lacks_room, sets_places, KeepsObjects};
+
+use jc_heap::Place;
+use jc_memory::{Memory, NewObject};
+use jc_transient::Ref;
+use jc_words::{StoreDown, WordStore};
+
+/// Whether there is space for a persistent object with so many cells.
+pub fn has_space<S: WordStore>(memory: &Memory<S>, cells: u16) -> bool
+    requires up { memory.now.heap.down ≡ false }
+    ensures { result ≡ has_space memory.now cells }
+{
+    memory.heap().has_space(cells)
+}
+
+/// Whether the open transaction has no room for so many words. Outside a transaction there is room for each change.
+pub fn lacks_room<S: WordStore>(memory: &Memory<S>, words: u16) -> bool
+    ensures { result ≡ lacks_room memory.now words }
+{
+    memory.heap().is_open() && memory.heap().room() < words
+}
+
+/// Makes a persistent object, for which there is space and room. All that was there stays as it was.
+pub fn make_in_room<S: WordStore>(
+    memory: &mut Memory<S>,
+    object: NewObject,
+) -> Result<Ref, StoreDown>
+    requires up { memory.old.heap.down ≡ false }
+    requires persistent { object.event ≡ None }
+    requires space { has_space memory.old object.length ≡ true }
+    requires room { lacks_room memory.old 1 ≡ false }
+    ensures made { Makes (makes_new object Gives) memory.old (after_step result memory.new) }
+    ensures new { IfOk result (λ r. item_at memory.new.heap.now r ≡ AnObject (new_object object.kind object.class (owner_number object.owner) object.length)) }
+    ensures kept { OnOk result (KeepsObjects memory.old.heap.now memory.new.heap.now) }
+    ensures left { OnOk result ((n : ℕ) → lacks_room memory.old (n + 1) ≡ false → lacks_room memory.new n ≡ false) }
+    ensures up { OnOk result (memory.new.heap.down ≡ false) }
+{
+    match memory.make(object) {
+        Ok(made) => Ok(made),
+        Err(_) => Err(StoreDown),
+    }
+}
+
+/// Sets places as one change, for which there is room.
+pub fn write_in_room<S: WordStore>(
+    memory: &mut Memory<S>,
+    changes: &[(Place, u16)],
+) -> Result<(), StoreDown>
+    requires up { memory.old.heap.down ≡ false }
+    requires there { AreThere memory.old.heap.now changes.now }
+    requires apart { AreApart (places_of changes.now) }
+    requires references { MayAllStand memory.old.heap.now changes.now }
+    requires some { 0 < length changes.now }
+    requires few { length changes.now ≤ 256 }
+    requires room { lacks_room memory.old (length changes.now) ≡ false }
+    ensures { Makes (sets_places changes.now) memory.old (after_step result memory.new) }
+{
+    match memory.write_all(changes) {
+        Ok(()) => Ok(()),
+        Err(_) => Err(StoreDown),
+    }
+}
