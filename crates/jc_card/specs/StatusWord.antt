@@ -41,3 +41,11 @@ aid_taken = 0x6431
 -- there are as many packages or applets as there can be
 abbrev pub full : ℕ
 full = 0x6432
+
+-- no applet has this AID
+abbrev pub no_applet : ℕ
+no_applet = 0x6A88
+
+-- no applet was selected
+abbrev pub not_selected : ℕ
+not_selected = 0x6999

@@ -1,5 +1,5 @@
 //! Commands.
-ghost use Rattle.std.specs.Prelude.{◌≡◌, ◌<◌, IfSome, length};
+ghost use Rattle.std.specs.Prelude.{◌≡◌, ◌<◌, ◌≤◌, IfSome, length};
 ghost use Rattle.std.specs.Option.{option_map};
 ghost use Rattle.jc_card.specs.Apdu.{apdu_of, data_of, bytes_seen};
 ghost use Rattle.jc_card.specs.Commands.{apdu_seen};
@@ -22,6 +22,7 @@ impl<'a> Command<'a> {
     pub fn parse(bytes: &'a [u8]) -> Option<Self>
         ensures value { option_map apdu_seen result ≡ apdu_of bytes.entry.now }
         ensures short { IfSome result (λ command. length command.data.now < 256) }
+        ensures long { IfSome result (λ command. length bytes.entry.now ≤ 261) }
     {
         let data = data_in(bytes)?;
         Some(Command {
@@ -37,7 +38,7 @@ impl<'a> Command<'a> {
 // The data of a command, if its length is right.
 fn data_in(bytes: &[u8]) -> Option<&[u8]>
     ensures value { option_map bytes_seen result ≡ data_of bytes.now }
-    ensures long { IfSome result (λ found. (length found.now < 256) × (3 < length bytes.now)) }
+    ensures long { IfSome result (λ found. (length found.now < 256) × ((3 < length bytes.now) × (length bytes.now ≤ 261))) }
 {
     if bytes.len() < 4 {
         return None;

@@ -24,7 +24,7 @@ use jc_card_packages::reading::{ReadFault, read_packages};
 use jc_commit::OpenRefusal;
 use jc_heap::Heap;
 use jc_image::OpenImage;
-use jc_memory::Memory;
+use jc_memory::{Marks, Memory};
 use jc_platform::platform::Platform;
 use jc_platform::read::{LARGEST_TEXT, read_table};
 use jc_platform::table::Table;
@@ -147,10 +147,13 @@ fn link_packages<S: WordStore>(
     ensures stands { IfErr result (λ e. (heap_of (plain_of (S.words e.1)) ≡ heap.now) × (heap_of (recovered_of (S.words e.1)) ≡ heap.durable) × (count_of (S.words e.1) ≡ 0)) }
     ensures store { IfErr result (λ e. (S.down e.1 ≡ false) × (S.passed e.1 ≡ heap.passed) × (S.refused e.1 ≡ heap.refused)) }
 {
+    let Ok(marks) = Marks::new(alloc) else {
+        return Err((PowerFault::NoMemory, heap.into_store()));
+    };
     match read_packages(alloc, platform, &heap) {
         Ok(linked) => {
             let fixed = fixed_of(&heap);
-            let memory = Memory::new(heap, ram, fixed);
+            let memory = Memory::new(heap, ram, fixed, marks);
             Ok(Card {
                 alloc,
                 memory,

@@ -24,4 +24,8 @@ impl StatusWord {
     pub const CLA_NOT_SUPPORTED: StatusWord = StatusWord(0x6E00);
     /// No precise diagnosis: an uncaught exception or a code fault.
     pub const UNKNOWN: StatusWord = StatusWord(0x6F00);
+    /// No applet has this AID.
+    pub const NO_APPLET: StatusWord = StatusWord(0x6A88);
+    /// No applet was selected.
+    pub const NOT_SELECTED: StatusWord = StatusWord(0x6999);
 }

@@ -1,0 +1,146 @@
+//! Commands that applets answer, and "create applet".
+ghost use Rattle.std.specs.Prelude.{◌≡◌, ◌≤◌, false, length, OnOk};
+ghost use Rattle.jc_memory.specs.Doing.{Makes, after_step};
+ghost use Rattle.jc_card.specs.Answers.{after_exchange};
+ghost use Rattle.jc_card.specs.Commands.{apdu_seen};
+ghost use Rattle.jc_card.specs.Dispatching.{creates, dispatched, expected_by, is_select, routed, status_of_ending, to_named, to_selected};
+
+use crate::card::Card;
+use crate::command::Command;
+use crate::response::Response;
+use crate::status::StatusWord;
+use jc_dispatch::create::create;
+use jc_dispatch::ending::Ending;
+use jc_dispatch::process::process;
+use jc_dispatch::select::{select, select_manager};
+use jc_linker::linked::Linked;
+use jc_memory::Memory;
+use jc_registry::applet_with_aid;
+use jc_words::{StoreDown, WordStore};
+
+/// A command carries out at most so many instructions.
+const MOST_INSTRUCTIONS: u32 = 100_000;
+
+/// The AID by which the manager is selected.
+const MANAGER_AID: [u8; 6] = [0xF0, 0x4A, 0x43, 0x4D, 0x47, 0x52];
+
+/// SELECT by an AID (ISO/IEC 7816-4): 00 A4 04 00.
+const SELECT: u8 = 0xA4;
+
+const BY_AID: u8 = 4;
+
+// Whether a command is SELECT by an AID.
+pub(crate) fn is_select(command: Command<'_>) -> bool
+    ensures { result ≡ is_select (apdu_seen command.entry) }
+{
+    command.class == 0
+        && command.instruction == SELECT
+        && command.p1 == BY_AID
+        && command.p2 == 0
+        && !command.data.is_empty()
+}
+
+// How many bytes a command expects.
+fn expected_by(bytes: &[u8]) -> u16
+    ensures { result ≡ expected_by bytes.now }
+{
+    let count = bytes.len();
+    if count == 5 {
+        return u16::from(bytes[4]);
+    }
+    if count > 5 && count == 6 + usize::from(bytes[4]) {
+        return u16::from(bytes[count - 1]);
+    }
+    0
+}
+
+// The status word of a command that an applet answered, or by which one was made.
+fn status_of(ending: Ending) -> StatusWord
+    ensures { result.0 ≡ status_of_ending ending }
+{
+    match ending {
+        Ending::Done => StatusWord::NO_ERROR,
+        Ending::Reason(reason) => StatusWord(reason.cast_unsigned()),
+        Ending::Unknown => StatusWord::UNKNOWN,
+        Ending::NotSelected => StatusWord::NOT_SELECTED,
+        Ending::NotRegistered => StatusWord::CONDITIONS_NOT_SATISFIED,
+        Ending::Malformed => StatusWord::WRONG_DATA,
+        Ending::NoApplet => StatusWord::NO_APPLET,
+        Ending::RegistryFull => StatusWord::FULL,
+    }
+}
+
+// The selected applet answers the command.
+fn to_selected<S: WordStore>(
+    expected: u16,
+    memory: &mut Memory<S>,
+    linked: &Linked,
+) -> Result<Ending, StoreDown>
+    requires up { memory.old.heap.down ≡ false }
+    requires outside { memory.old.heap.begun ≡ false }
+    ensures does { Makes (to_selected memory.old.registers.selected expected linked.now memory.old) memory.old (after_step result memory.new) }
+    ensures outside { OnOk result (memory.new.heap.begun ≡ false) }
+{
+    match memory.registers().selected {
+        Some(applet) => process(MOST_INSTRUCTIONS, applet, false, expected, memory, linked),
+        None => Ok(Ending::NotSelected),
+    }
+}
+
+// SELECT of the manager or of an applet; another command goes to the selected applet.
+#[tactic(auto, unfolding(crate::specs::Dispatching::routed))]
+fn route<S: WordStore>(
+    command: Command<'_>,
+    expected: u16,
+    memory: &mut Memory<S>,
+    linked: &Linked,
+) -> Result<Ending, StoreDown>
+    requires up { memory.old.heap.down ≡ false }
+    requires outside { memory.old.heap.begun ≡ false }
+    ensures does { Makes (routed (apdu_seen command.entry) expected linked.now memory.old) memory.old (after_step result memory.new) }
+    ensures outside { OnOk result (memory.new.heap.begun ≡ false) }
+{
+    if !is_select(command) {
+        return to_selected(expected, memory, linked);
+    }
+    if command.data == MANAGER_AID {
+        return select_manager(MOST_INSTRUCTIONS, memory, linked);
+    }
+    match applet_with_aid(memory, command.data) {
+        Some(applet) => select(MOST_INSTRUCTIONS, applet, expected, memory, linked),
+        None => to_selected(expected, memory, linked),
+    }
+}
+
+impl<S: WordStore> Card<S> {
+    // The response of an applet, or to the command that selects one or the manager.
+    #[tactic(auto, unfolding(crate::specs::Dispatching::dispatched), using(jc_memory::proofs::Doings::bind_did, jc_memory::proofs::Doings::left_before, jc_memory::proofs::Doings::left_after, jc_memory::proofs::Doings::refused_did, jc_memory::proofs::Doings::down_did))]
+    pub(crate) fn dispatch(
+        &mut self,
+        bytes: &[u8],
+        command: Command<'_>,
+    ) -> Result<Response, StoreDown>
+        requires up { self.old.memory.heap.down ≡ false }
+        requires long { length bytes.now ≤ 261 }
+        ensures { Makes (dispatched bytes.now (apdu_seen command.entry) self.old) self.old.memory (after_exchange result self.new) }
+    {
+        self.memory.start(bytes);
+        let expected = expected_by(bytes);
+        let ending = route(command, expected, &mut self.memory, &self.linked)?;
+        Ok(Response::new(self.memory.sent(), status_of(ending)))
+    }
+
+    // "Create applet".
+    #[tactic(auto, unfolding(crate::specs::Dispatching::creates), using(jc_memory::proofs::Doings::bind_did, jc_memory::proofs::Doings::left_before, jc_memory::proofs::Doings::left_after, jc_memory::proofs::Doings::refused_did, jc_memory::proofs::Doings::down_did))]
+    pub(crate) fn create(&mut self, bytes: &[u8]) -> Result<Response, StoreDown>
+        requires up { self.old.memory.heap.down ≡ false }
+        ensures { Makes (creates bytes.now self.old) self.old.memory (after_exchange result self.new) }
+    {
+        if bytes.is_empty() {
+            return Ok(Response::of_status(StatusWord::WRONG_LENGTH));
+        }
+        self.memory.start(&[]);
+        let ending = create(MOST_INSTRUCTIONS, bytes, &mut self.memory, &self.linked)?;
+        Ok(Response::of_status(status_of(ending)))
+    }
+}
