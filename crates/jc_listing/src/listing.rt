@@ -1,0 +1,203 @@
+//! The packages and the applets that an image lists, read from its words as they stand: nothing is recovered.
+ghost use Rattle.std.specs.Prelude.{◌≡◌, ◌<◌, ◌≤◌, ◌+◌, ◌/◌, length};
+ghost use Rattle.jc_words.specs.Layout.{text_start};
+ghost use Rattle.jc_listing.specs.Listing.{applet_at, applet_in, byte_in, bytes_in, name_in, named_at, package_at};
+
+use arrayvec::ArrayVec;
+use jc_cap_fields::formats::Format;
+use jc_cap_text::header::read_header;
+use jc_words::WordStore;
+use jc_words::layout::{ADDRESSES, MOST_APPLETS, MOST_PACKAGES, REGISTRY};
+use std::marker::Model;
+
+/// How many bytes the info of a Header component has at most: magic, format, flags, and the package's name.
+const MOST_HEADER: usize = 26;
+
+/// How many bytes an AID has at least and at most.
+const LEAST_AID: u16 = 5;
+
+const MOST_AID: u16 = 16;
+
+/// The version and the AID of a package.
+#[derive(Drop)]
+pub struct PackageName {
+    minor_version: u8,
+    major_version: u8,
+    aid: ArrayVec<u8, MOST_HEADER>,
+}
+
+impl Model for PackageName {
+    ghost use Rattle.jc_cap_fields.specs.Packages.{NamedPackage};
+
+    ghost Value = { NamedPackage };
+
+    ghost view = { λ n. record { minor_version = n.minor_version; major_version = n.major_version; aid = n.aid.items } };
+}
+
+impl PackageName {
+    /// The minor version.
+    pub fn minor_version(&self) -> u8
+        ensures { result ≡ self.now.minor_version }
+    {
+        self.minor_version
+    }
+
+    /// The major version.
+    pub fn major_version(&self) -> u8
+        ensures { result ≡ self.now.major_version }
+    {
+        self.major_version
+    }
+
+    /// The AID.
+    pub fn aid(&self) -> &[u8]
+        ensures value { result.now ≡ self.now.aid }
+        ensures long { length result.now ≤ 26 }
+    {
+        self.aid.as_slice()
+    }
+}
+
+/// The AID of an applet, and the number of its package.
+#[derive(Drop)]
+pub struct AppletName {
+    aid: ArrayVec<u8, MOST_HEADER>,
+    package_number: u16,
+}
+
+impl Model for AppletName {
+    ghost use Rattle.jc_listing.specs.Listed.{NamedApplet};
+
+    ghost Value = { NamedApplet };
+
+    ghost view = { λ n. record { aid = n.aid.items; package_number = n.package_number } };
+}
+
+impl AppletName {
+    /// The AID.
+    pub fn aid(&self) -> &[u8]
+        ensures value { result.now ≡ self.now.aid }
+        ensures long { length result.now ≤ 26 }
+    {
+        self.aid.as_slice()
+    }
+
+    /// The number of its package.
+    pub fn package_number(&self) -> u16
+        ensures { result ≡ self.now.package_number }
+    {
+        self.package_number
+    }
+}
+
+// A byte of words, two a word, the high one first.
+fn byte_in<S: WordStore>(store: &S, at: u16, i: u16) -> u8
+    requires { at + i / 2 < length (S.words store.now) }
+    ensures { result ≡ byte_in (S.words store.now) at i }
+{
+    let _ = store.size(); // so that the proof knows that there are fewer than 65,536 words
+    let word = store.read(at + i / 2);
+    if i % 2 == 0 {
+        (word / 256) as u8
+    } else {
+        (word % 256) as u8
+    }
+}
+
+// So many bytes from a word on.
+fn bytes_in<S: WordStore>(store: &S, at: u16, count: u16) -> ArrayVec<u8, MOST_HEADER>
+    requires few { count ≤ 26 }
+    requires there { at + (count + 1) / 2 ≤ length (S.words store.now) }
+    ensures { result.items ≡ bytes_in (S.words store.now) at count }
+{
+    let mut bytes = ArrayVec::new();
+    for i in 0..count {
+        bytes.push(byte_in(store, at, i));
+    }
+    bytes
+}
+
+// The name that the info of a Header component tells.
+fn name_in(info: &[u8]) -> Option<PackageName>
+    requires { length info.now ≤ 26 }
+    ensures { result ≡ name_in info.now }
+{
+    match read_header(Format::V2_1, info) {
+        Ok(header) => {
+            let named = header.this_package;
+            let mut aid = ArrayVec::new();
+            let _ = aid.try_extend_from_slice(named.aid);
+            Some(PackageName {
+                minor_version: named.minor_version,
+                major_version: named.major_version,
+                aid,
+            })
+        }
+        Err(_) => None,
+    }
+}
+
+// The name of the package whose record begins at a word, with a whole Header component.
+#[tactic(auto, unfolding(crate::specs::Listing::named_at))]
+fn named_at<S: WordStore>(store: &S, at: u16) -> Option<PackageName>
+    ensures { result ≡ named_at (S.words store.now) at }
+{
+    let size = u32::from(store.size());
+    if u32::from(at) + 2 >= size {
+        return None;
+    }
+    let tag = store.read(at + 1);
+    let count = store.read(at + 2);
+    if tag != 1 || count > MOST_HEADER as u16 {
+        return None;
+    }
+    if u32::from(at) + 3 + (u32::from(count) + 1) / 2 > size {
+        return None;
+    }
+    name_in(bytes_in(store, at + 3, count).as_slice())
+}
+
+/// The name of the package with this number, from 1 on; `None` where the words tell none.
+#[tactic(auto, unfolding(crate::specs::Listing::package_at))]
+pub fn package_at<S: WordStore>(store: &S, number: u16) -> Option<PackageName>
+    requires { text_start ≤ length (S.words store.now) }
+    ensures { result ≡ package_at (S.words store.now) number }
+{
+    if number == 0 || number > MOST_PACKAGES {
+        return None;
+    }
+    named_at(store, store.read(ADDRESSES + (number - 1)))
+}
+
+// The applet of an AID object at a word.
+#[tactic(auto, unfolding(crate::specs::Listing::applet_in))]
+fn applet_in<S: WordStore>(store: &S, at: u16, package_number: u16) -> Option<AppletName>
+    ensures { result ≡ applet_in (S.words store.now) at package_number }
+{
+    if u32::from(at) + 12 >= u32::from(store.size()) {
+        return None;
+    }
+    let kind = store.read(at);
+    let cells = store.read(at + 3);
+    let count = store.read(at + 4);
+    if kind != 1 || cells != 9 || count < LEAST_AID || count > MOST_AID {
+        return None;
+    }
+    Some(AppletName {
+        aid: bytes_in(store, at + 5, count),
+        package_number,
+    })
+}
+
+/// The name of the applet with this number, from 1 on; `None` where the words tell none.
+#[tactic(auto, unfolding(crate::specs::Listing::applet_at))]
+pub fn applet_at<S: WordStore>(store: &S, number: u16) -> Option<AppletName>
+    requires { text_start ≤ length (S.words store.now) }
+    ensures { result ≡ applet_at (S.words store.now) number }
+{
+    if number == 0 || number > MOST_APPLETS {
+        return None;
+    }
+    let at = REGISTRY + 3 * (number - 1);
+    applet_in(store, store.read(at), store.read(at + 1))
+}
