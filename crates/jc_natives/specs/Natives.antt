@@ -5,6 +5,9 @@ use Rattle.jc_memory.specs.State.{MemoryState}
 use Rattle.jc_platform.specs.declared.names.PlatformMethod.{PlatformMethod}
 use Rattle.jc_packages.specs.Values.{Packages}
 use Rattle.jc_world.specs.Calls.{Calling, faults}
+use Rattle.jc_api_aid.specs.AidCalls.{aid_called}
+use Rattle.jc_api_apdu.specs.Apdu.{apdu_called}
+use Rattle.jc_api_system.specs.System.{system_called}
 use Rattle.jc_api_util.specs.Exceptions.{exception_called}
 use Rattle.jc_api_util.specs.Objects.{object_called}
 use Rattle.jc_api_util.specs.Util.{util_called}
@@ -17,11 +20,11 @@ abbrev pub called_in : Part → PlatformMethod → List Cell → Packages → Me
 called_in Objects method args p m = object_called method args
 called_in CardExceptions method args p m = exception_called method args m
 called_in Utilities method args p m = util_called method args p m
-called_in System method args p m = faults
-called_in Aids method args p m = faults
+called_in System method args p m = system_called method args p m
+called_in Aids method args p m = aid_called method args p m
 called_in Pins method args p m = faults
 called_in Applets method args p m = faults
-called_in Apdus method args p m = faults
+called_in Apdus method args p m = apdu_called method args m
 
 -- with these arguments, the receiver first
 unfoldable pub called : PlatformMethod → List Cell → Packages → MemoryState → Calling

@@ -5,6 +5,9 @@ ghost use Rattle.jc_world.specs.Calls.{after_call};
 ghost use Rattle.jc_natives.specs.Natives.{called};
 
 use crate::parts::{Part, part_of};
+use jc_api_aid::aid::call_aid;
+use jc_api_apdu::call_apdu;
+use jc_api_system::system::call_system;
 use jc_api_util::exceptions::call_exception;
 use jc_api_util::objects::call_object;
 use jc_api_util::util::call_util;
@@ -31,10 +34,10 @@ pub fn call_native<S: WordStore>(
         Part::Objects => call_object(method, args, memory),
         Part::CardExceptions => call_exception(method, args, memory),
         Part::Utilities => call_util(method, args, memory, linked),
-        Part::System => Err(Break::End(Outcome::Fault)),
-        Part::Aids => Err(Break::End(Outcome::Fault)),
+        Part::System => call_system(method, args, memory, linked),
+        Part::Aids => call_aid(method, args, memory, linked),
         Part::Pins => Err(Break::End(Outcome::Fault)),
         Part::Applets => Err(Break::End(Outcome::Fault)),
-        Part::Apdus => Err(Break::End(Outcome::Fault)),
+        Part::Apdus => call_apdu(method, args, memory),
     }
 }

@@ -1,0 +1,43 @@
+-- What the calls of OwnerPIN are given.
+use Rattle.std.specs.Prelude.{ℕ, ℤ, pos, negsuc, nat_le, List, if◌then◌else◌, Option, Some, None, Result, Ok, Err}
+use Rattle.std.specs.Option.{option_and_then}
+use Rattle.jc_frames.specs.declared.cell.Cell.{Cell}
+use Rattle.jc_frames.specs.declared.outcome.Exception.{Exception}
+use Rattle.jc_frames.specs.declared.outcome.Exception.TheVariants.{PINException}
+use Rattle.jc_frames.specs.declared.outcome.Stop.{Stop}
+use Rattle.jc_frames.specs.declared.outcome.Stop.TheVariants.{Throw}
+use Rattle.jc_memory.specs.State.{MemoryState}
+use Rattle.jc_packages.specs.Values.{Packages}
+use Rattle.jc_pin.specs.Pins.{is_pin}
+use Rattle.jc_world.specs.Objects.{or_fault, short_argument, reference_argument}
+use Rattle.jc_api_arguments.specs.declared.arrays.Stretch.{Stretch}
+use Rattle.jc_api_arguments.specs.Arrays.{bytes_argument, elements_of}
+use Rattle.jc_api_pin.specs.declared.given.Given.{Given}
+
+-- ILLEGAL_VALUE
+abbrev pub illegal_value : Exception
+illegal_value = PINException (pos 1)
+
+-- the PIN that is called. An instance whose cells are none of a PIN is a code fault
+abbrev pub receiver : MemoryState → List Cell → Option ℕ
+receiver m args = option_and_then (λ r. if is_pin m r then Some r else None) (reference_argument args 0)
+
+-- a limit, or a maximum: none below 1
+abbrev pub at_least_1 : ℤ → Result ℕ Stop
+at_least_1 (pos n) = if nat_le 1 n then Ok n else Err (Throw illegal_value)
+at_least_1 (negsuc n) = Err (Throw illegal_value)
+
+-- with what a check gave, the next
+abbrev pub and_then : {A B : Type 0} → Result A Stop → (A → Result B Stop) → Result B Stop
+and_then (Ok a) go = go a
+and_then (Err e) go = Err e
+
+-- an array of bytes, an offset and a length: of the right kinds, or a code fault
+abbrev pub given_in : List Cell → MemoryState → Result Given Stop
+given_in args m =
+    and_then (or_fault (reference_argument args 1)) (λ array. and_then (or_fault (short_argument args 2)) (λ start. and_then (or_fault (short_argument args 3)) (λ count.
+    and_then (bytes_argument m array) (λ header. Ok (record { array = array; header = header; start = start; count = count })))))
+
+-- the bytes that they name, or what throws
+abbrev pub named_by : Given → Packages → MemoryState → Result Stretch Stop
+named_by g p m = elements_of p m g.array g.header g.start g.count

@@ -1,0 +1,90 @@
+//! What the calls of `OwnerPIN` are given.
+ghost use Rattle.std.specs.Prelude.{◌≡◌, ◌≤◌, false, IfOk};
+ghost use Rattle.jc_frames.specs.Cells.{found};
+ghost use Rattle.jc_pin.specs.Pins.{IsPin};
+ghost use Rattle.jc_api_arguments.specs.Arrays.{IsBytesArgument, IsInArray};
+ghost use Rattle.jc_api_pin.specs.Arguments.{at_least_1, given_in, named_by, receiver};
+
+use jc_api_arguments::{Stretch, bytes_argument, elements};
+use jc_frames::{Cell, CodeFault, Exception, Stop};
+use jc_heap::Facts;
+use jc_linker::linked::Linked;
+use jc_memory::Memory;
+use jc_pin::is_pin;
+use jc_transient::Ref;
+use jc_words::WordStore;
+use jc_world::arguments::{reference_argument, short_argument};
+
+/// A value is longer than the maximum, or a limit or maximum is below 1 (`ILLEGAL_VALUE`).
+pub(crate) const ILLEGAL_VALUE: Exception = Exception::PINException(1);
+
+/// An array of bytes with its header, none for null; an offset and a length.
+#[derive(Clone, Copy, Debug, PartialEq, Eq)]
+pub(crate) struct Given {
+    pub array: Ref,
+    pub header: Option<Facts>,
+    pub start: i16,
+    pub count: i16,
+}
+
+/// The PIN that is called. An instance whose cells are none of a PIN is a code fault.
+pub(crate) fn receiver<S: WordStore>(args: &[Cell], memory: &Memory<S>) -> Result<Ref, CodeFault>
+    requires up { memory.now.heap.down ≡ false }
+    ensures pin { found result ≡ receiver memory.now args.now }
+    ensures there { IfOk result (IsPin memory.now) }
+{
+    let pin = reference_argument(args, 0)?;
+    if !is_pin(memory, pin) {
+        return Err(CodeFault);
+    }
+    Ok(pin)
+}
+
+/// A limit or a maximum: none below 1.
+pub(crate) fn at_least_1(number: i16) -> Result<u16, Stop>
+    ensures { result ≡ at_least_1 number }
+{
+    if number < 1 {
+        return Err(Stop::Throw(ILLEGAL_VALUE));
+    }
+    Ok(number.cast_unsigned())
+}
+
+/// An array of bytes, an offset and a length, behind the receiver.
+pub(crate) fn given_in<S: WordStore>(args: &[Cell], memory: &Memory<S>) -> Result<Given, Stop>
+    requires up { memory.now.heap.down ≡ false }
+    ensures given { result ≡ given_in args.now memory.now }
+    ensures there { IfOk result (λ g. IsBytesArgument memory.now g.array g.header) }
+{
+    let array = reference_argument(args, 1)?;
+    let start = short_argument(args, 2)?;
+    let count = short_argument(args, 3)?;
+    let header = bytes_argument(array, memory)?;
+    Ok(Given {
+        array,
+        header,
+        start,
+        count,
+    })
+}
+
+/// The bytes that they name, or what throws.
+pub(crate) fn named_by<S: WordStore>(
+    given: &Given,
+    memory: &Memory<S>,
+    linked: &Linked,
+) -> Result<Stretch, Stop>
+    requires up { memory.now.heap.down ≡ false }
+    requires there { IsBytesArgument memory.now given.now.array given.now.header }
+    ensures named { result ≡ named_by given.now linked.now memory.now }
+    ensures there { IfOk result (IsInArray memory.now) }
+{
+    elements(
+        given.array,
+        given.header,
+        given.start,
+        given.count,
+        memory,
+        linked,
+    )
+}
