@@ -1,6 +1,6 @@
 -- What power up finds.
-use Rattle.std.proofs.Common.{◌≡◌, ℕ, ◌+◌, ◌/◌, ◌≤◌, ◌<◌, ◌⊎◌, inl, inr, List, [], ◌∷◌, take, length, get_or, lit<, refl, sym, ◌∙◌, ap, subst, arith, Ok, Err}
-use Rattle.std.specs.Prelude.{Result, IsOk, IfErr, OnOk, Option, Some, None}
+use Rattle.std.proofs.Common.{◌≡◌, ℕ, ◌+◌, ◌/◌, ◌≤◌, ◌<◌, ◌⊎◌, inl, inr, List, [], ◌∷◌, map, take, length, get_or, lit<, refl, sym, ◌∙◌, ap, subst, arith, Ok, Err}
+use Rattle.std.specs.Prelude.{Result, IsOk, IfOk, IfErr, OnOk, Option, Some, None}
 use Rattle.std.proofs.lemmas.Bool.{false≢true}
 use Rattle.std.proofs.lemmas.List.{get_or-take}
 use Rattle.jc_words.specs.Image.{HasSize}
@@ -8,7 +8,9 @@ use Rattle.jc_words.specs.declared.image.ImageFault.{ImageFault}
 use Rattle.jc_words.specs.Layout.{magic_address, version_address, size_address, text_length_address, text_start, magic, version}
 use Rattle.jc_commit.specs.Image.{IsGoodLog, recovered_of}
 use Rattle.jc_heap.specs.Image.{IsLaid, base, image}
-use Rattle.jc_heap.specs.Heap.{heap_of}
+use Rattle.jc_heap.specs.Heap.{HeapState, heap_of}
+use Rattle.jc_heap.specs.Components.{record_of}
+use Rattle.jc_card_packages.specs.Reading.{packages_of, with_records}
 use Rattle.jc_image.specs.Beginning.{BeginsWith}
 use Rattle.jc_heap.proofs.RawWords.{recovered-front, head_is, text_is}
 use Rattle.jc_heap.proofs.Following.{base_is}
@@ -22,7 +24,7 @@ use Rattle.jc_platform.proofs.OneAnswer.{same_words}
 use Rattle.jc_card.specs.declared.fixed.FixedObject.{FixedObject}
 use Rattle.jc_card.specs.Fixed.{class_number_of, fixed_facts, fixed_objects}
 use Rattle.jc_card.specs.Made.{IsMade}
-use Rattle.jc_card.specs.PowerUp.{HasHead, HasTable, HasHeap, Refuses, Fails, Stands, IsRecovered}
+use Rattle.jc_card.specs.PowerUp.{HasHead, HasTable, HasHeap, Refuses, Fails, Stands, StandsBy, HasPackages}
 use Rattle.jc_card.specs.declared.power_up.PowerFault.{PowerFault}
 use Rattle.jc_card.specs.declared.power_up.PowerFault.TheVariants.{BadMagic, BadVersion, BadSize, BadLog, BadTable, BadPackage, NoMemory, StoreDown}
 
@@ -80,23 +82,28 @@ text_fits w laid =
 has_table : (w : List ℕ) (t : Tokens) → IsLaid w → Reads (heap_of w).text (Ok t) → HasTable w t
 has_table w t laid reads = (text_fits w laid, subst (λ l. Reads l (Ok t)) (text_is w laid) reads)
 
+-- where there are no packages, they all link
+no_packages : (t : Tokens) (h : HeapState) → h.packages ≡ [] → HasPackages t h
+unfolding packages_of
+no_packages t h none = (record { platform = t; loaded = [] }, ap (λ ps. with_records (record { platform = t; loaded = [] }) (map (record_of h) ps)) none)
+
 -- what the product made is refused for want of memory alone, or by the store
-pub refused_made : (w : List ℕ) (f : PowerFault) → IsMade w → Refuses f w → (f ≡ NoMemory) ⊎ (f ≡ StoreDown)
-refused_made w BadMagic made r = absurd (r (has_head w made).magic)
-refused_made w BadVersion made r = absurd (r.1 (has_head w made).version)
-refused_made w BadSize made r = absurd (r.2 (has_head w made).size)
-refused_made w BadLog made r = absurd (r.1 made.log)
-refused_made w BadTable made r = absurd (r.2 made.heap.platform.0 (has_table (recovered_of w) made.heap.platform.0 made.laid made.heap.platform.1))
-refused_made w BadPackage made r =
+pub refused_made : (w : List ℕ) (f : PowerFault) → IsMade w → (heap_of (recovered_of w)).packages ≡ [] → Refuses f w → (f ≡ NoMemory) ⊎ (f ≡ StoreDown)
+refused_made w BadMagic made none r = absurd (r (has_head w made).magic)
+refused_made w BadVersion made none r = absurd (r.1 (has_head w made).version)
+refused_made w BadSize made none r = absurd (r.2 (has_head w made).size)
+refused_made w BadLog made none r = absurd (r.1 made.log)
+refused_made w BadTable made none r = absurd (r.2 made.heap.platform.0 (has_table (recovered_of w) made.heap.platform.0 made.laid made.heap.platform.1))
+refused_made w BadPackage made none r =
     let words : (c : PlatformClass) → class_word made.heap.platform.0 c ≡ class_word r.2.0 c =
     same_words (heap_of (recovered_of w)).text made.heap.platform.0 r.2.0 made.heap.platform.1 (subst (λ l. Reads l (Ok r.2.0)) (sym (text_is (recovered_of w) made.laid)) r.2.1.1) in
-    absurd (r.2.2 (made.laid, made.heap.whole, subst (BeginsWith (heap_of (recovered_of w))) (same_facts made.heap.platform.0 r.2.0 words 0 fixed_objects) made.heap.platform.2))
-refused_made w NoMemory made r = inl refl
-refused_made w StoreDown made r = inr refl
+    absurd (r.2.2 (made.laid, made.heap.whole, subst (BeginsWith (heap_of (recovered_of w))) (same_facts made.heap.platform.0 r.2.0 words 0 fixed_objects) made.heap.platform.2, no_packages r.2.0 (heap_of (recovered_of w)) none))
+refused_made w NoMemory made none r = inl refl
+refused_made w StoreDown made none r = inr refl
 
-pub refused_if : {A E : Type 0} (r : Result A E) (fault : E → PowerFault) (w : List ℕ) → IsMade w → IfErr r (λ e. Refuses (fault e) w) → IfErr r (λ e. (fault e ≡ NoMemory) ⊎ (fault e ≡ StoreDown))
-refused_if (Ok a) fault w made f = tt
-refused_if (Err e) fault w made f = refused_made w (fault e) made f
+pub refused_if : {A E : Type 0} (r : Result A E) (fault : E → PowerFault) (w : List ℕ) → IsMade w → (heap_of (recovered_of w)).packages ≡ [] → IfErr r (λ e. Refuses (fault e) w) → IfErr r (λ e. (fault e ≡ NoMemory) ⊎ (fault e ≡ StoreDown))
+refused_if (Ok a) fault w made none f = tt
+refused_if (Err e) fault w made none f = refused_made w (fault e) made none f
 
 -- the same for the parts of a recovered image
 pub refuses_from : (w : List ℕ) (f : PowerFault) → HasHead w → IsGoodLog w → Fails f (recovered_of w) → Refuses f w
@@ -109,7 +116,7 @@ refuses_from w BadPackage head log r = (head, log, r)
 refuses_from w NoMemory head log r = (head, log)
 refuses_from w StoreDown head log r = absurd r
 
-pub stands_from : (w new : List ℕ) (f : PowerFault) → Fails f (recovered_of w) → IsRecovered (recovered_of w) new → Stands f w new
+pub stands_from : (w new : List ℕ) (f : PowerFault) → Fails f (recovered_of w) → StandsBy f (recovered_of w) new → Stands f w new
 stands_from w new BadMagic r s = absurd r
 stands_from w new BadVersion r s = absurd r
 stands_from w new BadSize r s = absurd r
@@ -132,3 +139,8 @@ pub no_image_fault : (r : Result Unit ImageFault) (f : ImageFault) (w : List ℕ
 no_image_fault r f w is ok made =
     let h : HasHead w = has_head w made in
     false≢true (subst IsOk is (ok (h.magic, h.version, h.size)))
+
+-- a fact from what is so of an answer
+pub on_if : {A E : Type 0} (r : Result A E) (Q : A → Type 0) (P : Type 0) → ((a : A) → Q a → P) → IfOk r Q → OnOk r P
+on_if (Ok a) Q P f q = f a q
+on_if (Err e) Q P f q = tt

@@ -1,14 +1,23 @@
 -- The state of a card.
-use Rattle.std.specs.Prelude.{◌≡◌, false}
+use Rattle.std.specs.Prelude.{◌≡◌, false, Option}
 use Rattle.jc_heap.specs.Heap.{HeapView}
-use Rattle.jc_transient.specs.State.{RamState}
+use Rattle.jc_packages.specs.Values.{Packages}
+use Rattle.jc_memory.specs.State.{MemoryState}
+use Rattle.jc_memory.specs.Power.{VolatileState}
+use Rattle.jc_card_load.specs.declared.load.OpenLoad.{OpenLoad}
 
--- its heap, and its memory
+-- what running code changes; the packages, linked; and the load that is open, if one is
 pub record CardState : Type 0 where
-  pub heap : HeapView
-  pub ram : RamState
+  pub memory : MemoryState
+  pub packages : Packages
+  pub load : Option OpenLoad
 
--- between two commands: the store has refused no write, and no transaction is open
-pub record IsReady (heap : HeapView) : Type 0 where
-  pub up : heap.down ≡ false
-  pub outside : heap.begun ≡ false
+-- all but the heap
+pub record RestState : Type 0 where
+  pub volatile : VolatileState
+  pub packages : Packages
+  pub load : Option OpenLoad
+
+-- between two commands no transaction is open, unless the store has refused a write
+abbrev pub IsReady : HeapView → Type 0
+IsReady heap = heap.down ≡ false → heap.begun ≡ false

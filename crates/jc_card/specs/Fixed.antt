@@ -1,12 +1,13 @@
 -- The objects that the runtime environment owns from an image's making on: one exception of each class that it
 -- throws itself, the APDU object and the APDU buffer. All are cleared at a reset.
-use Rattle.std.specs.Prelude.{ℕ, ◌+◌, List, [], ◌∷◌, Option, Some, None}
+use Rattle.std.specs.Prelude.{ℕ, zero, suc, ◌+◌, List, [], ◌∷◌, map, Option, Some, None, unwrap_or}
+use Rattle.std.specs.List.{range_with_len}
 use Rattle.jc_transient.specs.State.{buffer_size}
 use Rattle.jc_transient.specs.declared.cell.ClearEvent.TheVariants.{Reset}
 use Rattle.jc_heap.specs.declared.object.Kind.TheVariants.{Instance, ByteArray}
 use Rattle.jc_heap.specs.declared.object.Facts.{Facts}
 use Rattle.jc_image.specs.Beginning.{BeginsWith}
-use Rattle.jc_heap.specs.Heap.{HeapState, add_transient}
+use Rattle.jc_heap.specs.Heap.{HeapState, add_transient, next_object}
 use Rattle.jc_platform.specs.Tokens.{Tokens}
 use Rattle.jc_platform.specs.Distinct.{class_word}
 use Rattle.jc_platform.specs.declared.names.PlatformClass.{PlatformClass}
@@ -66,3 +67,16 @@ BeginsWithFixed t h = BeginsWith h (fixed_facts t 0 fixed_objects)
 abbrev pub with_objects : Tokens → HeapState → List FixedObject → HeapState
 with_objects t h [] = h
 with_objects t h (o ∷ more) = with_objects t (add_transient h o.kind Reset (class_number_of t o.class) 0 o.cells) more
+
+-- the object behind an address, or the first one of all behind null; null, where there is none
+abbrev pub next_or_null : HeapState → ℕ → ℕ
+next_or_null h r = unwrap_or (next_object h r) 0
+
+-- the object with this number in the order of addresses, from 1 on
+unfoldable pub object_number : HeapState → ℕ → ℕ
+object_number h zero = 0
+object_number h (suc k) = next_or_null h (object_number h k)
+
+-- the addresses of the objects of the runtime environment
+abbrev pub fixed_of : HeapState → List ℕ
+fixed_of h = map (object_number h) (range_with_len 1 17)

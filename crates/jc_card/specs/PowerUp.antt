@@ -1,15 +1,17 @@
 -- Powering up: why words don't, and what a refusal leaves.
-use Rattle.std.specs.Prelude.{ℕ, ◌≡◌, ◌≢◌, ◌+◌, ◌/◌, ◌≤◌, List, length, slice_index, Ok}
+use Rattle.std.specs.Prelude.{ℕ, ◌≡◌, ◌≢◌, ◌+◌, ◌/◌, ◌≤◌, List, length, slice_index, Ok, Some}
 use Rattle.jc_words.specs.Image.{HasSize}
 use Rattle.jc_words.specs.declared.image.ImageFault.{ImageFault}
 use Rattle.jc_words.specs.declared.image.ImageFault.TheVariants.{BadMagic as NoMagic, BadVersion as OtherVersion, BadSize as NoSize}
 use Rattle.jc_words.specs.Layout.{magic_address, version_address, text_length_address, text_start, magic, version}
 use Rattle.jc_commit.specs.Image.{IsGoodLog, StillRecovers, plain_of, recovered_of, count_of}
 use Rattle.jc_heap.specs.Image.{IsLaid, table_text}
-use Rattle.jc_heap.specs.Heap.{heap_of}
+use Rattle.jc_heap.specs.Heap.{HeapState, heap_of}
 use Rattle.jc_heap.specs.Whole.{IsWhole}
 use Rattle.jc_platform.specs.Tokens.{Tokens}
 use Rattle.jc_platform.specs.Table.{Reads}
+use Rattle.jc_packages.specs.Values.{Packages}
+use Rattle.jc_card_packages.specs.Reading.{packages_of}
 use Rattle.jc_card.specs.Fixed.{BeginsWithFixed}
 use Rattle.jc_card.specs.declared.power_up.PowerFault.{PowerFault}
 use Rattle.jc_card.specs.declared.power_up.PowerFault.TheVariants.{BadMagic, BadVersion, BadSize, BadLog, BadTable, BadPackage, NoMemory, StoreDown}
@@ -30,9 +32,13 @@ pub record HasHead (w : List ℕ) : Type 0 where
 abbrev pub HasTable : List ℕ → Tokens → Type 0
 HasTable w t = (text_start + (slice_index w text_length_address + 1) / 2 ≤ length w) × Reads (table_text w) (Ok t)
 
--- a whole heap that begins with the objects of the runtime environment
+-- its packages link, each against those before it
+abbrev pub HasPackages : Tokens → HeapState → Type 0
+HasPackages t h = (p : Packages) × (packages_of t h ≡ Some p)
+
+-- a whole heap that begins with the objects of the runtime environment, and whose packages link
 abbrev pub HasHeap : Tokens → List ℕ → Type 0
-HasHeap t w = IsLaid w × IsWhole (heap_of w) × BeginsWithFixed t (heap_of w)
+HasHeap t w = IsLaid w × IsWhole (heap_of w) × BeginsWithFixed t (heap_of w) × HasPackages t (heap_of w)
 
 -- why recovered words don't power up: their table first, then their heap; or memory was refused
 abbrev pub Fails : PowerFault → List ℕ → Type 0
@@ -45,6 +51,31 @@ Fails BadPackage w = (t : Tokens) × HasTable w t × (HasHeap t w → ⊥)
 Fails NoMemory w = Unit {0}
 Fails StoreDown w = ⊥
 
+-- the words are these recovered ones, and no entry counts
+pub record IsRecovered (to new : List ℕ) : Type 0 where
+  pub plain : plain_of new ≡ to
+  pub recovered : recovered_of new ≡ to
+  pub closed : count_of new ≡ 0
+
+-- the words stand for the heap of these recovered ones, and no entry counts
+pub record StandsFor (to new : List ℕ) : Type 0 where
+  pub plain : heap_of (plain_of new) ≡ heap_of to
+  pub recovered : heap_of (recovered_of new) ≡ heap_of to
+  pub closed : count_of new ≡ 0
+
+-- why the packages of a heap are not linked
+abbrev pub FailsToLink : PowerFault → Tokens → HeapState → Type 0
+FailsToLink BadPackage t h = HasPackages t h → ⊥
+FailsToLink NoMemory t h = Unit {0}
+FailsToLink _ t h = ⊥
+
+-- what a fault that is found after the recovery leaves of the words: where it is found last, the heap is known
+abbrev pub StandsBy : PowerFault → List ℕ → List ℕ → Type 0
+StandsBy BadTable to new = IsRecovered to new
+StandsBy BadPackage to new = StandsFor to new
+StandsBy NoMemory to new = StandsFor to new
+StandsBy _ to new = ⊥
+
 -- why words don't power up, each cause before the next
 abbrev pub Refuses : PowerFault → List ℕ → Type 0
 Refuses BadMagic w = slice_index w magic_address ≢ magic
@@ -56,12 +87,6 @@ Refuses BadPackage w = HasHead w × IsGoodLog w × Fails BadPackage (recovered_o
 Refuses NoMemory w = HasHead w × IsGoodLog w
 Refuses StoreDown w = HasHead w × IsGoodLog w
 
--- the words are these recovered ones, and no entry counts
-pub record IsRecovered (to new : List ℕ) : Type 0 where
-  pub plain : plain_of new ≡ to
-  pub recovered : recovered_of new ≡ to
-  pub closed : count_of new ≡ 0
-
 -- what a refusal leaves of the words
 abbrev pub Stands : PowerFault → List ℕ → List ℕ → Type 0
 Stands BadMagic old new = new ≡ old
@@ -69,8 +94,8 @@ Stands BadVersion old new = new ≡ old
 Stands BadSize old new = new ≡ old
 Stands BadLog old new = new ≡ old
 Stands BadTable old new = IsRecovered (recovered_of old) new
-Stands BadPackage old new = IsRecovered (recovered_of old) new
-Stands NoMemory old new = IsRecovered (recovered_of old) new
+Stands BadPackage old new = StandsFor (recovered_of old) new
+Stands NoMemory old new = StandsFor (recovered_of old) new
 Stands StoreDown old new = StillRecovers old new
 
 -- the faults that are found before a recovery, by reading alone

@@ -3,14 +3,14 @@ ghost use Rattle.std.specs.Prelude.{◌≡◌, ◌≤◌, ◌<◌, ◌+◌, ◌*
 ghost use Rattle.jc_words.specs.Count.{raised};
 ghost use Rattle.jc_transient.specs.State.{area_size};
 ghost use Rattle.jc_transient.specs.declared.cell.ClearEvent.TheVariants.{Reset};
-ghost use Rattle.jc_heap.specs.Heap.{area_end};
-ghost use Rattle.jc_card.specs.Fixed.{fixed_objects, class_number_of, facts_of_fixed, cells_of_all, fixed_facts, with_objects};
+ghost use Rattle.jc_heap.specs.Heap.{IsObject, area_end};
+ghost use Rattle.jc_card.specs.Fixed.{fixed_objects, class_number_of, facts_of_fixed, cells_of_all, fixed_facts, fixed_of, next_or_null, with_objects};
 
 use arrayvec::ArrayVec;
 use jc_heap::{Facts, Heap, Kind};
 use jc_platform::names::PlatformClass;
 use jc_platform::table::Table;
-use jc_transient::{BUFFER_CELLS, ClearEvent};
+use jc_transient::{BUFFER_CELLS, ClearEvent, Ref};
 use jc_words::{StoreDown, WordStore};
 
 /// How many objects the runtime environment owns from the beginning.
@@ -204,5 +204,32 @@ fn make<S: WordStore>(
         Ok(_) => Ok(()),
         // There is space and room, so the store alone can refuse.
         Err(_) => Err(StoreDown),
+    }
+}
+
+/// The objects of the runtime environment in a heap that begins with them, in their order.
+pub(crate) fn fixed_of<S: WordStore>(heap: &Heap<S>) -> [Ref; FIXED_COUNT]
+    requires { heap.now.down ≡ false }
+    ensures { result ≡ fixed_of heap.now.now }
+{
+    let mut fixed = [Ref::null(); FIXED_COUNT];
+    let mut at = Ref::null();
+    for k in 0..FIXED_COUNT {
+        at = next_or_null(heap, at);
+        fixed[k] = at;
+    }
+    fixed
+}
+
+// The object behind another one, or the first one of all behind null; null, where there is none.
+fn next_or_null<S: WordStore>(heap: &Heap<S>, object: Ref) -> Ref
+    requires up { heap.now.down ≡ false }
+    requires there { (object ≡ 0 → ⊥) → IsObject heap.now.now object }
+    ensures next { result ≡ next_or_null heap.now.now object }
+    ensures object { (result ≡ 0 → ⊥) → IsObject heap.now.now result }
+{
+    match heap.next(object) {
+        Some(next) => next,
+        None => Ref::null(),
     }
 }

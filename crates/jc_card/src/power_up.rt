@@ -1,5 +1,5 @@
 //! Powering a card up over the words of its image.
-ghost use Rattle.std.specs.Prelude.{ℕ, List, ◌≡◌, ◌⊎◌, ◌+◌, ◌/◌, ◌≤◌, length, slice_index, IfOk, IfErr, OnOk, false, true, MatchResult};
+ghost use Rattle.std.specs.Prelude.{ℕ, List, ◌≡◌, ◌⊎◌, ◌+◌, ◌/◌, ◌≤◌, [], length, slice_index, None, Some, IfOk, IfErr, OnOk, false, true, MatchResult};
 ghost use Rattle.jc_words.specs.Count.{raised};
 ghost use Rattle.jc_words.specs.Layout.{text_length_address, text_start, magic, version};
 ghost use Rattle.jc_commit.specs.Replay.{IsPartOfReplay};
@@ -9,12 +9,23 @@ ghost use Rattle.jc_heap.specs.Image.{table_text};
 ghost use Rattle.jc_transient.specs.State.{IsBlank};
 ghost use Rattle.jc_platform.specs.Tokens.{Tokens};
 ghost use Rattle.jc_card.specs.Made.{IsMade};
-ghost use Rattle.jc_card.specs.PowerUp.{Refuses, Fails, Stands, IsFoundFirst, IsFoundAfter, HasTable, HasHeap, IsRecovered, fault_of};
+ghost use Rattle.jc_heap.specs.Whole.{IsWhole};
+ghost use Rattle.jc_heap.specs.Heap.{heap_of};
+ghost use Rattle.jc_commit.specs.Image.{count_of, plain_of, recovered_of};
+ghost use Rattle.jc_transient.specs.State.{HasSizes};
+ghost use Rattle.jc_memory.specs.Owners.{at_reset};
+ghost use Rattle.jc_card_packages.specs.Reading.{packages_of};
+ghost use Rattle.jc_card.specs.Fixed.{fixed_of};
+ghost use Rattle.jc_card.specs.PowerUp.{Refuses, Fails, FailsToLink, Stands, StandsBy, IsFoundFirst, IsFoundAfter, HasTable, HasHeap, fault_of};
 
 use crate::card::Card;
-use crate::fixed::fixed_headers;
+use crate::fixed::{fixed_headers, fixed_of};
+use jc_card_packages::reading::{ReadFault, read_packages};
 use jc_commit::OpenRefusal;
+use jc_heap::Heap;
 use jc_image::OpenImage;
+use jc_memory::Memory;
+use jc_platform::platform::Platform;
 use jc_platform::read::{LARGEST_TEXT, read_table};
 use jc_platform::table::Table;
 use jc_transient::Ram;
@@ -64,11 +75,14 @@ impl<S: WordStore> Card<S> {
     /// asks for memory. Where it refuses, it gives the store back.
     pub fn power_up(alloc: Global, store: S) -> Result<Card<S>, (PowerFault, S)>
         ensures made { OnOk result (IsMade (S.words store)) }
-        ensures heap { IfOk result (λ card. card.heap ≡ heap_view (opened (S.words store) (S.passed store) (S.refused store)) (length (S.words store))) }
-        ensures blank { IfOk result (λ card. IsBlank card.ram) }
+        ensures heap { IfOk result (λ card. card.memory.heap ≡ heap_view (opened (S.words store) (S.passed store) (S.refused store)) (length (S.words store))) }
+        ensures blank { IfOk result (λ card. IsBlank card.memory.ram) }
+        ensures load { IfOk result (λ card. card.load ≡ None) }
         ensures cause { IfErr result (λ e. Refuses e.0 (S.words store)) }
         ensures stands { IfErr result (λ e. Stands e.0 (S.words store) (S.words e.1)) }
-        ensures of_made { IsMade (S.words store) → IfErr result (λ e. (e.0 ≡ PowerFault.NoMemory) ⊎ (e.0 ≡ PowerFault.StoreDown)) }
+        // Over an image that the product made and that holds no packages yet, it refuses for want of memory alone, or
+        // by the store.
+        ensures of_made { IsMade (S.words store) → (heap_of (recovered_of (S.words store))).packages ≡ [] → IfErr result (λ e. (e.0 ≡ PowerFault.NoMemory) ⊎ (e.0 ≡ PowerFault.StoreDown)) }
         ensures was_up { OnOk result (S.down store ≡ false) }
         ensures down { IfErr result (λ e. e.0 ≡ PowerFault.StoreDown → S.down e.1 ≡ true) }
         ensures was_down { IfErr result (λ e. S.down store ≡ true → e.1 ≡ store) }
@@ -93,10 +107,11 @@ impl<S: WordStore> Card<S> {
 fn start<S: WordStore>(alloc: Global, image: OpenImage<S>) -> Result<Card<S>, (PowerFault, S)>
     requires { image.down ≡ false }
     ensures ok { OnOk result ((t : Tokens) × HasTable image.plain t × HasHeap t image.plain) }
-    ensures heap { IfOk result (λ card. card.heap ≡ heap_view image (length image.plain)) }
-    ensures blank { IfOk result (λ card. IsBlank card.ram) }
+    ensures heap { IfOk result (λ card. card.memory.heap ≡ heap_view image (length image.plain)) }
+    ensures blank { IfOk result (λ card. IsBlank card.memory.ram) }
+    ensures load { IfOk result (λ card. card.load ≡ None) }
     ensures cause { IfErr result (λ e. Fails e.0 image.plain) }
-    ensures stands { IfErr result (λ e. IsRecovered image.plain (S.words e.1)) }
+    ensures stands { IfErr result (λ e. StandsBy e.0 image.plain (S.words e.1)) }
     ensures up { IfErr result (λ e. S.down e.1 ≡ false) }
     ensures counts { IfErr result (λ e. (S.passed e.1 ≡ image.passed) × (S.refused e.1 ≡ image.refused)) }
     ensures found { IfErr result (λ e. IsFoundAfter e.0) }
@@ -109,8 +124,52 @@ fn start<S: WordStore>(alloc: Global, image: OpenImage<S>) -> Result<Card<S>, (P
         return Err((PowerFault::NoMemory, image.into_store()));
     };
     match image.check(&fixed_headers(&table)) {
-        Ok(heap) => Ok(Card { heap, ram }),
+        Ok(heap) => link_packages(alloc, table.platform(), heap, ram),
         Err(store) => Err((PowerFault::BadPackage, store)),
+    }
+}
+
+// The card of a whole heap, whose packages are read and linked.
+fn link_packages<S: WordStore>(
+    alloc: Global,
+    platform: Platform,
+    heap: Heap<S>,
+    ram: Ram,
+) -> Result<Card<S>, (PowerFault, S)>
+    requires up { heap.down ≡ false }
+    requires rests { heap.begun ≡ false }
+    requires whole { IsWhole heap.now }
+    requires sizes { HasSizes ram }
+    ensures packages { IfOk result (λ card. packages_of platform heap.now ≡ Some card.packages) }
+    ensures memory { IfOk result (λ card. card.memory ≡ record { heap = heap; ram = ram; fixed = fixed_of heap.now; registers = at_reset; command = []; sent = [] }) }
+    ensures load { IfOk result (λ card. card.load ≡ None) }
+    ensures cause { IfErr result (λ e. FailsToLink e.0 platform heap.now) }
+    ensures stands { IfErr result (λ e. (heap_of (plain_of (S.words e.1)) ≡ heap.now) × (heap_of (recovered_of (S.words e.1)) ≡ heap.durable) × (count_of (S.words e.1) ≡ 0)) }
+    ensures store { IfErr result (λ e. (S.down e.1 ≡ false) × (S.passed e.1 ≡ heap.passed) × (S.refused e.1 ≡ heap.refused)) }
+{
+    match read_packages(alloc, platform, &heap) {
+        Ok(linked) => {
+            let fixed = fixed_of(&heap);
+            let memory = Memory::new(heap, ram, fixed);
+            Ok(Card {
+                alloc,
+                memory,
+                linked,
+                load: None,
+            })
+        }
+        Err(fault) => Err((fault_of(fault), heap.into_store())),
+    }
+}
+
+// The fault of packages that are not read.
+fn fault_of(fault: ReadFault) -> PowerFault
+    ensures damaged { result ≡ PowerFault.BadPackage → fault ≡ ReadFault.Damaged }
+    ensures one { (result ≡ PowerFault.BadPackage) ⊎ (result ≡ PowerFault.NoMemory) }
+{
+    match fault {
+        ReadFault::Damaged => PowerFault::BadPackage,
+        ReadFault::NoMemory => PowerFault::NoMemory,
     }
 }
 

@@ -33,7 +33,8 @@ impl<S: WordStore> Memory<S> {
 
     /// The bytes that were sent.
     pub fn sent(&self) -> &[u8]
-        ensures { result.now ≡ self.now.sent }
+        ensures bytes { result.now ≡ self.now.sent }
+        ensures few { length result.now ≤ MOST_SENT }
     {
         self.sent.as_slice()
     }

@@ -8,7 +8,10 @@ use Rattle.std.proofs.lemmas.Grind.{common_steps}
 use Rattle.hex.specs.Hex.{IsBytes}
 use Rattle.jc_card.specs.Apdu.{apdu_of, data_of}
 use Rattle.jc_card.specs.StatusWord.{status_bytes, wrong_length}
-use Rattle.jc_card.specs.Answers.{Answers, AnswersApdu}
+use Rattle.jc_memory.specs.Doing.{After, Makes}
+use Rattle.jc_card.specs.CardState.{CardState}
+use Rattle.jc_card.specs.Loads.{Answered}
+use Rattle.jc_card.specs.Answers.{Exchanges, ExchangesApdu, answers}
 use Rattle.jcard_script.specs.Script.{IsAnswered}
 use Rattle.jcard_script.specs.Standing.{Standing, Up, Down}
 
@@ -30,17 +33,17 @@ data_none c h k =
 apdu_none : (c : List ℕ) → 261 < length c → slice_index c 4 < 256 → apdu_of c ≡ None
 apdu_none c h k = rw (data_none c h k) refl
 
--- what answers the first 262 bytes answers the whole command
-pub answers_whole : (whole given answer : List ℕ) → IsBytes whole → given ≡ take 262 whole → Answers given answer → Answers whole answer
-answers_whole whole given answer bytes e h =
+-- what the first 262 bytes may do the whole command may do
+pub exchanges_whole : (whole given : List ℕ) (card : CardState) (after : After Answered) → IsBytes whole → given ≡ take 262 whole → Exchanges given card after → Exchanges whole card after
+exchanges_whole whole given card after bytes e h =
     elim (cases_lt (length whole) 263) [
-      | inl short ↦ let same : given ≡ whole = e ∙ take_all 262 whole (omega arith) in subst (λ c. Answers c answer) same h
+      | inl short ↦ let same : given ≡ whole = e ∙ take_all 262 whole (omega arith) in subst (λ c. Exchanges c card after) same h
       | inr long ↦
           let count : length given ≡ 262 = ap length e ∙ length_first whole long in
           let fourth : slice_index given 4 ≡ slice_index whole 4 = ap (λ l. slice_index l 4) e ∙ first_four whole in
           let none = apdu_none given (omega arith) (rw fourth (bytes 4)) in
-          let refused = subst (λ o. MatchOption o (answer ≡ status_bytes wrong_length) (λ command. AnswersApdu command answer)) none h in
-          subst (λ o. MatchOption o (answer ≡ status_bytes wrong_length) (λ command. AnswersApdu command answer)) (sym (apdu_none whole (omega arith) (bytes 4))) refused
+          let refused = subst (λ o. MatchOption o (Makes (answers card (status_bytes wrong_length)) card.memory after) (ExchangesApdu card after)) none h in
+          subst (λ o. MatchOption o (Makes (answers card (status_bytes wrong_length)) card.memory after) (ExchangesApdu card after)) (sym (apdu_none whole (omega arith) (bytes 4))) refused
     ]
   where
     length_first : (whole : List ℕ) → 263 ≤ length whole → length (take 262 whole) ≡ 262
@@ -51,5 +54,5 @@ answers_whole whole given answer bytes e h =
 
 -- the same of what a session writes
 pub answered_whole : (s t : Standing) (whole given text : List ℕ) → IsBytes whole → given ≡ take 262 whole → IsAnswered given s t text → IsAnswered whole s t text
-answered_whole (Up card) t whole given text bytes same a = (a.0, answers_whole whole given a.0 bytes same a.1, a.2, a.3)
+answered_whole (Up card) t whole given text bytes same a = (a.0, exchanges_whole whole given card a.0 bytes same a.1, a.2)
 answered_whole (Down store) t whole given text bytes same a = a

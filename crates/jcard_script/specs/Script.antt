@@ -8,10 +8,11 @@ use Rattle.std.specs.Str.Lines.{lines, strip_carriage_return}
 use Rattle.hex.specs.Hex.{decode_of, encode_upper}
 use Rattle.hex.specs.declared.error.FromHexError.{FromHexError}
 use Rattle.jc_words.specs.Stores.{Fused}
-use Rattle.jc_card.specs.Answers.{Answers}
+use Rattle.jc_memory.specs.Doing.{After, Made, Cut}
+use Rattle.jc_card.specs.Loads.{Answered}
+use Rattle.jc_card.specs.Answers.{Exchanges}
 use Rattle.jc_card.specs.declared.power_up.PowerFault.{PowerFault as Fault}
-use Rattle.jc_card.specs.declared.power_up.PowerFault.TheVariants.{NoMemory}
-use Rattle.jcard_script.specs.Standing.{Standing, Up, Down, Holds, PowersUp, FailsUp, IsReset, FailsReset, armed}
+use Rattle.jcard_script.specs.Standing.{Standing, Up, Down, Holds, IsStoreOf, PowersUp, FailsUp, IsReset, FailsReset, armed}
 use Rattle.jcard_script.specs.Texts.{IsCutOf}
 use Rattle.jcard_script.specs.declared.script.ScriptFault.{ScriptFault}
 use Rattle.jcard_script.specs.declared.script.ScriptFault.TheVariants.{ReadFailed, WriteFailed, BadLine, TooLong, PowerFault}
@@ -97,9 +98,15 @@ abbrev pub power_text : Standing → List ℕ
 power_text (Up card) = ready_text
 power_text (Down store) = down_text
 
--- what is written for a command, and how the session stands before and after it: the text of an answer, or that the card is down
+-- what is written for a command that ended so, and how the session stands after it: the text of the response; or, where the
+-- store refused a write, that the card is down
+abbrev pub IsToldOf : After Answered → Standing → List ℕ → Type 0
+IsToldOf (Made a memory) t text = (text ≡ text_of a.response) × (t ≡ Up (record { memory = memory; packages = a.packages; load = a.load }))
+IsToldOf (Cut memory) t text = (text ≡ down_text) × (store : Fused) × IsStoreOf memory.heap store × (t ≡ Down store)
+
+-- what is written for a command, and how the session stands before and after it
 abbrev pub IsAnswered : List ℕ → Standing → Standing → List ℕ → Type 0
-IsAnswered bytes (Up card) t text = (answer : List ℕ) × Answers bytes answer × (text ≡ text_of answer) × (t ≡ Up card)
+IsAnswered bytes (Up card) t text = (after : After Answered) × Exchanges bytes card after × IsToldOf after t text
 IsAnswered bytes (Down store) t text = (text ≡ down_text) × (t ≡ Down store)
 
 -- what is written for a line, and how the session stands before and after it
@@ -149,11 +156,6 @@ FailsAtOnce _ before after script text = ⊥
 abbrev pub Ends : Result Unit ScriptFault → Fused → Fused → Bool → List ℕ → List ℕ → Type 0
 Ends result before after at_end script text =
     FailsAtOnce result before after script text ⊎ ((first last : Standing) × PowersUp before first × Holds last after × EndsFrom result at_end script first last text)
-
--- where a card does not power up, memory was refused
-abbrev pub FailsForMemoryAlone : Result Unit ScriptFault → Type 0
-FailsForMemoryAlone (Err (PowerFault fault)) = fault ≡ NoMemory
-FailsForMemoryAlone _ = Unit {0}
 
 -- whether a read failed
 abbrev pub is_read_failed : Result Unit ScriptFault → Bool

@@ -1,10 +1,10 @@
 -- How a session stands, and what a power up makes of it.
-use Rattle.std.specs.Prelude.{ℕ, ◌≡◌, List, length, true, Some}
+use Rattle.std.specs.Prelude.{ℕ, ◌≡◌, List, length, true, Some, None}
 use Rattle.jc_words.specs.Count.{raised}
 use Rattle.jc_words.specs.Stores.{Fused}
 use Rattle.jc_commit.specs.Image.{IsGoodLog, StillRecovers, recovered_of}
 use Rattle.jc_commit.specs.State.{opened}
-use Rattle.jc_heap.specs.Heap.{HeapState, heap_of, heap_view, resting}
+use Rattle.jc_heap.specs.Heap.{HeapView, heap_of, heap_view, resting}
 use Rattle.jc_heap.specs.Image.{IsLaid}
 use Rattle.jc_transient.specs.State.{IsBlank}
 use Rattle.jc_card.specs.CardState.{CardState}
@@ -18,30 +18,25 @@ pub data Standing : Type 0 where
   Up : CardState → Standing
   Down : Fused → Standing
 
--- the heap that a recovery leaves
-abbrev pub durable_of : Standing → HeapState
-durable_of (Up card) = card.heap.durable
-durable_of (Down store) = heap_of (recovered_of store.words)
-
--- the store of a card in this state: its words stand for the durable heap, and its counts are the card's
-pub record IsStoreOf (card : CardState) (store : Fused) : Type 0 where
+-- the store of a heap: its words stand for the durable heap, and its counts are the heap's
+pub record IsStoreOf (heap : HeapView) (store : Fused) : Type 0 where
   pub good : IsGoodLog store.words
   pub laid : IsLaid (recovered_of store.words)
-  pub durable : heap_of (recovered_of store.words) ≡ card.heap.durable
-  pub size : length store.words ≡ card.heap.size
-  pub down : store.down ≡ card.heap.down
-  pub passed : store.passed ≡ card.heap.passed
-  pub refused : store.refused ≡ card.heap.refused
+  pub durable : heap_of (recovered_of store.words) ≡ heap.durable
+  pub size : length store.words ≡ heap.size
+  pub down : store.down ≡ heap.down
+  pub passed : store.passed ≡ heap.passed
+  pub refused : store.refused ≡ heap.refused
 
 -- the session's store is so
 abbrev pub Holds : Standing → Fused → Type 0
-Holds (Up card) store = IsStoreOf card store
+Holds (Up card) store = IsStoreOf card.memory.heap store
 Holds (Down held) store = store ≡ held
 
--- a power up over a store that was so ends so: the card is up, with the heap of the recovered words and blank memory, and no
--- write was refused; or one was, and a recovery leaves what it would have left
+-- a power up over a store that was so ends so: the card is up, with the heap of the recovered words, blank memory and no open
+-- load, and no write was refused; or one was, and a recovery leaves what it would have left
 abbrev pub PowersUp : Fused → Standing → Type 0
-PowersUp before (Up card) = IsMade before.words × (card.heap ≡ heap_view (opened before.words before.passed before.refused) (length before.words)) × IsBlank card.ram
+PowersUp before (Up card) = IsMade before.words × (card.memory.heap ≡ heap_view (opened before.words before.passed before.refused) (length before.words)) × IsBlank card.memory.ram × (card.load ≡ None)
 PowersUp before (Down after) = Refuses StoreDown before.words × StillRecovers before.words after.words × (after.down ≡ true) × (after.refused ≡ raised before.refused 1)
 
 -- a power up over a store that was so finds this fault, which these words have and which is not that a write was refused, and
@@ -61,5 +56,5 @@ FailsReset fault s t = (before after : Fused) × Holds s before × FailsUp befor
 
 -- the fuse is armed with k. The state of a card that is up does not tell its fuse: the card is as it was, at rest
 abbrev pub armed : ℕ → Standing → Standing
-armed k (Up card) = Up (record card { heap = resting card.heap.durable card.heap.passed card.heap.refused card.heap.size })
+armed k (Up card) = Up (record card { memory = record card.memory { heap = resting card.memory.heap.durable card.memory.heap.passed card.memory.heap.refused card.memory.heap.size } })
 armed k (Down store) = Down (record store { fuse = Some k })

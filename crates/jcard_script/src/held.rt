@@ -1,25 +1,69 @@
 //! A card, or the store of a card that does not power up.
-ghost use Rattle.std.specs.Prelude.{◌≡◌, OnOk, IfErr, IfNone, IfSome};
+ghost use Rattle.std.specs.Prelude.{◌≡◌, OnOk, IfErr};
 ghost use Rattle.jc_words.specs.Stores.{Fused};
-ghost use Rattle.jc_card.specs.CardState.{CardState};
-ghost use Rattle.jc_card.specs.Answers.{Answers};
+ghost use Rattle.jc_memory.specs.Doing.{After};
+ghost use Rattle.jc_card.specs.Loads.{Answered};
+ghost use Rattle.jc_card.specs.Answers.{Exchanges};
 ghost use Rattle.jcard_script.specs.Standing.{Up, Down, Holds, PowersUp, FailsUp, armed};
-ghost use Rattle.jcard_script.specs.Held.{standing_of};
+ghost use Rattle.jcard_script.specs.Held.{HasEnded, standing_of};
 ghost use Rattle.jcard_script.specs.Reply.{text_of_reply};
-ghost use Rattle.jcard_script.specs.Script.{power_text};
+ghost use Rattle.jcard_script.specs.Script.{IsAnswered, power_text};
 
 use crate::reply::Reply;
 use jc_card::card::Card;
 use jc_card::power_up::PowerFault;
 use jc_card::response::Response;
-use jc_words::{FuseStore, WordStore};
+use jc_words::{FuseStore, StoreDown, WordStore};
 use std::alloc::Global;
+use std::marker::Model;
+
+/// A card that is powered up, and whose store has refused no write.
+#[derive(Drop)]
+pub(crate) struct UpCard<S: WordStore> {
+    card: Card<FuseStore<S>>,
+}
+
+impl<S: WordStore> Model for UpCard<S> {
+    ghost use Rattle.std.specs.Prelude.{◌≡◌, false};
+    ghost use Rattle.jc_card.specs.CardState.{CardState};
+
+    ghost Value = { CardState };
+
+    ghost view = { λ c. c.card };
+
+    ghost invariant = { λ c. c.card.memory.heap.down ≡ false };
+}
+
+impl<S: WordStore> UpCard<S> {
+    // The card and its response to a command, or its store where that refuses a write.
+    fn exchange(self, command: &[u8]) -> Result<(UpCard<S>, Response), FuseStore<S>>
+        ensures { (after : After Answered) × Exchanges command.now self after × HasEnded after result }
+    {
+        let UpCard { mut card } = self;
+        match card.exchange(command) {
+            Ok(response) => Ok((UpCard { card }, response)),
+            Err(StoreDown) => Err(card.into_store()),
+        }
+    }
+
+    // With the store's fuse armed.
+    fn armed(self, k: u64) -> UpCard<S>
+        ensures { Up result ≡ armed k (Up self) }
+    {
+        let UpCard { card } = self;
+        let (mut store, rest) = card.into_parts();
+        store.arm(k);
+        UpCard {
+            card: Card::of_parts(store, rest),
+        }
+    }
+}
 
 /// What a session holds.
 #[derive(Drop)]
 pub(crate) enum Held<S: WordStore> {
     /// A card that is powered up.
-    Card(Card<FuseStore<S>>),
+    Card(UpCard<S>),
     /// The store of a card that is down.
     Store(FuseStore<S>),
 }
@@ -36,7 +80,7 @@ impl<S: WordStore> Held<S> {
     {
         store.power_on();
         match Card::power_up(alloc, store) {
-            Ok(card) => (Held::Card(card), Ok(())),
+            Ok(card) => (Held::Card(UpCard { card }), Ok(())),
             Err((PowerFault::StoreDown, store)) => (Held::Store(store), Ok(())),
             Err((fault, store)) => (Held::Store(store), Err(fault)),
         }
@@ -47,7 +91,7 @@ impl<S: WordStore> Held<S> {
         ensures { Holds (standing_of self) result }
     {
         match self {
-            Held::Card(card) => card.into_store(),
+            Held::Card(up) => up.card.into_store(),
             Held::Store(store) => store,
         }
     }
@@ -57,11 +101,7 @@ impl<S: WordStore> Held<S> {
         ensures { standing_of result ≡ armed k (standing_of self) }
     {
         match self {
-            Held::Card(card) => {
-                let (mut store, ram) = card.into_parts();
-                store.arm(k);
-                Held::Card(Card::of_parts(store, ram))
-            }
+            Held::Card(up) => Held::Card(up.armed(k)),
             Held::Store(mut store) => {
                 store.arm(k);
                 Held::Store(store)
@@ -69,15 +109,16 @@ impl<S: WordStore> Held<S> {
         }
     }
 
-    /// The card's response to a command, if there is a card.
-    pub(crate) fn exchange(&mut self, command: &[u8]) -> Option<Response>
-        ensures some { IfSome result (λ response. (card : CardState) × (standing_of self.old ≡ Up card) × Answers command.now response) }
-        ensures none { IfNone result ((store : Fused) × (standing_of self.old ≡ Down store)) }
-        ensures standing { standing_of self.new ≡ standing_of self.old }
+    /// Carries a command out, and what is to be written for it.
+    pub(crate) fn exchange(self, command: &[u8]) -> (Held<S>, Reply)
+        ensures { IsAnswered command.now (standing_of self) (standing_of result.0) (text_of_reply result.1) }
     {
         match self {
-            Held::Card(card) => Some(card.exchange(command)),
-            Held::Store(_) => None,
+            Held::Card(up) => match up.exchange(command) {
+                Ok((up, response)) => (Held::Card(up), Reply::Answer(response)),
+                Err(store) => (Held::Store(store), Reply::Down),
+            },
+            Held::Store(store) => (Held::Store(store), Reply::Down),
         }
     }
 

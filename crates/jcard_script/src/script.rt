@@ -2,11 +2,8 @@
 ghost use Rattle.std.specs.Prelude.{◌≡◌, ℕ, List, Bool};
 ghost use Rattle.std.specs.Bool.{OnTrue};
 ghost use Rattle.std.specs.Io.KnownBytes.{Appends, Consumes};
-ghost use Rattle.jc_commit.specs.Image.{recovered_of};
-ghost use Rattle.jc_heap.specs.Heap.{heap_of};
-ghost use Rattle.jc_card.specs.Made.{IsMade};
 ghost use Rattle.jcard_script.specs.Failures.{failures_after};
-ghost use Rattle.jcard_script.specs.Script.{Ends, FailsForMemoryAlone, IsWholeScript, is_read_failed, is_write_failed};
+ghost use Rattle.jcard_script.specs.Script.{Ends, IsWholeScript, is_read_failed, is_write_failed};
 
 use crate::session::Session;
 use crate::streams::{TextIn, TextOut};
@@ -63,10 +60,6 @@ pub fn run_script<S: WordStore + Drop, R: TextIn, W: TextOut>(
         × Ends result.1 fuse result.0 at_end script text }
     ensures reads { R.failures reader.new ≡ failures_after (R.failures reader.old) (is_read_failed result.1) }
     ensures writes { W.failures writer.new ≡ failures_after (W.failures writer.old) (is_write_failed result.1) }
-    // Over an image that the product made, the card does not power up only where memory is refused.
-    ensures of_made { IsMade fuse.words → FailsForMemoryAlone result.1 }
-    // A recovery leaves the heap that it would have left at first.
-    ensures durable { heap_of (recovered_of result.0.words) ≡ heap_of (recovered_of fuse.words) }
 {
     let (mut session, started) = Session::start(alloc, fuse);
     if let Err(fault) = started {

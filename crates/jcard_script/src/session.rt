@@ -216,13 +216,10 @@ impl<S: WordStore + Drop> Session<S> {
         ensures number { self.new.number ≡ self.old.number }
         ensures answer { IsAnswered command.now (standing_in self.old.held) (standing_in self.new.held) (text_of_reply result) }
     {
-        let Some(held) = &mut self.held else {
-            return Reply::Down;
-        };
-        match held.exchange(command) {
-            Some(response) => Reply::Answer(response),
-            None => Reply::Down,
-        }
+        let held = self.held.take().unwrap();
+        let (held, reply) = held.exchange(command);
+        self.held = Some(held);
+        reply
     }
 
     // A reset.

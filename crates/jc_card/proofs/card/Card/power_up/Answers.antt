@@ -19,13 +19,13 @@ returns-in-Ok-clause-made g c =
     made_found w head c.in-Ok.ensures.good there.0 there.1 there.2) c.start.ensures.ok
 
 pub returns-in-Err-clause-of_made : goal.returns-in-Err-clause-of_made
-returns-in-Err-clause-of_made g c = λ made. absurd (no_image_fault c.check_image.result c.in-Err.fault (g.S.WordStore.words c.args.store) c.in-Err.is c.check_image.ensures.ok.1 made)
+returns-in-Err-clause-of_made g c = λ made none. absurd (no_image_fault c.check_image.result c.in-Err.fault (g.S.WordStore.words c.args.store) c.in-Err.is c.check_image.ensures.ok.1 made)
 
 pub returns-in-Ok-clause-heap : goal.returns-in-Ok-clause-heap
 returns-in-Ok-clause-heap g c =
     let w = g.S.WordStore.words c.args.store in
     let state = opened w (g.S.WordStore.passed c.args.store) (g.S.WordStore.refused c.args.store) in
-    mapped_if c.start.result (λ card. card.heap ≡ heap_view c.in-Ok.image (length c.in-Ok.image.plain)) (λ card. card.heap ≡ heap_view state (length w))
+    mapped_if c.start.result (λ card. card.memory.heap ≡ heap_view c.in-Ok.image (length c.in-Ok.image.plain)) (λ card. card.memory.heap ≡ heap_view state (length w))
     (λ card e. e ∙ ap (λ j. heap_view j (length (j.plain))) c.in-Ok.ensures.ok ∙ ap (heap_view state) (length-recovered w)) c.start.ensures.heap
 
 pub returns-in-Ok-clause-cause : goal.returns-in-Ok-clause-cause
@@ -39,6 +39,6 @@ pub returns-in-Ok-clause-of_made : goal.returns-in-Ok-clause-of_made
 returns-in-Ok-clause-of_made g c =
     let w = g.S.WordStore.words c.args.store in
     let head : HasHead w = head_found c.check_image.result w c.in_default.not-Err c.check_image.ensures.ok.0 in
-    λ made. refused_if c.start.result (λ e. e.0) w made
+    λ made none. refused_if c.start.result (λ e. e.0) w made none
     (mapped_err c.start.result (λ e. Fails e.0 c.in-Ok.image.plain) (λ e. Refuses e.0 w)
     (λ e f. refuses_from w e.0 head c.in-Ok.ensures.good (subst (Fails e.0) (ap (λ j. j.plain) c.in-Ok.ensures.ok) f)) c.start.ensures.cause)

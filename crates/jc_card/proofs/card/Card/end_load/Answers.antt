@@ -1,0 +1,18 @@
+use Rattle.std.proofs.Common.{ap, subst, ◌∙◌}
+use Rattle.jc_memory.specs.Doing.{Makes}
+use Rattle.jc_card_load.specs.Ending.{package_ended}
+use Rattle.jc_card.specs.CardState.{CardState}
+use Rattle.jc_card.specs.Loads.{load_ends}
+use Rattle.jc_card.specs.Answers.{after_exchange}
+use Rattle.jc_card.proofs.Loaded.{ends_outside, ends_so}
+use Rattle.jc_card.proofs.card.Card.end_load.Goals as goal
+
+pub invariant_of-self : goal.invariant_of-self
+invariant_of-self g c =
+    ends_outside c.self.inside.linked _ c.self.inside.memory _ c.self.inside.load _ c.end_package-ended.result
+    (c.self.invariant (ap (λ (v : CardState). v.memory.heap.down) c.self.view_is ∙ c.requires.up)) c.end_package-ended.ensures
+
+pub returns : goal.returns
+returns g c =
+    subst (λ (v : CardState). Makes (load_ends v) v.memory (after_exchange c.said_of.result (record { memory = c.end_package-ended.new.memory; packages = c.end_package-ended.new.linked; load = c.end_package-ended.new.load }))) c.self.view_is
+    (ends_so (package_ended c.self.inside.linked c.self.inside.memory c.self.inside.load) c.self.inside.memory _ c.end_package-ended.result _ _ c.said_of.result c.said_of.ensures c.end_package-ended.ensures)

@@ -1,0 +1,74 @@
+-- "Create applet": what its data say, and what it does.
+use Rattle.std.specs.Prelude.{ℕ, ◌==◌, ◌&&◌, ◌||◌, nat_le, nat_lt, Bool, List, [], ◌∷◌, length, take, drop, find, is_some, Option, Some, None, if◌then◌else◌}
+use Rattle.std.specs.List.{range_with_len}
+use Rattle.std.specs.Option.{option_map, option_and_then}
+use Rattle.jc_words.specs.Layout.{most_applets}
+use Rattle.jc_memory.specs.State.{MemoryState}
+use Rattle.jc_memory.specs.Doing.{Doing, Gives}
+use Rattle.jc_packages.specs.Lookups.{applet_entry, entry_with_aid}
+use Rattle.jc_packages.specs.Values.{Packages}
+use Rattle.jc_dispatch.specs.declared.ending.Ending.{Ending}
+use Rattle.jc_dispatch.specs.declared.ending.Ending.TheVariants.{Malformed, NoApplet, RegistryFull}
+use Rattle.jc_dispatch.specs.Installing.{installed}
+
+-- a field behind its length, and what follows it
+abbrev pub field_of : List ℕ → Option (List ℕ × List ℕ)
+field_of [] = None
+field_of (n ∷ rest) = if nat_le n (length rest) then Some (take n rest, drop n rest) else None
+
+-- an AID has 5 to 16 bytes
+abbrev pub has_aid_length : List ℕ → Bool
+has_aid_length aid = nat_le 5 (length aid) && nat_le (length aid) 16
+
+-- an instance may be left without an AID of its own
+abbrev pub names_instance : List ℕ → Bool
+names_instance aid = length aid == 0 || has_aid_length aid
+
+-- the fields of an installation's parameters, where nothing follows them: the instance's AID, the control information and
+-- the applet's data
+abbrev pub third_field : List ℕ → Option (List ℕ × List ℕ)
+third_field bytes = option_and_then (λ i. option_and_then (λ c. field_of c.1) (field_of i.1)) (field_of bytes)
+
+abbrev pub instance_named : List ℕ → Bool
+instance_named bytes = is_some (option_and_then (λ i. if names_instance i.0 then Some i else None) (field_of bytes))
+
+abbrev pub ends_with_data : List ℕ → Bool
+ends_with_data bytes = is_some (option_and_then (λ d. if length d.1 == 0 then Some d else None) (third_field bytes))
+
+-- parameters, 127 bytes at most
+abbrev pub are_parameters : List ℕ → Bool
+are_parameters bytes = nat_le (length bytes) 127 && instance_named bytes && ends_with_data bytes
+
+-- the AID of the applet in its package, and the parameters; none where the data are malformed
+abbrev pub if_well_formed : List ℕ × List ℕ → Option (List ℕ × List ℕ)
+if_well_formed c = if has_aid_length c.0 && are_parameters c.1 then Some c else None
+
+unfoldable pub creation_of : List ℕ → Option (List ℕ × List ℕ)
+creation_of bytes = option_and_then if_well_formed (field_of bytes)
+
+-- the first package, of so many from a number on, with an applet of this AID
+abbrev pub first_with_entry : Packages → List ℕ → ℕ → ℕ → Option ℕ
+first_with_entry p aid n count = find (λ q. is_some (entry_with_aid p q aid)) (range_with_len n count)
+
+-- what is installed: the number of the package, and of the entry of its Applet component
+unfoldable pub applet_named : Packages → List ℕ → Option (ℕ × ℕ)
+applet_named p aid = option_and_then (λ q. option_map (λ entry. (q, entry)) (entry_with_aid p q aid)) (first_with_entry p aid 1 (length p.loaded))
+
+-- its install runs
+abbrev pub installing : ℕ → Packages → ℕ × ℕ → Option ℕ → List ℕ → MemoryState → Doing Ending
+installing budget p e None parameters m = Gives NoApplet
+installing budget p e (Some offset) parameters m = installed budget p (record { 0 = e.0 }) e.1 offset parameters m
+
+-- where the registry has a place for it
+abbrev pub created_by : ℕ → Packages → Option (ℕ × ℕ) → List ℕ → MemoryState → Doing Ending
+created_by budget p None parameters m = Gives NoApplet
+created_by budget p (Some e) parameters m =
+    if nat_lt m.heap.now.counts.1 most_applets then installing budget p e (option_map (λ a. a.install_offset) (applet_entry p e.0 e.1)) parameters m else Gives RegistryFull
+
+abbrev pub created_of : ℕ → Packages → Option (List ℕ × List ℕ) → MemoryState → Doing Ending
+created_of budget p None m = Gives Malformed
+created_of budget p (Some c) m = created_by budget p (applet_named p c.0) c.1 m
+
+-- malformed data first, then an AID that no package has, then a registry without a place
+unfoldable pub created : ℕ → Packages → List ℕ → MemoryState → Doing Ending
+created budget p bytes m = created_of budget p (creation_of bytes) m

@@ -1,0 +1,26 @@
+//! Back in the runtime environment.
+ghost use Rattle.std.specs.Prelude.{OnOk, ◌≡◌, false};
+ghost use Rattle.jc_memory.specs.Doing.{Makes, after_step};
+ghost use Rattle.jc_dispatch.specs.Phases.{closed};
+
+use jc_memory::{Depth, Memory, Registers};
+use jc_words::{StoreDown, WordStore};
+
+/// Ends what an applet left open: a transaction is taken back, and references to what was made in it
+/// become null.
+#[tactic(auto, unfolding(crate::specs::Phases::closed))]
+pub(crate) fn close<S: WordStore>(memory: &mut Memory<S>) -> Result<(), StoreDown>
+    requires up { memory.old.heap.down ≡ false }
+    ensures does { Makes (closed memory.old) memory.old (after_step result memory.new) }
+    ensures outside { OnOk result (memory.new.heap.begun ≡ false) }
+{
+    if memory.heap().is_open() {
+        memory.abort()?;
+    }
+    let registers = memory.registers();
+    memory.turn(Registers {
+        depth: Depth::Outside,
+        ..registers
+    });
+    Ok(())
+}

@@ -1,0 +1,101 @@
+//! Installing an applet.
+ghost use Rattle.std.specs.Prelude.{OnOk, ◌≡◌, ◌≤◌, ◌<◌, false, length};
+ghost use Rattle.jc_words.specs.Layout.{most_applets};
+ghost use Rattle.jc_memory.specs.Doing.{Makes, after_step};
+ghost use Rattle.jc_dispatch.specs.Installing.{installed, installed_by, next_applet, with_installation};
+
+use crate::buffer::{apdu_buffer, fill};
+use crate::closing::close;
+use crate::ending::{Ending, ending_of};
+use crate::phase::run_for;
+use jc_frames::{Cell, Outcome};
+use jc_linker::linked::Linked;
+use jc_memory::{
+    ApduPhase, ApduState, AppletNumber, Depth, Installation, Memory, Owner, PackageNumber,
+    Registers,
+};
+use jc_transient::ClearEvent;
+use jc_words::{StoreDown, WordStore};
+
+fn with_installation(installation: Installation, registers: Registers) -> Registers
+    ensures { result ≡ with_installation installation registers }
+{
+    Registers {
+        installation,
+        depth: Depth::Outside,
+        selecting: false,
+        apdu: ApduState {
+            expected: 0,
+            phase: ApduPhase::Waiting,
+        },
+        ..registers
+    }
+}
+
+// The number that the next applet gets.
+fn next_applet<S: WordStore>(memory: &Memory<S>) -> AppletNumber
+    requires up { memory.now.heap.down ≡ false }
+    requires few { memory.now.heap.now.counts.1 < most_applets }
+    ensures { result ≡ next_applet memory.now }
+{
+    AppletNumber(memory.heap().applets() as u8 + 1)
+}
+
+// How an installation ended.
+fn installed_by<S: WordStore>(
+    installation: Installation,
+    outcome: Outcome,
+    memory: &Memory<S>,
+    linked: &Linked,
+) -> Ending
+    requires up { memory.now.heap.down ≡ false }
+    ensures { result ≡ installed_by linked.now memory.now installation outcome }
+{
+    match installation {
+        Installation::Registered(_) => Ending::Done,
+        Installation::Open(_, _) => match outcome {
+            Outcome::Return => Ending::NotRegistered,
+            other => ending_of(other, memory, linked),
+        },
+        Installation::Idle => ending_of(outcome, memory, linked),
+    }
+}
+
+/// Installs an applet of a package, by the entry of its Applet component with this number and the
+/// place of its `install` method. The parameters lie in the buffer from its first byte on.
+#[tactic(auto, unfolding(crate::specs::Installing::installed), using(jc_memory::proofs::Doings::bind_did, jc_memory::proofs::Doings::left_before, jc_memory::proofs::Doings::left_after, jc_memory::proofs::Doings::refused_did, jc_memory::proofs::Doings::down_did))]
+pub fn install<S: WordStore>(
+    budget: u32,
+    home: PackageNumber,
+    entry: u8,
+    offset: u16,
+    parameters: &[u8],
+    memory: &mut Memory<S>,
+    linked: &Linked,
+) -> Result<Ending, StoreDown>
+    requires up { memory.old.heap.down ≡ false }
+    requires outside { memory.old.heap.begun ≡ false }
+    requires few { memory.old.heap.now.counts.1 < most_applets }
+    requires short { length parameters.now ≤ 127 }
+    ensures does { Makes (installed budget linked.now home entry offset parameters.now memory.old) memory.old (after_step result memory.new) }
+    ensures outside { OnOk result (memory.new.heap.begun ≡ false) }
+{
+    let owner = Owner::Applet(next_applet(memory));
+    memory.begin();
+    let registers = memory.registers();
+    memory.turn(with_installation(Installation::Open(home, entry), registers));
+    fill(parameters, memory)?;
+    let arguments = [
+        Cell::Reference(apdu_buffer(memory)),
+        Cell::Short(0),
+        Cell::Short(parameters.len() as i16),
+    ];
+    let (_, outcome) = run_for(budget, home.0, offset, &arguments, owner, memory, linked)?;
+    let installation = memory.registers().installation;
+    let ending = installed_by(installation, outcome, memory, linked);
+    close(memory)?;
+    memory.clear(ClearEvent::Deselect);
+    let registers = memory.registers();
+    memory.turn(with_installation(Installation::Idle, registers));
+    Ok(ending)
+}

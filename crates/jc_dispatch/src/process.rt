@@ -1,0 +1,70 @@
+//! The commands that an applet answers.
+ghost use Rattle.std.specs.Prelude.{OnOk, ◌≡◌, ◌≤◌, false, length};
+ghost use Rattle.jc_memory.specs.Doing.{Makes, after_step};
+ghost use Rattle.jc_dispatch.specs.Selecting.{header_of, processed, with_command};
+
+use crate::buffer::{apdu_object, fill};
+use crate::closing::close;
+use crate::ending::{Ending, ending_of};
+use crate::phase::{call, instance_of};
+use arrayvec::ArrayVec;
+use jc_frames::Cell;
+use jc_linker::linked::Linked;
+use jc_memory::{ApduPhase, ApduState, AppletNumber, Memory, Owner, Registers};
+use jc_platform::names::PlatformMethod;
+use jc_words::{StoreDown, WordStore};
+
+fn with_command(expected: u16, selecting: bool, registers: Registers) -> Registers
+    ensures { result ≡ with_command expected selecting registers }
+{
+    Registers {
+        selecting,
+        apdu: ApduState {
+            expected,
+            phase: ApduPhase::Waiting,
+        },
+        ..registers
+    }
+}
+
+// The first five bytes of a command, of which the fifth may be missing.
+fn header_of(bytes: &[u8]) -> ArrayVec<u8, 5>
+    ensures header { result.items ≡ header_of bytes.now }
+    ensures few { length result.items ≤ 5 }
+{
+    let mut header = ArrayVec::new();
+    let _ = header.try_extend_from_slice(&bytes[..bytes.len().min(5)]);
+    header
+}
+
+/// An applet answers the command that was begun, which expects so many bytes. It may be the command
+/// that selected it.
+#[tactic(auto, unfolding(crate::specs::Selecting::processed), using(jc_memory::proofs::Doings::bind_did, jc_memory::proofs::Doings::left_before, jc_memory::proofs::Doings::left_after, jc_memory::proofs::Doings::refused_did, jc_memory::proofs::Doings::down_did))]
+pub fn process<S: WordStore>(
+    budget: u32,
+    applet: AppletNumber,
+    selecting: bool,
+    expected: u16,
+    memory: &mut Memory<S>,
+    linked: &Linked,
+) -> Result<Ending, StoreDown>
+    requires up { memory.old.heap.down ≡ false }
+    ensures does { Makes (processed budget linked.now applet selecting expected memory.old) memory.old (after_step result memory.new) }
+    ensures outside { OnOk result (memory.new.heap.begun ≡ false) }
+{
+    let registers = memory.registers();
+    memory.turn(with_command(expected, selecting, registers));
+    let header = header_of(memory.command());
+    fill(&header, memory)?;
+    let instance = instance_of(applet, memory);
+    let arguments = [
+        Cell::Reference(instance),
+        Cell::Reference(apdu_object(memory)),
+    ];
+    let name = PlatformMethod::AppletProcess;
+    let owner = Owner::Applet(applet);
+    let (_, outcome) = call(budget, name, instance, &arguments, owner, memory, linked)?;
+    let ending = ending_of(outcome, memory, linked);
+    close(memory)?;
+    Ok(ending)
+}
