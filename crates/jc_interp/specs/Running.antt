@@ -6,6 +6,7 @@ use Rattle.jc_packages.specs.Values.{Packages}
 use Rattle.jc_frames.specs.declared.outcome.Outcome.{Outcome}
 use Rattle.jc_frames.specs.declared.outcome.Outcome.TheVariants.{Fault}
 use Rattle.jc_frames.specs.Frames.{Frames, Next, Goes, Throws, Ends}
+use Rattle.jc_interp.specs.Machine.{bare_frames}
 use Rattle.jc_interp.specs.Stepping.{stepped}
 
 -- on from a step after which so many are left, or the end (a step throws nothing that it does not catch)
@@ -22,3 +23,7 @@ running_in (suc n) lent p s m = bind (stepped lent p s m) m (λ next v. if_goes 
 -- a run of methods of packages
 abbrev pub running : ℕ → Packages → Frames → MemoryState → Doing (ℕ × Outcome)
 running n p s m = running_in n [] p s m
+
+-- a run of code that was lent, with a stack of so many cells and so many locals
+abbrev pub running_lent : ℕ → ℕ → List ℕ → ℕ → Packages → MemoryState → Doing (ℕ × Outcome)
+running_lent limit locals lent n p m = running_in n lent p (bare_frames limit locals) m

@@ -5,7 +5,8 @@ use Rattle.jc_memory.specs.Doing.{Doing, Gives, bind}
 use Rattle.jc_packages.specs.Values.{Packages}
 use Rattle.jc_opcodes.specs.declared.instr.Instr.{Instr}
 use Rattle.jc_opcodes.specs.declared.instr.Instr.TheVariants.{Nop, Push, Access, Arrange, Compute, Jump, Leave, Reach, Index, Operate, Call}
-use Rattle.jc_opcodes.specs.declared.instr.Object.TheVariants.{Throw}
+use Rattle.jc_opcodes.specs.declared.instr.Object.{Object}
+use Rattle.jc_opcodes.specs.declared.instr.Object.TheVariants.{New, Throw, CheckCast, InstanceOf}
 use Rattle.jc_opcodes.specs.declared.instr.Return.TheVariants.{WithReference, WithShort, WithNothing}
 use Rattle.jc_opcodes.specs.Table.{decoded}
 use Rattle.jc_frames.specs.declared.outcome.Outcome.TheVariants.{Fault}
@@ -16,6 +17,9 @@ use Rattle.jc_interp_plain.specs.Stack.{arranged}
 use Rattle.jc_interp_plain.specs.Arithmetic.{computed}
 use Rattle.jc_interp_plain.specs.Branches.{branched}
 use Rattle.jc_interp_fields.specs.Group.{fielded}
+use Rattle.jc_interp_arrays.specs.Group.{indexed}
+use Rattle.jc_interp_objects.specs.Making.{instance_made}
+use Rattle.jc_interp_objects.specs.Casts.{checked, examined}
 use Rattle.jc_interp_calls.specs.Returning.{returning}
 use Rattle.jc_interp_calls.specs.Texts.{text_of}
 use Rattle.jc_interp_calls.specs.Throwing.{throwing, thrown}
@@ -41,6 +45,13 @@ is_plain _ = true
 abbrev pub at_place : Frames → ℕ → Frames
 at_place s place = record s { current = record s.current { place = place } }
 
+-- what making, throwing or testing an object may do
+abbrev pub operated : Object → ℕ → Packages → Frames → MemoryState → Doing (Next Frames)
+operated (New index) place p s m = instance_made index p s m
+operated Throw place p s m = throwing place p s m
+operated (CheckCast type) place p s m = checked type p s m
+operated (InstanceOf type) place p s m = examined type p s m
+
 -- what an instruction at a place of the code may do, with the next instruction behind it
 unfoldable pub executed : Instr → List ℕ → ℕ → Packages → Frames → MemoryState → Doing (Next Frames)
 executed Nop code place p s m = goes s
@@ -51,9 +62,8 @@ executed (Compute arithmetic) code place p s m = Gives (in_frame s (computed ari
 executed (Jump branch) code place p s m = Gives (in_frame s (branched code place branch s.current))
 executed (Leave how) code place p s m = returning how s m
 executed (Reach field) code place p s m = fielded field p s m
-executed (Index operation) code place p s m = Gives (Ends Fault)
-executed (Operate Throw) code place p s m = throwing place p s m
-executed (Operate operation) code place p s m = Gives (Ends Fault)
+executed (Index operation) code place p s m = indexed operation p s m
+executed (Operate operation) code place p s m = operated operation place p s m
 executed (Call method) code place p s m = invoked method place p s m
 
 -- the instruction that was decoded at the frame's place, or a code fault where there is none

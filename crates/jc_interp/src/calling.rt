@@ -5,11 +5,12 @@ ghost use Rattle.jc_world.specs.Groups.{after_group};
 ghost use Rattle.jc_interp.specs.Calling.{answered, invoked, natively};
 
 use jc_frames::{CallKind, Frames, Outcome};
+use jc_interp_calls::ask::ask;
 use jc_interp_calls::choose::choose;
 use jc_interp_calls::enter::{CallSite, Callee, enter};
 use jc_interp_calls::signatures::argument_cells;
 use jc_linker::linked::Linked;
-use jc_memory::{Installation, Memory};
+use jc_memory::Memory;
 use jc_natives::natives::call_native;
 use jc_opcodes::instr::Invoke;
 use jc_packages::target::Method;
@@ -20,11 +21,13 @@ use jc_world::{Answer, Break};
 // The frames go on with what a method of the platform answered, whose arguments were taken.
 fn answer<S: WordStore>(
     answer: Answer,
+    place: u16,
     frames: &mut Frames,
     memory: &mut Memory<S>,
+    linked: &Linked,
 ) -> Result<(), Break>
     requires up { memory.old.heap.down ≡ false }
-    ensures { Makes (answered answer frames.old memory.old) memory.old (after_group result frames.new memory.new) }
+    ensures { Makes (answered answer place linked.now frames.old memory.old) memory.old (after_group result frames.new memory.new) }
 {
     match answer {
         Answer::Nothing => Ok(()),
@@ -32,28 +35,27 @@ fn answer<S: WordStore>(
             frames.try_push(cell)?;
             Ok(())
         }
-        Answer::Ask(_) => Err(Break::End(Outcome::Fault)),
-        Answer::Aborted => match memory.registers().installation {
-            Installation::Open(_, _) => Err(Break::End(Outcome::Fault)),
-            _ => {
-                frames.bury(memory.top());
-                Ok(())
-            }
-        },
+        Answer::Ask(asked) => ask(&asked, place, frames, memory, linked),
+        Answer::Aborted => {
+            frames.bury(memory.top());
+            Ok(())
+        }
     }
 }
 
-// Carries out a method of the platform with so many cells as arguments.
+// Carries out a method of the platform with so many cells as arguments, called by the instruction at a
+// place.
 #[tactic(auto, using(jc_memory::proofs::Doings::bind_made, jc_memory::proofs::Doings::bind_cut, jc_memory::proofs::Doings::down_did), unfolding(crate::specs::Calling::natively))]
 fn call_natively<S: WordStore>(
     method: PlatformMethod,
     count: u8,
+    place: u16,
     frames: &mut Frames,
     memory: &mut Memory<S>,
     linked: &Linked,
 ) -> Result<(), Break>
     requires up { memory.old.heap.down ≡ false }
-    ensures { Makes (natively method count linked.now frames.old memory.old) memory.old (after_group result frames.new memory.new) }
+    ensures { Makes (natively method count place linked.now frames.old memory.old) memory.old (after_group result frames.new memory.new) }
 {
     if count != argument_cells(method) {
         return Err(Break::End(Outcome::Fault));
@@ -63,7 +65,7 @@ fn call_natively<S: WordStore>(
     };
     let answered = call_native(method, arguments, memory, linked)?;
     frames.discard(count);
-    answer(answered, frames, memory)
+    answer(answered, place, frames, memory, linked)
 }
 
 /// A call by the instruction at a place.
@@ -96,6 +98,8 @@ pub(crate) fn invoke<S: WordStore>(
             };
             enter(callee, site, frames, memory, linked)
         }
-        Method::Native(method) => { call_natively(method, call.arguments, frames, memory, linked) }
+        Method::Native(method) => {
+            call_natively(method, call.arguments, place, frames, memory, linked)
+        }
     }
 }

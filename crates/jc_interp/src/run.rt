@@ -1,10 +1,10 @@
 //! Runs: so many steps at most.
 ghost use Rattle.std.specs.Prelude.{◌≡◌, ◌<◌, ◌^◌, false, length};
 ghost use Rattle.jc_memory.specs.Doing.{Makes, after_step};
-ghost use Rattle.jc_interp.specs.Running.{running, running_in};
+ghost use Rattle.jc_interp.specs.Running.{running, running_in, running_lent};
 
 use crate::step::step;
-use jc_frames::{Frames, Outcome};
+use jc_frames::{Frames, Origin, Outcome};
 use jc_linker::linked::Linked;
 use jc_memory::Memory;
 use jc_words::{StoreDown, WordStore};
@@ -46,4 +46,27 @@ pub fn run<S: WordStore>(
     ensures { Makes (running budget linked.now frames.old memory.old) memory.old (after_step result memory.new) }
 {
     run_lent(&[], budget, frames, memory, linked)
+}
+
+/// Runs code that was lent from its first byte on, with a stack of at most `max_stack` cells, which is
+/// empty, and so many locals, which are short 0: how many instructions are left, and how the run ended.
+pub fn run_code<S: WordStore>(
+    max_stack: u8,
+    locals: u8,
+    code: &[u8],
+    budget: u32,
+    memory: &mut Memory<S>,
+    linked: &Linked,
+) -> Result<(u32, Outcome), StoreDown>
+    requires up { memory.old.heap.down ≡ false }
+    requires short { length code.now < 2 ^ 16 }
+    ensures { Makes (running_lent max_stack locals code.now budget linked.now memory.old) memory.old (after_step result memory.new) }
+{
+    let no_package = Origin {
+        package_number: 0,
+        method: 0,
+        owner: 0,
+    };
+    let mut frames = Frames::begin(&[], locals, max_stack, 0, no_package);
+    run_lent(code, budget, &mut frames, memory, linked)
 }

@@ -3,14 +3,16 @@ ghost use Rattle.std.specs.Prelude.{◌≡◌, ◌<◌, ◌^◌, false, length};
 ghost use Rattle.jc_opcodes.specs.Table.{HasListedOperands};
 ghost use Rattle.jc_memory.specs.Doing.{Makes};
 ghost use Rattle.jc_world.specs.Groups.{after_group};
-ghost use Rattle.jc_interp.specs.Stepping.{code_of, executed, instructed, is_plain, stepped};
+ghost use Rattle.jc_interp.specs.Stepping.{code_of, executed, instructed, is_plain, operated, stepped};
 
 use crate::calling::invoke;
 use jc_frames::{Frames, Outcome};
+use jc_interp_arrays::index;
 use jc_interp_calls::come_back::come_back;
 use jc_interp_calls::text::text_of;
 use jc_interp_calls::throw::{throw, throw_top};
 use jc_interp_fields::reach;
+use jc_interp_objects::{check_cast, instance_of, make_instance};
 use jc_interp_plain::arithmetic::compute;
 use jc_interp_plain::branches::branch;
 use jc_interp_plain::constants::push_constant;
@@ -50,6 +52,25 @@ fn code_of<'a>(lent: &'a [u8], package_number: u8, linked: &'a Linked) -> &'a [u
     }
 }
 
+// Makes, throws or tests an object.
+fn operate<S: WordStore>(
+    operation: Object,
+    place: u16,
+    frames: &mut Frames,
+    memory: &mut Memory<S>,
+    linked: &Linked,
+) -> Result<(), Break>
+    requires up { memory.old.heap.down ≡ false }
+    ensures { Makes (operated operation place linked.now frames.old memory.old) memory.old (after_group result frames.new memory.new) }
+{
+    match operation {
+        Object::New(index) => make_instance(index, frames, memory, linked),
+        Object::Throw => throw_top(place, frames, memory, linked),
+        Object::CheckCast(tested) => check_cast(tested, frames, memory, linked),
+        Object::InstanceOf(tested) => instance_of(tested, frames, memory, linked),
+    }
+}
+
 // Carries out an instruction at a place, behind which the next one stands.
 #[tactic(auto, unfolding(crate::specs::Stepping::executed))]
 fn execute<S: WordStore>(
@@ -75,9 +96,8 @@ fn execute<S: WordStore>(
         Instr::Jump(to) => branch(to, code, usize::from(place), frames)?,
         Instr::Leave(how) => return come_back(how, frames, memory),
         Instr::Reach(field) => return reach(field, frames, memory, linked),
-        Instr::Index(_) => return Err(Break::End(Outcome::Fault)),
-        Instr::Operate(Object::Throw) => return throw_top(place, frames, memory, linked),
-        Instr::Operate(_) => return Err(Break::End(Outcome::Fault)),
+        Instr::Index(operation) => return index(operation, frames, memory, linked),
+        Instr::Operate(operation) => return operate(operation, place, frames, memory, linked),
         Instr::Call(call) => return invoke(call, place, frames, memory, linked),
     }
     Ok(())

@@ -5,3 +5,4 @@ pub mod Entering
 pub mod Catching
 pub mod Returning
 pub mod Throwing
+pub mod Asking

@@ -33,7 +33,7 @@ pub struct CallSite {
 }
 
 // The registers while a method runs for another owner.
-fn switched(owner: Option<Owner>, registers: Registers) -> Registers
+pub(crate) fn switched(owner: Option<Owner>, registers: Registers) -> Registers
     ensures { result ≡ switched owner registers }
 {
     match owner {
@@ -47,7 +47,7 @@ fn switched(owner: Option<Owner>, registers: Registers) -> Registers
 }
 
 // A method that is not abstract and takes so many cells.
-const fn takes(arguments: usize, header: Header) -> bool
+pub(crate) const fn takes(arguments: usize, header: Header) -> bool
     ensures { result ≡ takes arguments header }
 {
     !header.is_abstract && header.arguments as usize == arguments
@@ -64,7 +64,12 @@ fn origin_of(callee: Callee, registers: Registers) -> Origin
     }
 }
 
-fn entry_of(header: Header, callee: Callee, site: CallSite, registers: Registers) -> Entry
+pub(crate) fn entry_of(
+    header: Header,
+    callee: Callee,
+    site: CallSite,
+    registers: Registers,
+) -> Entry
     ensures { result ≡ entry_of header callee site registers }
 {
     Entry {

@@ -2,6 +2,7 @@
 //! which handler catches what is thrown.
 #![tactic(auto)]
 
+pub mod ask;
 pub mod catch;
 pub mod choose;
 pub mod come_back;

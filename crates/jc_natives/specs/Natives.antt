@@ -7,6 +7,7 @@ use Rattle.jc_packages.specs.Values.{Packages}
 use Rattle.jc_world.specs.Calls.{Calling, faults}
 use Rattle.jc_api_aid.specs.AidCalls.{aid_called}
 use Rattle.jc_api_apdu.specs.Apdu.{apdu_called}
+use Rattle.jc_api_pin.specs.OwnerPin.{pin_called}
 use Rattle.jc_api_system.specs.System.{system_called}
 use Rattle.jc_api_util.specs.Exceptions.{exception_called}
 use Rattle.jc_api_util.specs.Objects.{object_called}
@@ -22,7 +23,7 @@ called_in CardExceptions method args p m = exception_called method args m
 called_in Utilities method args p m = util_called method args p m
 called_in System method args p m = system_called method args p m
 called_in Aids method args p m = aid_called method args p m
-called_in Pins method args p m = faults
+called_in Pins method args p m = pin_called method args p m
 called_in Applets method args p m = faults
 called_in Apdus method args p m = apdu_called method args m
 

@@ -5,9 +5,10 @@ ghost use Rattle.jc_world.specs.Calls.{after_call};
 ghost use Rattle.jc_natives.specs.Natives.{called};
 
 use crate::parts::{Part, part_of};
-use jc_api_aid::aid::call_aid;
+use jc_api_aid::call_aid;
 use jc_api_apdu::call_apdu;
-use jc_api_system::system::call_system;
+use jc_api_pin::call_pin;
+use jc_api_system::call_system;
 use jc_api_util::exceptions::call_exception;
 use jc_api_util::objects::call_object;
 use jc_api_util::util::call_util;
@@ -36,7 +37,7 @@ pub fn call_native<S: WordStore>(
         Part::Utilities => call_util(method, args, memory, linked),
         Part::System => call_system(method, args, memory, linked),
         Part::Aids => call_aid(method, args, memory, linked),
-        Part::Pins => Err(Break::End(Outcome::Fault)),
+        Part::Pins => call_pin(method, args, memory, linked),
         Part::Applets => Err(Break::End(Outcome::Fault)),
         Part::Apdus => call_apdu(method, args, memory),
     }
