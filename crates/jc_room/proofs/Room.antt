@@ -1,26 +1,29 @@
 -- Where there is room, the store alone refuses.
-use Rattle.std.proofs.Common.{◌≡◌, ℕ, ◌+◌, ◌-◌, ◌<◌, ◌≤◌, Bool, true, false, List, [], length, map, refl, sym, ◌∙◌, ap, subst, arith}
+use Rattle.std.proofs.Common.{◌≡◌, ℕ, suc, ◌+◌, ◌-◌, ◌<◌, ◌≤◌, Bool, true, false, List, [], ◌∷◌, ◌++◌, length, map, refl, sym, ◌∙◌, ap, subst, arith}
 use Rattle.std.specs.Prelude.{◌&&◌, nat_lt, nat_le, if◌then◌else◌, Option, Some, None, Err}
-use Rattle.std.proofs.lemmas.Bool.{true≢false, ltb-false, le-leb}
-use Rattle.std.proofs.lemmas.List.{length-map}
+use Rattle.std.proofs.lemmas.Bool.{true≢false, ltb-false, le-ltb, le-leb}
+use Rattle.std.proofs.lemmas.List.{length-map, length-append}
 use Rattle.std.proofs.lemmas.Option.{none-some}
 use Rattle.jc_transient.specs.declared.cell.ClearEvent.{ClearEvent}
+use Rattle.jc_commit.specs.Entries.{addresses_of}
 use Rattle.jc_heap.specs.declared.place.Place.{Place}
 use Rattle.jc_heap.specs.declared.refusal.ChangeRefusal.{ChangeRefusal}
 use Rattle.jc_heap.specs.declared.refusal.ChangeRefusal.TheVariants as change
 use Rattle.jc_heap.specs.declared.refusal.HeapRefusal.{HeapRefusal}
 use Rattle.jc_heap.specs.declared.refusal.HeapRefusal.TheVariants as making
 use Rattle.jc_heap.specs.Object.{AnObject, Object, new_object, object_size}
-use Rattle.jc_heap.specs.Heap.{item_at, names, add_object}
-use Rattle.jc_heap.specs.Moves.{Answer, Done, Refused, SetPlaces, no_room}
+use Rattle.jc_heap.specs.Heap.{HeapState, HeapView, item_at, names, add_object, changed, set_cell, set_cells, run_words, cell_address}
+use Rattle.jc_heap.specs.Moves.{Answer, Done, Refused, SetPlaces, SetCells, no_room, no_run}
 use Rattle.jc_heap.specs.Places.{places_of, place_word}
+use Rattle.jc_heap.proofs.Runs.{length-addresses}
 use Rattle.jc_heap.proofs.Laws.{item_at-add_object, item_at-add_other, object_named}
 use Rattle.jc_memory.specs.declared.making.NewObject.{NewObject}
 use Rattle.jc_memory.specs.Owners.{owner_number}
-use Rattle.jc_memory.specs.State.{MemoryState, Changes, Flags, IsNew}
+use Rattle.jc_memory.specs.State.{MemoryState, Changes, Flags, IsNew, effected}
 use Rattle.jc_memory.specs.Doing.{Gives, Then, Picks, Did, IsCutIn, Makes, after_change, unless_refused}
+use Rattle.jc_memory.specs.Cells.{no_room_in, sets_run_in}
 use Rattle.jc_memory.specs.Making.{new_move_in, zeroed_in}
-use Rattle.jc_room.specs.Room.{lacks_room, sets_places, KeepsObjects}
+use Rattle.jc_room.specs.Room.{lacks_room, sets_cells, sets_places, KeepsObjects, KeepsRest}
 
 -- places within the room of a heap
 fits : (begun : Bool) (touched n : ℕ) (places : List ℕ) → (begun && nat_lt (256 - touched) n) ≡ false → length places ≤ n → 0 < n → n ≤ 256 →
@@ -50,16 +53,29 @@ cut_change None s new changes change.StoreDown none cut = cut
 cut_change None s new changes change.CommitFull none did = absurd (done_is_no_refusal (Done tt) tt making.CommitFull refl did.0)
 cut_change (Some why) s new changes e none cut = absurd (none-some why (sym none))
 
--- a new object stands behind its reference, and all others as before
-abbrev pub IsMade : MemoryState → MemoryState → Object → ℕ → Type 0
-IsMade s new o r = (item_at new.heap.now r ≡ AnObject o) × KeepsObjects s.heap.now new.heap.now
+counts-add : (h : HeapState) (o : Object) (size : ℕ) → (add_object h o size).counts ≡ h.counts
+unfolding add_object
+counts-add h o size = refl
 
-added : (s new : MemoryState) (o : Object) (size r : ℕ) → IsNew s.heap.now r → new.heap.now ≡ add_object s.heap.now o size → IsMade s new o r
-added s new o size r new_one is =
-    let free : names s.heap.now s.heap.now.top ≡ false = subst (λ q. names s.heap.now q ≡ false) new_one.chosen new_one.free in (
-      ap (item_at new.heap.now) new_one.chosen ∙ ap (λ h. item_at h s.heap.now.top) is ∙ item_at-add_object s.heap.now o size free,
-      λ q there. ap (λ h. item_at h q) is ∙ item_at-add_other s.heap.now o size q (λ e. true≢false (sym (object_named s.heap.now q there) ∙ ap (names s.heap.now) (sym e) ∙ free)),
-    )
+counts-set : (h : HeapState) (r i v : ℕ) → (set_cell h r i v).counts ≡ h.counts
+unfolding set_cell
+counts-set h r i v = refl
+
+counts-run : (h : HeapState) (r i : ℕ) (vs : List ℕ) → (set_cells h r i vs).counts ≡ h.counts
+counts-run h r i [] = refl
+counts-run h r i (v ∷ vs) = counts-run (set_cell h r i v) r (suc i) vs ∙ counts-set h r i v
+
+-- a new object stands behind its reference, and all else is as before
+abbrev pub IsMade : MemoryState → MemoryState → Object → ℕ → Type 0
+IsMade s new o r = (item_at new.heap.now r ≡ AnObject o) × KeepsObjects s.heap.now new.heap.now × KeepsRest s new
+
+added : (s new : MemoryState) (o : Object) (size fresh r : ℕ) (places : List ℕ) → IsNew s.heap.now r → new.heap ≡ changed s.heap (add_object s.heap.now o size) places fresh → IsMade s new o r
+added s new o size fresh r places new_one is =
+    let free : names s.heap.now s.heap.now.top ≡ false = subst (λ q. names s.heap.now q ≡ false) new_one.chosen new_one.free in
+    let now : new.heap.now ≡ add_object s.heap.now o size = ap (λ v. v.now) is in
+    (ap (item_at new.heap.now) new_one.chosen ∙ ap (λ h. item_at h s.heap.now.top) now ∙ item_at-add_object s.heap.now o size free,
+     λ q there. ap (λ h. item_at h q) now ∙ item_at-add_other s.heap.now o size q (λ e. true≢false (sym (object_named s.heap.now q there) ∙ ap (names s.heap.now) (sym e) ∙ free)),
+     record { begun = ap (λ v. v.begun) is; counts = ap (λ h. h.counts) now ∙ counts-add s.heap.now o size })
 
 made_one : (event : Option ClearEvent) (s new : MemoryState) (o : NewObject) (x : ℕ) → event ≡ None →
     Did (Picks (λ r. Then (Changes (new_move_in event o)) (zeroed_in event o r (Then (Flags r false) (Gives (Done r)))))) s (Done x) new →
@@ -67,7 +83,7 @@ made_one : (event : Option ClearEvent) (s new : MemoryState) (o : NewObject) (x 
 made_one None s new o x none did =
     let same : x ≡ did.0 = cc (did.2.0) in
     let o' : Object = new_object o.kind o.class (owner_number o.owner) o.length in
-    subst (IsMade s new o') (sym same) (added s new o' (object_size o.length) did.0 did.1 (ap (λ v. v.heap.now) did.2.1))
+    subst (IsMade s new o') (sym same) (added s new o' (object_size o.length) (object_size o.length) did.0 _ did.1 (ap (λ v. v.heap) did.2.1))
 made_one (Some e) s new o x none did = absurd (none-some e (sym none))
 
 pub made_object : (reason : Option HeapRefusal) (s new : MemoryState) (o : NewObject) (x : ℕ) → o.event ≡ None →
@@ -75,3 +91,49 @@ pub made_object : (reason : Option HeapRefusal) (s new : MemoryState) (o : NewOb
     IsMade s new (new_object o.kind o.class (owner_number o.owner) o.length) x
 made_object None s new o x none did = made_one o.event s new o x none did
 made_object (Some why) s new o x none did = absurd (done_is_no_refusal (Done x) x why refl (sym did.0))
+
+-- cells of a persistent object
+pub cut_run : (event : Option ClearEvent) (reason : Option HeapRefusal) (s new : MemoryState) (r i : ℕ) (words : List ℕ) (e : ChangeRefusal) → event ≡ None → reason ≡ None →
+    Makes (unless_refused (no_room_in event reason) (Then (sets_run_in event r i words) (Gives (Done tt)))) s (after_change {A = Unit {0}} (Err e) new) → IsCutIn (sets_cells r i words) s new
+cut_run None None s new r i words change.StoreDown kept none cut = cut
+cut_run None None s new r i words change.CommitFull kept none did = absurd (done_is_no_refusal (Done tt) tt making.CommitFull refl did.0)
+cut_run None (Some why) s new r i words e kept none cut = absurd (none-some why (sym none))
+cut_run (Some event) reason s new r i words e kept none cut = absurd (none-some event (sym kept))
+
+did_run : (event : Option ClearEvent) (reason : Option HeapRefusal) (s new : MemoryState) (r i : ℕ) (words : List ℕ) → event ≡ None →
+    Did (unless_refused (no_room_in event reason) (Then (sets_run_in event r i words) (Gives (Done (tt {0}))))) s (Done (tt {0})) new → new ≡ effected (Changes (SetCells r i words)) s
+did_run None None s new r i words kept did = did.1
+did_run None (Some why) s new r i words kept did = absurd (done_is_no_refusal (Done tt) tt why refl (sym did.0))
+did_run (Some event) reason s new r i words kept did = absurd (none-some event (sym kept))
+
+-- the room that a change leaves
+lacks_less : (t k n : ℕ) → nat_lt (256 - t) (n + k) ≡ false → nat_lt (256 - (t + k)) n ≡ false
+lacks_less t k n room = let left = ltb-false (256 - t) (n + k) room in le-ltb (256 - (t + k)) n (omega (arith, left))
+
+view_left : (v : HeapView) (places : List ℕ) (n k : ℕ) → length places ≡ k → (v.begun && nat_lt (256 - length v.touched) (n + k)) ≡ false →
+    (v.begun && nat_lt (256 - length (v.touched ++ (if v.begun then places else []))) n) ≡ false
+view_left v places n k long = elim v.begun as (λ b. (b && nat_lt (256 - length v.touched) (n + k)) ≡ false → (b && nat_lt (256 - length (v.touched ++ (if b then places else []))) n) ≡ false) [
+  | true ↦ λ room. ap (λ t. nat_lt (256 - t) n) (length-append v.touched places ∙ ap (λ m. length v.touched + m) long) ∙ lacks_less (length v.touched) k n room
+  | false ↦ λ room. refl
+]
+
+pub run_left : (event : Option ClearEvent) (reason : Option HeapRefusal) (s new : MemoryState) (r i : ℕ) (words : List ℕ) (n : ℕ) → event ≡ None →
+    Did (unless_refused (no_room_in event reason) (Then (sets_run_in event r i words) (Gives (Done (tt {0}))))) s (Done (tt {0})) new →
+    lacks_room s (n + length words) ≡ false → lacks_room new n ≡ false
+run_left event reason s new r i words n kept did room =
+    subst (λ v. lacks_room v n ≡ false) (sym (did_run event reason s new r i words kept did))
+        (view_left s.heap _ n (length words) (length-addresses (cell_address r i) words) room)
+
+-- so a change of as many cells is not refused
+pub has_run_room : (s : MemoryState) (r i : ℕ) (words : List ℕ) → lacks_room s (length words) ≡ false → 0 < length words → length words ≤ 256 → no_run s.heap r i words ≡ None
+has_run_room s r i words room some most =
+    ap (λ b. if b then None else Some making.CommitFull) (fits s.heap.begun (length s.heap.touched) (length words) (addresses_of (run_words (cell_address r i) words)) room few some most)
+  where
+    few : length (addresses_of (run_words (cell_address r i) words)) ≤ length words
+    few = let long = length-addresses (cell_address r i) words in omega (arith, long)
+
+pub run_rest : (event : Option ClearEvent) (reason : Option HeapRefusal) (s new : MemoryState) (r i : ℕ) (words : List ℕ) → event ≡ None →
+    Did (unless_refused (no_room_in event reason) (Then (sets_run_in event r i words) (Gives (Done (tt {0}))))) s (Done (tt {0})) new → KeepsRest s new
+run_rest event reason s new r i words kept did =
+    let is = did_run event reason s new r i words kept did in
+    record { begun = ap (λ v. v.heap.begun) is; counts = ap (λ v. v.heap.now.counts) is ∙ counts-run s.heap.now r i words }

@@ -3,15 +3,17 @@
 
 ghost use Rattle.std.specs.Prelude.{ℕ, ◌≡◌, ◌+◌, ◌<◌, ◌≤◌, false, true, None, length, IfOk, OnOk};
 ghost use Rattle.jc_heap.specs.Object.{AnObject, new_object};
-ghost use Rattle.jc_heap.specs.Heap.{item_at};
+ghost use Rattle.jc_heap.specs.Heap.{item_at, facts, IsObject};
 ghost use Rattle.jc_heap.specs.Keeping.{MayAllStand};
 ghost use Rattle.jc_heap.specs.Places.{AreThere, AreApart, places_of};
+ghost use Rattle.jc_words.specs.Layout.{most_applets};
+ghost use Rattle.jc_memory.specs.Cells.{MayHaveAll};
 ghost use Rattle.jc_memory.specs.Owners.{owner_number};
 ghost use Rattle.jc_memory.specs.Doing.{Makes, Gives, after_step};
 ghost use Rattle.jc_memory.specs.Making.{makes_new};
-ghost use Rattle.jc_room.specs.Room.{has_space, lacks_room, sets_places, KeepsObjects};
+ghost use Rattle.jc_room.specs.Room.{has_space, lacks_room, registers, sets_cells, sets_places, KeepsObjects, KeepsRest};
 
-use jc_heap::Place;
+use jc_heap::{AppletEntry, Place};
 use jc_memory::{Memory, NewObject};
 use jc_transient::Ref;
 use jc_words::{StoreDown, WordStore};
@@ -43,6 +45,7 @@ pub fn make_in_room<S: WordStore>(
     ensures made { Makes (makes_new object Gives) memory.old (after_step result memory.new) }
     ensures new { IfOk result (λ r. item_at memory.new.heap.now r ≡ AnObject (new_object object.kind object.class (owner_number object.owner) object.length)) }
     ensures kept { OnOk result (KeepsObjects memory.old.heap.now memory.new.heap.now) }
+    ensures rest { OnOk result (KeepsRest memory.old memory.new) }
     ensures left { OnOk result ((n : ℕ) → lacks_room memory.old (n + 1) ≡ false → lacks_room memory.new n ≡ false) }
     ensures up { OnOk result (memory.new.heap.down ≡ false) }
 {
@@ -68,6 +71,47 @@ pub fn write_in_room<S: WordStore>(
 {
     match memory.write_all(changes) {
         Ok(()) => Ok(()),
+        Err(_) => Err(StoreDown),
+    }
+}
+
+/// Sets cells of a persistent object as one change, for which there is room.
+pub fn set_in_room<S: WordStore>(
+    memory: &mut Memory<S>,
+    object: Ref,
+    i: u16,
+    words: &[u16],
+) -> Result<(), StoreDown>
+    requires up { memory.old.heap.down ≡ false }
+    requires there { IsObject memory.old.heap.now object }
+    requires persistent { (facts memory.old.heap.now object).event ≡ None }
+    requires cells { i + length words.now ≤ (facts memory.old.heap.now object).length }
+    requires values { MayHaveAll memory.old object words.now }
+    requires some { 0 < length words.now }
+    requires few { length words.now ≤ 256 }
+    requires room { lacks_room memory.old (length words.now) ≡ false }
+    ensures made { Makes (sets_cells object i words.now) memory.old (after_step result memory.new) }
+    ensures left { OnOk result ((n : ℕ) → lacks_room memory.old (n + length words.now) ≡ false → lacks_room memory.new n ≡ false) }
+    ensures rest { OnOk result (KeepsRest memory.old memory.new) }
+{
+    match memory.set_run(object, i, words) {
+        Ok(()) => Ok(()),
+        Err(_) => Err(StoreDown),
+    }
+}
+
+/// Registers an applet, for which there is room.
+pub fn register_in_room<S: WordStore>(
+    memory: &mut Memory<S>,
+    entry: AppletEntry,
+) -> Result<(), StoreDown>
+    requires up { memory.old.heap.down ≡ false }
+    requires few { memory.old.heap.now.counts.1 < most_applets }
+    requires room { lacks_room memory.old 4 ≡ false }
+    ensures { Makes (registers memory.old.heap.now entry) memory.old (after_step result memory.new) }
+{
+    match memory.add_applet(entry) {
+        Ok(_) => Ok(()),
         Err(_) => Err(StoreDown),
     }
 }

@@ -9,3 +9,7 @@ returns-in-Ok-clause-new g c =
 pub returns-in-Ok-clause-kept : goal.returns-in-Ok-clause-kept
 returns-in-Ok-clause-kept g c =
     (made_object (no_new c.args.memory.now c.args.object) c.args.memory.now c.make.new.self c.args.object c.in-Ok.made c.requires.persistent c.in-Ok.ensures).1
+
+pub returns-in-Ok-clause-rest : goal.returns-in-Ok-clause-rest
+returns-in-Ok-clause-rest g c =
+    (made_object (no_new c.args.memory.now c.args.object) c.args.memory.now c.make.new.self c.args.object c.in-Ok.made c.requires.persistent c.in-Ok.ensures).2
