@@ -103,7 +103,7 @@ fn route<S: WordStore>(
     if !is_select(command) {
         return to_selected(expected, memory, linked);
     }
-    if command.data == MANAGER_AID {
+    if command.data == MANAGER_AID.as_slice() {
         return select_manager(MOST_INSTRUCTIONS, memory, linked);
     }
     match applet_with_aid(memory, command.data) {
