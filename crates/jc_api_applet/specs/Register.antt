@@ -1,5 +1,5 @@
 -- An applet is registered.
-use Rattle.std.specs.Prelude.{ℕ, ℤ, pos, ◌+◌, ◌==◌, not, nat_lt, is_some, Bool, true, false, List, if◌then◌else◌, Option, Some, None, Result, Ok, Err}
+use Rattle.std.specs.Prelude.{ℕ, pos, ◌+◌, ◌==◌, nat_lt, is_some, Bool, true, false, List, if◌then◌else◌, Option, Some, None, Result, Ok, Err}
 use Rattle.jc_words.specs.Layout.{most_applets}
 use Rattle.jc_heap.specs.declared.object.Facts.{Facts}
 use Rattle.jc_heap.specs.declared.object.Kind.TheVariants.{Instance}

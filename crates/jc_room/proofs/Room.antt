@@ -72,10 +72,11 @@ IsMade s new o r = (item_at new.heap.now r ≡ AnObject o) × KeepsObjects s.hea
 added : (s new : MemoryState) (o : Object) (size fresh r : ℕ) (places : List ℕ) → IsNew s.heap.now r → new.heap ≡ changed s.heap (add_object s.heap.now o size) places fresh → IsMade s new o r
 added s new o size fresh r places new_one is =
     let free : names s.heap.now s.heap.now.top ≡ false = subst (λ q. names s.heap.now q ≡ false) new_one.chosen new_one.free in
-    let now : new.heap.now ≡ add_object s.heap.now o size = ap (λ v. v.now) is in
-    (ap (item_at new.heap.now) new_one.chosen ∙ ap (λ h. item_at h s.heap.now.top) now ∙ item_at-add_object s.heap.now o size free,
-     λ q there. ap (λ h. item_at h q) now ∙ item_at-add_other s.heap.now o size q (λ e. true≢false (sym (object_named s.heap.now q there) ∙ ap (names s.heap.now) (sym e) ∙ free)),
-     record { begun = ap (λ v. v.begun) is; counts = ap (λ h. h.counts) now ∙ counts-add s.heap.now o size })
+    let now : new.heap.now ≡ add_object s.heap.now o size = ap (λ v. v.now) is in (
+      ap (item_at new.heap.now) new_one.chosen ∙ ap (λ h. item_at h s.heap.now.top) now ∙ item_at-add_object s.heap.now o size free,
+      λ q there. ap (λ h. item_at h q) now ∙ item_at-add_other s.heap.now o size q (λ e. true≢false (sym (object_named s.heap.now q there) ∙ ap (names s.heap.now) (sym e) ∙ free)),
+      record { begun = ap (λ v. v.begun) is; counts = ap (λ h. h.counts) now ∙ counts-add s.heap.now o size },
+    )
 
 made_one : (event : Option ClearEvent) (s new : MemoryState) (o : NewObject) (x : ℕ) → event ≡ None →
     Did (Picks (λ r. Then (Changes (new_move_in event o)) (zeroed_in event o r (Then (Flags r false) (Gives (Done r)))))) s (Done x) new →
@@ -122,7 +123,7 @@ pub run_left : (event : Option ClearEvent) (reason : Option HeapRefusal) (s new 
     lacks_room s (n + length words) ≡ false → lacks_room new n ≡ false
 run_left event reason s new r i words n kept did room =
     subst (λ v. lacks_room v n ≡ false) (sym (did_run event reason s new r i words kept did))
-        (view_left s.heap _ n (length words) (length-addresses (cell_address r i) words) room)
+    (view_left s.heap _ n (length words) (length-addresses (cell_address r i) words) room)
 
 -- so a change of as many cells is not refused
 pub has_run_room : (s : MemoryState) (r i : ℕ) (words : List ℕ) → lacks_room s (length words) ≡ false → 0 < length words → length words ≤ 256 → no_run s.heap r i words ≡ None

@@ -7,16 +7,16 @@ pub returns-in-Ok-clause-left : goal.returns-in-Ok-clause-left
 returns-in-Ok-clause-left g c n =
     let s = c.args.memory.now in
     run_left (facts s.heap.now c.args.object).event (no_run s.heap c.args.object c.args.i c.args.words.now) s c.set_run.new.self c.args.object c.args.i c.args.words.now n
-        c.requires.persistent c.in-Ok.ensures
+    c.requires.persistent c.in-Ok.ensures
 
 pub returns-in-Err-clause-made : goal.returns-in-Err-clause-made
 returns-in-Err-clause-made g c =
     let s = c.args.memory.now in
     cut_run (facts s.heap.now c.args.object).event (no_run s.heap c.args.object c.args.i c.args.words.now) s c.set_run.new.self c.args.object c.args.i c.args.words.now c.in-Err.field-0
-        c.requires.persistent (has_run_room s c.args.object c.args.i c.args.words.now c.requires.room c.requires.some c.requires.few) c.in-Err.ensures
+    c.requires.persistent (has_run_room s c.args.object c.args.i c.args.words.now c.requires.room c.requires.some c.requires.few) c.in-Err.ensures
 
 pub returns-in-Ok-clause-rest : goal.returns-in-Ok-clause-rest
 returns-in-Ok-clause-rest g c =
     let s = c.args.memory.now in
     run_rest (facts s.heap.now c.args.object).event (no_run s.heap c.args.object c.args.i c.args.words.now) s c.set_run.new.self c.args.object c.args.i c.args.words.now
-        c.requires.persistent c.in-Ok.ensures
+    c.requires.persistent c.in-Ok.ensures

@@ -1,0 +1,132 @@
+//! Whether an applet may be registered.
+ghost use Rattle.std.specs.Prelude.{◌≡◌, ◌<◌, false, true, IfOk};
+ghost use Rattle.jc_words.specs.Layout.{most_applets};
+ghost use Rattle.jc_memory.specs.Cells.{header_at};
+ghost use Rattle.jc_room.specs.Room.{has_space, lacks_room};
+ghost use Rattle.jc_api_applet.specs.Register.{installing, is_inside, is_owned, may_be_added, opened, registrable, unless_full};
+
+use jc_frames::{Exception, Stop};
+use jc_memory::{Depth, Installation, Memory, PackageNumber};
+use jc_registry::applet_with_aid;
+use jc_room::{has_space, lacks_room};
+use jc_transient::Ref;
+use jc_words::WordStore;
+use jc_words::layout::MOST_APPLETS;
+
+/// An AID is in use already, or it is no time for the instance to be registered (`ILLEGAL_AID`).
+pub(crate) const ILLEGAL_AID: Exception = Exception::SystemException(4);
+
+/// There is no space in the heap (`NO_RESOURCE`).
+const NO_RESOURCE: Exception = Exception::SystemException(5);
+
+/// The applet has begun a transaction of its own (`IN_PROGRESS`).
+const IN_PROGRESS: Exception = Exception::TransactionException(1);
+
+/// The installation's transaction has no room (`BUFFER_FULL`).
+const BUFFER_FULL: Exception = Exception::TransactionException(3);
+
+/// How many cells an AID object has.
+pub(crate) const AID_CELLS: u16 = 9;
+
+// For how many words there has to be room: the heap's end, the AID's cells, the entry of the registry and the number
+// of applets.
+const WORDS: u16 = 14;
+
+// The package of the applet that is being installed, while its `install` has not registered an instance yet.
+fn opened(installation: Installation) -> Option<PackageNumber>
+    ensures { result ≡ opened installation }
+{
+    match installation {
+        Installation::Open(package, _) => Some(package),
+        _ => None,
+    }
+}
+
+// The same, in the transaction of its installation.
+fn installing<S: WordStore>(memory: &Memory<S>) -> Option<PackageNumber>
+    ensures { result ≡ installing memory.now }
+{
+    if memory.heap().is_open() {
+        opened(memory.registers().installation)
+    } else {
+        None
+    }
+}
+
+// Whether the applet with this number owns the instance.
+fn is_owned<S: WordStore>(number: u16, instance: Ref, memory: &Memory<S>) -> bool
+    requires up { memory.now.heap.down ≡ false }
+    ensures { result ≡ is_owned number (header_at memory.now instance) }
+{
+    match memory.header(instance) {
+        Some(facts) => facts.owner == number,
+        None => false,
+    }
+}
+
+// Whether there is no applet with this AID, a place for one more, and the instance is its own.
+fn may_be_added<S: WordStore>(aid: &[u8], instance: Ref, memory: &Memory<S>) -> bool
+    requires up { memory.now.heap.down ≡ false }
+    ensures { result ≡ may_be_added memory.now aid.now instance }
+{
+    if applet_with_aid(memory, aid).is_some() {
+        return false;
+    }
+    let applets = memory.heap().applets();
+    applets < MOST_APPLETS && is_owned(applets + 1, instance, memory)
+}
+
+// Whether the applet has begun a transaction of its own.
+fn is_inside(depth: Depth) -> bool
+    ensures { result ≡ is_inside depth }
+{
+    match depth {
+        Depth::Outside => false,
+        Depth::Inside => true,
+    }
+}
+
+// There is space and room for all that is written.
+fn unless_full<S: WordStore>(
+    package_number: PackageNumber,
+    memory: &Memory<S>,
+) -> Result<PackageNumber, Stop>
+    requires up { memory.now.heap.down ≡ false }
+    ensures asked { result ≡ unless_full memory.now package_number }
+    ensures space { IfOk result (λ p. has_space memory.now 9 ≡ true) }
+    ensures room { IfOk result (λ p. lacks_room memory.now 14 ≡ false) }
+{
+    if !has_space(memory, AID_CELLS) {
+        return Err(Stop::Throw(NO_RESOURCE));
+    }
+    if lacks_room(memory, WORDS) {
+        return Err(Stop::Throw(BUFFER_FULL));
+    }
+    Ok(package_number)
+}
+
+/// The package in which an applet with this AID and this instance may be registered; else what throws.
+#[tactic(auto, unfolding(crate::specs::Register::registrable))]
+pub(crate) fn registrable<S: WordStore>(
+    aid: &[u8],
+    instance: Ref,
+    memory: &Memory<S>,
+) -> Result<PackageNumber, Stop>
+    requires up { memory.now.heap.down ≡ false }
+    ensures asked { result ≡ registrable memory.now aid.now instance }
+    ensures open { IfOk result (λ p. memory.now.heap.begun ≡ true) }
+    ensures few { IfOk result (λ p. memory.now.heap.now.counts.1 < most_applets) }
+    ensures space { IfOk result (λ p. has_space memory.now 9 ≡ true) }
+    ensures room { IfOk result (λ p. lacks_room memory.now 14 ≡ false) }
+{
+    let Some(package) = installing(memory) else {
+        return Err(Stop::Throw(ILLEGAL_AID));
+    };
+    if !may_be_added(aid, instance, memory) {
+        return Err(Stop::Throw(ILLEGAL_AID));
+    }
+    if is_inside(memory.registers().depth) {
+        return Err(Stop::Throw(IN_PROGRESS));
+    }
+    unless_full(package, memory)
+}
