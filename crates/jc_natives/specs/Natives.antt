@@ -4,8 +4,9 @@ use Rattle.jc_frames.specs.declared.cell.Cell.{Cell}
 use Rattle.jc_memory.specs.State.{MemoryState}
 use Rattle.jc_platform.specs.declared.names.PlatformMethod.{PlatformMethod}
 use Rattle.jc_packages.specs.Values.{Packages}
-use Rattle.jc_world.specs.Calls.{Calling, faults}
+use Rattle.jc_world.specs.Calls.{Calling}
 use Rattle.jc_api_aid.specs.AidCalls.{aid_called}
+use Rattle.jc_api_applet.specs.Applet.{applet_called}
 use Rattle.jc_api_apdu.specs.Apdu.{apdu_called}
 use Rattle.jc_api_pin.specs.OwnerPin.{pin_called}
 use Rattle.jc_api_system.specs.System.{system_called}
@@ -24,7 +25,7 @@ called_in Utilities method args p m = util_called method args p m
 called_in System method args p m = system_called method args p m
 called_in Aids method args p m = aid_called method args p m
 called_in Pins method args p m = pin_called method args p m
-called_in Applets method args p m = faults
+called_in Applets method args p m = applet_called method args p m
 called_in Apdus method args p m = apdu_called method args m
 
 -- with these arguments, the receiver first

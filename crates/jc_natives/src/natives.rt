@@ -7,12 +7,13 @@ ghost use Rattle.jc_natives.specs.Natives.{called};
 use crate::parts::{Part, part_of};
 use jc_api_aid::call_aid;
 use jc_api_apdu::call_apdu;
+use jc_api_applet::call_applet;
 use jc_api_pin::call_pin;
 use jc_api_system::call_system;
 use jc_api_util::exceptions::call_exception;
 use jc_api_util::objects::call_object;
 use jc_api_util::util::call_util;
-use jc_frames::{Cell, Outcome};
+use jc_frames::Cell;
 use jc_linker::linked::Linked;
 use jc_memory::Memory;
 use jc_platform::names::PlatformMethod;
@@ -38,7 +39,7 @@ pub fn call_native<S: WordStore>(
         Part::System => call_system(method, args, memory, linked),
         Part::Aids => call_aid(method, args, memory, linked),
         Part::Pins => call_pin(method, args, memory, linked),
-        Part::Applets => Err(Break::End(Outcome::Fault)),
+        Part::Applets => call_applet(method, args, memory, linked),
         Part::Apdus => call_apdu(method, args, memory),
     }
 }
