@@ -17,9 +17,8 @@ use Rattle.jc_memory.specs.Cells.{header_at}
 use Rattle.jc_packages.specs.Values.{Packages}
 use Rattle.jc_firewall.specs.declared.access.Access.TheVariants.{ArrayElement}
 use Rattle.jc_world.specs.Contexts.{allowed}
-use Rattle.jc_world.specs.Objects.{is_instance, object_at, storable_of}
+use Rattle.jc_world.specs.Objects.{is_instance, object_at}
 use Rattle.jc_interp_values.specs.Types.{is_a}
-use Rattle.jc_interp_values.specs.Values.{kept_if}
 use Rattle.jc_interp_arrays.specs.declared.elements.Element.{Element}
 
 -- an object whose elements are of this type: bytes and booleans are read and written alike
@@ -71,15 +70,14 @@ assignable_in p class (Some f) = if is_a p f class then Ok tt else Err (Throw Ar
 unfoldable pub assignable : Packages → MemoryState → ℕ → ℕ → Result (Unit {0}) Stop
 assignable p m class r = if r == 0 then Ok tt else assignable_in p class (header_at m r)
 
--- first its type is tested, then the firewall is asked
-abbrev pub element_if : Packages → MemoryState → ℕ → Result (Unit {0}) Stop → Result CellValue Stop
-element_if p m r (Err e) = Err e
-element_if p m r (Ok u) = kept_if (kept.Reference r) (storable_of p m r)
+abbrev pub kept_as : CellValue → Result (Unit {0}) Stop → Result CellValue Stop
+kept_as value (Ok u) = Ok value
+kept_as value (Err e) = Err e
 
 -- the value, where it may be an element of an array of a class's instances, or of numbers
 unfoldable pub element_value : Packages → MemoryState → ℕ → CellValue → Result CellValue Stop
 element_value p m class (kept.Short x) = Ok (kept.Short x)
-element_value p m class (kept.Reference r) = element_if p m r (assignable p m class r)
+element_value p m class (kept.Reference r) = kept_as (kept.Reference r) (assignable p m class r)
 
 -- a reference is one to something, or null
 abbrev pub Refers : MemoryState → CellValue → Type 0

@@ -1,5 +1,5 @@
 -- Reading and writing elements, and counting them.
-use Rattle.std.specs.Prelude.{ℕ, ℤ, None}
+use Rattle.std.specs.Prelude.{ℕ, ℤ, None, Some}
 use Rattle.std.specs.Int.{w16, cast_signed}
 use Rattle.jc_transient.specs.declared.cell.CellValue.{CellValue}
 use Rattle.jc_opcodes.specs.declared.instr.ValueType.{ValueType}
@@ -11,18 +11,18 @@ use Rattle.jc_memory.specs.Cells.{no_room_for, sets}
 use Rattle.jc_memory.specs.Doing.{Doing, Then}
 use Rattle.jc_packages.specs.Values.{Packages}
 use Rattle.jc_world.specs.Groups.{goes, if_ok, if_some, unless}
-use Rattle.jc_interp_values.specs.Values.{value_at, value_on, with_top}
-use Rattle.jc_interp_arrays.specs.Elements.{array_at, element_at, element_value}
+use Rattle.jc_interp_values.specs.Values.{keepable, value_at, value_on, with_top}
+use Rattle.jc_interp_arrays.specs.Elements.{array_at, element_at, element_value, with_index}
 
 -- the element with this index of this array comes on the stack
 unfoldable pub loaded : ValueType → ℕ → ℤ → Packages → Frames → MemoryState → Doing (Next Frames)
 loaded of_type r i p s m = if_ok s (element_at of_type p m r i) (λ e. goes (with_top (value_at of_type m r e.index) s))
 
--- it is set
+-- it is set: the firewall is asked for the array and for what is stored, then the index and the value's type are tested
 unfoldable pub stored : ValueType → ℕ → ℤ → CellValue → Packages → Frames → MemoryState → Doing (Next Frames)
 stored of_type r i value p s m =
-    if_ok s (element_at of_type p m r i) (λ e. if_ok s (element_value p m e.class value) (λ v.
-    unless s (no_room_for m r e.index) (Then (sets m r e.index v) (goes s))))
+    if_ok s (array_at (Some of_type) p m r) (λ f. if_ok s (keepable p m value) (λ k. if_ok s (with_index f i) (λ e. if_ok s (element_value p m e.class k) (λ v.
+    unless s (no_room_for m r e.index) (Then (sets m r e.index v) (goes s))))))
 
 -- with the array and the index on the stack
 unfoldable pub loaded_from_stack : ValueType → Packages → Frames → MemoryState → Doing (Next Frames)

@@ -15,7 +15,7 @@ use jc_opcodes::instr::ValueType;
 use jc_transient::{CellValue, Ref};
 use jc_words::WordStore;
 use jc_world::contexts::allow;
-use jc_world::objects::{allow_store, is_instance, object};
+use jc_world::objects::{is_instance, object};
 
 /// An element of an array.
 #[derive(Clone, Copy, Debug, PartialEq, Eq)]
@@ -77,8 +77,8 @@ pub(crate) fn array<S: WordStore>(
     Ok(facts)
 }
 
-// The element of an array with an index.
-fn with_index(facts: Facts, index: i16) -> Result<Element, Stop>
+/// The element of an array with an index.
+pub(crate) fn with_index(facts: Facts, index: i16) -> Result<Element, Stop>
     ensures exact { result ≡ with_index facts index }
     ensures within { IfOk result (λ e. e.index < facts.length) }
 {
@@ -133,8 +133,7 @@ fn allow_element<S: WordStore>(
     }
 }
 
-/// The value, where it may be an element of an array of a class's instances, or of numbers. Its type is tested before
-/// the firewall is asked.
+/// The value, where it may be an element of an array of a class's instances, or of numbers.
 #[tactic(auto, unfolding(crate::specs::Elements::element_value))]
 pub(crate) fn element_value<S: WordStore>(
     class: u16,
@@ -150,7 +149,6 @@ pub(crate) fn element_value<S: WordStore>(
         CellValue::Short(number) => Ok(CellValue::Short(number)),
         CellValue::Reference(reference) => {
             allow_element(class, reference, memory, linked)?;
-            allow_store(reference, memory, linked)?;
             Ok(CellValue::Reference(reference))
         }
     }

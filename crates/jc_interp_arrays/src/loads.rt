@@ -5,9 +5,9 @@ ghost use Rattle.jc_world.specs.Groups.{after_group};
 ghost use Rattle.jc_interp_values.specs.Values.{IsOf};
 ghost use Rattle.jc_interp_arrays.specs.Loads.{loaded, stored, loaded_from_stack, stored_from_stack, counted};
 
-use crate::elements::{array, element_at, element_value};
+use crate::elements::{array, element_at, element_value, with_index};
 use jc_frames::{Cell, Frames};
-use jc_interp_values::values::{pop_value, value_at};
+use jc_interp_values::values::{keepable, pop_value, value_at};
 use jc_linker::linked::Linked;
 use jc_memory::Memory;
 use jc_opcodes::instr::ValueType;
@@ -49,7 +49,9 @@ fn store<S: WordStore>(
     requires value { IsOf of_type value }
     ensures { Makes (stored of_type reference index value linked.now frames.now memory.old) memory.old (after_group result frames.now memory.new) }
 {
-    let element = element_at(of_type, reference, index, memory, linked)?;
+    let facts = array(Some(of_type), reference, memory, linked)?;
+    let value = keepable(value, memory, linked)?;
+    let element = with_index(facts, index)?;
     let value = element_value(element.class, value, memory, linked)?;
     memory.set(reference, element.index, value)?;
     Ok(())

@@ -1,0 +1,9 @@
+//! Tests of whole cards by scripts. It has no code of its own.
+#![tactic(auto)]
+
+#[cfg(test)]
+mod life;
+#[cfg(test)]
+mod packages;
+#[cfg(test)]
+mod scripts;
