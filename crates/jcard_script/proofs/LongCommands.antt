@@ -42,8 +42,8 @@ exchanges_whole whole given card after bytes e h =
           let count : length given ≡ 262 = ap length e ∙ length_first whole long in
           let fourth : slice_index given 4 ≡ slice_index whole 4 = ap (λ l. slice_index l 4) e ∙ first_four whole in
           let none = apdu_none given (omega arith) (rw fourth (bytes 4)) in
-          let refused = subst (λ o. MatchOption o (Makes (answers card (status_bytes wrong_length)) card.memory after) (ExchangesApdu card after)) none h in
-          subst (λ o. MatchOption o (Makes (answers card (status_bytes wrong_length)) card.memory after) (ExchangesApdu card after)) (sym (apdu_none whole (omega arith) (bytes 4))) refused
+          let refused = subst (λ o. MatchOption o (Makes (answers card (status_bytes wrong_length)) card.memory after) (ExchangesApdu given card after)) none h in
+          subst (λ o. MatchOption o (Makes (answers card (status_bytes wrong_length)) card.memory after) (ExchangesApdu whole card after)) (sym (apdu_none whole (omega arith) (bytes 4))) refused
     ]
   where
     length_first : (whole : List ℕ) → 263 ≤ length whole → length (take 262 whole) ≡ 262
