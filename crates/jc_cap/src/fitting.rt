@@ -74,13 +74,12 @@ fn pool_fits(pool: &ConstantPool<'_>, classes: &Classes<'_>, methods: &Methods<'
 fn applets_fit(applets: &Applets<'_>, methods: &Methods<'_>) -> bool
     ensures { result ≡ every (applet_fits (method_parts methods.now)) applets.now }
 {
-    for i in 0..applets.count() {
-        let applet = applets.get(i);
-        if !methods.has_room(applet.install_method_offset) {
-            return false;
+    match applets.split_first() {
+        None => true,
+        Some((applet, others)) => {
+            methods.has_room(applet.install_method_offset) && applets_fit(&others, methods)
         }
     }
-    true
 }
 
 fn export_fits(exported: &ExportedClass<'_>, classes: &Classes<'_>, methods: &Methods<'_>) -> bool
@@ -93,13 +92,12 @@ fn export_fits(exported: &ExportedClass<'_>, classes: &Classes<'_>, methods: &Me
 fn exports_fit(exports: &Exports<'_>, classes: &Classes<'_>, methods: &Methods<'_>) -> bool
     ensures { result ≡ every (export_fits classes.now (method_parts methods.now)) exports.now }
 {
-    for i in 0..exports.count() {
-        let exported = exports.get(i);
-        if !export_fits(&exported, classes, methods) {
-            return false;
+    match exports.split_first() {
+        None => true,
+        Some((exported, others)) => {
+            export_fits(&exported, classes, methods) && exports_fit(&others, classes, methods)
         }
     }
-    true
 }
 
 fn applets_there_fit(applets: &Option<Applets<'_>>, methods: &Methods<'_>) -> bool

@@ -1,6 +1,7 @@
 -- Offsets among others.
-use Rattle.std.proofs.Common.{◌≡◌, ℕ, zero, suc, ◌<◌, Bool, true, false, ◌||◌, eqb, List, [], ◌∷◌, length, get_or, refl, sym, arith, inl, inr, ◌⊎◌}
+use Rattle.std.proofs.Common.{◌≡◌, ℕ, zero, suc, ◌<◌, Bool, true, false, ◌||◌, eqb, List, [], ◌∷◌, length, get_or, refl, ap, sym, arith, inl, inr, ◌⊎◌}
 use Rattle.std.specs.Prelude.{Contains}
+use Rattle.std.specs.List.{list_any}
 use Rattle.std.proofs.lemmas.Bool.{eqb-true, eq-eqb}
 use Rattle.jc_cap_fields.specs.declared.class_refs.ClassRef.{ClassRef}
 use Rattle.jc_cap_fields.specs.declared.class_refs.ClassRef.TheVariants.{Internal, External}
@@ -19,6 +20,13 @@ or_left a b e = rw e refl
 or_right : (a b : Bool) → b ≡ true → (a || b) ≡ true
 or_right true b e = refl
 or_right false b e = e
+
+same_either_way : (a b : ℕ) → eqb a b ≡ eqb b a
+same_either_way a b = grind arith
+
+pub any_among : (n : ℕ) (xs : List ℕ) → list_any (λ y. eqb y n) xs ≡ is_among n xs
+any_among n [] = refl
+any_among n (x ∷ xs) = rw (same_either_way x n) (ap (λ (b : Bool). eqb n x || b) (any_among n xs))
 
 pub among_contains : (n : ℕ) (xs : List ℕ) → is_among n xs ≡ true → Contains xs n
 among_contains n [] e = absurd cc

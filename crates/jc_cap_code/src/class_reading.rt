@@ -35,10 +35,7 @@ pub(crate) enum Known<'a> {
 pub(crate) fn is_among(offset: u16, before: &[u16]) -> bool
     ensures { result ≡ is_among offset before.now }
 {
-    match before {
-        [] => false,
-        [first, others @ ..] => offset == *first || is_among(offset, others),
-    }
+    before.contains(&offset)
 }
 
 fn is_earlier(before: &[u16], class: ClassRef) -> bool

@@ -89,6 +89,7 @@ fn static_ref(bytes: &[u8]) -> Result<(StaticRef, &[u8]), CapFault>
     Ok((external, rest))
 }
 
+#[inline(always)]
 #[tactic(auto, unfolding(crate::specs::Pool::entry_at))]
 fn entry_of(bytes: &[u8]) -> Result<(Entry, &[u8]), CapFault>
     ensures { Gives (λ x. (x.0, x.1.now)) result (entry_at bytes.now) }

@@ -1,8 +1,0 @@
-use Rattle.std.proofs.Common.{◌≡◌, drop}
-use Rattle.jc_cap_code.specs.MethodViews.{method_parts}
-use Rattle.jc_cap.specs.Fitting.{export_fits}
-use Rattle.jc_cap_code.specs.Tables.{every}
-use Rattle.jc_cap.proofs.fitting.exports_fit.Given as goal
-
-abbrev pub invariant-loop-i : goal.invariant-loop-i
-invariant-loop-i l = every (export_fits l.classes (method_parts l.methods)) (drop l.i l.exports) ≡ every (export_fits l.classes (method_parts l.methods)) l.exports
