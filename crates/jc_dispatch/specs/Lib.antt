@@ -5,3 +5,4 @@ pub mod Phases
 pub mod Selecting
 pub mod Installing
 pub mod Creating
+pub mod LentCode

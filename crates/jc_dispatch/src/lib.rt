@@ -6,6 +6,7 @@ mod closing;
 pub mod create;
 pub mod ending;
 pub mod install;
+pub mod lent_code;
 mod phase;
 pub mod process;
 pub mod select;

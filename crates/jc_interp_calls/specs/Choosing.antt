@@ -1,5 +1,5 @@
 -- Which method a call runs, and for whom.
-use Rattle.std.specs.Prelude.{ℕ, ◌-◌, ◌/◌, ◌==◌, not, Bool, true, false, List, slice_get, Option, Some, None, Result, Ok, Err, if◌then◌else◌}
+use Rattle.std.specs.Prelude.{ℕ, ◌-◌, ◌/◌, ◌==◌, ◌||◌, not, Bool, true, false, List, slice_get, Option, Some, None, Result, Ok, Err, if◌then◌else◌}
 use Rattle.std.specs.Option.{option_map, option_and_then}
 use Rattle.jc_heap.specs.declared.object.Facts.{Facts}
 use Rattle.jc_memory.specs.declared.registers.Owner.{Owner}
@@ -33,6 +33,7 @@ use Rattle.jc_methods.specs.Headers.{header_in}
 use Rattle.jc_world.specs.Contexts.{allowed, decided}
 use Rattle.jc_world.specs.Objects.{object_at, or_fault, if_so, is_instance}
 use Rattle.jc_interp_calls.specs.declared.choose.Call.{Call}
+use Rattle.jc_interp_calls.specs.Parameters.{fits, is_there}
 use Rattle.jc_interp_calls.specs.Signatures.{argument_cells, is_constructor}
 use Rattle.jc_interp_calls.specs.Texts.{text_of}
 
@@ -55,6 +56,13 @@ receiver_on n stack = if n == 0 then None else option_and_then as_reference (sli
 -- the header of the receiver of a method with so many arguments
 unfoldable pub receiver_of : ℕ → List Cell → MemoryState → Result Facts Stop
 receiver_of n stack m = if_fine (or_fault (receiver_on n stack)) (λ r. object_at m r)
+
+abbrev pub is_null_on : ℕ → List Cell → Bool
+is_null_on n stack = is_there (receiver_on n stack) (λ r. r == 0)
+
+-- behind a null receiver the arguments have the kinds that the method of the entry wants
+abbrev pub fits_at_null : ℕ → Method → Packages → List Cell → MemoryState → Bool
+fits_at_null n method p stack m = not (is_null_on n stack) || fits method p m stack
 
 -- an object's class; arrays are instances of Object
 abbrev pub class_of : Packages → Facts → ℕ
@@ -82,14 +90,14 @@ judged (Deny rule) f method n = Err (Throw SecurityException)
 -- by the receiver's class, among methods of this token: the arguments are those of the method of the class that the entry names
 unfoldable pub called_virtually : ℕ → VirtualToken → Method → Packages → List Cell → MemoryState → Result Call Stop
 called_virtually class token method p stack m =
-    if_fine (or_fault (arguments_of p method)) (λ n. if_fine (receiver_of n stack m) (λ f. if_fine (if_so (is_of p f class)) (λ u. if_fine (or_fault (method_at p (class_of p f) (class / 256) token)) (λ found.
-    judged (decided VirtualCall p m f) f found n))))
+    if_fine (or_fault (arguments_of p method)) (λ n. if_fine (if_so (fits_at_null n method p stack m)) (λ u. if_fine (receiver_of n stack m) (λ f. if_fine (if_so (is_of p f class)) (λ v. if_fine (or_fault (method_at p (class_of p f) (class / 256) token)) (λ found.
+    if_fine (if_so (fits found p m stack)) (λ w. judged (decided VirtualCall p m f) f found n))))))
 
 -- the method itself, on an instance of a class where the entry tells one: the caller's context stays
 unfoldable pub called_specially : Option ℕ → Method → Packages → List Cell → MemoryState → Result Call Stop
 called_specially class method p stack m =
-    if_fine (or_fault (arguments_of p method)) (λ n. if_fine (receiver_of n stack m) (λ f. if_fine (if_so (is_of_any p f class)) (λ u. if_fine (allowed InstanceField p m f) (λ v.
-    Ok (call_of method n None)))))
+    if_fine (or_fault (arguments_of p method)) (λ n. if_fine (if_so (fits_at_null n method p stack m)) (λ u. if_fine (receiver_of n stack m) (λ f. if_fine (if_so (is_of_any p f class)) (λ v. if_fine (if_so (fits method p m stack)) (λ w.
+    if_fine (allowed InstanceField p m f) (λ x. Ok (call_of method n None)))))))
 
 -- a constructor of the platform
 abbrev pub is_native_constructor : Method → Bool
@@ -109,7 +117,7 @@ interface_access p interface = if is_shareable p interface then ShareableInterfa
 unfoldable pub called_by_interface : ℕ → ℕ → ℕ → Packages → List Cell → MemoryState → Result Call Stop
 called_by_interface interface n token p stack m =
     if_fine (receiver_of n stack m) (λ f. if_fine (if_so (is_of p f interface)) (λ u. if_fine (or_fault (interface_method_at p (class_of p f) interface token)) (λ found.
-    judged (decided (interface_access p interface) p m f) f found n)))
+    if_fine (if_so (fits found p m stack)) (λ v. judged (decided (interface_access p interface) p m f) f found n))))
 
 -- ---- by what the entry of the constant pool resolves to; another one is a code fault
 

@@ -1,5 +1,6 @@
 pub mod Texts
 pub mod Signatures
+pub mod Parameters
 pub mod Choosing
 pub mod Entering
 pub mod Catching

@@ -1,8 +1,9 @@
 //! Which method a call runs, and for whom.
 ghost use Rattle.std.specs.Prelude.{◌≡◌, false, None};
 ghost use Rattle.jc_world.specs.Objects.{if_so};
-ghost use Rattle.jc_interp_calls.specs.Choosing.{arguments_of, called_by_interface, called_specially, called_statically, called_virtually, call_of, chosen, class_of, interface_access, is_native_constructor, is_of_any, judged, receiver_of, receiver_on};
+ghost use Rattle.jc_interp_calls.specs.Choosing.{arguments_of, called_by_interface, called_specially, called_statically, called_virtually, call_of, chosen, class_of, fits_at_null, interface_access, is_native_constructor, is_null_on, is_of_any, judged, receiver_of, receiver_on};
 
+use crate::parameters::fits;
 use crate::signatures::{argument_cells, is_constructor};
 use crate::text::text_of;
 use jc_cap_text::pool::VirtualToken;
@@ -96,6 +97,29 @@ fn receiver_of<S: WordStore>(
     object(receiver, memory)
 }
 
+fn is_null_on(arguments: u8, frames: &Frames) -> bool
+    ensures { result ≡ is_null_on arguments frames.now.current.stack }
+{
+    match receiver_on(arguments, frames) {
+        Some(receiver) => receiver.is_null(),
+        None => false,
+    }
+}
+
+// Behind a null receiver the arguments have the kinds that the method of the entry wants.
+fn fits_at_null<S: WordStore>(
+    arguments: u8,
+    method: Method,
+    frames: &Frames,
+    memory: &Memory<S>,
+    linked: &Linked,
+) -> bool
+    requires up { memory.now.heap.down ≡ false }
+    ensures { result ≡ fits_at_null arguments method linked.now frames.now.current.stack memory.now }
+{
+    !is_null_on(arguments, frames) || fits(method, frames, memory, linked)
+}
+
 // An object's class. Arrays are instances of `Object`.
 fn class_of(facts: Facts, linked: &Linked) -> u16
     ensures { result ≡ class_of linked.now facts }
@@ -136,12 +160,14 @@ fn call_virtually<S: WordStore>(
     ensures { result ≡ called_virtually class token method linked.now frames.now.current.stack memory.now }
 {
     let arguments = arguments_of(method, linked).ok_or(Stop::End(Outcome::Fault))?;
+    check(fits_at_null(arguments, method, frames, memory, linked))?;
     let facts = receiver_of(arguments, frames, memory)?;
     let own = class_of(facts, linked);
     check(linked.is_below(own, class))?;
     let found = linked
         .method_at(own, (class / 256) as u8, token)
         .ok_or(Stop::End(Outcome::Fault))?;
+    check(fits(found, frames, memory, linked))?;
     let decision = decided(Access::VirtualCall, facts, memory, linked);
     judged(decision, facts, found, arguments)
 }
@@ -169,8 +195,10 @@ fn call_specially<S: WordStore>(
     ensures { result ≡ called_specially class method linked.now frames.now.current.stack memory.now }
 {
     let arguments = arguments_of(method, linked).ok_or(Stop::End(Outcome::Fault))?;
+    check(fits_at_null(arguments, method, frames, memory, linked))?;
     let facts = receiver_of(arguments, frames, memory)?;
     check(is_of_any(facts, class, linked))?;
+    check(fits(method, frames, memory, linked))?;
     allow(Access::InstanceField, facts, memory, linked)?;
     Ok(Call::of(method, arguments))
 }
@@ -224,6 +252,7 @@ fn call_by_interface<S: WordStore>(
     let found = linked
         .interface_method_at(own, interface, token)
         .ok_or(Stop::End(Outcome::Fault))?;
+    check(fits(found, frames, memory, linked))?;
     let decision = decided(interface_access(interface, linked), facts, memory, linked);
     judged(decision, facts, found, arguments)
 }
@@ -231,8 +260,9 @@ fn call_by_interface<S: WordStore>(
 /// Which method a call runs, with how many arguments, and for whom.
 ///
 /// A code fault where the entry of the constant pool is another one, where the receiver is no reference
-/// or no instance of the class that the entry names, or where its class has no such method; else a null
-/// receiver throws, and then a refused access does.
+/// or no instance of the class that the entry names, where its class has no such method, or where an
+/// argument of a method of the platform is of another kind; else a null receiver throws, and then a
+/// refused access does.
 #[tactic(auto, unfolding(crate::specs::Choosing::chosen))]
 pub fn choose<S: WordStore>(
     invoke: Invoke,

@@ -7,6 +7,7 @@ pub mod catch;
 pub mod choose;
 pub mod come_back;
 pub mod enter;
+pub mod parameters;
 pub mod signatures;
 pub mod text;
 pub mod throw;
