@@ -42,7 +42,7 @@ durable-changed v kind class owner n out settled =
 
 -- ---- what is made stands there
 
-found-first : (es : List (ℕ × Item)) (e : ℕ × Item) (rest : List (ℕ × Item)) (r : ℕ) → first_above es r ≡ None → r < e.0 → is_object e.1 ≡ true → first_above (es ++ e ∷ rest) r ≡ Some e.0
+pub found-first : (es : List (ℕ × Item)) (e : ℕ × Item) (rest : List (ℕ × Item)) (r : ℕ) → first_above es r ≡ None → r < e.0 → is_object e.1 ≡ true → first_above (es ++ e ∷ rest) r ≡ Some e.0
 found-first [] e rest r none below object = ap (λ b. if b && is_object e.1 then Some e.0 else first_above rest r) (lt-ltb r e.0 below) ∙ ap (λ b. if b then Some e.0 else first_above rest r) object
 found-first (d ∷ es) e rest r none below object = go (nat_lt r d.0 && is_object d.1) refl none (λ f. found-first es e rest r f below object)
   where
@@ -63,7 +63,7 @@ pub record IsBelow (h : HeapState) : Type 0 where
   pub absent : (q : ℕ) → h.top ≤ q → has h.items q ≡ false
   pub none : (q : ℕ) → h.top ≤ q → first_above h.items q ≡ None
 
-has-push : (es : List (ℕ × Item)) (e : ℕ × Item) (q : ℕ) → has es q ≡ false → (e.0 ≡ q → ⊥) → has (es ++ e ∷ []) q ≡ false
+pub has-push : (es : List (ℕ × Item)) (e : ℕ × Item) (q : ℕ) → has es q ≡ false → (e.0 ≡ q → ⊥) → has (es ++ e ∷ []) q ≡ false
 has-push [] e q f n = rw (ne_eqb e.0 q n) refl
 has-push (d ∷ es) e q f n = go (d.0 == q) refl f (λ g. has-push es e q g n)
   where
@@ -71,7 +71,7 @@ has-push (d ∷ es) e q f n = go (d.0 == q) refl f (λ g. has-push es e q g n)
     go true is g more = absurd (true≢false g)
     go false is g more = rw is (more g)
 
-none-push : (es : List (ℕ × Item)) (e : ℕ × Item) (q : ℕ) → first_above es q ≡ None → e.0 ≤ q → first_above (es ++ e ∷ []) q ≡ None
+pub none-push : (es : List (ℕ × Item)) (e : ℕ × Item) (q : ℕ) → first_above es q ≡ None → e.0 ≤ q → first_above (es ++ e ∷ []) q ≡ None
 none-push [] e q f le = ap (λ b. if b && is_object e.1 then Some e.0 else None) (le-ltb q e.0 le)
 none-push (d ∷ es) e q f le = go (nat_lt q d.0 && is_object d.1) refl f (λ g. none-push es e q g le)
   where
@@ -80,21 +80,21 @@ none-push (d ∷ es) e q f le = go (nat_lt q d.0 && is_object d.1) refl f (λ g.
     go false is g more = rw is (more g)
 
 -- the heap with one object of the list more
-abbrev with_one : Tokens → HeapState → FixedObject → HeapState
+abbrev pub with_one : Tokens → HeapState → FixedObject → HeapState
 with_one t h o = add_transient h o.kind Reset (class_number_of t o.class) 0 o.cells
 
-items-one : (t : Tokens) (h : HeapState) (o : FixedObject) → (with_one t h o).items ≡ h.items ++ (h.top, AnObject (new_transient o.kind Reset (class_number_of t o.class) 0 o.cells (area_end h Reset))) ∷ []
+pub items-one : (t : Tokens) (h : HeapState) (o : FixedObject) → (with_one t h o).items ≡ h.items ++ (h.top, AnObject (new_transient o.kind Reset (class_number_of t o.class) 0 o.cells (area_end h Reset))) ∷ []
 unfolding add_transient add_object
 items-one t h o = refl
 
-below-one : (t : Tokens) (h : HeapState) (o : FixedObject) → IsBelow h → IsBelow (with_one t h o)
+pub below-one : (t : Tokens) (h : HeapState) (o : FixedObject) → IsBelow h → IsBelow (with_one t h o)
 below-one t h o b = record {
   absent = λ q le. ap (λ l. has l q) (items-one t h o) ∙ has-push h.items (h.top, AnObject (new_transient o.kind Reset (class_number_of t o.class) 0 o.cells (area_end h Reset))) q (b.absent q (omega (arith, top-add h o.kind (class_number_of t o.class) 0 o.cells))) (λ e. omega (arith, top-add h o.kind (class_number_of t o.class) 0 o.cells));
   none = λ q le. ap (λ l. first_above l q) (items-one t h o) ∙ none-push h.items (h.top, AnObject (new_transient o.kind Reset (class_number_of t o.class) 0 o.cells (area_end h Reset))) q (b.none q (omega (arith, top-add h o.kind (class_number_of t o.class) 0 o.cells))) (omega (arith, top-add h o.kind (class_number_of t o.class) 0 o.cells));
 }
 
 -- the others only come behind
-items-all : (t : Tokens) (h : HeapState) (os : List FixedObject) → (rest : List (ℕ × Item)) × ((with_objects t h os).items ≡ h.items ++ rest)
+pub items-all : (t : Tokens) (h : HeapState) (os : List FixedObject) → (rest : List (ℕ × Item)) × ((with_objects t h os).items ≡ h.items ++ rest)
 items-all t h [] = ([], sym (append-nil h.items))
 items-all t h (o ∷ os) =
     let more : (rest : List (ℕ × Item)) × ((with_objects t (with_one t h o) os).items ≡ (with_one t h o).items ++ rest) = items-all t (with_one t h o) os in (
@@ -102,7 +102,7 @@ items-all t h (o ∷ os) =
       more.1 ∙ ap (λ l. l ++ more.0) (items-one t h o) ∙ append_assoc h.items ((h.top, AnObject (new_transient o.kind Reset (class_number_of t o.class) 0 o.cells (area_end h Reset))) ∷ []) more.0,
     )
 
-next_is : (k : HeapState) (q : ℕ) → next_object k q ≡ first_above k.items q
+pub next_is : (k : HeapState) (q : ℕ) → next_object k q ≡ first_above k.items q
 unfolding next_object
 next_is k q = refl
 
@@ -168,7 +168,7 @@ text-all : (t : Tokens) (h : HeapState) (os : List FixedObject) → (with_object
 text-all t h [] = refl
 text-all t h (o ∷ os) = text-all t (with_one t h o) os ∙ text-add h o.kind (class_number_of t o.class) 0 o.cells
 
-next_sealed : (k : HeapState) (q : ℕ) → next_object (sealed k) q ≡ next_object k q
+pub next_sealed : (k : HeapState) (q : ℕ) → next_object (sealed k) q ≡ next_object k q
 unfolding next_object
 next_sealed k q = refl
 

@@ -8,13 +8,14 @@ use Rattle.jc_heap.specs.Heap.{heap_of}
 use Rattle.jc_platform.specs.Tokens.{Tokens}
 use Rattle.jc_platform.specs.Table.{Reads}
 use Rattle.jc_card.specs.Made.{IsCardHeap, IsMade, formatted}
+use Rattle.jc_card.proofs.FittingImages.{fits-formatted}
 use Rattle.jc_card.proofs.FixedObjects.{begins-formatted, head-formatted, text-formatted, whole-formatted}
 
 card-formatted : (n : ℕ) (text : List ℕ) (t : Tokens) → least_size ≤ n → Reads text (Ok t) → IsCardHeap n (formatted n text t)
 card-formatted n text t enough reads = record {
   head = head-formatted n text t;
   enough = enough;
-  platform = (t, subst (λ l. Reads l (Ok t)) (sym (text-formatted n text t)) reads, begins-formatted n text t);
+  platform = (t, subst (λ l. Reads l (Ok t)) (sym (text-formatted n text t)) reads, begins-formatted n text t, fits-formatted n text t t);
   whole = whole-formatted n text t;
 }
 

@@ -9,22 +9,23 @@ use Rattle.jc_words.specs.Layout.{magic_address, version_address, size_address, 
 use Rattle.jc_commit.specs.Image.{IsGoodLog, recovered_of}
 use Rattle.jc_heap.specs.Image.{IsLaid, base, image}
 use Rattle.jc_heap.specs.Heap.{HeapState, heap_of}
-use Rattle.jc_heap.specs.Components.{record_of}
-use Rattle.jc_card_packages.specs.Reading.{packages_of, with_records}
+use Rattle.jc_card_checks.specs.Sound.{IsSound}
+use Rattle.jc_card_packages.specs.Reading.{packages_of}
 use Rattle.jc_image.specs.Beginning.{BeginsWith}
 use Rattle.jc_heap.proofs.RawWords.{recovered-front, head_is, text_is}
 use Rattle.jc_heap.proofs.Following.{base_is}
 use Rattle.jc_transient.specs.declared.cell.ClearEvent.TheVariants.{Reset}
 use Rattle.jc_image.proofs.TextBytes.{length-table_text}
+use Rattle.jc_packages.specs.Values.{Packages}
 use Rattle.jc_platform.specs.Tokens.{Tokens}
 use Rattle.jc_platform.specs.Table.{Reads}
 use Rattle.jc_platform.specs.Distinct.{class_word}
 use Rattle.jc_platform.specs.declared.names.PlatformClass.{PlatformClass}
 use Rattle.jc_platform.proofs.OneAnswer.{same_words}
 use Rattle.jc_card.specs.declared.fixed.FixedObject.{FixedObject}
-use Rattle.jc_card.specs.Fixed.{class_number_of, fixed_facts, fixed_objects}
+use Rattle.jc_card.specs.Fixed.{class_number_of, fixed_facts, fixed_objects, last_fixed}
 use Rattle.jc_card.specs.Made.{IsMade}
-use Rattle.jc_card.specs.PowerUp.{HasHead, HasTable, HasHeap, Refuses, Fails, Stands, StandsBy, HasPackages}
+use Rattle.jc_card.specs.PowerUp.{HasHead, HasTable, HasHeap, FitsItsTable, Refuses, Fails, Stands, StandsBy, HasPackages}
 use Rattle.jc_card.specs.declared.power_up.PowerFault.{PowerFault}
 use Rattle.jc_card.specs.declared.power_up.PowerFault.TheVariants.{BadMagic, BadVersion, BadSize, BadLog, BadTable, BadPackage, NoMemory, StoreDown}
 
@@ -48,7 +49,7 @@ made_found w head log t table heap = record {
     head = head_is (recovered_of w) heap.0 ∙ recovered-front w log ∙ three w (omega (arith, head.size.enough))
         ∙ (λ i. head.magic i ∷ head.version i ∷ head.size.told i ∷ []);
     enough = head.size.enough;
-    platform = (t, subst (λ l. Reads l (Ok t)) (sym (text_is (recovered_of w) heap.0)) table.1, heap.2);
+    platform = (t, subst (λ l. Reads l (Ok t)) (sym (text_is (recovered_of w) heap.0)) table.1, heap.2, heap.3);
     whole = heap.1;
   };
 }
@@ -82,28 +83,24 @@ text_fits w laid =
 has_table : (w : List ℕ) (t : Tokens) → IsLaid w → Reads (heap_of w).text (Ok t) → HasTable w t
 has_table w t laid reads = (text_fits w laid, subst (λ l. Reads l (Ok t)) (text_is w laid) reads)
 
--- where there are no packages, they all link
-no_packages : (t : Tokens) (h : HeapState) → h.packages ≡ [] → HasPackages t h
-unfolding packages_of
-no_packages t h none = (record { platform = t; loaded = [] }, ap (λ ps. with_records (record { platform = t; loaded = [] }) (map (record_of h) ps)) none)
-
 -- what the product made is refused for want of memory alone, or by the store
-pub refused_made : (w : List ℕ) (f : PowerFault) → IsMade w → (heap_of (recovered_of w)).packages ≡ [] → Refuses f w → (f ≡ NoMemory) ⊎ (f ≡ StoreDown)
-refused_made w BadMagic made none r = absurd (r (has_head w made).magic)
-refused_made w BadVersion made none r = absurd (r.1 (has_head w made).version)
-refused_made w BadSize made none r = absurd (r.2 (has_head w made).size)
-refused_made w BadLog made none r = absurd (r.1 made.log)
-refused_made w BadTable made none r = absurd (r.2 made.heap.platform.0 (has_table (recovered_of w) made.heap.platform.0 made.laid made.heap.platform.1))
-refused_made w BadPackage made none r =
+pub refused_made : (w : List ℕ) (f : PowerFault) → IsMade w → FitsItsTable (heap_of (recovered_of w)) → Refuses f w → (f ≡ NoMemory) ⊎ (f ≡ StoreDown)
+refused_made w BadMagic made fits r = absurd (r (has_head w made).magic)
+refused_made w BadVersion made fits r = absurd (r.1 (has_head w made).version)
+refused_made w BadSize made fits r = absurd (r.2 (has_head w made).size)
+refused_made w BadLog made fits r = absurd (r.1 made.log)
+refused_made w BadTable made fits r = absurd (r.2 made.heap.platform.0 (has_table (recovered_of w) made.heap.platform.0 made.laid made.heap.platform.1))
+refused_made w BadPackage made fits r =
+    let reads : Reads (heap_of (recovered_of w)).text (Ok r.2.0) = subst (λ l. Reads l (Ok r.2.0)) (sym (text_is (recovered_of w) made.laid)) r.2.1.1 in
     let words : (c : PlatformClass) → class_word made.heap.platform.0 c ≡ class_word r.2.0 c =
-    same_words (heap_of (recovered_of w)).text made.heap.platform.0 r.2.0 made.heap.platform.1 (subst (λ l. Reads l (Ok r.2.0)) (sym (text_is (recovered_of w) made.laid)) r.2.1.1) in
-    absurd (r.2.2 (made.laid, made.heap.whole, subst (BeginsWith (heap_of (recovered_of w))) (same_facts made.heap.platform.0 r.2.0 words 0 fixed_objects) made.heap.platform.2, no_packages r.2.0 (heap_of (recovered_of w)) none))
-refused_made w NoMemory made none r = inl refl
-refused_made w StoreDown made none r = inr refl
+    same_words (heap_of (recovered_of w)).text made.heap.platform.0 r.2.0 made.heap.platform.1 reads in
+    absurd (r.2.2 (made.laid, made.heap.whole, subst (BeginsWith (heap_of (recovered_of w))) (same_facts made.heap.platform.0 r.2.0 words 0 fixed_objects) made.heap.platform.2, fits r.2.0 reads))
+refused_made w NoMemory made fits r = inl refl
+refused_made w StoreDown made fits r = inr refl
 
-pub refused_if : {A E : Type 0} (r : Result A E) (fault : E → PowerFault) (w : List ℕ) → IsMade w → (heap_of (recovered_of w)).packages ≡ [] → IfErr r (λ e. Refuses (fault e) w) → IfErr r (λ e. (fault e ≡ NoMemory) ⊎ (fault e ≡ StoreDown))
-refused_if (Ok a) fault w made none f = tt
-refused_if (Err e) fault w made none f = refused_made w (fault e) made none f
+pub refused_if : {A E : Type 0} (r : Result A E) (fault : E → PowerFault) (w : List ℕ) → IsMade w → FitsItsTable (heap_of (recovered_of w)) → IfErr r (λ e. Refuses (fault e) w) → IfErr r (λ e. (fault e ≡ NoMemory) ⊎ (fault e ≡ StoreDown))
+refused_if (Ok a) fault w made fits f = tt
+refused_if (Err e) fault w made fits f = refused_made w (fault e) made fits f
 
 -- the same for the parts of a recovered image
 pub refuses_from : (w : List ℕ) (f : PowerFault) → HasHead w → IsGoodLog w → Fails f (recovered_of w) → Refuses f w
@@ -144,3 +141,10 @@ no_image_fault r f w is ok made =
 pub on_if : {A E : Type 0} (r : Result A E) (Q : A → Type 0) (P : Type 0) → ((a : A) → Q a → P) → IfOk r Q → OnOk r P
 on_if (Ok a) Q P f q = f a q
 on_if (Err e) Q P f q = tt
+
+-- what does not fit the packages that are linked of it fits none
+pub none_fit : (t : Tokens) (h : HeapState) (p : Packages) → packages_of t h ≡ Some p → (IsSound p h (last_fixed h) → ⊥) → HasPackages t h → ⊥
+none_fit t h p linked misfit has =
+    let both : Some has.0 ≡ Some p = sym has.1 ∙ linked in
+    let same : has.0 ≡ p = cc in
+    misfit (subst (λ q. IsSound q h (last_fixed h)) same has.2)

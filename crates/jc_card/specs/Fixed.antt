@@ -80,3 +80,7 @@ object_number h (suc k) = next_or_null h (object_number h k)
 -- the addresses of the objects of the runtime environment
 abbrev pub fixed_of : HeapState → List ℕ
 fixed_of h = map (object_number h) (range_with_len 1 17)
+
+-- the last one of them
+abbrev pub last_fixed : HeapState → ℕ
+last_fixed h = object_number h 17

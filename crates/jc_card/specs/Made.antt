@@ -9,10 +9,11 @@ use Rattle.jc_image.specs.Laying.{laid_heap, sealed}
 use Rattle.jc_platform.specs.Tokens.{Tokens}
 use Rattle.jc_platform.specs.Table.{Reads}
 use Rattle.jc_card.specs.Fixed.{fixed_objects, BeginsWithFixed, with_objects}
+use Rattle.jc_card.specs.PowerUp.{HasPackages}
 
--- a heap that begins with the objects of the runtime environment, whose classes its own table names
+-- a heap that begins with the objects of the runtime environment, whose classes its own table names, and that fits its packages
 abbrev pub HasPlatform : HeapState → Type 0
-HasPlatform h = (t : Tokens) × Reads h.text (Ok t) × BeginsWithFixed t h
+HasPlatform h = (t : Tokens) × Reads h.text (Ok t) × BeginsWithFixed t h × HasPackages t h
 
 -- the heap of a card with an image of n words
 pub record IsCardHeap (n : ℕ) (h : HeapState) : Type 0 where

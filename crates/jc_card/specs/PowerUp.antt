@@ -12,7 +12,8 @@ use Rattle.jc_platform.specs.Tokens.{Tokens}
 use Rattle.jc_platform.specs.Table.{Reads}
 use Rattle.jc_packages.specs.Values.{Packages}
 use Rattle.jc_card_packages.specs.Reading.{packages_of}
-use Rattle.jc_card.specs.Fixed.{BeginsWithFixed}
+use Rattle.jc_card_checks.specs.Sound.{IsSound}
+use Rattle.jc_card.specs.Fixed.{BeginsWithFixed, last_fixed}
 use Rattle.jc_card.specs.declared.power_up.PowerFault.{PowerFault}
 use Rattle.jc_card.specs.declared.power_up.PowerFault.TheVariants.{BadMagic, BadVersion, BadSize, BadLog, BadTable, BadPackage, NoMemory, StoreDown}
 
@@ -32,11 +33,15 @@ pub record HasHead (w : List ℕ) : Type 0 where
 abbrev pub HasTable : List ℕ → Tokens → Type 0
 HasTable w t = (text_start + (slice_index w text_length_address + 1) / 2 ≤ length w) × Reads (table_text w) (Ok t)
 
--- its packages link, each against those before it
+-- its packages link, each against those before it, and what stands behind the objects of the runtime environment fits them
 abbrev pub HasPackages : Tokens → HeapState → Type 0
-HasPackages t h = (p : Packages) × (packages_of t h ≡ Some p)
+HasPackages t h = (p : Packages) × (packages_of t h ≡ Some p) × IsSound p h (last_fixed h)
 
--- a whole heap that begins with the objects of the runtime environment, and whose packages link
+-- so it is with every table that the heap's text is read as
+abbrev pub FitsItsTable : HeapState → Type 0
+FitsItsTable h = (t : Tokens) → Reads h.text (Ok t) → HasPackages t h
+
+-- a whole heap that begins with the objects of the runtime environment, and that fits its packages
 abbrev pub HasHeap : Tokens → List ℕ → Type 0
 HasHeap t w = IsLaid w × IsWhole (heap_of w) × BeginsWithFixed t (heap_of w) × HasPackages t (heap_of w)
 
@@ -63,7 +68,7 @@ pub record StandsFor (to new : List ℕ) : Type 0 where
   pub recovered : heap_of (recovered_of new) ≡ heap_of to
   pub closed : count_of new ≡ 0
 
--- why the packages of a heap are not linked
+-- why the packages of a heap are not linked, or it does not fit them
 abbrev pub FailsToLink : PowerFault → Tokens → HeapState → Type 0
 FailsToLink BadPackage t h = HasPackages t h → ⊥
 FailsToLink NoMemory t h = Unit {0}

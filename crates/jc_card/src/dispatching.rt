@@ -19,7 +19,7 @@ use jc_registry::applet_with_aid;
 use jc_words::{StoreDown, WordStore};
 
 /// A command carries out at most so many instructions.
-const MOST_INSTRUCTIONS: u32 = 100_000;
+pub(crate) const MOST_INSTRUCTIONS: u32 = 100_000;
 
 /// The AID by which the manager is selected.
 const MANAGER_AID: [u8; 6] = [0xF0, 0x4A, 0x43, 0x4D, 0x47, 0x52];

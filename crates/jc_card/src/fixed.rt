@@ -1,10 +1,10 @@
 //! The objects that the runtime environment owns from an image's making on.
-ghost use Rattle.std.specs.Prelude.{◌≡◌, ◌≤◌, ◌<◌, ◌+◌, ◌*◌, false, true, OnOk, OnErr, is_ok, if◌then◌else◌, length, [], ◌∷◌, ◌++◌};
+ghost use Rattle.std.specs.Prelude.{◌≡◌, ◌≤◌, ◌<◌, ◌+◌, ◌*◌, false, true, OnOk, OnErr, is_ok, if◌then◌else◌, length, slice_index, [], ◌∷◌, ◌++◌};
 ghost use Rattle.jc_words.specs.Count.{raised};
 ghost use Rattle.jc_transient.specs.State.{area_size};
 ghost use Rattle.jc_transient.specs.declared.cell.ClearEvent.TheVariants.{Reset};
 ghost use Rattle.jc_heap.specs.Heap.{IsObject, area_end};
-ghost use Rattle.jc_card.specs.Fixed.{fixed_objects, class_number_of, facts_of_fixed, cells_of_all, fixed_facts, fixed_of, next_or_null, with_objects};
+ghost use Rattle.jc_card.specs.Fixed.{fixed_objects, class_number_of, facts_of_fixed, cells_of_all, fixed_facts, fixed_of, last_fixed, next_or_null, with_objects};
 
 use arrayvec::ArrayVec;
 use jc_heap::{Facts, Heap, Kind};
@@ -15,6 +15,9 @@ use jc_words::{StoreDown, WordStore};
 
 /// How many objects the runtime environment owns from the beginning.
 pub(crate) const FIXED_COUNT: usize = 17;
+
+/// The place of the last of them.
+pub(crate) const LAST_FIXED: usize = FIXED_COUNT - 1;
 
 /// The owner's number of the runtime environment.
 const RUNTIME_ENVIRONMENT: u16 = 0;
@@ -210,7 +213,9 @@ fn make<S: WordStore>(
 /// The objects of the runtime environment in a heap that begins with them, in their order.
 pub(crate) fn fixed_of<S: WordStore>(heap: &Heap<S>) -> [Ref; FIXED_COUNT]
     requires { heap.now.down ≡ false }
-    ensures { result ≡ fixed_of heap.now.now }
+    ensures all { result ≡ fixed_of heap.now.now }
+    ensures last { slice_index result 16 ≡ last_fixed heap.now.now }
+    ensures object { (slice_index result 16 ≡ 0 → ⊥) → IsObject heap.now.now (slice_index result 16) }
 {
     let mut fixed = [Ref::null(); FIXED_COUNT];
     let mut at = Ref::null();

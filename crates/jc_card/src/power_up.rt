@@ -11,15 +11,18 @@ ghost use Rattle.jc_platform.specs.Tokens.{Tokens};
 ghost use Rattle.jc_card.specs.Made.{IsMade};
 ghost use Rattle.jc_heap.specs.Whole.{IsWhole};
 ghost use Rattle.jc_heap.specs.Heap.{heap_of};
-ghost use Rattle.jc_commit.specs.Image.{count_of, plain_of, recovered_of};
+ghost use Rattle.jc_commit.specs.Image.{IsGoodLog, count_of, plain_of, recovered_of};
 ghost use Rattle.jc_transient.specs.State.{HasSizes};
 ghost use Rattle.jc_memory.specs.Owners.{at_reset};
 ghost use Rattle.jc_card_packages.specs.Reading.{packages_of};
-ghost use Rattle.jc_card.specs.Fixed.{fixed_of};
-ghost use Rattle.jc_card.specs.PowerUp.{Refuses, Fails, FailsToLink, Stands, StandsBy, IsFoundFirst, IsFoundAfter, HasTable, HasHeap, fault_of};
+ghost use Rattle.jc_card_checks.specs.Sound.{IsSound};
+ghost use Rattle.jc_card.specs.Fixed.{fixed_of, last_fixed};
+ghost use Rattle.jc_card.specs.Reset.{IsAtReset};
+ghost use Rattle.jc_card.specs.PowerUp.{Refuses, Fails, FailsToLink, FitsItsTable, Stands, StandsBy, IsFoundFirst, IsFoundAfter, HasTable, HasHeap, fault_of};
 
 use crate::card::Card;
-use crate::fixed::{fixed_headers, fixed_of};
+use crate::fixed::{LAST_FIXED, fixed_headers, fixed_of};
+use jc_card_checks::sound::is_sound;
 use jc_card_packages::reading::{ReadFault, read_packages};
 use jc_commit::OpenRefusal;
 use jc_heap::Heap;
@@ -48,8 +51,8 @@ pub enum PowerFault {
     /// The platform table is not there, or its text is none.
     #[error("the platform table is damaged")]
     BadTable,
-    /// The words of the heap don't agree with one another, or the heap doesn't begin with the objects
-    /// of the runtime environment.
+    /// The words of the heap don't agree with one another; or the heap doesn't begin with the objects
+    /// of the runtime environment; or its packages don't link, or it doesn't fit them.
     #[error("the heap is damaged")]
     BadPackage,
     #[error("there is no memory")]
@@ -78,17 +81,19 @@ impl<S: WordStore> Card<S> {
         ensures heap { IfOk result (λ card. card.memory.heap ≡ heap_view (opened (S.words store) (S.passed store) (S.refused store)) (length (S.words store))) }
         ensures blank { IfOk result (λ card. IsBlank card.memory.ram) }
         ensures load { IfOk result (λ card. card.load ≡ None) }
+        ensures reset { IfOk result (λ card. IsAtReset (heap_of (recovered_of (S.words store))) card) }
         ensures cause { IfErr result (λ e. Refuses e.0 (S.words store)) }
         ensures stands { IfErr result (λ e. Stands e.0 (S.words store) (S.words e.1)) }
-        // Over an image that the product made and that holds no packages yet, it refuses for want of memory alone, or
-        // by the store.
-        ensures of_made { IsMade (S.words store) → (heap_of (recovered_of (S.words store))).packages ≡ [] → IfErr result (λ e. (e.0 ≡ PowerFault.NoMemory) ⊎ (e.0 ≡ PowerFault.StoreDown)) }
+        // Over an image that the product made, whose packages link and fit with each table of its text, it refuses for
+        // want of memory alone, or by the store.
+        ensures of_made { IsMade (S.words store) → FitsItsTable (heap_of (recovered_of (S.words store))) → IfErr result (λ e. (e.0 ≡ PowerFault.NoMemory) ⊎ (e.0 ≡ PowerFault.StoreDown)) }
         ensures was_up { OnOk result (S.down store ≡ false) }
         ensures down { IfErr result (λ e. e.0 ≡ PowerFault.StoreDown → S.down e.1 ≡ true) }
         ensures was_down { IfErr result (λ e. S.down store ≡ true → e.1 ≡ store) }
         // Before a recovery the store is given back as it came; after it, as the recovery left it.
         ensures untouched { IfErr result (λ e. IsFoundFirst e.0 → e.1 ≡ store) }
         ensures after { IfErr result (λ e. IsFoundAfter e.0 → (S.down e.1 ≡ false) × (S.passed e.1 ≡ (opened (S.words store) (S.passed store) (S.refused store)).passed) × (S.refused e.1 ≡ S.refused store)) }
+        ensures good { IfErr result (λ e. IsFoundAfter e.0 → IsGoodLog (S.words e.1)) }
         ensures part { IfErr result (λ e. e.0 ≡ PowerFault.StoreDown → IsPartOfReplay (S.words store) (S.words e.1) (S.passed store) (S.passed e.1)) }
         ensures refused { IfErr result (λ e. e.0 ≡ PowerFault.StoreDown → S.down store ≡ false → S.refused e.1 ≡ raised (S.refused store) 1) }
     {
@@ -110,7 +115,9 @@ fn start<S: WordStore>(alloc: Global, image: OpenImage<S>) -> Result<Card<S>, (P
     ensures heap { IfOk result (λ card. card.memory.heap ≡ heap_view image (length image.plain)) }
     ensures blank { IfOk result (λ card. IsBlank card.memory.ram) }
     ensures load { IfOk result (λ card. card.load ≡ None) }
+    ensures reset { IfOk result (λ card. IsAtReset (heap_of image.plain) card) }
     ensures cause { IfErr result (λ e. Fails e.0 image.plain) }
+    ensures good { IfErr result (λ e. IsGoodLog (S.words e.1)) }
     ensures stands { IfErr result (λ e. StandsBy e.0 image.plain (S.words e.1)) }
     ensures up { IfErr result (λ e. S.down e.1 ≡ false) }
     ensures counts { IfErr result (λ e. (S.passed e.1 ≡ image.passed) × (S.refused e.1 ≡ image.refused)) }
@@ -129,7 +136,8 @@ fn start<S: WordStore>(alloc: Global, image: OpenImage<S>) -> Result<Card<S>, (P
     }
 }
 
-// The card of a whole heap, whose packages are read and linked.
+// The card of a whole heap, whose packages are read and linked, and which has to fit them.
+#[tactic(auto, using(crate::proofs::PoweredUp::none_fit))]
 fn link_packages<S: WordStore>(
     alloc: Global,
     platform: Platform,
@@ -139,11 +147,13 @@ fn link_packages<S: WordStore>(
     requires up { heap.down ≡ false }
     requires rests { heap.begun ≡ false }
     requires whole { IsWhole heap.now }
+    requires words { (w : List ℕ) × (heap.now ≡ heap_of w) }
     requires sizes { HasSizes ram }
-    ensures packages { IfOk result (λ card. packages_of platform heap.now ≡ Some card.packages) }
+    ensures packages { IfOk result (λ card. (packages_of platform heap.now ≡ Some card.packages) × IsSound card.packages heap.now (last_fixed heap.now)) }
     ensures memory { IfOk result (λ card. card.memory ≡ record { heap = heap; ram = ram; fixed = fixed_of heap.now; registers = at_reset; command = []; sent = [] }) }
     ensures load { IfOk result (λ card. card.load ≡ None) }
     ensures cause { IfErr result (λ e. FailsToLink e.0 platform heap.now) }
+    ensures good { IfErr result (λ e. IsGoodLog (S.words e.1)) }
     ensures stands { IfErr result (λ e. (heap_of (plain_of (S.words e.1)) ≡ heap.now) × (heap_of (recovered_of (S.words e.1)) ≡ heap.durable) × (count_of (S.words e.1) ≡ 0)) }
     ensures store { IfErr result (λ e. (S.down e.1 ≡ false) × (S.passed e.1 ≡ heap.passed) × (S.refused e.1 ≡ heap.refused)) }
 {
@@ -153,6 +163,9 @@ fn link_packages<S: WordStore>(
     match read_packages(alloc, platform, &heap) {
         Ok(linked) => {
             let fixed = fixed_of(&heap);
+            if !is_sound(&heap, &linked, fixed[LAST_FIXED]) {
+                return Err((PowerFault::BadPackage, heap.into_store()));
+            }
             let memory = Memory::new(heap, ram, fixed, marks);
             Ok(Card {
                 alloc,

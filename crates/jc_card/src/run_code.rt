@@ -1,39 +1,52 @@
 //! The manager's command "run code" (80 10): P1 is the stack's limit, P2 the number of locals, and the
 //! data are the code of a method without arguments.
-ghost use Rattle.std.specs.Prelude.{◌<◌, length};
-ghost use Rattle.jc_card.specs.Commands.{apdu_seen};
-ghost use Rattle.jc_card.specs.Answers.{AnswersRunCode, RunsTo};
+ghost use Rattle.std.specs.Prelude.{◌≡◌, ◌<◌, false, length};
+ghost use Rattle.jc_memory.specs.Doing.{Makes};
+ghost use Rattle.jc_card.specs.Answers.{after_exchange, answer_of, runs_code};
 
-use crate::command::Command;
+use crate::card::Card;
+use crate::dispatching::MOST_INSTRUCTIONS;
 use crate::response::Response;
 use crate::status::StatusWord;
+use jc_dispatch::lent_code;
 use jc_frames::Outcome;
-use jc_interp::machine::Machine;
-use jc_interp::status::Status;
+use jc_words::{StoreDown, WordStore};
 
-/// A command carries out at most so many instructions.
-const MOST_INSTRUCTIONS: u32 = 100_000;
-
-pub(crate) fn run_code(command: Command<'_>) -> Response
-    requires { length command.data.now < 256 }
-    ensures { AnswersRunCode (apdu_seen command.entry) result }
+// How code answers that ended so.
+fn answer_of(outcome: Outcome) -> Response
+    ensures { result ≡ answer_of outcome }
 {
-    if command.data.is_empty() {
-        return Response::of_status(StatusWord::WRONG_LENGTH);
+    match outcome {
+        Outcome::Short(value) => Response::new(&value.to_be_bytes(), StatusWord::NO_ERROR),
+        Outcome::Return => Response::of_status(StatusWord::NO_ERROR),
+        _ => Response::of_status(StatusWord::UNKNOWN),
     }
-    run(command.p1, command.p2, command.data)
 }
 
-fn run(max_stack: u8, locals: u8, code: &[u8]) -> Response
-    requires { length code.now < 256 }
-    ensures { RunsTo max_stack locals code.now result }
-{
-    let mut machine = Machine::of_code(max_stack, locals, code);
-    match machine.run(MOST_INSTRUCTIONS) {
-        Status::Ended(Outcome::Short(value)) => {
-            Response::new(&value.to_be_bytes(), StatusWord::NO_ERROR)
+impl<S: WordStore> Card<S> {
+    // "Run code".
+    #[tactic(auto, unfolding(crate::specs::Answers::runs_code), using(jc_memory::proofs::Doings::bind_did, jc_memory::proofs::Doings::left_before, jc_memory::proofs::Doings::left_after, jc_memory::proofs::Doings::refused_did, jc_memory::proofs::Doings::down_did))]
+    pub(crate) fn run_code(
+        &mut self,
+        max_stack: u8,
+        locals: u8,
+        code: &[u8],
+    ) -> Result<Response, StoreDown>
+        requires up { self.old.memory.heap.down ≡ false }
+        requires short { length code.now < 256 }
+        ensures { Makes (runs_code max_stack locals code.now self.old) self.old.memory (after_exchange result self.new) }
+    {
+        if code.is_empty() {
+            return Ok(Response::of_status(StatusWord::WRONG_LENGTH));
         }
-        Status::Ended(Outcome::Return) => Response::of_status(StatusWord::NO_ERROR),
-        _ => Response::of_status(StatusWord::UNKNOWN),
+        let outcome = lent_code::run_code(
+            MOST_INSTRUCTIONS,
+            max_stack,
+            locals,
+            code,
+            &mut self.memory,
+            &self.linked,
+        )?;
+        Ok(answer_of(outcome))
     }
 }

@@ -1,19 +1,17 @@
 -- Commands that are longer than any command.
 use Rattle.std.proofs.Common.{◌≡◌, ℕ, ◌+◌, ◌<◌, ◌≤◌, ◌==◌, nat_lt, nat_le, Bool, true, false, if◌then◌else◌, List, length, take, slice_index, Option, None, refl, sym, ◌∙◌, ap, subst, arith, inl, inr, length-take}
-use Rattle.std.specs.Prelude.{MatchOption}
 use Rattle.std.proofs.lemmas.Bool.{cases_lt, ne_eqb}
 use Rattle.std.proofs.lemmas.Bool.Decides.{nat_tests}
 use Rattle.std.proofs.lemmas.List.{take_all}
 use Rattle.std.proofs.lemmas.Grind.{common_steps}
 use Rattle.hex.specs.Hex.{IsBytes}
 use Rattle.jc_card.specs.Apdu.{apdu_of, data_of}
-use Rattle.jc_card.specs.StatusWord.{status_bytes, wrong_length}
 use Rattle.jc_memory.specs.Doing.{After, Makes}
 use Rattle.jc_card.specs.CardState.{CardState}
 use Rattle.jc_card.specs.Loads.{Answered}
-use Rattle.jc_card.specs.Answers.{Exchanges, ExchangesApdu, answers}
+use Rattle.jc_card.specs.Answers.{exchanging, exchanging_apdu}
 use Rattle.jcard_script.specs.Script.{IsAnswered}
-use Rattle.jcard_script.specs.Standing.{Standing, Up, Down}
+use Rattle.jcard_script.specs.Standing.{Standing, Up, Down, Exchanges}
 
 -- a command of more than 261 bytes has no data
 data_none : (c : List ℕ) → 261 < length c → slice_index c 4 < 256 → data_of c ≡ None
@@ -33,17 +31,16 @@ data_none c h k =
 apdu_none : (c : List ℕ) → 261 < length c → slice_index c 4 < 256 → apdu_of c ≡ None
 apdu_none c h k = rw (data_none c h k) refl
 
--- what the first 262 bytes may do the whole command may do
-pub exchanges_whole : (whole given : List ℕ) (card : CardState) (after : After Answered) → IsBytes whole → given ≡ take 262 whole → Exchanges given card after → Exchanges whole card after
-exchanges_whole whole given card after bytes e h =
+-- what the first 262 bytes ask for the whole command asks for
+exchanging_whole : (whole given : List ℕ) (card : CardState) → IsBytes whole → given ≡ take 262 whole → exchanging given card ≡ exchanging whole card
+unfolding exchanging
+exchanging_whole whole given card bytes e =
     elim (cases_lt (length whole) 263) [
-      | inl short ↦ let same : given ≡ whole = e ∙ take_all 262 whole (omega arith) in subst (λ c. Exchanges c card after) same h
+      | inl short ↦ ap (λ c. exchanging c card) (e ∙ take_all 262 whole (omega arith))
       | inr long ↦
           let count : length given ≡ 262 = ap length e ∙ length_first whole long in
           let fourth : slice_index given 4 ≡ slice_index whole 4 = ap (λ l. slice_index l 4) e ∙ first_four whole in
-          let none = apdu_none given (omega arith) (rw fourth (bytes 4)) in
-          let refused = subst (λ o. MatchOption o (Makes (answers card (status_bytes wrong_length)) card.memory after) (ExchangesApdu given card after)) none h in
-          subst (λ o. MatchOption o (Makes (answers card (status_bytes wrong_length)) card.memory after) (ExchangesApdu whole card after)) (sym (apdu_none whole (omega arith) (bytes 4))) refused
+          ap (λ o. exchanging_apdu given o card) (apdu_none given (omega arith) (rw fourth (bytes 4))) ∙ sym (ap (λ o. exchanging_apdu whole o card) (apdu_none whole (omega arith) (bytes 4)))
     ]
   where
     length_first : (whole : List ℕ) → 263 ≤ length whole → length (take 262 whole) ≡ 262
@@ -51,6 +48,10 @@ exchanges_whole whole given card after bytes e h =
 
     first_four : (whole : List ℕ) → slice_index (take 262 whole) 4 ≡ slice_index whole 4
     first_four whole = grind (arith, common_steps)
+
+-- so the first 262 bytes may be carried out as the whole command
+pub exchanges_whole : (whole given : List ℕ) (card : CardState) (after : After Answered) → IsBytes whole → given ≡ take 262 whole → Exchanges given card after → Exchanges whole card after
+exchanges_whole whole given card after bytes e h = subst (λ d. Makes d card.memory after) (exchanging_whole whole given card bytes e) h
 
 -- the same of what a session writes
 pub answered_whole : (s t : Standing) (whole given text : List ℕ) → IsBytes whole → given ≡ take 262 whole → IsAnswered given s t text → IsAnswered whole s t text

@@ -10,9 +10,8 @@ use Rattle.hex.specs.declared.error.FromHexError.{FromHexError}
 use Rattle.jc_words.specs.Stores.{Fused}
 use Rattle.jc_memory.specs.Doing.{After, Made, Cut}
 use Rattle.jc_card.specs.Loads.{Answered}
-use Rattle.jc_card.specs.Answers.{Exchanges}
 use Rattle.jc_card.specs.declared.power_up.PowerFault.{PowerFault as Fault}
-use Rattle.jcard_script.specs.Standing.{Standing, Up, Down, Holds, IsStoreOf, PowersUp, FailsUp, IsReset, FailsReset, armed}
+use Rattle.jcard_script.specs.Standing.{Standing, Up, Down, Exchanges, Holds, IsStoreOf, PowersUp, FailsUp, IsReset, FailsReset, armed}
 use Rattle.jcard_script.specs.Texts.{IsCutOf}
 use Rattle.jcard_script.specs.declared.script.ScriptFault.{ScriptFault}
 use Rattle.jcard_script.specs.declared.script.ScriptFault.TheVariants.{ReadFailed, WriteFailed, BadLine, TooLong, PowerFault}

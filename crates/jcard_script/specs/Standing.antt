@@ -7,7 +7,10 @@ use Rattle.jc_commit.specs.State.{opened}
 use Rattle.jc_heap.specs.Heap.{HeapView, heap_of, heap_view, resting}
 use Rattle.jc_heap.specs.Image.{IsLaid}
 use Rattle.jc_transient.specs.State.{IsBlank}
+use Rattle.jc_memory.specs.Doing.{After, Makes}
+use Rattle.jc_card.specs.Answers.{exchanging}
 use Rattle.jc_card.specs.CardState.{CardState}
+use Rattle.jc_card.specs.Loads.{Answered}
 use Rattle.jc_card.specs.Made.{IsMade}
 use Rattle.jc_card.specs.PowerUp.{Refuses, Stands}
 use Rattle.jc_card.specs.declared.power_up.PowerFault.{PowerFault as Fault}
@@ -17,6 +20,10 @@ use Rattle.jc_card.specs.declared.power_up.PowerFault.TheVariants.{StoreDown}
 pub data Standing : Type 0 where
   Up : CardState → Standing
   Down : Fused → Standing
+
+-- a card may carry a command of these bytes out so
+abbrev pub Exchanges : List ℕ → CardState → After Answered → Type 0
+Exchanges bytes card after = Makes (exchanging bytes card) card.memory after
 
 -- the store of a heap: its words stand for the durable heap, and its counts are the heap's
 pub record IsStoreOf (heap : HeapView) (store : Fused) : Type 0 where

@@ -1,4 +1,4 @@
-use Rattle.std.proofs.Common.{◌≡◌, length, take, map}
+use Rattle.std.proofs.Common.{◌≡◌, ◌<◌, ◌-◌, length, slice_index, take, map}
 use Rattle.std.specs.List.{range_with_len}
 use Rattle.jc_heap.specs.Heap.{IsObject}
 use Rattle.jc_card.specs.Fixed.{object_number}
@@ -9,5 +9,6 @@ invariant-loop-k g l = record {
   long : length l.fixed ≡ 17;
   at : l.at ≡ object_number l.heap.now l.k;
   object : (l.at ≡ 0 → ⊥) → IsObject l.heap.now l.at;
+  last : 0 < l.k → slice_index l.fixed (l.k - 1) ≡ l.at;
   front : take l.k l.fixed ≡ map (object_number l.heap.now) (range_with_len 1 l.k);
 }

@@ -5,7 +5,9 @@ use Rattle.jc_card.specs.Made.{IsMade}
 use Rattle.jc_card.specs.PowerUp.{HasHead, HasTable, HasHeap, Refuses, Fails}
 use Rattle.jc_commit.specs.State.{opened}
 use Rattle.jc_commit.proofs.InPlace.{length-recovered}
-use Rattle.jc_heap.specs.Heap.{heap_view}
+use Rattle.jc_heap.specs.Heap.{heap_of, heap_view}
+use Rattle.jc_card.specs.CardState.{CardState}
+use Rattle.jc_card.specs.Reset.{IsAtReset}
 use Rattle.jc_card.proofs.MadeImages.{mapped_if}
 use Rattle.jc_card.proofs.PoweredUp.{no_image_fault, head_found, made_found, refused_if, refuses_from, mapped_err, mapped_on}
 use Rattle.jc_card.proofs.card.Card.power_up.Goals as goal
@@ -19,7 +21,7 @@ returns-in-Ok-clause-made g c =
     made_found w head c.in-Ok.ensures.good there.0 there.1 there.2) c.start.ensures.ok
 
 pub returns-in-Err-clause-of_made : goal.returns-in-Err-clause-of_made
-returns-in-Err-clause-of_made g c = λ made none. absurd (no_image_fault c.check_image.result c.in-Err.fault (g.S.WordStore.words c.args.store) c.in-Err.is c.check_image.ensures.ok.1 made)
+returns-in-Err-clause-of_made g c = λ made fits. absurd (no_image_fault c.check_image.result c.in-Err.fault (g.S.WordStore.words c.args.store) c.in-Err.is c.check_image.ensures.ok.1 made)
 
 pub returns-in-Ok-clause-heap : goal.returns-in-Ok-clause-heap
 returns-in-Ok-clause-heap g c =
@@ -39,6 +41,11 @@ pub returns-in-Ok-clause-of_made : goal.returns-in-Ok-clause-of_made
 returns-in-Ok-clause-of_made g c =
     let w = g.S.WordStore.words c.args.store in
     let head : HasHead w = head_found c.check_image.result w c.in_default.not-Err c.check_image.ensures.ok.0 in
-    λ made none. refused_if c.start.result (λ e. e.0) w made none
+    λ made fits. refused_if c.start.result (λ e. e.0) w made fits
     (mapped_err c.start.result (λ e. Fails e.0 c.in-Ok.image.plain) (λ e. Refuses e.0 w)
     (λ e f. refuses_from w e.0 head c.in-Ok.ensures.good (subst (Fails e.0) (ap (λ j. j.plain) c.in-Ok.ensures.ok) f)) c.start.ensures.cause)
+
+pub returns-in-Ok-clause-reset : goal.returns-in-Ok-clause-reset
+returns-in-Ok-clause-reset g c =
+    mapped_if c.start.result (λ card. IsAtReset (heap_of c.in-Ok.image.plain) card) (λ card. IsAtReset (heap_of (recovered_of (g.S.WordStore.words c.args.store))) card)
+    (λ card e. subst (λ l. IsAtReset (heap_of l) card) (ap (λ j. j.plain) c.in-Ok.ensures.ok) e) c.start.ensures.reset

@@ -1,11 +1,12 @@
 use Rattle.std.proofs.Common.{◌≡◌, ◌∙◌, refl, subst}
 use Rattle.jc_memory.specs.Doing.{Made}
-use Rattle.jc_card.specs.Answers.{Exchanges}
-use Rattle.jc_card.proofs.Exchanged.{stays_down}
+use Rattle.jc_memory.proofs.Doings.{down_did}
+use Rattle.jc_card.specs.Answers.{exchanging}
+use Rattle.jcard_script.specs.Standing.{Exchanges}
 use Rattle.jcard_script.proofs.held.UpCard.exchange.Goals as goal
 
 pub invariant_of-result : goal.invariant_of-result
-invariant_of-result g c = stays_down c.args.command.now c.self.inside.card _ c.exchange.new.self.memory c.in-Ok.ensures ∙ c.self.invariant
+invariant_of-result g c = down_did (exchanging c.args.command.now c.self.inside.card) c.self.inside.card.memory c.exchange.new.self.memory _ c.in-Ok.ensures ∙ c.self.invariant
 
 pub returns-in-Ok : goal.returns-in-Ok
 returns-in-Ok g c =

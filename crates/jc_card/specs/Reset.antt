@@ -1,0 +1,21 @@
+-- What a reset makes of a card.
+use Rattle.std.specs.Prelude.{◌≡◌, [], Ok, Some, None}
+use Rattle.jc_heap.specs.Heap.{HeapState}
+use Rattle.jc_transient.specs.State.{IsBlank}
+use Rattle.jc_platform.specs.Tokens.{Tokens}
+use Rattle.jc_platform.specs.Table.{Reads}
+use Rattle.jc_card_packages.specs.Reading.{packages_of}
+use Rattle.jc_memory.specs.Owners.{at_reset}
+use Rattle.jc_card.specs.CardState.{CardState}
+use Rattle.jc_card.specs.Fixed.{fixed_of}
+
+-- a card after a reset over this heap: blank transient contents, nothing selected, no command begun and none answered, the
+-- packages of the heap's records linked by the heap's own table, no open load
+pub record IsAtReset (h : HeapState) (card : CardState) : Type 0 where
+  pub ram : IsBlank card.memory.ram
+  pub fixed : card.memory.fixed ≡ fixed_of h
+  pub registers : card.memory.registers ≡ at_reset
+  pub command : card.memory.command ≡ []
+  pub sent : card.memory.sent ≡ []
+  pub packages : (t : Tokens) × Reads h.text (Ok t) × (packages_of t h ≡ Some card.packages)
+  pub load : card.load ≡ None

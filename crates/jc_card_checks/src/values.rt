@@ -1,0 +1,143 @@
+//! Whether what a persistent instance holds fits its class.
+ghost use Rattle.std.specs.Prelude.{◌≡◌, ◌<◌, ◌↔◌, IsTrue, false, length, slice_index, None};
+ghost use Rattle.jc_heap.specs.Heap.{cells, facts, IsObject};
+ghost use Rattle.jc_heap.specs.Whole.{IsWhole};
+ghost use Rattle.jc_card_checks.specs.Objects.{HoldsReferences, HoldsValues, fits_aid, fits_pin, has_value, is_a, is_byte_array, is_reference, stands};
+
+use jc_heap::{Facts, Heap, Kind};
+use jc_linker::linked::Linked;
+use jc_platform::names::PlatformClass;
+use jc_transient::Ref;
+use jc_words::WordStore;
+
+/// How many bytes an AID has at most.
+const MOST_AID: u16 = 16;
+
+/// The class is one of the platform, or below it.
+pub(crate) fn is_a(linked: &Linked, class: u16, of: PlatformClass) -> bool
+    ensures { result ≡ is_a linked.now class of }
+{
+    linked.is_below(class, linked.platform().class_word(of))
+}
+
+/// An object stands at this address.
+pub(crate) fn stands<S: WordStore>(heap: &Heap<S>, word: u16) -> bool
+    requires up { heap.now.down ≡ false }
+    ensures { result ≡ stands heap.now.now word }
+{
+    heap.is_object(word)
+}
+
+/// The word is null or the address of an object.
+pub(crate) fn is_reference<S: WordStore>(heap: &Heap<S>, word: u16) -> bool
+    requires up { heap.now.down ≡ false }
+    ensures { result ≡ is_reference heap.now.now word }
+{
+    word == 0 || stands(heap, word)
+}
+
+/// A cell of a persistent object with so many cells; 0 behind the last one.
+pub(crate) fn cell_of<S: WordStore>(heap: &Heap<S>, object: Ref, long: u16, i: u16) -> u16
+    requires up { heap.now.down ≡ false }
+    requires long { length (cells heap.now.now object) ≡ long }
+    ensures { result ≡ slice_index (cells heap.now.now object) i }
+{
+    if i < long { heap.get(object, i) } else { 0 }
+}
+
+// It is a persistent array of so many bytes.
+fn is_byte_array(facts: Facts, n: u16) -> bool
+    ensures { result ≡ is_byte_array facts n }
+{
+    matches!(facts.kind, Kind::ByteArray) && facts.event.is_none() && facts.length == n
+}
+
+// There is no value where the maximum is 0, or else an array of so many bytes.
+fn has_value<S: WordStore>(heap: &Heap<S>, pin: Ref, long: u16) -> bool
+    requires up { heap.now.down ≡ false }
+    requires long { length (cells heap.now.now pin) ≡ long }
+    ensures { result ≡ has_value heap.now.now (cells heap.now.now pin) }
+{
+    let maximum = cell_of(heap, pin, long, 1);
+    let value = cell_of(heap, pin, long, 4);
+    if value == 0 {
+        return maximum == 0;
+    }
+    if !stands(heap, value) {
+        return false;
+    }
+    is_byte_array(heap.facts(Ref::at(value)), maximum)
+}
+
+// An OwnerPIN has its value, which is not longer than the maximum.
+fn fits_pin<S: WordStore>(
+    heap: &Heap<S>,
+    linked: &Linked,
+    object: Ref,
+    class: u16,
+    long: u16,
+) -> bool
+    requires up { heap.now.down ≡ false }
+    requires long { length (cells heap.now.now object) ≡ long }
+    ensures { result ≡ fits_pin linked.now heap.now.now class (cells heap.now.now object) }
+{
+    if !is_a(linked, class, PlatformClass::OwnerPin) {
+        return true;
+    }
+    cell_of(heap, object, long, 3) <= cell_of(heap, object, long, 1)
+        && has_value(heap, object, long)
+}
+
+// An AID is not too long.
+fn fits_aid<S: WordStore>(
+    heap: &Heap<S>,
+    linked: &Linked,
+    object: Ref,
+    class: u16,
+    long: u16,
+) -> bool
+    requires up { heap.now.down ≡ false }
+    requires long { length (cells heap.now.now object) ≡ long }
+    ensures { result ≡ fits_aid linked.now class (cells heap.now.now object) }
+{
+    !is_a(linked, class, PlatformClass::Aid) || cell_of(heap, object, long, 0) <= MOST_AID
+}
+
+// The cells that hold references hold null or objects.
+fn holds_references<S: WordStore>(
+    heap: &Heap<S>,
+    linked: &Linked,
+    object: Ref,
+    class: u16,
+    long: u16,
+) -> bool
+    requires up { heap.now.down ≡ false }
+    requires class { (facts heap.now.now object).class ≡ class }
+    requires long { length (cells heap.now.now object) ≡ long }
+    ensures { IsTrue result ↔ HoldsReferences linked.now heap.now.now object }
+{
+    for i in 0..long {
+        if linked.reference_cell(class, i) && !is_reference(heap, heap.get(object, i)) {
+            return false;
+        }
+    }
+    true
+}
+
+/// What a persistent instance holds fits its class.
+pub(crate) fn holds_values<S: WordStore>(
+    heap: &Heap<S>,
+    linked: &Linked,
+    object: Ref,
+    class: u16,
+    long: u16,
+) -> bool
+    requires up { heap.now.down ≡ false }
+    requires class { (facts heap.now.now object).class ≡ class }
+    requires long { length (cells heap.now.now object) ≡ long }
+    ensures { IsTrue result ↔ HoldsValues linked.now heap.now.now object }
+{
+    holds_references(heap, linked, object, class, long)
+        && fits_aid(heap, linked, object, class, long)
+        && fits_pin(heap, linked, object, class, long)
+}
