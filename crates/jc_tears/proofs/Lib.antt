@@ -1,0 +1,4 @@
+pub mod Plain
+pub mod Pins
+pub mod Torn
+pub mod Same

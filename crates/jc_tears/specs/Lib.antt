@@ -1,0 +1,3 @@
+pub mod Orderly
+pub mod Tears
+pub mod Same

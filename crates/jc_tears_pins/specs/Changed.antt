@@ -1,0 +1,23 @@
+-- PINs that the open transaction changes.
+use Rattle.std.specs.Prelude.{ℕ, ◌≡◌, true, List, Result, Ok}
+use Rattle.jc_heap.specs.Heap.{HeapState, is_touched, item_at}
+use Rattle.jc_heap.specs.Places.{place_word}
+use Rattle.jc_heap.specs.Moves.{IsInside}
+use Rattle.jc_memory.specs.State.{MemoryState, Effect, effected_all, moves_of}
+use Rattle.jc_memory.specs.Doing.{Did}
+use Rattle.jc_pin.specs.Pins.{counter}
+use Rattle.jc_pin.specs.Starting.{started}
+use Rattle.jc_pin.specs.Updating.{updated}
+use Rattle.jc_tears.specs.Tears.{SavedAlong}
+
+-- a change of the open transaction has set the counter of a PIN
+abbrev pub IsChanged : MemoryState → ℕ → Type 0
+IsChanged s r = is_touched s.heap (place_word (counter r)) ≡ true
+
+-- an update changes the PIN so, and the constructor does; that stays as long as the transaction is open; and from then on
+-- the PIN is saved as it was, however often its tries are counted
+pub record GoWithTheirTransaction : Type 0 where
+  pub update : (s new : MemoryState) (r : ℕ) (bytes : List ℕ) → s.heap.begun ≡ true → Did (updated s r bytes) s (Ok tt) new → IsChanged new r
+  pub setting_up : (s new : MemoryState) (r limit maximum : ℕ) → s.heap.begun ≡ true → Did (started s r limit maximum) s (Ok tt) new → IsChanged new r
+  pub stays : (es : List Effect) (s : MemoryState) (r : ℕ) → IsChanged s r → IsInside (moves_of es) → IsChanged (effected_all es s) r
+  pub saved : (es : List Effect) (s : MemoryState) (r : ℕ) (old new : HeapState) → IsChanged s r → IsInside (moves_of es) → SavedAlong es s old new → item_at new r ≡ item_at old r

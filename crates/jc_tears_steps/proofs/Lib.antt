@@ -1,0 +1,5 @@
+pub mod Checks
+pub mod Fields
+pub mod Objects
+pub mod Frames
+pub mod Stepping
