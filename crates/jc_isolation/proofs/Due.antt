@@ -1,0 +1,48 @@
+-- Effects that are due, through the words in which instructions and calls are defined.
+use Rattle.std.proofs.Common.{◌≡◌, Bool, true, false, Option, Some, None, Result, Ok, Err, refl, if◌then◌else◌}
+use Rattle.jc_heap.specs.declared.refusal.HeapRefusal.{HeapRefusal}
+use Rattle.jc_frames.specs.declared.outcome.Stop.{Stop}
+use Rattle.jc_frames.specs.declared.outcome.Stop.TheVariants as stop
+use Rattle.jc_frames.specs.Frames.{Frames, Next}
+use Rattle.jc_memory.specs.State.{MemoryState, Effect}
+use Rattle.jc_memory.specs.Doing.{Doing}
+use Rattle.jc_memory.specs.Reading.{AllDue}
+use Rattle.jc_world.specs.Groups.{stopped}
+use Rattle.jc_world.specs.Groups as groups
+use Rattle.jc_world.specs.Calls.{Calling}
+use Rattle.jc_world.specs.Calls as calls
+
+module _ (P : Effect → MemoryState → Type 0) (m : MemoryState) where
+  pub due_if : {A : Type 0} (b : Bool) (x y : Doing A) → (b ≡ true → AllDue P x m) → (b ≡ false → AllDue P y m) → AllDue P (if b then x else y) m
+  due_if true x y on off = on refl
+  due_if false x y on off = off refl
+
+  -- of instructions
+  pub due_stopped : (s : Frames) (e : Stop) → AllDue P (stopped s e) m
+  due_stopped s (stop.Throw e) = tt
+  due_stopped s (stop.End o) = tt
+
+  pub due_some : {A : Type 0} (o : Option A) (go : A → Doing (Next Frames)) → ((a : A) → o ≡ Some a → AllDue P (go a) m) → AllDue P (groups.if_some o go) m
+  due_some None go k = tt
+  due_some (Some a) go k = k a refl
+
+  pub due_ok : {A : Type 0} (s : Frames) (o : Result A Stop) (go : A → Doing (Next Frames)) → ((a : A) → o ≡ Ok a → AllDue P (go a) m) → AllDue P (groups.if_ok s o go) m
+  due_ok s (Ok a) go k = k a refl
+  due_ok s (Err e) go k = due_stopped s e
+
+  pub due_unless : (s : Frames) (o : Option HeapRefusal) (d : Doing (Next Frames)) → AllDue P d m → AllDue P (groups.unless s o d) m
+  due_unless s None d k = k
+  due_unless s (Some reason) d k = tt
+
+  -- of calls
+  pub call_some : {A : Type 0} (o : Option A) (go : A → Calling) → ((a : A) → o ≡ Some a → AllDue P (go a) m) → AllDue P (calls.if_some o go) m
+  call_some None go k = tt
+  call_some (Some a) go k = k a refl
+
+  pub call_ok : {A : Type 0} (o : Result A Stop) (go : A → Calling) → ((a : A) → o ≡ Ok a → AllDue P (go a) m) → AllDue P (calls.if_ok o go) m
+  call_ok (Ok a) go k = k a refl
+  call_ok (Err e) go k = tt
+
+  pub call_unless : (o : Option HeapRefusal) (d : Calling) → AllDue P d m → AllDue P (calls.unless o d) m
+  call_unless None d k = k
+  call_unless (Some reason) d k = tt
