@@ -53,6 +53,3 @@ fn read_lines(text: &[u8]) -> Result<Reading, TableFault>
     }
     Ok(reading)
 }
-
-#[cfg(test)]
-mod tests;

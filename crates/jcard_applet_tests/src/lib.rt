@@ -6,4 +6,6 @@ mod life;
 #[cfg(test)]
 mod packages;
 #[cfg(test)]
+mod registry;
+#[cfg(test)]
 mod scripts;

@@ -1,10 +1,10 @@
 //! The example table, and each way in which a text is no table.
 
-use super::read_table;
-use crate::example::EXAMPLE;
-use crate::fault::TableFault;
-use crate::names::{PlatformClass, PlatformMethod, PlatformPackage};
-use crate::row::Version;
+use jc_platform::example::EXAMPLE;
+use jc_platform::fault::TableFault;
+use jc_platform::names::{PlatformClass, PlatformMethod, PlatformPackage};
+use jc_platform::read::read_table;
+use jc_platform::row::Version;
 use std::process::Abort;
 use std::test::Fail;
 
