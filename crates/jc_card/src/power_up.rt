@@ -163,10 +163,11 @@ fn link_packages<S: WordStore>(
     match read_packages(alloc, platform, &heap) {
         Ok(linked) => {
             let fixed = fixed_of(&heap);
-            if !is_sound(&heap, &linked, fixed[LAST_FIXED]) {
+            let memory = Memory::new(heap, ram, fixed, marks);
+            if !is_sound(&memory, &linked, fixed[LAST_FIXED]) {
+                let (heap, _) = memory.into_parts();
                 return Err((PowerFault::BadPackage, heap.into_store()));
             }
-            let memory = Memory::new(heap, ram, fixed, marks);
             Ok(Card {
                 alloc,
                 memory,

@@ -10,8 +10,9 @@ ghost use Rattle.jc_card_checks.specs.Sound.{HasOwnAid, IsRegistered, aid_in, ai
 use crate::objects::is_kept;
 use crate::values::{cell_of, is_a, stands};
 use arrayvec::ArrayVec;
-use jc_heap::{Heap, Kind};
+use jc_heap::Kind;
 use jc_linker::linked::Linked;
+use jc_memory::Memory;
 use jc_platform::names::PlatformClass;
 use jc_transient::Ref;
 use jc_words::WordStore;
@@ -22,67 +23,67 @@ const LEAST_AID: u16 = 5;
 const MOST_AID: u16 = 16;
 
 // A word of the registry's entry at a place.
-fn entry_word<S: WordStore>(heap: &Heap<S>, a: u16, j: u16) -> u16
-    requires up { heap.now.down ≡ false }
+fn entry_word<S: WordStore>(memory: &Memory<S>, a: u16, j: u16) -> u16
+    requires up { memory.now.heap.down ≡ false }
     requires few { a < most_applets }
     requires part { j < 3 }
-    ensures { result ≡ entry_word heap.now.now a j }
+    ensures { result ≡ entry_word memory.now.heap.now a j }
 {
-    heap.registry(3 * a + j)
+    memory.heap().registry(3 * a + j)
 }
 
 // A persistent instance of AID stands there, with an AID of 5 to 16 bytes.
-fn is_aid_object<S: WordStore>(heap: &Heap<S>, linked: &Linked, word: u16) -> bool
-    requires up { heap.now.down ≡ false }
-    ensures { IsTrue result ↔ ((stands heap.now.now word && holds_aid linked.now (facts heap.now.now word) (cells heap.now.now word)) ≡ true) }
+fn is_aid_object<S: WordStore>(memory: &Memory<S>, linked: &Linked, word: u16) -> bool
+    requires up { memory.now.heap.down ≡ false }
+    ensures { IsTrue result ↔ ((stands memory.now.heap.now word && holds_aid linked.now (facts memory.now.heap.now word) (cells memory.now.heap.now word)) ≡ true) }
 {
-    if !stands(heap, word) {
+    if !stands(memory, word) {
         return false;
     }
     let object = Ref::at(word);
-    let facts = heap.facts(object);
+    let facts = memory.heap().facts(object);
     if !is_kept(facts) {
         return false;
     }
-    let long = cell_of(heap, object, facts.length, 0);
+    let long = cell_of(memory, object, facts.length, 0);
     facts.class == linked.platform().class_word(PlatformClass::Aid)
         && long >= LEAST_AID
         && long <= MOST_AID
 }
 
 // An instance of a class below Applet stands there.
-fn is_applet_instance<S: WordStore>(heap: &Heap<S>, linked: &Linked, word: u16) -> bool
-    requires up { heap.now.down ≡ false }
-    ensures { result ≡ (stands heap.now.now word && (is_instance (facts heap.now.now word).kind && is_a linked.now (facts heap.now.now word).class PlatformClass.Applet)) }
+fn is_applet_instance<S: WordStore>(memory: &Memory<S>, linked: &Linked, word: u16) -> bool
+    requires up { memory.now.heap.down ≡ false }
+    ensures { result ≡ (stands memory.now.heap.now word && (is_instance (facts memory.now.heap.now word).kind && is_a linked.now (facts memory.now.heap.now word).class PlatformClass.Applet)) }
 {
-    if !stands(heap, word) {
+    if !stands(memory, word) {
         return false;
     }
-    let facts = heap.facts(Ref::at(word));
+    let facts = memory.heap().facts(Ref::at(word));
     matches!(facts.kind, Kind::Instance) && is_a(linked, facts.class, PlatformClass::Applet)
 }
 
 // The entry at a place has an AID object, a package and an instance.
-fn is_registered<S: WordStore>(heap: &Heap<S>, linked: &Linked, a: u16) -> bool
-    requires up { heap.now.down ≡ false }
+fn is_registered<S: WordStore>(memory: &Memory<S>, linked: &Linked, a: u16) -> bool
+    requires up { memory.now.heap.down ≡ false }
     requires few { a < most_applets }
-    ensures { IsTrue result ↔ IsRegistered linked.now heap.now.now a }
+    ensures { IsTrue result ↔ IsRegistered linked.now memory.now.heap.now a }
 {
-    let package = entry_word(heap, a, 1);
-    is_aid_object(heap, linked, entry_word(heap, a, 0))
+    let package = entry_word(memory, a, 1);
+    is_aid_object(memory, linked, entry_word(memory, a, 0))
         && package > 0
-        && package <= heap.packages()
-        && is_applet_instance(heap, linked, entry_word(heap, a, 2))
+        && package <= memory.heap().packages()
+        && is_applet_instance(memory, linked, entry_word(memory, a, 2))
 }
 
 /// Each entry of the registry has an AID object, a package and an instance.
-pub(crate) fn are_registered<S: WordStore>(heap: &Heap<S>, linked: &Linked) -> bool
-    requires up { heap.now.down ≡ false }
-    requires whole { IsWhole heap.now.now }
-    ensures { IsTrue result ↔ ((a : ℕ) → a < heap.now.now.counts.1 → IsRegistered linked.now heap.now.now a) }
+pub(crate) fn are_registered<S: WordStore>(memory: &Memory<S>, linked: &Linked) -> bool
+    requires up { memory.now.heap.down ≡ false }
+    requires whole { IsWhole memory.now.heap.now }
+    ensures { IsTrue result ↔ ((a : ℕ) → a < memory.now.heap.now.counts.1 → IsRegistered linked.now memory.now.heap.now a) }
 {
-    for a in 0..heap.applets() {
-        if !is_registered(heap, linked, a) {
+    for a in 0..memory.heap().applets() {
+        if !is_registered(memory, linked, a) {
             return false;
         }
     }
@@ -90,13 +91,13 @@ pub(crate) fn are_registered<S: WordStore>(heap: &Heap<S>, linked: &Linked) -> b
 }
 
 // A byte of an AID, of which two stand in a cell.
-fn aid_byte<S: WordStore>(heap: &Heap<S>, object: Ref, long: u16, i: u16) -> u8
-    requires up { heap.now.down ≡ false }
-    requires long { length (cells heap.now.now object) ≡ long }
+fn aid_byte<S: WordStore>(memory: &Memory<S>, object: Ref, long: u16, i: u16) -> u8
+    requires up { memory.now.heap.down ≡ false }
+    requires long { length (cells memory.now.heap.now object) ≡ long }
     requires few { i < 16 }
-    ensures { result ≡ packed_byte (drop 1 (cells heap.now.now object)) i }
+    ensures { result ≡ packed_byte (drop 1 (cells memory.now.heap.now object)) i }
 {
-    let word = cell_of(heap, object, long, 1 + i / 2);
+    let word = cell_of(memory, object, long, 1 + i / 2);
     if i % 2 == 0 {
         (word / 256) as u8
     } else {
@@ -106,41 +107,41 @@ fn aid_byte<S: WordStore>(heap: &Heap<S>, object: Ref, long: u16, i: u16) -> u8
 
 // The AID that an AID object's cells tell.
 #[tactic(auto, unfolding(jc_heap::specs::Image::unpacked))]
-fn aid_in<S: WordStore>(heap: &Heap<S>, object: Ref, long: u16) -> ArrayVec<u8, 16>
-    requires up { heap.now.down ≡ false }
-    requires long { length (cells heap.now.now object) ≡ long }
-    requires few { slice_index (cells heap.now.now object) 0 ≤ 16 }
-    ensures { result.items ≡ aid_in (cells heap.now.now object) }
+fn aid_in<S: WordStore>(memory: &Memory<S>, object: Ref, long: u16) -> ArrayVec<u8, 16>
+    requires up { memory.now.heap.down ≡ false }
+    requires long { length (cells memory.now.heap.now object) ≡ long }
+    requires few { slice_index (cells memory.now.heap.now object) 0 ≤ 16 }
+    ensures { result.items ≡ aid_in (cells memory.now.heap.now object) }
 {
     let mut bytes = ArrayVec::new();
-    for i in 0..cell_of(heap, object, long, 0) {
-        bytes.push(aid_byte(heap, object, long, i));
+    for i in 0..cell_of(memory, object, long, 0) {
+        bytes.push(aid_byte(memory, object, long, i));
     }
     bytes
 }
 
 // The AID of the entry at a place.
-fn aid_of_entry<S: WordStore>(heap: &Heap<S>, linked: &Linked, a: u16) -> ArrayVec<u8, 16>
-    requires up { heap.now.down ≡ false }
+fn aid_of_entry<S: WordStore>(memory: &Memory<S>, linked: &Linked, a: u16) -> ArrayVec<u8, 16>
+    requires up { memory.now.heap.down ≡ false }
     requires few { a < most_applets }
-    requires registered { IsRegistered linked.now heap.now.now a }
-    ensures { result.items ≡ aid_of_entry heap.now.now a }
+    requires registered { IsRegistered linked.now memory.now.heap.now a }
+    ensures { result.items ≡ aid_of_entry memory.now.heap.now a }
 {
-    let object = Ref::at(entry_word(heap, a, 0));
-    let facts = heap.facts(object);
-    aid_in(heap, object, facts.length)
+    let object = Ref::at(entry_word(memory, a, 0));
+    let facts = memory.heap().facts(object);
+    aid_in(memory, object, facts.length)
 }
 
 // No applet before this one has its AID.
-fn has_own_aid<S: WordStore>(heap: &Heap<S>, linked: &Linked, b: u16) -> bool
-    requires up { heap.now.down ≡ false }
+fn has_own_aid<S: WordStore>(memory: &Memory<S>, linked: &Linked, b: u16) -> bool
+    requires up { memory.now.heap.down ≡ false }
     requires few { b < most_applets }
-    requires registered { (a : ℕ) → a ≤ b → IsRegistered linked.now heap.now.now a }
-    ensures { IsTrue result ↔ HasOwnAid heap.now.now b }
+    requires registered { (a : ℕ) → a ≤ b → IsRegistered linked.now memory.now.heap.now a }
+    ensures { IsTrue result ↔ HasOwnAid memory.now.heap.now b }
 {
-    let own = aid_of_entry(heap, linked, b);
+    let own = aid_of_entry(memory, linked, b);
     for a in 0..b {
-        let other = aid_of_entry(heap, linked, a);
+        let other = aid_of_entry(memory, linked, a);
         if other.as_slice() == own.as_slice() {
             return false;
         }
@@ -149,14 +150,14 @@ fn has_own_aid<S: WordStore>(heap: &Heap<S>, linked: &Linked, b: u16) -> bool
 }
 
 /// No two applets have one AID.
-pub(crate) fn are_distinct<S: WordStore>(heap: &Heap<S>, linked: &Linked) -> bool
-    requires up { heap.now.down ≡ false }
-    requires whole { IsWhole heap.now.now }
-    requires registered { (a : ℕ) → a < heap.now.now.counts.1 → IsRegistered linked.now heap.now.now a }
-    ensures { IsTrue result ↔ ((b : ℕ) → b < heap.now.now.counts.1 → HasOwnAid heap.now.now b) }
+pub(crate) fn are_distinct<S: WordStore>(memory: &Memory<S>, linked: &Linked) -> bool
+    requires up { memory.now.heap.down ≡ false }
+    requires whole { IsWhole memory.now.heap.now }
+    requires registered { (a : ℕ) → a < memory.now.heap.now.counts.1 → IsRegistered linked.now memory.now.heap.now a }
+    ensures { IsTrue result ↔ ((b : ℕ) → b < memory.now.heap.now.counts.1 → HasOwnAid memory.now.heap.now b) }
 {
-    for b in 0..heap.applets() {
-        if !has_own_aid(heap, linked, b) {
+    for b in 0..memory.heap().applets() {
+        if !has_own_aid(memory, linked, b) {
             return false;
         }
     }

@@ -1,11 +1,12 @@
 //! Whether each object's class, owner and cells are there.
-ghost use Rattle.std.specs.Prelude.{ℕ, List, ◌≡◌, ◌<◌, ◌↔◌, IsTrue, false};
-ghost use Rattle.jc_heap.specs.Heap.{heap_of, IsObject};
+ghost use Rattle.std.specs.Prelude.{ℕ, List, ◌≡◌, ◌<◌, ◌↔◌, IfSome, IsTrue, false};
+ghost use Rattle.jc_heap.specs.Heap.{heap_of, next_object, IsObject};
 ghost use Rattle.jc_card_checks.specs.Objects.{IsSoundObject, fits_class, is_kept, is_owner};
 
 use crate::values::holds_values;
-use jc_heap::{Facts, Heap, Kind};
+use jc_heap::{Facts, Kind};
 use jc_linker::linked::Linked;
+use jc_memory::Memory;
 use jc_transient::Ref;
 use jc_words::WordStore;
 
@@ -28,11 +29,13 @@ fn fits_class(linked: &Linked, kind: Kind, class: u16, long: u16) -> bool
 }
 
 // The owner is there.
-fn is_owner<S: WordStore>(heap: &Heap<S>, owner: u16) -> bool
-    requires up { heap.now.down ≡ false }
-    ensures { result ≡ is_owner heap.now.now owner }
+fn is_owner<S: WordStore>(memory: &Memory<S>, owner: u16) -> bool
+    requires up { memory.now.heap.down ≡ false }
+    ensures { result ≡ is_owner memory.now.heap.now owner }
 {
-    owner == 0 || owner <= heap.applets() || owner > PACKAGES && owner - PACKAGES <= heap.packages()
+    owner == 0
+        || owner <= memory.heap().applets()
+        || owner > PACKAGES && owner - PACKAGES <= memory.heap().packages()
 }
 
 /// The header says that it is a persistent instance.
@@ -43,34 +46,44 @@ pub(crate) fn is_kept(facts: Facts) -> bool
 }
 
 // The class, the owner and the cells of an object are there.
-fn is_sound_object<S: WordStore>(heap: &Heap<S>, linked: &Linked, object: Ref) -> bool
-    requires up { heap.now.down ≡ false }
-    requires there { IsObject heap.now.now object }
-    ensures { IsTrue result ↔ IsSoundObject linked.now heap.now.now object }
+fn is_sound_object<S: WordStore>(memory: &Memory<S>, linked: &Linked, object: Ref) -> bool
+    requires up { memory.now.heap.down ≡ false }
+    requires there { IsObject memory.now.heap.now object }
+    ensures { IsTrue result ↔ IsSoundObject linked.now memory.now.heap.now object }
 {
-    let facts = heap.facts(object);
+    let facts = memory.heap().facts(object);
     if !fits_class(linked, facts.kind, facts.class, facts.length) {
         return false;
     }
-    if !is_owner(heap, facts.owner) {
+    if !is_owner(memory, facts.owner) {
         return false;
     }
     if !is_kept(facts) {
         return true;
     }
-    holds_values(heap, linked, object, facts.class, facts.length)
+    holds_values(memory, linked, object, facts.class, facts.length)
+}
+
+// The object behind this one, or the first one of all behind null.
+fn next_of<S: WordStore>(memory: &Memory<S>, at: Ref) -> Option<Ref>
+    requires up { memory.now.heap.down ≡ false }
+    requires there { (at ≡ 0 → ⊥) → IsObject memory.now.heap.now at }
+    ensures next { result ≡ next_object memory.now.heap.now at }
+    ensures object { IfSome result (IsObject memory.now.heap.now) }
+{
+    memory.heap().next(at)
 }
 
 /// The class, the owner and the cells of each object behind this one are there.
-pub(crate) fn are_sound<S: WordStore>(heap: &Heap<S>, linked: &Linked, own: Ref) -> bool
-    requires up { heap.now.down ≡ false }
-    requires words { (w : List ℕ) × (heap.now.now ≡ heap_of w) }
-    requires own { (own ≡ 0 → ⊥) → IsObject heap.now.now own }
-    ensures { IsTrue result ↔ ((r : ℕ) → own < r → IsObject heap.now.now r → IsSoundObject linked.now heap.now.now r) }
+pub(crate) fn are_sound<S: WordStore>(memory: &Memory<S>, linked: &Linked, own: Ref) -> bool
+    requires up { memory.now.heap.down ≡ false }
+    requires words { (w : List ℕ) × (memory.now.heap.now ≡ heap_of w) }
+    requires own { (own ≡ 0 → ⊥) → IsObject memory.now.heap.now own }
+    ensures { IsTrue result ↔ ((r : ℕ) → own < r → IsObject memory.now.heap.now r → IsSoundObject linked.now memory.now.heap.now r) }
 {
     let mut at = own;
-    while let Some(object) = heap.next(at) {
-        if !is_sound_object(heap, linked, object) {
+    while let Some(object) = next_of(memory, at) {
+        if !is_sound_object(memory, linked, object) {
             return false;
         }
         at = object;

@@ -7,35 +7,35 @@ ghost use Rattle.jc_card_checks.specs.Objects.{is_reference};
 ghost use Rattle.jc_card_checks.specs.Sound.{HoldsStatics, package_record_at};
 
 use crate::values::is_reference;
-use jc_heap::Heap;
 use jc_linker::linked::Linked;
+use jc_memory::Memory;
 use jc_transient::Ref;
 use jc_words::WordStore;
 
 // A word of a record; 0 behind the last one.
-fn word_of<S: WordStore>(heap: &Heap<S>, at: Ref, long: u16, j: u32) -> u16
-    requires up { heap.now.down ≡ false }
-    requires long { length (record_of heap.now.now at) ≡ long }
-    ensures { result ≡ slice_index (record_of heap.now.now at) j }
+fn word_of<S: WordStore>(memory: &Memory<S>, at: Ref, long: u16, j: u32) -> u16
+    requires up { memory.now.heap.down ≡ false }
+    requires long { length (record_of memory.now.heap.now at) ≡ long }
+    ensures { result ≡ slice_index (record_of memory.now.heap.now at) j }
 {
     if j < u32::from(long) {
-        heap.record_word(at, j as u16)
+        memory.heap().record_word(at, j as u16)
     } else {
         0
     }
 }
 
 // So many words of a record, from one on, are null or objects.
-fn are_references<S: WordStore>(heap: &Heap<S>, at: Ref, begin: u16, count: u16) -> bool
-    requires up { heap.now.down ≡ false }
-    requires there { 0 < length (record_of heap.now.now at) }
-    ensures { IsTrue result ↔ ((i : ℕ) → i < count → is_reference heap.now.now (slice_index (record_of heap.now.now at) (begin + i)) ≡ true) }
+fn are_references<S: WordStore>(memory: &Memory<S>, at: Ref, begin: u16, count: u16) -> bool
+    requires up { memory.now.heap.down ≡ false }
+    requires there { 0 < length (record_of memory.now.heap.now at) }
+    ensures { IsTrue result ↔ ((i : ℕ) → i < count → is_reference memory.now.heap.now (slice_index (record_of memory.now.heap.now at) (begin + i)) ≡ true) }
 {
-    let long = heap.record_length(at);
+    let long = memory.heap().record_length(at);
     for i in 0..count {
         if !is_reference(
-            heap,
-            word_of(heap, at, long, u32::from(begin) + u32::from(i)),
+            memory,
+            word_of(memory, at, long, u32::from(begin) + u32::from(i)),
         ) {
             return false;
         }
@@ -44,45 +44,45 @@ fn are_references<S: WordStore>(heap: &Heap<S>, at: Ref, begin: u16, count: u16)
 }
 
 // The record ends with a static image of so many bytes that begins with so many references.
-fn holds_statics<S: WordStore>(heap: &Heap<S>, at: Ref, size: u16, references: u16) -> bool
-    requires up { heap.now.down ≡ false }
-    requires there { 0 < length (record_of heap.now.now at) }
-    ensures { IsTrue result ↔ HoldsStatics heap.now.now (record_of heap.now.now at) (size, references) }
+fn holds_statics<S: WordStore>(memory: &Memory<S>, at: Ref, size: u16, references: u16) -> bool
+    requires up { memory.now.heap.down ≡ false }
+    requires there { 0 < length (record_of memory.now.heap.now at) }
+    ensures { IsTrue result ↔ HoldsStatics memory.now.heap.now (record_of memory.now.heap.now at) (size, references) }
 {
-    let Some(begin) = heap.statics(at) else {
+    let Some(begin) = memory.heap().statics(at) else {
         return false;
     };
     let words = (u32::from(size) + 1) / 2;
-    if u32::from(begin) + words != u32::from(heap.record_length(at)) {
+    if u32::from(begin) + words != u32::from(memory.heap().record_length(at)) {
         return false;
     }
-    are_references(heap, at, begin, references)
+    are_references(memory, at, begin, references)
 }
 
 // The record of the package at a place of the registry holds its static image.
-fn holds_statics_at<S: WordStore>(heap: &Heap<S>, linked: &Linked, k: u8) -> bool
-    requires up { heap.now.down ≡ false }
-    requires whole { IsWhole heap.now.now }
-    requires below { k < length heap.now.now.packages }
+fn holds_statics_at<S: WordStore>(memory: &Memory<S>, linked: &Linked, k: u8) -> bool
+    requires up { memory.now.heap.down ≡ false }
+    requires whole { IsWhole memory.now.heap.now }
+    requires below { k < length memory.now.heap.now.packages }
     requires few { k < 32 }
-    ensures { IsTrue result ↔ HoldsStatics heap.now.now (package_record_at heap.now.now k) (statics_at linked.now (k + 1)) }
+    ensures { IsTrue result ↔ HoldsStatics memory.now.heap.now (package_record_at memory.now.heap.now k) (statics_at linked.now (k + 1)) }
 {
-    let Some(at) = heap.package(u16::from(k)) else {
+    let Some(at) = memory.heap().package(u16::from(k)) else {
         unreachable!();
     };
     let (size, references) = linked.statics_at(k + 1);
-    holds_statics(heap, at, size, references)
+    holds_statics(memory, at, size, references)
 }
 
 /// The record of each package holds its static image.
-pub(crate) fn are_held<S: WordStore>(heap: &Heap<S>, linked: &Linked) -> bool
-    requires up { heap.now.down ≡ false }
-    requires whole { IsWhole heap.now.now }
-    requires linked { length linked.now.loaded ≡ length heap.now.now.packages }
-    ensures { IsTrue result ↔ ((k : ℕ) → k < length heap.now.now.packages → HoldsStatics heap.now.now (package_record_at heap.now.now k) (statics_at linked.now (k + 1))) }
+pub(crate) fn are_held<S: WordStore>(memory: &Memory<S>, linked: &Linked) -> bool
+    requires up { memory.now.heap.down ≡ false }
+    requires whole { IsWhole memory.now.heap.now }
+    requires linked { length linked.now.loaded ≡ length memory.now.heap.now.packages }
+    ensures { IsTrue result ↔ ((k : ℕ) → k < length memory.now.heap.now.packages → HoldsStatics memory.now.heap.now (package_record_at memory.now.heap.now k) (statics_at linked.now (k + 1))) }
 {
     for k in 0..linked.last() {
-        if !holds_statics_at(heap, linked, k) {
+        if !holds_statics_at(memory, linked, k) {
             return false;
         }
     }

@@ -4,8 +4,9 @@ ghost use Rattle.jc_heap.specs.Heap.{cells, facts, IsObject};
 ghost use Rattle.jc_heap.specs.Whole.{IsWhole};
 ghost use Rattle.jc_card_checks.specs.Objects.{HoldsReferences, HoldsValues, fits_aid, fits_pin, has_value, is_a, is_byte_array, is_reference, stands};
 
-use jc_heap::{Facts, Heap, Kind};
+use jc_heap::{Facts, Kind};
 use jc_linker::linked::Linked;
+use jc_memory::Memory;
 use jc_platform::names::PlatformClass;
 use jc_transient::Ref;
 use jc_words::WordStore;
@@ -21,28 +22,32 @@ pub(crate) fn is_a(linked: &Linked, class: u16, of: PlatformClass) -> bool
 }
 
 /// An object stands at this address.
-pub(crate) fn stands<S: WordStore>(heap: &Heap<S>, word: u16) -> bool
-    requires up { heap.now.down ≡ false }
-    ensures { result ≡ stands heap.now.now word }
+pub(crate) fn stands<S: WordStore>(memory: &Memory<S>, word: u16) -> bool
+    requires up { memory.now.heap.down ≡ false }
+    ensures { result ≡ stands memory.now.heap.now word }
 {
-    heap.is_object(word)
+    memory.header(Ref::at(word)).is_some()
 }
 
 /// The word is null or the address of an object.
-pub(crate) fn is_reference<S: WordStore>(heap: &Heap<S>, word: u16) -> bool
-    requires up { heap.now.down ≡ false }
-    ensures { result ≡ is_reference heap.now.now word }
+pub(crate) fn is_reference<S: WordStore>(memory: &Memory<S>, word: u16) -> bool
+    requires up { memory.now.heap.down ≡ false }
+    ensures { result ≡ is_reference memory.now.heap.now word }
 {
-    word == 0 || stands(heap, word)
+    word == 0 || stands(memory, word)
 }
 
 /// A cell of a persistent object with so many cells; 0 behind the last one.
-pub(crate) fn cell_of<S: WordStore>(heap: &Heap<S>, object: Ref, long: u16, i: u16) -> u16
-    requires up { heap.now.down ≡ false }
-    requires long { length (cells heap.now.now object) ≡ long }
-    ensures { result ≡ slice_index (cells heap.now.now object) i }
+pub(crate) fn cell_of<S: WordStore>(memory: &Memory<S>, object: Ref, long: u16, i: u16) -> u16
+    requires up { memory.now.heap.down ≡ false }
+    requires long { length (cells memory.now.heap.now object) ≡ long }
+    ensures { result ≡ slice_index (cells memory.now.heap.now object) i }
 {
-    if i < long { heap.get(object, i) } else { 0 }
+    if i < long {
+        memory.heap().get(object, i)
+    } else {
+        0
+    }
 }
 
 // It is a persistent array of so many bytes.
@@ -53,71 +58,71 @@ fn is_byte_array(facts: Facts, n: u16) -> bool
 }
 
 // There is no value where the maximum is 0, or else an array of so many bytes.
-fn has_value<S: WordStore>(heap: &Heap<S>, pin: Ref, long: u16) -> bool
-    requires up { heap.now.down ≡ false }
-    requires long { length (cells heap.now.now pin) ≡ long }
-    ensures { result ≡ has_value heap.now.now (cells heap.now.now pin) }
+fn has_value<S: WordStore>(memory: &Memory<S>, pin: Ref, long: u16) -> bool
+    requires up { memory.now.heap.down ≡ false }
+    requires long { length (cells memory.now.heap.now pin) ≡ long }
+    ensures { result ≡ has_value memory.now.heap.now (cells memory.now.heap.now pin) }
 {
-    let maximum = cell_of(heap, pin, long, 1);
-    let value = cell_of(heap, pin, long, 4);
+    let maximum = cell_of(memory, pin, long, 1);
+    let value = cell_of(memory, pin, long, 4);
     if value == 0 {
         return maximum == 0;
     }
-    if !stands(heap, value) {
+    if !stands(memory, value) {
         return false;
     }
-    is_byte_array(heap.facts(Ref::at(value)), maximum)
+    is_byte_array(memory.heap().facts(Ref::at(value)), maximum)
 }
 
 // An OwnerPIN has its value, which is not longer than the maximum.
 fn fits_pin<S: WordStore>(
-    heap: &Heap<S>,
+    memory: &Memory<S>,
     linked: &Linked,
     object: Ref,
     class: u16,
     long: u16,
 ) -> bool
-    requires up { heap.now.down ≡ false }
-    requires long { length (cells heap.now.now object) ≡ long }
-    ensures { result ≡ fits_pin linked.now heap.now.now class (cells heap.now.now object) }
+    requires up { memory.now.heap.down ≡ false }
+    requires long { length (cells memory.now.heap.now object) ≡ long }
+    ensures { result ≡ fits_pin linked.now memory.now.heap.now class (cells memory.now.heap.now object) }
 {
     if !is_a(linked, class, PlatformClass::OwnerPin) {
         return true;
     }
-    cell_of(heap, object, long, 3) <= cell_of(heap, object, long, 1)
-        && has_value(heap, object, long)
+    cell_of(memory, object, long, 3) <= cell_of(memory, object, long, 1)
+        && has_value(memory, object, long)
 }
 
 // An AID is not too long.
 fn fits_aid<S: WordStore>(
-    heap: &Heap<S>,
+    memory: &Memory<S>,
     linked: &Linked,
     object: Ref,
     class: u16,
     long: u16,
 ) -> bool
-    requires up { heap.now.down ≡ false }
-    requires long { length (cells heap.now.now object) ≡ long }
-    ensures { result ≡ fits_aid linked.now class (cells heap.now.now object) }
+    requires up { memory.now.heap.down ≡ false }
+    requires long { length (cells memory.now.heap.now object) ≡ long }
+    ensures { result ≡ fits_aid linked.now class (cells memory.now.heap.now object) }
 {
-    !is_a(linked, class, PlatformClass::Aid) || cell_of(heap, object, long, 0) <= MOST_AID
+    !is_a(linked, class, PlatformClass::Aid) || cell_of(memory, object, long, 0) <= MOST_AID
 }
 
 // The cells that hold references hold null or objects.
 fn holds_references<S: WordStore>(
-    heap: &Heap<S>,
+    memory: &Memory<S>,
     linked: &Linked,
     object: Ref,
     class: u16,
     long: u16,
 ) -> bool
-    requires up { heap.now.down ≡ false }
-    requires class { (facts heap.now.now object).class ≡ class }
-    requires long { length (cells heap.now.now object) ≡ long }
-    ensures { IsTrue result ↔ HoldsReferences linked.now heap.now.now object }
+    requires up { memory.now.heap.down ≡ false }
+    requires class { (facts memory.now.heap.now object).class ≡ class }
+    requires long { length (cells memory.now.heap.now object) ≡ long }
+    ensures { IsTrue result ↔ HoldsReferences linked.now memory.now.heap.now object }
 {
     for i in 0..long {
-        if linked.reference_cell(class, i) && !is_reference(heap, heap.get(object, i)) {
+        if linked.reference_cell(class, i) && !is_reference(memory, memory.heap().get(object, i)) {
             return false;
         }
     }
@@ -126,18 +131,18 @@ fn holds_references<S: WordStore>(
 
 /// What a persistent instance holds fits its class.
 pub(crate) fn holds_values<S: WordStore>(
-    heap: &Heap<S>,
+    memory: &Memory<S>,
     linked: &Linked,
     object: Ref,
     class: u16,
     long: u16,
 ) -> bool
-    requires up { heap.now.down ≡ false }
-    requires class { (facts heap.now.now object).class ≡ class }
-    requires long { length (cells heap.now.now object) ≡ long }
-    ensures { IsTrue result ↔ HoldsValues linked.now heap.now.now object }
+    requires up { memory.now.heap.down ≡ false }
+    requires class { (facts memory.now.heap.now object).class ≡ class }
+    requires long { length (cells memory.now.heap.now object) ≡ long }
+    ensures { IsTrue result ↔ HoldsValues linked.now memory.now.heap.now object }
 {
-    holds_references(heap, linked, object, class, long)
-        && fits_aid(heap, linked, object, class, long)
-        && fits_pin(heap, linked, object, class, long)
+    holds_references(memory, linked, object, class, long)
+        && fits_aid(memory, linked, object, class, long)
+        && fits_pin(memory, linked, object, class, long)
 }

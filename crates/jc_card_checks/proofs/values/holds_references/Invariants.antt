@@ -5,4 +5,4 @@ use Rattle.jc_card_checks.specs.Objects.{is_reference}
 use Rattle.jc_card_checks.proofs.values.holds_references.Given as goal
 
 abbrev pub invariant-loop-i : goal.invariant-loop-i
-invariant-loop-i g l = (j : ℕ) → j < l.i → reference_cell l.linked l.class j ≡ true → is_reference l.heap.now (slice_index (cells l.heap.now l.object) j) ≡ true
+invariant-loop-i g l = (j : ℕ) → j < l.i → reference_cell l.linked l.class j ≡ true → is_reference l.memory.heap.now (slice_index (cells l.memory.heap.now l.object) j) ≡ true
