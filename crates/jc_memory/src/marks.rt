@@ -1,5 +1,5 @@
 //! Marks: addresses at which objects are known to stand, so that a reference is known at once.
-ghost use Rattle.std.specs.Prelude.{◌≡◌, false, true, slice_set, vec_len, IfOk};
+ghost use Rattle.std.specs.Prelude.{◌≡◌, false, true, length, slice_set, vec_len, IfOk};
 ghost use Rattle.jc_memory.specs.Marks.{AreNone, AreObjects, is_marked};
 
 use jc_heap::Heap;
@@ -37,6 +37,16 @@ fn unset(alloc: Global, count: usize) -> Result<Vec<bool>, AllocError>
     Ok(marks)
 }
 
+// Takes all these marks away.
+fn unmark(marks: &mut [bool])
+    ensures len { length marks.new ≡ length marks.old }
+    ensures unset { AreNone marks.new }
+{
+    for place in 0..marks.len() {
+        marks[place] = false;
+    }
+}
+
 impl Marks {
     /// No mark yet.
     pub fn new(alloc: Global) -> Result<Marks, AllocError>
@@ -65,9 +75,7 @@ impl Marks {
     fn clear(&mut self)
         ensures { AreNone self.new }
     {
-        for place in 0..MARK_COUNT {
-            self.marks[place] = false;
-        }
+        unmark(&mut self.marks);
     }
 
     // Marks the objects of a heap, and nothing else.

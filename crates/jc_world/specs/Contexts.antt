@@ -17,6 +17,7 @@ use Rattle.jc_platform.specs.Distinct.{class_word}
 use Rattle.jc_packages.specs.Values.{Packages}
 use Rattle.jc_packages.specs.Classes.{is_shareable}
 use Rattle.jc_firewall.specs.declared.access.Access.{Access}
+use Rattle.jc_firewall.specs.declared.access.Access.TheVariants.{ShareableInterfaceCall, CastToShareableInterface}
 use Rattle.jc_firewall.specs.declared.decide.Decision.{Decision}
 use Rattle.jc_firewall.specs.declared.decide.Decision.TheVariants.{Allow, Switch, Deny}
 use Rattle.jc_firewall.specs.declared.subject.Context.{Context}
@@ -90,6 +91,12 @@ subject_of p m f = record {
   has_shareable_interface = shares p f.kind f.class;
   is_clear_on_deselect = is_for_selection f.event;
 }
+
+-- the rules on an access ask for the object's shareable interfaces
+abbrev pub asks_sharing : Access → Bool
+asks_sharing ShareableInterfaceCall = true
+asks_sharing CastToShareableInterface = true
+asks_sharing a = false
 
 -- an access to an object by the code that runs
 unfoldable pub situation_of : Packages → MemoryState → Facts → Situation

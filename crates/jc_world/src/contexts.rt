@@ -1,6 +1,6 @@
 //! Contexts: to whom objects belong, for whom code runs, and what the firewall answers.
 ghost use Rattle.std.specs.Prelude.{◌≡◌, false};
-ghost use Rattle.jc_world.specs.Contexts.{allowed, context_of, decided, designation_of, installed_package, is_for_selection, package_of_applet, selected_context, shares, subject_of};
+ghost use Rattle.jc_world.specs.Contexts.{allowed, context_of, decided, asks_sharing, designation_of, installed_package, is_for_selection, package_of_applet, selected_context, shares, subject_of};
 
 use jc_firewall::access::Access;
 use jc_firewall::decide::{Decision, decide};
@@ -107,22 +107,47 @@ fn is_for_selection(event: Option<ClearEvent>) -> bool
     }
 }
 
+// Whether the rules on an access ask for the object's shareable interfaces.
+const fn asks_sharing(access: Access) -> bool
+    ensures { result ≡ asks_sharing access }
+{
+    match access {
+        Access::ShareableInterfaceCall => true,
+        Access::CastToShareableInterface => true,
+        _ => false,
+    }
+}
+
+// What the firewall sees of an object with this header, but for its shareable interfaces.
+#[tactic(auto, unfolding(crate::specs::Contexts::subject_of))]
+fn subject_with<S: WordStore>(
+    shared: bool,
+    facts: Facts,
+    memory: &Memory<S>,
+    linked: &Linked,
+) -> Subject
+    requires up { memory.now.heap.down ≡ false }
+    ensures { result ≡ record (subject_of linked.now memory.now facts) { has_shareable_interface = shared } }
+{
+    Subject {
+        owner: context_of(Owner::of(facts.owner), memory),
+        designation: designation_of(facts, linked),
+        has_shareable_interface: shared,
+        is_clear_on_deselect: is_for_selection(facts.event),
+    }
+}
+
 /// What the firewall sees of an object with this header.
 #[tactic(auto, unfolding(crate::specs::Contexts::subject_of))]
 pub fn subject_of<S: WordStore>(facts: Facts, memory: &Memory<S>, linked: &Linked) -> Subject
     requires up { memory.now.heap.down ≡ false }
     ensures { result ≡ subject_of linked.now memory.now facts }
 {
-    Subject {
-        owner: context_of(Owner::of(facts.owner), memory),
-        designation: designation_of(facts, linked),
-        has_shareable_interface: shares(facts, linked),
-        is_clear_on_deselect: is_for_selection(facts.event),
-    }
+    subject_with(shares(facts, linked), facts, memory, linked)
 }
 
 /// What the firewall answers to an access of the code that runs to an object with this header.
-#[tactic(auto, unfolding(crate::specs::Contexts::decided, crate::specs::Contexts::situation_of))]
+#[tactic(auto, using(crate::proofs::Unasked::unasked), unfolding(crate::specs::Contexts::decided, crate::specs::Contexts::situation_of))]
 pub fn decided<S: WordStore>(
     access: Access,
     facts: Facts,
@@ -134,8 +159,15 @@ pub fn decided<S: WordStore>(
 {
     let active = context_of(memory.registers().active, memory);
     let selected = selected_context(memory);
-    let object = subject_of(facts, memory, linked);
-    decide(access, active, selected, object)
+    if !asks_sharing(access) {
+        return decide(
+            access,
+            active,
+            selected,
+            subject_with(false, facts, memory, linked),
+        );
+    }
+    decide(access, active, selected, subject_of(facts, memory, linked))
 }
 
 /// Whether an access is allowed; a refused one throws.
