@@ -1,0 +1,4 @@
+pub mod Refusals
+pub mod WholeSessions
+pub mod SessionRuns
+pub mod Selections

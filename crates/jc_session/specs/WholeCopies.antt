@@ -1,0 +1,37 @@
+-- Sessions without power loss: a card that keeps whole copies of its heap, the present and the durable one.
+use Rattle.std.specs.Prelude.{ℕ, ◌≡◌, ◌<◌, List, [], ◌∷◌}
+use Rattle.jc_memory.specs.Doing.{Did}
+use Rattle.jc_card.specs.Answers.{exchanging}
+use Rattle.jc_card.specs.CardState.{CardState}
+use Rattle.jc_card.specs.Dispatching.{answered}
+use Rattle.jc_session.specs.declared.event.Event.{Event}
+use Rattle.jc_session.specs.declared.event.Event.TheVariants.{Command, Reset}
+use Rattle.jc_session.specs.declared.event.Answer.{Answer}
+use Rattle.jc_session.specs.declared.event.Answer.TheVariants.{Response, Ready, Down}
+use Rattle.jc_session.specs.Power.{Up, StoreState, IsStoreOf, kept_by, kept_in}
+use Rattle.jc_session.specs.Starting.{IsPoweredUp}
+
+-- such a card answers an event so, and is then so: a command by all of what it may do to the copies, a reset by making the
+-- durable copy the present one
+abbrev pub ServesWhole : CardState → Event → Answer → CardState → Type 0
+ServesWhole card (Command bytes) (Response r) next = Did (exchanging bytes.items card) card.memory (answered next r) next.memory
+ServesWhole card Reset Ready next = IsPoweredUp (kept_by card.memory.heap) next
+ServesWhole card (Command bytes) Ready next = ⊥
+ServesWhole card (Command bytes) Down next = ⊥
+ServesWhole card Reset (Response r) next = ⊥
+ServesWhole card Reset Down next = ⊥
+
+-- these events, one after another
+abbrev pub RunsWhole : CardState → List Event → List Answer → CardState → Type 0
+RunsWhole card [] [] last = last ≡ card
+RunsWhole card (event ∷ events) (answer ∷ answers) last = (next : CardState) × ServesWhole card event answer next × RunsWhole next events answers last
+RunsWhole card [] (answer ∷ answers) last = ⊥
+RunsWhole card (event ∷ events) [] last = ⊥
+
+-- no write was refused: the count of refusals, which stays at the last value of a u64, is as it was
+abbrev pub RefusesNone : ℕ → ℕ → Type 0
+RefusesNone before after = (before < 18446744073709551615) × (after ≡ before)
+
+-- a session of such a card over a store, from its power up on: it is answered so, and leaves such a store
+abbrev pub IsWholeSession : StoreState → List Event → List Answer → StoreState → Type 0
+IsWholeSession before events answers after = (first last : CardState) × IsPoweredUp (kept_in before) first × RunsWhole first events answers last × IsStoreOf (Up last) after

@@ -1,0 +1,178 @@
+//! A card that is up, or the store of a card that is down.
+ghost use Rattle.std.specs.Prelude.{◌≡◌, true, false, IfOk, IfErr, MatchResult};
+ghost use Rattle.jc_words.specs.Count.{raised};
+ghost use Rattle.jc_commit.specs.Image.{IsGoodLog};
+ghost use Rattle.jc_memory.specs.Doing.{Did, LeftBy};
+ghost use Rattle.jc_card.specs.Answers.{exchanging};
+ghost use Rattle.jc_card.specs.Dispatching.{answered};
+ghost use Rattle.jc_session.specs.Power.{Off, IsStoreOf, kept_in};
+ghost use Rattle.jc_session.specs.Starting.{FailsToReset, FailsToStart, Starts};
+ghost use Rattle.jc_session.specs.Serving.{AnswersCommand, AnswersReset, Serves};
+ghost use Rattle.jc_session.specs.Held.{power_of, told};
+
+use crate::event::{Answer, Event};
+use jc_card::card::Card;
+use jc_card::power_up::PowerFault;
+use jc_card::response::Response;
+use jc_words::{StoreDown, WordStore};
+use std::alloc::Global;
+use std::marker::Model;
+
+/// A card whose store has refused no write since its power up.
+#[derive(Drop)]
+pub struct UpCard<S: WordStore> {
+    card: Card<S>,
+}
+
+impl<S: WordStore> Model for UpCard<S> {
+    ghost use Rattle.std.specs.Prelude.{◌≡◌, false};
+    ghost use Rattle.jc_card.specs.CardState.{CardState};
+
+    ghost Value = { CardState };
+
+    ghost view = { λ c. c.card };
+
+    ghost invariant = { λ c. c.card.memory.heap.down ≡ false };
+}
+
+impl<S: WordStore> UpCard<S> {
+    // A card whose store is up.
+    fn of_card(card: Card<S>) -> UpCard<S>
+        requires { card.memory.heap.down ≡ false }
+        ensures { result ≡ card }
+    {
+        UpCard { card }
+    }
+
+    // The card and its response to a command, or its store where that refuses a write.
+    fn exchange(self, command: &[u8]) -> Result<(UpCard<S>, Response), Unpowered<S>>
+        ensures { MatchResult result
+            (λ r. Did (exchanging command.now self) self.memory (answered r.0 r.1) r.0.memory)
+            (λ k. LeftBy (exchanging command.now self) self.memory k.durable × (k.down ≡ true) × (k.refused ≡ raised self.memory.heap.refused 1)) }
+    {
+        let UpCard { mut card } = self;
+        match card.exchange(command) {
+            Ok(response) => Ok((UpCard { card }, response)),
+            Err(StoreDown) => Err(Unpowered::of_store(card.into_store())),
+        }
+    }
+}
+
+/// The store of a card that is down. Its journal is good.
+#[derive(Drop)]
+pub struct Unpowered<S: WordStore> {
+    store: S,
+}
+
+impl<S: WordStore> Model for Unpowered<S> {
+    ghost use Rattle.jc_commit.specs.Image.{IsGoodLog};
+    ghost use Rattle.jc_session.specs.Power.{KeptState, kept_in};
+
+    ghost Value = { KeptState };
+
+    ghost view = { λ u. kept_in (record { words = S.words u.store; down = S.down u.store; refused = S.refused u.store }) };
+
+    ghost invariant = { λ u. IsGoodLog (S.words u.store) };
+}
+
+impl<S: WordStore> Unpowered<S> {
+    // What is left of a card in this store.
+    fn of_store(store: S) -> Unpowered<S>
+        requires { IsGoodLog (S.words store) }
+        ensures { result ≡ kept_in (record { words = S.words store; down = S.down store; refused = S.refused store }) }
+    {
+        Unpowered { store }
+    }
+
+    // The store.
+    fn into_store(self) -> S
+        ensures { IsStoreOf (Off self) (record { words = S.words result; down = S.down result; refused = S.refused result }) }
+    {
+        self.store
+    }
+}
+
+/// What a session holds.
+#[derive(Drop)]
+pub enum Held<S: WordStore> {
+    /// A card that is up.
+    Card(UpCard<S>),
+    /// The store of a card that is down.
+    Store(Unpowered<S>),
+}
+
+impl<S: WordStore> Held<S> {
+    /// Brings the power to a store and powers up. A refused write leaves the card down; at any other fault the
+    /// store comes back.
+    pub fn start(alloc: Global, mut store: S) -> Result<Held<S>, (PowerFault, S)>
+        ensures powered { IfOk result (λ held. Starts (record { words = S.words store; down = S.down store; refused = S.refused store }) (power_of held)) }
+        ensures fault { IfErr result (λ e. FailsToStart e.0 (record { words = S.words store; down = S.down store; refused = S.refused store }) (record { words = S.words e.1; down = S.down e.1; refused = S.refused e.1 })) }
+        ensures good { IfErr result (λ e. IsGoodLog (S.words store) → IsGoodLog (S.words e.1)) }
+    {
+        store.power_on();
+        match Card::power_up(alloc, store) {
+            Ok(card) => Ok(Held::Card(UpCard::of_card(card))),
+            Err((PowerFault::StoreDown, store)) => Ok(Held::Store(Unpowered::of_store(store))),
+            Err((fault, store)) => Err((fault, store)),
+        }
+    }
+
+    /// The store.
+    pub fn into_store(self) -> S
+        ensures { IsStoreOf (power_of self) (record { words = S.words result; down = S.down result; refused = S.refused result }) }
+    {
+        match self {
+            Held::Card(up) => up.card.into_store(),
+            Held::Store(kept) => kept.into_store(),
+        }
+    }
+
+    /// Carries a command out, where there is power.
+    pub fn exchange(self, command: &[u8]) -> (Held<S>, Answer)
+        ensures { AnswersCommand (power_of self) command.now result.1 (power_of result.0) }
+    {
+        match self {
+            Held::Card(up) => match up.exchange(command) {
+                Ok((up, response)) => (Held::Card(up), Answer::Response(response)),
+                Err(kept) => (Held::Store(kept), Answer::Down),
+            },
+            Held::Store(kept) => (Held::Store(kept), Answer::Down),
+        }
+    }
+
+    /// Takes the power away, brings it back and powers up. At a fault the store comes back, with its power on.
+    pub fn reset(self, alloc: Global) -> Result<(Held<S>, Answer), (PowerFault, S)>
+        ensures reset { IfOk result (λ r. AnswersReset (power_of self) r.1 (power_of r.0)) }
+        ensures fault { IfErr result (λ e. FailsToReset e.0 (power_of self) (record { words = S.words e.1; down = S.down e.1; refused = S.refused e.1 })) }
+    {
+        let store = self.into_store();
+        let held = Held::start(alloc, store)?;
+        let answer = held.told();
+        Ok((held, answer))
+    }
+
+    // What is answered after a power up.
+    fn told(&self) -> Answer
+        ensures { result ≡ told (power_of self.now) }
+    {
+        match self {
+            Held::Card(_) => Answer::Ready,
+            Held::Store(_) => Answer::Down,
+        }
+    }
+
+    /// Serves an event. At a fault, which comes at a reset, the store comes back.
+    pub(crate) fn serve(
+        self,
+        alloc: Global,
+        event: &Event,
+    ) -> Result<(Held<S>, Answer), (PowerFault, S)>
+        ensures served { IfOk result (λ r. Serves (power_of self) event.now r.1 (power_of r.0)) }
+        ensures fault { IfErr result (λ e. (event.now ≡ Event.Reset) × FailsToReset e.0 (power_of self) (record { words = S.words e.1; down = S.down e.1; refused = S.refused e.1 })) }
+    {
+        match event {
+            Event::Command(bytes) => Ok(self.exchange(bytes)),
+            Event::Reset => self.reset(alloc),
+        }
+    }
+}

@@ -1,0 +1,58 @@
+//! Sessions.
+ghost use Rattle.std.specs.Prelude.{◌≡◌, IfOk};
+ghost use Rattle.jc_session.specs.Sessions.{SessionEnds, answers_of};
+ghost use Rattle.jc_session.specs.WholeCopies.{IsWholeSession, RefusesNone};
+
+use crate::event::{Answer, Event};
+use crate::held::Held;
+use jc_card::power_up::PowerFault;
+use jc_words::WordStore;
+use std::alloc::Global;
+use thiserror::Error;
+
+/// Why a session was not carried out to its end.
+#[derive(Clone, Copy, Debug, PartialEq, Eq, Error, Drop)]
+pub enum SessionFault {
+    /// There is no memory for the answers. Nothing was done.
+    #[error("there is no memory for the answers")]
+    NoMemory,
+    /// The card does not power up, at the beginning or at a reset, and not because the store refused a write.
+    #[error("the card does not power up")]
+    PowerFault(PowerFault),
+}
+
+/// Powers a card up over a store, serves these events, and gives the store back, with an answer to each event.
+/// Where the store refuses a write, the card is down until a reset.
+pub fn session<S: WordStore>(
+    alloc: Global,
+    store: S,
+    events: &[Event],
+) -> (S, Result<Vec<Answer>, SessionFault>)
+    ensures session { SessionEnds (answers_of result.1) (record { words = S.words store; down = S.down store; refused = S.refused store }) events.now
+        (record { words = S.words result.0; down = S.down result.0; refused = S.refused result.0 }) }
+    // While the store refuses no write, the answers and the heap are those of a card that keeps whole copies of its heap.
+    ensures whole { RefusesNone (S.refused store) (S.refused result.0) → IfOk (answers_of result.1) (λ answers.
+        IsWholeSession (record { words = S.words store; down = S.down store; refused = S.refused store }) events.now answers
+        (record { words = S.words result.0; down = S.down result.0; refused = S.refused result.0 })) }
+{
+    let Ok(room) = Vec::with_capacity(alloc, events.len()) else {
+        return (store, Err(SessionFault::NoMemory));
+    };
+    let mut answers = room;
+    let mut held = match Held::start(alloc, store) {
+        Ok(held) => held,
+        Err((fault, store)) => return (store, Err(SessionFault::PowerFault(fault))),
+    };
+    for event in events {
+        match held.serve(alloc, event) {
+            Ok((next, answer)) => {
+                held = next;
+                let Ok(()) = answers.push(answer) else {
+                    return (held.into_store(), Err(SessionFault::NoMemory));
+                };
+            }
+            Err((fault, store)) => return (store, Err(SessionFault::PowerFault(fault))),
+        }
+    }
+    (held.into_store(), Ok(answers))
+}
