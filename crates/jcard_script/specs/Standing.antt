@@ -13,6 +13,7 @@ use Rattle.jc_card.specs.CardState.{CardState}
 use Rattle.jc_card.specs.Loads.{Answered}
 use Rattle.jc_card.specs.Made.{IsMade}
 use Rattle.jc_card.specs.PowerUp.{Refuses, Stands}
+use Rattle.jc_card.specs.Reset.{IsAtReset}
 use Rattle.jc_card.specs.declared.power_up.PowerFault.{PowerFault as Fault}
 use Rattle.jc_card.specs.declared.power_up.PowerFault.TheVariants.{StoreDown}
 
@@ -41,9 +42,10 @@ Holds (Up card) store = IsStoreOf card.memory.heap store
 Holds (Down held) store = store ≡ held
 
 -- a power up over a store that was so ends so: the card is up, with the heap of the recovered words, blank memory and no open
--- load, and no write was refused; or one was, and a recovery leaves what it would have left
+-- load, as after a reset, and no write was refused; or one was, and a recovery leaves what it would have left
 abbrev pub PowersUp : Fused → Standing → Type 0
 PowersUp before (Up card) = IsMade before.words × (card.memory.heap ≡ heap_view (opened before.words before.passed before.refused) (length before.words)) × IsBlank card.memory.ram × (card.load ≡ None)
+    × IsAtReset (heap_of (recovered_of before.words)) card
 PowersUp before (Down after) = Refuses StoreDown before.words × StillRecovers before.words after.words × (after.down ≡ true) × (after.refused ≡ raised before.refused 1)
 
 -- a power up over a store that was so finds this fault, which these words have and which is not that a write was refused, and
