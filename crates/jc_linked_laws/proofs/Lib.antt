@@ -1,0 +1,9 @@
+pub mod Lists
+pub mod Alike
+pub mod Entries
+pub mod Numbers
+pub mod Closed
+pub mod Linking
+pub mod Laws
+pub mod Entered
+pub mod Fields

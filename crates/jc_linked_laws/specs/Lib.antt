@@ -1,0 +1,4 @@
+pub mod Linked
+pub mod Staying
+pub mod Resolving
+pub mod Fields
