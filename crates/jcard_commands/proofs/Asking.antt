@@ -1,5 +1,5 @@
 -- The files that the program asks for, added up.
-use Rattle.std.proofs.Common.{◌≡◌, ℕ, arith}
+use Rattle.std.proofs.Common.{◌≡◌, arith}
 use Rattle.jc_words.specs.Count.{raised}
 use Rattle.jcard_commands.specs.Asked.{Asked, asked, more}
 

@@ -3,6 +3,7 @@ pub mod CommandLine
 pub mod Dumps
 pub mod Ends
 pub mod FlagWords
+pub mod Listings
 pub mod News
 pub mod RunLines
 pub mod Runs

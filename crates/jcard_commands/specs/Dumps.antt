@@ -1,5 +1,5 @@
 -- What is told of an image.
-use Rattle.std.specs.Prelude.{ℕ, ◌≡◌, ◌⊎◌, ◌*◌, List, [], ◌++◌, codes, decimal, length, Result, Ok, Err}
+use Rattle.std.specs.Prelude.{ℕ, ◌≡◌, ◌⊎◌, ◌*◌, true, false, List, [], ◌++◌, codes, length, Result, Ok, Err}
 use Rattle.jc_words.specs.Files.{IsImageSize}
 use Rattle.jc_words.specs.declared.image.ImageFault.{ImageFault}
 use Rattle.jc_card.specs.Inventory.{inventory_of}
@@ -8,23 +8,31 @@ use Rattle.jc_card.specs.declared.inventory.Inventory.{Inventory}
 use Rattle.jcard_script.specs.Texts.{IsCutOf}
 use Rattle.jcard_commands.specs.Asked.{Asked, asked}
 use Rattle.jcard_commands.specs.Images.{IsNotOpened, damage_of}
+use Rattle.jcard_commands.specs.Listings.{Lines, count_line, line, listing_of, then_lines}
+use Rattle.jcard_commands.specs.declared.fault.Damage.{Damage}
+use Rattle.jcard_commands.specs.declared.fault.Damage.TheVariants.{Package}
 use Rattle.jcard_commands.specs.declared.fault.Fault.{Fault}
 use Rattle.jcard_commands.specs.declared.fault.Fault.TheVariants.{BadImage, WriteFailed}
-
--- the line of a count: its name and the count in decimal digits
-abbrev pub count_line : List ℕ → ℕ → List ℕ
-count_line name n = name ++ decimal n ++ codes "\n"
 
 -- the four lines of an inventory
 abbrev pub lines_of : Inventory → List ℕ
 lines_of found = (count_line (codes "words ") found.words ++ count_line (codes "journal ") found.journal)
     ++ (count_line (codes "packages ") found.packages ++ count_line (codes "applets ") found.applets)
 
--- of these words their inventory was told, or the beginning of it where a write failed; or they are no image's, and nothing was
+-- what is told of an image: its inventory, then its packages and its applets
+abbrev pub told_of : List ℕ → Lines
+told_of w = then_lines (line (lines_of (inventory_of w))) (listing_of w)
+
+-- the words are no image's, and nothing was told; or all was told up to a line that cannot be read
+abbrev pub IsDamaged : List ℕ → Damage → List ℕ → Type 0
+IsDamaged w damage text = ((text ≡ []) × ((fault : ImageFault) × Refuses (fault_of fault) w × (damage ≡ damage_of fault)))
+    ⊎ (HasHead w × (damage ≡ Package) × ((told_of w).readable ≡ false) × (text ≡ (told_of w).text))
+
+-- of these words all was told, or the beginning of it where a write failed; or they are damaged
 abbrev pub IsTold : List ℕ → Result Unit Fault → List ℕ → Type 0
-IsTold w (Ok done) text = HasHead w × (text ≡ lines_of (inventory_of w))
-IsTold w (Err WriteFailed) text = HasHead w × IsCutOf (lines_of (inventory_of w)) text
-IsTold w (Err (BadImage damage)) text = (text ≡ []) × ((fault : ImageFault) × Refuses (fault_of fault) w × (damage ≡ damage_of fault))
+IsTold w (Ok done) text = HasHead w × ((told_of w).readable ≡ true) × (text ≡ (told_of w).text)
+IsTold w (Err WriteFailed) text = HasHead w × IsCutOf (told_of w).text text
+IsTold w (Err (BadImage damage)) text = IsDamaged w damage text
 IsTold w (Err other) text = ⊥
 
 -- the image of this name was asked for alone; it could not be opened, and nothing was written, or its words were told

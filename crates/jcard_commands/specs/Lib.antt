@@ -3,4 +3,5 @@ pub mod CommandLine
 pub mod Dumps
 pub mod Faults
 pub mod Images
+pub mod Listings
 pub mod NewImages

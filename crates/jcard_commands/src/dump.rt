@@ -1,26 +1,29 @@
 //! Telling what an image holds.
-ghost use Rattle.std.specs.Prelude.{◌≡◌, ◌++◌, ℕ, List, is_err, MatchResult};
+ghost use Rattle.std.specs.Prelude.{◌≡◌, ◌≤◌, ◌++◌, ℕ, List, is_err, length, MatchResult};
+ghost use Rattle.jc_words.specs.Layout.{text_start};
 ghost use Rattle.std.specs.Io.KnownBytes.{Appends};
 ghost use Rattle.jcard_script.specs.Texts.{AppendsCut};
 ghost use Rattle.jcard_script.specs.Failures.{failures_after};
 ghost use Rattle.jcard_commands.specs.Asked.{Asked, more};
 ghost use Rattle.jcard_commands.specs.Faults.{is_unwritten};
-ghost use Rattle.jcard_commands.specs.Dumps.{IsDump, IsTold, count_line, lines_of};
+ghost use Rattle.jcard_commands.specs.Dumps.{IsDump, IsTold, lines_of};
+ghost use Rattle.jcard_commands.specs.Listings.{Tells, applet_text, count_line, line, numbered, package_text, then_lines};
+ghost use Rattle.jcard_commands.specs.Listings.{is_unwritten as is_not_written};
 ghost use Rattle.jcard_commands.specs.Images.{damage_of};
 
 use crate::disk::Disk;
 use crate::fault::{Damage, Fault};
-use itoa::Buffer;
+use crate::listing::{Stop, write_applets, write_count, write_packages};
 use jc_card::inventory::Inventory;
 use jc_words::{ImageFault, WordStore};
-use jcard_script::streams::{TextOut, WriteFailed, write_parts};
+use jcard_script::streams::{TextOut, WriteFailed};
 use std::rt::Files;
 
 /// A count and what stands before it in its line.
 type Count<'a> = (&'a [u8], u16);
 
-/// Writes what the image of this name holds: its words, the entries of its journal, its packages
-/// and its applets, a line each. Nothing is recovered.
+/// Writes what the image of this name holds: how many words, entries of its journal, packages and
+/// applets, a line each, and then a line of each package and of each applet. Nothing is recovered.
 pub fn dump_image<'n, R: Files + AllocGlobal, W: TextOut>(
     disk: &mut Disk<R>,
     image: &'n str,
@@ -42,12 +45,29 @@ fn dump_store<'a, S: WordStore, W: TextOut>(store: &S, out: &mut W) -> Result<()
     ensures writes { W.failures out.new ≡ failures_after (W.failures out.old) (is_unwritten result) }
 {
     match Inventory::of(store) {
-        Ok(found) => match write_inventory(found, out) {
+        Ok(found) => match write_all_lines(store, found, out) {
             Ok(()) => Ok(()),
-            Err(WriteFailed) => Err(Fault::WriteFailed),
+            Err(Stop::NotWritten) => Err(Fault::WriteFailed),
+            Err(Stop::Unreadable) => Err(Fault::BadImage(Damage::Package)),
         },
         Err(fault) => Err(Fault::BadImage(damage_by(fault))),
     }
+}
+
+// Writes the lines of an inventory, then those of its packages and of its applets.
+fn write_all_lines<S: WordStore, W: TextOut>(
+    store: &S,
+    found: Inventory,
+    out: &mut W,
+) -> Result<(), Stop>
+    requires { text_start ≤ length (S.words store.now) }
+    ensures text { Tells (W.contents out.old) (W.contents out.new)
+        (then_lines (line (lines_of found)) (then_lines (numbered (package_text (S.words store.now)) found.packages) (numbered (applet_text (S.words store.now)) found.applets))) result }
+    ensures writes { W.failures out.new ≡ failures_after (W.failures out.old) (is_not_written result) }
+{
+    write_inventory(found, out)?;
+    write_packages(store, found.packages, out)?;
+    write_applets(store, found.applets, out)
 }
 
 // The damage that a fault of the first words is.
@@ -84,14 +104,4 @@ fn write_counts<W: TextOut>(out: &mut W, first: Count, second: Count) -> Result<
 {
     write_count(out, first.0, first.1)?;
     write_count(out, second.0, second.1)
-}
-
-fn write_count<W: TextOut>(out: &mut W, name: &[u8], count: u16) -> Result<(), WriteFailed>
-    ensures text { MatchResult result
-        (λ _. Appends (W.contents out.old) (W.contents out.new) (count_line name.now count))
-        (λ _. AppendsCut (W.contents out.old) (W.contents out.new) (count_line name.now count)) }
-    ensures count { W.failures out.new ≡ failures_after (W.failures out.old) (is_err result) }
-{
-    let mut digits = Buffer::new();
-    write_parts(out, name, digits.format(count).as_bytes(), b"\n")
 }

@@ -5,6 +5,7 @@ pub mod arguments;
 pub mod disk;
 pub mod dump;
 pub mod fault;
+mod listing;
 pub mod new_image;
 pub mod program;
 pub mod run;

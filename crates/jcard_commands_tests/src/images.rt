@@ -197,7 +197,7 @@ fn a_damaged_image_is_refused_by_its_number(rt: HostRuntime) -> Result<(), Fail>
 }
 
 #[test]
-fn a_dump_asks_for_the_first_words_alone(rt: HostRuntime) -> Result<(), Fail> {
+fn a_dump_tells_what_it_can_read(rt: HostRuntime) -> Result<(), Fail> {
     let image = "tests_dump.image";
     let mut bytes = Vec::new(rt.alloc());
     for i in 0..8192u16 {
@@ -215,10 +215,10 @@ fn a_dump_asks_for_the_first_words_alone(rt: HostRuntime) -> Result<(), Fail> {
     }
     fs::write(&rt, image, &bytes)?;
     let (status, out) = answer(&rt, &["jcard", "dump", image], 200)?;
-    assert_eq!(rt; status, 0);
+    assert_eq!(rt; status, 1);
     assert_eq!(rt;
         out.written(),
-        b"words 4096\njournal 300\npackages 65535\napplets 2\n".as_slice()
+        b"words 4096\njournal 300\npackages 65535\napplets 2\njcard: bad image 6\n".as_slice()
     );
     for (place, text) in [
         (1, b"jcard: bad image 1\n".as_slice()),
@@ -275,5 +275,78 @@ fn an_image_is_recovered_after_its_script_is_opened(rt: HostRuntime) -> Result<(
     for name in [image, table, script] {
         fs::remove_file(&rt, name)?;
     }
+    Ok(())
+}
+
+// The first words of an image with a package and an applet, each at its address: the record of the package begins with a
+// whole Header component, and the AID object has the length of its AID in its first cell.
+const LISTED: [(u16, u16); 27] = [
+    (0, 0x4A43),
+    (1, 1),
+    (2, 4096),
+    (6, 1),
+    (7, 1),
+    (528, 1000),
+    (560, 1100),
+    (561, 1),
+    (1001, 1),
+    (1002, 15),
+    (1003, 0xDECA),
+    (1004, 0xFFED),
+    (1005, 0x0102),
+    (1006, 0x0400),
+    (1007, 0x0105),
+    (1008, 0xF000),
+    (1009, 0),
+    (1010, 0x0100),
+    (1100, 1),
+    (1101, 0x4104),
+    (1103, 9),
+    (1104, 6),
+    (1105, 0xF000),
+    (1106, 0),
+    (1107, 0x0101),
+    (1108, 0),
+    (1109, 0),
+];
+
+#[test]
+fn a_dump_names_packages_and_applets(rt: HostRuntime) -> Result<(), Fail> {
+    let image = "tests_listed.image";
+    let counts = b"words 4096\njournal 0\npackages 1\napplets 1\n".as_slice();
+    let package = b"package 1 F000000001 1.0\n".as_slice();
+    let applet = b"applet 1 F00000000101 package 1\n".as_slice();
+    let bad = b"jcard: bad image 6\n".as_slice();
+    // A word that is changed, the exit status, and what is told.
+    let rows: [((u16, u16), u8, [&[u8]; 4]); 7] = [
+        ((1102, 0), 0, [counts, package, applet, b""]),
+        ((1104, 4), 1, [counts, package, bad, b""]),
+        ((1104, 17), 1, [counts, package, bad, b""]),
+        ((1100, 0x0101), 1, [counts, package, bad, b""]),
+        ((1001, 2), 1, [counts, bad, b"", b""]),
+        ((1002, 14), 1, [counts, bad, b"", b""]),
+        ((528, 4095), 1, [counts, bad, b"", b""]),
+    ];
+    for (i, (change, status, texts)) in rows.iter().enumerate() {
+        let mut bytes = Vec::new(rt.alloc());
+        for _ in 0..8192u16 {
+            bytes.push(0)?;
+        }
+        for (word, value) in LISTED.iter().chain([*change].iter()) {
+            let [high, low] = value.to_be_bytes();
+            let place = 2 * usize::from(*word);
+            put(&mut bytes, place, high);
+            put(&mut bytes, place + 1, low);
+        }
+        let mut expected = Vec::new(rt.alloc());
+        for text in texts {
+            expected.extend_from_slice(text)?;
+        }
+        fs::write(&rt, image, &bytes)?;
+        let (ended, out) = answer(&rt, &["jcard", "dump", image], 200)?;
+        assert_eq!(rt; ended, *status, "row {i}");
+        assert_eq!(rt; out.written(), expected.as_slice(), "row {i}");
+    }
+    fs::remove_file(&rt, image)?;
     Ok(())
 }

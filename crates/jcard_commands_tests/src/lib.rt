@@ -4,4 +4,6 @@
 #[cfg(test)]
 mod images;
 #[cfg(test)]
+mod loaded;
+#[cfg(test)]
 mod words;

@@ -1,6 +1,6 @@
 use Rattle.std.proofs.lemmas.Result.{err_from_is_err_and}
 use Rattle.jcard_script.proofs.Known.{cut_first, both_written}
-use Rattle.jcard_commands.specs.Dumps.{count_line}
+use Rattle.jcard_commands.specs.Listings.{count_line}
 use Rattle.jcard_commands.proofs.dump.write_counts.Goals as goal
 
 pub returns-in_err-write_count-clause-text : goal.returns-in_err-write_count-clause-text

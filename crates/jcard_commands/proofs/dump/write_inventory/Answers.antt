@@ -1,7 +1,7 @@
 use Rattle.std.proofs.Common.{◌++◌, codes}
 use Rattle.std.proofs.lemmas.Result.{err_from_is_err_and}
 use Rattle.jcard_script.proofs.Known.{cut_first, both_written}
-use Rattle.jcard_commands.specs.Dumps.{count_line}
+use Rattle.jcard_commands.specs.Listings.{count_line}
 use Rattle.jcard_commands.proofs.dump.write_inventory.Goals as goal
 
 pub returns-in_err-write_counts-clause-text : goal.returns-in_err-write_counts-clause-text
