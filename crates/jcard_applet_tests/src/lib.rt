@@ -1,11 +1,7 @@
-//! Tests of whole cards by scripts. It has no code of its own.
+//! Tests of damaged images of whole cards. It has no code of its own.
 #![tactic(auto)]
 
 #[cfg(test)]
-mod life;
-#[cfg(test)]
-mod packages;
+mod counter;
 #[cfg(test)]
 mod registry;
-#[cfg(test)]
-mod scripts;

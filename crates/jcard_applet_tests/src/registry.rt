@@ -1,6 +1,5 @@
 //! Entries of the registry that are damaged.
-use crate::packages::COUNTER;
-use crate::scripts::{new_card, run};
+use crate::counter::counter_card;
 use jc_card::card::Card;
 use jc_card::power_up::PowerFault;
 use jc_words::{FuseStore, MemStore, WordStore};
@@ -31,15 +30,7 @@ fn put(card: &mut FuseStore<MemStore>, changes: &[(u16, u16)]) -> Result<(), Fai
 
 #[test]
 fn damaged_entries_do_not_power_up(rt: HostRuntime) -> Result<(), Fail> {
-    let card = new_card(&rt, 8192)?;
-    let loaded = run(&rt, card, &COUNTER)?;
-    let installed = run(
-        &rt,
-        loaded.card,
-        &[("80B800001006F0000000010106F000000001010000", "9000")],
-    )?;
-    assert_eq!(rt; installed.printed.as_slice(), installed.expected.as_slice());
-    let mut card = installed.card;
+    let mut card = counter_card(&rt)?;
     let aid = word(&card, FIRST);
     let instance = word(&card, FIRST + 2);
     assert_eq!(rt; word(&card, APPLETS), 1);
