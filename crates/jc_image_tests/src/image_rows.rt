@@ -13,7 +13,7 @@ use jc_words::{FuseStore, ImageFault, MemStore, WordStore, check_image};
 use std::alloc::Global;
 use std::test::Fail;
 
-type Store = FuseStore<MemStore>;
+pub(crate) type Store = FuseStore<MemStore>;
 
 // 752 words stand before the table text, which has two bytes in a word. Each of the 17 objects takes five
 // words above the top and a change of two words by a transaction of its own, 3 * 2 + 2 writes. The magic
@@ -26,14 +26,14 @@ fn zeros(alloc: Global, n: u16) -> Result<Store, Fail> {
 }
 
 // A formatted image of n words.
-fn formatted(alloc: Global, n: u16) -> Result<Store, Fail> {
+pub(crate) fn formatted(alloc: Global, n: u16) -> Result<Store, Fail> {
     let (store, result) = format(zeros(alloc, n)?, EXAMPLE.as_bytes());
     result?;
     Ok(store)
 }
 
 // A store's words.
-fn words_of(alloc: Global, store: &Store) -> Result<Vec<u16>, Fail> {
+pub(crate) fn words_of(alloc: Global, store: &Store) -> Result<Vec<u16>, Fail> {
     let mut words = Vec::new(alloc);
     for i in 0..store.size() {
         words.push(store.read(i))?;
@@ -42,7 +42,7 @@ fn words_of(alloc: Global, store: &Store) -> Result<Vec<u16>, Fail> {
 }
 
 // A store of these words.
-fn store_of(alloc: Global, words: &[u16]) -> Result<Store, Fail> {
+pub(crate) fn store_of(alloc: Global, words: &[u16]) -> Result<Store, Fail> {
     let mut copy = Vec::new(alloc);
     copy.extend_from_slice(words)?;
     if copy.len() > 65535 {
@@ -296,7 +296,7 @@ const DAMAGES: [([(u16, u16); 2], PowerFault); 10] = [
     ([(1970, 0x0109), (1970, 0x0109)], PowerFault::BadPackage),
 ];
 
-fn put(words: &mut [u16], changes: &[(u16, u16)]) {
+pub(crate) fn put(words: &mut [u16], changes: &[(u16, u16)]) {
     for &(at, word) in changes {
         if usize::from(at) < words.len() {
             words[usize::from(at)] = word;

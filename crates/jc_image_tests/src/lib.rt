@@ -2,4 +2,6 @@
 #![tactic(auto)]
 
 #[cfg(test)]
+mod fitting_rows;
+#[cfg(test)]
 mod image_rows;
