@@ -3,7 +3,8 @@ ghost use Rattle.std.specs.Prelude.{◌≡◌, ◌<◌, ◌^◌, false, length};
 ghost use Rattle.jc_memory.specs.Doing.{Makes, after_step};
 ghost use Rattle.jc_interp.specs.Running.{running, running_in, running_lent};
 
-use crate::step::step;
+use crate::step::{code_of, finish};
+use crate::turns::advance;
 use jc_frames::{Frames, Origin, Outcome};
 use jc_linker::linked::Linked;
 use jc_memory::Memory;
@@ -24,12 +25,20 @@ pub fn run_lent<S: WordStore>(
     requires short { length lent.now < 2 ^ 16 }
     ensures { Makes (running_in budget lent.now linked.now frames.old memory.old) memory.old (after_step result memory.new) }
 {
-    for turn in 0..budget {
-        match step(lent, frames, memory, linked) {
+    let mut left = budget;
+    let mut number = frames.origin().package_number;
+    let mut code = code_of(lent, number, linked);
+    while let Some((rest, pause)) = advance(code, left, frames) {
+        left = rest;
+        match finish(pause, frames, memory, linked) {
             Ok(()) => {}
-            Err(Break::End(outcome)) => return Ok((budget - (turn + 1), outcome)),
-            Err(Break::Throw(_)) => return Ok((budget - (turn + 1), Outcome::Fault)),
+            Err(Break::End(outcome)) => return Ok((left, outcome)),
+            Err(Break::Throw(_)) => return Ok((left, Outcome::Fault)),
             Err(Break::Down) => return Err(StoreDown),
+        }
+        if frames.origin().package_number != number {
+            number = frames.origin().package_number;
+            code = code_of(lent, number, linked);
         }
     }
     Ok((0, Outcome::Fault))
