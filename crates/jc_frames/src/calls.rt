@@ -14,6 +14,7 @@ impl Frames {
     /// its first locals. A code fault where they are not there, where it would be the 33rd frame, or
     /// where the callers' locals and stacks and the new frame's locals and whole stack are more than
     /// 512 cells.
+    #[inline(always)]
     pub fn enter(&mut self, entry: Entry) -> Result<(), CodeFault>
         ensures { unless_fault result self.new ≡ entered entry self.old }
     {
@@ -53,6 +54,7 @@ impl Frames {
 
     /// Ends the frame that runs: its caller's goes on. `None`, and nothing changes, where nothing
     /// called it.
+    #[inline(always)]
     pub fn leave(&mut self) -> Option<Resume>
         ensures caller { left_to self.old.callers ≡ option_map (λ resume. (resume, self.new)) result }
         ensures same { IsNone result → self.new ≡ self.old }
@@ -72,6 +74,7 @@ impl Frames {
 
     /// Puts what a called method hands over on the stack of its caller, which goes on. A code fault
     /// where there is no room, or where the runtime environment awaits a reference and gets none.
+    #[inline(always)]
     pub fn receive(&mut self, call: CallKind, value: Option<Cell>) -> Result<(), CodeFault>
         ensures { unless_fault result self.new ≡ in_frame self.old (received call value self.old.current) }
     {

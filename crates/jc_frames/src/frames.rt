@@ -95,7 +95,7 @@ impl Frames {
     }
 
     /// The method that runs.
-    #[inline]
+    #[inline(always)]
     pub fn origin(&self) -> Origin
         ensures { result ≡ self.now.current.origin }
     {
@@ -114,6 +114,7 @@ fn push_all(cells: &mut ArrayVec<Cell, MOST_CELLS>, more: &[Cell])
 }
 
 // Puts cells that are short 0 behind the others.
+#[inline(always)]
 pub(crate) fn push_zeros(cells: &mut ArrayVec<Cell, MOST_CELLS>, count: u8)
     requires { length cells.old.items + count ≤ 512 }
     ensures { cells.new.items ≡ cells.old.items ++ replicate count (Short (pos 0)) }

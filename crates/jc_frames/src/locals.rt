@@ -11,7 +11,7 @@ use jc_transient::Ref;
 
 impl Frames {
     /// The local with this number, if there is one.
-    #[inline]
+    #[inline(always)]
     pub fn local(&self, number: u8) -> Option<Cell>
         ensures { result ≡ slice_get self.now.current.locals number }
     {
@@ -24,7 +24,7 @@ impl Frames {
     }
 
     /// The short in the local with this number.
-    #[inline]
+    #[inline(always)]
     pub fn local_short(&self, number: u8) -> Result<i16, CodeFault>
         ensures { found result ≡ option_and_then as_short (slice_get self.now.current.locals number) }
     {
@@ -35,7 +35,7 @@ impl Frames {
     }
 
     /// The reference in the local with this number.
-    #[inline]
+    #[inline(always)]
     pub fn local_reference(&self, number: u8) -> Result<Ref, CodeFault>
         ensures { found result ≡ option_and_then as_reference (slice_get self.now.current.locals number) }
     {
@@ -46,7 +46,7 @@ impl Frames {
     }
 
     /// The return address in the local with this number.
-    #[inline]
+    #[inline(always)]
     pub fn local_address(&self, number: u8) -> Result<u16, CodeFault>
         ensures { found result ≡ option_and_then as_address (slice_get self.now.current.locals number) }
     {
@@ -57,7 +57,7 @@ impl Frames {
     }
 
     /// Writes the local with this number, if there is one.
-    #[inline]
+    #[inline(always)]
     pub fn store(&mut self, number: u8, cell: Cell) -> Result<(), CodeFault>
         ensures { unless_fault result self.new ≡ in_frame self.old (stored number cell self.old.current) }
     {

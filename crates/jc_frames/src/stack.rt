@@ -13,7 +13,7 @@ use jc_transient::Ref;
 
 impl Frames {
     /// Takes the top cell.
-    #[inline]
+    #[inline(always)]
     pub fn pop(&mut self) -> Result<Cell, CodeFault>
         ensures others { self.new ≡ with_stack self.old self.new.current.stack }
         ensures taken { cell_on self.old.current.stack ≡ taken result self.new.current.stack }
@@ -26,7 +26,7 @@ impl Frames {
     }
 
     /// Takes a short from the top.
-    #[inline]
+    #[inline(always)]
     pub fn pop_short(&mut self) -> Result<i16, CodeFault>
         ensures others { self.new ≡ with_stack self.old self.new.current.stack }
         ensures taken { short_on self.old.current.stack ≡ taken result self.new.current.stack }
@@ -39,7 +39,7 @@ impl Frames {
     }
 
     /// Takes a reference from the top.
-    #[inline]
+    #[inline(always)]
     pub fn pop_reference(&mut self) -> Result<Ref, CodeFault>
         ensures others { self.new ≡ with_stack self.old self.new.current.stack }
         ensures taken { reference_on self.old.current.stack ≡ taken result self.new.current.stack }
@@ -52,7 +52,7 @@ impl Frames {
     }
 
     /// Takes a reference or a return address from the top.
-    #[inline]
+    #[inline(always)]
     pub fn pop_storable(&mut self) -> Result<Cell, CodeFault>
         ensures others { self.new ≡ with_stack self.old self.new.current.stack }
         ensures taken { storable_on self.old.current.stack ≡ taken result self.new.current.stack }
@@ -65,7 +65,7 @@ impl Frames {
     }
 
     /// Takes two shorts from the top, and gives the lower one first.
-    #[inline]
+    #[inline(always)]
     pub fn pop_two_shorts(&mut self) -> Result<(i16, i16), CodeFault>
         ensures others { self.new ≡ with_stack self.old self.new.current.stack }
         ensures taken { two_shorts_on self.old.current.stack ≡ taken_two result self.new.current.stack }
@@ -85,7 +85,7 @@ impl Frames {
     }
 
     /// The cell with so many cells above it, if there is one.
-    #[inline]
+    #[inline(always)]
     pub fn peek(&self, depth: u8) -> Option<Cell>
         ensures { result ≡ slice_get self.now.current.stack depth }
     {
@@ -121,7 +121,7 @@ impl Frames {
     }
 
     /// Whether there is room for one more cell.
-    #[inline]
+    #[inline(always)]
     pub fn has_room(&self) -> bool
         ensures { result ≡ has_room self.now.current }
     {
@@ -129,7 +129,7 @@ impl Frames {
     }
 
     /// Puts a cell on top of a stack with room.
-    #[inline]
+    #[inline(always)]
     pub fn push(&mut self, top: Cell)
         requires { length self.old.current.stack < self.old.current.limit }
         ensures { self.new ≡ with_stack self.old (top ∷ self.old.current.stack) }
@@ -138,7 +138,7 @@ impl Frames {
     }
 
     /// Puts a cell on top, if there is room.
-    #[inline]
+    #[inline(always)]
     pub fn try_push(&mut self, cell: Cell) -> Result<(), CodeFault>
         ensures { unless_fault result self.new ≡ in_frame self.old (pushed cell self.old.current) }
     {
