@@ -146,6 +146,7 @@ whole-sealed h w = record {
   few_packages = w.few_packages;
   few_applets = w.few_applets;
   met = w.met;
+  records = w.records;
   distinct = w.distinct;
   references = w.references;
   areas = λ event. filled-sealed h event (w.areas event);

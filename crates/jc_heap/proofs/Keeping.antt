@@ -11,8 +11,10 @@ use Rattle.jc_heap.specs.declared.object.Kind.TheVariants.{ReferenceArray}
 use Rattle.jc_heap.specs.Table.{at_or, put}
 use Rattle.jc_heap.specs.Object.{Object, Item, AnObject, APackage, facts_of, cells_of, is_object, with_cell, bare, new_transient, event_number}
 use Rattle.jc_heap.specs.Heap.{HeapState, item_at, names, cells, facts, area_end, with_area_end, set_cell, set_cells, add_object, add_transient, LacksCells}
-use Rattle.jc_heap.specs.Whole.{lies_in, cells_in, FitsAt, IsFilled, IsReference, HoldsReferences, AreMet, AreDistinct, IsWhole}
+use Rattle.jc_heap.specs.Components.{words_of, record_of}
+use Rattle.jc_heap.specs.Whole.{lies_in, cells_in, FitsAt, IsFilled, IsReference, HoldsReferences, AreMet, AreRecords, AreDistinct, IsWhole}
 use Rattle.jc_heap.proofs.Laws.{item_at-add_object, item_at-add_other, names-add_other, names-set_cell, item_at-set_cell, cells-with_cell, set_cell-absent, facts-set_cell, length-cells-set_cell, cells-set_other, bare-set_cell}
+use Rattle.jc_heap.proofs.RecordWords.{same_words}
 use Rattle.jc_heap.proofs.AreaRuns.{Run, filled_of, run_of}
 use Rattle.jc_heap.proofs.Laws.{object_named}
 
@@ -21,14 +23,15 @@ pub record IsReferring (h : HeapState) : Type 0 where
   pub few_packages : h.counts.0 ≤ most_packages
   pub few_applets : h.counts.1 ≤ most_applets
   pub met : AreMet h h.packages
+  pub records : AreRecords h h.packages
   pub distinct : AreDistinct h.packages
   pub references : (r : ℕ) → HoldsReferences h (item_at h r)
 
 referring_of : (h : HeapState) → IsWhole h → IsReferring h
-referring_of h w = record { few_packages = w.few_packages; few_applets = w.few_applets; met = w.met; distinct = w.distinct; references = w.references }
+referring_of h w = record { few_packages = w.few_packages; few_applets = w.few_applets; met = w.met; records = w.records; distinct = w.distinct; references = w.references }
 
 whole_of : (h : HeapState) → IsReferring h → ((event : ClearEvent) → IsFilled h event) → IsWhole h
-whole_of h w areas = record { few_packages = w.few_packages; few_applets = w.few_applets; met = w.met; distinct = w.distinct; references = w.references; areas = areas }
+whole_of h w areas = record { few_packages = w.few_packages; few_applets = w.few_applets; met = w.met; records = w.records; distinct = w.distinct; references = w.references; areas = areas }
 
 -- a heap in which nothing stands
 no_references : (h : HeapState) → h.items ≡ [] → (r : ℕ) → HoldsReferences h (item_at h r)
@@ -46,6 +49,7 @@ empty_whole h e counts packages ends =
       few_packages = omega (arith, ap (λ p. p.0) counts);
       few_applets = omega (arith, ap (λ p. p.1) counts);
       met = λ k lt. absurd (omega arith);
+      records = λ k lt. absurd (omega arith);
       distinct = λ j k jk lt same. omega arith;
       references = no_references h e;
       areas = empty_filled h e ends;
@@ -76,12 +80,18 @@ module _ (h : HeapState) (o : Object) (n : ℕ) (free : names h h.top ≡ false)
   met-add : AreMet h h.packages → AreMet (add_object h o n) h.packages
   met-add met k lt = names-add_other h o n (get_or h.packages k 0) (other_name (get_or h.packages k 0) (met k lt)) ∙ met k lt
 
+  records-add : AreMet h h.packages → AreRecords h h.packages → AreRecords (add_object h o n) h.packages
+  records-add met all k lt =
+      let same : record_of (add_object h o n) (get_or h.packages k 0) ≡ record_of h (get_or h.packages k 0) = ap words_of (item_at-add_other h o n (get_or h.packages k 0) (other_name (get_or h.packages k 0) (met k lt))) in
+      subst (λ l. 2 ≤ length l) (sym same) (all k lt)
+
   pub referring-add : HoldsReferences (add_object h o n) (AnObject o) → IsReferring h → IsReferring (add_object h o n)
   unfolding add_object
   referring-add own w = record {
     few_packages = w.few_packages;
     few_applets = w.few_applets;
     met = met-add w.met;
+    records = records-add w.met w.records;
     distinct = w.distinct;
     references = references-add own w.references;
   }
@@ -116,8 +126,8 @@ object_whole h o size free none right w =
 -- a transient one
 referring-end : (h : HeapState) (event : ClearEvent) (end : ℕ) → IsReferring h → IsReferring (with_area_end h event end)
 unfolding item_at names
-referring-end h Reset end w = record { few_packages = w.few_packages; few_applets = w.few_applets; met = w.met; distinct = w.distinct; references = w.references }
-referring-end h Deselect end w = record { few_packages = w.few_packages; few_applets = w.few_applets; met = w.met; distinct = w.distinct; references = w.references }
+referring-end h Reset end w = record { few_packages = w.few_packages; few_applets = w.few_applets; met = w.met; records = w.records; distinct = w.distinct; references = w.references }
+referring-end h Deselect end w = record { few_packages = w.few_packages; few_applets = w.few_applets; met = w.met; records = w.records; distinct = w.distinct; references = w.references }
 
 -- its cells are the first free ones of its event's area
 run-own : (h : HeapState) (event : ClearEvent) (o : Object) → lies_in event (AnObject o) ≡ true → o.facts.place ≡ area_end h event → area_end h event + o.facts.length ≤ area_size → IsFilled h event →
@@ -228,6 +238,7 @@ module _ (h : HeapState) (r i v : ℕ) where
       few_packages = w.few_packages;
       few_applets = w.few_applets;
       met = λ k lt. names-set_cell h r i v (get_or h.packages k 0) ∙ w.met k lt;
+      records = λ k lt. subst (λ n. 2 ≤ n) (sym (same_words (item_at (set_cell h r i v) (get_or h.packages k 0)) (item_at h (get_or h.packages k 0)) (bare-set_cell h r i v (get_or h.packages k 0)))) (w.records k lt);
       distinct = w.distinct;
       references = references-set there w.references;
       areas = λ event. filled-set h r i v event (w.areas event);

@@ -11,14 +11,15 @@ use Rattle.jc_heap.specs.declared.object.Kind.TheVariants.{Instance, ReferenceAr
 use Rattle.jc_heap.specs.Table.{at_or, has}
 use Rattle.jc_heap.specs.Object.{Item, AnObject, APackage, facts_of, cells_of, is_object}
 use Rattle.jc_heap.specs.Heap.{HeapState, item_at, names, facts, area_end, add_object, HasEnd}
-use Rattle.jc_heap.specs.Packages.{AreArrays, is_initial, array_object, array_size, package_record, package_owner, push_package, add_arrays, add_package}
+use Rattle.jc_heap.specs.Packages.{AreArrays, is_initial, array_object, array_size, components_words, image_words, record_size, package_record, package_owner, push_package, add_arrays, add_package}
 use Rattle.jc_heap.specs.Statics.{with_word, set_word}
-use Rattle.jc_heap.specs.Whole.{cells_in, FitsAt, IsFilled, IsReference, HoldsReferences, AreMet, AreDistinct, IsWhole}
+use Rattle.jc_heap.specs.Components.{words_of, record_of}
+use Rattle.jc_heap.specs.Whole.{cells_in, FitsAt, IsFilled, IsReference, HoldsReferences, AreMet, AreRecords, AreDistinct, IsWhole}
 use Rattle.jc_heap.proofs.Tables.{at_or-push_same, at_or-push_other, has-push}
 use Rattle.jc_heap.proofs.Laws.{names-add_other}
 use Rattle.jc_heap.proofs.AreaRuns.{Run, filled_of, run_of}
 use Rattle.jc_heap.proofs.Laws.{object_named}
-use Rattle.jc_heap.proofs.RecordWords.{of_item-set_word, names-set_word}
+use Rattle.jc_heap.proofs.RecordWords.{of_item-set_word, names-set_word, bare-set_word, same_words}
 use Rattle.jc_heap.proofs.Keeping.{run_push, run_put, object_whole}
 
 -- a name that was added
@@ -74,6 +75,14 @@ module _ (h : HeapState) (words : List ℕ) (free : names h h.top ≡ false) whe
     | inr new ↦ subst (λ a. names (push_package h words) a ≡ true) (sym (last_address k lt new)) names-pushed
   ]
 
+  records-push : 2 ≤ length words → AreMet h h.packages → AreRecords h h.packages → AreRecords (push_package h words) (h.packages ++ h.top ∷ [])
+  records-push two met all k lt = elim (cases_lt k (length h.packages)) [
+    | inl old ↦
+        let same : record_of (push_package h words) (get_or h.packages k 0) ≡ record_of h (get_or h.packages k 0) = ap words_of (item_at-push_other (get_or h.packages k 0) (other_name (get_or h.packages k 0) (met k old))) in
+        subst (λ a. 2 ≤ length (record_of (push_package h words) a)) (sym (old_address k old)) (subst (λ l. 2 ≤ length l) (sym same) (all k old))
+    | inr new ↦ subst (λ a. 2 ≤ length (record_of (push_package h words) a)) (sym (last_address k lt new)) (subst (λ l. 2 ≤ length l) (sym (ap words_of item_at-pushed)) two)
+  ]
+
   distinct-push : AreMet h h.packages → AreDistinct h.packages → AreDistinct (h.packages ++ h.top ∷ [])
   distinct-push met apart j k less lt same = elim (cases_lt k (length h.packages)) [
     | inl old ↦ apart j k less old (sym (old_address j (omega arith)) ∙ same ∙ old_address k old)
@@ -99,12 +108,13 @@ module _ (h : HeapState) (words : List ℕ) (free : names h h.top ≡ false) whe
   filled-push Reset f = filled_of (push_package h words) Reset (run-pushed Reset f)
   filled-push Deselect f = filled_of (push_package h words) Deselect (run-pushed Deselect f)
 
-  push_whole : h.counts.0 < most_packages → IsWhole h → IsWhole (push_package h words)
+  push_whole : 2 ≤ length words → h.counts.0 < most_packages → IsWhole h → IsWhole (push_package h words)
   unfolding push_package
-  push_whole few w = record {
+  push_whole two few w = record {
     few_packages = omega (arith, few);
     few_applets = w.few_applets;
     met = met-push w.met;
+    records = records-push two w.met w.records;
     distinct = distinct-push w.met w.distinct;
     references = references-push w.references;
     areas = λ event. filled-push event (w.areas event);
@@ -133,17 +143,17 @@ arrays_whole h owner (a ∷ xs) kinds end w =
     (end-add h (array_object owner a) (array_size a) (omega arith) end)
     (object_whole h (array_object owner a) (array_size a) free refl (λ kind i lt. absurd (initial_other a.0 initial kind)) w)
 
-record_some : (at : ℕ) (cs : List (ℕ × List ℕ)) (xs : List (Kind × List ℕ)) (rest : List ℕ) → 0 < length (package_record at cs xs rest)
+record_two : (at : ℕ) (cs : List (ℕ × List ℕ)) (xs : List (Kind × List ℕ)) (rest : List ℕ) → 2 ≤ length (package_record at cs xs rest)
 unfolding package_record
-record_some at cs xs rest = omega arith
+record_two at cs xs rest = omega (arith, length-append (components_words cs) (0 ∷ image_words (at + record_size cs xs rest) xs rest))
 
 -- a package
 pub package_whole : (h : HeapState) (cs : List (ℕ × List ℕ)) (xs : List (Kind × List ℕ)) (rest : List ℕ) → h.counts.0 < most_packages → AreArrays xs → HasEnd h → IsWhole h →
     IsWhole (add_package h cs xs rest) × HasEnd (add_package h cs xs rest)
 package_whole h cs xs rest few arrays end w =
     arrays_whole (push_package h (package_record h.top cs xs rest)) (package_owner (h.counts.0 + 1)) xs arrays.kinds
-    (end-push h (package_record h.top cs xs rest) (record_some h.top cs xs rest) end)
-    (push_whole h (package_record h.top cs xs rest) (end h.top (omega arith)) few w)
+    (end-push h (package_record h.top cs xs rest) (omega (arith, record_two h.top cs xs rest)) end)
+    (push_whole h (package_record h.top cs xs rest) (end h.top (omega arith)) (record_two h.top cs xs rest) few w)
 
 -- a word of a static image
 facts-with_word : (t : Item) (j v : ℕ) → facts_of (with_word t j v) ≡ facts_of t
@@ -183,6 +193,7 @@ module _ (h : HeapState) (r j v : ℕ) where
     few_packages = w.few_packages;
     few_applets = w.few_applets;
     met = λ k lt. names-set_word h r j v (get_or h.packages k 0) ∙ w.met k lt;
+    records = λ k lt. subst (λ n. 2 ≤ n) (sym (same_words (item_at (set_word h r j v) (get_or h.packages k 0)) (item_at h (get_or h.packages k 0)) (bare-set_word h r j v (get_or h.packages k 0)))) (w.records k lt);
     distinct = w.distinct;
     references = references-word w.references;
     areas = λ event. filled-word event (w.areas event);
@@ -199,6 +210,7 @@ registry_whole h words w = record {
   few_packages = w.few_packages;
   few_applets = w.few_applets;
   met = w.met;
+  records = w.records;
   distinct = w.distinct;
   references = w.references;
   areas = λ event. filled-registry h words event (w.areas event);
@@ -215,6 +227,7 @@ count_whole h n few w = record {
   few_packages = w.few_packages;
   few_applets = few;
   met = w.met;
+  records = w.records;
   distinct = w.distinct;
   references = w.references;
   areas = λ event. filled-count h n event (w.areas event);

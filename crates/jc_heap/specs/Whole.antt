@@ -6,6 +6,7 @@ use Rattle.jc_transient.specs.State.{area_size}
 use Rattle.jc_heap.specs.declared.object.Kind.TheVariants.{ReferenceArray}
 use Rattle.jc_heap.specs.Object.{Item, facts_of, cells_of, event_number}
 use Rattle.jc_heap.specs.Heap.{HeapState, area_end, item_at, facts, names, IsObject}
+use Rattle.jc_heap.specs.Components.{record_of}
 
 -- the item is an object whose cells lie in the area of this event
 abbrev pub lies_in : ClearEvent → Item → Bool
@@ -44,16 +45,22 @@ HoldsReferences h t = (facts_of t).kind ≡ ReferenceArray → (i : ℕ) → i <
 abbrev pub AreMet : HeapState → List ℕ → Type 0
 AreMet h addresses = (k : ℕ) → k < length addresses → names h (slice_index addresses k) ≡ true
 
+-- at each of these addresses stands a package's record with its two words at least: its length, and the 0 behind its components
+abbrev pub AreRecords : HeapState → List ℕ → Type 0
+AreRecords h addresses = (k : ℕ) → k < length addresses → 2 ≤ length (record_of h (slice_index addresses k))
+
 -- none of these addresses is repeated
 abbrev pub AreDistinct : List ℕ → Type 0
 AreDistinct addresses = (j k : ℕ) → j < k → k < length addresses → slice_index addresses j ≡ slice_index addresses k → ⊥
 
 -- what a heap's words say of one another: there are places for the packages and the applets, the packages'
--- addresses are those of their records, references are references, and the transient objects have their cells
+-- addresses are those of their records, which have their words, references are references, and the transient objects have
+-- their cells
 pub record IsWhole (h : HeapState) : Type 0 where
   pub few_packages : h.counts.0 ≤ most_packages
   pub few_applets : h.counts.1 ≤ most_applets
   pub met : AreMet h h.packages
+  pub records : AreRecords h h.packages
   pub distinct : AreDistinct h.packages
   pub references : (r : ℕ) → HoldsReferences h (item_at h r)
   pub areas : (event : ClearEvent) → IsFilled h event

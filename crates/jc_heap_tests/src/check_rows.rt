@@ -83,6 +83,10 @@ fn packages_without_records_of_their_own_are_refused(rt: HostRuntime) -> Result<
     assert!(rt; !is_heap(rt.alloc(), &[(6, 2), (529, 752)])?);
     assert!(rt; !is_heap(rt.alloc(), &[(6, 2), (529, 756)])?);
     assert!(rt; !is_heap(rt.alloc(), &[(6, 2), (529, 776)])?);
+    // one more record, which begins at 776: of length 0, of one word, and of two
+    assert!(rt; !is_heap(rt.alloc(), &[(6, 2), (529, 776), (5, 777)])?);
+    assert!(rt; !is_heap(rt.alloc(), &[(6, 2), (529, 776), (5, 777), (776, 1)])?);
+    assert!(rt; is_heap(rt.alloc(), &[(6, 2), (529, 776), (5, 778), (776, 2)])?);
     assert!(rt; !is_heap(rt.alloc(), &[(6, 33)])?);
     assert!(rt; !is_heap(rt.alloc(), &[(7, 65)])?);
     Ok(())

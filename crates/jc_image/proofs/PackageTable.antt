@@ -1,10 +1,13 @@
 -- The packages' addresses as words.
-use Rattle.std.proofs.Common.{◌≡◌, ℕ, ◌+◌, ◌<◌, ◌≤◌, List, length, get_or, sym, subst, arith, min, inl, inr}
+use Rattle.std.proofs.Common.{◌≡◌, ℕ, ◌+◌, ◌<◌, ◌≤◌, List, length, get_or, max, true, refl, sym, subst, arith, min, inl, inr}
 use Rattle.std.proofs.lemmas.Bool.{cases_eq}
-use Rattle.jc_words.specs.Layout.{packages_address, addresses_start, most_packages}
+use Rattle.jc_words.specs.Layout.{packages_address, addresses_start, most_packages, text_start}
 use Rattle.jc_commit.specs.Image.{IsReadable}
 use Rattle.jc_heap.specs.Image.{IsLaid}
-use Rattle.jc_heap.specs.Heap.{heap_of, read_image}
+use Rattle.jc_heap.specs.Components.{record_of}
+use Rattle.jc_commit.specs.State.{State}
+use Rattle.jc_heap.specs.Heap.{heap_of, heap_view, names, read_image}
+use Rattle.jc_heap.proofs.RecordReading.{length_record, package_there, record_low, record_within}
 use Rattle.jc_heap.proofs.Walks.{length-packages, package_read}
 use Rattle.jc_image.proofs.Wholes.{counts_read}
 
@@ -25,6 +28,22 @@ module _ (ws : List ℕ) (laid : IsLaid ws) where
 
   pub table_readable : (k : ℕ) → k < length ((heap_of ws).packages) → IsReadable (length ws) (addresses_start + k)
   table_readable k h = record { below = omega (arith, table_short, laid.based, laid.fits); not_count = λ e. omega arith; beside = λ _. omega arith }
+
+-- the record of a package that is there
+module _ (j : State) (k : ℕ) (laid : IsLaid j.plain) (below : k < length ((heap_of j.plain).packages)) (there : names (heap_of j.plain) (get_or ((heap_of j.plain).packages) k 0) ≡ true) where
+  abbrev address : ℕ
+  address = get_or ((heap_of j.plain).packages) k 0
+
+  some : 0 < length (record_of (heap_of j.plain) address)
+  some = package_there j (heap_view j 0) 0 k refl laid below there
+
+  pub record_long : length (record_of (heap_of j.plain) address) ≡ max (get_or j.plain address 0) 1
+  record_long = length_record j (heap_view j 0) 0 address refl laid some
+
+  pub record_readable : IsReadable (length j.plain) address
+  record_readable =
+      let low : text_start ≤ address = record_low j.plain address laid some in
+      record { below = omega (arith, record_within j.plain address laid some); not_count = λ e. omega (arith, low); beside = λ _. omega (arith, low) }
 
 -- what holds of the numbers below one, and of that one
 pub below_or_at : (P : ℕ → Type 0) (n : ℕ) → ((j : ℕ) → j < n → P j) → P n → (j : ℕ) → j < n + 1 → P j

@@ -188,6 +188,7 @@ impl<S: WordStore> OpenImage<S> {
         ensures whole { IfOk result (λ h. IsWhole h.now) }
         ensures heap { IfOk result (λ h. h ≡ heap_view self (length self.plain)) }
         ensures words { IfErr result (λ s. plain_of (S.words s) ≡ self.plain) }
+        ensures size { IfErr result (λ s. length (S.words s) ≡ length self.plain) }
         ensures recovered { IfErr result (λ s. recovered_of (S.words s) ≡ self.plain) }
         ensures up { IfErr result (λ s. S.down s ≡ false) }
         ensures good { IfErr result (λ s. IsGoodLog (S.words s)) }

@@ -1,9 +1,9 @@
 //! Whether the table of the packages' addresses agrees with the records.
-ghost use Rattle.std.specs.Prelude.{ℕ, ◌≡◌, ◌<◌, ◌≤◌, ◌↔◌, IsTrue, false, length, slice_index, slice_index_or};
+ghost use Rattle.std.specs.Prelude.{ℕ, ◌≡◌, ◌<◌, ◌≤◌, ◌↔◌, IsTrue, true, false, length, slice_index, slice_index_or};
 ghost use Rattle.jc_words.specs.Layout.{most_packages};
 ghost use Rattle.jc_heap.specs.Image.{IsLaid};
 ghost use Rattle.jc_heap.specs.Heap.{heap_of, names};
-ghost use Rattle.jc_heap.specs.Whole.{AreMet, AreDistinct};
+ghost use Rattle.jc_heap.specs.Whole.{AreMet, AreRecords, AreDistinct};
 
 use crate::marks::ALL;
 use jc_commit::Journal;
@@ -21,6 +21,24 @@ fn are_met<S: WordStore>(journal: &Journal<S>, marks: &[bool; ALL]) -> bool
     let count = journal.read(PACKAGES);
     for k in 0..count {
         if !marks[usize::from(journal.read(ADDRESSES + k))] {
+            return false;
+        }
+    }
+    true
+}
+
+// At each package's address, where something stands, a record has its two words at least.
+fn are_records<S: WordStore>(journal: &Journal<S>) -> bool
+    requires laid { IsLaid journal.now.plain }
+    requires small { length journal.now.plain < 65536 }
+    requires few { (heap_of journal.now.plain).counts.0 ≤ most_packages }
+    requires met { AreMet (heap_of journal.now.plain) (heap_of journal.now.plain).packages }
+    ensures { IsTrue result ↔ AreRecords (heap_of journal.now.plain) (heap_of journal.now.plain).packages }
+{
+    let count = journal.read(PACKAGES);
+    for k in 0..count {
+        let address = journal.read(ADDRESSES + k);
+        if journal.read(address) < 2 {
             return false;
         }
     }
@@ -63,7 +81,7 @@ pub(crate) fn table_agrees<S: WordStore>(journal: &Journal<S>, marks: &[bool; AL
     requires small { length journal.now.plain < 65536 }
     requires few { (heap_of journal.now.plain).counts.0 ≤ most_packages }
     requires marks { (r : ℕ) → slice_index_or marks.now r false ≡ names (heap_of journal.now.plain) r }
-    ensures { IsTrue result ↔ (AreMet (heap_of journal.now.plain) (heap_of journal.now.plain).packages × AreDistinct (heap_of journal.now.plain).packages) }
+    ensures { IsTrue result ↔ (AreMet (heap_of journal.now.plain) (heap_of journal.now.plain).packages × AreRecords (heap_of journal.now.plain) (heap_of journal.now.plain).packages × AreDistinct (heap_of journal.now.plain).packages) }
 {
-    are_met(journal, marks) && are_distinct(journal)
+    are_met(journal, marks) && are_records(journal) && are_distinct(journal)
 }
