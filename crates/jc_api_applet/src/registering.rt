@@ -37,7 +37,7 @@ fn fill_aid<S: WordStore>(memory: &mut Memory<S>, object: Ref, aid: &[u8]) -> Re
 }
 
 // Makes an AID object of the runtime environment.
-#[tactic(auto, unfolding(crate::specs::Register::aid_made), using(jc_memory::proofs::Doings::bind_did, jc_memory::proofs::Doings::left_before, jc_memory::proofs::Doings::left_after, jc_memory::proofs::Doings::refused_did, jc_memory::proofs::Doings::down_did))]
+#[tactic(auto, unfolding(crate::specs::Register::aid_made), using(jc_memory::proofs::Doings::bind_did, jc_memory::proofs::Doings::left_before, jc_memory::proofs::Doings::left_after, jc_memory::proofs::Doings::refused_did, jc_memory::proofs::Doings::size_did, jc_memory::proofs::Doings::down_did))]
 fn make_aid<S: WordStore>(
     memory: &mut Memory<S>,
     linked: &Linked,
@@ -64,7 +64,7 @@ fn make_aid<S: WordStore>(
 }
 
 // Enters an applet into the registry, which ends the transaction of its installation.
-#[tactic(auto, unfolding(crate::specs::Register::entered), using(jc_memory::proofs::Doings::bind_did, jc_memory::proofs::Doings::left_before, jc_memory::proofs::Doings::left_after, jc_memory::proofs::Doings::refused_did, jc_memory::proofs::Doings::down_did))]
+#[tactic(auto, unfolding(crate::specs::Register::entered), using(jc_memory::proofs::Doings::bind_did, jc_memory::proofs::Doings::left_before, jc_memory::proofs::Doings::left_after, jc_memory::proofs::Doings::refused_did, jc_memory::proofs::Doings::size_did, jc_memory::proofs::Doings::down_did))]
 fn enter<S: WordStore>(
     memory: &mut Memory<S>,
     entry: AppletEntry,
@@ -87,7 +87,7 @@ fn enter<S: WordStore>(
 }
 
 /// Registers the instance with this AID, if this is allowed: makes the AID object, and enters the applet.
-#[tactic(auto, unfolding(crate::specs::Register::registered), using(jc_memory::proofs::Doings::bind_did, jc_memory::proofs::Doings::left_before, jc_memory::proofs::Doings::left_after, jc_memory::proofs::Doings::refused_did, jc_memory::proofs::Doings::down_did))]
+#[tactic(auto, unfolding(crate::specs::Register::registered), using(jc_memory::proofs::Doings::bind_did, jc_memory::proofs::Doings::left_before, jc_memory::proofs::Doings::left_after, jc_memory::proofs::Doings::refused_did, jc_memory::proofs::Doings::size_did, jc_memory::proofs::Doings::down_did))]
 pub(crate) fn register<S: WordStore>(
     aid: &[u8],
     instance: Ref,

@@ -114,7 +114,7 @@ fn route<S: WordStore>(
 
 impl<S: WordStore> Card<S> {
     // The response of an applet, or to the command that selects one or the manager.
-    #[tactic(auto, unfolding(crate::specs::Dispatching::dispatched), using(jc_memory::proofs::Doings::bind_did, jc_memory::proofs::Doings::left_before, jc_memory::proofs::Doings::left_after, jc_memory::proofs::Doings::refused_did, jc_memory::proofs::Doings::down_did))]
+    #[tactic(auto, unfolding(crate::specs::Dispatching::dispatched), using(jc_memory::proofs::Doings::bind_did, jc_memory::proofs::Doings::left_before, jc_memory::proofs::Doings::left_after, jc_memory::proofs::Doings::refused_did, jc_memory::proofs::Doings::size_did, jc_memory::proofs::Doings::down_did))]
     pub(crate) fn dispatch(
         &mut self,
         bytes: &[u8],
@@ -131,7 +131,7 @@ impl<S: WordStore> Card<S> {
     }
 
     // "Create applet".
-    #[tactic(auto, unfolding(crate::specs::Dispatching::creates), using(jc_memory::proofs::Doings::bind_did, jc_memory::proofs::Doings::left_before, jc_memory::proofs::Doings::left_after, jc_memory::proofs::Doings::refused_did, jc_memory::proofs::Doings::down_did))]
+    #[tactic(auto, unfolding(crate::specs::Dispatching::creates), using(jc_memory::proofs::Doings::bind_did, jc_memory::proofs::Doings::left_before, jc_memory::proofs::Doings::left_after, jc_memory::proofs::Doings::refused_did, jc_memory::proofs::Doings::size_did, jc_memory::proofs::Doings::down_did))]
     pub(crate) fn create(&mut self, bytes: &[u8]) -> Result<Response, StoreDown>
         requires up { self.old.memory.heap.down ≡ false }
         ensures { Makes (creates bytes.now self.old) self.old.memory (after_exchange result self.new) }

@@ -25,7 +25,7 @@ fn answer_of(outcome: Outcome) -> Response
 
 impl<S: WordStore> Card<S> {
     // "Run code".
-    #[tactic(auto, unfolding(crate::specs::Answers::runs_code), using(jc_memory::proofs::Doings::bind_did, jc_memory::proofs::Doings::left_before, jc_memory::proofs::Doings::left_after, jc_memory::proofs::Doings::refused_did, jc_memory::proofs::Doings::down_did))]
+    #[tactic(auto, unfolding(crate::specs::Answers::runs_code), using(jc_memory::proofs::Doings::bind_did, jc_memory::proofs::Doings::left_before, jc_memory::proofs::Doings::left_after, jc_memory::proofs::Doings::refused_did, jc_memory::proofs::Doings::size_did, jc_memory::proofs::Doings::down_did))]
     pub(crate) fn run_code(
         &mut self,
         max_stack: u8,

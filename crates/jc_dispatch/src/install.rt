@@ -63,7 +63,7 @@ fn installed_by<S: WordStore>(
 
 /// Installs an applet of a package, by the entry of its Applet component with this number and the
 /// place of its `install` method. The parameters lie in the buffer from its first byte on.
-#[tactic(auto, unfolding(crate::specs::Installing::installed), using(jc_memory::proofs::Doings::bind_did, jc_memory::proofs::Doings::left_before, jc_memory::proofs::Doings::left_after, jc_memory::proofs::Doings::refused_did, jc_memory::proofs::Doings::down_did))]
+#[tactic(auto, unfolding(crate::specs::Installing::installed), using(jc_memory::proofs::Doings::bind_did, jc_memory::proofs::Doings::left_before, jc_memory::proofs::Doings::left_after, jc_memory::proofs::Doings::refused_did, jc_memory::proofs::Doings::size_did, jc_memory::proofs::Doings::down_did))]
 pub fn install<S: WordStore>(
     budget: u32,
     home: PackageNumber,

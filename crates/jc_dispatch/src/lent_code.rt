@@ -12,7 +12,7 @@ use jc_words::{StoreDown, WordStore};
 
 /// Runs such code, with a stack of at most `max_stack` cells and so many locals, and ends what it leaves
 /// open: how it ended.
-#[tactic(auto, unfolding(crate::specs::LentCode::code_run), using(jc_memory::proofs::Doings::bind_did, jc_memory::proofs::Doings::left_before, jc_memory::proofs::Doings::left_after, jc_memory::proofs::Doings::refused_did, jc_memory::proofs::Doings::down_did))]
+#[tactic(auto, unfolding(crate::specs::LentCode::code_run), using(jc_memory::proofs::Doings::bind_did, jc_memory::proofs::Doings::left_before, jc_memory::proofs::Doings::left_after, jc_memory::proofs::Doings::refused_did, jc_memory::proofs::Doings::size_did, jc_memory::proofs::Doings::down_did))]
 pub fn run_code<S: WordStore>(
     budget: u32,
     max_stack: u8,

@@ -39,7 +39,7 @@ fn resting(registers: Registers) -> Registers
 
 /// Runs a method for an owner. The answer is what is left of the command's instructions, and how the
 /// method ended.
-#[tactic(auto, unfolding(crate::specs::Phases::run_for), using(jc_memory::proofs::Doings::bind_did, jc_memory::proofs::Doings::left_before, jc_memory::proofs::Doings::left_after, jc_memory::proofs::Doings::refused_did, jc_memory::proofs::Doings::down_did))]
+#[tactic(auto, unfolding(crate::specs::Phases::run_for), using(jc_memory::proofs::Doings::bind_did, jc_memory::proofs::Doings::left_before, jc_memory::proofs::Doings::left_after, jc_memory::proofs::Doings::refused_did, jc_memory::proofs::Doings::size_did, jc_memory::proofs::Doings::down_did))]
 pub(crate) fn run_for<S: WordStore>(
     budget: u32,
     package_number: u8,

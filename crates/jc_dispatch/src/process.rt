@@ -39,7 +39,7 @@ fn header_of(bytes: &[u8]) -> ArrayVec<u8, 5>
 
 /// An applet answers the command that was begun, which expects so many bytes. It may be the command
 /// that selected it.
-#[tactic(auto, unfolding(crate::specs::Selecting::processed), using(jc_memory::proofs::Doings::bind_did, jc_memory::proofs::Doings::left_before, jc_memory::proofs::Doings::left_after, jc_memory::proofs::Doings::refused_did, jc_memory::proofs::Doings::down_did))]
+#[tactic(auto, unfolding(crate::specs::Selecting::processed), using(jc_memory::proofs::Doings::bind_did, jc_memory::proofs::Doings::left_before, jc_memory::proofs::Doings::left_after, jc_memory::proofs::Doings::refused_did, jc_memory::proofs::Doings::size_did, jc_memory::proofs::Doings::down_did))]
 pub fn process<S: WordStore>(
     budget: u32,
     applet: AppletNumber,

@@ -16,7 +16,7 @@ use jc_words::{StoreDown, WordStore};
 
 // The selected applet is left: its `deselect` runs, and what is cleared at a deselection is. The answer
 // is what is left of the command's instructions.
-#[tactic(auto, unfolding(crate::specs::Selecting::left), using(jc_memory::proofs::Doings::bind_did, jc_memory::proofs::Doings::left_before, jc_memory::proofs::Doings::left_after, jc_memory::proofs::Doings::refused_did, jc_memory::proofs::Doings::down_did))]
+#[tactic(auto, unfolding(crate::specs::Selecting::left), using(jc_memory::proofs::Doings::bind_did, jc_memory::proofs::Doings::left_before, jc_memory::proofs::Doings::left_after, jc_memory::proofs::Doings::refused_did, jc_memory::proofs::Doings::size_did, jc_memory::proofs::Doings::down_did))]
 fn leave<S: WordStore>(
     budget: u32,
     applet: Option<AppletNumber>,
@@ -44,7 +44,7 @@ fn leave<S: WordStore>(
 
 /// Selects an applet by a command that expects so many bytes: the selected one is left, the new one's
 /// `select` runs, and where it accepts, it answers the command.
-#[tactic(auto, unfolding(crate::specs::Selecting::selected), using(jc_memory::proofs::Doings::bind_did, jc_memory::proofs::Doings::left_before, jc_memory::proofs::Doings::left_after, jc_memory::proofs::Doings::refused_did, jc_memory::proofs::Doings::down_did))]
+#[tactic(auto, unfolding(crate::specs::Selecting::selected), using(jc_memory::proofs::Doings::bind_did, jc_memory::proofs::Doings::left_before, jc_memory::proofs::Doings::left_after, jc_memory::proofs::Doings::refused_did, jc_memory::proofs::Doings::size_did, jc_memory::proofs::Doings::down_did))]
 pub fn select<S: WordStore>(
     budget: u32,
     applet: AppletNumber,
@@ -82,7 +82,7 @@ pub fn select<S: WordStore>(
 }
 
 /// Selects the manager: the selected applet is left, and none is selected.
-#[tactic(auto, unfolding(crate::specs::Selecting::managed), using(jc_memory::proofs::Doings::bind_did, jc_memory::proofs::Doings::left_before, jc_memory::proofs::Doings::left_after, jc_memory::proofs::Doings::refused_did, jc_memory::proofs::Doings::down_did))]
+#[tactic(auto, unfolding(crate::specs::Selecting::managed), using(jc_memory::proofs::Doings::bind_did, jc_memory::proofs::Doings::left_before, jc_memory::proofs::Doings::left_after, jc_memory::proofs::Doings::refused_did, jc_memory::proofs::Doings::size_did, jc_memory::proofs::Doings::down_did))]
 pub fn select_manager<S: WordStore>(
     budget: u32,
     memory: &mut Memory<S>,

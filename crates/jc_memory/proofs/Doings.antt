@@ -5,7 +5,7 @@ use Rattle.std.proofs.lemmas.Bool.{true≢false}
 use Rattle.jc_words.specs.Count.{raised}
 use Rattle.jc_heap.specs.Heap.{HeapState, names}
 use Rattle.jc_heap.specs.Moves.{Left, applied}
-use Rattle.jc_heap.proofs.MoveLaws.{refused-applied, down-applied}
+use Rattle.jc_heap.proofs.MoveLaws.{refused-applied, down-applied, size-applied}
 use Rattle.jc_memory.specs.State.{MemoryState, Effect, Changes, effected, effected_all, moves_of}
 use Rattle.jc_memory.specs.Doing.{Doing, Gives, Then, Picks, Or, Did, LeftBy, IsCutIn, After, Made, Cut, Makes, bind, mapped}
 use Rattle.jc_memory.specs.Reading.{Each, AllDue, AreDue, Takes, Begins}
@@ -87,13 +87,21 @@ down_did (Picks choose) s new a did = down_did (choose did.0) s new a did.2
 down_did (Or x y) s new a (inl did) = down_did x s new a did
 down_did (Or x y) s new a (inr did) = down_did y s new a did
 
+pub size_did : {A : Type 0} (d : Doing A) (s new : MemoryState) (a : A) → Did d s a new → new.heap.size ≡ s.heap.size
+size_did (Gives x) s new a did = ap (λ v. v.heap.size) did.1
+size_did (Then (Changes m) rest) s new a did = size_did rest (effected (Changes m) s) new a did ∙ size-applied (m ∷ []) s.heap
+size_did (Then e rest) s new a did = size_did rest (effected e s) new a did
+size_did (Picks choose) s new a did = size_did (choose did.0) s new a did.2
+size_did (Or x y) s new a (inl did) = size_did x s new a did
+size_did (Or x y) s new a (inr did) = size_did y s new a did
+
 -- two calls one after the other: the first was cut; the first was made, and the second ends as it ends
 pub bind_cut : {A B : Type 0} (more : A → MemoryState → Doing B) (d : Doing A) (s new : MemoryState) → IsCutIn d s new → IsCutIn (bind d s more) s new
-bind_cut more d s new cut = (left_before more d s new.heap.durable cut.0, cut.1, cut.2)
+bind_cut more d s new cut = (left_before more d s new.heap.durable cut.0, cut.1, cut.2, cut.3)
 
 pub bind_made : {A B : Type 0} (more : A → MemoryState → Doing B) (d : Doing A) (s mid : MemoryState) (a : A) (after : After B) → Did d s a mid → Makes (more a mid) mid after → Makes (bind d s more) s after
 bind_made more d s mid a (Made b new) first second = bind_did more d s mid new a b first second
-bind_made more d s mid a (Cut new) first second = (left_after more d s mid a new.heap.durable first second.0, second.1, second.2 ∙ ap (λ n. raised n 1) (refused_did d s mid a first))
+bind_made more d s mid a (Cut new) first second = (left_after more d s mid a new.heap.durable first second.0, second.1, second.2 ∙ ap (λ n. raised n 1) (refused_did d s mid a first), second.3 ∙ size_did d s mid a first)
 
 pub in_sequence : {A B : Type 0} → IsSequence A B
 in_sequence {A = A} {B = B} = record {

@@ -32,9 +32,9 @@ LeftBy (Then e rest) s h = LeftBy rest (effected e s) h
 LeftBy (Picks choose) s h = (r : ℕ) × IsNew s.heap.now r × LeftBy (choose r) s h
 LeftBy (Or x y) s h = LeftBy x s h ⊎ LeftBy y s h
 
--- the store refused a write within it
+-- the store, which keeps its size, refused a write within it
 abbrev pub IsCutIn : {A : Type 0} → Doing A → MemoryState → MemoryState → Type 0
-IsCutIn d s new = LeftBy d s new.heap.durable × (new.heap.down ≡ true) × (new.heap.refused ≡ raised s.heap.refused 1)
+IsCutIn d s new = LeftBy d s new.heap.durable × (new.heap.down ≡ true) × (new.heap.refused ≡ raised s.heap.refused 1) × (new.heap.size ≡ s.heap.size)
 
 -- how a call ends: with an answer, or cut by the store
 pub data After (A : Type 0) : Type 0 where

@@ -1,5 +1,5 @@
 -- Powering up: at the beginning, over whatever words a store has, and at a reset.
-use Rattle.std.specs.Prelude.{◌≡◌, false}
+use Rattle.std.specs.Prelude.{◌≡◌, false, length}
 use Rattle.jc_heap.specs.Heap.{resting}
 use Rattle.jc_card.specs.CardState.{CardState}
 use Rattle.jc_card.specs.Made.{IsCardHeap, IsMade}
@@ -11,8 +11,8 @@ use Rattle.jc_session.specs.Power.{Power, Up, Off, KeptState, StoreState, IsStor
 
 -- the card of what was left: its heap is the durable one, at rest, and all else is as after a reset
 pub record IsPoweredUp (k : KeptState) (card : CardState) : Type 0 where
-  pub made : IsCardHeap card.memory.heap.size k.durable
-  pub heap : card.memory.heap ≡ resting k.durable card.memory.heap.passed k.refused card.memory.heap.size
+  pub made : IsCardHeap k.size k.durable
+  pub heap : card.memory.heap ≡ resting k.durable card.memory.heap.passed k.refused k.size
   pub reset : IsAtReset k.durable card
 
 -- a power up over a store ends so: the card is up, over words that the product makes; or a write was refused
@@ -26,6 +26,7 @@ pub record FailsToStart (fault : PowerFault) (before after : StoreState) : Type 
   pub cause : Refuses fault before.words
   pub other : fault ≡ StoreDown → ⊥
   pub stands : Stands fault before.words after.words
+  pub size : length after.words ≡ length before.words
   pub up : after.down ≡ false
   pub refused : after.refused ≡ before.refused
 

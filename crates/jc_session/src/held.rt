@@ -48,7 +48,7 @@ impl<S: WordStore> UpCard<S> {
     fn exchange(self, command: &[u8]) -> Result<(UpCard<S>, Response), Unpowered<S>>
         ensures { MatchResult result
             (λ r. Did (exchanging command.now self) self.memory (answered r.0 r.1) r.0.memory)
-            (λ k. LeftBy (exchanging command.now self) self.memory k.durable × (k.down ≡ true) × (k.refused ≡ raised self.memory.heap.refused 1)) }
+            (λ k. LeftBy (exchanging command.now self) self.memory k.durable × (k.down ≡ true) × (k.refused ≡ raised self.memory.heap.refused 1) × (k.size ≡ self.memory.heap.size)) }
     {
         let UpCard { mut card } = self;
         match card.exchange(command) {

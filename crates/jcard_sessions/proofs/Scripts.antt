@@ -32,7 +32,7 @@ IsGood (UpIn card) = Unit {0}
 IsGood (DownIn store) = IsGoodLog store.words
 
 same_kept : (heap : HeapView) (store : Fused) → IsStoreOfHeap heap store → kept_in (state_of store) ≡ kept_by heap
-same_kept heap store h = λ i. record { durable = h.durable i; down = h.down i; refused = h.refused i }
+same_kept heap store h = λ i. record { durable = h.durable i; down = h.down i; refused = h.refused i; size = h.size i }
 
 kept_held : (s : Standing) (store : Fused) → Holds s store → kept_in (state_of store) ≡ kept (power_in s)
 kept_held (UpIn card) store h = same_kept card.memory.heap store h
@@ -50,7 +50,7 @@ told_after : (bytes : List ℕ) (card : CardState) (after : After Answered) (t :
 told_after bytes card (Made a memory) t text made says =
     (Response a.response, subst (λ (u : Standing). AnswersCommand (Up card) bytes (Response a.response) (power_in u)) (sym says.1) made, says.0, subst IsGood (sym says.1) tt)
 told_after bytes card (Cut memory) t text cut says =
-    let left = cut_kept card bytes memory (state_of says.1) cut says.2.durable says.2.down says.2.refused in
+    let left = cut_kept card bytes memory (state_of says.1) cut says.2.durable says.2.down says.2.refused says.2.size in
     (Down, subst (λ (u : Standing). AnswersCommand (Up card) bytes Down (power_in u)) (sym says.3) left, says.0, subst IsGood (sym says.3) says.2.good)
 
 told_of : (bytes : List ℕ) (s t : Standing) (text : List ℕ) → IsGood s → IsAnswered bytes s t text → IsTold bytes (power_in s) t text

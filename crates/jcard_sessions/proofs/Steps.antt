@@ -19,16 +19,16 @@ pub starts_up : (before : StoreState) (passed : ℕ) (card : CardState) → IsMa
 starts_up before passed card made heap reset = (
   made,
   record {
-    made = subst (λ n. IsCardHeap n (heap_of (recovered_of before.words))) (sym (ap (λ (v : HeapView). v.size) heap)) made.heap;
-    heap = heap ∙ (λ i. resting (heap_of (recovered_of before.words)) (sym (ap (λ (v : HeapView). v.passed) heap) i) before.refused (sym (ap (λ (v : HeapView). v.size) heap) i));
+    made = made.heap;
+    heap = heap ∙ (λ i. resting (heap_of (recovered_of before.words)) (sym (ap (λ (v : HeapView). v.passed) heap) i) before.refused (length before.words));
     reset = reset;
   },
 )
 
 pub starts_off : (before after : StoreState) → Refuses StoreDown before.words → StillRecovers before.words after.words → after.down ≡ true → after.refused ≡ raised before.refused 1 → Starts before (Off (kept_in after))
-starts_off before after cause still down refused = (cause, (λ i. record { durable = ap heap_of still.recovered i; down = down i; refused = refused i }))
+starts_off before after cause still down refused = (cause, (λ i. record { durable = ap heap_of still.recovered i; down = down i; refused = refused i; size = still.size i }))
 
 -- what a command leaves within which a write was refused
-pub cut_kept : (card : CardState) (bytes : List ℕ) (new : MemoryState) (store : StoreState) → IsCutIn (exchanging bytes card) card.memory new → heap_of (recovered_of store.words) ≡ new.heap.durable → store.down ≡ new.heap.down → store.refused ≡ new.heap.refused →
-    LeftBy (exchanging bytes card) card.memory (kept_in store).durable × ((kept_in store).down ≡ true) × ((kept_in store).refused ≡ raised card.memory.heap.refused 1)
-cut_kept card bytes new store cut durable down refused = (subst (LeftBy (exchanging bytes card) card.memory) (sym durable) cut.0, down ∙ cut.1, refused ∙ cut.2)
+pub cut_kept : (card : CardState) (bytes : List ℕ) (new : MemoryState) (store : StoreState) → IsCutIn (exchanging bytes card) card.memory new → heap_of (recovered_of store.words) ≡ new.heap.durable → store.down ≡ new.heap.down → store.refused ≡ new.heap.refused → length store.words ≡ new.heap.size →
+    LeftBy (exchanging bytes card) card.memory (kept_in store).durable × ((kept_in store).down ≡ true) × ((kept_in store).refused ≡ raised card.memory.heap.refused 1) × ((kept_in store).size ≡ card.memory.heap.size)
+cut_kept card bytes new store cut durable down refused size = (subst (LeftBy (exchanging bytes card) card.memory) (sym durable) cut.0, down ∙ cut.1, refused ∙ cut.2, size ∙ cut.3)
