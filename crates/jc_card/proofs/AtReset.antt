@@ -1,18 +1,22 @@
 -- A card that was powered up is as after a reset.
-use Rattle.std.proofs.Common.{◌≡◌, ◌∙◌, ℕ, List, [], Ok, Err, Some, None, sym, ap, subst}
+use Rattle.std.proofs.Common.{◌≡◌, ◌∙◌, ◌+◌, ℕ, List, [], Ok, Err, Some, None, sym, ap, subst}
 use Rattle.std.specs.Prelude.{Result, IfOk}
-use Rattle.jc_heap.specs.Heap.{HeapState, HeapView, heap_of}
+use Rattle.jc_heap.specs.Heap.{HeapState, HeapView, facts, heap_of}
 use Rattle.jc_heap.specs.Image.{IsLaid, table_text}
 use Rattle.jc_heap.proofs.RawWords.{text_is}
 use Rattle.jc_transient.specs.State.{IsBlank, RamState}
 use Rattle.jc_platform.specs.Tokens.{Tokens}
 use Rattle.jc_platform.specs.Table.{Reads}
 use Rattle.jc_card_packages.specs.Reading.{packages_of}
+use Rattle.jc_memory.specs.Cells.{word_in, word_of}
 use Rattle.jc_memory.specs.Owners.{at_reset}
 use Rattle.jc_memory.specs.State.{MemoryState}
 use Rattle.jc_card.specs.CardState.{CardState}
 use Rattle.jc_card.specs.Fixed.{fixed_of}
-use Rattle.jc_card.specs.Reset.{IsAtReset}
+use Rattle.jc_card.specs.Reset.{IsAtReset, ReadsAsZero}
+
+zero_blank : (s : MemoryState) → IsBlank s.ram → ReadsAsZero s
+zero_blank s blank r i event e = ap (λ o. word_in o s r i) e ∙ ap word_of (blank.cells event ((facts s.heap.now r).place + i))
 
 pub is_at_reset : {E : Type 0} (w : List ℕ) (t u : Tokens) (heap : HeapView) (ram : RamState) (r : Result CardState E) → u ≡ t → heap.now ≡ heap_of w → IsLaid w → Reads (table_text w) (Ok t) → IsBlank ram →
     IfOk r (λ card. packages_of u heap.now ≡ Some card.packages) →
@@ -21,6 +25,7 @@ pub is_at_reset : {E : Type 0} (w : List ℕ) (t u : Tokens) (heap : HeapView) (
 is_at_reset w t u heap ram (Err e) same now laid reads blank linked memory load = tt
 is_at_reset w t u heap ram (Ok card) same now laid reads blank linked memory load = record {
   ram = subst IsBlank (sym (ap (λ (m : MemoryState). m.ram) memory)) blank;
+  cells = zero_blank card.memory (subst IsBlank (sym (ap (λ (m : MemoryState). m.ram) memory)) blank);
   fixed = ap (λ (m : MemoryState). m.fixed) memory ∙ ap fixed_of now;
   registers = ap (λ (m : MemoryState). m.registers) memory;
   command = ap (λ (m : MemoryState). m.command) memory;

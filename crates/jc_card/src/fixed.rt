@@ -136,7 +136,7 @@ pub(crate) fn make_fixed<S: WordStore>(heap: &mut Heap<S>, table: &Table) -> Res
     requires space { heap.old.now.top + 85 ≤ heap.old.size }
     requires area { area_end heap.old.now Reset + 269 ≤ area_size }
     ensures made { OnOk result (heap.new.now ≡ with_objects table.now heap.old.now fixed_objects) }
-    ensures size { OnOk result (heap.new.size ≡ heap.old.size) }
+    ensures size { heap.new.size ≡ heap.old.size }
     ensures up { OnOk result (heap.new.down ≡ false) }
     ensures outside { OnOk result (heap.new.begun ≡ false) }
     ensures settled { OnOk result (heap.new.durable ≡ heap.new.now) }
@@ -159,7 +159,7 @@ fn make_all<S: WordStore>(
     requires space { heap.old.now.top + 5 * length objects.now ≤ heap.old.size }
     requires area { area_end heap.old.now Reset + cells_of_all objects.now ≤ area_size }
     ensures made { OnOk result (heap.new.now ≡ with_objects table.now heap.old.now objects.now) }
-    ensures size { OnOk result (heap.new.size ≡ heap.old.size) }
+    ensures size { heap.new.size ≡ heap.old.size }
     ensures up { OnOk result (heap.new.down ≡ false) }
     ensures outside { OnOk result (heap.new.begun ≡ false) }
     ensures settled { OnOk result (heap.new.durable ≡ heap.new.now) }
@@ -189,7 +189,7 @@ fn make<S: WordStore>(
     ensures up { OnOk result (heap.new.down ≡ false) }
     ensures outside { OnOk result (heap.new.begun ≡ false) }
     ensures settled { OnOk result (heap.new.durable ≡ heap.new.now) }
-    ensures size { OnOk result (heap.new.size ≡ heap.old.size) }
+    ensures size { heap.new.size ≡ heap.old.size }
     ensures top { OnOk result (heap.new.now.top ≡ heap.old.now.top + 5) }
     ensures end { OnOk result (area_end heap.new.now Reset ≡ area_end heap.old.now Reset + object.now.cells) }
     ensures stopped { OnErr result (heap.new.down ≡ true) }

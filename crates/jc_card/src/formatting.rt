@@ -46,12 +46,12 @@ pub fn format<S: WordStore>(store: S, text: &[u8]) -> (S, Result<(), FormatFault
     ensures made { OnOk result.1 (IsMade (S.words result.0)) }
     ensures fits { OnOk result.1 (FitsItsTable (heap_of (recovered_of (S.words result.0)))) }
     ensures heap { OnOk result.1 ((t : Tokens) × Reads text.now (Ok t) × (heap_of (recovered_of (S.words result.0)) ≡ formatted (length (S.words store)) text.now t)) }
-    ensures size { OnOk result.1 (length (S.words result.0) ≡ length (S.words store)) }
+    ensures size { length (S.words result.0) ≡ length (S.words store) }
     ensures up { OnOk result.1 (S.down result.0 ≡ false) }
     ensures none_refused { OnOk result.1 (S.refused result.0 ≡ S.refused store) }
     ensures bad_size { (result.1 ≡ Err FormatFault.BadSize) ↔ (length (S.words store) < least_size) }
-    ensures bad_table { (line : ℕ) → result.1 ≡ Err (FormatFault.BadTable line) → (least_size ≤ length (S.words store)) × Reads text.now (Err (TableFault.BadTable line)) }
-    ensures too_small { result.1 ≡ Err FormatFault.TooSmall → (least_size ≤ length (S.words store)) × (length (S.words store) < first_free (length text.now) + 85) × ((t : Tokens) × Reads text.now (Ok t)) }
+    ensures bad_table { (line : ℕ) → (result.1 ≡ Err (FormatFault.BadTable line)) ↔ ((least_size ≤ length (S.words store)) × Reads text.now (Err (TableFault.BadTable line))) }
+    ensures too_small { (result.1 ≡ Err FormatFault.TooSmall) ↔ ((least_size ≤ length (S.words store)) × (length (S.words store) < first_free (length text.now) + 85) × ((t : Tokens) × Reads text.now (Ok t))) }
     ensures kept { OnErr result.1 ((result.1 ≡ Err FormatFault.StoreDown → ⊥) → result.0 ≡ store) }
     ensures stopped { result.1 ≡ Err FormatFault.StoreDown → (S.down result.0 ≡ true) × (S.refused result.0 ≡ raised (S.refused store) 1) × ((S.words result.0 ≡ S.words store) ⊎ (slice_index (S.words result.0) magic_address ≢ magic)) }
 {
@@ -83,6 +83,7 @@ fn make_image<S: WordStore>(store: S, text: &[u8], table: &Table) -> Result<S, S
     ensures size { IfOk result (λ s. length (S.words s) ≡ length (S.words store)) }
     ensures up { IfOk result (λ s. S.down s ≡ false) }
     ensures none_refused { IfOk result (λ s. S.refused s ≡ S.refused store) }
+    ensures size_kept { IfErr result (λ s. length (S.words s) ≡ length (S.words store)) }
     ensures refused { IfErr result (λ s. S.refused s ≡ raised (S.refused store) 1) }
     ensures down { IfErr result (λ s. S.down s ≡ true) }
     ensures unmarked { IfErr result (λ s. (S.words s ≡ S.words store) ⊎ (slice_index (S.words s) magic_address ≢ magic)) }

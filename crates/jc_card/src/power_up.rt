@@ -94,6 +94,7 @@ impl<S: WordStore> Card<S> {
         ensures untouched { IfErr result (λ e. IsFoundFirst e.0 → e.1 ≡ store) }
         ensures after { IfErr result (λ e. IsFoundAfter e.0 → (S.down e.1 ≡ false) × (S.passed e.1 ≡ (opened (S.words store) (S.passed store) (S.refused store)).passed) × (S.refused e.1 ≡ S.refused store)) }
         ensures good { IfErr result (λ e. IsFoundAfter e.0 → IsGoodLog (S.words e.1)) }
+        ensures size { IfErr result (λ e. length (S.words e.1) ≡ length (S.words store)) }
         ensures part { IfErr result (λ e. e.0 ≡ PowerFault.StoreDown → IsPartOfReplay (S.words store) (S.words e.1) (S.passed store) (S.passed e.1)) }
         ensures refused { IfErr result (λ e. e.0 ≡ PowerFault.StoreDown → S.down store ≡ false → S.refused e.1 ≡ raised (S.refused store) 1) }
     {
@@ -118,6 +119,7 @@ fn start<S: WordStore>(alloc: Global, image: OpenImage<S>) -> Result<Card<S>, (P
     ensures reset { IfOk result (λ card. IsAtReset (heap_of image.plain) card) }
     ensures cause { IfErr result (λ e. Fails e.0 image.plain) }
     ensures good { IfErr result (λ e. IsGoodLog (S.words e.1)) }
+    ensures size { IfErr result (λ e. length (S.words e.1) ≡ length image.plain) }
     ensures stands { IfErr result (λ e. StandsBy e.0 image.plain (S.words e.1)) }
     ensures up { IfErr result (λ e. S.down e.1 ≡ false) }
     ensures counts { IfErr result (λ e. (S.passed e.1 ≡ image.passed) × (S.refused e.1 ≡ image.refused)) }
@@ -154,6 +156,7 @@ fn link_packages<S: WordStore>(
     ensures load { IfOk result (λ card. card.load ≡ None) }
     ensures cause { IfErr result (λ e. FailsToLink e.0 platform heap.now) }
     ensures good { IfErr result (λ e. IsGoodLog (S.words e.1)) }
+    ensures size { IfErr result (λ e. length (S.words e.1) ≡ heap.size) }
     ensures stands { IfErr result (λ e. (heap_of (plain_of (S.words e.1)) ≡ heap.now) × (heap_of (recovered_of (S.words e.1)) ≡ heap.durable) × (count_of (S.words e.1) ≡ 0)) }
     ensures store { IfErr result (λ e. (S.down e.1 ≡ false) × (S.passed e.1 ≡ heap.passed) × (S.refused e.1 ≡ heap.refused)) }
 {

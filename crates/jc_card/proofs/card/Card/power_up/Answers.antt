@@ -30,6 +30,12 @@ returns-in-Ok-clause-heap g c =
     mapped_if c.start.result (λ card. card.memory.heap ≡ heap_view c.in-Ok.image (length c.in-Ok.image.plain)) (λ card. card.memory.heap ≡ heap_view state (length w))
     (λ card e. e ∙ ap (λ j. heap_view j (length (j.plain))) c.in-Ok.ensures.ok ∙ ap (heap_view state) (length-recovered w)) c.start.ensures.heap
 
+pub returns-in-Ok-clause-size : goal.returns-in-Ok-clause-size
+returns-in-Ok-clause-size g c =
+    let w = g.S.WordStore.words c.args.store in
+    mapped_err c.start.result (λ e. length (g.S.WordStore.words e.1) ≡ length c.in-Ok.image.plain) (λ e. length (g.S.WordStore.words e.1) ≡ length w)
+    (λ e s. s ∙ ap (λ j. length (j.plain)) c.in-Ok.ensures.ok ∙ length-recovered w) c.start.ensures.size
+
 pub returns-in-Ok-clause-cause : goal.returns-in-Ok-clause-cause
 returns-in-Ok-clause-cause g c =
     let w = g.S.WordStore.words c.args.store in
