@@ -1,8 +1,9 @@
 -- How a session stands, and what a power up makes of it.
-use Rattle.std.specs.Prelude.{ℕ, ◌≡◌, List, length, true, Some, None}
+use Rattle.std.specs.Prelude.{ℕ, ◌≡◌, List, length, true, false, Some, None}
 use Rattle.jc_words.specs.Count.{raised}
 use Rattle.jc_words.specs.Stores.{Fused}
 use Rattle.jc_commit.specs.Image.{IsGoodLog, StillRecovers, recovered_of}
+use Rattle.jc_commit.specs.Replay.{IsPartOfReplay}
 use Rattle.jc_commit.specs.State.{opened}
 use Rattle.jc_heap.specs.Heap.{HeapView, heap_of, heap_view, resting}
 use Rattle.jc_heap.specs.Image.{IsLaid}
@@ -12,7 +13,7 @@ use Rattle.jc_card.specs.Answers.{exchanging}
 use Rattle.jc_card.specs.CardState.{CardState}
 use Rattle.jc_card.specs.Loads.{Answered}
 use Rattle.jc_card.specs.Made.{IsMade}
-use Rattle.jc_card.specs.PowerUp.{Refuses, Stands}
+use Rattle.jc_card.specs.PowerUp.{Refuses, Stands, IsFoundFirst, IsFoundAfter}
 use Rattle.jc_card.specs.Reset.{IsAtReset}
 use Rattle.jc_card.specs.declared.power_up.PowerFault.{PowerFault as Fault}
 use Rattle.jc_card.specs.declared.power_up.PowerFault.TheVariants.{StoreDown}
@@ -42,18 +43,29 @@ Holds (Up card) store = IsStoreOf card.memory.heap store
 Holds (Down held) store = store ≡ held
 
 -- a power up over a store that was so ends so: the card is up, with the heap of the recovered words, blank memory and no open
--- load, as after a reset, and no write was refused; or one was, and a recovery leaves what it would have left
+-- load, as after a reset, and no write was refused; or one was, and a part of the recovery was done, so that another leaves what
+-- this one would have left
 abbrev pub PowersUp : Fused → Standing → Type 0
 PowersUp before (Up card) = IsMade before.words × (card.memory.heap ≡ heap_view (opened before.words before.passed before.refused) (length before.words)) × IsBlank card.memory.ram × (card.load ≡ None)
     × IsAtReset (heap_of (recovered_of before.words)) card
 PowersUp before (Down after) = Refuses StoreDown before.words × StillRecovers before.words after.words × (after.down ≡ true) × (after.refused ≡ raised before.refused 1)
+    × IsPartOfReplay before.words after.words before.passed after.passed
+
+-- the power is back, in the store below too
+abbrev pub powered : Fused → Fused
+powered f = record f { down = false; down_below = false }
 
 -- a power up over a store that was so finds this fault, which these words have and which is not that a write was refused, and
--- leaves the store so
+-- leaves the store so: no write was refused, and none passed but those of a recovery
 pub record FailsUp (before : Fused) (fault : Fault) (after : Fused) : Type 0 where
   pub cause : Refuses fault before.words
   pub other : fault ≡ StoreDown → ⊥
   pub stands : Stands fault before.words after.words
+  pub size : length after.words ≡ length before.words
+  pub up : after.down ≡ false
+  pub refused : after.refused ≡ before.refused
+  pub untouched : IsFoundFirst fault → after ≡ powered before
+  pub recovered : IsFoundAfter fault → after.passed ≡ (opened before.words before.passed before.refused).passed
 
 -- a reset: the power comes back to the session's store, and the card powers up
 abbrev pub IsReset : Standing → Standing → Type 0
