@@ -1,5 +1,5 @@
 -- Values of cells.
-use Rattle.std.specs.Prelude.{ℕ, ◌%◌, pos, nat_lt, if◌then◌else◌}
+use Rattle.std.specs.Prelude.{ℕ, ◌≡◌, ◌%◌, List, map, drop, pos, nat_lt, if◌then◌else◌}
 use Rattle.std.specs.Int.{w16, cast_unsigned}
 use Rattle.jc_transient.specs.declared.cell.CellValue.{CellValue}
 use Rattle.jc_transient.specs.declared.cell.CellValue.TheVariants.{Short, Reference}
@@ -22,3 +22,7 @@ byte_value byte = Short (pos byte)
 abbrev pub low_byte : CellValue → ℕ
 low_byte (Short v) = cast_unsigned w16 v % 256
 low_byte (Reference r) = 0
+
+-- the cells from this place on are as a clearing leaves them
+abbrev pub AreClearedFrom : ℕ → List CellValue → Type 0
+AreClearedFrom place cells = map cleared (drop place cells) ≡ drop place cells

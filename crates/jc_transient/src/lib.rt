@@ -2,6 +2,7 @@
 //! of it outlives a loss of power, and no abort of a transaction changes it.
 #![tactic(auto)]
 
+mod area;
 mod cell;
 mod ram;
 mod reference;

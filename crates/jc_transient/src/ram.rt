@@ -3,6 +3,7 @@ ghost use Rattle.std.specs.Prelude.{◌≡◌, ◌<◌, ◌≤◌, ◌+◌, Bool
 ghost use Rattle.jc_transient.specs.Cells.{cleared, without_dead, byte_value, low_byte};
 ghost use Rattle.jc_transient.specs.State.{area_size, flag_count, buffer_size, buffer_place, HasSizes, IsBlank, area, with_area, cell_at, flag_of, with_cells, with_buffer_bytes};
 
+use crate::area::Area;
 use crate::cell::{CellValue, ClearEvent};
 use crate::reference::Ref;
 use std::alloc::{AllocError, Global};
@@ -23,8 +24,8 @@ const FLAGS: usize = 65536;
 /// one of which the APDU buffer lies, and a flag for each object.
 #[derive(Drop)]
 pub struct Ram {
-    reset_cells: Vec<CellValue>,
-    deselect_cells: Vec<CellValue>,
+    reset_cells: Area,
+    deselect_cells: Area,
     flags: Vec<bool>,
 }
 
@@ -33,9 +34,9 @@ impl Model for Ram {
 
     ghost Value = { RamState };
 
-    ghost view = { λ r. record { reset_cells = r.reset_cells.items; deselect_cells = r.deselect_cells.items; flags = r.flags.items } };
+    ghost view = { λ r. record { reset_cells = r.reset_cells; deselect_cells = r.deselect_cells; flags = r.flags.items } };
 
-    ghost invariant = { λ r. HasSizes (record { reset_cells = r.reset_cells.items; deselect_cells = r.deselect_cells.items; flags = r.flags.items }) };
+    ghost invariant = { λ r. HasSizes (record { reset_cells = r.reset_cells; deselect_cells = r.deselect_cells; flags = r.flags.items }) };
 }
 
 impl Ram {
@@ -44,8 +45,8 @@ impl Ram {
         ensures { IfOk result IsBlank }
     {
         Ok(Ram {
-            reset_cells: zero_cells(alloc, AREA_CELLS as usize)?,
-            deselect_cells: zero_cells(alloc, AREA_CELLS as usize)?,
+            reset_cells: Area::new(alloc, AREA_CELLS as usize)?,
+            deselect_cells: Area::new(alloc, AREA_CELLS as usize)?,
             flags: false_flags(alloc, FLAGS)?,
         })
     }
@@ -56,8 +57,8 @@ impl Ram {
         ensures { result ≡ cell_at self.now event place }
     {
         match event {
-            ClearEvent::Reset => self.reset_cells[place as usize],
-            ClearEvent::Deselect => self.deselect_cells[place as usize],
+            ClearEvent::Reset => self.reset_cells.get(place as usize),
+            ClearEvent::Deselect => self.deselect_cells.get(place as usize),
         }
     }
 
@@ -68,8 +69,8 @@ impl Ram {
         ensures sizes { HasSizes self.new }
     {
         match event {
-            ClearEvent::Reset => self.reset_cells[place as usize] = value,
-            ClearEvent::Deselect => self.deselect_cells[place as usize] = value,
+            ClearEvent::Reset => self.reset_cells.set(place as usize, value),
+            ClearEvent::Deselect => self.deselect_cells.set(place as usize, value),
         }
     }
 
@@ -81,12 +82,8 @@ impl Ram {
     {
         let (place, count) = (place as usize, count as usize);
         match event {
-            ClearEvent::Reset => {
-                fill_cells(self.reset_cells.as_mut_slice(), place, count, &value);
-            }
-            ClearEvent::Deselect => {
-                fill_cells(self.deselect_cells.as_mut_slice(), place, count, &value);
-            }
+            ClearEvent::Reset => self.reset_cells.fill(place, count, value),
+            ClearEvent::Deselect => self.deselect_cells.fill(place, count, value),
         }
     }
 
@@ -113,8 +110,8 @@ impl Ram {
         ensures sizes { HasSizes self.new }
     {
         match event {
-            ClearEvent::Reset => clear_cells(self.reset_cells.as_mut_slice()),
-            ClearEvent::Deselect => clear_cells(self.deselect_cells.as_mut_slice()),
+            ClearEvent::Reset => self.reset_cells.clear(),
+            ClearEvent::Deselect => self.deselect_cells.clear(),
         }
     }
 
@@ -126,8 +123,8 @@ impl Ram {
         } }
         ensures sizes { HasSizes self.new }
     {
-        null_dead_cells(self.reset_cells.as_mut_slice(), top);
-        null_dead_cells(self.deselect_cells.as_mut_slice(), top);
+        self.reset_cells.null_dead(top);
+        self.deselect_cells.null_dead(top);
     }
 
     /// How many bytes the APDU buffer holds, one in each of its cells.
@@ -152,17 +149,8 @@ impl Ram {
         ensures sizes { HasSizes self.new }
     {
         let place = (BUFFER_PLACE + index) as usize;
-        write_bytes(self.reset_cells.as_mut_slice(), place, bytes);
+        self.reset_cells.put(place, bytes);
     }
-}
-
-// So many cells, each zero.
-fn zero_cells(alloc: Global, count: usize) -> Result<Vec<CellValue>, AllocError>
-    ensures len { IfOk result (λ cells. vec_len cells ≡ count) }
-    ensures zero { IfOk result (λ cells. (k : ℕ) → slice_index_or cells.items k (CellValue.Short (pos 0)) ≡ CellValue.Short (pos 0)) }
-{
-    let cells = vec![in alloc; CellValue::Short(0); count]?;
-    Ok(cells)
 }
 
 // So many flags, each false.
@@ -172,38 +160,4 @@ fn false_flags(alloc: Global, count: usize) -> Result<Vec<bool>, AllocError>
 {
     let flags = vec![in alloc; false; count]?;
     Ok(flags)
-}
-
-fn fill_cells(cells: &mut [CellValue], place: usize, count: usize, value: &CellValue)
-    requires { place + count ≤ length cells.old }
-    ensures { cells.new ≡ with_cells cells.old place (replicate count value.now) }
-{
-    for k in 0..count {
-        cells[place + k] = *value;
-    }
-}
-
-fn clear_cells(cells: &mut [CellValue])
-    ensures { cells.new ≡ map cleared cells.old }
-{
-    for cell in cells.iter_mut() {
-        *cell = cell.cleared();
-    }
-}
-
-fn null_dead_cells(cells: &mut [CellValue], top: u16)
-    ensures { cells.new ≡ map (without_dead top) cells.old }
-{
-    for cell in cells.iter_mut() {
-        *cell = cell.without_dead(top);
-    }
-}
-
-fn write_bytes(cells: &mut [CellValue], place: usize, bytes: &[u8])
-    requires { place + length bytes.now ≤ length cells.old }
-    ensures { cells.new ≡ with_cells cells.old place (map byte_value bytes.now) }
-{
-    for (k, byte) in bytes.iter().enumerate() {
-        cells[place + k] = CellValue::of_byte(*byte);
-    }
 }

@@ -2,7 +2,7 @@
 use Rattle.std.proofs.Common.{◌≡◌, map}
 use Rattle.jc_transient.specs.Cells.{byte_value}
 use lib.Seq.{paste}
-use Rattle.jc_transient.proofs.ram.write_bytes.Given as goal
+use Rattle.jc_transient.proofs.area.write_bytes.Given as goal
 
 abbrev pub invariant-loop-k : goal.invariant-loop-k
 invariant-loop-k l = l.cells ≡ paste l.fn.cells l.place (map byte_value l.bytes) l.k

@@ -3,7 +3,7 @@ use Rattle.std.proofs.lemmas.List.{length-map}
 use Rattle.std.proofs.Math.ListN.{get_or-map}
 use Rattle.std.proofs.lemmas.List.Edits.{paste_more}
 use Rattle.jc_transient.specs.Cells.{byte_value}
-use Rattle.jc_transient.proofs.ram.write_bytes.Goals as goal
+use Rattle.jc_transient.proofs.area.write_bytes.Goals as goal
 
 pub loop-k-preserved : goal.loop-k-preserved
 loop-k-preserved c =

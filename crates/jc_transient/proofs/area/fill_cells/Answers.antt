@@ -1,6 +1,6 @@
 use Rattle.std.proofs.Common.{◌<◌, ◌+◌, length, arith}
 use Rattle.std.proofs.lemmas.List.Edits.{fill_from_more}
-use Rattle.jc_transient.proofs.ram.fill_cells.Goals as goal
+use Rattle.jc_transient.proofs.area.fill_cells.Goals as goal
 
 pub loop-k-preserved : goal.loop-k-preserved
 loop-k-preserved c =

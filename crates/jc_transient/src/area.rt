@@ -1,0 +1,138 @@
+//! The cells of one area.
+ghost use Rattle.std.specs.Prelude.{◌≡◌, ◌<◌, ◌≤◌, ◌+◌, ℕ, ◌++◌, length, map, replicate, take, drop, pos, IfOk, vec_len, slice_index_or, slice_set};
+ghost use Rattle.jc_transient.specs.Cells.{cleared, without_dead, byte_value};
+ghost use Rattle.jc_transient.specs.State.{with_cells};
+
+use crate::cell::CellValue;
+use std::alloc::{AllocError, Global};
+use std::marker::Model;
+
+/// Cells, all of which from the first `used` on are as a clearing leaves them.
+#[derive(Drop)]
+pub(crate) struct Area {
+    cells: Vec<CellValue>,
+    used: usize,
+}
+
+impl Model for Area {
+    ghost use Rattle.std.specs.Prelude.{List, ◌≤◌, length};
+    ghost use Rattle.jc_transient.specs.declared.cell.CellValue.{CellValue};
+    ghost use Rattle.jc_transient.specs.Cells.{AreClearedFrom};
+
+    ghost Value = { List CellValue };
+
+    ghost view = { λ a. a.cells.items };
+
+    ghost invariant = { λ a. (a.used ≤ length a.cells.items) × AreClearedFrom a.used a.cells.items };
+}
+
+impl Area {
+    /// So many cells, each zero.
+    pub(crate) fn new(alloc: Global, count: usize) -> Result<Area, AllocError>
+        ensures len { IfOk result (λ area. length area ≡ count) }
+        ensures zero { IfOk result (λ area. (k : ℕ) → slice_index_or area k (CellValue.Short (pos 0)) ≡ CellValue.Short (pos 0)) }
+    {
+        Ok(Area {
+            cells: zero_cells(alloc, count)?,
+            used: 0,
+        })
+    }
+
+    /// The cell at a place.
+    pub(crate) fn get(&self, place: usize) -> CellValue
+        requires { place < length self.now }
+        ensures { result ≡ slice_index_or self.now place (CellValue.Short (pos 0)) }
+    {
+        self.cells[place]
+    }
+
+    /// Sets the cell at a place.
+    pub(crate) fn set(&mut self, place: usize, value: CellValue)
+        requires { place < length self.old }
+        ensures { self.new ≡ slice_set self.old place value }
+    {
+        self.cells[place] = value;
+        self.used = self.used.max(place + 1);
+    }
+
+    /// Sets so many cells from a place on.
+    pub(crate) fn fill(&mut self, place: usize, count: usize, value: CellValue)
+        requires { place + count ≤ length self.old }
+        ensures { self.new ≡ with_cells self.old place (replicate count value) }
+    {
+        fill_cells(self.cells.as_mut_slice(), place, count, &value);
+        self.used = self.used.max(place + count);
+    }
+
+    /// Puts bytes into the cells from a place on.
+    pub(crate) fn put(&mut self, place: usize, bytes: &[u8])
+        requires { place + length bytes.now ≤ length self.old }
+        ensures { self.new ≡ with_cells self.old place (map byte_value bytes.now) }
+    {
+        write_bytes(self.cells.as_mut_slice(), place, bytes);
+        self.used = self.used.max(place + bytes.len());
+    }
+
+    /// Clears the cells.
+    pub(crate) fn clear(&mut self)
+        ensures { self.new ≡ map cleared self.old }
+    {
+        clear_cells(self.cells.as_mut_slice(), self.used);
+        self.used = 0;
+    }
+
+    /// Makes each reference null that refers to an object at or above the top.
+    pub(crate) fn null_dead(&mut self, top: u16)
+        ensures { self.new ≡ map (without_dead top) self.old }
+    {
+        null_dead_cells(self.cells.as_mut_slice(), self.used, top);
+    }
+}
+
+// So many cells, each zero.
+fn zero_cells(alloc: Global, count: usize) -> Result<Vec<CellValue>, AllocError>
+    ensures len { IfOk result (λ cells. vec_len cells ≡ count) }
+    ensures zero { IfOk result (λ cells. (k : ℕ) → slice_index_or cells.items k (CellValue.Short (pos 0)) ≡ CellValue.Short (pos 0)) }
+    ensures all { IfOk result (λ cells. cells.items ≡ replicate count (CellValue.Short (pos 0))) }
+{
+    let cells = vec![in alloc; CellValue::Short(0); count]?;
+    Ok(cells)
+}
+
+fn fill_cells(cells: &mut [CellValue], place: usize, count: usize, value: &CellValue)
+    requires { place + count ≤ length cells.old }
+    ensures { cells.new ≡ with_cells cells.old place (replicate count value.now) }
+{
+    for k in 0..count {
+        cells[place + k] = *value;
+    }
+}
+
+// Clears the first so many cells.
+fn clear_cells(cells: &mut [CellValue], count: usize)
+    requires { count ≤ length cells.old }
+    ensures { cells.new ≡ map cleared (take count cells.old) ++ drop count cells.old }
+{
+    for k in 0..count {
+        cells[k] = cells[k].cleared();
+    }
+}
+
+// The same for the references of the first so many cells.
+fn null_dead_cells(cells: &mut [CellValue], count: usize, top: u16)
+    requires { count ≤ length cells.old }
+    ensures { cells.new ≡ map (without_dead top) (take count cells.old) ++ drop count cells.old }
+{
+    for k in 0..count {
+        cells[k] = cells[k].without_dead(top);
+    }
+}
+
+fn write_bytes(cells: &mut [CellValue], place: usize, bytes: &[u8])
+    requires { place + length bytes.now ≤ length cells.old }
+    ensures { cells.new ≡ with_cells cells.old place (map byte_value bytes.now) }
+{
+    for (k, byte) in bytes.iter().enumerate() {
+        cells[place + k] = CellValue::of_byte(*byte);
+    }
+}
