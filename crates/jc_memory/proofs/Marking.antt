@@ -1,5 +1,5 @@
 -- Marks stay true: every change of a heap but an abort keeps its objects.
-use Rattle.std.proofs.Common.{◌≡◌, ℕ, ◌+◌, ◌<◌, ◌≤◌, Bool, true, false, List, [], ◌∷◌, refl, sym, ◌∙◌, ap, subst, arith, Option, Some, None, Result, inl, inr, set}
+use Rattle.std.proofs.Common.{◌≡◌, ℕ, ◌+◌, ◌<◌, ◌≤◌, Bool, true, false, List, [], ◌∷◌, sym, ◌∙◌, ap, subst, arith, Option, None, Result, inl, inr, set}
 use Rattle.std.specs.Prelude.{◌⊎◌}
 use Rattle.std.proofs.lemmas.Bool.{true≢false, cases_lt, cases_eq}
 use Rattle.std.proofs.lemmas.List.{get_or-set_other}
@@ -8,7 +8,7 @@ use Rattle.jc_heap.specs.declared.refusal.ChangeRefusal.{ChangeRefusal}
 use Rattle.jc_heap.specs.declared.refusal.HeapRefusal.{HeapRefusal}
 use Rattle.jc_heap.specs.declared.object.Kind.{Kind}
 use Rattle.jc_heap.specs.Object.{is_object, new_transient, transient_size}
-use Rattle.jc_heap.specs.Heap.{HeapState, HeapView, SameShape, HasEnd, IsObject, item_at, names, area_end, add_object, add_transient}
+use Rattle.jc_heap.specs.Heap.{HeapState, HeapView, SameShape, HasEnd, IsObject, aborted, item_at, area_end, add_object, add_transient}
 use Rattle.jc_heap.specs.Moves.{Move, Write, SetPlaces, Count, SetCells, AddObject, AddTransient, AddPackage, Begin, Commit, Abort, apply, MakesUnless, Makes, after_making, after_change, after_step}
 use Rattle.jc_heap.specs.Keeping.{Suits, AreWhole}
 use Rattle.jc_heap.proofs.Laws.{item_at-absent, shape-add}
@@ -83,3 +83,13 @@ one_more marks v r objects there up q marked = elim (cases_eq q r) [
   | inl same ↦ subst (IsObject v.now) (sym same) (there up)
   | inr other ↦ objects up q (sym (get_or-set_other marks r q true false other) ∙ marked)
 ]
+
+-- after an abort the marks below the new top are true
+pub still_marked : (marks new : List Bool) (v w : HeapView) (before : ℕ) → AreWhole v → before ≡ v.now.top → ((r : ℕ) → is_marked marks r ≡ true → IsObject v.now r) → w ≡ aborted v →
+    ((r : ℕ) → is_marked new r ≡ true → (is_marked marks r ≡ true) × ((r < w.now.top) ⊎ (before ≤ r))) → AreObjects new w
+still_marked marks new v w before whole top objects is left up r marked =
+    let there = objects r (left r marked).0 in
+    subst (λ u. IsObject u.now r) (sym is) (elim ((left r marked).1) [
+      | inl below ↦ sym (object-bare (item_at v.durable r)) ∙ ap is_object (sym (whole.shape.items r (subst (λ u. r < u.now.top) is below))) ∙ object-bare (item_at v.now r) ∙ there
+      | inr above ↦ absurd (true≢false (sym there ∙ ap is_object (item_at-absent v.now r (whole.now.end r (subst (λ n. n ≤ r) top above)))))
+    ])

@@ -1,16 +1,19 @@
 -- Loops over runs of cells.
-use Rattle.std.proofs.Common.{◌≡◌, ℕ, ◌+◌, ◌<◌, ◌≤◌, List, [], ◌∷◌, ◌++◌, set, take, drop, length, map, get_or, refl, sym, ◌∙◌, ap, subst, arith}
+use Rattle.std.proofs.Common.{◌≡◌, ℕ, Some, zero, suc, pos, replicate, ◌+◌, ◌<◌, ◌≤◌, List, [], ◌∷◌, ◌++◌, set, take, drop, length, map, get_or, refl, sym, ◌∙◌, ap, arith}
 use Rattle.std.specs.List.{range_with_len}
-use Rattle.std.proofs.lemmas.List.{take_more_set, take_more, length-map, take_all}
+use Rattle.std.proofs.lemmas.List.{take_more_set, take_more, length-append, length-map, map-append, take_all}
 use Rattle.std.proofs.lemmas.List.FromFn.{map-range_with_len_more}
-use Rattle.std.proofs.lemmas.List.Edits.{paste_none, paste_more, paste_all}
+use Rattle.std.proofs.lemmas.List.Edits.{paste_none, paste_more, paste_all, paste-paste}
 use Rattle.std.proofs.Math.ListN.{get_or-map}
 use lib.Seq.{paste}
 use Rattle.jc_transient.specs.declared.cell.CellValue.{CellValue}
+use Rattle.jc_transient.specs.declared.cell.CellValue.TheVariants.{Short}
 use Rattle.jc_transient.specs.declared.cell.ClearEvent.{ClearEvent}
 use Rattle.jc_transient.specs.declared.cell.ClearEvent.TheVariants.{Reset, Deselect}
 use Rattle.jc_transient.specs.State.{RamState, HasSizes, area, area_size, with_area, with_cells}
+use Rattle.jc_heap.specs.Heap.{facts}
 use Rattle.jc_memory.specs.Cells.{number_of}
+use Rattle.jc_memory.specs.State.{MemoryState, filled}
 
 pub widen_more : (ws bs : List ℕ) (k v : ℕ) → k < length ws → k < length bs → v ≡ get_or bs k 0 → take k ws ≡ take k bs → take (k + 1) (set ws k v) ≡ take (k + 1) bs
 widen_more ws bs k v here there is e = take_more_set ws k v here ∙ ap (λ l. l ++ v ∷ []) e ∙ ap (λ x. take k bs ++ x ∷ []) is ∙ sym (take_more bs k 0 there)
@@ -51,3 +54,42 @@ all_cells d place words k all =
 
 pub fill_all : (event : ClearEvent) (ram new : RamState) (place : ℕ) (words : List ℕ) (k : ℕ) → k ≡ length words → new ≡ filled_to ram event place words k → new ≡ with_area ram event (with_cells (area ram event) place (map number_of words))
 fill_all event ram new place words k all is = is ∙ ap (with_area ram event) (all_cells (area ram event) place words k all)
+
+zeros_are : (n : ℕ) → replicate n (Short (pos 0)) ≡ map number_of (replicate n 0)
+zeros_are zero = refl
+zeros_are (suc n) = ap (λ l. Short (pos 0) ∷ l) (zeros_are n)
+
+two_parts : (d : List CellValue) (place zeros : ℕ) (bytes : List ℕ) → place ≤ length d →
+    with_cells (with_cells d place (map number_of bytes)) (place + length bytes) (replicate zeros (Short (pos 0))) ≡ with_cells d place (map number_of (bytes ++ replicate zeros 0))
+two_parts d place zeros bytes fits =
+    let front = map number_of bytes in
+    let back = replicate zeros (Short (pos 0)) in
+    let long : length bytes ≡ length front = sym (length-map bytes number_of) in
+    let first : with_cells d place front ≡ paste d place front (length front) = sym (paste_all d place front (length front) refl) in
+    ap (λ n. with_cells (with_cells d place front) (place + n) back) long
+    ∙ ap (λ l. with_cells l (place + length front) back) first
+    ∙ sym (paste_all (paste d place front (length front)) (place + length front) back (length back) refl)
+    ∙ paste-paste d place front back (length front) (length back) refl refl fits
+    ∙ paste_all d place (front ++ back) (length front + length back) (sym (length-append front back))
+    ∙ ap (λ n. take place d ++ ((front ++ back) ++ drop (place + n) d)) (sym (length-append front back))
+    ∙ ap (with_cells d place) (ap (λ l. front ++ l) (zeros_are zeros) ∙ sym (map-append number_of bytes (replicate zeros 0)))
+
+-- bytes and zeros behind them
+pub fill_two : (event : ClearEvent) (ram mid new : RamState) (place zeros : ℕ) (bytes : List ℕ) → HasSizes ram → place + length bytes ≤ area_size →
+    mid ≡ with_area ram event (with_cells (area ram event) place (map number_of bytes)) →
+    new ≡ with_area mid event (with_cells (area mid event) (place + length bytes) (replicate zeros (Short (pos 0)))) →
+    new ≡ with_area ram event (with_cells (area ram event) place (map number_of (bytes ++ replicate zeros 0)))
+fill_two Reset ram mid new place zeros bytes sizes fits mid_is new_is =
+    new_is ∙ ap {A = RamState} (λ m. record m { reset_cells = with_cells m.reset_cells (place + length bytes) (replicate zeros (Short (pos 0))) }) mid_is ∙ ap (λ l. record ram { reset_cells = l }) (two_parts ram.reset_cells place zeros bytes (omega (arith, fits, sizes.reset_cells)))
+fill_two Deselect ram mid new place zeros bytes sizes fits mid_is new_is =
+    new_is ∙ ap {A = RamState} (λ m. record m { deselect_cells = with_cells m.deselect_cells (place + length bytes) (replicate zeros (Short (pos 0))) }) mid_is ∙ ap (λ l. record ram { deselect_cells = l }) (two_parts ram.deselect_cells place zeros bytes (omega (arith, fits, sizes.deselect_cells)))
+
+-- the same for the first cells of a transient object
+pub filled_from : (event : ClearEvent) (s : MemoryState) (mid new : RamState) (r place zeros : ℕ) (bytes : List ℕ) → HasSizes s.ram → (facts s.heap.now r).event ≡ Some event → place ≡ (facts s.heap.now r).place → place + length bytes ≤ area_size →
+    mid ≡ with_area s.ram event (with_cells (area s.ram event) place (map number_of bytes)) →
+    new ≡ with_area mid event (with_cells (area mid event) (place + length bytes) (replicate zeros (Short (pos 0)))) →
+    new ≡ filled s.ram (facts s.heap.now r).event ((facts s.heap.now r).place + 0) (map number_of (bytes ++ replicate zeros 0))
+filled_from event s mid new r place zeros bytes sizes transient there fits mid_is new_is =
+    fill_two event s.ram mid new place zeros bytes sizes fits mid_is new_is
+    ∙ ap (λ n. with_area s.ram event (with_cells (area s.ram event) n (map number_of (bytes ++ replicate zeros 0)))) (omega (arith, there))
+    ∙ ap (λ e. filled s.ram e ((facts s.heap.now r).place + 0) (map number_of (bytes ++ replicate zeros 0))) (sym transient)

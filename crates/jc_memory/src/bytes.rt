@@ -11,7 +11,7 @@ use jc_transient::{CellValue, ClearEvent, Ram, Ref};
 use jc_words::WordStore;
 
 // A word as a number.
-fn number_of(word: u16) -> CellValue
+pub(crate) fn number_of(word: u16) -> CellValue
     ensures { result ≡ number_of word }
 {
     CellValue::Short(word.cast_signed())

@@ -4,6 +4,7 @@
 mod adding;
 mod bytes;
 mod cells;
+mod filling;
 mod flags;
 mod law;
 mod making;

@@ -1,5 +1,5 @@
 //! Marks: addresses at which objects are known to stand, so that a reference is known at once.
-ghost use Rattle.std.specs.Prelude.{◌≡◌, false, true, length, slice_set, vec_len, IfOk};
+ghost use Rattle.std.specs.Prelude.{◌≡◌, ◌<◌, ◌≤◌, ◌⊎◌, ℕ, false, true, length, slice_set, vec_len, IfOk};
 ghost use Rattle.jc_memory.specs.Marks.{AreNone, AreObjects, is_marked};
 
 use jc_heap::Heap;
@@ -47,6 +47,17 @@ fn unmark(marks: &mut [bool])
     }
 }
 
+// Takes the marks of the addresses from one on and below another away.
+fn unmark_between(marks: &mut [bool], from: usize, to: usize)
+    requires { to ≤ length marks.old }
+    ensures len { length marks.new ≡ length marks.old }
+    ensures left { (r : ℕ) → is_marked marks.new r ≡ true → (is_marked marks.old r ≡ true) × ((r < from) ⊎ (to ≤ r)) }
+{
+    for place in from..to {
+        marks[place] = false;
+    }
+}
+
 impl Marks {
     /// No mark yet.
     pub fn new(alloc: Global) -> Result<Marks, AllocError>
@@ -69,6 +80,13 @@ impl Marks {
         ensures { self.new ≡ slice_set self.old address true }
     {
         self.marks[usize::from(address.address())] = true;
+    }
+
+    // Takes the marks of the addresses from one on and below another away.
+    pub(crate) fn forget(&mut self, from: u16, to: u16)
+        ensures { (r : ℕ) → is_marked self.new r ≡ true → (is_marked self.old r ≡ true) × ((r < from) ⊎ (to ≤ r)) }
+    {
+        unmark_between(&mut self.marks, usize::from(from), usize::from(to));
     }
 
     // Takes all marks away.

@@ -40,9 +40,11 @@ impl<S: WordStore> Memory<S> {
         requires inside { self.old.heap.begun ≡ true }
         ensures { Makes aborted self.old (after_step result self.new) }
     {
+        let before = self.heap.top();
         self.heap.abort()?;
-        self.marks.scan(&self.heap);
-        self.ram.null_dead(self.heap.top());
+        let top = self.heap.top();
+        self.marks.forget(top, before);
+        self.ram.null_dead(top);
         Ok(())
     }
 
