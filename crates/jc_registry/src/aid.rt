@@ -1,6 +1,9 @@
 //! AIDs as AID objects hold them.
-ghost use Rattle.std.specs.Prelude.{◌≡◌, ◌<◌, ◌≤◌, false, length};
+ghost use Rattle.std.specs.Prelude.{◌≡◌, ◌<◌, ◌≤◌, ◌/◌, ◌%◌, ◌==◌, false, length, if◌then◌else◌};
+ghost use Rattle.jc_heap.specs.Heap.{IsObject, facts};
+ghost use Rattle.jc_memory.specs.Cells.{word_at};
 ghost use Rattle.jc_registry.specs.Aids.{aid_at, aid_byte, aid_of_cells};
+ghost use Rattle.jc_registry.specs.Registry.{is_aid};
 
 use arrayvec::ArrayVec;
 use jc_memory::Memory;
@@ -76,10 +79,55 @@ fn aid_byte(cells: &[u16], i: u16) -> u8
     requires few { i < 16 }
     ensures { result ≡ aid_byte cells.now i }
 {
-    let word = cells[1 + i as usize / 2];
+    byte_in(cells[1 + i as usize / 2], i)
+}
+
+// The byte of an AID at an index, in the cell that holds it.
+fn byte_in(word: u16, i: u16) -> u8
+    ensures { result ≡ (if i % 2 == 0 then word / 256 else word % 256) }
+{
     if i % 2 == 0 {
         (word / 256) as u8
     } else {
         (word % 256) as u8
     }
+}
+
+// A cell of an AID object.
+fn cell<S: WordStore>(memory: &Memory<S>, object: Ref, i: u16) -> u16
+    requires up { memory.now.heap.down ≡ false }
+    requires there { IsObject memory.now.heap.now object }
+    requires cell { i < (facts memory.now.heap.now object).length }
+    ensures { result ≡ word_at memory.now object i }
+{
+    let mut cells = [0];
+    memory.words(object, i, &mut cells);
+    cells[0]
+}
+
+/// Whether an object may hold this AID: of an object that holds one, its length and its last byte are looked
+/// at alone.
+pub(crate) fn may_hold<S: WordStore>(memory: &Memory<S>, object: Ref, aid: &[u8]) -> bool
+    requires up { memory.now.heap.down ≡ false }
+    ensures { result ≡ false → is_aid aid.now (aid_at memory.now object) ≡ false }
+{
+    let Some(facts) = memory.header(object) else {
+        return false;
+    };
+    if facts.length != AID_CELLS {
+        return false;
+    }
+    let count = aid.len();
+    if usize::from(cell(memory, object, 0)) != count {
+        return false;
+    }
+    if count > MOST_AID {
+        return false;
+    }
+    if count == 0 {
+        return true;
+    }
+    let last = count as u16 - 1;
+    let word = cell(memory, object, 1 + last / 2);
+    byte_in(word, last) == aid[count - 1]
 }

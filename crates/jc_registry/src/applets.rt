@@ -3,7 +3,7 @@ ghost use Rattle.std.specs.Prelude.{◌≡◌, ◌≤◌, false};
 ghost use Rattle.jc_words.specs.Layout.{most_applets};
 ghost use Rattle.jc_registry.specs.Registry.{aid_of_applet, applet_count, applet_entry, applet_with_aid, has_aid, instance_of_applet, package_of_applet};
 
-use crate::aid::aid_at;
+use crate::aid::{aid_at, may_hold};
 use jc_heap::AppletEntry;
 use jc_memory::{AppletNumber, Memory};
 use jc_transient::Ref;
@@ -73,6 +73,9 @@ pub fn has_aid<S: WordStore>(memory: &Memory<S>, aid: &[u8], number: AppletNumbe
     let Some(object) = aid_of_applet(memory, number) else {
         return false;
     };
+    if !may_hold(memory, object, aid) {
+        return false;
+    }
     match aid_at(memory, object) {
         Some(held) => held.bytes() == aid,
         None => false,
