@@ -1,10 +1,7 @@
 -- What a session holds.
-use Rattle.std.specs.Prelude.{◌≡◌, ℕ, List, [], true, Option, Some, None, Result, Ok, Err}
-use Rattle.jc_card.specs.CardState.{CardState}
-use Rattle.jc_card.specs.Loads.{Answered}
-use Rattle.jc_memory.specs.Doing.{After, Made, Cut}
+use Rattle.std.specs.Prelude.{◌≡◌, [], true, false, Option, Some, None}
 use Rattle.jc_words.specs.Stores.{Fused}
-use Rattle.jcard_script.specs.Standing.{Standing, Up, Down, IsStoreOf}
+use Rattle.jcard_script.specs.Standing.{Standing, Up, Down}
 use Rattle.jcard_script.specs.declared.held.Held.{Held}
 use Rattle.jcard_script.specs.declared.held.Held.TheVariants.{Card, Store}
 
@@ -22,9 +19,12 @@ abbrev pub standing_in : {S : Type 0} → Option (Held S) → Standing
 standing_in None = Down nowhere
 standing_in (Some held) = standing_of held
 
--- a command that ended so left this: the card and its response; or, where the store refused a write, the store
-abbrev pub HasEnded : After Answered → Result (CardState × List ℕ) Fused → Type 0
-HasEnded (Made a memory) (Ok r) = (r.1 ≡ a.response) × (r.0 ≡ record { memory = memory; packages = a.packages; load = a.load })
-HasEnded (Cut memory) (Err store) = IsStoreOf memory.heap store
-HasEnded (Made a memory) (Err store) = ⊥
-HasEnded (Cut memory) (Ok r) = ⊥
+-- the store of a card that is held has refused no write
+abbrev pub IsUp : {S : Type 0} → Held S → Type 0
+IsUp (Card card) = card.memory.heap.down ≡ false
+IsUp (Store store) = Unit {0}
+
+-- something is held, and so
+abbrev pub IsHeld : {S : Type 0} → Option (Held S) → Type 0
+IsHeld None = ⊥
+IsHeld (Some held) = IsUp held

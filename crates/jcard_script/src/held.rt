@@ -1,12 +1,10 @@
 //! A card, or the store of a card that does not power up.
-ghost use Rattle.std.specs.Prelude.{◌≡◌, OnOk, IfErr};
+ghost use Rattle.std.specs.Prelude.{◌≡◌, OnOk, OnSome, IfErr, IfSome, IsNone};
 ghost use Rattle.jc_words.specs.Stores.{Fused};
-ghost use Rattle.jc_memory.specs.Doing.{After};
-ghost use Rattle.jc_card.specs.Loads.{Answered};
-ghost use Rattle.jcard_script.specs.Standing.{Up, Down, Exchanges, Holds, PowersUp, FailsUp, armed};
-ghost use Rattle.jcard_script.specs.Held.{HasEnded, standing_of};
+ghost use Rattle.jcard_script.specs.Standing.{Down, Holds, PowersUp, FailsUp, armed};
+ghost use Rattle.jcard_script.specs.Held.{IsUp, standing_of};
 ghost use Rattle.jcard_script.specs.Reply.{text_of_reply};
-ghost use Rattle.jcard_script.specs.Script.{IsAnswered, power_text};
+ghost use Rattle.jcard_script.specs.Script.{IsAnswered, down_text, power_text, text_of};
 
 use crate::reply::Reply;
 use jc_card::card::Card;
@@ -14,55 +12,12 @@ use jc_card::power_up::PowerFault;
 use jc_card::response::Response;
 use jc_words::{FuseStore, StoreDown, WordStore};
 use std::alloc::Global;
-use std::marker::Model;
-
-/// A card that is powered up, and whose store has refused no write.
-#[derive(Drop)]
-pub(crate) struct UpCard<S: WordStore> {
-    card: Card<FuseStore<S>>,
-}
-
-impl<S: WordStore> Model for UpCard<S> {
-    ghost use Rattle.std.specs.Prelude.{◌≡◌, false};
-    ghost use Rattle.jc_card.specs.CardState.{CardState};
-
-    ghost Value = { CardState };
-
-    ghost view = { λ c. c.card };
-
-    ghost invariant = { λ c. c.card.memory.heap.down ≡ false };
-}
-
-impl<S: WordStore> UpCard<S> {
-    // The card and its response to a command, or its store where that refuses a write.
-    fn exchange(self, command: &[u8]) -> Result<(UpCard<S>, Response), FuseStore<S>>
-        ensures { (after : After Answered) × Exchanges command.now self after × HasEnded after result }
-    {
-        let UpCard { mut card } = self;
-        match card.exchange(command) {
-            Ok(response) => Ok((UpCard { card }, response)),
-            Err(StoreDown) => Err(card.into_store()),
-        }
-    }
-
-    // With the store's fuse armed.
-    fn armed(self, k: u64) -> UpCard<S>
-        ensures { Up result ≡ armed k (Up self) }
-    {
-        let UpCard { card } = self;
-        let (mut store, rest) = card.into_parts();
-        store.arm(k);
-        UpCard {
-            card: Card::of_parts(store, rest),
-        }
-    }
-}
 
 /// What a session holds.
 #[derive(Drop)]
 pub(crate) enum Held<S: WordStore> {
     /// A card that is powered up.
-    Card(UpCard<S>),
+    Card(Card<FuseStore<S>>),
     /// The store of a card that is down.
     Store(FuseStore<S>),
 }
@@ -74,12 +29,13 @@ impl<S: WordStore> Held<S> {
         alloc: Global,
         mut store: FuseStore<S>,
     ) -> (Held<S>, Result<(), PowerFault>)
+        ensures up { IsUp result.0 }
         ensures powered { OnOk result.1 (PowersUp store (standing_of result.0)) }
         ensures fault { IfErr result.1 (λ fault. (after : Fused) × FailsUp store fault after × (standing_of result.0 ≡ Down after)) }
     {
         store.power_on();
         match Card::power_up(alloc, store) {
-            Ok(card) => (Held::Card(UpCard { card }), Ok(())),
+            Ok(card) => (Held::Card(card), Ok(())),
             Err((PowerFault::StoreDown, store)) => (Held::Store(store), Ok(())),
             Err((fault, store)) => (Held::Store(store), Err(fault)),
         }
@@ -90,17 +46,23 @@ impl<S: WordStore> Held<S> {
         ensures { Holds (standing_of self) result }
     {
         match self {
-            Held::Card(up) => up.card.into_store(),
+            Held::Card(card) => card.into_store(),
             Held::Store(store) => store,
         }
     }
 
     /// With the store's fuse armed: `k` further writes pass, and the next is refused.
     pub(crate) fn armed(self, k: u64) -> Held<S>
-        ensures { standing_of result ≡ armed k (standing_of self) }
+        requires up { IsUp self }
+        ensures up { IsUp result }
+        ensures armed { standing_of result ≡ armed k (standing_of self) }
     {
         match self {
-            Held::Card(up) => Held::Card(up.armed(k)),
+            Held::Card(card) => {
+                let (mut store, rest) = card.into_parts();
+                store.arm(k);
+                Held::Card(Card::of_parts(store, rest))
+            }
             Held::Store(mut store) => {
                 store.arm(k);
                 Held::Store(store)
@@ -108,16 +70,20 @@ impl<S: WordStore> Held<S> {
         }
     }
 
-    /// Carries a command out, and what is to be written for it.
-    pub(crate) fn exchange(self, command: &[u8]) -> (Held<S>, Reply)
-        ensures { IsAnswered command.now (standing_of self) (standing_of result.0) (text_of_reply result.1) }
+    /// Carries a command out: the card's response. `None` where there is no card, or where its store refuses a
+    /// write, which then is all that is left of it.
+    pub(crate) fn exchange(&mut self, command: &[u8]) -> Option<Response>
+        requires up { IsUp self.old }
+        ensures up { OnSome result (IsUp self.new) }
+        ensures answer { IfSome result (λ response. IsAnswered command.now (standing_of self.old) (standing_of self.new) (text_of response)) }
+        ensures down { IsNone result → (store : Fused) → Holds (standing_of self.new) store → IsAnswered command.now (standing_of self.old) (Down store) down_text }
     {
         match self {
-            Held::Card(up) => match up.exchange(command) {
-                Ok((up, response)) => (Held::Card(up), Reply::Answer(response)),
-                Err(store) => (Held::Store(store), Reply::Down),
+            Held::Card(card) => match card.exchange(command) {
+                Ok(response) => Some(response),
+                Err(StoreDown) => None,
             },
-            Held::Store(store) => (Held::Store(store), Reply::Down),
+            Held::Store(_) => None,
         }
     }
 

@@ -1,11 +1,11 @@
 //! A script that is being carried out.
-ghost use Rattle.std.specs.Prelude.{◌≡◌, ◌+◌, ◌-◌, ◌^◌, ◌<◌, ◌≤◌, ℕ, List, [], ◌∷◌, ◌++◌, Bool, length, IsSome, IfOk, IfErr, OnOk, MatchResult, Err, false};
+ghost use Rattle.std.specs.Prelude.{◌≡◌, ◌+◌, ◌-◌, ◌^◌, ◌<◌, ◌≤◌, ℕ, List, [], ◌∷◌, ◌++◌, Bool, length, IfOk, IfErr, OnOk, MatchResult, Err, false};
 ghost use Rattle.std.specs.Bool.{OnTrue};
 ghost use Rattle.std.specs.Io.KnownBytes.{Appends, Consumes};
 ghost use Rattle.std.specs.Str.Lines.{lines};
 ghost use Rattle.jc_words.specs.Stores.{Fused};
 ghost use Rattle.jcard_script.specs.Failures.{failures_after};
-ghost use Rattle.jcard_script.specs.Held.{standing_in};
+ghost use Rattle.jcard_script.specs.Held.{IsHeld, standing_in};
 ghost use Rattle.jcard_script.specs.Line.{AsksFor};
 ghost use Rattle.jcard_script.specs.Reply.{text_of_reply};
 ghost use Rattle.jcard_script.specs.Script.{EndsFrom, IsAnswered, IsWholeScript, IsWrittenFor, armed_text, form_of, power_text, is_read_failed, is_write_failed, ended_lines};
@@ -34,7 +34,7 @@ pub(crate) struct Session<S: WordStore> {
 impl<S: WordStore + Drop> Session<S> {
     /// Before the first line: brings the power back and powers up.
     pub(crate) fn start(alloc: Global, fuse: FuseStore<S>) -> (Session<S>, Result<(), PowerFault>)
-        ensures held { IsSome result.0.held }
+        ensures held { IsHeld result.0.held }
         ensures stands { StandsAt result.0 (standing_in result.0.held) [] [] }
         ensures powered { OnOk result.1 (PowersUp fuse (standing_in result.0.held)) }
         ensures fault { IfErr result.1 (λ fault. (after : Fused) × FailsUp fuse fault after × (standing_in result.0.held ≡ Down after)) }
@@ -51,7 +51,7 @@ impl<S: WordStore + Drop> Session<S> {
 
     /// The store.
     pub(crate) fn into_store(self) -> FuseStore<S>
-        requires { IsSome self.held }
+        requires { IsHeld self.held }
         ensures { Holds (standing_in self.held) result }
     {
         let Session {
@@ -69,9 +69,9 @@ impl<S: WordStore + Drop> Session<S> {
         reader: &mut R,
         writer: &mut W,
     ) -> Result<(), ScriptFault>
-        requires held { IsSome self.old.held }
+        requires held { IsHeld self.old.held }
         requires stands { StandsAt self.old (standing_in self.old.held) [] [] }
-        ensures held { IsSome self.new.held }
+        ensures held { IsHeld self.new.held }
         ensures script { (script text : List ℕ) × (at_end : Bool)
             × Consumes (R.remaining reader.old) (R.remaining reader.new) script
             × Appends (W.contents writer.old) (W.contents writer.new) text
@@ -101,8 +101,8 @@ impl<S: WordStore + Drop> Session<S> {
     // The next bytes of the script.
     fn feed<W: TextOut>(&mut self, piece: &[u8], writer: &mut W) -> Result<(), ScriptFault>
         requires number { self.old.number + length piece.now < 2 ^ 32 }
-        requires held { IsSome self.old.held }
-        ensures held { IsSome self.new.held }
+        requires held { IsHeld self.old.held }
+        ensures held { IsHeld self.new.held }
         ensures goes { (script text : List ℕ) → (first : Standing) → StandsAt self.old first script text
             → (more : List ℕ) × Appends (W.contents writer.old) (W.contents writer.new) more
             × OnOk result (StandsAt self.new first (script ++ piece.now) (text ++ more))
@@ -118,8 +118,8 @@ impl<S: WordStore + Drop> Session<S> {
     // The next byte.
     fn push<W: TextOut>(&mut self, byte: u8, writer: &mut W) -> Result<(), ScriptFault>
         requires number { self.old.number < 2 ^ 32 - 1 }
-        requires held { IsSome self.old.held }
-        ensures held { IsSome self.new.held }
+        requires held { IsHeld self.old.held }
+        ensures held { IsHeld self.new.held }
         ensures number { OnOk result (self.new.number ≤ self.old.number + 1) }
         ensures goes { (script text : List ℕ) → (first : Standing) → StandsAt self.old first script text
             → (more : List ℕ) × Appends (W.contents writer.old) (W.contents writer.new) more
@@ -137,8 +137,8 @@ impl<S: WordStore + Drop> Session<S> {
     // A line feed.
     fn end_line<W: TextOut>(&mut self, writer: &mut W) -> Result<(), ScriptFault>
         requires number { self.old.number < 2 ^ 32 - 1 }
-        requires held { IsSome self.old.held }
-        ensures held { IsSome self.new.held }
+        requires held { IsHeld self.old.held }
+        ensures held { IsHeld self.new.held }
         ensures number { OnOk result (self.new.number ≡ self.old.number + 1) }
         ensures goes { (script text : List ℕ) → (first : Standing) → StandsAt self.old first script text
             → (more : List ℕ) × Appends (W.contents writer.old) (W.contents writer.new) more
@@ -156,8 +156,8 @@ impl<S: WordStore + Drop> Session<S> {
     // The end of the script.
     fn finish<W: TextOut>(&mut self, writer: &mut W) -> Result<(), ScriptFault>
         requires number { self.old.number < 2 ^ 32 - 1 }
-        requires held { IsSome self.old.held }
-        ensures held { IsSome self.new.held }
+        requires held { IsHeld self.old.held }
+        ensures held { IsHeld self.new.held }
         ensures goes { (script text : List ℕ) → (first : Standing) → StandsAt self.old first script text
             → (more : List ℕ) × Appends (W.contents writer.old) (W.contents writer.new) more
             × LinesEnd result (lines script) first (standing_in self.new.held) (text ++ more) }
@@ -170,8 +170,8 @@ impl<S: WordStore + Drop> Session<S> {
 
     // Carries out the line with the session's number.
     fn carry_out<W: TextOut>(&mut self, asked: Asked, writer: &mut W) -> Result<(), ScriptFault>
-        requires held { IsSome self.old.held }
-        ensures held { IsSome self.new.held }
+        requires held { IsHeld self.old.held }
+        ensures held { IsHeld self.new.held }
         ensures number { self.new.number ≡ self.old.number }
         ensures goes { (line : List ℕ) → AsksFor asked line
             → (more : List ℕ) × Appends (W.contents writer.old) (W.contents writer.new) more
@@ -189,8 +189,8 @@ impl<S: WordStore + Drop> Session<S> {
 
     // What is to be written for the line with the session's number.
     fn reply(&mut self, asked: Asked) -> Result<Reply, ScriptFault>
-        requires held { IsSome self.old.held }
-        ensures held { IsSome self.new.held }
+        requires held { IsHeld self.old.held }
+        ensures held { IsHeld self.new.held }
         ensures number { self.new.number ≡ self.old.number }
         ensures goes { (line : List ℕ) → AsksFor asked line → MatchResult result
             (λ reply. IsWrittenFor (form_of line) (standing_in self.old.held) (standing_in self.new.held) (text_of_reply reply))
@@ -211,21 +211,25 @@ impl<S: WordStore + Drop> Session<S> {
 
     // A command.
     fn exchange(&mut self, command: &[u8]) -> Reply
-        requires held { IsSome self.old.held }
-        ensures held { IsSome self.new.held }
+        requires held { IsHeld self.old.held }
+        ensures held { IsHeld self.new.held }
         ensures number { self.new.number ≡ self.old.number }
         ensures answer { IsAnswered command.now (standing_in self.old.held) (standing_in self.new.held) (text_of_reply result) }
     {
-        let held = self.held.take().unwrap();
-        let (held, reply) = held.exchange(command);
-        self.held = Some(held);
-        reply
+        if let Some(held) = &mut self.held {
+            if let Some(response) = held.exchange(command) {
+                return Reply::Answer(response);
+            }
+        }
+        let left = self.held.take().unwrap().into_store();
+        self.held = Some(Held::Store(left));
+        Reply::Down
     }
 
     // A reset.
     fn reset(&mut self) -> Result<Reply, PowerFault>
-        requires held { IsSome self.old.held }
-        ensures held { IsSome self.new.held }
+        requires held { IsHeld self.old.held }
+        ensures held { IsHeld self.new.held }
         ensures number { self.new.number ≡ self.old.number }
         ensures powered { IfOk result (λ reply. IsReset (standing_in self.old.held) (standing_in self.new.held)
             × (text_of_reply reply ≡ power_text (standing_in self.new.held))) }
@@ -243,8 +247,8 @@ impl<S: WordStore + Drop> Session<S> {
 
     // Arms the fuse.
     fn stop(&mut self, k: u16) -> Reply
-        requires held { IsSome self.old.held }
-        ensures held { IsSome self.new.held }
+        requires held { IsHeld self.old.held }
+        ensures held { IsHeld self.new.held }
         ensures number { self.new.number ≡ self.old.number }
         ensures armed { text_of_reply result ≡ armed_text k }
         ensures standing { standing_in self.new.held ≡ armed k (standing_in self.old.held) }

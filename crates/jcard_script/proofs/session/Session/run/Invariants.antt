@@ -1,5 +1,5 @@
 use Rattle.std.proofs.Common.{◌≡◌, ◌+◌, ℕ, List, length}
-use Rattle.std.specs.Prelude.{IsSome}
+use Rattle.jcard_script.specs.Held.{IsHeld}
 use Rattle.std.specs.Io.KnownBytes.{Appends, Consumes}
 use Rattle.jcard_script.specs.Held.{standing_in}
 use Rattle.jcard_script.specs.Session.{StandsAt}
@@ -7,7 +7,7 @@ use Rattle.jcard_script.proofs.session.Session.run.Given as goal
 
 abbrev pub invariant-loop-count : goal.invariant-loop-count
 invariant-loop-count g l = record {
-  held : IsSome l.self.held;
+  held : IsHeld l.self.held;
   reads : g.R.TextIn.failures l.reader ≡ g.R.TextIn.failures l.fn.reader;
   writes : g.W.TextOut.failures l.writer ≡ g.W.TextOut.failures l.fn.writer;
   stands : (script text : List ℕ)
