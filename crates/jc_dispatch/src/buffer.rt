@@ -1,13 +1,12 @@
 //! The APDU buffer as the runtime environment fills it.
-ghost use Rattle.std.specs.Prelude.{◌≡◌, ◌≤◌, ◌+◌, ◌++◌, false, length, replicate};
-ghost use Rattle.jc_memory.specs.Doing.{Makes, after_step};
-ghost use Rattle.jc_dispatch.specs.Buffer.{apdu_buffer, apdu_object, buffer_length, filled, is_buffer, padded};
+ghost use Rattle.std.specs.Prelude.{◌≡◌, ◌≤◌, false, length};
+ghost use Rattle.jc_memory.specs.Doing.{Made, Makes};
+ghost use Rattle.jc_dispatch.specs.Buffer.{apdu_buffer, apdu_object, filled, is_buffer};
 
-use arrayvec::ArrayVec;
-use jc_heap::{ChangeRefusal, Facts, Kind};
+use jc_heap::{Facts, Kind};
 use jc_memory::{MOST_COMMAND, Memory};
 use jc_transient::Ref;
-use jc_words::{StoreDown, WordStore};
+use jc_words::WordStore;
 
 pub(crate) fn apdu_object<S: WordStore>(memory: &Memory<S>) -> Ref
     ensures { result ≡ apdu_object memory.now }
@@ -32,46 +31,22 @@ fn is_buffer(facts: Facts) -> bool
     of_bytes && facts.event.is_some() && usize::from(facts.length) >= MOST_COMMAND
 }
 
-// Puts zeros behind the others.
-fn push_zeros(bytes: &mut ArrayVec<u8, MOST_COMMAND>, count: usize)
-    requires { length bytes.old.items + count ≤ 261 }
-    ensures { bytes.new.items ≡ bytes.old.items ++ replicate count 0 }
-{
-    for _done in 0..count {
-        bytes.push(0);
-    }
-}
-
-// The bytes with zeros behind them.
-fn padded(bytes: &[u8]) -> ArrayVec<u8, MOST_COMMAND>
-    requires { length bytes.now ≤ MOST_COMMAND }
-    ensures all { result.items ≡ padded bytes.now }
-    ensures long { length result.items ≡ buffer_length }
-{
-    let mut all = ArrayVec::new();
-    let _ = all.try_extend_from_slice(bytes);
-    push_zeros(&mut all, MOST_COMMAND - bytes.len());
-    all
-}
-
 /// The buffer holds these bytes, at most 261, and zeros behind them.
 #[tactic(auto, unfolding(crate::specs::Buffer::filled))]
-pub(crate) fn fill<S: WordStore>(bytes: &[u8], memory: &mut Memory<S>) -> Result<(), StoreDown>
+pub(crate) fn fill<S: WordStore>(bytes: &[u8], memory: &mut Memory<S>)
     requires up { memory.old.heap.down ≡ false }
     requires few { length bytes.now ≤ MOST_COMMAND }
-    ensures { Makes (filled memory.old bytes.now) memory.old (after_step result memory.new) }
+    ensures { Makes (filled memory.old bytes.now) memory.old (Made tt memory.new) }
 {
     let buffer = apdu_buffer(memory);
     let Some(facts) = memory.header(buffer) else {
-        return Ok(());
+        return;
     };
-    if !is_buffer(facts) {
-        return Ok(());
-    }
-    let all = padded(bytes);
-    match memory.set_bytes(buffer, 0, &all) {
-        Ok(()) => Ok(()),
-        Err(ChangeRefusal::CommitFull) => Ok(()),
-        Err(ChangeRefusal::StoreDown) => Err(StoreDown),
+    let Some(event) = facts.event else {
+        return;
+    };
+    if is_buffer(facts) {
+        let zeros = MOST_COMMAND - bytes.len();
+        memory.fill(buffer, event, bytes, zeros as u16);
     }
 }

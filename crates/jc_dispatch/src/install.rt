@@ -84,7 +84,7 @@ pub fn install<S: WordStore>(
     memory.begin();
     let registers = memory.registers();
     memory.turn(with_installation(Installation::Open(home, entry), registers));
-    fill(parameters, memory)?;
+    fill(parameters, memory);
     let arguments = [
         Cell::Reference(apdu_buffer(memory)),
         Cell::Short(0),

@@ -55,7 +55,7 @@ pub fn process<S: WordStore>(
     let registers = memory.registers();
     memory.turn(with_command(expected, selecting, registers));
     let header = header_of(memory.command());
-    fill(&header, memory)?;
+    fill(&header, memory);
     let instance = instance_of(applet, memory);
     let arguments = [
         Cell::Reference(instance),
