@@ -1,2 +1,4 @@
+pub mod Shut
+pub mod Rest
 pub mod Steps
 pub mod Scripts

@@ -1,9 +1,11 @@
 -- Lines of a script as events of a session.
-use Rattle.std.proofs.Common.{◌≡◌, inl, inr, ℕ, List, [], ◌∷◌, ◌++◌, refl, sym, ◌∙◌, ap, subst}
+use Rattle.std.proofs.Common.{◌≡◌, inl, inr, ℕ, List, [], ◌∷◌, ◌++◌, refl, sym, ◌∙◌, ap, subst, length}
+use Rattle.std.specs.Prelude.{◌⊎◌, Bool, false, Result, Ok, Err}
+use Rattle.std.proofs.lemmas.List.{append_assoc, append-nil}
 use Rattle.std.specs.Str.Lines.{lines}
 use Rattle.jc_words.specs.Stores.{Fused}
 use Rattle.jc_commit.specs.Image.{IsGoodLog}
-use Rattle.jc_heap.specs.Heap.{HeapView}
+use Rattle.jc_heap.specs.Heap.{HeapState, HeapView, resting}
 use Rattle.jc_memory.specs.Doing.{After, Made, Cut}
 use Rattle.jc_card.specs.CardState.{CardState}
 use Rattle.jc_card.specs.Loads.{Answered}
@@ -14,21 +16,28 @@ use Rattle.jc_session.specs.declared.event.Answer.TheVariants.{Response, Down}
 use Rattle.jc_session.specs.Held.{told}
 use Rattle.jc_session.specs.Power.{Power, Up, Off, StoreState, IsStoreOf, kept, kept_by, kept_in, refused_once}
 use Rattle.jc_session.specs.Serving.{AnswersCommand, AnswersReset, SessionRun}
-use Rattle.jc_session.specs.Starting.{IsPoweredUp, Starts}
+use Rattle.jc_session.specs.Starting.{FailsToReset, IsPoweredUp, Starts}
+use Rattle.jc_card.specs.declared.power_up.PowerFault.{PowerFault as Fault}
+use Rattle.jc_card.specs.PowerUp.{Stands}
 use Rattle.jc_session.proofs.WholeSessions.{are_whole}
-use Rattle.jcard_script.specs.Standing.{Standing, Up as UpIn, Down as DownIn, Exchanges, IsStoreOf as IsStoreOfHeap, Holds, PowersUp}
-use Rattle.jcard_script.specs.Script.{Form, Skipped, Command, Resets, AreCarriedOut, IsAnswered, IsToldOf, IsWrittenFor, form_of, power_text}
-use Rattle.jcard_sessions.proofs.Steps.{cut_kept, starts_off, starts_up}
-use Rattle.jcard_sessions.specs.Scripts.{AreSessions, AreWholeSessions, Spell, SpellsFirst, state_of, text_of_answer, text_of_answers}
+use Rattle.jcard_script.specs.declared.script.ScriptFault.{ScriptFault}
+use Rattle.jcard_script.specs.declared.script.ScriptFault.TheVariants.{ReadFailed, WriteFailed, BadLine, TooLong, PowerFault}
+use Rattle.jcard_script.specs.Standing.{Standing, Up as UpIn, Down as DownIn, Exchanges, FailsReset, IsStoreOf as IsStoreOfHeap, Holds, PowersUp, armed}
+use Rattle.jcard_script.specs.Script.{AreCarriedOut, Ends, Form, Skipped, Command, Resets, Stops, Bad, IsAnswered, IsToldOf, IsWrittenFor, armed_text, form_of, lines_so_far, power_text}
+use Rattle.jcard_script.specs.Texts.{IsCutOf}
+use Rattle.jcard_sessions.proofs.Rest.{leave_at_rest, rests_so}
+use Rattle.jcard_sessions.proofs.Steps.{cut_kept, fails_to_reset, starts_off, starts_up}
+use Rattle.jcard_sessions.specs.Rest.{IsResting}
+use Rattle.jcard_sessions.specs.Scripts.{AreAnswered, AreServed, AreSessions, AreWholeSessions, EndsServed, IsWrittenFirst, Leaves, Spell, SpellsFirst, state_of, text_of_answer}
 
 -- how the card of a script stands, as a session sees it
 abbrev power_in : Standing → Power
 power_in (UpIn card) = Up card
 power_in (DownIn store) = Off (kept_in (state_of store))
 
--- the journal of a card that is down is good
+-- the heap of a card that is up rests, and the journal of one that is down is good
 abbrev IsGood : Standing → Type 0
-IsGood (UpIn card) = Unit {0}
+IsGood (UpIn card) = IsResting card.memory.heap
 IsGood (DownIn store) = IsGoodLog store.words
 
 same_kept : (heap : HeapView) (store : Fused) → IsStoreOfHeap heap store → kept_in (state_of store) ≡ kept_by heap
@@ -46,21 +55,21 @@ store_held (DownIn held) store good h = record { good = subst (λ (f : Fused). I
 abbrev IsTold : List ℕ → Power → Standing → List ℕ → Type 0
 IsTold bytes s t text = (answer : Answer) × AnswersCommand s bytes answer (power_in t) × (text ≡ text_of_answer answer) × IsGood t
 
-told_after : (bytes : List ℕ) (card : CardState) (after : After Answered) (t : Standing) (text : List ℕ) → Exchanges bytes card after → IsToldOf after t text → IsTold bytes (Up card) t text
-told_after bytes card (Made a memory) t text made says =
-    (Response a.response, subst (λ (u : Standing). AnswersCommand (Up card) bytes (Response a.response) (power_in u)) (sym says.1) made, says.0, subst IsGood (sym says.1) tt)
-told_after bytes card (Cut memory) t text cut says =
+told_after : (bytes : List ℕ) (card : CardState) (after : After Answered) (t : Standing) (text : List ℕ) → IsResting card.memory.heap → Exchanges bytes card after → IsToldOf after t text → IsTold bytes (Up card) t text
+told_after bytes card (Made a memory) t text rest made says =
+    (Response a.response, subst (λ (u : Standing). AnswersCommand (Up card) bytes (Response a.response) (power_in u)) (sym says.1) made, says.0, subst IsGood (sym says.1) (leave_at_rest bytes card a memory rest made))
+told_after bytes card (Cut memory) t text rest cut says =
     let left = cut_kept card bytes memory (state_of says.1) cut says.2.durable says.2.down says.2.refused says.2.size in
     (Down, subst (λ (u : Standing). AnswersCommand (Up card) bytes Down (power_in u)) (sym says.3) left, says.0, subst IsGood (sym says.3) says.2.good)
 
 told_of : (bytes : List ℕ) (s t : Standing) (text : List ℕ) → IsGood s → IsAnswered bytes s t text → IsTold bytes (power_in s) t text
-told_of bytes (UpIn card) t text good h = told_after bytes card h.0 t text h.1 h.2
+told_of bytes (UpIn card) t text good h = told_after bytes card h.0 t text good h.1 h.2
 told_of bytes (DownIn store) t text good h =
     (Down, subst (λ (u : Standing). AnswersCommand (Off (kept_in (state_of store))) bytes Down (power_in u)) (sym h.1) refl, h.0, subst IsGood (sym h.1) good)
 
 -- a power up over a store
 started : (before : Fused) (t : Standing) → PowersUp before t → Starts (state_of before) (power_in t) × IsGood t
-started before (UpIn card) h = (starts_up (state_of before) before.passed card h.0 h.1 h.4, tt)
+started before (UpIn card) h = let up = starts_up (state_of before) before.passed card h.0 h.1 h.4 in (up, rests_so (kept_in (state_of before)) card up.1)
 started before (DownIn after) h = (starts_off (state_of before) (state_of after) h.0 h.1 h.2 h.3, h.1.good)
 
 reset_by : (s : Power) (store : StoreState) (t : Power) → kept_in store ≡ kept s → Starts store t → AnswersReset s (told t) t
@@ -71,39 +80,113 @@ text_told : (t : Standing) → power_text t ≡ text_of_answer (told (power_in t
 text_told (UpIn card) = refl
 text_told (DownIn store) = refl
 
+-- arming the fuse leaves a card as it is
+same_armed : (k : ℕ) (s : Standing) → IsGood s → power_in (armed k s) ≡ power_in s
+same_armed k (UpIn card) rest = ap (λ (v : HeapView). Up (record card { memory = record card.memory { heap = v } })) (sym (rest ∙ (λ i. resting (sym (ap (λ (v : HeapView). v.durable) rest) i) card.memory.heap.passed card.memory.heap.refused card.memory.heap.size)))
+same_armed k (DownIn store) good = refl
+
+good_armed : (k : ℕ) (s : Standing) → IsGood s → IsGood (armed k s)
+good_armed k (UpIn card) rest = refl
+good_armed k (DownIn store) good = good
+
 -- some lines, from one standing to the other, as a run of a session
-abbrev Ran : Standing → Standing → List ℕ → List Event → Type 0
-Ran s t text events = (answers : List Answer) × SessionRun (power_in s) events answers (power_in t) × (text ≡ text_of_answers answers) × IsGood t
+record Ran (carried : List (List ℕ)) (s t : Standing) (text : List ℕ) (events : List Event) : Type 0 where
+  pub answers : List Answer
+  pub run : SessionRun (power_in s) events answers (power_in t)
+  pub written : AreAnswered carried answers text
+  pub good : IsGood t
+
+-- the same of the first of some lines, of which this is asked
+abbrev RanFirst : Form → (List Answer → List ℕ → Type 0) → Standing → Standing → List ℕ → List Event → Type 0
+RanFirst form rest s t text events = (answers : List Answer) × SessionRun (power_in s) events answers (power_in t) × IsWrittenFirst form rest answers text × IsGood t
 
 one_line : (form : Form) (more : List (List ℕ)) (s u t : Standing) (first rest text : List ℕ) (events : List Event) → IsGood s → text ≡ first ++ rest → IsWrittenFor form s u first → SpellsFirst form (Spell more) events →
-    ((others : List Event) → IsGood u → Spell more others → Ran u t rest others) → Ran s t text events
+    ((others : List Event) → IsGood u → Spell more others → Ran more u t rest others) → RanFirst form (AreAnswered more) s t text events
 one_line Skipped more s u t first rest text events good is written spells then =
     let ran = then events (subst IsGood (sym written.0) good) spells in
-    (ran.0, subst (λ p. SessionRun (power_in p) events ran.0 (power_in t)) written.0 ran.1, is ∙ (ap (λ l. l ++ rest) written.1 ∙ ran.2), ran.3)
+    (ran.answers, subst (λ p. SessionRun (power_in p) events ran.answers (power_in t)) written.0 ran.run, subst (AreAnswered more ran.answers) (sym (is ∙ ap (λ l. l ++ rest) written.1)) ran.written, ran.good)
+one_line (Stops k) more s u t first rest text events good is written spells then =
+    let ran = then events (subst IsGood (sym written.0) (good_armed k s good)) spells in
+    let from = ap power_in written.0 ∙ same_armed k s good in
+    (ran.answers, subst (λ p. SessionRun p events ran.answers (power_in t)) from ran.run, (rest, is ∙ ap (λ l. l ++ rest) written.1, ran.written), ran.good)
 one_line (Command bytes) more s u t first rest text (event.Command v ∷ events) good is written spells then =
     let said = told_of bytes s u first good written in
     let ran = then events said.3 spells.1 in
-    (said.0 ∷ ran.0, (power_in u, subst (λ b. AnswersCommand (power_in s) b said.0 (power_in u)) (sym spells.0) said.1, ran.1), is ∙ (λ i. said.2 i ++ ran.2 i), ran.3)
+    (said.0 ∷ ran.answers, (power_in u, subst (λ b. AnswersCommand (power_in s) b said.0 (power_in u)) (sym spells.0) said.1, ran.run), (rest, is ∙ ap (λ l. l ++ rest) said.2, ran.written), ran.good)
 one_line Resets more s u t first rest text (event.Reset ∷ events) good is written spells then =
     let up = started written.0.0 u written.0.2 in
     let ran = then events up.1 spells in
-    (told (power_in u) ∷ ran.0, (power_in u, reset_by (power_in s) (state_of written.0.0) (power_in u) (kept_held s written.0.0 written.0.1) up.0, ran.1), is ∙ (λ i. (written.1 ∙ text_told u) i ++ ran.2 i), ran.3)
+    (told (power_in u) ∷ ran.answers, (power_in u, reset_by (power_in s) (state_of written.0.0) (power_in u) (kept_held s written.0.0 written.0.1) up.0, ran.run), (rest, is ∙ ap (λ l. l ++ rest) (written.1 ∙ text_told u), ran.written), ran.good)
 one_line form more s u t first rest text events good is written spells then = absurd spells
 
-all_lines : (all : List (List ℕ)) (s t : Standing) (text : List ℕ) (events : List Event) → IsGood s → AreCarriedOut all s t text → Spell all events → Ran s t text events
+all_lines : (all : List (List ℕ)) (s t : Standing) (text : List ℕ) (events : List Event) → IsGood s → AreCarriedOut all s t text → Spell all events → Ran all s t text events
 all_lines [] s t text events good h spells =
-    ([], subst (λ es. SessionRun (power_in s) es [] (power_in t)) (sym spells) (ap power_in h.0), h.1, subst IsGood (sym h.0) good)
+    record { answers = []; run = subst (λ es. SessionRun (power_in s) es [] (power_in t)) (sym spells) (ap power_in h.0); written = (refl, h.1); good = subst IsGood (sym h.0) good }
 all_lines (line ∷ more) s t text events good h spells =
-    one_line (form_of line) more s h.2 t h.0 h.1 text events good h.3 h.4 spells (λ others fine spelt. all_lines more h.2 t h.1 others fine h.5 spelt)
+    let ran = one_line (form_of line) more s h.2 t h.0 h.1 text events good h.3 h.4 spells (λ others fine spelt. all_lines more h.2 t h.1 others fine h.5 spelt) in
+    record { answers = ran.0; run = ran.1; written = ran.2; good = ran.3 }
+
+-- ---- whole scripts
+
+-- lines that were carried out from a power up on are served
+served : (before : Fused) (carried : List (List ℕ)) (s t : Standing) (text : List ℕ) (leads : Power → Type 0) → PowersUp before s → AreCarriedOut carried s t text → (IsGood t → leads (power_in t)) → AreServed before carried text leads
+served before carried s t text leads up h ends events spells =
+    let first = started before s up in
+    let ran = all_lines carried s t text events first.1 h spells in
+    (power_in t, record { answers = ran.answers; session = (power_in s, first.0, ran.run); written = ran.written }, ends ran.good)
+
+-- a reset that finds a fault leaves what was there, with the power on
+reset_fails : (fault : Fault) (s t : Standing) (after : Fused) → IsGood s → FailsReset fault s t → Holds t after → FailsToReset fault (power_in s) (state_of after)
+reset_fails fault s t after good h holds =
+    let left : after ≡ h.1 = subst (λ (v : Standing). Holds v after) h.4 holds in
+    fails_to_reset fault (power_in s) (state_of h.0) (state_of after) (store_held s h.0 good h.2) h.3.cause h.3.other (ap (λ (f : Fused). length f.words) left ∙ h.3.size)
+    (subst (λ (f : Fused). Stands fault h.0.words f.words) (sym left) h.3.stands) (ap (λ (f : Fused). f.down) left ∙ h.3.up) (ap (λ (f : Fused). f.refused) left ∙ h.3.refused)
+
+-- one more line behind some that were carried out
+one_more : (all : List (List ℕ)) (line : List ℕ) (s u t : Standing) (whole answer : List ℕ) → AreCarriedOut all s u whole → IsWrittenFor (form_of line) u t answer → AreCarriedOut (all ++ line ∷ []) s t (whole ++ answer)
+one_more [] line s u t whole answer h written =
+    (answer, [], t, ap (λ l. l ++ answer) h.1 ∙ sym (append-nil answer), subst (λ v. IsWrittenFor (form_of line) v t answer) h.0 written, (refl, refl))
+one_more (first ∷ more) line s u t whole answer h written =
+    (h.0, h.1 ++ answer, h.2, ap (λ l. l ++ answer) h.3 ∙ append_assoc h.0 h.1 answer, h.4, one_more more line h.2 u t h.1 answer h.5 written)
+
+longer_cut : (whole answer part : List ℕ) → IsCutOf answer part → IsCutOf (whole ++ answer) (whole ++ part)
+longer_cut whole answer part cut = (cut.0, ap (λ l. whole ++ l) cut.1 ∙ sym (append_assoc whole part cut.0), cut.2)
 
 pub are_sessions : AreSessions
-are_sessions before after at_end script text events (inl fails) spells = absurd fails
-are_sessions before after at_end script text events (inr h) spells =
-    let up = started before h.0 h.2 in
-    let ran = all_lines (lines script) h.0 h.1 text events up.1 h.4.1 spells in
-    (ran.0, power_in h.1, (power_in h.0, up.0, ran.1), store_held h.1 after ran.3 h.3, ran.2)
+are_sessions (Ok done) before after at_end script text (inl fails) = absurd fails
+are_sessions (Ok done) before after at_end script text (inr h) = served before (lines script) h.0 h.1 text (Leaves after) h.2 h.4.1 (λ good. store_held h.1 after good h.3)
+are_sessions (Err TooLong) before after at_end script text (inl fails) = absurd fails
+are_sessions (Err TooLong) before after at_end script text (inr h) = served before (lines_so_far false script) h.0 h.1 text (Leaves after) h.2 h.4.1 (λ good. store_held h.1 after good h.3)
+are_sessions (Err ReadFailed) before after at_end script text (inl fails) = absurd fails
+are_sessions (Err ReadFailed) before after at_end script text (inr h) = served before (lines_so_far false script) h.0 h.1 text (Leaves after) h.2 h.4.1 (λ good. store_held h.1 after good h.3)
+are_sessions (Err (BadLine n)) before after at_end script text (inl fails) = absurd fails
+are_sessions (Err (BadLine n)) before after at_end script text (inr h) =
+    let at = h.4 in
+    (at.0, at.1, (at.2, at.3), at.5, at.4, served before at.0 h.0 h.1 text (Leaves after) h.2 at.6 (λ good. store_held h.1 after good h.3))
+are_sessions (Err (PowerFault fault)) before after at_end script text (inl fails) = inl (record { cause = fails.0.cause; other = fails.0.other; stands = fails.0.stands; size = fails.0.size; up = fails.0.up; refused = fails.0.refused }, fails.2)
+are_sessions (Err (PowerFault fault)) before after at_end script text (inr h) =
+    let at = h.4 in
+    let stops = at.5 in
+    inr (at.0, at.1, (at.2, at.3), at.4, served before at.0 h.0 stops.0 text (λ last. FailsToReset fault last (state_of after)) h.2 stops.1 (λ good. reset_fails fault stops.0 h.1 after good stops.2 h.3))
+are_sessions (Err WriteFailed) before after at_end script text (inl fails) = absurd fails
+are_sessions (Err WriteFailed) before after at_end script text (inr h) =
+    let at = h.4 in
+    let stops = at.4 in (
+      at.0,
+      at.1,
+      (at.2, at.3),
+      (
+        stops.0 ++ stops.1,
+        subst (IsCutOf (stops.0 ++ stops.1)) (sym stops.4) (longer_cut stops.0 stops.1 stops.2 stops.7),
+        served before (at.0 ++ at.1 ∷ []) h.0 h.1 (stops.0 ++ stops.1) (Leaves after) h.2 (one_more at.0 at.1 h.0 stops.3 h.1 stops.0 stops.1 stops.5 stops.6) (λ good. store_held h.1 after good h.3),
+      ),
+    )
+
+-- a script of these events that was carried out to its end
+ended : (before after : Fused) (at_end : Bool) (script text : List ℕ) → Ends (Ok tt) before after at_end script text → AreServed before (lines script) text (Leaves after)
+ended before after at_end script text h = are_sessions (Ok tt) before after at_end script text h
 
 pub are_whole_sessions : AreWholeSessions
 are_whole_sessions before after at_end script text events ends spells none =
-    let session = are_sessions before after at_end script text events ends spells in
-    (session.0, are_whole (state_of before) (state_of after) events session.0 session.1 session.2 session.3 none, session.4)
+    let s = ended before after at_end script text ends events spells in
+    (s.1.answers, are_whole (state_of before) (state_of after) events s.1.answers s.0 s.1.session s.2 none, s.1.written)

@@ -1,10 +1,18 @@
-//! A law of the definitions of scripts and of sessions.
+//! Laws of the definitions of scripts and of sessions.
+ghost use Rattle.jcard_sessions.specs.Rest.{LeaveAtRest};
 ghost use Rattle.jcard_sessions.specs.Scripts.{AreSessions, AreWholeSessions};
 
-/// A law of the definitions: a script whose lines are commands and resets, and that was carried out to its end, is a session of
-/// these events over its store: it was written the text of the session's answers, and its store is the one that the session leaves.
-/// Where the store refused no write, the session is one of a card that keeps whole copies of its heap.
+/// A law of the definitions: however a script ends, the lines that were carried out are a session of their commands and resets over
+/// its store, whose answers are what was written for them, and the store is the one that the session leaves. A line that arms the
+/// fuse is told, and is no event. A bad line, a script that is too long and a reader that failed come behind such lines; a power up
+/// found a fault as a session's does; and where the writer failed, a beginning of that text was written. Where the store refused no
+/// write, a script that was carried out to its end is a session of a card that keeps whole copies of its heap.
 pub fn scripts_are_sessions()
     ensures sessions { AreSessions }
     ensures whole { AreWholeSessions }
+{}
+
+/// A law of the definitions: between two commands the heap is at rest. No transaction is open, and a loss of power leaves it as it is.
+pub fn commands_leave_heaps_at_rest()
+    ensures { LeaveAtRest }
 {}

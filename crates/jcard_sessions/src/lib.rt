@@ -3,4 +3,4 @@
 
 mod law;
 
-pub use law::scripts_are_sessions;
+pub use law::{commands_leave_heaps_at_rest, scripts_are_sessions};

@@ -1,0 +1,16 @@
+-- Heaps at rest between commands.
+use Rattle.std.specs.Prelude.{ℕ, ◌≡◌, List}
+use Rattle.jc_heap.specs.Heap.{HeapView, resting}
+use Rattle.jc_memory.specs.State.{MemoryState}
+use Rattle.jc_memory.specs.Doing.{Did}
+use Rattle.jc_card.specs.Answers.{exchanging}
+use Rattle.jc_card.specs.CardState.{CardState}
+use Rattle.jc_card.specs.Loads.{Answered}
+
+-- no transaction is open, and a loss of power leaves the heap as it is
+abbrev pub IsResting : HeapView → Type 0
+IsResting v = v ≡ resting v.now v.passed v.refused v.size
+
+-- a command that was done leaves the heap of a card at rest, as it found it
+abbrev pub LeaveAtRest : Type 0
+LeaveAtRest = (bytes : List ℕ) (card : CardState) (a : Answered) (new : MemoryState) → IsResting card.memory.heap → Did (exchanging bytes card) card.memory a new → IsResting new.heap
