@@ -7,6 +7,7 @@ ghost use Rattle.jc_api_applet.specs.Register.{installing, is_inside, is_owned, 
 
 use jc_frames::{Exception, Stop};
 use jc_memory::{Depth, Installation, Memory, PackageNumber};
+use jc_names::OwnerWord;
 use jc_registry::applet_with_aid;
 use jc_room::{has_space, lacks_room};
 use jc_transient::Ref;
@@ -54,12 +55,12 @@ fn installing<S: WordStore>(memory: &Memory<S>) -> Option<PackageNumber>
 }
 
 // Whether the applet with this number owns the instance.
-fn is_owned<S: WordStore>(number: u16, instance: Ref, memory: &Memory<S>) -> bool
+fn is_owned<S: WordStore>(number: OwnerWord, instance: Ref, memory: &Memory<S>) -> bool
     requires up { memory.now.heap.down ≡ false }
     ensures { result ≡ is_owned number (header_at memory.now instance) }
 {
     match memory.header(instance) {
-        Some(facts) => facts.owner == number,
+        Some(facts) => facts.owner() == number,
         None => false,
     }
 }
@@ -73,7 +74,7 @@ fn may_be_added<S: WordStore>(aid: &[u8], instance: Ref, memory: &Memory<S>) -> 
         return false;
     }
     let applets = memory.heap().applets();
-    applets < MOST_APPLETS && is_owned(applets + 1, instance, memory)
+    applets < MOST_APPLETS && is_owned(OwnerWord(applets + 1), instance, memory)
 }
 
 // Whether the applet has begun a transaction of its own.

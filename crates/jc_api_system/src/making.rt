@@ -13,6 +13,7 @@ use jc_frames::{Cell, Exception, Outcome, Stop};
 use jc_heap::Kind;
 use jc_linker::linked::Linked;
 use jc_memory::{Memory, NewObject};
+use jc_names::{ClassWord, NO_CLASS};
 use jc_platform::names::PlatformClass;
 use jc_transient::ClearEvent;
 use jc_words::WordStore;
@@ -58,12 +59,12 @@ fn allow_making<S: WordStore>(event: ClearEvent, memory: &Memory<S>) -> Result<(
 }
 
 // The class of a new array.
-fn class_for(kind: Kind, linked: &Linked) -> u16
+fn class_for(kind: Kind, linked: &Linked) -> ClassWord
     ensures { result ≡ class_for kind linked.now }
 {
     match kind {
         Kind::ReferenceArray => linked.platform().class_word(PlatformClass::Object),
-        _ => 0,
+        _ => NO_CLASS,
     }
 }
 

@@ -8,6 +8,7 @@ ghost use Rattle.jc_card.specs.Fixed.{fixed_objects, class_number_of, facts_of_f
 
 use arrayvec::ArrayVec;
 use jc_heap::{Facts, Heap, Kind};
+use jc_names::{ClassWord, NO_CLASS, RUNTIME_ENVIRONMENT};
 use jc_platform::names::PlatformClass;
 use jc_platform::table::Table;
 use jc_transient::{BUFFER_CELLS, ClearEvent, Ref};
@@ -18,9 +19,6 @@ pub(crate) const FIXED_COUNT: usize = 17;
 
 /// The place of the last of them.
 pub(crate) const LAST_FIXED: usize = FIXED_COUNT - 1;
-
-/// The owner's number of the runtime environment.
-const RUNTIME_ENVIRONMENT: u16 = 0;
 
 /// An object that the runtime environment owns.
 #[derive(Clone, Copy, Debug)]
@@ -84,20 +82,20 @@ impl FixedObject {
         Facts {
             kind: self.kind,
             event: Some(ClearEvent::Reset),
-            class: class_number(table, self.class),
-            owner: RUNTIME_ENVIRONMENT,
+            class: class_number(table, self.class).0,
+            owner: RUNTIME_ENVIRONMENT.0,
             length: self.cells,
             place,
         }
     }
 }
 
-fn class_number(table: &Table, class: Option<PlatformClass>) -> u16
+fn class_number(table: &Table, class: Option<PlatformClass>) -> ClassWord
     ensures { result ≡ class_number_of table.now class }
 {
     match class {
         Some(class) => table.class_word(class),
-        None => 0,
+        None => NO_CLASS,
     }
 }
 

@@ -7,6 +7,7 @@ use crate::values::holds_values;
 use jc_heap::{Facts, Kind};
 use jc_linker::linked::Linked;
 use jc_memory::Memory;
+use jc_names::{ClassWord, OwnerWord};
 use jc_transient::Ref;
 use jc_words::WordStore;
 
@@ -14,7 +15,7 @@ use jc_words::WordStore;
 const PACKAGES: u16 = 256;
 
 // The class fits what the header says beside it.
-fn fits_class(linked: &Linked, kind: Kind, class: u16, long: u16) -> bool
+fn fits_class(linked: &Linked, kind: Kind, class: ClassWord, long: u16) -> bool
     ensures { result ≡ fits_class linked.now kind class long }
 {
     match kind {
@@ -29,13 +30,14 @@ fn fits_class(linked: &Linked, kind: Kind, class: u16, long: u16) -> bool
 }
 
 // The owner is there.
-fn is_owner<S: WordStore>(memory: &Memory<S>, owner: u16) -> bool
+fn is_owner<S: WordStore>(memory: &Memory<S>, owner: OwnerWord) -> bool
     requires up { memory.now.heap.down ≡ false }
     ensures { result ≡ is_owner memory.now.heap.now owner }
 {
-    owner == 0
-        || owner <= memory.heap().applets()
-        || owner > PACKAGES && owner - PACKAGES <= memory.heap().packages()
+    let number = owner.0;
+    number == 0
+        || number <= memory.heap().applets()
+        || number > PACKAGES && number - PACKAGES <= memory.heap().packages()
 }
 
 /// The header says that it is a persistent instance.
@@ -52,16 +54,16 @@ fn is_sound_object<S: WordStore>(memory: &Memory<S>, linked: &Linked, object: Re
     ensures { IsTrue result ↔ IsSoundObject linked.now memory.now.heap.now object }
 {
     let facts = memory.heap().facts(object);
-    if !fits_class(linked, facts.kind, facts.class, facts.length) {
+    if !fits_class(linked, facts.kind, facts.class(), facts.length) {
         return false;
     }
-    if !is_owner(memory, facts.owner) {
+    if !is_owner(memory, facts.owner()) {
         return false;
     }
     if !is_kept(facts) {
         return true;
     }
-    holds_values(memory, linked, object, facts.class, facts.length)
+    holds_values(memory, linked, object, facts.class(), facts.length)
 }
 
 // The object behind this one, or the first one of all behind null.

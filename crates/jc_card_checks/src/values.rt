@@ -7,6 +7,7 @@ ghost use Rattle.jc_card_checks.specs.Objects.{HoldsReferences, HoldsValues, fit
 use jc_heap::{Facts, Kind};
 use jc_linker::linked::Linked;
 use jc_memory::Memory;
+use jc_names::ClassWord;
 use jc_platform::names::PlatformClass;
 use jc_transient::Ref;
 use jc_words::WordStore;
@@ -15,7 +16,7 @@ use jc_words::WordStore;
 const MOST_AID: u16 = 16;
 
 /// The class is one of the platform, or below it.
-pub(crate) fn is_a(linked: &Linked, class: u16, of: PlatformClass) -> bool
+pub(crate) fn is_a(linked: &Linked, class: ClassWord, of: PlatformClass) -> bool
     ensures { result ≡ is_a linked.now class of }
 {
     linked.is_below(class, linked.platform().class_word(of))
@@ -79,7 +80,7 @@ fn fits_pin<S: WordStore>(
     memory: &Memory<S>,
     linked: &Linked,
     object: Ref,
-    class: u16,
+    class: ClassWord,
     long: u16,
 ) -> bool
     requires up { memory.now.heap.down ≡ false }
@@ -98,7 +99,7 @@ fn fits_aid<S: WordStore>(
     memory: &Memory<S>,
     linked: &Linked,
     object: Ref,
-    class: u16,
+    class: ClassWord,
     long: u16,
 ) -> bool
     requires up { memory.now.heap.down ≡ false }
@@ -113,7 +114,7 @@ fn holds_references<S: WordStore>(
     memory: &Memory<S>,
     linked: &Linked,
     object: Ref,
-    class: u16,
+    class: ClassWord,
     long: u16,
 ) -> bool
     requires up { memory.now.heap.down ≡ false }
@@ -134,7 +135,7 @@ pub(crate) fn holds_values<S: WordStore>(
     memory: &Memory<S>,
     linked: &Linked,
     object: Ref,
-    class: u16,
+    class: ClassWord,
     long: u16,
 ) -> bool
     requires up { memory.now.heap.down ≡ false }

@@ -42,6 +42,10 @@ lacks_space j v n count is laid h = subst (λ u. u.size < u.now.top + count) is 
 pub has_space : (j : State) (v : HeapView) (n count : ℕ) → heap_view j n ≡ v → IsLaid j.plain → get_or j.plain top_address 0 + count ≤ n → LacksSpace v count → ⊥
 has_space j v n count is laid h = subst (λ u. u.size < u.now.top + count → ⊥) is (λ lacks. omega (arith, view_top j (heap_view j n) n refl laid, h, lacks))
 
+-- the same words, where the class and the owner are the same
+pub fills_same : (at word : ℕ) (k l m n : ℕ) (rest : List ℕ) (old new : State) → k ≡ l → m ≡ n → Fills at (word ∷ k ∷ m ∷ rest) old new → Fills at (word ∷ l ∷ n ∷ rest) old new
+fills_same at word k l m n rest old new class owner f = subst (λ x. Fills at (word ∷ x ∷ n ∷ rest) old new) class (subst (λ x. Fills at (word ∷ k ∷ x ∷ rest) old new) owner f)
+
 -- the words that a new object takes
 unfoldable pub new_record : ℕ → ℕ → ℕ → ℕ → List ℕ
 new_record word class owner length = (word ∷ class ∷ owner ∷ length ∷ []) ++ replicate length 0

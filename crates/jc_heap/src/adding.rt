@@ -12,6 +12,7 @@ use crate::package::{Component, StaticArray, size_of_arrays, size_of_record};
 use crate::record::{write_arrays, write_package_record};
 use crate::refusal::HeapRefusal;
 use jc_commit::Journal;
+use jc_names::OwnerWord;
 use jc_transient::Ref;
 use jc_words::layout::{ADDRESSES, PACKAGES, TOP};
 use jc_words::{StoreDown, WordStore};
@@ -38,7 +39,7 @@ fn write_package<S: WordStore>(
     ensures stopped { OnErr result (StopsFresh journal.old journal.new) }
 {
     write_package_record(journal, at, size, components, arrays, image)?;
-    write_arrays(journal, at + size, arrays, FIRST_OWNER + number)?;
+    write_arrays(journal, at + size, arrays, OwnerWord(FIRST_OWNER + number))?;
     Ok(())
 }
 

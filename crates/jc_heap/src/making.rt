@@ -9,6 +9,7 @@ use crate::heap::Heap;
 use crate::layout::{HEADER, area_word};
 use crate::object::Kind;
 use crate::refusal::HeapRefusal;
+use jc_names::{ClassWord, OwnerWord};
 use jc_transient::{AREA_CELLS, ClearEvent, Ref};
 use jc_words::WordStore;
 use jc_words::layout::TOP;
@@ -27,8 +28,8 @@ impl<S: WordStore> Heap<S> {
     pub fn new_persistent(
         &mut self,
         kind: Kind,
-        class: u16,
-        owner: u16,
+        class: ClassWord,
+        owner: OwnerWord,
         length: u16,
     ) -> Result<Ref, HeapRefusal>
         requires { self.old.down ≡ false }
@@ -52,7 +53,7 @@ impl<S: WordStore> Heap<S> {
         if !self.journal.fits(&[TOP]) {
             return Err(HeapRefusal::CommitFull);
         }
-        let header = [kind.number(), class, owner, length];
+        let header = [kind.number(), class.0, owner.0, length];
         let Ok(()) = write_record(&mut self.journal, top, &header, length) else {
             return Err(HeapRefusal::StoreDown);
         };
@@ -69,8 +70,8 @@ impl<S: WordStore> Heap<S> {
         &mut self,
         kind: Kind,
         event: ClearEvent,
-        class: u16,
-        owner: u16,
+        class: ClassWord,
+        owner: OwnerWord,
         length: u16,
     ) -> Result<Ref, HeapRefusal>
         requires { self.old.down ≡ false }
@@ -100,7 +101,7 @@ impl<S: WordStore> Heap<S> {
         if !self.journal.fits(&[TOP, end_word]) {
             return Err(HeapRefusal::CommitFull);
         }
-        let record = [header_of(kind, event), class, owner, length, place];
+        let record = [header_of(kind, event), class.0, owner.0, length, place];
         let Ok(()) = write_run(&mut self.journal, top, &record) else {
             return Err(HeapRefusal::StoreDown);
         };

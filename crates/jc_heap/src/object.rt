@@ -2,6 +2,7 @@
 ghost use Rattle.std.specs.Prelude.{◌≡◌};
 ghost use Rattle.jc_heap.specs.Object.{kind_number, kind_of, event_of, is_header};
 
+use jc_names::{ClassWord, OwnerWord};
 use jc_transient::ClearEvent;
 
 /// What an object holds.
@@ -68,12 +69,28 @@ pub struct Facts {
     pub kind: Kind,
     /// What clears the object's cells; none, where it is persistent.
     pub event: Option<ClearEvent>,
-    /// The package number times 256 and the class number, or 0.
+    /// The word that names the class.
     pub class: u16,
-    /// 0 is the runtime environment, 1 to 64 an applet, 256 and more a package.
+    /// The word that names the owner.
     pub owner: u16,
     /// The number of cells.
     pub length: u16,
     /// The first cell of a transient object in its area, 0 of a persistent one.
     pub place: u16,
+}
+
+impl Facts {
+    /// The class of an instance, or that of an array's elements, where they are references.
+    pub const fn class(self) -> ClassWord
+        ensures { result ≡ self.class }
+    {
+        ClassWord(self.class)
+    }
+
+    /// The owner.
+    pub const fn owner(self) -> OwnerWord
+        ensures { result ≡ self.owner }
+    {
+        OwnerWord(self.owner)
+    }
 }

@@ -10,6 +10,7 @@ use crate::object::Kind;
 use crate::package::{Component, StaticArray, cell_count};
 use crate::packed::{packed_size, packed_word};
 use jc_commit::Journal;
+use jc_names::{NO_CLASS, OwnerWord};
 use jc_words::{StoreDown, WordStore};
 
 // Writes bytes from an address on, two a word.
@@ -148,7 +149,7 @@ fn write_array<S: WordStore>(
     journal: &mut Journal<S>,
     at: u16,
     array: &StaticArray,
-    owner: u16,
+    owner: OwnerWord,
 ) -> Result<(), StoreDown>
     requires { IsFree at (length (array_words owner (initial array.now))) journal.old }
     ensures below { KeepsBelow at journal.old journal.new }
@@ -156,7 +157,11 @@ fn write_array<S: WordStore>(
     ensures stopped { OnErr result (StopsFresh journal.old journal.new) }
 {
     let cells = cell_count(array) as u16;
-    write_run(journal, at, &[array.kind.number(), 0, owner, cells])?;
+    write_run(
+        journal,
+        at,
+        &[array.kind.number(), NO_CLASS.0, owner.0, cells],
+    )?;
     write_elements(journal, at + HEADER, array)?;
     Ok(())
 }
@@ -166,7 +171,7 @@ pub(crate) fn write_arrays<S: WordStore>(
     journal: &mut Journal<S>,
     at: u16,
     arrays: &[StaticArray],
-    owner: u16,
+    owner: OwnerWord,
 ) -> Result<(), StoreDown>
     requires { IsFree at (length (arrays_words owner (initials arrays.now))) journal.old }
     ensures below { KeepsBelow at journal.old journal.new }

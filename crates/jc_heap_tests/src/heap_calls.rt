@@ -4,6 +4,7 @@ ghost use Rattle.jc_heap.specs.Components.{record_of};
 
 use crate::heap_rows::{Store, blank_store, first_shorts, opened};
 use jc_heap::{Component, Facts, Heap, Kind, Place, Span, StaticArray};
+use jc_names::{ClassWord, OwnerWord};
 use jc_transient::Ref;
 use std::test::Fail;
 
@@ -11,7 +12,7 @@ use std::test::Fail;
 fn a_persistent_object_has_its_header_and_cells(rt: HostRuntime) -> Result<(), Fail> {
     let mut heap = opened(blank_store(rt.alloc())?)?;
     assert_eq!(rt; heap.next(Ref::null()), None);
-    let array = heap.new_persistent(Kind::ShortArray, 0x4103, 64, 3)?;
+    let array = heap.new_persistent(Kind::ShortArray, ClassWord(0x4103), OwnerWord(64), 3)?;
     let facts = Facts {
         kind: Kind::ShortArray,
         event: None,

@@ -6,6 +6,7 @@ ghost use Rattle.jc_heap.specs.declared.object.Kind.TheVariants.{ShortArray};
 
 use jc_heap::{ChangeRefusal, Heap, HeapRefusal, Kind};
 use jc_image::OpenImage;
+use jc_names::{NO_CLASS, RUNTIME_ENVIRONMENT};
 use jc_transient::{CellValue, ClearEvent, Ram, Ref};
 use jc_words::{FuseStore, MemStore, WordStore, blank};
 use std::alloc::Global;
@@ -63,7 +64,7 @@ fn make_shorts(heap: &mut Heap<Store>, n: u16) -> Result<Option<HeapRefusal>, Fa
     requires up { heap.old.down ≡ false }
     ensures up { OnOk result (heap.new.down ≡ false) }
 {
-    match heap.new_persistent(Kind::ShortArray, 0, 0, n) {
+    match heap.new_persistent(Kind::ShortArray, NO_CLASS, RUNTIME_ENVIRONMENT, n) {
         Ok(_) => Ok(None),
         Err(HeapRefusal::StoreDown) => Err("down")?,
         Err(refusal) => Ok(Some(refusal)),
@@ -79,7 +80,7 @@ fn make_transient(
     requires up { heap.old.down ≡ false }
     ensures up { OnOk result (heap.new.down ≡ false) }
 {
-    match heap.new_transient(Kind::ShortArray, event, 0, 0, n) {
+    match heap.new_transient(Kind::ShortArray, event, NO_CLASS, RUNTIME_ENVIRONMENT, n) {
         Ok(_) => Ok(None),
         Err(HeapRefusal::StoreDown) => Err("down")?,
         Err(refusal) => Ok(Some(refusal)),
@@ -90,13 +91,25 @@ fn make_transient(
 fn an_abort_leaves_what_memory_holds_but_no_dead_reference(rt: HostRuntime) -> Result<(), Fail> {
     let mut heap = opened(blank_store(rt.alloc())?)?;
     let mut ram = Ram::new(rt.alloc())?;
-    let before = heap.new_persistent(Kind::Instance, 0, 0, 1)?;
-    let list = heap.new_transient(Kind::ReferenceArray, ClearEvent::Deselect, 0, 0, 2)?;
+    let before = heap.new_persistent(Kind::Instance, NO_CLASS, RUNTIME_ENVIRONMENT, 1)?;
+    let list = heap.new_transient(
+        Kind::ReferenceArray,
+        ClearEvent::Deselect,
+        NO_CLASS,
+        RUNTIME_ENVIRONMENT,
+        2,
+    )?;
     assert_eq!(rt; heap.facts(list).place, 0);
-    let bytes = heap.new_transient(Kind::ByteArray, ClearEvent::Reset, 0, 0, 1)?;
+    let bytes = heap.new_transient(
+        Kind::ByteArray,
+        ClearEvent::Reset,
+        NO_CLASS,
+        RUNTIME_ENVIRONMENT,
+        1,
+    )?;
     assert_eq!(rt; heap.facts(bytes).place, 0);
     heap.begin();
-    let inside = heap.new_persistent(Kind::Instance, 0, 0, 1)?;
+    let inside = heap.new_persistent(Kind::Instance, NO_CLASS, RUNTIME_ENVIRONMENT, 1)?;
     ram.set(ClearEvent::Deselect, 0, CellValue::Reference(before));
     ram.set(ClearEvent::Deselect, 1, CellValue::Reference(inside));
     ram.set(ClearEvent::Reset, 0, CellValue::Short(7));
@@ -124,7 +137,7 @@ const NEW: [u16; 8] = [11, 12, 13, 14, 15, 16, 17, 18];
 // A store whose heap has an array of eight shorts, with the old values.
 fn store_of_eight(alloc: Global) -> Result<Store, Fail> {
     let mut heap = opened(blank_store(alloc)?)?;
-    let array = heap.new_persistent(Kind::ShortArray, 0, 0, 8)?;
+    let array = heap.new_persistent(Kind::ShortArray, NO_CLASS, RUNTIME_ENVIRONMENT, 8)?;
     heap.set_run(array, 0, &OLD)?;
     Ok(heap.into_store())
 }
@@ -248,7 +261,7 @@ fn fill_transaction(heap: &mut Heap<Store>, n: u16) -> Result<(), Fail>
 #[test]
 fn a_transaction_has_room_for_256_entries(rt: HostRuntime) -> Result<(), Fail> {
     let mut heap = opened(blank_store(rt.alloc())?)?;
-    heap.new_persistent(Kind::ShortArray, 0, 0, 4)?;
+    heap.new_persistent(Kind::ShortArray, NO_CLASS, RUNTIME_ENVIRONMENT, 4)?;
     heap.begin();
     assert_eq!(rt; heap.room(), 256);
     fill_transaction(&mut heap, 256)?;
@@ -269,7 +282,7 @@ fn a_transaction_has_room_for_256_entries(rt: HostRuntime) -> Result<(), Fail> {
 #[test]
 fn a_new_object_takes_one_entry_or_two(rt: HostRuntime) -> Result<(), Fail> {
     let mut heap = opened(blank_store(rt.alloc())?)?;
-    heap.new_persistent(Kind::ShortArray, 0, 0, 4)?;
+    heap.new_persistent(Kind::ShortArray, NO_CLASS, RUNTIME_ENVIRONMENT, 4)?;
     heap.begin();
     fill_transaction(&mut heap, 255)?;
     let refusal = Some(HeapRefusal::CommitFull);

@@ -4,6 +4,7 @@ ghost use Rattle.jc_heap.specs.Moves.{Begin, Commit, Makes, after_step};
 
 use jc_heap::{Heap, Kind};
 use jc_image::{OpenImage, first_free, lay, seal};
+use jc_names::{NO_CLASS, RUNTIME_ENVIRONMENT};
 use jc_words::{FuseStore, MemStore, StoreDown, WordStore};
 use std::test::Fail;
 
@@ -73,7 +74,7 @@ fn an_image_is_checked_for_its_first_objects(rt: HostRuntime) -> Result<(), Fail
     let Ok(mut heap) = lay(store, b"") else {
         return Err("down")?;
     };
-    let array = heap.new_persistent(Kind::ByteArray, 0, 0, 2)?;
+    let array = heap.new_persistent(Kind::ByteArray, NO_CLASS, RUNTIME_ENVIRONMENT, 2)?;
     let facts = heap.facts(array);
     let Ok(store) = seal(heap) else {
         return Err("down")?;

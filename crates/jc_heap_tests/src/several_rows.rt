@@ -3,6 +3,7 @@ ghost use Rattle.std.specs.Prelude.{◌≡◌, false, IfOk};
 
 use crate::heap_rows::{Store, blank_store, first_shorts, opened};
 use jc_heap::{AppletEntry, ChangeRefusal, Heap, Kind, Place};
+use jc_names::{NO_CLASS, RUNTIME_ENVIRONMENT};
 use jc_transient::Ref;
 use std::test::Fail;
 
@@ -32,7 +33,7 @@ fn three_words(heap: &Heap<Store>) -> Result<[u16; 3], Fail>
 fn several_places_are_all_old_or_all_new(rt: HostRuntime) -> Result<(), Fail> {
     for writes in 0..=11u64 {
         let mut heap = opened(blank_store(rt.alloc())?)?;
-        heap.new_persistent(Kind::ShortArray, 0, 0, 4)?;
+        heap.new_persistent(Kind::ShortArray, NO_CLASS, RUNTIME_ENVIRONMENT, 4)?;
         let mut store = heap.into_store();
         store.arm(writes);
         let mut heap = opened(store)?;

@@ -7,6 +7,7 @@ use jc_card::formatting::{FormatFault, format};
 use jc_card::power_up::PowerFault;
 use jc_heap::{Facts, Heap, Kind};
 use jc_image::OpenImage;
+use jc_names::{NO_CLASS, RUNTIME_ENVIRONMENT};
 use jc_platform::example::EXAMPLE;
 use jc_transient::{ClearEvent, Ref};
 use jc_words::{FuseStore, ImageFault, MemStore, WordStore, check_image};
@@ -209,7 +210,7 @@ fn set_short(heap: &mut Heap<Store>, i: u16, v: u16) -> Result<(), Fail>
 // A new image with an array of four shorts.
 fn image_with_array(alloc: Global) -> Result<Store, Fail> {
     let mut heap = opened(formatted(alloc, 4096)?)?;
-    heap.new_persistent(Kind::ShortArray, 0, 0, 4)?;
+    heap.new_persistent(Kind::ShortArray, NO_CLASS, RUNTIME_ENVIRONMENT, 4)?;
     Ok(heap.into_store())
 }
 

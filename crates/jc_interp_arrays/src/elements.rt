@@ -11,6 +11,7 @@ use jc_heap::{Facts, Kind};
 use jc_interp_values::types::is_a;
 use jc_linker::linked::Linked;
 use jc_memory::Memory;
+use jc_names::ClassWord;
 use jc_opcodes::instr::ValueType;
 use jc_transient::{CellValue, Ref};
 use jc_words::WordStore;
@@ -23,7 +24,7 @@ pub struct Element {
     /// Its index.
     pub index: u16,
     /// The class of the array: that of the objects that it holds.
-    pub class: u16,
+    pub class: ClassWord,
 }
 
 // Whether an object's elements are of this type.
@@ -87,7 +88,7 @@ pub(crate) fn with_index(facts: Facts, index: i16) -> Result<Element, Stop>
     }
     Ok(Element {
         index: index.cast_unsigned(),
-        class: facts.class,
+        class: facts.class(),
     })
 }
 
@@ -111,7 +112,7 @@ pub(crate) fn element_at<S: WordStore>(
 // Whether an object may be an element of an array of a class's instances: null may.
 #[tactic(auto, unfolding(crate::specs::Elements::assignable))]
 fn allow_element<S: WordStore>(
-    class: u16,
+    class: ClassWord,
     reference: Ref,
     memory: &Memory<S>,
     linked: &Linked,
@@ -136,7 +137,7 @@ fn allow_element<S: WordStore>(
 /// The value, where it may be an element of an array of a class's instances, or of numbers.
 #[tactic(auto, unfolding(crate::specs::Elements::element_value))]
 pub(crate) fn element_value<S: WordStore>(
-    class: u16,
+    class: ClassWord,
     value: CellValue,
     memory: &Memory<S>,
     linked: &Linked,

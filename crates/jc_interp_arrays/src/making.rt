@@ -10,6 +10,7 @@ use jc_interp_values::making::push_new;
 use jc_interp_values::types::class_named;
 use jc_linker::linked::Linked;
 use jc_memory::{Memory, NewObject};
+use jc_names::{ClassWord, NO_CLASS};
 use jc_opcodes::instr::PrimitiveArray;
 use jc_words::WordStore;
 use jc_world::Break;
@@ -29,7 +30,7 @@ fn kind_of(of_type: PrimitiveArray) -> Kind
 #[tactic(auto, unfolding(crate::specs::Making::array_made))]
 fn make_array<S: WordStore>(
     kind: Kind,
-    class: u16,
+    class: ClassWord,
     elements: i16,
     frames: &mut Frames,
     memory: &mut Memory<S>,
@@ -62,7 +63,7 @@ pub(crate) fn make_primitives<S: WordStore>(
     ensures { Makes (primitives_made of_type frames.old memory.old) memory.old (after_group result frames.new memory.new) }
 {
     let length = frames.pop_short()?;
-    make_array(kind_of(of_type), 0, length, frames, memory)
+    make_array(kind_of(of_type), NO_CLASS, length, frames, memory)
 }
 
 /// Makes an array of references (`anewarray`).

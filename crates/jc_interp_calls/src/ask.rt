@@ -13,6 +13,7 @@ use jc_frames::{CallKind, Cell, CodeFault, Entry, Frames, Outcome};
 use jc_linker::linked::Linked;
 use jc_memory::{Memory, Owner, Registers};
 use jc_methods::{Header, header_at};
+use jc_names::ClassWord;
 use jc_packages::target::Method;
 use jc_platform::names::PlatformMethod;
 use jc_transient::Ref;
@@ -20,7 +21,7 @@ use jc_words::WordStore;
 use jc_world::{Asked, Break};
 
 // `getShareableInterfaceObject`, as the server's class has it.
-fn sharing_method(class: u16, linked: &Linked) -> Option<Method>
+fn sharing_method(class: ClassWord, linked: &Linked) -> Option<Method>
     ensures { result ≡ sharing_method linked.now class }
 {
     let token = linked
@@ -123,7 +124,7 @@ pub fn ask<S: WordStore>(
 {
     match memory.header(asked.server) {
         Some(facts) => {
-            let method = sharing_method(facts.class, linked);
+            let method = sharing_method(facts.class(), linked);
             ask_by(method, asked, place, frames, memory, linked)
         }
         None => Err(Break::End(Outcome::Fault)),

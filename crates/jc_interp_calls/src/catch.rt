@@ -7,6 +7,7 @@ use crate::text::text_of;
 use jc_frames::Origin;
 use jc_linker::linked::Linked;
 use jc_methods::handlers::{HANDLER_SIZE, Handler, handler_at};
+use jc_names::ClassWord;
 use jc_opcodes::operands::u1_at;
 use jc_packages::target::Target;
 
@@ -33,12 +34,12 @@ fn landed(method: u16, text: &[u8], target: u16) -> Catch
 }
 
 // A handler of the class that an entry of the constant pool names.
-fn caught_as(thrown: u16, entry: Option<Target>, caught: Catch, linked: &Linked) -> Catch
+fn caught_as(thrown: ClassWord, entry: Option<Target>, caught: Catch, linked: &Linked) -> Catch
     ensures { result ≡ caught_as linked.now thrown entry caught }
 {
     match entry {
         Some(Target::Class(class)) => {
-            if linked.is_below(thrown, class) {
+            if linked.is_below(thrown, ClassWord(class)) {
                 caught
             } else {
                 Catch::Above
@@ -50,7 +51,7 @@ fn caught_as(thrown: u16, entry: Option<Target>, caught: Catch, linked: &Linked)
 
 // What a handler does with an exception of this class that is thrown at a place.
 fn caught_by(
-    thrown: u16,
+    thrown: ClassWord,
     origin: Origin,
     place: u16,
     text: &[u8],
@@ -72,7 +73,14 @@ fn caught_by(
 
 // The same for the handler that begins at a place of the component.
 #[tactic(auto, unfolding(crate::specs::Catching::tried))]
-fn try_at(thrown: u16, origin: Origin, place: u16, text: &[u8], at: usize, linked: &Linked) -> Catch
+fn try_at(
+    thrown: ClassWord,
+    origin: Origin,
+    place: u16,
+    text: &[u8],
+    at: usize,
+    linked: &Linked,
+) -> Catch
     requires { at < 2 ^ 16 }
     ensures { result ≡ tried linked.now thrown origin place text.now (handler_in text.now at) }
 {
@@ -84,7 +92,13 @@ fn try_at(thrown: u16, origin: Origin, place: u16, text: &[u8], at: usize, linke
 
 // What the handlers of a component do with it, the first that catches it before all others.
 #[tactic(auto, using(crate::proofs::Handlers::more))]
-fn caught_among(thrown: u16, origin: Origin, place: u16, text: &[u8], linked: &Linked) -> Catch
+fn caught_among(
+    thrown: ClassWord,
+    origin: Origin,
+    place: u16,
+    text: &[u8],
+    linked: &Linked,
+) -> Catch
     ensures { result ≡ caught_among linked.now thrown origin place text.now }
 {
     let count = u1_at(text, 0).unwrap_or(0);
@@ -102,7 +116,7 @@ fn caught_among(thrown: u16, origin: Origin, place: u16, text: &[u8], linked: &L
 /// What the handlers of a method do with an exception of this class that is thrown by the instruction at
 /// this place. They are tried in their order.
 #[tactic(auto, unfolding(crate::specs::Catching::caught_in))]
-pub fn caught_in(thrown: u16, origin: Origin, place: u16, linked: &Linked) -> Catch
+pub fn caught_in(thrown: ClassWord, origin: Origin, place: u16, linked: &Linked) -> Catch
     ensures { result ≡ caught_in linked.now thrown origin place }
 {
     let text = text_of(origin.package_number, linked);

@@ -14,6 +14,7 @@ use jc_heap::Facts;
 use jc_linker::linked::Linked;
 use jc_memory::{Memory, Owner};
 use jc_methods::header_at;
+use jc_names::ClassWord;
 use jc_opcodes::instr::Invoke;
 use jc_packages::target::{Method, Target};
 use jc_platform::names::PlatformClass;
@@ -121,11 +122,11 @@ fn fits_at_null<S: WordStore>(
 }
 
 // An object's class. Arrays are instances of `Object`.
-fn class_of(facts: Facts, linked: &Linked) -> u16
+fn class_of(facts: Facts, linked: &Linked) -> ClassWord
     ensures { result ≡ class_of linked.now facts }
 {
     if is_instance(facts.kind) {
-        facts.class
+        facts.class()
     } else {
         linked.platform().class_word(PlatformClass::Object)
     }
@@ -140,7 +141,7 @@ fn judged(decision: Decision, facts: Facts, method: Method, arguments: u8) -> Re
         Decision::Switch(_) => Ok(Call {
             method,
             arguments,
-            switches_to: Some(Owner::of(facts.owner)),
+            switches_to: Some(Owner::of(facts.owner())),
         }),
         Decision::Deny(_) => Err(Stop::Throw(Exception::SecurityException)),
     }
@@ -149,7 +150,7 @@ fn judged(decision: Decision, facts: Facts, method: Method, arguments: u8) -> Re
 // A call by the receiver's class.
 #[tactic(auto, unfolding(crate::specs::Choosing::called_virtually))]
 fn call_virtually<S: WordStore>(
-    class: u16,
+    class: ClassWord,
     token: VirtualToken,
     method: Method,
     frames: &Frames,
@@ -165,7 +166,7 @@ fn call_virtually<S: WordStore>(
     let own = class_of(facts, linked);
     check(linked.is_below(own, class))?;
     let found = linked
-        .method_at(own, (class / 256) as u8, token)
+        .method_at(own, (class.0 / 256) as u8, token)
         .ok_or(Stop::End(Outcome::Fault))?;
     check(fits(found, frames, memory, linked))?;
     let decision = decided(Access::VirtualCall, facts, memory, linked);
@@ -178,7 +179,7 @@ fn is_of_any(facts: Facts, class: Option<u16>, linked: &Linked) -> bool
 {
     match class {
         None => true,
-        Some(class) => linked.is_below(class_of(facts, linked), class),
+        Some(class) => linked.is_below(class_of(facts, linked), ClassWord(class)),
     }
 }
 
@@ -223,7 +224,7 @@ fn call_statically(method: Method, linked: &Linked) -> Result<Call, Stop>
 }
 
 // A call of an interface's method, as the firewall sees it.
-fn interface_access(interface: u16, linked: &Linked) -> Access
+fn interface_access(interface: ClassWord, linked: &Linked) -> Access
     ensures { result ≡ interface_access linked.now interface }
 {
     if linked.is_shareable(interface) {
@@ -236,7 +237,7 @@ fn interface_access(interface: u16, linked: &Linked) -> Access
 // A call by an interface.
 #[tactic(auto, unfolding(crate::specs::Choosing::called_by_interface))]
 fn call_by_interface<S: WordStore>(
-    interface: u16,
+    interface: ClassWord,
     arguments: u8,
     token: u8,
     frames: &Frames,
@@ -282,7 +283,7 @@ pub fn choose<S: WordStore>(
                     token,
                     method,
                 },
-            ) => call_virtually(class, token, method, frames, memory, linked),
+            ) => call_virtually(ClassWord(class), token, method, frames, memory, linked),
             _ => Err(Stop::End(Outcome::Fault)),
         },
         Invoke::Special(index) => match linked.target_at(package_number, index) {
@@ -304,7 +305,7 @@ pub fn choose<S: WordStore>(
             token,
         } => match linked.target_at(package_number, index) {
             Some(Target::Class(class)) => {
-                call_by_interface(class, arguments, token, frames, memory, linked)
+                call_by_interface(ClassWord(class), arguments, token, frames, memory, linked)
             }
             _ => Err(Stop::End(Outcome::Fault)),
         },

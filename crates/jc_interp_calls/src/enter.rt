@@ -9,6 +9,7 @@ use jc_frames::{CallKind, Cell, Entry, Frames, MOST_CELLS, Origin, Outcome, Resu
 use jc_linker::linked::Linked;
 use jc_memory::{Memory, Owner, Registers};
 use jc_methods::{Header, header_at};
+use jc_names::OwnerWord;
 use jc_words::WordStore;
 use jc_world::Break;
 
@@ -60,7 +61,7 @@ fn origin_of(callee: Callee, registers: Registers) -> Origin
     Origin {
         package_number: callee.package_number,
         method: callee.offset,
-        owner: switched(callee.switches_to, registers).active.number(),
+        owner: switched(callee.switches_to, registers).active.number().0,
     }
 }
 
@@ -79,8 +80,8 @@ pub(crate) fn entry_of(
         place: header.place,
         origin: origin_of(callee, registers),
         resume: Resume {
-            active: registers.active.number(),
-            previous: registers.previous.number(),
+            active: registers.active.number().0,
+            previous: registers.previous.number().0,
             place: site.place,
             call: site.kind,
         },
@@ -124,7 +125,7 @@ pub fn begin(
     package_number: u8,
     offset: u16,
     arguments: &[Cell],
-    owner: u16,
+    owner: OwnerWord,
 ) -> Option<Frames>
     ensures { result ≡ begun linked.now package_number offset arguments.now owner }
 {
@@ -136,7 +137,7 @@ pub fn begin(
     let origin = Origin {
         package_number,
         method: offset,
-        owner,
+        owner: owner.0,
     };
     Some(Frames::begin(arguments, header.locals, header.limit, header.place, origin))
 }

@@ -12,6 +12,7 @@ use jc_frames::{CallKind, Cell, CodeFault, Exception, Frames, Outcome};
 use jc_heap::Facts;
 use jc_linker::linked::Linked;
 use jc_memory::Memory;
+use jc_names::ClassWord;
 use jc_platform::names::PlatformClass;
 use jc_transient::{CellValue, Ref};
 use jc_words::WordStore;
@@ -31,7 +32,7 @@ fn handle(thrown: Ref, target: u16, frames: &mut Frames) -> Result<(), CodeFault
 // An exception of this class is thrown by the instruction at a place of the frame that runs.
 #[tactic(auto, unfolding(crate::specs::Throwing::unwound))]
 fn unwind<S: WordStore>(
-    class: u16,
+    class: ClassWord,
     thrown: Ref,
     place: u16,
     frames: &mut Frames,
@@ -75,7 +76,7 @@ fn throw_object<S: WordStore>(
     ensures { Makes (unwinding thrown place linked.now frames.old memory.old) memory.old (after_group result frames.new memory.new) }
 {
     match memory.header(thrown) {
-        Some(facts) => unwind(facts.class, thrown, place, frames, memory, linked),
+        Some(facts) => unwind(facts.class(), thrown, place, frames, memory, linked),
         None => Err(Break::End(Outcome::Fault)),
     }
 }

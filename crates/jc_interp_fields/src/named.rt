@@ -3,13 +3,14 @@ ghost use Rattle.std.specs.Prelude.{◌≡◌};
 ghost use Rattle.jc_interp_fields.specs.Named.{is_of, has_field, field_named, static_named, field_of, static_of};
 
 use jc_linker::linked::Linked;
+use jc_names::ClassWord;
 use jc_opcodes::instr::ValueType;
 use jc_packages::target::Target;
 
 /// A field of instances: the class that declares it, and its cell.
 #[derive(Clone, Copy, Debug, PartialEq, Eq)]
 pub struct FieldOfClass {
-    pub class: u16,
+    pub class: ClassWord,
     pub cell: u32,
 }
 
@@ -42,7 +43,10 @@ fn field_of(of_type: ValueType, target: Target) -> Option<FieldOfClass>
             is_reference,
         } => {
             if is_of(of_type, is_reference) {
-                Some(FieldOfClass { class, cell })
+                Some(FieldOfClass {
+                    class: ClassWord(class),
+                    cell,
+                })
             } else {
                 None
             }

@@ -10,12 +10,13 @@ use jc_interp_values::making::push_new;
 use jc_interp_values::types::class_named;
 use jc_linker::linked::Linked;
 use jc_memory::{Memory, NewObject};
+use jc_names::ClassWord;
 use jc_words::WordStore;
 use jc_world::Break;
 
 // The class that an entry of a package's pool names, if code may make instances of it.
 #[tactic(auto, unfolding(crate::specs::Making::made_class))]
-fn made_class(linked: &Linked, package_number: u8, index: u16) -> Option<u16>
+fn made_class(linked: &Linked, package_number: u8, index: u16) -> Option<ClassWord>
     ensures { result ≡ made_class linked.now package_number index }
 {
     let class = class_named(linked, package_number, index)?;

@@ -6,6 +6,7 @@ use jc_firewall::access::Access;
 use jc_heap::{Facts, Kind};
 use jc_interp_values::types::{class_named, is_a, is_object_class};
 use jc_linker::linked::Linked;
+use jc_names::ClassWord;
 use jc_opcodes::instr::{PrimitiveArray, TestedType};
 
 /// A type that an object may have.
@@ -31,12 +32,12 @@ pub(crate) fn type_named(
     match tested {
         TestedType::OfClass(index) => {
             let class = class_named(linked, package_number, index)?;
-            Some(ObjectType::Class(class))
+            Some(ObjectType::Class(class.0))
         }
         TestedType::OfPrimitives(elements) => Some(ObjectType::Primitives(elements)),
         TestedType::OfReferences(index) => {
             let class = class_named(linked, package_number, index)?;
-            Some(ObjectType::References(class))
+            Some(ObjectType::References(class.0))
         }
     }
 }
@@ -72,7 +73,7 @@ fn is_references(kind: Kind) -> bool
 }
 
 // Whether instances of a class or an interface are instances of another one.
-fn is_subtype(class: u16, of: u16, linked: &Linked) -> bool
+fn is_subtype(class: ClassWord, of: ClassWord, linked: &Linked) -> bool
     ensures { result ≡ is_subtype linked.now class of }
 {
     is_object_class(of, linked) || linked.is_below(class, of)
@@ -84,16 +85,16 @@ pub(crate) fn is_of_type(object_type: ObjectType, linked: &Linked, facts: Facts)
     ensures { result ≡ is_of_type object_type linked.now facts }
 {
     match object_type {
-        ObjectType::Class(class) => is_a(facts, class, linked),
+        ObjectType::Class(class) => is_a(facts, ClassWord(class), linked),
         ObjectType::Primitives(elements) => is_primitives(elements, facts.kind),
         ObjectType::References(class) => {
-            is_references(facts.kind) && is_subtype(facts.class, class, linked)
+            is_references(facts.kind) && is_subtype(facts.class(), ClassWord(class), linked)
         }
     }
 }
 
 // What the firewall is asked about a test against a class or an interface.
-fn access_to_class(linked: &Linked, class: u16) -> Access
+fn access_to_class(linked: &Linked, class: ClassWord) -> Access
     ensures { result ≡ access_to_class linked.now class }
 {
     if !linked.names_interface(class) {
@@ -110,7 +111,7 @@ pub(crate) fn access_to(linked: &Linked, object_type: ObjectType) -> Access
     ensures { result ≡ access_to linked.now object_type }
 {
     match object_type {
-        ObjectType::Class(class) => access_to_class(linked, class),
+        ObjectType::Class(class) => access_to_class(linked, ClassWord(class)),
         ObjectType::Primitives(_) => Access::CastToClass,
         ObjectType::References(_) => Access::CastToClass,
     }

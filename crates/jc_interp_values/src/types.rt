@@ -4,30 +4,31 @@ ghost use Rattle.jc_interp_values.specs.Types.{class_of, class_named, is_object_
 
 use jc_heap::Facts;
 use jc_linker::linked::Linked;
+use jc_names::ClassWord;
 use jc_packages::target::Target;
 use jc_platform::names::PlatformClass;
 use jc_world::objects::is_instance;
 
 // The class or interface that a target is, if it is one.
-fn class_of(target: Target) -> Option<u16>
+fn class_of(target: Target) -> Option<ClassWord>
     ensures { result ≡ class_of target }
 {
     match target {
-        Target::Class(class) => Some(class),
+        Target::Class(class) => Some(ClassWord(class)),
         _ => None,
     }
 }
 
 /// The class or interface that an entry of a package's pool names, if it names one.
 #[tactic(auto, unfolding(crate::specs::Types::class_named))]
-pub fn class_named(linked: &Linked, package_number: u8, index: u16) -> Option<u16>
+pub fn class_named(linked: &Linked, package_number: u8, index: u16) -> Option<ClassWord>
     ensures { result ≡ class_named linked.now package_number index }
 {
     class_of(linked.target_at(package_number, index)?)
 }
 
 /// Whether the class is `Object`.
-pub fn is_object_class(class: u16, linked: &Linked) -> bool
+pub fn is_object_class(class: ClassWord, linked: &Linked) -> bool
     ensures { result ≡ is_object_class linked.now class }
 {
     class == linked.platform().class_word(PlatformClass::Object)
@@ -35,11 +36,11 @@ pub fn is_object_class(class: u16, linked: &Linked) -> bool
 
 /// Whether an object with this header is an instance of a class or an interface. Arrays are instances of `Object`.
 #[tactic(auto, unfolding(crate::specs::Types::is_a))]
-pub fn is_a(facts: Facts, class: u16, linked: &Linked) -> bool
+pub fn is_a(facts: Facts, class: ClassWord, linked: &Linked) -> bool
     ensures { result ≡ is_a linked.now facts class }
 {
     if is_instance(facts.kind) {
-        linked.is_below(facts.class, class)
+        linked.is_below(facts.class(), class)
     } else {
         is_object_class(class, linked)
     }

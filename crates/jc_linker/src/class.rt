@@ -3,6 +3,7 @@ ghost use Rattle.std.specs.Prelude.{◌≡◌, ◌+◌, ◌==◌, find, option_c
 ghost use Rattle.jc_packages.specs.Classes.{declares_reference, is_listed};
 ghost use Rattle.jc_packages.specs.Methods.{in_list, in_table};
 
+use jc_names::ClassWord;
 use jc_packages::search::{CarriedOut, Search};
 use jc_packages::target::Method;
 use std::marker::Model;
@@ -27,7 +28,7 @@ impl Model for TokenTable {
 /// An interface that a class implements, or a superinterface.
 #[derive(Drop)]
 pub(crate) struct Implemented {
-    pub(crate) interface: u16,
+    pub(crate) interface: ClassWord,
     /// For each of its methods the token of the class's virtual method; none for a superinterface.
     pub(crate) tokens: Vec<u8>,
 }
@@ -46,7 +47,7 @@ pub(crate) struct LinkedClass {
     /// Where its record stands in the Class component.
     pub(crate) offset: u16,
     pub(crate) is_interface: bool,
-    pub(crate) superclass: u16,
+    pub(crate) superclass: ClassWord,
     pub(crate) interfaces: Vec<Implemented>,
     pub(crate) inherited_cells: u32,
     pub(crate) declared_cells: u8,
@@ -103,7 +104,7 @@ impl LinkedClass {
     }
 
     /// It lists the interface.
-    pub(crate) fn lists(&self, interface: u16) -> bool
+    pub(crate) fn lists(&self, interface: ClassWord) -> bool
         ensures { result ≡ is_listed interface self.now.interfaces }
     {
         self.interfaces
@@ -112,7 +113,7 @@ impl LinkedClass {
     }
 
     /// How it carries out the method of an interface with this token.
-    pub(crate) fn carries(&self, interface: u16, token: u8) -> Search<CarriedOut>
+    pub(crate) fn carries(&self, interface: ClassWord, token: u8) -> Search<CarriedOut>
         ensures { result ≡ in_list token (find (λ i. i.interface == interface) self.now.interfaces) }
     {
         let Some(listed) = self.listed(interface) else {
@@ -125,7 +126,7 @@ impl LinkedClass {
     }
 
     // What it lists of the interface.
-    fn listed(&self, interface: u16) -> Option<&Implemented>
+    fn listed(&self, interface: ClassWord) -> Option<&Implemented>
         ensures { option_copied result ≡ find (λ i. i.interface == interface) self.now.interfaces }
     {
         self.interfaces

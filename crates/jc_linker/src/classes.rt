@@ -4,12 +4,13 @@ ghost use Rattle.jc_packages.specs.Classes.{implements, interfaces_in, is_below,
 ghost use Rattle.jc_platform.specs.Platform.{class_by_word};
 
 use crate::scope::Scope;
+use jc_names::ClassWord;
 use jc_platform::names::PlatformClass;
 
 impl Scope<'_> {
     /// A class or an interface stands behind this word.
     #[tactic(auto, unfolding(jc_packages::specs::Classes::is_class))]
-    pub(crate) fn is_class(&self, class: u16) -> bool
+    pub(crate) fn is_class(&self, class: ClassWord) -> bool
         ensures { result ≡ is_class self.now class }
     {
         self.loaded_class(class).is_some() || self.platform.class_by_word(class).is_some()
@@ -17,7 +18,7 @@ impl Scope<'_> {
 
     /// The superclass. `Object` and interfaces have none.
     #[tactic(auto, unfolding(jc_packages::specs::Classes::superclass_in))]
-    pub(crate) fn superclass(&self, class: u16) -> Option<u16>
+    pub(crate) fn superclass(&self, class: ClassWord) -> Option<ClassWord>
         ensures { result ≡ superclass_in self.now class }
     {
         if let Some(loaded) = self.loaded_class(class) {
@@ -33,7 +34,7 @@ impl Scope<'_> {
 
     // The class lists the interface.
     #[tactic(auto, unfolding(jc_packages::specs::Classes::interfaces_in))]
-    fn lists(&self, class: u16, interface: u16) -> bool
+    fn lists(&self, class: ClassWord, interface: ClassWord) -> bool
         ensures { result ≡ is_listed interface (interfaces_in self.now class) }
     {
         if let Some(loaded) = self.loaded_class(class) {
@@ -50,7 +51,7 @@ impl Scope<'_> {
 
     // The class implements the interface itself, or an interface that extends it.
     #[tactic(auto, unfolding(jc_packages::specs::Classes::implements, jc_packages::specs::Classes::interfaces_in))]
-    fn implements(&self, class: u16, interface: u16) -> bool
+    fn implements(&self, class: ClassWord, interface: ClassWord) -> bool
         ensures { result ≡ implements self.now class interface }
     {
         if let Some(loaded) = self.loaded_class(class) {
@@ -72,7 +73,7 @@ impl Scope<'_> {
     /// A subtype: the class is the other, below it, or implements it. It takes time that grows with the number of
     /// classes above.
     #[tactic(auto, unfolding(jc_packages::specs::Classes::is_below, jc_packages::specs::Classes::any_is))]
-    pub(crate) fn is_below(&self, class: u16, of: u16) -> bool
+    pub(crate) fn is_below(&self, class: ClassWord, of: ClassWord) -> bool
         ensures { result ≡ is_below self.now class of }
     {
         let mut walk = self.lineage(class);
@@ -86,7 +87,7 @@ impl Scope<'_> {
 
     /// An interface that extends `Shareable`, or a class with such an interface.
     #[tactic(auto, unfolding(jc_packages::specs::Classes::is_shareable))]
-    pub(crate) fn is_shareable(&self, class: u16) -> bool
+    pub(crate) fn is_shareable(&self, class: ClassWord) -> bool
         ensures { result ≡ is_shareable self.now class }
     {
         self.is_below(class, self.platform.class_word(PlatformClass::Shareable))
@@ -94,7 +95,7 @@ impl Scope<'_> {
 
     /// How many cells an instance has.
     #[tactic(auto, unfolding(jc_packages::specs::Classes::size_of))]
-    pub(crate) fn size_of(&self, class: u16) -> u32
+    pub(crate) fn size_of(&self, class: ClassWord) -> u32
         ensures { result ≡ size_of self.now class }
     {
         if let Some(loaded) = self.loaded_class(class) {
@@ -108,7 +109,7 @@ impl Scope<'_> {
 
     /// `new` makes instances of it.
     #[tactic(auto, unfolding(jc_packages::specs::Classes::is_made))]
-    pub(crate) fn is_made(&self, class: u16) -> bool
+    pub(crate) fn is_made(&self, class: ClassWord) -> bool
         ensures { result ≡ is_made self.now class }
     {
         if let Some(loaded) = self.loaded_class(class) {
@@ -122,7 +123,7 @@ impl Scope<'_> {
 
     /// A cell of an instance holds a reference.
     #[tactic(auto, unfolding(jc_packages::specs::Classes::reference_cell, jc_packages::specs::Classes::any_reference))]
-    pub(crate) fn reference_cell(&self, class: u16, cell: u16) -> bool
+    pub(crate) fn reference_cell(&self, class: ClassWord, cell: u16) -> bool
         ensures { result ≡ reference_cell self.now class cell }
     {
         let mut walk = self.lineage(class);
@@ -135,7 +136,7 @@ impl Scope<'_> {
     }
 
     // The cell belongs to this class, not to a superclass, and holds a reference.
-    fn own_reference(&self, class: u16, cell: u16) -> bool
+    fn own_reference(&self, class: ClassWord, cell: u16) -> bool
         ensures { result ≡ own_reference (class_in self.now class) (class_by_word self.now.platform class) cell }
     {
         if let Some(loaded) = self.loaded_class(class) {

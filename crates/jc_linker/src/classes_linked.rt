@@ -10,6 +10,7 @@ use jc_cap_code::class_lists::{ClassRefs, ImplementedInterface, ImplementedInter
 use jc_cap_code::class_records::{ClassInfo, ClassRecord};
 use jc_cap_code::classes::Classes;
 use jc_cap_fields::class_refs::ClassRef;
+use jc_names::{ClassWord, NO_CLASS};
 use std::alloc::{AllocError, Global};
 
 /// What the names of classes are looked up in: the packages that were loaded, and behind them the one that is being
@@ -96,18 +97,20 @@ impl Linking<'_> {
     }
 
     // The class that a reference names, 0 for none.
-    fn word_of(&self, class: ClassRef) -> u16
+    fn word_of(&self, class: ClassRef) -> ClassWord
         ensures { result ≡ word_of self.now.names.now self.now.number class }
     {
-        self.names.class_named(self.number, class).unwrap_or(0)
+        self.names
+            .class_named(self.number, class)
+            .unwrap_or(NO_CLASS)
     }
 
-    fn cells_above(&self, done: &[LinkedClass], word: u16) -> u32
+    fn cells_above(&self, done: &[LinkedClass], word: ClassWord) -> u32
         ensures cells { result ≡ cells_above self.now.loaded.now self.now.number done.now word }
         ensures few { result ≤ 65536 }
     {
-        let cells = if word / 256 == u16::from(self.number) {
-            done.get((word % 256) as usize)
+        let cells = if word.0 / 256 == u16::from(self.number) {
+            done.get((word.0 % 256) as usize)
                 .map_or(0, |class| class.cells())
         } else {
             self.loaded.size_of(word)

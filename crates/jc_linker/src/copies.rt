@@ -11,6 +11,7 @@ use jc_cap_code::classes::Classes;
 use jc_cap_fields::lists::U2List;
 use jc_cap_text::applets::{AppletInfo, Applets};
 use jc_cap_text::exports::{ExportedClass as Exported, Exports};
+use jc_names::NO_CLASS;
 use std::alloc::{AllocError, Global};
 
 /// What stands in a package before its classes are linked and its entries resolved.
@@ -61,7 +62,7 @@ pub(crate) fn outline(alloc: Global, offset: u16) -> LinkedClass
     LinkedClass {
         offset,
         is_interface: false,
-        superclass: 0,
+        superclass: NO_CLASS,
         interfaces: Vec::new(alloc),
         inherited_cells: 0,
         declared_cells: 0,

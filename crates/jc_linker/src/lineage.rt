@@ -3,6 +3,7 @@ ghost use Rattle.std.specs.Prelude.{◌≡◌, [], ◌∷◌, MatchOption};
 ghost use Rattle.jc_packages.specs.Classes.{lineage};
 
 use crate::scope::Scope;
+use jc_names::ClassWord;
 use std::marker::Model;
 
 /// More classes than this no card has.
@@ -12,7 +13,7 @@ const MOST_CLASSES: u16 = 8704;
 #[derive(Drop)]
 pub(crate) struct Lineage<'a> {
     scope: &'a Scope<'a>,
-    next: Option<u16>,
+    next: Option<ClassWord>,
     left: u16,
 }
 
@@ -26,7 +27,7 @@ impl<'a> Model for Lineage<'a> {
 }
 
 impl<'a> Scope<'a> {
-    pub(crate) fn lineage(&'a self, class: u16) -> Lineage<'a>
+    pub(crate) fn lineage(&'a self, class: ClassWord) -> Lineage<'a>
         ensures { result ≡ lineage self.entry.now class }
     {
         Lineage {
@@ -40,7 +41,7 @@ impl<'a> Scope<'a> {
 impl<'a> Lineage<'a> {
     /// The next class.
     #[tactic(auto, unfolding(jc_packages::specs::Classes::lineage_from))]
-    pub(crate) fn pop(&mut self) -> Option<u16>
+    pub(crate) fn pop(&mut self) -> Option<ClassWord>
         ensures { MatchOption result (self.old ≡ []) (λ class. self.old ≡ class ∷ self.new) }
     {
         if self.left == 0 {

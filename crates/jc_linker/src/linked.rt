@@ -8,6 +8,7 @@ ghost use Rattle.jc_packages.specs.Resolves.{names_interface};
 use crate::package::LinkedPackage;
 use crate::scope::Scope;
 use jc_cap_text::pool::VirtualToken;
+use jc_names::ClassWord;
 use jc_packages::target::Method;
 use jc_platform::platform::Platform;
 use std::alloc::{AllocError, Global};
@@ -126,14 +127,14 @@ impl Linked {
     }
 
     /// A class or an interface stands behind this word.
-    pub fn is_class(&self, class: u16) -> bool
+    pub fn is_class(&self, class: ClassWord) -> bool
         ensures { result ≡ is_class self.now class }
     {
         self.scope().is_class(class)
     }
 
     /// The superclass. `Object` and interfaces have none.
-    pub fn superclass(&self, class: u16) -> Option<u16>
+    pub fn superclass(&self, class: ClassWord) -> Option<ClassWord>
         ensures { result ≡ superclass_in self.now class }
     {
         self.scope().superclass(class)
@@ -141,42 +142,42 @@ impl Linked {
 
     /// A subtype: the class is the other, below it, or implements it. It takes time that grows with the number of
     /// classes above.
-    pub fn is_below(&self, class: u16, of: u16) -> bool
+    pub fn is_below(&self, class: ClassWord, of: ClassWord) -> bool
         ensures { result ≡ is_below self.now class of }
     {
         self.scope().is_below(class, of)
     }
 
     /// The class is an interface.
-    pub fn names_interface(&self, class: u16) -> bool
+    pub fn names_interface(&self, class: ClassWord) -> bool
         ensures { result ≡ names_interface self.now class }
     {
         self.scope().names_interface(class)
     }
 
     /// An interface that extends `Shareable`, or a class with such an interface.
-    pub fn is_shareable(&self, class: u16) -> bool
+    pub fn is_shareable(&self, class: ClassWord) -> bool
         ensures { result ≡ is_shareable self.now class }
     {
         self.scope().is_shareable(class)
     }
 
     /// How many cells an instance has.
-    pub fn size_of(&self, class: u16) -> u32
+    pub fn size_of(&self, class: ClassWord) -> u32
         ensures { result ≡ size_of self.now class }
     {
         self.scope().size_of(class)
     }
 
     /// `new` makes instances of it.
-    pub fn is_made(&self, class: u16) -> bool
+    pub fn is_made(&self, class: ClassWord) -> bool
         ensures { result ≡ is_made self.now class }
     {
         self.scope().is_made(class)
     }
 
     /// A cell of an instance holds a reference.
-    pub fn reference_cell(&self, class: u16, cell: u16) -> bool
+    pub fn reference_cell(&self, class: ClassWord, cell: u16) -> bool
         ensures { result ≡ reference_cell self.now class cell }
     {
         self.scope().reference_cell(class, cell)
@@ -184,7 +185,12 @@ impl Linked {
 
     /// The method that a call by token on an instance of a class runs, through a class of the package with this
     /// number. It takes time that grows with the number of classes above.
-    pub fn method_at(&self, class: u16, package_number: u8, token: VirtualToken) -> Option<Method>
+    pub fn method_at(
+        &self,
+        class: ClassWord,
+        package_number: u8,
+        token: VirtualToken,
+    ) -> Option<Method>
         ensures { result ≡ method_at self.now class package_number token }
     {
         self.scope().method_at(class, package_number, token)
@@ -192,7 +198,12 @@ impl Linked {
 
     /// The method that a call of an interface's method by token on an instance of a class runs. It takes time that
     /// grows with the number of classes above.
-    pub fn interface_method_at(&self, class: u16, interface: u16, token: u8) -> Option<Method>
+    pub fn interface_method_at(
+        &self,
+        class: ClassWord,
+        interface: ClassWord,
+        token: u8,
+    ) -> Option<Method>
         ensures { result ≡ interface_method_at self.now class interface token }
     {
         self.scope().interface_method_at(class, interface, token)

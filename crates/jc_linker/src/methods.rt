@@ -6,6 +6,7 @@ ghost use Rattle.jc_platform.specs.Platform.{method_by_token};
 
 use crate::scope::Scope;
 use jc_cap_text::pool::VirtualToken;
+use jc_names::ClassWord;
 use jc_packages::search::{CarriedOut, Search};
 use jc_packages::target::Method;
 use jc_platform::names::{MethodKind, PlatformClass};
@@ -16,7 +17,7 @@ impl Scope<'_> {
     #[tactic(auto, unfolding(jc_packages::specs::Methods::method_at))]
     pub(crate) fn method_at(
         &self,
-        class: u16,
+        class: ClassWord,
         package_number: u8,
         token: VirtualToken,
     ) -> Option<Method>
@@ -33,7 +34,7 @@ impl Scope<'_> {
     }
 
     #[tactic(auto, unfolding(jc_packages::specs::Methods::method_at, jc_packages::specs::Methods::searched))]
-    fn public_method(&self, class: u16, token: u8) -> Option<Method>
+    fn public_method(&self, class: ClassWord, token: u8) -> Option<Method>
         ensures { result ≡ method_at self.now class 0 (VirtualToken.Public token) }
     {
         let mut walk = self.lineage(class);
@@ -48,12 +49,12 @@ impl Scope<'_> {
     }
 
     #[tactic(auto, unfolding(jc_packages::specs::Methods::method_at, jc_packages::specs::Methods::searched))]
-    fn package_method(&self, class: u16, package_number: u8, token: u8) -> Option<Method>
+    fn package_method(&self, class: ClassWord, package_number: u8, token: u8) -> Option<Method>
         ensures { result ≡ method_at self.now class package_number (VirtualToken.PackageVisible token) }
     {
         let mut walk = self.lineage(class);
         while let Some(above) = walk.pop() {
-            if above / 256 != u16::from(package_number) {
+            if above.0 / 256 != u16::from(package_number) {
                 continue;
             }
             match self.method_in(VirtualToken::PackageVisible(token), above) {
@@ -67,11 +68,11 @@ impl Scope<'_> {
 
     // What a class says of a token.
     #[tactic(auto, unfolding(jc_packages::specs::Methods::method_in))]
-    fn method_in(&self, token: VirtualToken, class: u16) -> Search<Method>
+    fn method_in(&self, token: VirtualToken, class: ClassWord) -> Search<Method>
         ensures { result ≡ method_in self.now token class }
     {
         if let Some(loaded) = self.loaded_class(class) {
-            let package_number = (class / 256) as u8;
+            let package_number = (class.0 / 256) as u8;
             return match token {
                 VirtualToken::Public(token) => loaded.public_methods.find(package_number, token),
                 VirtualToken::PackageVisible(token) => {
@@ -105,8 +106,8 @@ impl Scope<'_> {
     #[tactic(auto, unfolding(jc_packages::specs::Methods::interface_method_at))]
     pub(crate) fn interface_method_at(
         &self,
-        class: u16,
-        interface: u16,
+        class: ClassWord,
+        interface: ClassWord,
         token: u8,
     ) -> Option<Method>
         ensures { result ≡ interface_method_at self.now class interface token }
@@ -118,7 +119,7 @@ impl Scope<'_> {
     }
 
     #[tactic(auto, unfolding(jc_packages::specs::Methods::searched))]
-    fn carried_out(&self, class: u16, interface: u16, token: u8) -> Option<CarriedOut>
+    fn carried_out(&self, class: ClassWord, interface: ClassWord, token: u8) -> Option<CarriedOut>
         ensures { result ≡ searched (carried_in self.now interface token) (lineage self.now class) }
     {
         let mut walk = self.lineage(class);
@@ -134,7 +135,7 @@ impl Scope<'_> {
 
     // How a class carries out a method of an interface.
     #[tactic(auto, unfolding(jc_packages::specs::Methods::carried_in))]
-    fn carried_in(&self, interface: u16, token: u8, class: u16) -> Search<CarriedOut>
+    fn carried_in(&self, interface: ClassWord, token: u8, class: ClassWord) -> Search<CarriedOut>
         ensures { result ≡ carried_in self.now interface token class }
     {
         if let Some(loaded) = self.loaded_class(class) {
@@ -148,7 +149,7 @@ impl Scope<'_> {
 
     fn natively(
         &self,
-        interface: u16,
+        interface: ClassWord,
         token: u8,
         implemented: Option<PlatformClass>,
     ) -> Search<CarriedOut>

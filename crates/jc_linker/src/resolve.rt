@@ -7,6 +7,7 @@ use crate::package::ExportedClass;
 use crate::scope::Scope;
 use jc_cap_fields::class_refs::ClassRef;
 use jc_cap_text::pool::{Entry, StaticRef, VirtualToken};
+use jc_names::ClassWord;
 use jc_packages::target::{Method, Target};
 use jc_platform::names::MethodKind;
 
@@ -17,7 +18,7 @@ impl Scope<'_> {
         ensures { result ≡ resolution self.now number entry }
     {
         match entry {
-            Entry::Class(class) => Some(Target::Class(self.class_named(number, class)?)),
+            Entry::Class(class) => Some(Target::Class(self.class_named(number, class)?.0)),
             Entry::InstanceField { class, token } => {
                 self.field_target(token, self.class_named(number, class)?)
             }
@@ -57,7 +58,7 @@ impl Scope<'_> {
 
     /// The class that a reference in the package with this number names.
     #[tactic(auto, unfolding(jc_packages::specs::Resolves::class_named))]
-    pub(crate) fn class_named(&self, number: u8, class: ClassRef) -> Option<u16>
+    pub(crate) fn class_named(&self, number: u8, class: ClassRef) -> Option<ClassWord>
         ensures { result ≡ class_named self.now number class }
     {
         match class {
@@ -70,11 +71,11 @@ impl Scope<'_> {
     }
 
     #[tactic(auto, unfolding(jc_packages::specs::Resolves::class_at_offset))]
-    fn class_at_offset(&self, number: u8, offset: u16) -> Option<u16>
+    fn class_at_offset(&self, number: u8, offset: u16) -> Option<ClassWord>
         ensures { result ≡ class_at_offset self.now number offset }
     {
         let place = self.package(number)?.place_of(offset)?;
-        Some(256 * u16::from(number) + u16::from(place))
+        Some(ClassWord(256 * u16::from(number) + u16::from(place)))
     }
 
     // The number of the package that a package imports by a token.
@@ -86,12 +87,12 @@ impl Scope<'_> {
     }
 
     #[tactic(auto, unfolding(jc_packages::specs::Resolves::class_with_token))]
-    fn class_with_token(&self, number: u8, token: u8) -> Option<u16>
+    fn class_with_token(&self, number: u8, token: u8) -> Option<ClassWord>
         ensures { result ≡ class_with_token self.now number token }
     {
         if let Some(package) = self.package(number) {
             let place = package.place_of(package.exports.get(token as usize)?.class_offset)?;
-            return Some(256 * u16::from(number) + u16::from(place));
+            return Some(ClassWord(256 * u16::from(number) + u16::from(place)));
         }
         let home = self.platform.package(number)?;
         let class = self.platform.class_by_token(home, token)?;
@@ -100,7 +101,7 @@ impl Scope<'_> {
 
     /// The class is an interface.
     #[tactic(auto, unfolding(jc_packages::specs::Resolves::names_interface))]
-    pub(crate) fn names_interface(&self, class: u16) -> bool
+    pub(crate) fn names_interface(&self, class: ClassWord) -> bool
         ensures { result ≡ names_interface self.now class }
     {
         if let Some(loaded) = self.loaded_class(class) {
@@ -113,7 +114,7 @@ impl Scope<'_> {
     }
 
     #[tactic(auto, unfolding(jc_packages::specs::Resolves::field_target))]
-    fn field_target(&self, token: u8, class: u16) -> Option<Target>
+    fn field_target(&self, token: u8, class: ClassWord) -> Option<Target>
         ensures { result ≡ field_target self.now token class }
     {
         let loaded = self.loaded_class(class)?;
@@ -121,34 +122,37 @@ impl Scope<'_> {
             return None;
         }
         Some(Target::InstanceField {
-            class,
+            class: class.0,
             cell: loaded.inherited_cells + u32::from(token),
             is_reference: loaded.declares_reference(u32::from(token)),
         })
     }
 
     #[tactic(auto, unfolding(jc_packages::specs::Resolves::virtual_target))]
-    fn virtual_target(&self, token: VirtualToken, class: u16) -> Option<Target>
+    fn virtual_target(&self, token: VirtualToken, class: ClassWord) -> Option<Target>
         ensures { result ≡ virtual_target self.now token class }
     {
         if self.names_interface(class) {
             return None;
         }
-        let method = self.method_at(class, (class / 256) as u8, token)?;
+        let method = self.method_at(class, (class.0 / 256) as u8, token)?;
         Some(Target::VirtualMethod {
-            class,
+            class: class.0,
             token,
             method,
         })
     }
 
     #[tactic(auto, unfolding(jc_packages::specs::Resolves::super_target))]
-    fn super_target(&self, token: VirtualToken, class: u16) -> Option<Target>
+    fn super_target(&self, token: VirtualToken, class: ClassWord) -> Option<Target>
         ensures { result ≡ super_target self.now token class }
     {
         let above = self.superclass(class)?;
-        let method = self.method_at(above, (class / 256) as u8, token)?;
-        Some(Target::SuperMethod { class, method })
+        let method = self.method_at(above, (class.0 / 256) as u8, token)?;
+        Some(Target::SuperMethod {
+            class: class.0,
+            method,
+        })
     }
 
     #[tactic(auto, unfolding(jc_packages::specs::Resolves::export_of))]
@@ -177,12 +181,18 @@ impl Scope<'_> {
         let class = self.class_with_token(number, class_token)?;
         let method = self.static_method(number, class, class_token, token)?;
         Some(Target::StaticMethod {
-            class: Some(class),
+            class: Some(class.0),
             method,
         })
     }
 
-    fn static_method(&self, number: u8, class: u16, class_token: u8, token: u8) -> Option<Method>
+    fn static_method(
+        &self,
+        number: u8,
+        class: ClassWord,
+        class_token: u8,
+        token: u8,
+    ) -> Option<Method>
         ensures { result ≡ static_method_by self.now number class token (export_of self.now number class_token) }
     {
         if let Some(export) = self.export_of(number, class_token) {

@@ -4,6 +4,7 @@ ghost use Rattle.jc_packages.specs.Classes.{class_in, package_in};
 
 use crate::class::LinkedClass;
 use crate::package::LinkedPackage;
+use jc_names::ClassWord;
 use jc_platform::platform::Platform;
 use std::marker::Model;
 
@@ -43,11 +44,11 @@ impl Scope<'_> {
     }
 
     #[tactic(auto, unfolding(jc_packages::specs::Classes::class_in))]
-    pub(crate) fn loaded_class(&self, class: u16) -> Option<&LinkedClass>
+    pub(crate) fn loaded_class(&self, class: ClassWord) -> Option<&LinkedClass>
         ensures { option_copied result ≡ class_in self.now class }
     {
-        self.package((class / 256) as u8)?
+        self.package((class.0 / 256) as u8)?
             .classes
-            .get((class % 256) as usize)
+            .get((class.0 % 256) as usize)
     }
 }

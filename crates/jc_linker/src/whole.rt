@@ -6,6 +6,7 @@ ghost use Rattle.jc_linker.specs.Whole.{are_whole, has_method, has_superclass, i
 use crate::class::{Implemented, LinkedClass};
 use crate::scope::Scope;
 use jc_cap_text::pool::VirtualToken;
+use jc_names::ClassWord;
 
 impl Scope<'_> {
     /// All that these classes of the package with this number name is there.
@@ -14,7 +15,7 @@ impl Scope<'_> {
         ensures { result ≡ are_whole self.now number classes.now }
     {
         for place in 0..classes.len() {
-            let class = 256 * u16::from(number) + place as u16;
+            let class = ClassWord(256 * u16::from(number) + place as u16);
             let whole = self.is_whole(number, class, class_at(classes, place));
             if !whole {
                 return false;
@@ -24,7 +25,7 @@ impl Scope<'_> {
     }
 
     #[tactic(auto, unfolding(crate::specs::Whole::is_whole))]
-    fn is_whole(&self, number: u8, class: u16, linked: &LinkedClass) -> bool
+    fn is_whole(&self, number: u8, class: ClassWord, linked: &LinkedClass) -> bool
         ensures { result ≡ is_whole self.now number class linked.now }
     {
         let methods = &linked.public_methods;
@@ -40,7 +41,7 @@ impl Scope<'_> {
             || (self.is_class(linked.superclass) && !self.names_interface(linked.superclass))
     }
 
-    fn are_carried_out(&self, number: u8, class: u16, listed: &[Implemented]) -> bool
+    fn are_carried_out(&self, number: u8, class: ClassWord, listed: &[Implemented]) -> bool
         ensures { result ≡ list_all (is_carried_out self.now number class) listed.now }
     {
         listed
@@ -48,13 +49,13 @@ impl Scope<'_> {
             .all(|interface| self.is_carried_out(number, class, interface))
     }
 
-    fn is_carried_out(&self, number: u8, class: u16, listed: &Implemented) -> bool
+    fn is_carried_out(&self, number: u8, class: ClassWord, listed: &Implemented) -> bool
         ensures { result ≡ is_carried_out self.now number class listed.now }
     {
         self.names_interface(listed.interface) && self.has_methods(number, class, &listed.tokens)
     }
 
-    fn has_methods(&self, number: u8, class: u16, tokens: &[u8]) -> bool
+    fn has_methods(&self, number: u8, class: ClassWord, tokens: &[u8]) -> bool
         ensures { result ≡ list_all (λ token. has_method self.now number class token) tokens.now }
     {
         tokens.iter().all(|token| self.has_method(number, class, usize::from(*token)))
@@ -62,7 +63,7 @@ impl Scope<'_> {
 
     /// A class has a public method with this token.
     #[tactic(auto, unfolding(crate::specs::Whole::has_method))]
-    fn has_method(&self, number: u8, class: u16, token: usize) -> bool
+    fn has_method(&self, number: u8, class: ClassWord, token: usize) -> bool
         ensures { result ≡ has_method self.now number class token }
     {
         if token > 255 {
@@ -73,7 +74,7 @@ impl Scope<'_> {
     }
 
     // The methods from the base on that are inherited are there in the superclass.
-    fn inherits(&self, number: u8, superclass: u16, base: u8, offsets: &[u16]) -> bool
+    fn inherits(&self, number: u8, superclass: ClassWord, base: u8, offsets: &[u16]) -> bool
         ensures { result ≡ inherits_from self.now number superclass base offsets.now }
     {
         for place in 0..offsets.len() {
@@ -87,7 +88,7 @@ impl Scope<'_> {
     }
 
     // The method is the class's own, or is there in the superclass.
-    fn is_there(&self, number: u8, superclass: u16, token: usize, offset: u16) -> bool
+    fn is_there(&self, number: u8, superclass: ClassWord, token: usize, offset: u16) -> bool
         ensures { result ≡ (not (offset == 65535) || has_method self.now number superclass token) }
     {
         offset != 65535 || self.has_method(number, superclass, token)

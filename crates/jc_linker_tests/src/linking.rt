@@ -4,6 +4,7 @@ use crate::packages::{CLIENT, COUNTER, Infos, SERVER, platform_alone, read};
 use jc_cap_text::pool::VirtualToken;
 use jc_linker::link::link;
 use jc_linker::linked::Linked;
+use jc_names::{ClassWord, NO_CLASS};
 use jc_packages::target::{Method, Target};
 use jc_platform::names::PlatformMethod;
 use std::test::Fail;
@@ -82,14 +83,31 @@ fn the_counter_packages_entries(rt: HostRuntime) -> Result<(), Fail> {
 fn the_counter_packages_class(rt: HostRuntime) -> Result<(), Fail> {
     let mut linked = platform_alone(&rt)?;
     add(&rt, &mut linked, &COUNTER)?;
-    assert!(rt; linked.is_class(0x0100) && !linked.is_class(0x0101) && !linked.is_class(0));
-    assert_eq!(rt; linked.superclass(0x0100), Some(APPLET));
-    assert_eq!(rt; linked.superclass(OBJECT), None);
-    assert!(rt; linked.is_below(0x0100, 0x0100) && linked.is_below(0x0100, APPLET));
-    assert!(rt; linked.is_below(0x0100, OBJECT) && !linked.is_below(APPLET, 0x0100));
-    assert!(rt; !linked.is_shareable(0x0100) && linked.is_made(0x0100) && !linked.is_made(APPLET));
-    assert_eq!(rt; linked.size_of(0x0100), 0);
-    let public = |token| linked.method_at(0x0100, 1, VirtualToken::Public(token));
+    assert!(rt;
+        linked.is_class(ClassWord(0x0100))
+            && !linked.is_class(ClassWord(0x0101))
+            && !linked.is_class(NO_CLASS)
+    );
+    assert_eq!(rt;
+        linked.superclass(ClassWord(0x0100)),
+        Some(ClassWord(APPLET))
+    );
+    assert_eq!(rt; linked.superclass(ClassWord(OBJECT)), None);
+    assert!(rt;
+        linked.is_below(ClassWord(0x0100), ClassWord(0x0100))
+            && linked.is_below(ClassWord(0x0100), ClassWord(APPLET))
+    );
+    assert!(rt;
+        linked.is_below(ClassWord(0x0100), ClassWord(OBJECT))
+            && !linked.is_below(ClassWord(APPLET), ClassWord(0x0100))
+    );
+    assert!(rt;
+        !linked.is_shareable(ClassWord(0x0100))
+            && linked.is_made(ClassWord(0x0100))
+            && !linked.is_made(ClassWord(APPLET))
+    );
+    assert_eq!(rt; linked.size_of(ClassWord(0x0100)), 0);
+    let public = |token| linked.method_at(ClassWord(0x0100), 1, VirtualToken::Public(token));
     assert_eq!(rt; public(7), Some(code(1, 21)));
     assert_eq!(rt;
         public(1),
@@ -124,16 +142,25 @@ fn packages_by_name(rt: HostRuntime) -> Result<(), Fail> {
 fn an_interface_and_a_class_that_implements_it(rt: HostRuntime) -> Result<(), Fail> {
     let mut linked = platform_alone(&rt)?;
     add(&rt, &mut linked, &SERVER)?;
-    assert!(rt; linked.is_shareable(0x0100) && linked.is_shareable(0x0101));
-    assert!(rt; linked.is_below(0x0101, 0x0100) && linked.is_below(0x0101, 0x4100));
-    assert!(rt; !linked.is_made(0x0100) && linked.is_made(0x0101));
-    assert_eq!(rt; linked.superclass(0x0100), None);
+    assert!(rt; linked.is_shareable(ClassWord(0x0100)) && linked.is_shareable(ClassWord(0x0101)));
+    assert!(rt;
+        linked.is_below(ClassWord(0x0101), ClassWord(0x0100))
+            && linked.is_below(ClassWord(0x0101), ClassWord(0x4100))
+    );
+    assert!(rt; !linked.is_made(ClassWord(0x0100)) && linked.is_made(ClassWord(0x0101)));
+    assert_eq!(rt; linked.superclass(ClassWord(0x0100)), None);
     assert_eq!(rt;
-        linked.interface_method_at(0x0101, 0x0100, 0),
+        linked.interface_method_at(ClassWord(0x0101), ClassWord(0x0100), 0),
         Some(code(1, 32))
     );
-    assert_eq!(rt; linked.interface_method_at(0x0101, 0x0100, 1), None);
-    assert_eq!(rt; linked.interface_method_at(0x0101, 0x4101, 0), None);
+    assert_eq!(rt;
+        linked.interface_method_at(ClassWord(0x0101), ClassWord(0x0100), 1),
+        None
+    );
+    assert_eq!(rt;
+        linked.interface_method_at(ClassWord(0x0101), ClassWord(0x4101), 0),
+        None
+    );
     let field = Target::InstanceField {
         class: 0x0101,
         cell: 0,
@@ -172,11 +199,13 @@ fn a_client_of_the_server(rt: HostRuntime) -> Result<(), Fail> {
         method: code(1, 32),
     };
     assert_eq!(rt; linked.target_at(2, 5), Some(above));
-    assert_eq!(rt; linked.size_of(0x0200), 2);
-    assert!(rt; !linked.reference_cell(0x0200, 0) && linked.reference_cell(0x0200, 1));
-    assert!(rt; linked.is_shareable(0x0200));
+    assert_eq!(rt; linked.size_of(ClassWord(0x0200)), 2);
+    assert!(rt;
+        !linked.reference_cell(ClassWord(0x0200), 0) && linked.reference_cell(ClassWord(0x0200), 1)
+    );
+    assert!(rt; linked.is_shareable(ClassWord(0x0200)));
     assert_eq!(rt;
-        linked.interface_method_at(0x0200, 0x0100, 0),
+        linked.interface_method_at(ClassWord(0x0200), ClassWord(0x0100), 0),
         Some(code(1, 32))
     );
     Ok(())
@@ -186,17 +215,34 @@ fn a_client_of_the_server(rt: HostRuntime) -> Result<(), Fail> {
 fn classes_of_the_platform(rt: HostRuntime) -> Result<(), Fail> {
     let linked = platform_alone(&rt)?;
     // OwnerPIN, PIN and AID.
-    assert!(rt; linked.is_below(0x4107, 0x4101) && !linked.is_below(0x4104, 0x4101));
+    assert!(rt;
+        linked.is_below(ClassWord(0x4107), ClassWord(0x4101))
+            && !linked.is_below(ClassWord(0x4104), ClassWord(0x4101))
+    );
     let check = Some(Method::Native(PlatformMethod::OwnerPinCheck));
-    assert_eq!(rt; linked.interface_method_at(0x4107, 0x4101, 0), check);
-    assert_eq!(rt; (linked.size_of(0x4107), linked.size_of(0x4104)), (5, 9));
-    assert!(rt; linked.reference_cell(0x4107, 4) && !linked.reference_cell(0x4107, 3));
+    assert_eq!(rt;
+        linked.interface_method_at(ClassWord(0x4107), ClassWord(0x4101), 0),
+        check
+    );
+    assert_eq!(rt;
+        (
+            linked.size_of(ClassWord(0x4107)),
+            linked.size_of(ClassWord(0x4104))
+        ),
+        (5, 9)
+    );
+    assert!(rt;
+        linked.reference_cell(ClassWord(0x4107), 4) && !linked.reference_cell(ClassWord(0x4107), 3)
+    );
     // ISOException below CardRuntimeException: getReason is inherited.
     let reason = Some(Method::Native(PlatformMethod::CardRuntimeExceptionGetReason));
     assert_eq!(rt;
-        linked.method_at(0x410A, 65, VirtualToken::Public(1)),
+        linked.method_at(ClassWord(0x410A), 65, VirtualToken::Public(1)),
         reason
     );
-    assert!(rt; linked.is_below(0x410A, 0x4003) && !linked.is_below(0x4003, 0x410A));
+    assert!(rt;
+        linked.is_below(ClassWord(0x410A), ClassWord(0x4003))
+            && !linked.is_below(ClassWord(0x4003), ClassWord(0x410A))
+    );
     Ok(())
 }

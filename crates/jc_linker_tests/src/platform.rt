@@ -1,5 +1,6 @@
 //! What numbers and tokens of the platform stand for, with the example table.
 
+use jc_names::ClassWord;
 use jc_platform::example::EXAMPLE;
 use jc_platform::names::{MethodKind, PlatformClass, PlatformMethod, PlatformPackage};
 use jc_platform::read::read_table;
@@ -27,10 +28,10 @@ fn tokens_stand_for_names(rt: HostRuntime) -> Result<(), Fail> {
         Some(PlatformClass::OwnerPin)
     );
     assert_eq!(rt;
-        platform.class_by_word(0x400B),
+        platform.class_by_word(ClassWord(0x400B)),
         Some(PlatformClass::SecurityException)
     );
-    assert_eq!(rt; platform.class_by_word(0x400C), None);
+    assert_eq!(rt; platform.class_by_word(ClassWord(0x400C)), None);
     let register = platform.method_by_token(PlatformClass::Applet, MethodKind::Virtual, 4);
     assert_eq!(rt; register, Some(PlatformMethod::AppletRegisterBytes));
     assert_eq!(rt;

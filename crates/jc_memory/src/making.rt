@@ -6,6 +6,7 @@ ghost use Rattle.jc_memory.specs.Making.{made, zero_of};
 use crate::memory::Memory;
 use crate::registers::Owner;
 use jc_heap::{HeapRefusal, Kind};
+use jc_names::ClassWord;
 use jc_transient::{CellValue, ClearEvent, Ref};
 use jc_words::WordStore;
 
@@ -15,8 +16,8 @@ pub struct NewObject {
     pub kind: Kind,
     /// What is to clear its cells; none, where it is to be persistent.
     pub event: Option<ClearEvent>,
-    /// The package number times 256 and the class number, or 0.
-    pub class: u16,
+    /// The class of an instance, or that of an array's elements, where they are references.
+    pub class: ClassWord,
     pub owner: Owner,
     /// How many cells it is to have.
     pub length: u16,

@@ -2,6 +2,8 @@
 ghost use Rattle.std.specs.Prelude.{◌≡◌};
 ghost use Rattle.jc_memory.specs.Owners.{owner_number, owner_of, at_reset};
 
+use jc_names::{OwnerWord, RUNTIME_ENVIRONMENT};
+
 /// An applet instance by its number in the registry, 1 to 64.
 #[derive(Clone, Copy, Debug, PartialEq, Eq)]
 pub struct AppletNumber(pub u8);
@@ -24,27 +26,27 @@ pub enum Owner {
 impl Owner {
     /// The owner as an object header has it: 0, the number of the applet, or 256 and the number of
     /// the package.
-    pub const fn number(self) -> u16
+    pub const fn number(self) -> OwnerWord
         ensures { result ≡ owner_number self }
     {
         match self {
-            Owner::Runtime => 0,
-            Owner::Applet(applet) => applet.0 as u16,
-            Owner::Package(package) => 256 + package.0 as u16,
+            Owner::Runtime => RUNTIME_ENVIRONMENT,
+            Owner::Applet(applet) => OwnerWord(applet.0 as u16),
+            Owner::Package(package) => OwnerWord(256 + package.0 as u16),
         }
     }
 
     /// The owner that an object header names.
-    pub const fn of(number: u16) -> Owner
+    pub const fn of(number: OwnerWord) -> Owner
         ensures { result ≡ owner_of number }
     {
-        if number == 0 {
+        if number.0 == 0 {
             return Owner::Runtime;
         }
-        if number < 256 {
-            return Owner::Applet(AppletNumber(number as u8));
+        if number.0 < 256 {
+            return Owner::Applet(AppletNumber(number.0 as u8));
         }
-        Owner::Package(PackageNumber((number % 256) as u8))
+        Owner::Package(PackageNumber((number.0 % 256) as u8))
     }
 }
 

@@ -5,6 +5,7 @@ ghost use Rattle.jc_heap.specs.Whole.{IsWhole};
 use jc_heap::{ChangeRefusal, Heap, HeapRefusal, Kind};
 use jc_image::OpenImage;
 use jc_memory::{Marks, Memory, NewObject, Owner};
+use jc_names::NO_CLASS;
 use jc_transient::{CellValue, ClearEvent, Ram, Ref};
 use jc_words::{MemStore, blank};
 use std::alloc::Global;
@@ -44,7 +45,7 @@ pub(crate) fn object(kind: Kind, event: Option<ClearEvent>, length: u16) -> NewO
     NewObject {
         kind,
         event,
-        class: 0,
+        class: NO_CLASS,
         owner: Owner::Runtime,
         length,
     }

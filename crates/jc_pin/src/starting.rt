@@ -10,6 +10,7 @@ ghost use Rattle.jc_pin.specs.Starting.{first_record, started};
 use crate::updating::PinRefusal;
 use jc_heap::{Kind, Place};
 use jc_memory::{Memory, NewObject};
+use jc_names::NO_CLASS;
 use jc_room::{has_space, lacks_room, make_in_room, write_in_room};
 use jc_transient::Ref;
 use jc_words::{StoreDown, WordStore};
@@ -64,7 +65,7 @@ pub fn init<S: WordStore>(
     let array = NewObject {
         kind: Kind::ByteArray,
         event: None,
-        class: 0,
+        class: NO_CLASS,
         owner,
         length: maximum,
     };

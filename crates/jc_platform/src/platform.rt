@@ -15,6 +15,7 @@ use crate::names::{
 };
 use crate::row::Version;
 use crate::table::Table;
+use jc_names::ClassWord;
 use std::marker::Model;
 
 /// The packages of the platform with their tokens.
@@ -94,7 +95,7 @@ impl Platform {
     }
 
     /// The class as an object's header names it.
-    pub fn class_word(&self, class: PlatformClass) -> u16
+    pub fn class_word(&self, class: PlatformClass) -> ClassWord
         ensures { result ≡ class_word self.now class }
     {
         self.table.class_word(class)
@@ -117,11 +118,11 @@ impl Platform {
 
     /// The class that an object's header names so.
     #[tactic(auto, unfolding(crate::specs::Platform::class_by_word))]
-    pub fn class_by_word(&self, word: u16) -> Option<PlatformClass>
+    pub fn class_by_word(&self, word: ClassWord) -> Option<PlatformClass>
         ensures { result ≡ class_by_word self.now word }
     {
-        let home = self.package((word / 256) as u8)?;
-        self.class_by_token(home, (word % 256) as u8)
+        let home = self.package((word.0 / 256) as u8)?;
+        self.class_by_token(home, (word.0 % 256) as u8)
     }
 
     /// The method of a class with this kind and token.

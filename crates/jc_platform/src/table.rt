@@ -10,6 +10,7 @@ use crate::names::{
 };
 use crate::platform::Platform;
 use crate::row::Version;
+use jc_names::ClassWord;
 use std::marker::Model;
 
 /// The tokens of the platform's classes and methods, and its packages' versions and order.
@@ -81,11 +82,11 @@ impl Table {
     }
 
     /// The class as an object's header names it: the number of its package times 256, and its token.
-    pub fn class_word(&self, class: PlatformClass) -> u16
+    pub fn class_word(&self, class: PlatformClass) -> ClassWord
         ensures { result ≡ class_word self.now class }
     {
         let number = u16::from(self.package_number(class.home()));
-        256 * number + u16::from(self.class_token(class))
+        ClassWord(256 * number + u16::from(self.class_token(class)))
     }
 
     /// The packages of the platform, as other packages name them.

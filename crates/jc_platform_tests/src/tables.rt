@@ -1,5 +1,6 @@
 //! The example table, and each way in which a text is no table.
 
+use jc_names::ClassWord;
 use jc_platform::example::EXAMPLE;
 use jc_platform::fault::TableFault;
 use jc_platform::names::{PlatformClass, PlatformMethod, PlatformPackage};
@@ -47,7 +48,10 @@ fn the_rows_table_reads(rt: HostRuntime) -> Result<(), Fail> {
     }
     let home = PlatformClass::UserException.home();
     assert_eq!(rt; home, PlatformPackage::JavacardFramework);
-    assert_eq!(rt; table.class_word(PlatformClass::UserException), 0x410F);
+    assert_eq!(rt;
+        table.class_word(PlatformClass::UserException),
+        ClassWord(0x410F)
+    );
     let version = Version { major: 1, minor: 0 };
     assert_eq!(rt; table.version(PlatformPackage::JavacardFramework), version);
     assert_eq!(rt; table.package_number(PlatformPackage::JavaLang), 64);

@@ -9,6 +9,7 @@ use jc_frames::{Exception, Stop};
 use jc_heap::{Facts, Kind};
 use jc_linker::linked::Linked;
 use jc_memory::{Installation, Memory, Owner};
+use jc_names::RUNTIME_ENVIRONMENT;
 use jc_platform::names::PlatformClass;
 use jc_transient::ClearEvent;
 use jc_words::WordStore;
@@ -73,12 +74,12 @@ pub fn selected_context<S: WordStore>(memory: &Memory<S>) -> Context
 fn designation_of(facts: Facts, linked: &Linked) -> Designation
     ensures { result ≡ designation_of linked.now facts }
 {
-    if facts.owner != 0 {
+    if facts.owner() != RUNTIME_ENVIRONMENT {
         return Designation::Ordinary;
     }
     match facts.kind {
         Kind::Instance => {
-            if facts.class == linked.platform().class_word(PlatformClass::Aid) {
+            if facts.class() == linked.platform().class_word(PlatformClass::Aid) {
                 Designation::PermanentEntryPoint
             } else {
                 Designation::TemporaryEntryPoint
@@ -92,7 +93,7 @@ fn shares(facts: Facts, linked: &Linked) -> bool
     ensures { result ≡ shares linked.now facts.kind facts.class }
 {
     match facts.kind {
-        Kind::Instance => linked.is_shareable(facts.class),
+        Kind::Instance => linked.is_shareable(facts.class()),
         _ => false,
     }
 }
@@ -130,7 +131,7 @@ fn subject_with<S: WordStore>(
     ensures { result ≡ record (subject_of linked.now memory.now facts) { has_shareable_interface = shared } }
 {
     Subject {
-        owner: context_of(Owner::of(facts.owner), memory),
+        owner: context_of(Owner::of(facts.owner()), memory),
         designation: designation_of(facts, linked),
         has_shareable_interface: shared,
         is_clear_on_deselect: is_for_selection(facts.event),

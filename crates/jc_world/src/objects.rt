@@ -10,6 +10,7 @@ use jc_frames::{Exception, Outcome, Stop};
 use jc_heap::{Facts, Kind};
 use jc_linker::linked::Linked;
 use jc_memory::Memory;
+use jc_names::ClassWord;
 use jc_transient::Ref;
 use jc_words::WordStore;
 
@@ -41,10 +42,10 @@ pub fn is_instance(kind: Kind) -> bool
 
 /// Whether an object with this header is an instance of the class, of one below it, or of one that
 /// implements it.
-pub fn is_instance_of(facts: Facts, class: u16, linked: &Linked) -> bool
+pub fn is_instance_of(facts: Facts, class: ClassWord, linked: &Linked) -> bool
     ensures { result ≡ is_instance_of linked.now facts class }
 {
-    is_instance(facts.kind) && linked.is_below(facts.class, class)
+    is_instance(facts.kind) && linked.is_below(facts.class(), class)
 }
 
 /// Whether the firewall lets a reference be stored: null may be. A reference to nothing is a code fault.

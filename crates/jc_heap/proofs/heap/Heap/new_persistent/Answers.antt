@@ -7,7 +7,7 @@ use Rattle.jc_heap.specs.Object.{kind_number, new_object, AnObject, is_object, c
 use Rattle.jc_heap.specs.Heap.{heap_view, changed, add_object, end_address, item_at}
 use Rattle.jc_heap.proofs.Changing.{up_is}
 use Rattle.jc_heap.proofs.Views.{nothing_at_top, view_top}
-use Rattle.jc_heap.proofs.NewObjects.{lacks_space, has_space, new_record, only_down, fresh_stopped_sound, fresh_stopped_view, top_stopped_sound, top_stopped_view, view_made, sound_made, made_object}
+use Rattle.jc_heap.proofs.NewObjects.{fills_same, lacks_space, has_space, new_record, only_down, fresh_stopped_sound, fresh_stopped_view, top_stopped_sound, top_stopped_view, view_made, sound_made, made_object}
 use Rattle.jc_heap.specs.declared.refusal.HeapRefusal.TheVariants.{HeapFull, CommitFull}
 use Rattle.jc_heap.specs.Moves.{AddObject, no_object}
 use Rattle.jc_heap.proofs.Calls.{unless_refused, unless_cut, unless_done, has_no_space, object_full, object_fits, end_room}
@@ -45,7 +45,7 @@ pub invariant_of-self-in_default-write : goal.invariant_of-self-in_default-write
 invariant_of-self-in_default-write g c =
     let below : KeepsBelow (get_or c.self.inside.journal.plain top_address 0) c.self.inside.journal c.write_record.new.journal = subst (λ t. KeepsBelow t c.self.inside.journal c.write_record.new.journal) c.read-top.ensures c.write_record.ensures.below in
     let fills : Fills (get_or c.self.inside.journal.plain top_address 0) (new_record (kind_number c.args.kind) c.args.class c.args.owner c.args.length) c.self.inside.journal c.write_record.new.journal = subst (λ n. Fills (get_or c.self.inside.journal.plain top_address 0) (new_record n c.args.class c.args.owner c.args.length) c.self.inside.journal c.write_record.new.journal) c.number.ensures
-    (unfold new_record in subst (λ t. Fills t (c.number.result ∷ c.args.class ∷ c.args.owner ∷ c.args.length ∷ [] ++ replicate c.args.length 0) c.self.inside.journal c.write_record.new.journal) c.read-top.ensures c.in-Ok.ensures.done) in
+    (unfold new_record in subst (λ t. Fills t (c.number.result ∷ c.args.class ∷ c.args.owner ∷ c.args.length ∷ [] ++ replicate c.args.length 0) c.self.inside.journal c.write_record.new.journal) c.read-top.ensures (fills_same c.read-top.result c.number.result c.class.inside.0 c.args.class c.owner.inside.0 c.args.owner (c.args.length ∷ [] ++ replicate c.args.length 0) c.self.inside.journal c.write_record.new.journal c.class.view_is c.owner.view_is c.in-Ok.ensures.done)) in
     let fit : has_room_for c.self.inside.journal (top_address ∷ []) ≡ true = (sym c.fits.ensures ∙ c.if-not-fits.false) in
     let down : c.in_default-write.field-0 ≡ StoreDown = only_down (get_or c.self.inside.journal.plain top_address 0) c.self.inside.journal c.write_record.new.journal below (top_address ∷ []) fit c.in_default-write.field-0 (λ e. c.in_default-write.ensures.full.0 (ap Err e)) in
     top_stopped_sound c.self.inside.journal c.write_record.new.journal c.self.inside.size c.self.invariant (up_is c.self.inside.journal c.args.self.now c.self.inside.size c.self.view_is c.requires) below (new_record (kind_number c.args.kind) c.args.class c.args.owner c.args.length) fills c.write.new.self (c.in_default-write.ensures.stopped (ap Err down))
@@ -60,7 +60,7 @@ pub returns-in_default-write-clause-stopped : goal.returns-in_default-write-clau
 returns-in_default-write-clause-stopped g c =
     let below : KeepsBelow (get_or c.self.inside.journal.plain top_address 0) c.self.inside.journal c.write_record.new.journal = subst (λ t. KeepsBelow t c.self.inside.journal c.write_record.new.journal) c.read-top.ensures c.write_record.ensures.below in
     let fills : Fills (get_or c.self.inside.journal.plain top_address 0) (new_record (kind_number c.args.kind) c.args.class c.args.owner c.args.length) c.self.inside.journal c.write_record.new.journal = subst (λ n. Fills (get_or c.self.inside.journal.plain top_address 0) (new_record n c.args.class c.args.owner c.args.length) c.self.inside.journal c.write_record.new.journal) c.number.ensures
-    (unfold new_record in subst (λ t. Fills t (c.number.result ∷ c.args.class ∷ c.args.owner ∷ c.args.length ∷ [] ++ replicate c.args.length 0) c.self.inside.journal c.write_record.new.journal) c.read-top.ensures c.in-Ok.ensures.done) in
+    (unfold new_record in subst (λ t. Fills t (c.number.result ∷ c.args.class ∷ c.args.owner ∷ c.args.length ∷ [] ++ replicate c.args.length 0) c.self.inside.journal c.write_record.new.journal) c.read-top.ensures (fills_same c.read-top.result c.number.result c.class.inside.0 c.args.class c.owner.inside.0 c.args.owner (c.args.length ∷ [] ++ replicate c.args.length 0) c.self.inside.journal c.write_record.new.journal c.class.view_is c.owner.view_is c.in-Ok.ensures.done)) in
     let fit : has_room_for c.self.inside.journal (top_address ∷ []) ≡ true = (sym c.fits.ensures ∙ c.if-not-fits.false) in
     let down : c.in_default-write.field-0 ≡ StoreDown = only_down (get_or c.self.inside.journal.plain top_address 0) c.self.inside.journal c.write_record.new.journal below (top_address ∷ []) fit c.in_default-write.field-0 (λ e. c.in_default-write.ensures.full.0 (ap Err e)) in
     λ _. top_stopped_view c.self.inside.journal c.write_record.new.journal c.self.inside.size c.self.invariant (up_is c.self.inside.journal c.args.self.now c.self.inside.size c.self.view_is c.requires) below (new_record (kind_number c.args.kind) c.args.class c.args.owner c.args.length) fills c.write.new.self c.args.self.now c.self.view_is (c.in_default-write.ensures.stopped (ap Err down))
@@ -69,7 +69,7 @@ pub invariant_of-self-2 : goal.invariant_of-self-2
 invariant_of-self-2 g c =
     let below : KeepsBelow (get_or c.self.inside.journal.plain top_address 0) c.self.inside.journal c.write_record.new.journal = subst (λ t. KeepsBelow t c.self.inside.journal c.write_record.new.journal) c.read-top.ensures c.write_record.ensures.below in
     let fills : Fills (get_or c.self.inside.journal.plain top_address 0) (new_record (kind_number c.args.kind) c.args.class c.args.owner c.args.length) c.self.inside.journal c.write_record.new.journal = subst (λ n. Fills (get_or c.self.inside.journal.plain top_address 0) (new_record n c.args.class c.args.owner c.args.length) c.self.inside.journal c.write_record.new.journal) c.number.ensures
-    (unfold new_record in subst (λ t. Fills t (c.number.result ∷ c.args.class ∷ c.args.owner ∷ c.args.length ∷ [] ++ replicate c.args.length 0) c.self.inside.journal c.write_record.new.journal) c.read-top.ensures c.in-Ok.ensures.done) in
+    (unfold new_record in subst (λ t. Fills t (c.number.result ∷ c.args.class ∷ c.args.owner ∷ c.args.length ∷ [] ++ replicate c.args.length 0) c.self.inside.journal c.write_record.new.journal) c.read-top.ensures (fills_same c.read-top.result c.number.result c.class.inside.0 c.args.class c.owner.inside.0 c.args.owner (c.args.length ∷ [] ++ replicate c.args.length 0) c.self.inside.journal c.write_record.new.journal c.class.view_is c.owner.view_is c.in-Ok.ensures.done)) in
     let end : (c.from.result + c.from-2.result + c.from-3.result) ≡ (get_or c.self.inside.journal.plain top_address 0) + (4 + c.args.length) = omega arith in
     let fits : (c.from.result + c.from-2.result + c.from-3.result) ≤ c.self.inside.size = omega arith in
     sound_made c.self.inside.journal c.write_record.new.journal c.write.new.self c.self.inside.size c.args.kind c.args.class c.args.owner c.args.length (c.from.result + c.from-2.result + c.from-3.result) c.self.invariant (up_is c.self.inside.journal c.args.self.now c.self.inside.size c.self.view_is c.requires) below fills end fits c.in-Ok-write.ensures.ok
@@ -78,7 +78,7 @@ pub returns-clause-object : goal.returns-clause-object
 returns-clause-object g c =
     let below : KeepsBelow (get_or c.self.inside.journal.plain top_address 0) c.self.inside.journal c.write_record.new.journal = subst (λ t. KeepsBelow t c.self.inside.journal c.write_record.new.journal) c.read-top.ensures c.write_record.ensures.below in
     let fills : Fills (get_or c.self.inside.journal.plain top_address 0) (new_record (kind_number c.args.kind) c.args.class c.args.owner c.args.length) c.self.inside.journal c.write_record.new.journal = subst (λ n. Fills (get_or c.self.inside.journal.plain top_address 0) (new_record n c.args.class c.args.owner c.args.length) c.self.inside.journal c.write_record.new.journal) c.number.ensures
-    (unfold new_record in subst (λ t. Fills t (c.number.result ∷ c.args.class ∷ c.args.owner ∷ c.args.length ∷ [] ++ replicate c.args.length 0) c.self.inside.journal c.write_record.new.journal) c.read-top.ensures c.in-Ok.ensures.done) in
+    (unfold new_record in subst (λ t. Fills t (c.number.result ∷ c.args.class ∷ c.args.owner ∷ c.args.length ∷ [] ++ replicate c.args.length 0) c.self.inside.journal c.write_record.new.journal) c.read-top.ensures (fills_same c.read-top.result c.number.result c.class.inside.0 c.args.class c.owner.inside.0 c.args.owner (c.args.length ∷ [] ++ replicate c.args.length 0) c.self.inside.journal c.write_record.new.journal c.class.view_is c.owner.view_is c.in-Ok.ensures.done)) in
     let end : (c.from.result + c.from-2.result + c.from-3.result) ≡ (get_or c.self.inside.journal.plain top_address 0) + (4 + c.args.length) = omega arith in
     let fits : (c.from.result + c.from-2.result + c.from-3.result) ≤ c.self.inside.size = omega arith in
     let done : heap_view c.write.new.self c.self.inside.size ≡ changed c.args.self.now (add_object c.args.self.now.now (new_object c.args.kind c.args.class c.args.owner c.args.length) (4 + c.args.length)) (end_address ∷ []) (4 + c.args.length) = view_made c.self.inside.journal c.write_record.new.journal c.write.new.self c.args.self.now c.self.inside.size c.args.kind c.args.class c.args.owner c.args.length (c.from.result + c.from-2.result + c.from-3.result) c.self.view_is c.self.invariant (up_is c.self.inside.journal c.args.self.now c.self.inside.size c.self.view_is c.requires) below fills end fits c.in-Ok-write.ensures.ok in
@@ -90,7 +90,7 @@ pub returns-clause-cells : goal.returns-clause-cells
 returns-clause-cells g c =
     let below : KeepsBelow (get_or c.self.inside.journal.plain top_address 0) c.self.inside.journal c.write_record.new.journal = subst (λ t. KeepsBelow t c.self.inside.journal c.write_record.new.journal) c.read-top.ensures c.write_record.ensures.below in
     let fills : Fills (get_or c.self.inside.journal.plain top_address 0) (new_record (kind_number c.args.kind) c.args.class c.args.owner c.args.length) c.self.inside.journal c.write_record.new.journal = subst (λ n. Fills (get_or c.self.inside.journal.plain top_address 0) (new_record n c.args.class c.args.owner c.args.length) c.self.inside.journal c.write_record.new.journal) c.number.ensures
-    (unfold new_record in subst (λ t. Fills t (c.number.result ∷ c.args.class ∷ c.args.owner ∷ c.args.length ∷ [] ++ replicate c.args.length 0) c.self.inside.journal c.write_record.new.journal) c.read-top.ensures c.in-Ok.ensures.done) in
+    (unfold new_record in subst (λ t. Fills t (c.number.result ∷ c.args.class ∷ c.args.owner ∷ c.args.length ∷ [] ++ replicate c.args.length 0) c.self.inside.journal c.write_record.new.journal) c.read-top.ensures (fills_same c.read-top.result c.number.result c.class.inside.0 c.args.class c.owner.inside.0 c.args.owner (c.args.length ∷ [] ++ replicate c.args.length 0) c.self.inside.journal c.write_record.new.journal c.class.view_is c.owner.view_is c.in-Ok.ensures.done)) in
     let end : (c.from.result + c.from-2.result + c.from-3.result) ≡ (get_or c.self.inside.journal.plain top_address 0) + (4 + c.args.length) = omega arith in
     let fits : (c.from.result + c.from-2.result + c.from-3.result) ≤ c.self.inside.size = omega arith in
     let done : heap_view c.write.new.self c.self.inside.size ≡ changed c.args.self.now (add_object c.args.self.now.now (new_object c.args.kind c.args.class c.args.owner c.args.length) (4 + c.args.length)) (end_address ∷ []) (4 + c.args.length) = view_made c.self.inside.journal c.write_record.new.journal c.write.new.self c.args.self.now c.self.inside.size c.args.kind c.args.class c.args.owner c.args.length (c.from.result + c.from-2.result + c.from-3.result) c.self.view_is c.self.invariant (up_is c.self.inside.journal c.args.self.now c.self.inside.size c.self.view_is c.requires) below fills end fits c.in-Ok-write.ensures.ok in
@@ -108,7 +108,7 @@ pub returns-clause-done : goal.returns-clause-done
 returns-clause-done g c =
     let below : KeepsBelow (get_or c.self.inside.journal.plain top_address 0) c.self.inside.journal c.write_record.new.journal = subst (λ t. KeepsBelow t c.self.inside.journal c.write_record.new.journal) c.read-top.ensures c.write_record.ensures.below in
     let fills : Fills (get_or c.self.inside.journal.plain top_address 0) (new_record (kind_number c.args.kind) c.args.class c.args.owner c.args.length) c.self.inside.journal c.write_record.new.journal = subst (λ n. Fills (get_or c.self.inside.journal.plain top_address 0) (new_record n c.args.class c.args.owner c.args.length) c.self.inside.journal c.write_record.new.journal) c.number.ensures
-    (unfold new_record in subst (λ t. Fills t (c.number.result ∷ c.args.class ∷ c.args.owner ∷ c.args.length ∷ [] ++ replicate c.args.length 0) c.self.inside.journal c.write_record.new.journal) c.read-top.ensures c.in-Ok.ensures.done) in
+    (unfold new_record in subst (λ t. Fills t (c.number.result ∷ c.args.class ∷ c.args.owner ∷ c.args.length ∷ [] ++ replicate c.args.length 0) c.self.inside.journal c.write_record.new.journal) c.read-top.ensures (fills_same c.read-top.result c.number.result c.class.inside.0 c.args.class c.owner.inside.0 c.args.owner (c.args.length ∷ [] ++ replicate c.args.length 0) c.self.inside.journal c.write_record.new.journal c.class.view_is c.owner.view_is c.in-Ok.ensures.done)) in
     let end : (c.from.result + c.from-2.result + c.from-3.result) ≡ (get_or c.self.inside.journal.plain top_address 0) + (4 + c.args.length) = omega arith in
     let fits : (c.from.result + c.from-2.result + c.from-3.result) ≤ c.self.inside.size = omega arith in
     view_made c.self.inside.journal c.write_record.new.journal c.write.new.self c.args.self.now c.self.inside.size c.args.kind c.args.class c.args.owner c.args.length (c.from.result + c.from-2.result + c.from-3.result) c.self.view_is c.self.invariant (up_is c.self.inside.journal c.args.self.now c.self.inside.size c.self.view_is c.requires) below fills end fits c.in-Ok-write.ensures.ok

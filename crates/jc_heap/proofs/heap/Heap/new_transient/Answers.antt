@@ -7,7 +7,7 @@ use Rattle.jc_heap.specs.Object.{is_object, facts_of}
 use Rattle.jc_heap.specs.Heap.{area_end_address, area_end, end_address, heap_view}
 use Rattle.jc_heap.proofs.Changing.{up_is}
 use Rattle.jc_heap.proofs.Views.{nothing_at_top, view_top}
-use Rattle.jc_heap.proofs.NewObjects.{lacks_space, has_space, transient_record, only_down, fresh_stopped_sound, fresh_stopped_view, top_stopped_sound, top_stopped_view, transient_sound, transient_view, view_area, made_transient}
+use Rattle.jc_heap.proofs.NewObjects.{fills_same, lacks_space, has_space, transient_record, only_down, fresh_stopped_sound, fresh_stopped_view, top_stopped_sound, top_stopped_view, transient_sound, transient_view, view_area, made_transient}
 use Rattle.jc_heap.specs.declared.refusal.HeapRefusal.TheVariants.{HeapFull, CommitFull, NoTransientSpace}
 use Rattle.jc_heap.specs.Moves.{AddTransient, no_transient}
 use Rattle.jc_heap.proofs.Calls.{unless_refused, unless_cut, unless_done, has_no_cells, has_some_cells, has_no_space, object_full, object_fits, ends_room}
@@ -66,7 +66,7 @@ pub invariant_of-self-in_default-write_all : goal.invariant_of-self-in_default-w
 invariant_of-self-in_default-write_all g c =
     let below : KeepsBelow (get_or c.self.inside.journal.plain top_address 0) c.self.inside.journal c.write_run.new.journal = subst (λ t. KeepsBelow t c.self.inside.journal c.write_run.new.journal) c.read-top.ensures c.write_run.ensures.below in
     let fills : Fills (get_or c.self.inside.journal.plain top_address 0) (transient_record c.args.kind c.args.event c.args.class c.args.owner c.args.length c.read-place.result) c.self.inside.journal c.write_run.new.journal = subst (λ w. Fills (get_or c.self.inside.journal.plain top_address 0) (w ∷ c.args.class ∷ c.args.owner ∷ c.args.length ∷ c.read-place.result ∷ []) c.self.inside.journal c.write_run.new.journal) c.header_of.ensures
-    (subst (λ t. Fills t (c.header_of.result ∷ c.args.class ∷ c.args.owner ∷ c.args.length ∷ c.read-place.result ∷ []) c.self.inside.journal c.write_run.new.journal) c.read-top.ensures c.in-Ok.ensures.done) in
+    (subst (λ t. Fills t (c.header_of.result ∷ c.args.class ∷ c.args.owner ∷ c.args.length ∷ c.read-place.result ∷ []) c.self.inside.journal c.write_run.new.journal) c.read-top.ensures (fills_same c.read-top.result c.header_of.result c.class.inside.0 c.args.class c.owner.inside.0 c.args.owner (c.args.length ∷ c.read-place.result ∷ []) c.self.inside.journal c.write_run.new.journal c.class.view_is c.owner.view_is c.in-Ok.ensures.done)) in
     let fit : has_room_for c.self.inside.journal (top_address ∷ c.area_word-end_word.result ∷ []) ≡ true = (sym c.fits.ensures ∙ c.if-not-fits.false) in
     let down : c.in_default-write_all.field-0 ≡ StoreDown = only_down (get_or c.self.inside.journal.plain top_address 0) c.self.inside.journal c.write_run.new.journal below (top_address ∷ c.area_word-end_word.result ∷ []) fit c.in_default-write_all.field-0 (λ e. c.in_default-write_all.ensures.full.0 (ap Err e)) in
     top_stopped_sound c.self.inside.journal c.write_run.new.journal c.self.inside.size c.self.invariant (up_is c.self.inside.journal c.args.self.now c.self.inside.size c.self.view_is c.requires) below (transient_record c.args.kind c.args.event c.args.class c.args.owner c.args.length c.read-place.result) fills c.write_all.new.self (c.in_default-write_all.ensures.stopped (ap Err down))
@@ -84,7 +84,7 @@ pub returns-in_default-write_all-clause-stopped : goal.returns-in_default-write_
 returns-in_default-write_all-clause-stopped g c =
     let below : KeepsBelow (get_or c.self.inside.journal.plain top_address 0) c.self.inside.journal c.write_run.new.journal = subst (λ t. KeepsBelow t c.self.inside.journal c.write_run.new.journal) c.read-top.ensures c.write_run.ensures.below in
     let fills : Fills (get_or c.self.inside.journal.plain top_address 0) (transient_record c.args.kind c.args.event c.args.class c.args.owner c.args.length c.read-place.result) c.self.inside.journal c.write_run.new.journal = subst (λ w. Fills (get_or c.self.inside.journal.plain top_address 0) (w ∷ c.args.class ∷ c.args.owner ∷ c.args.length ∷ c.read-place.result ∷ []) c.self.inside.journal c.write_run.new.journal) c.header_of.ensures
-    (subst (λ t. Fills t (c.header_of.result ∷ c.args.class ∷ c.args.owner ∷ c.args.length ∷ c.read-place.result ∷ []) c.self.inside.journal c.write_run.new.journal) c.read-top.ensures c.in-Ok.ensures.done) in
+    (subst (λ t. Fills t (c.header_of.result ∷ c.args.class ∷ c.args.owner ∷ c.args.length ∷ c.read-place.result ∷ []) c.self.inside.journal c.write_run.new.journal) c.read-top.ensures (fills_same c.read-top.result c.header_of.result c.class.inside.0 c.args.class c.owner.inside.0 c.args.owner (c.args.length ∷ c.read-place.result ∷ []) c.self.inside.journal c.write_run.new.journal c.class.view_is c.owner.view_is c.in-Ok.ensures.done)) in
     let fit : has_room_for c.self.inside.journal (top_address ∷ c.area_word-end_word.result ∷ []) ≡ true = (sym c.fits.ensures ∙ c.if-not-fits.false) in
     let down : c.in_default-write_all.field-0 ≡ StoreDown = only_down (get_or c.self.inside.journal.plain top_address 0) c.self.inside.journal c.write_run.new.journal below (top_address ∷ c.area_word-end_word.result ∷ []) fit c.in_default-write_all.field-0 (λ e. c.in_default-write_all.ensures.full.0 (ap Err e)) in
     λ _. top_stopped_view c.self.inside.journal c.write_run.new.journal c.self.inside.size c.self.invariant (up_is c.self.inside.journal c.args.self.now c.self.inside.size c.self.view_is c.requires) below (transient_record c.args.kind c.args.event c.args.class c.args.owner c.args.length c.read-place.result) fills c.write_all.new.self c.args.self.now c.self.view_is (c.in_default-write_all.ensures.stopped (ap Err down))
@@ -93,7 +93,7 @@ pub invariant_of-self-2 : goal.invariant_of-self-2
 invariant_of-self-2 g c =
     let below : KeepsBelow (get_or c.self.inside.journal.plain top_address 0) c.self.inside.journal c.write_run.new.journal = subst (λ t. KeepsBelow t c.self.inside.journal c.write_run.new.journal) c.read-top.ensures c.write_run.ensures.below in
     let fills : Fills (get_or c.self.inside.journal.plain top_address 0) (transient_record c.args.kind c.args.event c.args.class c.args.owner c.args.length c.read-place.result) c.self.inside.journal c.write_run.new.journal = subst (λ w. Fills (get_or c.self.inside.journal.plain top_address 0) (w ∷ c.args.class ∷ c.args.owner ∷ c.args.length ∷ c.read-place.result ∷ []) c.self.inside.journal c.write_run.new.journal) c.header_of.ensures
-    (subst (λ t. Fills t (c.header_of.result ∷ c.args.class ∷ c.args.owner ∷ c.args.length ∷ c.read-place.result ∷ []) c.self.inside.journal c.write_run.new.journal) c.read-top.ensures c.in-Ok.ensures.done) in
+    (subst (λ t. Fills t (c.header_of.result ∷ c.args.class ∷ c.args.owner ∷ c.args.length ∷ c.read-place.result ∷ []) c.self.inside.journal c.write_run.new.journal) c.read-top.ensures (fills_same c.read-top.result c.header_of.result c.class.inside.0 c.args.class c.owner.inside.0 c.args.owner (c.args.length ∷ c.read-place.result ∷ []) c.self.inside.journal c.write_run.new.journal c.class.view_is c.owner.view_is c.in-Ok.ensures.done)) in
     let at : c.read-place.result ≡ get_or c.self.inside.journal.plain (area_end_address c.args.event) 0 = c.read-place.ensures ∙ ap (λ a. get_or c.self.inside.journal.plain a 0) c.area_word-end_word.ensures in
     let end : (c.from-4.result + c.from-5.result + 1) ≡ (get_or c.self.inside.journal.plain top_address 0) + 5 = omega arith in
     let fits : (c.from-4.result + c.from-5.result + 1) ≤ c.self.inside.size = omega arith in
@@ -113,7 +113,7 @@ pub returns-clause-done : goal.returns-clause-done
 returns-clause-done g c =
     let below : KeepsBelow (get_or c.self.inside.journal.plain top_address 0) c.self.inside.journal c.write_run.new.journal = subst (λ t. KeepsBelow t c.self.inside.journal c.write_run.new.journal) c.read-top.ensures c.write_run.ensures.below in
     let fills : Fills (get_or c.self.inside.journal.plain top_address 0) (transient_record c.args.kind c.args.event c.args.class c.args.owner c.args.length c.read-place.result) c.self.inside.journal c.write_run.new.journal = subst (λ w. Fills (get_or c.self.inside.journal.plain top_address 0) (w ∷ c.args.class ∷ c.args.owner ∷ c.args.length ∷ c.read-place.result ∷ []) c.self.inside.journal c.write_run.new.journal) c.header_of.ensures
-    (subst (λ t. Fills t (c.header_of.result ∷ c.args.class ∷ c.args.owner ∷ c.args.length ∷ c.read-place.result ∷ []) c.self.inside.journal c.write_run.new.journal) c.read-top.ensures c.in-Ok.ensures.done) in
+    (subst (λ t. Fills t (c.header_of.result ∷ c.args.class ∷ c.args.owner ∷ c.args.length ∷ c.read-place.result ∷ []) c.self.inside.journal c.write_run.new.journal) c.read-top.ensures (fills_same c.read-top.result c.header_of.result c.class.inside.0 c.args.class c.owner.inside.0 c.args.owner (c.args.length ∷ c.read-place.result ∷ []) c.self.inside.journal c.write_run.new.journal c.class.view_is c.owner.view_is c.in-Ok.ensures.done)) in
     let at : c.read-place.result ≡ get_or c.self.inside.journal.plain (area_end_address c.args.event) 0 = c.read-place.ensures ∙ ap (λ a. get_or c.self.inside.journal.plain a 0) c.area_word-end_word.ensures in
     let end : (c.from-4.result + c.from-5.result + 1) ≡ (get_or c.self.inside.journal.plain top_address 0) + 5 = omega arith in
     let fits : (c.from-4.result + c.from-5.result + 1) ≤ c.self.inside.size = omega arith in

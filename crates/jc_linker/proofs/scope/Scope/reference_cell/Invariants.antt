@@ -3,7 +3,7 @@ use Rattle.jc_packages.specs.Classes.{any_reference, lineage}
 use Rattle.jc_linker.proofs.scope.Scope.reference_cell.Given as goal
 
 abbrev pub invariant-loop-above : goal.invariant-loop-above
-invariant-loop-above l = any_reference l.self l.cell l.walk ≡ any_reference l.self l.cell (lineage l.self l.class)
+invariant-loop-above l = any_reference l.self l.cell l.walk ≡ any_reference l.self l.cell (lineage l.self l.fn.class)
 
 abbrev pub decreases-loop-above : goal.decreases-loop-above
 decreases-loop-above l = length l.walk
