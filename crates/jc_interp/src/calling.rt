@@ -70,6 +70,7 @@ fn call_natively<S: WordStore>(
 
 /// A call by the instruction at a place.
 #[tactic(auto, unfolding(crate::specs::Calling::invoked))]
+#[inline(always)]
 pub(crate) fn invoke<S: WordStore>(
     invoke: Invoke,
     place: u16,

@@ -53,6 +53,7 @@ fn operate<S: WordStore>(
 }
 
 // Carries out an instruction at a place, behind which the next one stands.
+#[inline(always)]
 fn execute<S: WordStore>(
     request: Request,
     place: u16,
@@ -73,6 +74,7 @@ fn execute<S: WordStore>(
 }
 
 // Does what is left of an instruction at a place.
+#[inline(always)]
 fn resume<S: WordStore>(
     why: Why,
     place: u16,
@@ -91,6 +93,7 @@ fn resume<S: WordStore>(
 
 /// Does what is left of a step at a pause, and throws what it throws.
 #[tactic(auto, using(jc_memory::proofs::Doings::bind_made, jc_memory::proofs::Doings::bind_cut, jc_memory::proofs::Doings::down_did))]
+#[inline(always)]
 pub(crate) fn finish<S: WordStore>(
     pause: Pause,
     frames: &mut Frames,

@@ -35,6 +35,7 @@ pub struct Call {
 
 impl Call {
     // A call in the caller's context.
+    #[inline(always)]
     const fn of(method: Method, arguments: u8) -> Call
         ensures { result ≡ call_of method arguments None }
     {
@@ -47,6 +48,7 @@ impl Call {
 }
 
 // It holds, or a code fault.
+#[inline(always)]
 const fn check(holds: bool) -> Result<(), Stop>
     ensures { result ≡ if_so holds }
 {
@@ -59,6 +61,7 @@ const fn check(holds: bool) -> Result<(), Stop>
 
 // How many cells the arguments of a method have; none where its header is cut.
 #[tactic(auto, unfolding(crate::specs::Choosing::arguments_of))]
+#[inline(always)]
 fn arguments_of(method: Method, linked: &Linked) -> Option<u8>
     ensures { result ≡ arguments_of linked.now method }
 {
@@ -204,6 +207,7 @@ fn call_specially<S: WordStore>(
     Ok(Call::of(method, arguments))
 }
 
+#[inline(always)]
 fn is_native_constructor(method: Method) -> bool
     ensures { result ≡ is_native_constructor method }
 {
@@ -215,6 +219,7 @@ fn is_native_constructor(method: Method) -> bool
 
 // A call without a receiver.
 #[tactic(auto, unfolding(crate::specs::Choosing::called_statically))]
+#[inline(always)]
 fn call_statically(method: Method, linked: &Linked) -> Result<Call, Stop>
     ensures { result ≡ called_statically method linked.now }
 {
@@ -265,6 +270,7 @@ fn call_by_interface<S: WordStore>(
 /// argument of a method of the platform is of another kind; else a null receiver throws, and then a
 /// refused access does.
 #[tactic(auto, unfolding(crate::specs::Choosing::chosen))]
+#[inline(always)]
 pub fn choose<S: WordStore>(
     invoke: Invoke,
     frames: &Frames,

@@ -13,6 +13,7 @@ use jc_words::WordStore;
 use jc_world::Break;
 
 // The registers as they were before a call.
+#[inline(always)]
 pub(crate) fn back_to(resume: Resume, registers: Registers) -> Registers
     ensures { result ≡ back_to resume registers }
 {
@@ -26,6 +27,7 @@ pub(crate) fn back_to(resume: Resume, registers: Registers) -> Registers
 /// Ends the method with the value on top, if the instruction has one: its caller goes on with it, for whom
 /// it ran before, or the run ends with it where nothing called the method.
 #[tactic(auto, unfolding(crate::specs::Returning::returning))]
+#[inline(always)]
 pub fn come_back<S: WordStore>(
     how: Return,
     frames: &mut Frames,

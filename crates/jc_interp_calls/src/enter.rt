@@ -34,6 +34,7 @@ pub struct CallSite {
 }
 
 // The registers while a method runs for another owner.
+#[inline(always)]
 pub(crate) fn switched(owner: Option<Owner>, registers: Registers) -> Registers
     ensures { result ≡ switched owner registers }
 {
@@ -48,6 +49,7 @@ pub(crate) fn switched(owner: Option<Owner>, registers: Registers) -> Registers
 }
 
 // A method that is not abstract and takes so many cells.
+#[inline(always)]
 pub(crate) const fn takes(arguments: usize, header: Header) -> bool
     ensures { result ≡ takes arguments header }
 {
@@ -55,6 +57,7 @@ pub(crate) const fn takes(arguments: usize, header: Header) -> bool
 }
 
 // The method, and the owner that is active while it runs.
+#[inline(always)]
 fn origin_of(callee: Callee, registers: Registers) -> Origin
     ensures { result ≡ origin_of callee registers }
 {
@@ -65,6 +68,7 @@ fn origin_of(callee: Callee, registers: Registers) -> Origin
     }
 }
 
+#[inline(always)]
 pub(crate) fn entry_of(
     header: Header,
     callee: Callee,
@@ -92,6 +96,7 @@ pub(crate) fn entry_of(
 /// where its header is cut, where it is abstract or takes another number of cells, where the arguments are
 /// not there, or where frames or cells are too many.
 #[tactic(auto, unfolding(crate::specs::Entering::entering))]
+#[inline(always)]
 pub fn enter<S: WordStore>(
     callee: Callee,
     site: CallSite,
