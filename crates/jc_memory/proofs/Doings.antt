@@ -3,8 +3,8 @@ use Rattle.std.proofs.Common.{◌≡◌, List, [], ◌∷◌, ◌++◌, refl, sy
 use Rattle.std.specs.Prelude.{◌⊎◌}
 use Rattle.std.proofs.lemmas.Bool.{true≢false}
 use Rattle.jc_words.specs.Count.{raised}
-use Rattle.jc_heap.specs.Heap.{HeapState, names}
-use Rattle.jc_heap.specs.Moves.{Left, applied}
+use Rattle.jc_heap.specs.Heap.{HeapState, HeapView, names}
+use Rattle.jc_heap.specs.Moves.{Left, Move, apply, applied}
 use Rattle.jc_heap.proofs.MoveLaws.{refused-applied, down-applied, size-applied}
 use Rattle.jc_memory.specs.State.{MemoryState, Effect, Changes, effected, effected_all, moves_of}
 use Rattle.jc_memory.specs.Doing.{Doing, Gives, Then, Picks, Or, Did, LeftBy, IsCutIn, After, Made, Cut, Makes, bind, mapped}
@@ -71,29 +71,24 @@ module _ {A B : Type 0} (more : A → MemoryState → Doing B) where
       second (inl l) = inl (inr l)
       second (inr p) = inr (p.0, p.1, inr p.2, p.3)
 
+-- what no move changes of a heap, nothing that may be done changes
+module _ {B : Type 0} (f : HeapView → B) (kept : (m : Move) (h : HeapView) → f (apply m h) ≡ f h) where
+  kept_did : {A : Type 0} (d : Doing A) (s new : MemoryState) (a : A) → Did d s a new → f new.heap ≡ f s.heap
+  kept_did (Gives x) s new a did = ap (λ v. f v.heap) did.1
+  kept_did (Then (Changes m) rest) s new a did = kept_did rest (effected (Changes m) s) new a did ∙ kept m s.heap
+  kept_did (Then e rest) s new a did = kept_did rest (effected e s) new a did
+  kept_did (Picks choose) s new a did = kept_did (choose did.0) s new a did.2
+  kept_did (Or x y) s new a (inl did) = kept_did x s new a did
+  kept_did (Or x y) s new a (inr did) = kept_did y s new a did
+
 pub refused_did : {A : Type 0} (d : Doing A) (s new : MemoryState) (a : A) → Did d s a new → new.heap.refused ≡ s.heap.refused
-refused_did (Gives x) s new a did = ap (λ v. v.heap.refused) did.1
-refused_did (Then (Changes m) rest) s new a did = refused_did rest (effected (Changes m) s) new a did ∙ refused-applied (m ∷ []) s.heap
-refused_did (Then e rest) s new a did = refused_did rest (effected e s) new a did
-refused_did (Picks choose) s new a did = refused_did (choose did.0) s new a did.2
-refused_did (Or x y) s new a (inl did) = refused_did x s new a did
-refused_did (Or x y) s new a (inr did) = refused_did y s new a did
+refused_did d s new a did = kept_did (λ v. v.refused) (λ m h. refused-applied (m ∷ []) h) d s new a did
 
 pub down_did : {A : Type 0} (d : Doing A) (s new : MemoryState) (a : A) → Did d s a new → new.heap.down ≡ s.heap.down
-down_did (Gives x) s new a did = ap (λ v. v.heap.down) did.1
-down_did (Then (Changes m) rest) s new a did = down_did rest (effected (Changes m) s) new a did ∙ down-applied (m ∷ []) s.heap
-down_did (Then e rest) s new a did = down_did rest (effected e s) new a did
-down_did (Picks choose) s new a did = down_did (choose did.0) s new a did.2
-down_did (Or x y) s new a (inl did) = down_did x s new a did
-down_did (Or x y) s new a (inr did) = down_did y s new a did
+down_did d s new a did = kept_did (λ v. v.down) (λ m h. down-applied (m ∷ []) h) d s new a did
 
 pub size_did : {A : Type 0} (d : Doing A) (s new : MemoryState) (a : A) → Did d s a new → new.heap.size ≡ s.heap.size
-size_did (Gives x) s new a did = ap (λ v. v.heap.size) did.1
-size_did (Then (Changes m) rest) s new a did = size_did rest (effected (Changes m) s) new a did ∙ size-applied (m ∷ []) s.heap
-size_did (Then e rest) s new a did = size_did rest (effected e s) new a did
-size_did (Picks choose) s new a did = size_did (choose did.0) s new a did.2
-size_did (Or x y) s new a (inl did) = size_did x s new a did
-size_did (Or x y) s new a (inr did) = size_did y s new a did
+size_did d s new a did = kept_did (λ v. v.size) (λ m h. size-applied (m ∷ []) h) d s new a did
 
 -- two calls one after the other: the first was cut; the first was made, and the second ends as it ends
 pub bind_cut : {A B : Type 0} (more : A → MemoryState → Doing B) (d : Doing A) (s new : MemoryState) → IsCutIn d s new → IsCutIn (bind d s more) s new
