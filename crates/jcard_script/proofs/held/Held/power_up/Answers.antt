@@ -8,6 +8,7 @@ returns-in-Err g c =
     let other : c.in-Err.fault ≡ StoreDown → ⊥ = search rules in
     let found = c.in-Err.ensures in
     record {
+      up = tt;
       powered = tt;
       fault = (c.in-Err.store, fails_up c.args.store c.power_on.new.self c.in-Err.store c.in-Err.fault c.power_on.ensures other (found.cause, found.stands, found.size, found.untouched, found.after), refl);
     }
