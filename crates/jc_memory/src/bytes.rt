@@ -30,6 +30,7 @@ fn fill_run(ram: &mut Ram, event: ClearEvent, place: u16, words: &[u16])
 }
 
 // Bytes as words.
+#[inline(always)]
 fn widen(words: &mut [u16], bytes: &[u8])
     requires { length bytes.now ≤ length words.old }
     ensures { take (length bytes.now) words.new ≡ bytes.now }

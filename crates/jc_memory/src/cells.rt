@@ -10,6 +10,7 @@ use jc_transient::{CellValue, Ref};
 use jc_words::WordStore;
 
 // A value as a word.
+#[inline(always)]
 fn word_of(value: CellValue) -> u16
     ensures { result ≡ word_of value }
 {
@@ -21,6 +22,7 @@ fn word_of(value: CellValue) -> u16
 
 impl<S: WordStore> Memory<S> {
     // The word of a cell.
+    #[inline(always)]
     pub(crate) fn word(&self, object: Ref, i: u16) -> u16
         requires up { self.now.heap.down ≡ false }
         requires there { IsObject self.now.heap.now object }
@@ -35,6 +37,7 @@ impl<S: WordStore> Memory<S> {
     }
 
     /// The number in a cell of an object.
+    #[inline(always)]
     pub fn short(&self, object: Ref, i: u16) -> i16
         requires up { self.now.heap.down ≡ false }
         requires there { IsObject self.now.heap.now object }
@@ -45,6 +48,7 @@ impl<S: WordStore> Memory<S> {
     }
 
     /// The byte in a cell of an object.
+    #[inline(always)]
     pub fn byte(&self, object: Ref, i: u16) -> u8
         requires up { self.now.heap.down ≡ false }
         requires there { IsObject self.now.heap.now object }
@@ -55,6 +59,7 @@ impl<S: WordStore> Memory<S> {
     }
 
     /// The reference in a cell of an object.
+    #[inline(always)]
     pub fn reference(&self, object: Ref, i: u16) -> Ref
         requires up { self.now.heap.down ≡ false }
         requires there { IsObject self.now.heap.now object }
@@ -66,6 +71,7 @@ impl<S: WordStore> Memory<S> {
 
     /// Sets a cell of an object. A persistent one's is a change: refused, where the transaction has no
     /// room for it.
+    #[inline(always)]
     pub fn set(&mut self, object: Ref, i: u16, value: CellValue) -> Result<(), ChangeRefusal>
         requires up { self.old.heap.down ≡ false }
         requires there { IsObject self.old.heap.now object }

@@ -31,6 +31,7 @@ impl<S: WordStore> Memory<S> {
     }
 
     /// For whom code runs, and how far the command has come.
+    #[inline(always)]
     pub fn registers(&self) -> Registers
         ensures { result ≡ self.now.registers }
     {

@@ -69,6 +69,7 @@ impl Marks {
     }
 
     // Whether an address is marked.
+    #[inline(always)]
     pub(crate) fn has(&self, address: Ref) -> bool
         ensures { result ≡ is_marked self.now address }
     {

@@ -91,6 +91,7 @@ impl<S: WordStore> Memory<S> {
     }
 
     /// The heap, to be read.
+    #[inline(always)]
     pub fn heap(&self) -> &Heap<S>
         ensures { result.now ≡ self.now.heap }
     {
@@ -106,6 +107,7 @@ impl<S: WordStore> Memory<S> {
     }
 
     /// What the header of the object behind a reference says; `None` where no object stands there.
+    #[inline(always)]
     pub fn header(&self, reference: Ref) -> Option<Facts>
         requires up { self.now.heap.down ≡ false }
         ensures header { result ≡ header_at self.now reference }
@@ -119,6 +121,7 @@ impl<S: WordStore> Memory<S> {
     }
 
     /// What an object's header says.
+    #[inline(always)]
     pub fn facts(&self, object: Ref) -> Facts
         requires up { self.now.heap.down ≡ false }
         requires there { IsObject self.now.heap.now object }

@@ -37,6 +37,7 @@ impl Owner {
     }
 
     /// The owner that an object header names.
+    #[inline(always)]
     pub const fn of(number: OwnerWord) -> Owner
         ensures { result ≡ owner_of number }
     {

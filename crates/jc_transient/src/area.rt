@@ -39,6 +39,7 @@ impl Area {
     }
 
     /// The cell at a place.
+    #[inline(always)]
     pub(crate) fn get(&self, place: usize) -> CellValue
         requires { place < length self.now }
         ensures { result ≡ slice_index_or self.now place (CellValue.Short (pos 0)) }
@@ -47,6 +48,7 @@ impl Area {
     }
 
     /// Sets the cell at a place.
+    #[inline(always)]
     pub(crate) fn set(&mut self, place: usize, value: CellValue)
         requires { place < length self.old }
         ensures { self.new ≡ slice_set self.old place value }

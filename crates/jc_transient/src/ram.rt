@@ -52,6 +52,7 @@ impl Ram {
     }
 
     /// The cell at a place of an event's area.
+    #[inline(always)]
     pub fn get(&self, event: ClearEvent, place: u16) -> CellValue
         requires { place < area_size }
         ensures { result ≡ cell_at self.now event place }
@@ -63,6 +64,7 @@ impl Ram {
     }
 
     /// Sets the cell at a place of an event's area.
+    #[inline(always)]
     pub fn set(&mut self, event: ClearEvent, place: u16, value: CellValue)
         requires { place < area_size }
         ensures done { self.new ≡ with_area self.old event (slice_set (area self.old event) place value) }

@@ -20,6 +20,7 @@ impl Model for Ref {
 
 impl Ref {
     /// The reference to no object.
+    #[inline(always)]
     pub const fn null() -> Ref
         ensures { result ≡ 0 }
     {
@@ -27,6 +28,7 @@ impl Ref {
     }
 
     /// The reference to the object at an address.
+    #[inline(always)]
     pub const fn at(address: u16) -> Ref
         ensures { result ≡ address }
     {
@@ -34,6 +36,7 @@ impl Ref {
     }
 
     /// The address.
+    #[inline(always)]
     pub const fn address(self) -> u16
         ensures { result ≡ self }
     {
@@ -41,6 +44,7 @@ impl Ref {
     }
 
     /// Whether it refers to no object.
+    #[inline(always)]
     pub const fn is_null(self) -> bool
         ensures { IsTrue result ↔ (self ≡ 0) }
     {
