@@ -28,6 +28,7 @@ pub fn class_named(linked: &Linked, package_number: u8, index: u16) -> Option<Cl
 }
 
 /// Whether the class is `Object`.
+#[inline(always)]
 pub fn is_object_class(class: ClassWord, linked: &Linked) -> bool
     ensures { result ≡ is_object_class linked.now class }
 {
@@ -35,12 +36,13 @@ pub fn is_object_class(class: ClassWord, linked: &Linked) -> bool
 }
 
 /// Whether an object with this header is an instance of a class or an interface. Arrays are instances of `Object`.
-#[tactic(auto, unfolding(crate::specs::Types::is_a))]
+#[inline(always)]
+#[tactic(auto, using(jc_world::proofs::Below::below_same), unfolding(crate::specs::Types::is_a))]
 pub fn is_a(facts: Facts, class: ClassWord, linked: &Linked) -> bool
     ensures { result ≡ is_a linked.now facts class }
 {
     if is_instance(facts.kind) {
-        linked.is_below(facts.class(), class)
+        facts.class() == class || linked.is_below(facts.class(), class)
     } else {
         is_object_class(class, linked)
     }

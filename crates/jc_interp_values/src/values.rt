@@ -15,6 +15,7 @@ use jc_words::WordStore;
 use jc_world::objects::allow_store;
 
 /// Takes the value of this type from the top of the stack, as it is kept: of a byte the low eight bits.
+#[inline(always)]
 pub fn pop_value(of_type: ValueType, frames: &mut Frames) -> Result<CellValue, CodeFault>
     ensures others { frames.new ≡ with_stack frames.old frames.new.current.stack }
     ensures taken { value_on of_type frames.old.current.stack ≡ taken result frames.new.current.stack }
@@ -31,6 +32,7 @@ pub fn pop_value(of_type: ValueType, frames: &mut Frames) -> Result<CellValue, C
 }
 
 /// The value of this type in a cell of an object, as it comes on the stack: a byte with its sign.
+#[inline(always)]
 pub fn value_at<S: WordStore>(of_type: ValueType, memory: &Memory<S>, object: Ref, i: u16) -> Cell
     requires up { memory.now.heap.down ≡ false }
     requires there { IsObject memory.now.heap.now object }
@@ -45,6 +47,7 @@ pub fn value_at<S: WordStore>(of_type: ValueType, memory: &Memory<S>, object: Re
 }
 
 /// A value that is to be kept: a reference where the firewall lets it be, a number always.
+#[inline(always)]
 pub fn keepable<S: WordStore>(
     value: CellValue,
     memory: &Memory<S>,
@@ -63,6 +66,7 @@ pub fn keepable<S: WordStore>(
 }
 
 /// A value as a word: a number modulo 2^16, or a reference.
+#[inline(always)]
 pub fn word_of(value: CellValue) -> u16
     ensures { result ≡ word_of value }
 {

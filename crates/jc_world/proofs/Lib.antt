@@ -1,1 +1,3 @@
 pub mod Unasked
+pub mod Free
+pub mod Below

@@ -7,6 +7,7 @@ use jc_frames::{Cell, CodeFault};
 use jc_transient::Ref;
 
 /// The short at a place among the arguments.
+#[inline(always)]
 pub fn short_argument(args: &[Cell], place: usize) -> Result<i16, CodeFault>
     ensures { found result ≡ short_argument args.now place }
 {
@@ -17,6 +18,7 @@ pub fn short_argument(args: &[Cell], place: usize) -> Result<i16, CodeFault>
 }
 
 /// The reference at a place among the arguments.
+#[inline(always)]
 pub fn reference_argument(args: &[Cell], place: usize) -> Result<Ref, CodeFault>
     ensures { found result ≡ reference_argument args.now place }
 {

@@ -1,14 +1,22 @@
 //! Contexts: to whom objects belong, for whom code runs, and what the firewall answers.
-ghost use Rattle.std.specs.Prelude.{◌≡◌, false};
-ghost use Rattle.jc_world.specs.Contexts.{allowed, context_of, decided, asks_sharing, designation_of, installed_package, is_for_selection, package_of_applet, selected_context, shares, subject_of};
+ghost use Rattle.std.specs.Prelude.{◌≡◌, false, true};
+ghost use Rattle.jc_firewall.specs.Situation.{has_time};
+ghost use Rattle.jc_firewall.specs.declared.access.Access.TheVariants.{ArrayElement};
+ghost use Rattle.jc_firewall.specs.declared.decide.Decision.TheVariants.{Allow};
+ghost use Rattle.jc_world.specs.Objects.{is_instance};
+ghost use Rattle.jc_memory.specs.Owners.{owner_of};
+ghost use Rattle.jc_memory.specs.State.{MemoryState};
+ghost use Rattle.jc_packages.specs.Values.{Packages};
+ghost use Rattle.jc_world.specs.Contexts.{allowed, context_of, decided, asks_sharing, designation_of, installed_package, is_for_selection, package_of_applet, selected_context, shares, situation_of, subject_of};
 
+use crate::objects::is_instance;
 use jc_firewall::access::Access;
 use jc_firewall::decide::{Decision, decide};
 use jc_firewall::subject::{Context, Designation, Subject};
 use jc_frames::{Exception, Stop};
 use jc_heap::{Facts, Kind};
 use jc_linker::linked::Linked;
-use jc_memory::{Installation, Memory, Owner};
+use jc_memory::{Installation, Memory, Owner, Registers};
 use jc_names::RUNTIME_ENVIRONMENT;
 use jc_platform::names::PlatformClass;
 use jc_transient::ClearEvent;
@@ -98,7 +106,8 @@ fn shares(facts: Facts, linked: &Linked) -> bool
     }
 }
 
-fn is_for_selection(event: Option<ClearEvent>) -> bool
+#[inline(always)]
+const fn is_for_selection(event: Option<ClearEvent>) -> bool
     ensures { result ≡ is_for_selection event }
 {
     match event {
@@ -147,17 +156,86 @@ pub fn subject_of<S: WordStore>(facts: Facts, memory: &Memory<S>, linked: &Linke
     subject_with(shares(facts, linked), facts, memory, linked)
 }
 
-/// What the firewall answers to an access of the code that runs to an object with this header.
+// The number in a header names this owner.
+#[inline(always)]
+const fn is_owner(owner: Owner, number: u16) -> bool
+    ensures { result ≡ true → owner_of number ≡ owner }
+{
+    match owner {
+        Owner::Runtime => number == 0,
+        Owner::Applet(applet) => number != 0 && number == applet.0 as u16,
+        Owner::Package(package) => number == 256 + package.0 as u16,
+    }
+}
+
+// Code of the selected applet runs.
+#[inline(always)]
+const fn is_selected(registers: Registers) -> bool
+    ensures { (m : MemoryState) → m.registers ≡ registers → result ≡ true → selected_context m ≡ context_of m registers.active }
+{
+    let Installation::Idle = registers.installation else {
+        return false;
+    };
+    match (registers.active, registers.selected) {
+        (Owner::Applet(active), Some(selected)) => active.0 == selected.0,
+        _ => false,
+    }
+}
+
+// The object is not cleared at a deselection, or code of the selected applet runs.
+#[inline(always)]
+#[tactic(auto, using(crate::proofs::Free::same), unfolding(crate::specs::Contexts::situation_of, crate::specs::Contexts::subject_of))]
+const fn has_time(facts: Facts, registers: Registers) -> bool
+    ensures { (p : Packages) (m : MemoryState) → m.registers ≡ registers → result ≡ true → has_time (situation_of p m facts) ≡ true }
+{
+    !is_for_selection(facts.event) || is_selected(registers)
+}
+
+// It is an access to elements of a global array.
+#[inline(always)]
+const fn is_shared(access: Access, facts: Facts) -> bool
+    ensures { result ≡ true → (access ≡ ArrayElement) × (facts.owner ≡ 0) × (is_instance facts.kind ≡ false) }
+{
+    match access {
+        Access::ArrayElement => facts.owner == 0 && !is_instance(facts.kind),
+        _ => false,
+    }
+}
+
+// No rule refuses the access: the object belongs to the owner for whom code runs, or it is to an element of a global
+// array.
+#[inline(always)]
+#[tactic(auto, using(crate::proofs::Free::own_free, crate::proofs::Free::global_free))]
+const fn is_free(access: Access, facts: Facts, registers: Registers) -> bool
+    ensures { (p : Packages) (m : MemoryState) → m.registers ≡ registers → result ≡ true → decided access p m facts ≡ Allow }
+{
+    has_time(facts, registers)
+        && (is_owner(registers.active, facts.owner) || is_shared(access, facts))
+}
+
+// What the rules answer to an access to an object with this kind, event, class and owner.
+#[inline(never)]
 #[tactic(auto, using(crate::proofs::Unasked::unasked), unfolding(crate::specs::Contexts::decided, crate::specs::Contexts::situation_of))]
-pub fn decided<S: WordStore>(
+fn judged<S: WordStore>(
     access: Access,
-    facts: Facts,
+    kind: Kind,
+    event: Option<ClearEvent>,
+    class: u16,
+    owner: u16,
     memory: &Memory<S>,
     linked: &Linked,
 ) -> Decision
     requires up { memory.now.heap.down ≡ false }
-    ensures { result ≡ decided access linked.now memory.now facts }
+    ensures { result ≡ decided access linked.now memory.now (record { kind = kind; event = event; class = class; owner = owner; length = 0; place = 0 }) }
 {
+    let facts = Facts {
+        kind,
+        event,
+        class,
+        owner,
+        length: 0,
+        place: 0,
+    };
     let active = context_of(memory.registers().active, memory);
     let selected = selected_context(memory);
     if !asks_sharing(access) {
@@ -171,7 +249,34 @@ pub fn decided<S: WordStore>(
     decide(access, active, selected, subject_of(facts, memory, linked))
 }
 
+/// What the firewall answers to an access of the code that runs to an object with this header.
+#[inline(always)]
+#[tactic(auto, unfolding(crate::specs::Contexts::decided, crate::specs::Contexts::situation_of, crate::specs::Contexts::subject_of))]
+pub fn decided<S: WordStore>(
+    access: Access,
+    facts: Facts,
+    memory: &Memory<S>,
+    linked: &Linked,
+) -> Decision
+    requires up { memory.now.heap.down ≡ false }
+    ensures { result ≡ decided access linked.now memory.now facts }
+{
+    if is_free(access, facts, memory.registers()) {
+        return Decision::Allow;
+    }
+    judged(
+        access,
+        facts.kind,
+        facts.event,
+        facts.class,
+        facts.owner,
+        memory,
+        linked,
+    )
+}
+
 /// Whether an access is allowed; a refused one throws.
+#[inline(always)]
 pub fn allow<S: WordStore>(
     access: Access,
     facts: Facts,

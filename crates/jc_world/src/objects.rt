@@ -15,6 +15,7 @@ use jc_transient::Ref;
 use jc_words::WordStore;
 
 /// The header of the object behind a reference. Null throws; a reference to nothing is a code fault.
+#[inline(always)]
 #[tactic(auto, unfolding(crate::specs::Objects::object_at))]
 pub fn object<S: WordStore>(reference: Ref, memory: &Memory<S>) -> Result<Facts, Stop>
     requires up { memory.now.heap.down ≡ false }
@@ -31,7 +32,8 @@ pub fn object<S: WordStore>(reference: Ref, memory: &Memory<S>) -> Result<Facts,
 }
 
 /// Whether an object with this header is no array.
-pub fn is_instance(kind: Kind) -> bool
+#[inline(always)]
+pub const fn is_instance(kind: Kind) -> bool
     ensures { result ≡ is_instance kind }
 {
     match kind {
@@ -42,13 +44,16 @@ pub fn is_instance(kind: Kind) -> bool
 
 /// Whether an object with this header is an instance of the class, of one below it, or of one that
 /// implements it.
+#[inline(always)]
+#[tactic(auto, using(crate::proofs::Below::below_same))]
 pub fn is_instance_of(facts: Facts, class: ClassWord, linked: &Linked) -> bool
     ensures { result ≡ is_instance_of linked.now facts class }
 {
-    is_instance(facts.kind) && linked.is_below(facts.class(), class)
+    is_instance(facts.kind) && (facts.class() == class || linked.is_below(facts.class(), class))
 }
 
 /// Whether the firewall lets a reference be stored: null may be. A reference to nothing is a code fault.
+#[inline(always)]
 #[tactic(auto, unfolding(crate::specs::Objects::storable_of))]
 pub fn allow_store<S: WordStore>(
     reference: Ref,
