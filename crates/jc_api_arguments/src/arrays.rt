@@ -25,6 +25,7 @@ pub struct Stretch {
 
 /// The header of the array of bytes that a reference argument names, and none for null. Any other
 /// reference is a code fault.
+#[inline(always)]
 #[tactic(auto, unfolding(crate::specs::Arrays::bytes_argument))]
 pub fn bytes_argument<S: WordStore>(
     reference: Ref,
@@ -50,6 +51,7 @@ pub fn bytes_argument<S: WordStore>(
 const OUTSIDE: Stop = Stop::Throw(Exception::ArrayIndexOutOfBoundsException);
 
 // So many elements of an array of this length, from one on.
+#[inline(always)]
 fn within(array: Ref, length: u16, start: i16, count: i16) -> Result<Stretch, Stop>
     ensures elements { result ≡ within array length (not_negative start) (not_negative count) }
     ensures count { IfOk result (λ e. pos e.count ≡ count) }
@@ -73,6 +75,7 @@ fn within(array: Ref, length: u16, start: i16, count: i16) -> Result<Stretch, St
 
 /// So many elements of the array of bytes that an argument names, from one on. Null throws, then the
 /// firewall, then elements outside the array.
+#[inline(always)]
 #[tactic(auto, unfolding(crate::specs::Arrays::elements_of))]
 pub fn elements<S: WordStore>(
     array: Ref,
@@ -97,6 +100,7 @@ pub fn elements<S: WordStore>(
 
 /// Sets elements of an array of bytes, as one change: refused, where the transaction has no room for it.
 /// They are at most as many bytes as a command has.
+#[inline(always)]
 pub fn put<S: WordStore>(
     memory: &mut Memory<S>,
     to: Stretch,

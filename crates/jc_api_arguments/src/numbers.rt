@@ -3,6 +3,7 @@ ghost use Rattle.std.specs.Prelude.{◌≡◌};
 ghost use Rattle.jc_api_arguments.specs.Numbers.{not_negative};
 
 /// The number; `None` where it is negative.
+#[inline(always)]
 pub fn not_negative(number: i16) -> Option<u16>
     ensures { result ≡ not_negative number }
 {

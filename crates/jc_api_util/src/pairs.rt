@@ -29,6 +29,7 @@ pub(crate) struct Pair {
 }
 
 /// The arguments of a method of two arrays.
+#[inline(always)]
 pub(crate) fn named_in(args: &[Cell]) -> Result<Named, Stop>
     ensures { result ≡ named_in args.now }
 {
@@ -47,6 +48,7 @@ pub(crate) fn named_in(args: &[Cell]) -> Result<Named, Stop>
 }
 
 /// The elements of both arrays that are read or written.
+#[inline(always)]
 pub(crate) fn pair_of<S: WordStore>(
     named: Named,
     memory: &Memory<S>,
@@ -80,6 +82,7 @@ pub(crate) fn pair_of<S: WordStore>(
 }
 
 /// The two elements of an array, by it and an offset, that are read or written.
+#[inline(always)]
 pub(crate) fn two_of<S: WordStore>(
     args: &[Cell],
     memory: &Memory<S>,

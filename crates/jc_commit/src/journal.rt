@@ -195,6 +195,7 @@ impl<S: WordStore> Journal<S> {
     }
 
     /// A word as it is. The journal's own words are not read.
+    #[inline(always)]
     pub fn read(&self, address: u16) -> u16
         requires { IsReadable (length self.now.plain) address }
         ensures { result ≡ slice_index self.now.plain address }
@@ -231,6 +232,7 @@ impl<S: WordStore> Journal<S> {
     }
 
     /// Writes a word.
+    #[inline(always)]
     pub fn write(&mut self, address: u16, value: u16) -> Result<(), WriteRefusal>
         requires up { self.old.down ≡ false }
         requires place { IsPlace (length self.old.plain) address }
@@ -243,6 +245,7 @@ impl<S: WordStore> Journal<S> {
     }
 
     /// Writes several words, with distinct addresses, as one change.
+    #[inline(always)]
     pub fn write_all(&mut self, changes: &[(u16, u16)]) -> Result<(), WriteRefusal>
         requires up { self.old.down ≡ false }
         requires places { ArePlaces (length self.old.plain) changes.now }
@@ -259,6 +262,7 @@ impl<S: WordStore> Journal<S> {
         }
     }
 
+    #[inline(never)]
     fn change_inside(&mut self, changes: &[(u16, u16)]) -> Result<(), WriteRefusal>
         requires up { self.old.down ≡ false }
         requires inside { self.old.in_transaction ≡ true }
@@ -279,6 +283,7 @@ impl<S: WordStore> Journal<S> {
         Ok(())
     }
 
+    #[inline(always)]
     fn change_outside(&mut self, changes: &[(u16, u16)]) -> Result<(), WriteRefusal>
         requires up { self.old.down ≡ false }
         requires outside { self.old.in_transaction ≡ false }

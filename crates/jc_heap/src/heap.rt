@@ -58,6 +58,7 @@ fn words_of_run(changes: &mut [(u16, u16)], at: u16, values: &[u16])
 
 impl<S: WordStore> Heap<S> {
     // The word of a cell.
+    #[inline(always)]
     pub(crate) fn cell_word(&self, object: Ref, i: u16) -> u16
         requires up { self.now.down ≡ false }
         requires cell { i < length (cells self.now.now object) }
@@ -83,6 +84,7 @@ impl<S: WordStore> Heap<S> {
     }
 
     /// A cell of a persistent object.
+    #[inline(always)]
     pub fn get(&self, object: Ref, i: u16) -> u16
         requires up { self.now.down ≡ false }
         requires cell { i < length (cells self.now.now object) }
@@ -93,6 +95,7 @@ impl<S: WordStore> Heap<S> {
     }
 
     /// What an object's header says.
+    #[inline(always)]
     pub fn facts(&self, object: Ref) -> Facts
         requires up { self.now.down ≡ false }
         requires there { IsObject self.now.now object }
@@ -113,6 +116,7 @@ impl<S: WordStore> Heap<S> {
     }
 
     /// Whether a word is the reference of an object. It takes a walk over the heap.
+    #[inline(never)]
     pub fn is_object(&self, word: u16) -> bool
         requires { self.now.down ≡ false }
         ensures { IsTrue result ↔ IsObject self.now.now word }
@@ -136,6 +140,7 @@ impl<S: WordStore> Heap<S> {
     }
 
     /// Sets a cell of a persistent object.
+    #[inline(always)]
     pub fn set(&mut self, object: Ref, i: u16, v: u16) -> Result<(), ChangeRefusal>
         requires up { self.old.down ≡ false }
         requires cell { i < length (cells self.old.now object) }

@@ -13,6 +13,7 @@ use jc_words::WordStore;
 use jc_words::layout::{TEXT_LENGTH, TEXT_START};
 
 // The word behind a transient object's header, 0 where there is none.
+#[inline(always)]
 fn place_word<S: WordStore>(journal: &Journal<S>, at: u16, word: u16) -> u16
     requires behind { text_start ≤ at }
     requires there { (word / 256 ≡ 0 → ⊥) → at + 4 < length journal.now.plain }
@@ -26,6 +27,7 @@ fn place_word<S: WordStore>(journal: &Journal<S>, at: u16, word: u16) -> u16
 }
 
 /// What the header of an object says.
+#[inline(always)]
 pub fn facts_at<S: WordStore>(journal: &Journal<S>, object: Ref) -> Facts
     requires laid { IsLaid journal.now.plain }
     requires small { length journal.now.plain < 65536 }

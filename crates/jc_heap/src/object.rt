@@ -31,6 +31,7 @@ impl Kind {
     }
 
     // The kind of a number of the image.
+    #[inline(always)]
     pub(crate) fn of(number: u16) -> Kind
         ensures { result ≡ kind_of number }
     {
@@ -53,6 +54,7 @@ pub(crate) fn begins_header(word: u16) -> bool
 }
 
 // The event of a number of the image.
+#[inline(always)]
 pub(crate) fn event_of_number(number: u16) -> Option<ClearEvent>
     ensures { result ≡ event_of number }
 {

@@ -49,6 +49,7 @@ fn fill_words<S: WordStore>(heap: &Heap<S>, changes: &[(Place, u16)], words: &mu
 
 impl<S: WordStore> Heap<S> {
     // The word of a place.
+    #[inline(always)]
     fn place_word(&self, place: Place) -> u16
         requires up { self.now.down ≡ false }
         requires there { HasPlace self.now.now place }
@@ -80,6 +81,7 @@ impl<S: WordStore> Heap<S> {
     }
 
     /// Writes a place.
+    #[inline(always)]
     pub fn write(&mut self, place: Place, v: u16) -> Result<(), ChangeRefusal>
         requires up { self.old.down ≡ false }
         requires there { HasPlace self.old.now place }

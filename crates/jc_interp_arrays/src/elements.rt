@@ -28,6 +28,7 @@ pub struct Element {
 }
 
 // Whether an object's elements are of this type.
+#[inline(always)]
 fn has_elements(of_type: ValueType, kind: Kind) -> bool
     ensures { result ≡ has_elements of_type kind }
 {
@@ -49,6 +50,7 @@ fn has_elements(of_type: ValueType, kind: Kind) -> bool
 }
 
 // Whether it is an array with elements of this type, or any array.
+#[inline(always)]
 fn is_array(of_type: Option<ValueType>, kind: Kind) -> bool
     ensures { result ≡ is_array of_type kind }
 {
@@ -59,6 +61,7 @@ fn is_array(of_type: Option<ValueType>, kind: Kind) -> bool
 }
 
 /// The array behind a reference, as the code that runs may reach it.
+#[inline(always)]
 #[tactic(auto, unfolding(crate::specs::Elements::array_at))]
 pub(crate) fn array<S: WordStore>(
     of_type: Option<ValueType>,
@@ -79,6 +82,7 @@ pub(crate) fn array<S: WordStore>(
 }
 
 /// The element of an array with an index.
+#[inline(always)]
 pub(crate) fn with_index(facts: Facts, index: i16) -> Result<Element, Stop>
     ensures exact { result ≡ with_index facts index }
     ensures within { IfOk result (λ e. e.index < facts.length) }
@@ -93,6 +97,7 @@ pub(crate) fn with_index(facts: Facts, index: i16) -> Result<Element, Stop>
 }
 
 /// The element with an index of the array behind a reference.
+#[inline(always)]
 #[tactic(auto, unfolding(crate::specs::Elements::element_at))]
 pub(crate) fn element_at<S: WordStore>(
     of_type: ValueType,
@@ -110,6 +115,7 @@ pub(crate) fn element_at<S: WordStore>(
 }
 
 // Whether an object may be an element of an array of a class's instances: null may.
+#[inline(always)]
 #[tactic(auto, unfolding(crate::specs::Elements::assignable))]
 fn allow_element<S: WordStore>(
     class: ClassWord,
@@ -135,6 +141,7 @@ fn allow_element<S: WordStore>(
 }
 
 /// The value, where it may be an element of an array of a class's instances, or of numbers.
+#[inline(always)]
 #[tactic(auto, unfolding(crate::specs::Elements::element_value))]
 pub(crate) fn element_value<S: WordStore>(
     class: ClassWord,

@@ -16,6 +16,7 @@ use jc_words::WordStore;
 use jc_world::Break;
 
 // The element with this index of this array comes on the stack.
+#[inline(always)]
 #[tactic(auto, unfolding(crate::specs::Loads::loaded))]
 fn load<S: WordStore>(
     of_type: ValueType,
@@ -35,6 +36,7 @@ fn load<S: WordStore>(
 }
 
 // It is set.
+#[inline(always)]
 #[tactic(auto, unfolding(crate::specs::Loads::stored), using(crate::proofs::Kept::may_have))]
 fn store<S: WordStore>(
     of_type: ValueType,
@@ -58,6 +60,7 @@ fn store<S: WordStore>(
 }
 
 /// Reads an element (`aaload`, `baload`, `saload`).
+#[inline(always)]
 #[tactic(auto, unfolding(crate::specs::Loads::loaded_from_stack))]
 pub(crate) fn load_from_stack<S: WordStore>(
     of_type: ValueType,
@@ -74,6 +77,7 @@ pub(crate) fn load_from_stack<S: WordStore>(
 }
 
 /// Writes an element (`aastore`, `bastore`, `sastore`).
+#[inline(always)]
 #[tactic(auto, unfolding(crate::specs::Loads::stored_from_stack))]
 pub(crate) fn store_from_stack<S: WordStore>(
     of_type: ValueType,
@@ -91,6 +95,7 @@ pub(crate) fn store_from_stack<S: WordStore>(
 }
 
 /// Counts the elements of an array (`arraylength`).
+#[inline(always)]
 #[tactic(auto, unfolding(crate::specs::Loads::counted))]
 pub(crate) fn count<S: WordStore>(
     frames: &mut Frames,

@@ -20,6 +20,7 @@ use jc_world::contexts::allow;
 use jc_world::objects::{is_instance_of, object};
 
 // The cell of a field in the object behind a reference, as the code that runs may reach it.
+#[inline(always)]
 #[tactic(auto, unfolding(crate::specs::Fields::reached))]
 fn reached_cell<S: WordStore>(
     field: FieldOfClass,
@@ -41,6 +42,7 @@ fn reached_cell<S: WordStore>(
 }
 
 // The field of this object comes on the stack.
+#[inline(always)]
 #[tactic(auto, unfolding(crate::specs::Fields::got))]
 fn get<S: WordStore>(
     of_type: ValueType,
@@ -62,6 +64,7 @@ fn get<S: WordStore>(
 }
 
 // The field of this object is set.
+#[inline(always)]
 #[tactic(auto, unfolding(crate::specs::Fields::put))]
 fn put<S: WordStore>(
     of_type: ValueType,
@@ -84,6 +87,7 @@ fn put<S: WordStore>(
 }
 
 /// Reads a field of the object on the stack (`getfield`).
+#[inline(always)]
 #[tactic(auto, unfolding(crate::specs::Fields::got_from_stack))]
 pub(crate) fn get_from_stack<S: WordStore>(
     of_type: ValueType,
@@ -100,6 +104,7 @@ pub(crate) fn get_from_stack<S: WordStore>(
 }
 
 /// Writes a field of the object on the stack (`putfield`).
+#[inline(always)]
 #[tactic(auto, unfolding(crate::specs::Fields::put_from_stack))]
 pub(crate) fn put_from_stack<S: WordStore>(
     of_type: ValueType,
@@ -117,6 +122,7 @@ pub(crate) fn put_from_stack<S: WordStore>(
 }
 
 /// Reads a field of the object whose method runs (`getfield_a_this` and its kin).
+#[inline(always)]
 #[tactic(auto, unfolding(crate::specs::Fields::got_of_this))]
 pub(crate) fn get_of_this<S: WordStore>(
     of_type: ValueType,
@@ -136,6 +142,7 @@ pub(crate) fn get_of_this<S: WordStore>(
 }
 
 /// Writes a field of the object whose method runs (`putfield_a_this` and its kin).
+#[inline(always)]
 #[tactic(auto, unfolding(crate::specs::Fields::put_of_this))]
 pub(crate) fn put_of_this<S: WordStore>(
     of_type: ValueType,

@@ -22,6 +22,7 @@ pub struct FieldOfImage {
 }
 
 // Whether a cell of this kind holds values of this type.
+#[inline(always)]
 fn is_of(of_type: ValueType, is_reference: bool) -> bool
     ensures { result ≡ is_of of_type is_reference }
 {
@@ -33,6 +34,7 @@ fn is_of(of_type: ValueType, is_reference: bool) -> bool
 }
 
 // The field of instances that a target is, if it holds values of this type.
+#[inline(always)]
 fn field_of(of_type: ValueType, target: Target) -> Option<FieldOfClass>
     ensures { result ≡ field_of of_type target }
 {
@@ -56,6 +58,7 @@ fn field_of(of_type: ValueType, target: Target) -> Option<FieldOfClass>
 }
 
 /// The field of instances that an entry of a package's pool names, if it names one that holds values of this type.
+#[inline(always)]
 #[tactic(auto, unfolding(crate::specs::Named::field_named))]
 pub(crate) fn field_named(
     of_type: ValueType,
