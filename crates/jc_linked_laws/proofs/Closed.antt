@@ -49,7 +49,7 @@ if_each : {A : Type 0} (P : A → Type 0) (o : Option A) → ((x : A) → o ≡ 
 if_each P None each = tt
 if_each P (Some x) each = each x refl
 
-if_more : {A : Type 0} (P Q : A → Type 0) (o : Option A) → ((x : A) → P x → Q x) → IfThere P o → IfThere Q o
+pub if_more : {A : Type 0} (P Q : A → Type 0) (o : Option A) → ((x : A) → P x → Q x) → IfThere P o → IfThere Q o
 if_more P Q None more there = tt
 if_more P Q (Some x) more there = more x there
 
@@ -109,7 +109,7 @@ module _ (p : Packages) (q : PackageValue) (closed : IsClosed p) (room : length 
   unfolding package_in
   package_closed n = unless (IsClosedPackage (length p.loaded)) (n == 0) (slice_get p.loaded (n - 1)) (all_at (IsClosedPackage (length p.loaded)) p.loaded (n - 1) closed)
 
-  class_closed : (w : ℕ) → IfThere (IsClosedClass (length p.loaded)) (class_in p w)
+  pub class_closed : (w : ℕ) → IfThere (IsClosedClass (length p.loaded)) (class_in p w)
   unfolding class_in
   class_closed w = then_there (IsClosedPackage (length p.loaded)) (IsClosedClass (length p.loaded)) (λ r. slice_get r.classes (w % 256)) (package_in p (w / 256)) (package_closed (w / 256))
       (λ r each. all_at (IsClosedClass (length p.loaded)) r.classes (w % 256) each.classes)

@@ -50,7 +50,7 @@ low : (p : Packages) (number index : ℕ) (t : Target) → target_at p number in
 unfolding target_at package_in
 low p number index t is = low_in p.loaded number index (number == 0) refl t is
 
-there : {A : Type 0} (xs : List A) (i : ℕ) → i < length xs → (x : A) × (slice_get xs i ≡ Some x)
+pub there : {A : Type 0} (xs : List A) (i : ℕ) → i < length xs → (x : A) × (slice_get xs i ≡ Some x)
 there [] i less = absurd (omega (arith, less))
 there (x ∷ xs) zero less = (x, refl)
 there (x ∷ xs) (suc i) less = there xs i (omega (arith, less))

@@ -61,7 +61,7 @@ module _ (p : Packages) (loaded : List PackageValue) (Good GoodNumber : ℕ → 
   unfolding class_at_offset
   offset_alike n offset good = class_bare n offset (package_in new n) ∙ ap (λ o. class_of n o offset) (names.packages n good) ∙ sym (class_bare n offset (package_in p n))
 
-  token_alike : (n token : ℕ) → GoodNumber n → class_with_token new n token ≡ class_with_token p n token
+  pub token_alike : (n token : ℕ) → GoodNumber n → class_with_token new n token ≡ class_with_token p n token
   unfolding class_with_token
   token_alike n token good = token_bare p n token (package_in new n) ∙ ap (class_by p n token) (names.packages n good) ∙ sym (token_bare p n token (package_in p n))
 

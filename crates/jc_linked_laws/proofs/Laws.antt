@@ -79,7 +79,7 @@ module _ (p : Packages) (q : PackageValue) (closed : IsClosed p) (room : length 
     names = λ aid n is. found_still p q aid n is;
   }
 
-linked_closed : (cs : List Components) (p all : Packages) → IsClosed p → AreLinkedOnto p cs all → IsClosed all
+pub linked_closed : (cs : List Components) (p all : Packages) → IsClosed p → AreLinkedOnto p cs all → IsClosed all
 linked_closed [] p all closed linked = subst IsClosed (sym linked) closed
 linked_closed (c ∷ cs) p all closed linked = linked_closed cs (with_package p linked.0) all (closed_next p c linked.0 closed linked.1) linked.2
 
@@ -120,7 +120,7 @@ module _ (p : Packages) (q : PackageValue) (ts : List Target) where
       class_of_bare (w % 256) (package_in (with_package p told) (w / 256)) ∙ ap (option_and_then (λ r. slice_get r.classes (w % 256))) (bare_same (w / 256))
       ∙ sym (class_of_bare (w % 256) (package_in (with_package p q) (w / 256)))
 
-  told_alike : AreAlike (with_package p q) (with_package p told) (λ w. Unit {0})
+  pub told_alike : AreAlike (with_package p q) (with_package p told) (λ w. Unit {0})
   told_alike = record {
     class = λ w any. class_same w;
     above = λ w any. anything (superclass_in (with_package p q) w);
@@ -144,7 +144,7 @@ last_of : (xs : List PackageValue) (q : PackageValue) → slice_get (xs ++ q ∷
 last_of [] q = refl
 last_of (x ∷ xs) q = last_of xs q
 
-package_last : (p : Packages) (q : PackageValue) → package_in (with_package p q) (next_number p) ≡ Some q
+pub package_last : (p : Packages) (q : PackageValue) → package_in (with_package p q) (next_number p) ≡ Some q
 unfolding package_in
 package_last p q =
     ap (λ b. if b then None else slice_get (p.loaded ++ q ∷ []) (length p.loaded + 1 - 1)) (ne_eqb (length p.loaded + 1) 0 (λ e. absurd (omega (arith, e))))

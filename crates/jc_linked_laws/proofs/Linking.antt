@@ -147,7 +147,7 @@ import_stands : (p : Packages) (i : NamedPackage) (n : ℕ) → import_number p 
 unfolding import_number
 import_stands p i n is = fits_stands p i (found p i.aid) n is (found_stands p i.aid)
 
-imports_stand : (p : Packages) (is : List NamedPackage) (ns : List ℕ) → import_numbers p is ≡ Ok ns → AllOf (Stands (length p.loaded)) ns
+pub imports_stand : (p : Packages) (is : List NamedPackage) (ns : List ℕ) → import_numbers p is ≡ Ok ns → AllOf (Stands (length p.loaded)) ns
 unfolding import_numbers
 imports_stand p [] ns are = subst (AllOf (Stands (length p.loaded))) (ok_value [] ns are) tt
 imports_stand p (i ∷ is) ns are =

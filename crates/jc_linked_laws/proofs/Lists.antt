@@ -1,8 +1,9 @@
 -- Lists and options whose elements have a property.
-use Rattle.std.proofs.Common.{◌≡◌, ℕ, zero, suc, ◌||◌, Bool, true, false, List, [], ◌∷◌, ◌++◌, Option, Some, None, refl, ap, ◌∙◌, if◌then◌else◌}
+use Rattle.std.proofs.Common.{◌≡◌, ℕ, zero, suc, inl, inr, ◌||◌, Bool, true, false, List, [], ◌∷◌, ◌++◌, Option, Some, None, refl, ap, ◌∙◌, if◌then◌else◌}
 use Rattle.std.specs.Prelude.{filter, slice_get}
 use Rattle.std.specs.List.{list_any}
 use Rattle.std.specs.Option.{option_map, option_and_then}
+use Rattle.std.proofs.lemmas.Bool.{false≢true, or_cases}
 use Rattle.jc_packages.specs.declared.search.Search.{Search}
 use Rattle.jc_packages.specs.Methods.{searched, settled}
 
@@ -40,6 +41,14 @@ all_filtered P test (x ∷ xs) all = kept_by P (test x) x (filter test xs) all.0
 pub any_alike : {A : Type 0} (P : A → Type 0) (f g : A → Bool) (xs : List A) → AllOf P xs → ((x : A) → P x → f x ≡ g x) → list_any f xs ≡ list_any g xs
 any_alike P f g [] all alike = refl
 any_alike P f g (x ∷ xs) all alike = ap (λ b. b || list_any f xs) (alike x all.0) ∙ ap (λ b. g x || b) (any_alike P f g xs all.1 alike)
+
+-- one of the elements passes, and each that has the property and passes is so
+pub any_so : {A : Type 0} (P : A → Type 0) (R : Type 0) (test : A → Bool) (xs : List A) → AllOf P xs → ((x : A) → P x → test x ≡ true → R) → list_any test xs ≡ true → R
+any_so P R test [] all each e = absurd (false≢true e)
+any_so P R test (x ∷ xs) all each e = elim (or_cases (test x) (list_any test xs) e) [
+  | inl first ↦ each x all.0 first
+  | inr rest ↦ any_so P R test xs all.1 each rest
+]
 
 pub searched_alike : {A : Type 0} (P : ℕ → Type 0) (f g : ℕ → Search A) (cs : List ℕ) → AllOf P cs → ((c : ℕ) → P c → f c ≡ g c) → searched f cs ≡ searched g cs
 unfolding searched

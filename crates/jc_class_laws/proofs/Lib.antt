@@ -1,0 +1,10 @@
+pub mod Tokens
+pub mod Chains
+pub mod Inherits
+pub mod Good
+pub mod Ordered
+pub mod Cells
+pub mod Receivers
+pub mod Named
+pub mod Aids
+pub mod Laws

@@ -1,0 +1,12 @@
+pub mod Lists
+pub mod Kept
+pub mod Cells
+pub mod Values
+pub mod Statics
+pub mod Objects
+pub mod Pins
+pub mod Registry
+pub mod Frames
+pub mod Memories
+pub mod Effects
+pub mod Losses

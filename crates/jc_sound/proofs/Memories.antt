@@ -1,0 +1,226 @@
+-- A memory after one change of its heap, or after a step of its transaction.
+use Rattle.std.proofs.Common.{◌≡◌, ℕ, ◌+◌, ◌<◌, ◌≤◌, ◌&&◌, Bool, true, false, inl, inr, List, length, refl, sym, ◌∙◌, ap, subst, arith, if◌then◌else◌, nat_lt, nat_le}
+use Rattle.std.proofs.lemmas.Bool.{cases_Bool}
+use Rattle.jc_words.specs.Layout.{registry_length}
+use Rattle.jc_transient.specs.State.{RamState}
+use Rattle.jc_heap.specs.Heap.{HeapState, changed, item_at}
+use Rattle.jc_heap.specs.Keeping.{AreWhole}
+use Rattle.jc_heap.specs.Moves.{Begin, Commit, Abort}
+use Rattle.jc_heap.proofs.KeepingMoves.{keeps}
+use Rattle.jc_heap.proofs.Laws.{same_facts}
+use Rattle.jc_memory.specs.declared.registers.Installation.{Installation}
+use Rattle.jc_memory.specs.declared.registers.Installation.TheVariants.{Idle, Open, Registered}
+use Rattle.jc_memory.specs.declared.registers.Registers.{Registers}
+use Rattle.jc_memory.specs.Owners.{owner_number}
+use Rattle.jc_memory.specs.State.{MemoryState, Changes, Turns, effected}
+use Rattle.jc_packages.specs.Values.{Packages}
+use Rattle.jc_card_checks.specs.Objects.{is_kept}
+use Rattle.jc_sound.specs.State.{IsSoundMemory, IsSoundUpTo, is_home, is_open, is_owner_up_to, last_own, most_in, most_new, most_owner}
+use Rattle.jc_sound.specs.Fit.{FitsTurn}
+use Rattle.jc_sound.proofs.Kept.{more_owners, owner_more, owner_same}
+use Rattle.jc_sound.proofs.Frames.{Frames}
+
+-- what is so of the heap that a change leaves durable
+pub choose : {X : Type 0} (P : X → Type 0) (b : Bool) (x y : X) → (b ≡ true → P x) → (b ≡ false → P y) → P (if b then x else y)
+choose P true x y on off = on refl
+choose P false x y on off = off refl
+
+-- the rest of a memory says nothing of its heap
+pub again : (p : Packages) (m : MemoryState) (ram : RamState) (command sent : List ℕ) → IsSoundMemory p m → IsSoundMemory p (record m { ram = ram; command = command; sent = sent })
+again p m ram command sent s = record {
+  whole = s.whole;
+  registry = s.registry;
+  registry_kept = s.registry_kept;
+  now = s.now;
+  durable = s.durable;
+  settled = s.settled;
+  packages = s.packages;
+  loaded = s.loaded;
+  counts = s.counts;
+  active = s.active;
+  behind = s.behind;
+  own = s.own;
+  home = s.home;
+}
+
+-- an installation's package depends on the packages
+pub home_same : (h g : HeapState) (i : Installation) → g.packages ≡ h.packages → is_home g i ≡ is_home h i
+home_same h g Idle e = refl
+home_same h g (Open home entry) e = λ t. nat_lt 0 home.0 && nat_le home.0 (length (e t))
+home_same h g (Registered home) e = refl
+
+module _ (p : Packages) (m : MemoryState) (s : IsSoundMemory p m) where
+  abbrev own : ℕ
+  own = last_own m
+
+  abbrev now : HeapState
+  now = m.heap.now
+
+  abbrev durable : HeapState
+  durable = m.heap.durable
+
+  pub most_opened : (g : Registers) → is_open g.installation ≡ true → most_in g m ≡ durable.counts.1 + 1
+  most_opened g e = ap (λ b. if b then durable.counts.1 + 1 else now.counts.1) e
+
+  most_closed : (g : Registers) → is_open g.installation ≡ false → most_in g m ≡ now.counts.1
+  most_closed g e = ap (λ b. if b then durable.counts.1 + 1 else now.counts.1) e
+
+  -- outside a transaction
+  pub low_now : m.heap.begun ≡ false → IsSoundUpTo now.counts.1 p now own
+  low_now e = subst (λ h. IsSoundUpTo h.counts.1 p h own) (sym (s.settled e)) s.durable
+
+  top_behind : own < now.top
+  top_behind = let low = s.behind in let order = s.whole.order in omega (arith, low, order)
+
+  -- one change
+  module _ (h : HeapState) (places : List ℕ) (fresh : ℕ) (f : Frames now h) (w : AreWhole (changed m.heap h places fresh)) (sound : IsSoundUpTo (most_owner m) p h own) (low : m.heap.begun ≡ false → IsSoundUpTo now.counts.1 p h own) where
+    abbrev left : HeapState
+    left = if m.heap.begun then durable else h
+
+    counts_left : left.counts ≡ durable.counts
+    counts_left = choose (λ k. k.counts ≡ durable.counts) m.heap.begun durable h (λ on. refl) (λ off. f.counts ∙ ap (λ k. k.counts) (s.settled off))
+
+    most_same : (if is_open m.registers.installation then left.counts.1 + 1 else h.counts.1) ≡ most_owner m
+    most_same = λ t. if is_open m.registers.installation then (counts_left t).1 + 1 else (f.counts t).1
+
+    pub change_kept : IsSoundMemory p (record m { heap = changed m.heap h places fresh })
+    change_kept = record {
+      whole = w;
+      registry = f.registry ∙ s.registry;
+      registry_kept = choose (λ k. length k.applets ≡ registry_length) m.heap.begun durable h (λ on. s.registry_kept) (λ off. f.registry ∙ s.registry);
+      now = subst (λ n. IsSoundUpTo n p h own) (sym most_same) sound;
+      durable = choose (λ k. IsSoundUpTo k.counts.1 p k own) m.heap.begun durable h (λ on. s.durable) (λ off. subst (λ n. IsSoundUpTo n p h own) (ap (λ c. c.1) (sym f.counts)) (low off));
+      settled = λ off. sym (ap (λ b. if b then durable else h) off);
+      packages = choose (λ k. h.packages ≡ k.packages) m.heap.begun durable h (λ on. f.packages ∙ s.packages) (λ off. refl);
+      loaded = ap length f.packages ∙ s.loaded;
+      counts = λ closed. f.counts ∙ s.counts closed ∙ sym counts_left;
+      active = owner_same _ now h (owner_number m.registers.active) f.packages ∙ ap (λ n. is_owner_up_to n now (owner_number m.registers.active)) most_same ∙ s.active;
+      behind = choose (λ k. own < k.top) m.heap.begun durable h (λ on. s.behind) (λ off. let top = f.top in let first = top_behind in omega (arith, top, first));
+      own = λ r low. ap is_kept (f.headers r (let first = top_behind in omega (arith, low, first))) ∙ s.own r low;
+      home = home_same now h m.registers.installation f.packages ∙ s.home;
+    }
+
+  -- a change that keeps what fits, whoever may own objects
+  pub kept_changed : (h : HeapState) (places : List ℕ) (fresh : ℕ) → Frames now h → AreWhole (changed m.heap h places fresh) → ((most : ℕ) → IsSoundUpTo most p now own → IsSoundUpTo most p h own) → IsSoundMemory p (record m { heap = changed m.heap h places fresh })
+  kept_changed h places fresh f w keep = change_kept h places fresh f w (keep (most_owner m) s.now) (λ off. keep now.counts.1 (low_now off))
+
+  -- a new object's owner
+  new_most : most_new m ≤ most_owner m
+  new_most = choose (λ n. n ≤ most_owner m) m.heap.begun (most_owner m) now.counts.1 (λ on. omega arith)
+      (λ off. choose (λ n. now.counts.1 ≤ n) (is_open m.registers.installation) (durable.counts.1 + 1) now.counts.1
+      (λ opened. let same : now.counts.1 ≡ durable.counts.1 = ap (λ h. h.counts.1) (s.settled off) in omega (arith, same)) (λ closed. omega arith))
+
+  pub known_now : (owner : ℕ) → is_owner_up_to (most_new m) now owner ≡ true → is_owner_up_to (most_owner m) now owner ≡ true
+  known_now owner known = owner_more (most_new m) (most_owner m) now owner new_most known
+
+  pub known_low : (owner : ℕ) → is_owner_up_to (most_new m) now owner ≡ true → m.heap.begun ≡ false → is_owner_up_to now.counts.1 now owner ≡ true
+  known_low owner known off = subst (λ n. is_owner_up_to n now owner ≡ true) (ap (λ b. if b then most_owner m else now.counts.1) off) known
+
+  -- steps of the transaction
+  pub begun_kept : m.heap.begun ≡ false → IsSoundMemory p (effected (Changes Begin) m)
+  begun_kept off =
+      let same : most_owner (effected (Changes Begin) m) ≡ most_owner m = ap (λ h. if is_open m.registers.installation then h.counts.1 + 1 else now.counts.1) (s.settled off) in
+      record {
+        whole = keeps Begin m.heap tt s.whole;
+        registry = s.registry;
+        registry_kept = s.registry;
+        now = subst (λ n. IsSoundUpTo n p now own) (sym same) s.now;
+        durable = low_now off;
+        settled = λ no_more. refl;
+        packages = refl;
+        loaded = s.loaded;
+        counts = λ closed. refl;
+        active = ap (λ n. is_owner_up_to n now (owner_number m.registers.active)) same ∙ s.active;
+        behind = top_behind;
+        own = s.own;
+        home = s.home;
+      }
+
+  module _ (ends : is_open m.registers.installation ≡ true → now.counts.1 ≡ durable.counts.1 + 1) where
+    all_committed : most_owner m ≡ now.counts.1
+    all_committed = choose (λ n. n ≡ now.counts.1) (is_open m.registers.installation) (durable.counts.1 + 1) now.counts.1 (λ opened. sym (ends opened)) (λ closed. refl)
+
+    more_committed : most_owner m ≤ most_owner (effected (Changes Commit) m)
+    more_committed = choose (λ n. most_owner m ≤ n) (is_open m.registers.installation) (now.counts.1 + 1) now.counts.1 (λ opened. omega (arith, all_committed)) (λ closed. omega (arith, all_committed))
+
+    pub committed_kept : IsSoundMemory p (effected (Changes Commit) m)
+    committed_kept = record {
+      whole = keeps Commit m.heap tt s.whole;
+      registry = s.registry;
+      registry_kept = s.registry;
+      now = more_owners (most_owner m) (most_owner (effected (Changes Commit) m)) p now own more_committed s.now;
+      durable = subst (λ n. IsSoundUpTo n p now own) all_committed s.now;
+      settled = λ off. refl;
+      packages = refl;
+      loaded = s.loaded;
+      counts = λ closed. refl;
+      active = owner_more (most_owner m) (most_owner (effected (Changes Commit) m)) now (owner_number m.registers.active) more_committed s.active;
+      behind = top_behind;
+      own = s.own;
+      home = s.home;
+    }
+
+  aborted_most : most_owner (effected (Changes Abort) m) ≡ most_owner m
+  aborted_most = elim (cases_Bool (is_open m.registers.installation)) [
+    | inl opened ↦ ap (λ b. if b then durable.counts.1 + 1 else durable.counts.1) opened ∙ sym (most_opened m.registers opened)
+    | inr closed ↦ ap (λ b. if b then durable.counts.1 + 1 else durable.counts.1) closed ∙ ap (λ c. c.1) (sym (s.counts closed)) ∙ sym (most_closed m.registers closed)
+  ]
+
+  more_aborted : durable.counts.1 ≤ most_owner (effected (Changes Abort) m)
+  more_aborted = choose (λ n. durable.counts.1 ≤ n) (is_open m.registers.installation) (durable.counts.1 + 1) durable.counts.1 (λ opened. omega arith) (λ closed. omega arith)
+
+  pub aborted_kept : IsSoundMemory p (effected (Changes Abort) m)
+  aborted_kept = record {
+    whole = keeps Abort m.heap tt s.whole;
+    registry = s.registry_kept;
+    registry_kept = s.registry_kept;
+    now = more_owners durable.counts.1 (most_owner (effected (Changes Abort) m)) p durable own more_aborted s.durable;
+    durable = s.durable;
+    settled = λ off. refl;
+    packages = refl;
+    loaded = ap length (sym s.packages) ∙ s.loaded;
+    counts = λ closed. refl;
+    active = owner_same _ now durable (owner_number m.registers.active) (sym s.packages) ∙ ap (λ n. is_owner_up_to n now (owner_number m.registers.active)) aborted_most ∙ s.active;
+    behind = s.behind;
+    own = λ r low. ap is_kept (sym (same_facts (item_at now r) (item_at durable r) (s.whole.shape.items r (let first = s.behind in omega (arith, low, first))))) ∙ s.own r low;
+    home = home_same now durable m.registers.installation (sym s.packages) ∙ s.home;
+  }
+
+  -- the registers are set
+  module _ (g : Registers) (fits : FitsTurn m g) where
+    turned_counts : is_open g.installation ≡ false → now.counts ≡ durable.counts
+    turned_counts closed = elim (cases_Bool (is_open m.registers.installation)) [
+      | inl opened ↦ ap (λ h. h.counts) (s.settled (fits.leaves opened closed))
+      | inr before ↦ s.counts before
+    ]
+
+    turned_now : IsSoundUpTo (most_in g m) p now own
+    turned_now = elim (cases_Bool (is_open g.installation)) [
+      | inl opened ↦ subst (λ n. IsSoundUpTo n p now own) (sym (most_opened g opened)) (elim (cases_Bool (is_open m.registers.installation)) [
+        | inl before ↦ subst (λ n. IsSoundUpTo n p now own) (most_opened m.registers before) s.now
+        | inr closed ↦
+            let same : now.counts.1 ≡ durable.counts.1 = ap (λ c. c.1) (s.counts closed) in
+            more_owners now.counts.1 (durable.counts.1 + 1) p now own (omega (arith, same)) (subst (λ n. IsSoundUpTo n p now own) (most_closed m.registers closed) s.now)
+      ])
+      | inr closed ↦ subst (λ n. IsSoundUpTo n p now own) (sym (most_closed g closed)) (elim (cases_Bool (is_open m.registers.installation)) [
+        | inl before ↦ low_now (fits.leaves before closed)
+        | inr still ↦ subst (λ n. IsSoundUpTo n p now own) (most_closed m.registers still) s.now
+      ])
+    ]
+
+    pub turned_kept : IsSoundMemory p (effected (Turns g) m)
+    turned_kept = record {
+      whole = s.whole;
+      registry = s.registry;
+      registry_kept = s.registry_kept;
+      now = turned_now;
+      durable = s.durable;
+      settled = s.settled;
+      packages = s.packages;
+      loaded = s.loaded;
+      counts = turned_counts;
+      active = fits.active;
+      behind = s.behind;
+      own = s.own;
+      home = fits.home;
+    }

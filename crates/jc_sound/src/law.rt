@@ -1,0 +1,15 @@
+//! Laws of the definitions.
+ghost use Rattle.jc_sound.specs.Fit.{KeepsSound};
+ghost use Rattle.jc_sound.specs.State.{OutlastsLosses};
+
+/// A law of the definitions: an effect that fits the packages leaves a memory that fits them so, the heap as it is and the one
+/// that a loss of power leaves.
+pub fn fit_effects_keep_memories_sound()
+    ensures { KeepsSound }
+{}
+
+/// A law of the definitions: what a loss of power leaves of a memory that fits the packages is found sound as a card powers up
+/// over it, and the memory of that card fits them again.
+pub fn sound_memories_outlast_losses()
+    ensures { OutlastsLosses }
+{}

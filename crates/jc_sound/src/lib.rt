@@ -1,0 +1,6 @@
+//! Soundness: effects that leave the heap of a memory fitting the packages that are linked.
+#![tactic(auto)]
+
+mod law;
+
+pub use law::{fit_effects_keep_memories_sound, sound_memories_outlast_losses};

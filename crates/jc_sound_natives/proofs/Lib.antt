@@ -1,0 +1,10 @@
+pub mod Below
+pub mod Arguments
+pub mod Turning
+pub mod Small
+pub mod Arrays
+pub mod Pins
+pub mod Cells
+pub mod Registry
+pub mod Applets
+pub mod Natives

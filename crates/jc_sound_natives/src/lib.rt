@@ -1,0 +1,6 @@
+//! Soundness of the platform's methods.
+#![tactic(auto)]
+
+mod law;
+
+pub use law::natives_fit;
