@@ -1,3 +1,4 @@
 pub mod Operands
 pub mod Table
 pub mod Short
+pub mod Rows

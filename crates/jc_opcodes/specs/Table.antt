@@ -167,16 +167,18 @@ in_short (op, condition) = (op, S1 (λ offset. Jump (If condition offset)))
 abbrev pub in_wide : (ℕ × Condition) → Row
 in_wide (op, condition) = (op + 0x38, S2 (λ offset. Jump (If condition offset)))
 
-abbrev pub branches : List Row
-branches =
-    map in_short conditions ++ (map in_wide conditions ++ (
+abbrev pub jumps : List Row
+jumps =
     (0x70, S1 (λ offset. Jump (Goto offset))) ∷  -- goto
     (0xA8, S2 (λ offset. Jump (Goto offset))) ∷  -- goto_w
     (0x71, S2 (λ offset. Jump (Subroutine offset))) ∷  -- jsr
     (0x72, U1 (λ n. Jump (Back n))) ∷  -- ret
     (0x73, TableSwitch) ∷  -- stableswitch
     (0x75, LookupSwitch) ∷  -- slookupswitch
-    []))
+    []
+
+abbrev pub branches : List Row
+branches = map in_short conditions ++ (map in_wide conditions ++ jumps)
 
 abbrev pub returns : List Row
 returns =

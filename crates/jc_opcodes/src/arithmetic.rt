@@ -1,14 +1,17 @@
 //! Arithmetic: `sadd` to `sxor`, `sneg`, `s2b`.
-ghost use Rattle.std.specs.Prelude.{IfSome, ◌≡◌, List, ℕ};
+ghost use Rattle.std.specs.Prelude.{IfSome, ◌≡◌, ◌≤◌, length};
 ghost use Rattle.std.specs.Option.{option_and_then};
-ghost use Rattle.jc_opcodes.specs.Table.{HasListedOperands, arithmetic, form_in, read};
+ghost use Rattle.jc_opcodes.specs.Table.{HasListedOperands, form_in, read};
+ghost use Rattle.jc_opcodes.specs.Rows.{from_arithmetic};
 
+use crate::branches::decode_branch;
 use crate::instr::{Arithmetic, Binary, Instr};
 
 #[inline(always)]
-pub(crate) fn decode_arithmetic(opcode: u8, at: usize) -> Option<(Instr, usize)>
-    ensures value { (code : List ℕ) → result ≡ option_and_then (read code at) (form_in arithmetic opcode) }
-    ensures within { IfSome result (λ p. p.1 ≡ at) }
+pub(crate) fn decode_arithmetic(opcode: u8, code: &[u8], at: usize) -> Option<(Instr, usize)>
+    requires { at ≤ length code.now }
+    ensures value { result ≡ option_and_then (read code.now at) (form_in from_arithmetic opcode) }
+    ensures within { IfSome result (λ p. p.1 ≤ length code.now) }
     ensures listed { IfSome result (λ p. HasListedOperands p.0) }
 {
     let operation = match opcode {
@@ -25,7 +28,7 @@ pub(crate) fn decode_arithmetic(opcode: u8, at: usize) -> Option<(Instr, usize)>
         0x55 => Arithmetic::Two(Binary::Or),
         0x57 => Arithmetic::Two(Binary::Xor),
         0x5B => Arithmetic::ToByte,
-        _ => return None,
+        _ => return decode_branch(opcode, code, at),
     };
     Some((Instr::Compute(operation), at))
 }

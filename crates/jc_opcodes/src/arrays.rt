@@ -1,15 +1,17 @@
 //! Arrays: `aaload` to `sastore`, `newarray`, `anewarray`, `arraylength`.
 ghost use Rattle.std.specs.Prelude.{IfSome, ◌≡◌, ◌≤◌, length};
 ghost use Rattle.std.specs.Option.{option_and_then};
-ghost use Rattle.jc_opcodes.specs.Table.{HasListedOperands, arrays, form_in, primitive_array, read};
+ghost use Rattle.jc_opcodes.specs.Table.{HasListedOperands, form_in, primitive_array, read};
+ghost use Rattle.jc_opcodes.specs.Rows.{from_arrays};
 
 use crate::instr::{ArrayOp, Instr, PrimitiveArray, ValueType};
+use crate::objects::decode_object;
 use crate::operands::{u1_at, u2_at};
 
 #[inline(always)]
 pub(crate) fn decode_array(opcode: u8, code: &[u8], at: usize) -> Option<(Instr, usize)>
     requires { at ≤ length code.now }
-    ensures value { result ≡ option_and_then (read code.now at) (form_in arrays opcode) }
+    ensures value { result ≡ option_and_then (read code.now at) (form_in from_arrays opcode) }
     ensures within { IfSome result (λ p. p.1 ≤ length code.now) }
     ensures listed { IfSome result (λ p. HasListedOperands p.0) }
 {
@@ -26,7 +28,7 @@ pub(crate) fn decode_array(opcode: u8, code: &[u8], at: usize) -> Option<(Instr,
         ),
         0x91 => (ArrayOp::MakeReferences(u2_at(code, at)?), at + 2),
         0x92 => (ArrayOp::CountElements, at),
-        _ => return None,
+        _ => return decode_object(opcode, code, at),
     };
     Some((Instr::Index(operation), next))
 }

@@ -1,15 +1,17 @@
 //! Fields: `getstatic` and `putstatic`, `getfield` and `putfield` with their wide and `this` forms.
 ghost use Rattle.std.specs.Prelude.{IfSome, ◌≡◌, ◌≤◌, length};
 ghost use Rattle.std.specs.Option.{option_and_then};
-ghost use Rattle.jc_opcodes.specs.Table.{HasListedOperands, form_in, fields, read};
+ghost use Rattle.jc_opcodes.specs.Table.{HasListedOperands, form_in, read};
+ghost use Rattle.jc_opcodes.specs.Rows.{from_fields};
 
+use crate::arrays::decode_array;
 use crate::instr::{Field, Instr, ValueType};
 use crate::operands::{u1_at, u2_at};
 
 #[inline(always)]
 pub(crate) fn decode_field(opcode: u8, code: &[u8], at: usize) -> Option<(Instr, usize)>
     requires { at ≤ length code.now }
-    ensures value { result ≡ option_and_then (read code.now at) (form_in fields opcode) }
+    ensures value { result ≡ option_and_then (read code.now at) (form_in from_fields opcode) }
     ensures within { IfSome result (λ p. p.1 ≤ length code.now) }
     ensures listed { IfSome result (λ p. HasListedOperands p.0) }
 {
@@ -80,7 +82,7 @@ pub(crate) fn decode_field(opcode: u8, code: &[u8], at: usize) -> Option<(Instr,
             Field::PutOfThis(ValueType::Short, u16::from(u1_at(code, at)?)),
             at + 1,
         ),
-        _ => return None,
+        _ => return decode_array(opcode, code, at),
     };
     Some((Instr::Reach(field), next))
 }

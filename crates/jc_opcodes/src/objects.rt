@@ -1,16 +1,18 @@
 //! Objects: `new`, `athrow`, `checkcast`, `instanceof`.
 ghost use Rattle.std.specs.Prelude.{IfSome, ◌≡◌, ◌≤◌, length};
 ghost use Rattle.std.specs.Option.{option_and_then};
-ghost use Rattle.jc_opcodes.specs.Table.{HasListedOperands, form_in, objects, read, tested_type};
+ghost use Rattle.jc_opcodes.specs.Table.{HasListedOperands, form_in, read, tested_type};
+ghost use Rattle.jc_opcodes.specs.Rows.{from_objects};
 
 use crate::arrays::primitive_array_of;
+use crate::calls::decode_call;
 use crate::instr::{Instr, Object, TestedType};
 use crate::operands::{u1_at, u2_at};
 
 #[inline(always)]
 pub(crate) fn decode_object(opcode: u8, code: &[u8], at: usize) -> Option<(Instr, usize)>
     requires { at ≤ length code.now }
-    ensures value { result ≡ option_and_then (read code.now at) (form_in objects opcode) }
+    ensures value { result ≡ option_and_then (read code.now at) (form_in from_objects opcode) }
     ensures within { IfSome result (λ p. p.1 ≤ length code.now) }
     ensures listed { IfSome result (λ p. HasListedOperands p.0) }
 {
@@ -25,7 +27,7 @@ pub(crate) fn decode_object(opcode: u8, code: &[u8], at: usize) -> Option<(Instr
             Object::InstanceOf(tested_type_of(u1_at(code, at)?, u2_at(code, at + 1)?)?),
             at + 3,
         ),
-        _ => return None,
+        _ => return decode_call(opcode, code, at),
     };
     Some((Instr::Operate(operation), next))
 }

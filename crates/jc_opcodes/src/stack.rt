@@ -1,15 +1,17 @@
 //! The stack's order: `pop`, `pop2`, `dup`, `dup2`, `dup_x`, `swap_x`.
 ghost use Rattle.std.specs.Prelude.{IfSome, ◌≡◌, ◌/◌, ◌%◌, ◌≤◌, length};
 ghost use Rattle.std.specs.Option.{option_map, option_and_then};
-ghost use Rattle.jc_opcodes.specs.Table.{HasListedOperands, duplicate_below, form_in, read, stack, swap};
+ghost use Rattle.jc_opcodes.specs.Table.{HasListedOperands, duplicate_below, form_in, read, swap};
+ghost use Rattle.jc_opcodes.specs.Rows.{from_stack};
 
+use crate::arithmetic::decode_arithmetic;
 use crate::instr::{Instr, Stack};
 use crate::operands::u1_at;
 
 #[inline(always)]
 pub(crate) fn decode_stack(opcode: u8, code: &[u8], at: usize) -> Option<(Instr, usize)>
     requires { at ≤ length code.now }
-    ensures value { result ≡ option_and_then (read code.now at) (form_in stack opcode) }
+    ensures value { result ≡ option_and_then (read code.now at) (form_in from_stack opcode) }
     ensures within { IfSome result (λ p. p.1 ≤ length code.now) }
     ensures listed { IfSome result (λ p. HasListedOperands p.0) }
 {
@@ -20,7 +22,7 @@ pub(crate) fn decode_stack(opcode: u8, code: &[u8], at: usize) -> Option<(Instr,
         0x3E => (Stack::DuplicateTwo, at),
         0x3F => (duplicate_below_of(u1_at(code, at)?)?, at + 1),
         0x40 => (swap_of(u1_at(code, at)?)?, at + 1),
-        _ => return None,
+        _ => return decode_arithmetic(opcode, code, at),
     };
     Some((Instr::Arrange(stack), next))
 }
