@@ -131,7 +131,7 @@ static_far : (ws : List ℕ) (r j : ℕ) → IsLaid ws → j < length (record_of
 static_far ws r j laid h = omega (arith, behind ws r laid (omega (arith, h)))
 
 -- places that differ have different words
-words_apart : (ws : List ℕ) → IsLaid ws → (p q : Place) → HasWord (heap_of ws) p → HasWord (heap_of ws) q → (p ≡ q → ⊥) → place_word p ≡ place_word q → ⊥
+pub words_apart : (ws : List ℕ) → IsLaid ws → (p q : Place) → HasWord (heap_of ws) p → HasWord (heap_of ws) q → (p ≡ q → ⊥) → place_word p ≡ place_word q → ⊥
 unfolding cell_address
 words_apart ws laid (Cell r i) (Cell q k) hp hq ne e = elim (cases_eq r q) [
   | inl s ↦ let same : i ≡ k = omega (arith, s, e) in ne (λ t. Cell (s t) (same t))

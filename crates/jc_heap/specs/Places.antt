@@ -6,7 +6,8 @@ use Rattle.jc_heap.specs.declared.place.Place.{Place}
 use Rattle.jc_heap.specs.declared.place.Place.TheVariants.{Cell, Static, Registry, AppletCount}
 use Rattle.jc_heap.specs.declared.place.AppletEntry.{AppletEntry}
 use Rattle.jc_heap.specs.Object.{IsElement}
-use Rattle.jc_heap.specs.Heap.{HeapState, HeapView, cells, facts, set_cell, cell_address, changed, is_touched}
+use Rattle.jc_heap.specs.Image.{IsLaid}
+use Rattle.jc_heap.specs.Heap.{HeapState, HeapView, cells, facts, heap_of, set_cell, cell_address, changed, is_touched}
 use Rattle.jc_heap.specs.Components.{record_of}
 use Rattle.jc_heap.specs.Statics.{set_word, IsStatic}
 
@@ -81,3 +82,7 @@ AreApart (p ∷ ps) = IsBeside p ps × AreApart ps
 abbrev pub applet_changes : HeapState → AppletEntry → List (Place × ℕ)
 applet_changes h entry =
     (Registry (3 * h.counts.1), entry.aid) ∷ (Registry (3 * h.counts.1 + 1), entry.package) ∷ (Registry (3 * h.counts.1 + 2), entry.instance) ∷ (AppletCount, h.counts.1 + 1) ∷ []
+
+-- places that differ have different words, in the heap of words that are laid
+abbrev pub HaveOwnWords : Type 0
+HaveOwnWords = (words : List ℕ) → IsLaid words → (p q : Place) → HasPlace (heap_of words) p → HasPlace (heap_of words) q → (p ≡ q → ⊥) → place_word p ≡ place_word q → ⊥

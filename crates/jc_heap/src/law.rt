@@ -2,6 +2,7 @@
 ghost use Rattle.jc_heap.specs.Heap.{HeapState};
 ghost use Rattle.jc_heap.specs.Keeping.{KeepsWhole};
 ghost use Rattle.jc_heap.specs.Moves.{KeepsDurable};
+ghost use Rattle.jc_heap.specs.Places.{HaveOwnWords};
 ghost use Rattle.jc_heap.specs.Whole.{IsWhole, OwnsCells};
 
 /// A law of the definitions, for every heap and every list of moves: while a transaction is open,
@@ -21,4 +22,9 @@ pub fn changes_keep_a_heap_whole()
 /// A law of the definitions: in a whole heap each transient object has cells of its own.
 pub fn transient_objects_own_their_cells()
     ensures { (h : HeapState) → IsWhole h → OwnsCells h }
+{}
+
+/// A law of the definitions: no two places of a heap have one word, so a change of one is no change of another.
+pub fn places_have_words_of_their_own()
+    ensures { HaveOwnWords }
 {}

@@ -22,7 +22,8 @@ pub mod walk;
 pub use component::{Span, components_are_read_back};
 pub use heap::Heap;
 pub use law::{
-    changes_keep_a_heap_whole, transactions_keep_what_is_durable, transient_objects_own_their_cells,
+    changes_keep_a_heap_whole, places_have_words_of_their_own, transactions_keep_what_is_durable,
+    transient_objects_own_their_cells,
 };
 pub use object::{Facts, Kind};
 pub use package::{Component, StaticArray};
