@@ -1,7 +1,6 @@
 -- What a loss of power leaves of a sound memory.
-use Rattle.std.proofs.Common.{◌≡◌, ℕ, ◌+◌, ◌<◌, ◌≤◌, Bool, true, false, length, get_or, refl, sym, ◌∙◌, ap, subst, arith, if◌then◌else◌}
-use Rattle.jc_words.specs.Layout.{registry_length}
-use Rattle.jc_heap.specs.Heap.{HeapState, SameShape, facts, item_at}
+use Rattle.std.proofs.Common.{◌≡◌, ◌+◌, ◌≤◌, length, get_or, sym, ◌∙◌, ap, subst, arith, if◌then◌else◌}
+use Rattle.jc_heap.specs.Heap.{SameShape, facts, item_at}
 use Rattle.jc_heap.specs.Keeping.{AreWhole, StandsWhole}
 use Rattle.jc_heap.proofs.Changing.{shape-same}
 use Rattle.jc_heap.proofs.Laws.{same_facts}
