@@ -51,7 +51,7 @@ use Rattle.jc_isolation_natives.proofs.Natives.{natives_spare}
 use Rattle.jc_isolation_runs.specs.Steps.{NamesStatics}
 use Rattle.jc_isolation_runs.proofs.Receivers.{IsFit, chosen_fit, first_argument}
 
-virtual_not_static : Virtual ≡ Static → ⊥
+pub virtual_not_static : Virtual ≡ Static → ⊥
 virtual_not_static e = cc
 
 -- static methods that are no constructors set no cells of a receiver

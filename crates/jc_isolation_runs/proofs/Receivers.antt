@@ -53,7 +53,7 @@ pub both_fine : {A B : Type 0} (o : Result A Stop) (go : A → Result B Stop) (b
 both_fine (Ok a) go b e = (a, refl, e)
 both_fine (Err x) go b e = absurd (err_not_ok e)
 
-is_there : {A : Type 0} (o : Option A) (a : A) → or_fault o ≡ Ok a → o ≡ Some a
+pub is_there : {A : Type 0} (o : Option A) (a : A) → or_fault o ≡ Ok a → o ≡ Some a
 is_there None a e = absurd (err_not_ok e)
 is_there (Some x) a e = ap Some (same_Ok x a e)
 
@@ -227,11 +227,11 @@ chosen_fit p statics m s c here (invoke.Interface n index token) e = by_interfac
 
 -- ---- the first argument is the receiver
 
-args_are : (n : ℕ) (stack args : List Cell) (b : Bool) → nat_le n (length stack) ≡ b → (if b then Some (reverse (take n stack)) else None) ≡ Some args → (n ≤ length stack) × (reverse (take n stack) ≡ args)
+pub args_are : (n : ℕ) (stack args : List Cell) (b : Bool) → nat_le n (length stack) ≡ b → (if b then Some (reverse (take n stack)) else None) ≡ Some args → (n ≤ length stack) × (reverse (take n stack) ≡ args)
 args_are n stack args true le e = (leb-true n (length stack) le, same_Some (reverse (take n stack)) args e)
 args_are n stack args false le e = absurd (none-some args e)
 
-first_is : (n : ℕ) (stack : List Cell) (d : Cell) → 0 < n → n ≤ length stack → slice_get (reverse (take n stack)) 0 ≡ slice_get stack (n - 1)
+pub first_is : (n : ℕ) (stack : List Cell) (d : Cell) → 0 < n → n ≤ length stack → slice_get (reverse (take n stack)) 0 ≡ slice_get stack (n - 1)
 first_is n stack d some le =
     let long = length-take-le n stack le in
     let turned = length-reverse (take n stack) in

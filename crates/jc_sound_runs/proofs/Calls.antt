@@ -1,0 +1,57 @@
+-- Calls.
+use Rattle.std.proofs.Common.{◌≡◌, true, List, Option, Some, None, refl}
+use Rattle.jc_memory.specs.declared.registers.Owner.{Owner}
+use Rattle.jc_memory.specs.Owners.{owner_number}
+use Rattle.jc_memory.specs.State.{MemoryState}
+use Rattle.jc_memory.specs.Reading.{AllDue}
+use Rattle.jc_platform.specs.declared.names.PlatformMethod.{PlatformMethod}
+use Rattle.jc_packages.specs.declared.target.Method.TheVariants.{Native}
+use Rattle.jc_packages.specs.Values.{Packages}
+use Rattle.jc_frames.specs.declared.cell.Cell.{Cell}
+use Rattle.jc_frames.specs.Calls.{arguments_on}
+use Rattle.jc_frames.specs.Frames.{Frames, Next, Goes, Throws, Ends}
+use Rattle.jc_methods.specs.Headers.{header_in}
+use Rattle.jc_interp_calls.specs.declared.choose.Call.{Call}
+use Rattle.jc_interp_calls.specs.declared.enter.Callee.{Callee}
+use Rattle.jc_interp_calls.specs.declared.enter.CallSite.{CallSite}
+use Rattle.jc_interp_calls.specs.Entering.{entering, switched, switching, takes}
+use Rattle.jc_interp_calls.specs.Texts.{text_of}
+use Rattle.jc_isolation.proofs.Due.{due_if, due_some}
+use Rattle.jc_sound.specs.Fit.{IsFit}
+use Rattle.jc_sound.specs.State.{IsSoundMemory, is_owner_up_to, most_owner}
+use Rattle.jc_sound_natives.specs.Natives.{IsReceiver}
+use Rattle.jc_sound_natives.proofs.Natives.{natives_are_fit}
+use Rattle.jc_sound_runs.specs.Methods.{KnowsMethods}
+use Rattle.jc_sound_runs.specs.Steps.{CallsFit}
+use Rattle.jc_sound_runs.proofs.Arguments.{receiver_first}
+use Rattle.jc_sound_runs.proofs.Minding.{aid_minds}
+use Rattle.jc_sound_runs.proofs.Owners.{turn_known}
+use Rattle.jc_sound_runs.proofs.Receivers.{IsFitCall, chosen_fit}
+
+module _ (p : Packages) (m : MemoryState) (methods : KnowsMethods p) (sound : IsSoundMemory p m) where
+  -- an owner that a call switches to, if there is one, is known
+  pub switching_due : (owner : Option Owner) (next : Next Frames) → ((o : Owner) → owner ≡ Some o → is_owner_up_to (most_owner m) m.heap.now (owner_number o) ≡ true) → AllDue (IsFit p) (switching owner m.registers next) m
+  switching_due None next known = tt
+  switching_due (Some owner) (Goes s) known = (turn_known p m methods sound (switched (Some owner) m.registers) refl (known owner refl), tt)
+  switching_due (Some owner) (Throws e s) known = tt
+  switching_due (Some owner) (Ends o) known = tt
+
+  pub entering_due : (c : Callee) (site : CallSite) (s : Frames) → ((o : Owner) → c.switches_to ≡ Some o → is_owner_up_to (most_owner m) m.heap.now (owner_number o) ≡ true) → AllDue (IsFit p) (entering c site p s m) m
+  unfolding entering
+  entering_due c site s known = due_some (IsFit p) m (header_in (text_of p c.package_number) c.offset) _ (λ h there. due_if (IsFit p) m (takes c.arguments h) _ _ (λ on. switching_due c.switches_to _ known) (λ off. tt))
+
+  -- a method that minds it is called on an object of its class
+  pub is_receiver : (stack args : List Cell) (c : Call) (method : PlatformMethod) → IsFitCall p m stack c → c.method ≡ Native method → arguments_on c.arguments stack ≡ Some args → IsReceiver p m method args
+  is_receiver stack args c method fit is are = record {
+    instance = λ minds r on. (fit.on method is minds r (receiver_first c.arguments stack args r are on)).instance;
+    class = λ minds r on. (fit.on method is minds r (receiver_first c.arguments stack args r are on)).class;
+    owned = λ aid r on. (fit.on method is (aid_minds method aid) r (receiver_first c.arguments stack args r are on)).owned aid;
+  }
+
+pub calls_are_fit : CallsFit
+calls_are_fit = record {
+  natively = λ i c method args p s m known aids methods machine home chose is are.
+      natives_are_fit method args p m known aids machine.sound machine.steady (is_receiver p m methods machine.sound s.current.stack args c method (chosen_fit p m s known methods machine.sound machine.own (machine.code home) i c chose) is are);
+  entered = λ i c number offset place p s m known aids methods machine home chose is.
+      entering_due p m methods machine.sound _ _ s (chosen_fit p m s known methods machine.sound machine.own (machine.code home) i c chose).switches;
+}

@@ -1,0 +1,6 @@
+pub mod Owners
+pub mod Leaves
+pub mod Minding
+pub mod Receivers
+pub mod Arguments
+pub mod Calls

@@ -1,0 +1,13 @@
+//! Laws of the definitions.
+ghost use Rattle.jc_sound_runs.specs.Steps.{CallsFit, LeavesFit};
+
+/// A law of the definitions: in a sound machine each effect of a call fits, of the platform's method that it reaches, or as
+/// the frame of one in bytecode begins.
+pub fn calls_fit()
+    ensures { CallsFit }
+{}
+
+/// A law of the definitions: where the owners of the callers are known, each effect of a return and of an exception fits.
+pub fn leaves_fit()
+    ensures { LeavesFit }
+{}

@@ -1,0 +1,6 @@
+//! Soundness of calls, returns and exceptions.
+#![tactic(auto)]
+
+mod law;
+
+pub use law::{calls_fit, leaves_fit};
