@@ -1,11 +1,17 @@
 -- Calls.
-use Rattle.std.proofs.Common.{◌≡◌, true, List, Option, Some, None, refl}
+use Rattle.std.proofs.Common.{◌≡◌, true, List, Option, Some, None, refl, subst, ℕ}
 use Rattle.jc_memory.specs.declared.registers.Owner.{Owner}
+use Rattle.jc_memory.specs.declared.registers.Owner.TheVariants.{Applet}
+use Rattle.jc_memory.specs.Cells.{header_at}
+use Rattle.jc_packages.specs.declared.target.Method.{Method}
+use Rattle.jc_world.specs.declared.answer.Asked.{Asked}
+use Rattle.jc_interp_calls.specs.Asking.{asked_by, asking, sharing_method, takes_asked}
+use Rattle.std.proofs.lemmas.Option.{same_Some}
 use Rattle.jc_memory.specs.Owners.{owner_number}
 use Rattle.jc_memory.specs.State.{MemoryState}
 use Rattle.jc_memory.specs.Reading.{AllDue}
 use Rattle.jc_platform.specs.declared.names.PlatformMethod.{PlatformMethod}
-use Rattle.jc_packages.specs.declared.target.Method.TheVariants.{Native}
+use Rattle.jc_packages.specs.declared.target.Method.TheVariants.{Code, Native}
 use Rattle.jc_packages.specs.Values.{Packages}
 use Rattle.jc_frames.specs.declared.cell.Cell.{Cell}
 use Rattle.jc_frames.specs.Calls.{arguments_on}
@@ -22,7 +28,7 @@ use Rattle.jc_sound.specs.State.{IsSoundMemory, is_owner_up_to, most_owner}
 use Rattle.jc_sound_natives.specs.Natives.{IsReceiver}
 use Rattle.jc_sound_natives.proofs.Natives.{natives_are_fit}
 use Rattle.jc_sound_runs.specs.Methods.{KnowsMethods}
-use Rattle.jc_sound_runs.specs.Steps.{CallsFit}
+use Rattle.jc_sound_runs.specs.Steps.{AsksFit, CallsFit}
 use Rattle.jc_sound_runs.proofs.Arguments.{receiver_first}
 use Rattle.jc_sound_runs.proofs.Minding.{aid_minds}
 use Rattle.jc_sound_runs.proofs.Owners.{turn_known}
@@ -55,3 +61,19 @@ calls_are_fit = record {
   entered = λ i c number offset place p s m known aids methods machine home chose is.
       entering_due p m methods machine.sound _ _ s (chosen_fit p m s known methods machine.sound machine.own (machine.code home) i c chose).switches;
 }
+
+module _ (p : Packages) (m : MemoryState) (methods : KnowsMethods p) (sound : IsSoundMemory p m) (asked : Asked) (known : is_owner_up_to (most_owner m) m.heap.now asked.owner.0 ≡ true) where
+  asked_known : (o : Owner) → Some (Applet asked.owner) ≡ Some o → is_owner_up_to (most_owner m) m.heap.now (owner_number o) ≡ true
+  asked_known o is = subst (λ x. is_owner_up_to (most_owner m) m.heap.now (owner_number x) ≡ true) (same_Some (Applet asked.owner) o is) known
+
+  asked_due : (method : Option Method) (place : ℕ) (s : Frames) → AllDue (IsFit p) (asked_by method asked place p s m) m
+  asked_due None place s = tt
+  asked_due (Some (Native method)) place s = tt
+  asked_due (Some (Code number offset)) place s = due_some (IsFit p) m (header_in (text_of p number) offset) _ (λ h there. due_if (IsFit p) m (takes_asked h) _ _ (λ on. switching_due p m methods sound (Some (Applet asked.owner)) _ asked_known) (λ off. tt))
+
+  asking_due : (place : ℕ) (s : Frames) → AllDue (IsFit p) (asking asked place p s m) m
+  unfolding asking
+  asking_due place s = due_some (IsFit p) m (header_at m asked.server) _ (λ f there. asked_due (sharing_method p f.class) place s)
+
+pub asks_are_fit : AsksFit
+asks_are_fit asked place p s m methods sound known = asking_due p m methods sound asked known place s

@@ -4,3 +4,4 @@ pub mod Minding
 pub mod Receivers
 pub mod Arguments
 pub mod Calls
+pub mod Instructions

@@ -1,5 +1,7 @@
--- Calls, returns and exceptions leave a memory sound.
-use Rattle.std.specs.Prelude.{ℕ, ◌≡◌, ◌==◌, false, List, Some, Ok}
+-- Instructions, calls, returns and exceptions leave a memory sound.
+use Rattle.std.specs.Prelude.{ℕ, ◌≡◌, ◌==◌, Bool, true, false, List, Some, Ok}
+use Rattle.jc_opcodes.specs.declared.instr.Instr.{Instr}
+use Rattle.jc_opcodes.specs.declared.instr.Instr.TheVariants as instr
 use Rattle.jc_opcodes.specs.declared.instr.Invoke.{Invoke}
 use Rattle.jc_opcodes.specs.declared.instr.Return.{Return}
 use Rattle.jc_frames.specs.declared.cell.Cell.{Cell}
@@ -15,13 +17,16 @@ use Rattle.jc_packages.specs.Values.{Packages}
 use Rattle.jc_natives.specs.Natives.{called}
 use Rattle.jc_interp_calls.specs.declared.choose.Call.{Call}
 use Rattle.jc_interp_calls.specs.declared.enter.Callee.{Callee}
+use Rattle.jc_interp_calls.specs.Asking.{asking}
 use Rattle.jc_interp_calls.specs.Choosing.{chosen}
 use Rattle.jc_interp_calls.specs.Entering.{entering}
 use Rattle.jc_interp_calls.specs.Returning.{returning}
 use Rattle.jc_interp_calls.specs.Throwing.{throwing, thrown}
+use Rattle.jc_interp.specs.Stepping.{executed}
+use Rattle.jc_world.specs.declared.answer.Asked.{Asked}
 use Rattle.jc_sound.specs.Classes.{HasAids, KnowsClasses}
 use Rattle.jc_sound.specs.Fit.{IsFit}
-use Rattle.jc_sound.specs.State.{IsSoundMemory}
+use Rattle.jc_sound.specs.State.{IsSoundMemory, is_owner_up_to, most_owner}
 use Rattle.jc_sound_runs.specs.Machines.{IsSoundMachine, KnowOwners}
 use Rattle.jc_sound_runs.specs.Methods.{KnowsMethods}
 
@@ -43,3 +48,16 @@ pub record LeavesFit : Type 0 where
   pub returns : (how : Return) (p : Packages) (s : Frames) (m : MemoryState) → KnowsMethods p → IsSoundMemory p m → KnowOwners s.callers m → AllDue (IsFit p) (returning how s m) m
   pub throws : (place : ℕ) (p : Packages) (s : Frames) (m : MemoryState) → KnowsMethods p → IsSoundMemory p m → KnowOwners s.callers m → AllDue (IsFit p) (throwing place p s m) m
   pub thrown : (e : Exception) (place : ℕ) (p : Packages) (s : Frames) (m : MemoryState) → KnowsMethods p → IsSoundMemory p m → KnowOwners s.callers m → AllDue (IsFit p) (thrown e place p s m) m
+
+-- the runtime environment asks a server whose applet is known: each effect fits, as the frame of the server's method begins
+abbrev pub AsksFit : Type 0
+AsksFit = (asked : Asked) (place : ℕ) (p : Packages) (s : Frames) (m : MemoryState) → KnowsMethods p → IsSoundMemory p m → is_owner_up_to (most_owner m) m.heap.now asked.owner.0 ≡ true → AllDue (IsFit p) (asking asked place p s m) m
+
+-- an instruction that calls a method
+abbrev pub calls : Instr → Bool
+calls (instr.Call method) = true
+calls i = false
+
+-- in a sound machine each effect of an instruction that calls no method fits
+abbrev pub InstructionsFit : Type 0
+InstructionsFit = (i : Instr) (code : List ℕ) (place : ℕ) (p : Packages) (s : Frames) (m : MemoryState) → KnowsClasses p → KnowsMethods p → IsSoundMachine p s m → calls i ≡ false → AllDue (IsFit p) (executed i code place p s m) m

@@ -1,5 +1,5 @@
 //! Laws of the definitions.
-ghost use Rattle.jc_sound_runs.specs.Steps.{CallsFit, LeavesFit};
+ghost use Rattle.jc_sound_runs.specs.Steps.{AsksFit, CallsFit, InstructionsFit, LeavesFit};
 
 /// A law of the definitions: in a sound machine each effect of a call fits, of the platform's method that it reaches, or as
 /// the frame of one in bytecode begins.
@@ -10,4 +10,14 @@ pub fn calls_fit()
 /// A law of the definitions: where the owners of the callers are known, each effect of a return and of an exception fits.
 pub fn leaves_fit()
     ensures { LeavesFit }
+{}
+
+/// A law of the definitions: each effect fits by which the runtime environment asks a server whose applet is known.
+pub fn asks_fit()
+    ensures { AsksFit }
+{}
+
+/// A law of the definitions: in a sound machine each effect of an instruction that calls no method fits.
+pub fn instructions_fit()
+    ensures { InstructionsFit }
 {}

@@ -1,6 +1,6 @@
-//! Soundness of calls, returns and exceptions.
+//! Soundness of instructions, calls, returns and exceptions.
 #![tactic(auto)]
 
 mod law;
 
-pub use law::{calls_fit, leaves_fit};
+pub use law::{asks_fit, calls_fit, instructions_fit, leaves_fit};

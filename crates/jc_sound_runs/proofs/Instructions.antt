@@ -1,0 +1,40 @@
+-- Instructions that call no method.
+use Rattle.std.proofs.Common.{ℕ}
+use Rattle.std.proofs.lemmas.Bool.{true≢false}
+use Rattle.jc_memory.specs.State.{MemoryState}
+use Rattle.jc_memory.specs.Reading.{AllDue}
+use Rattle.jc_packages.specs.Values.{Packages}
+use Rattle.jc_opcodes.specs.declared.instr.Instr.TheVariants.{Nop, Push, Access, Arrange, Compute, Jump, Leave, Reach, Index, Operate, Call}
+use Rattle.jc_opcodes.specs.declared.instr.Object.{Object}
+use Rattle.jc_opcodes.specs.declared.instr.Object.TheVariants.{New, Throw, CheckCast, InstanceOf}
+use Rattle.jc_frames.specs.Frames.{Frames}
+use Rattle.jc_interp.specs.Stepping.{executed, operated}
+use Rattle.jc_sound.specs.Classes.{KnowsClasses}
+use Rattle.jc_sound.specs.Fit.{IsFit}
+use Rattle.jc_sound_groups.proofs.Arrays.{arrays_are_fit}
+use Rattle.jc_sound_groups.proofs.Fields.{fields_are_fit}
+use Rattle.jc_sound_groups.proofs.Making.{objects_are_fit}
+use Rattle.jc_sound_runs.specs.Machines.{IsSoundMachine}
+use Rattle.jc_sound_runs.specs.Methods.{KnowsMethods}
+use Rattle.jc_sound_runs.specs.Steps.{InstructionsFit}
+use Rattle.jc_sound_runs.proofs.Leaves.{leaves_are_fit}
+
+operated_due : (o : Object) (place : ℕ) (p : Packages) (s : Frames) (m : MemoryState) → KnowsClasses p → KnowsMethods p → IsSoundMachine p s m → AllDue (IsFit p) (operated o place p s m) m
+operated_due (New index) place p s m known methods machine = objects_are_fit.made index p s m known machine.sound machine.steady
+operated_due Throw place p s m known methods machine = leaves_are_fit.throws place p s m methods machine.sound machine.callers
+operated_due (CheckCast type) place p s m known methods machine = objects_are_fit.checked type p s m
+operated_due (InstanceOf type) place p s m known methods machine = objects_are_fit.examined type p s m
+
+pub instructions_are_fit : InstructionsFit
+unfolding executed
+instructions_are_fit Nop code place p s m known methods machine no_call = tt
+instructions_are_fit (Push constant) code place p s m known methods machine no_call = tt
+instructions_are_fit (Access local) code place p s m known methods machine no_call = tt
+instructions_are_fit (Arrange stack) code place p s m known methods machine no_call = tt
+instructions_are_fit (Compute arithmetic) code place p s m known methods machine no_call = tt
+instructions_are_fit (Jump branch) code place p s m known methods machine no_call = tt
+instructions_are_fit (Leave how) code place p s m known methods machine no_call = leaves_are_fit.returns how p s m methods machine.sound machine.callers
+instructions_are_fit (Reach field) code place p s m known methods machine no_call = fields_are_fit field p s m known machine.sound
+instructions_are_fit (Index operation) code place p s m known methods machine no_call = arrays_are_fit operation p s m known machine.sound machine.steady
+instructions_are_fit (Operate operation) code place p s m known methods machine no_call = operated_due operation place p s m known methods machine
+instructions_are_fit (Call method) code place p s m known methods machine no_call = absurd (true≢false no_call)
