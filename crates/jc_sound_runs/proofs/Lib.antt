@@ -5,3 +5,4 @@ pub mod Receivers
 pub mod Arguments
 pub mod Calls
 pub mod Instructions
+pub mod Calm

@@ -1,3 +1,4 @@
 pub mod Methods
 pub mod Machines
+pub mod Calm
 pub mod Steps

@@ -1,4 +1,5 @@
 //! Laws of the definitions.
+ghost use Rattle.jc_sound_runs.specs.Calm.{CalmStays};
 ghost use Rattle.jc_sound_runs.specs.Steps.{AsksFit, CallsFit, InstructionsFit, LeavesFit};
 
 /// A law of the definitions: in a sound machine each effect of a call fits, of the platform's method that it reaches, or as
@@ -20,4 +21,10 @@ pub fn asks_fit()
 /// A law of the definitions: in a sound machine each effect of an instruction that calls no method fits.
 pub fn instructions_fit()
     ensures { InstructionsFit }
+{}
+
+/// A law of the definitions: an effect that registers nothing, neither begins nor ends a transaction and leaves the installation
+/// leaves a memory as it is between two instructions, and owners known.
+pub fn calm_effects_leave_machines()
+    ensures { CalmStays }
 {}

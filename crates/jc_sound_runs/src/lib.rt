@@ -3,4 +3,4 @@
 
 mod law;
 
-pub use law::{asks_fit, calls_fit, instructions_fit, leaves_fit};
+pub use law::{asks_fit, calls_fit, calm_effects_leave_machines, instructions_fit, leaves_fit};

@@ -1,0 +1,37 @@
+-- Effects that leave a machine between two instructions as it is: registry, transaction and installation.
+use Rattle.std.specs.Prelude.{◌≡◌, ℕ, false, List, [], ◌∷◌}
+use Rattle.jc_heap.specs.declared.place.Place.{Place}
+use Rattle.jc_heap.specs.declared.place.Place.TheVariants.{Cell, Static, Registry, AppletCount}
+use Rattle.jc_heap.specs.Moves.{Write, SetPlaces, Count, AddPackage, Begin, Commit, Abort}
+use Rattle.jc_memory.specs.State.{MemoryState, Effect, Changes, Turns, effected}
+use Rattle.jc_frames.specs.Frames.{Caller}
+use Rattle.jc_sound.specs.State.{IsSteady}
+use Rattle.jc_sound_runs.specs.Machines.{KnowOwners}
+
+-- a place that is none of the registry's
+abbrev pub IsElsewhere : Place → Type 0
+IsElsewhere (Cell r i) = Unit {0}
+IsElsewhere (Static r j) = Unit {0}
+IsElsewhere (Registry i) = ⊥
+IsElsewhere AppletCount = ⊥
+
+abbrev pub AreElsewhere : List (Place × ℕ) → Type 0
+AreElsewhere [] = Unit {0}
+AreElsewhere (c ∷ cs) = IsElsewhere c.0 × AreElsewhere cs
+
+-- an effect registers nothing, neither begins nor ends a transaction, and leaves the installation
+abbrev pub IsCalm : Effect → MemoryState → Type 0
+IsCalm (Changes (Write place v)) m = IsElsewhere place
+IsCalm (Changes (SetPlaces changes)) m = AreElsewhere changes
+IsCalm (Changes (Count place v)) m = IsElsewhere place
+IsCalm (Changes (AddPackage components arrays rest)) m = ⊥
+IsCalm (Changes Begin) m = ⊥
+IsCalm (Changes Commit) m = ⊥
+IsCalm (Changes Abort) m = ⊥
+IsCalm (Turns registers) m = registers.installation ≡ m.registers.installation
+IsCalm e m = Unit {0}
+
+-- behind such an effect the memory stands as between two instructions, where it stood so, and owners that were known are known
+pub record CalmStays : Type 0 where
+  pub steady : (e : Effect) (m : MemoryState) → IsCalm e m → (m.heap.begun ≡ false → m.heap.now ≡ m.heap.durable) → IsSteady m → IsSteady (effected e m)
+  pub owners : (e : Effect) (m : MemoryState) (callers : List Caller) → IsCalm e m → (m.heap.begun ≡ false → m.heap.now ≡ m.heap.durable) → KnowOwners callers m → KnowOwners callers (effected e m)
