@@ -1,7 +1,10 @@
 -- Effects that leave a memory sound.
 use Rattle.std.specs.Prelude.{ℕ, ◌≡◌, ◌<◌, ◌≤◌, ◌+◌, true, false, List, [], ◌∷◌, length, slice_index, Some}
 use Rattle.jc_words.specs.Layout.{most_applets}
+use Rattle.jc_platform.specs.declared.names.PlatformClass.{PlatformClass}
 use Rattle.jc_platform.specs.declared.names.PlatformClass.TheVariants.{Aid, Applet, OwnerPin}
+use Rattle.jc_platform.specs.Distinct.{class_word}
+use Rattle.jc_platform.specs.Hierarchy.{is_interface}
 use Rattle.jc_heap.specs.declared.object.Kind.{Kind}
 use Rattle.jc_heap.specs.declared.object.Kind.TheVariants.{ReferenceArray}
 use Rattle.jc_heap.specs.declared.place.AppletEntry.{AppletEntry}
@@ -12,6 +15,7 @@ use Rattle.jc_heap.specs.Heap.{HeapState, LacksCells, cells, facts}
 use Rattle.jc_heap.specs.Moves.{Move, Write, SetPlaces, Count, SetCells, AddObject, AddTransient, AddPackage, Begin, Commit, Abort, new_move}
 use Rattle.jc_heap.specs.Places.{applet_changes}
 use Rattle.jc_heap.specs.Statics.{statics_of, IsStatic}
+use Rattle.jc_memory.specs.declared.registers.AppletNumber.{AppletNumber}
 use Rattle.jc_memory.specs.declared.registers.Registers.{Registers}
 use Rattle.jc_memory.specs.Owners.{owner_number}
 use Rattle.jc_memory.specs.State.{MemoryState, Effect, Changes, Fills, Flags, Clears, Buries, Turns, Starts, Sends, effected}
@@ -24,7 +28,7 @@ use Rattle.jc_pin.specs.Updating.{update_of}
 use Rattle.jc_card_checks.specs.Objects.{fits_class, is_a, is_byte_array, is_instance, is_kept, is_reference, stands}
 use Rattle.jc_card_checks.specs.Sound.{aid_in, aid_of_entry, entry_word, holds_aid}
 use Rattle.jc_api_aid.specs.AidCells.{cells_of_aid, is_aid_length}
-use Rattle.jc_sound.specs.State.{IsSoundMemory, is_home, is_open, is_owner_up_to, last_own, most_in, most_new}
+use Rattle.jc_sound.specs.State.{IsSoundMemory, is_applet, is_home, is_open, is_owner_up_to, last_own, most_in, most_new}
 
 -- a value fits a cell of a persistent instance that is none of an AID and none of a PIN: a reference where one is kept
 pub record FitsCell (p : Packages) (h : HeapState) (r i v : ℕ) : Type 0 where
@@ -121,11 +125,16 @@ pub record SetsAid (p : Packages) (m : MemoryState) (r i : ℕ) (words : List �
 abbrev pub FitsRun : Packages → MemoryState → ℕ → ℕ → List ℕ → Type 0
 FitsRun p m r i words = ((is_kept (facts m.heap.now r) ≡ true) → SetsAid p m r i words) × ((facts m.heap.now r).kind ≡ ReferenceArray → ⊥)
 
--- a new object has a class and an owner that are there
+-- a class of the platform, no interface
+abbrev pub IsPlatformClass : Packages → ℕ → Type 0
+IsPlatformClass p class = (of : PlatformClass) × (is_interface of ≡ false) × (class ≡ class_word p.platform of)
+
+-- a new object has a class and an owner that are there; an instance of the runtime environment's is of a class of the platform
 pub record FitsNew (p : Packages) (m : MemoryState) (kind : Kind) (class owner long : ℕ) : Type 0 where
   pub there : fits_class p kind class long ≡ true
   pub known : is_owner_up_to (most_new m) m.heap.now owner ≡ true
   pub small : is_instance kind ≡ true → long < 65536
+  pub environments : is_instance kind ≡ true → owner ≡ 0 → IsPlatformClass p class
 
 -- a new persistent one
 pub record FitsObject (p : Packages) (m : MemoryState) (move : Move) : Type 0 where
@@ -151,11 +160,12 @@ FitsMove p Commit m = is_open m.registers.installation ≡ true → m.heap.now.c
 FitsMove p Abort m = Unit {0}
 
 -- the registers are set: code runs for an owner that is there, an installation is of a package that is there, and it is left only with
--- no transaction open
+-- no transaction open; an applet that is selected is there
 pub record FitsTurn (m : MemoryState) (g : Registers) : Type 0 where
   pub active : is_owner_up_to (most_in g m) m.heap.now (owner_number g.active) ≡ true
   pub leaves : is_open m.registers.installation ≡ true → is_open g.installation ≡ false → m.heap.begun ≡ false
   pub home : is_home m.heap.now g.installation ≡ true
+  pub selected : (a : AppletNumber) → g.selected ≡ Some a → is_applet m.heap.durable a ≡ true
 
 -- an effect leaves a memory sound: what it sets fits
 abbrev pub IsFit : Packages → Effect → MemoryState → Type 0

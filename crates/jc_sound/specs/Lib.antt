@@ -1,3 +1,4 @@
 pub mod State
 pub mod Fit
 pub mod Classes
+pub mod Environment

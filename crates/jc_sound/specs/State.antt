@@ -1,8 +1,9 @@
 -- A memory whose heaps fit the packages that are linked, also while an applet is being installed.
-use Rattle.std.specs.Prelude.{ℕ, ◌≡◌, ◌<◌, ◌≤◌, ◌+◌, ◌-◌, ◌==◌, ◌&&◌, ◌||◌, nat_lt, nat_le, Bool, true, false, length, slice_index, if◌then◌else◌, None}
+use Rattle.std.specs.Prelude.{ℕ, ◌≡◌, ◌<◌, ◌≤◌, ◌+◌, ◌-◌, ◌==◌, ◌&&◌, ◌||◌, nat_lt, nat_le, Bool, true, false, length, slice_index, if◌then◌else◌, Some, None}
 use Rattle.jc_words.specs.Layout.{registry_length}
 use Rattle.jc_heap.specs.Heap.{HeapState, IsObject, cells, facts}
 use Rattle.jc_heap.specs.Keeping.{AreWhole}
+use Rattle.jc_memory.specs.declared.registers.AppletNumber.{AppletNumber}
 use Rattle.jc_memory.specs.declared.registers.Installation.{Installation}
 use Rattle.jc_memory.specs.declared.registers.Installation.TheVariants.{Idle, Open, Registered}
 use Rattle.jc_memory.specs.declared.registers.Registers.{Registers}
@@ -66,8 +67,12 @@ is_home h Idle = true
 is_home h (Open home entry) = nat_lt 0 home.0 && nat_le home.0 (length h.packages)
 is_home h (Registered home) = true
 
+-- an applet that is registered
+abbrev pub is_applet : HeapState → AppletNumber → Bool
+is_applet h a = nat_lt 0 a.0 && nat_le a.0 h.counts.1
+
 -- the heap as it is and the one that a loss of power leaves fit the packages; outside a transaction they are one; none but an
--- installation adds an applet, of a package that is there; for whom code runs is there; and among the runtime environment's own
+-- installation adds an applet, of a package that is there; for whom code runs is there, and the applet that is selected; and among the runtime environment's own
 -- objects, with which the heap begins, is no persistent instance
 pub record IsSoundMemory (p : Packages) (m : MemoryState) : Type 0 where
   pub whole : AreWhole m.heap
@@ -83,6 +88,7 @@ pub record IsSoundMemory (p : Packages) (m : MemoryState) : Type 0 where
   pub behind : last_own m < m.heap.durable.top
   pub own : (r : ℕ) → r ≤ last_own m → is_kept (facts m.heap.now r) ≡ false
   pub home : is_home m.heap.now m.registers.installation ≡ true
+  pub selected : (a : AppletNumber) → m.registers.selected ≡ Some a → is_applet m.heap.durable a ≡ true
 
 -- between two instructions no applet has been registered but not committed, and while one is being installed, its transaction is open
 pub record IsSteady (m : MemoryState) : Type 0 where

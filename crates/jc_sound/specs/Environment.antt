@@ -1,0 +1,22 @@
+-- The runtime environment's own objects.
+use Rattle.std.specs.Prelude.{ℕ, ◌≡◌, ◌≤◌, true, false}
+use Rattle.jc_heap.specs.Heap.{HeapState, facts}
+use Rattle.jc_memory.specs.State.{MemoryState, Effect, effected}
+use Rattle.jc_packages.specs.Values.{Packages}
+use Rattle.jc_card_checks.specs.Objects.{is_instance, stands}
+use Rattle.jc_sound.specs.Fit.{IsFit, IsPlatformClass}
+use Rattle.jc_sound.specs.State.{IsSoundMemory, last_own}
+
+-- the objects with which a heap begins are the runtime environment's own, and its instances are of classes of the platform
+pub record IsEnvironments (p : Packages) (h : HeapState) (own : ℕ) : Type 0 where
+  pub first : (r : ℕ) → r ≤ own → (facts h r).owner ≡ 0
+  pub classes : (r : ℕ) → stands h r ≡ true → is_instance (facts h r).kind ≡ true → (facts h r).owner ≡ 0 → IsPlatformClass p (facts h r).class
+
+-- so it is in the heap as it is and in the one that a loss of power leaves
+pub record HasEnvironment (p : Packages) (m : MemoryState) : Type 0 where
+  pub now : IsEnvironments p m.heap.now (last_own m)
+  pub durable : IsEnvironments p m.heap.durable (last_own m)
+
+-- an effect that fits leaves it so
+abbrev pub KeepsEnvironment : Type 0
+KeepsEnvironment = (p : Packages) (e : Effect) (m : MemoryState) → IsFit p e m → IsSoundMemory p m → HasEnvironment p m → HasEnvironment p (effected e m)

@@ -1,0 +1,6 @@
+//! Soundness of selecting, installing and answering.
+#![tactic(auto)]
+
+mod law;
+
+pub use law::commands_are_sound;

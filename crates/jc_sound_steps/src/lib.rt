@@ -1,0 +1,6 @@
+//! Soundness of steps and runs.
+#![tactic(auto)]
+
+mod law;
+
+pub use law::{runs_are_sound, steps_are_sound};
