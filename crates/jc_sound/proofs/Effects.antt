@@ -25,12 +25,12 @@ use Rattle.jc_packages.specs.Values.{Packages}
 use Rattle.jc_pin.specs.Starting.{first_record}
 use Rattle.jc_pin.specs.Updating.{bytes_put}
 use Rattle.jc_card_checks.specs.Objects.{is_bytes, is_instance, is_kept, is_reference, stands}
-use Rattle.jc_sound.specs.State.{IsFitObject, IsSoundMemory, IsSoundUpTo, is_open, is_owner_up_to, last_own, most_owner}
+use Rattle.jc_sound.specs.State.{IsFitObject, IsSoundMemory, IsSoundUpTo, is_applet, is_open, is_owner_up_to, last_own, most_owner}
 use Rattle.jc_sound.specs.Fit.{AreStatics, FitsChange, FitsMove, FitsNew, FitsPlace, FitsRun, IsFit, IsPinObject, KeepsSound, OfPin, OfRegistry, OfStatics, OfValue, RegistersApplet, SetsAid, SetsUpPin, UpdatesPin}
 use Rattle.jc_sound.proofs.Frames.{Frames, bytes_held, cell_frames, object_frames, places_frames, run_frames, statics_held, transient_frames, word_frames}
 use Rattle.jc_sound.proofs.Kept.{IsSoundBut, owner_same}
 use Rattle.jc_sound.proofs.Lists.{zeros}
-use Rattle.jc_sound.proofs.Memories.{aborted_kept, again, begun_kept, change_kept, choose, committed_kept, home_same, kept_changed, known_low, known_now, low_now, most_opened, turned_kept}
+use Rattle.jc_sound.proofs.Memories.{aborted_kept, again, applet_same, begun_kept, change_kept, choose, committed_kept, home_same, kept_changed, known_low, known_now, low_now, most_opened, turned_kept}
 use Rattle.jc_sound.proofs.Objects.{object_added, transient_added}
 use Rattle.jc_sound.proofs.Pins.{PinAt, array_bytes, counter_kept, first_kept, pin_at, pin_still, update_kept}
 use Rattle.jc_sound.proofs.Registry.{IsEntry, entered, facts_still}
@@ -123,6 +123,7 @@ module _ (p : Packages) (m : MemoryState) (s : IsSoundMemory p m) (r v : ℕ) (p
         behind = let low = s.behind in let more = d.top in omega (arith, low, more);
         own = λ q low. ap is_kept (facts-set_cell m.heap.now r 2 v q) ∙ s.own q low;
         home = home_same m.heap.now (set_cell m.heap.now r 2 v) m.registers.installation f.packages ∙ s.home;
+        selected = λ a e. applet_same m.heap.durable left a d.counts ∙ s.selected a e;
       }
 
 -- ---- an applet is registered
@@ -170,6 +171,7 @@ module _ (p : Packages) (m : MemoryState) (s : IsSoundMemory p m) (changes : Lis
     behind = subst (λ h. last_own m < h.top) (sym left_is) s.behind;
     own = λ q low. ap is_kept (facts_still p m.heap.now (last_own m) f.entry new_entry q) ∙ s.own q low;
     home = s.home;
+    selected = λ a e. ap (λ h. is_applet h a) left_is ∙ s.selected a e;
   }
 
 -- ---- PINs

@@ -10,3 +10,4 @@ pub mod Frames
 pub mod Memories
 pub mod Effects
 pub mod Losses
+pub mod Environment

@@ -1,5 +1,6 @@
 -- What a loss of power leaves of a sound memory.
 use Rattle.std.proofs.Common.{◌≡◌, ◌+◌, ◌≤◌, length, get_or, sym, ◌∙◌, ap, subst, arith, if◌then◌else◌}
+use Rattle.std.proofs.lemmas.Option.{none-some}
 use Rattle.jc_heap.specs.Heap.{SameShape, facts, item_at}
 use Rattle.jc_heap.specs.Keeping.{AreWhole, StandsWhole}
 use Rattle.jc_heap.proofs.Changing.{shape-same}
@@ -56,6 +57,7 @@ module _ (p : Packages) (m n : MemoryState) (s : IsSoundMemory p m) (now : n.hea
         let here : r ≤ last_own m = omega (arith, below, b) in
         ap (λ h. is_kept (facts h r)) now ∙ ap is_kept (sym (same_facts (item_at m.heap.now r) (item_at m.heap.durable r) (s.whole.shape.items r (omega (arith, here, c))))) ∙ s.own r here;
     home = ap (λ g. is_home n.heap.now g.installation) reset;
+    selected = λ a e. absurd (none-some a (ap (λ g. g.selected) (sym reset) ∙ e));
   }
 
 pub outlast_losses : OutlastsLosses

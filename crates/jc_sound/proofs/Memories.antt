@@ -1,6 +1,6 @@
 -- A memory after one change of its heap, or after a step of its transaction.
 use Rattle.std.proofs.Common.{◌≡◌, ℕ, ◌+◌, ◌<◌, ◌≤◌, ◌&&◌, Bool, true, false, inl, inr, List, length, refl, sym, ◌∙◌, ap, subst, arith, if◌then◌else◌, nat_lt, nat_le}
-use Rattle.std.proofs.lemmas.Bool.{cases_Bool}
+use Rattle.std.proofs.lemmas.Bool.{and_from, and_parts, cases_Bool, le-leb, leb-true}
 use Rattle.jc_words.specs.Layout.{registry_length}
 use Rattle.jc_transient.specs.State.{RamState}
 use Rattle.jc_heap.specs.Heap.{HeapState, changed, item_at}
@@ -8,6 +8,7 @@ use Rattle.jc_heap.specs.Keeping.{AreWhole}
 use Rattle.jc_heap.specs.Moves.{Begin, Commit, Abort}
 use Rattle.jc_heap.proofs.KeepingMoves.{keeps}
 use Rattle.jc_heap.proofs.Laws.{same_facts}
+use Rattle.jc_memory.specs.declared.registers.AppletNumber.{AppletNumber}
 use Rattle.jc_memory.specs.declared.registers.Installation.{Installation}
 use Rattle.jc_memory.specs.declared.registers.Installation.TheVariants.{Idle, Open, Registered}
 use Rattle.jc_memory.specs.declared.registers.Registers.{Registers}
@@ -15,7 +16,7 @@ use Rattle.jc_memory.specs.Owners.{owner_number}
 use Rattle.jc_memory.specs.State.{MemoryState, Changes, Turns, effected}
 use Rattle.jc_packages.specs.Values.{Packages}
 use Rattle.jc_card_checks.specs.Objects.{is_kept}
-use Rattle.jc_sound.specs.State.{IsSoundMemory, IsSoundUpTo, is_home, is_open, is_owner_up_to, last_own, most_in, most_new, most_owner}
+use Rattle.jc_sound.specs.State.{IsSoundMemory, IsSoundUpTo, is_applet, is_home, is_open, is_owner_up_to, last_own, most_in, most_new, most_owner}
 use Rattle.jc_sound.specs.Fit.{FitsTurn}
 use Rattle.jc_sound.proofs.Kept.{more_owners, owner_more, owner_same}
 use Rattle.jc_sound.proofs.Frames.{Frames}
@@ -41,7 +42,17 @@ again p m ram command sent s = record {
   behind = s.behind;
   own = s.own;
   home = s.home;
+  selected = s.selected;
 }
+
+-- whether an applet is registered depends on their number
+pub applet_same : (h g : HeapState) (a : AppletNumber) → g.counts ≡ h.counts → is_applet g a ≡ is_applet h a
+applet_same h g a e = λ t. nat_lt 0 a.0 && nat_le a.0 (e t).1
+
+pub applet_more : (h g : HeapState) (a : AppletNumber) → h.counts.1 ≤ g.counts.1 → is_applet h a ≡ true → is_applet g a ≡ true
+applet_more h g a le is =
+    let both = and_parts (nat_lt 0 a.0) _ is in
+    and_from (nat_lt 0 a.0) _ both.0 (le-leb a.0 g.counts.1 (let l = leb-true a.0 h.counts.1 both.1 in omega (arith, l, le)))
 
 -- an installation's package depends on the packages
 pub home_same : (h g : HeapState) (i : Installation) → g.packages ≡ h.packages → is_home g i ≡ is_home h i
@@ -98,6 +109,7 @@ module _ (p : Packages) (m : MemoryState) (s : IsSoundMemory p m) where
       behind = choose (λ k. own < k.top) m.heap.begun durable h (λ on. s.behind) (λ off. let top = f.top in let first = top_behind in omega (arith, top, first));
       own = λ r low. ap is_kept (f.headers r (let first = top_behind in omega (arith, low, first))) ∙ s.own r low;
       home = home_same now h m.registers.installation f.packages ∙ s.home;
+      selected = λ a e. applet_same durable left a counts_left ∙ s.selected a e;
     }
 
   -- a change that keeps what fits, whoever may own objects
@@ -134,6 +146,7 @@ module _ (p : Packages) (m : MemoryState) (s : IsSoundMemory p m) where
         behind = top_behind;
         own = s.own;
         home = s.home;
+        selected = λ a e. applet_same durable now a (ap (λ h. h.counts) (s.settled off)) ∙ s.selected a e;
       }
 
   module _ (ends : is_open m.registers.installation ≡ true → now.counts.1 ≡ durable.counts.1 + 1) where
@@ -142,6 +155,12 @@ module _ (p : Packages) (m : MemoryState) (s : IsSoundMemory p m) where
 
     more_committed : most_owner m ≤ most_owner (effected (Changes Commit) m)
     more_committed = choose (λ n. most_owner m ≤ n) (is_open m.registers.installation) (now.counts.1 + 1) now.counts.1 (λ opened. omega (arith, all_committed)) (λ closed. omega (arith, all_committed))
+
+    counts_committed : durable.counts.1 ≤ now.counts.1
+    counts_committed = elim (cases_Bool (is_open m.registers.installation)) [
+      | inl opened ↦ let e = ends opened in omega (arith, e)
+      | inr closed ↦ let e : now.counts.1 ≡ durable.counts.1 = ap (λ c. c.1) (s.counts closed) in omega (arith, e)
+    ]
 
     pub committed_kept : IsSoundMemory p (effected (Changes Commit) m)
     committed_kept = record {
@@ -158,6 +177,7 @@ module _ (p : Packages) (m : MemoryState) (s : IsSoundMemory p m) where
       behind = top_behind;
       own = s.own;
       home = s.home;
+      selected = λ a e. applet_more durable now a counts_committed (s.selected a e);
     }
 
   aborted_most : most_owner (effected (Changes Abort) m) ≡ most_owner m
@@ -184,6 +204,7 @@ module _ (p : Packages) (m : MemoryState) (s : IsSoundMemory p m) where
     behind = s.behind;
     own = λ r low. ap is_kept (sym (same_facts (item_at now r) (item_at durable r) (s.whole.shape.items r (let first = s.behind in omega (arith, low, first))))) ∙ s.own r low;
     home = home_same now durable m.registers.installation (sym s.packages) ∙ s.home;
+    selected = s.selected;
   }
 
   -- the registers are set
@@ -223,4 +244,5 @@ module _ (p : Packages) (m : MemoryState) (s : IsSoundMemory p m) where
       behind = s.behind;
       own = s.own;
       home = fits.home;
+      selected = fits.selected;
     }

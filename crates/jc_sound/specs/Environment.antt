@@ -1,5 +1,5 @@
 -- The runtime environment's own objects.
-use Rattle.std.specs.Prelude.{ℕ, ◌≡◌, ◌≤◌, true, false}
+use Rattle.std.specs.Prelude.{ℕ, ◌≡◌, ◌≤◌, true}
 use Rattle.jc_heap.specs.Heap.{HeapState, facts}
 use Rattle.jc_memory.specs.State.{MemoryState, Effect, effected}
 use Rattle.jc_packages.specs.Values.{Packages}

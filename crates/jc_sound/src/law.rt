@@ -1,4 +1,5 @@
 //! Laws of the definitions.
+ghost use Rattle.jc_sound.specs.Environment.{KeepsEnvironment};
 ghost use Rattle.jc_sound.specs.Fit.{KeepsSound};
 ghost use Rattle.jc_sound.specs.State.{OutlastsLosses};
 
@@ -12,4 +13,10 @@ pub fn fit_effects_keep_memories_sound()
 /// over it, and the memory of that card fits them again.
 pub fn sound_memories_outlast_losses()
     ensures { OutlastsLosses }
+{}
+
+/// A law of the definitions: an effect that fits the packages leaves the runtime environment's objects its own, and its
+/// instances those of classes of the platform.
+pub fn fit_effects_keep_the_environments_objects()
+    ensures { KeepsEnvironment }
 {}

@@ -3,4 +3,7 @@
 
 mod law;
 
-pub use law::{fit_effects_keep_memories_sound, sound_memories_outlast_losses};
+pub use law::{
+    fit_effects_keep_memories_sound, fit_effects_keep_the_environments_objects,
+    sound_memories_outlast_losses,
+};
