@@ -138,7 +138,7 @@ new_due p m o s kept fits = due_unless (IsFit p) m s (no_new m o) _ (new_kept p 
 module _ (p : Packages) (m : MemoryState) (known : KnowsClasses p) (sound : IsSoundMemory p m) (steady : IsSteady m) where
   array_due : (kind : Kind) (class : ℕ) (n : ℤ) (s : Frames) → is_instance kind ≡ false → ((long : ℕ) → fits_class p kind class long ≡ true) → AllDue (IsFit p) (array_made kind class n s m) m
   unfolding array_made
-  array_due kind class (pos n) s none fits = new_due p m _ s refl (record { there = fits n; known = active_known p m sound steady; small = λ is. absurd (both_ways (is_instance kind) none is) })
+  array_due kind class (pos n) s none fits = new_due p m _ s refl (record { there = fits n; known = active_known p m sound steady; small = λ is. absurd (both_ways (is_instance kind) none is); environments = λ is zero. absurd (both_ways (is_instance kind) none is) })
   array_due kind class (negsuc n) s none fits = due_stopped (IsFit p) m s (Throw NegativeArraySizeException)
 
   of_kind : (of_type : PrimitiveArray) (n : ℤ) (s : Frames) → AllDue (IsFit p) (array_made (kind_of of_type) 0 n s m) m

@@ -10,6 +10,7 @@ use Rattle.jc_frames.specs.declared.outcome.Stop.{Stop}
 use Rattle.jc_frames.specs.declared.outcome.Stop.TheVariants.{Throw}
 use Rattle.jc_frames.specs.Cells.{reference_on}
 use Rattle.jc_frames.specs.Frames.{Frames, has_room}
+use Rattle.jc_memory.specs.Owners.{owner_number}
 use Rattle.jc_memory.specs.State.{MemoryState}
 use Rattle.jc_memory.specs.Reading.{AllDue}
 use Rattle.jc_platform.specs.declared.names.PlatformClass.{PlatformClass}
@@ -64,12 +65,12 @@ module _ (p : Packages) (m : MemoryState) (known : KnowsClasses p) (sound : IsSo
   fits_made : (class n : ℕ) → is_made p class ≡ true → size_of p class ≡ n → fits_class p Instance class n ≡ true
   fits_made class n made size = let is = made_is p class made in and_from (is_class p class) _ is.0 (and_from (not (names_interface p class)) _ (not_from_false (names_interface p class) is.1) (eq-eqb n (size_of p class) (sym size)))
 
-  made_due : (index : ℕ) (s : Frames) → AllDue (IsFit p) (instance_made index p s m) m
+  made_due : (index : ℕ) (s : Frames) → (owner_number m.registers.active ≡ 0 → ⊥) → AllDue (IsFit p) (instance_made index p s m) m
   unfolding instance_made
-  made_due index s = due_some (IsFit p) m (if_room s (made_class p s.current.origin.package_number index)) _ (λ class is. due_ok (IsFit p) m s (cells_for (size_of p class)) _ (λ n few.
+  made_due index s other = due_some (IsFit p) m (if_room s (made_class p s.current.origin.package_number index)) _ (λ class is. due_ok (IsFit p) m s (cells_for (size_of p class)) _ (λ n few.
       let made = class_made p s.current.origin.package_number index class (room_for (has_room s.current) (made_class p s.current.origin.package_number index) class is) in
       let size = cells_in (size_of p class) n (nat_lt (size_of p class) 65536) refl _ few in
-      new_due p m _ s refl (record { there = fits_made class n made size.0; known = active_known p m sound steady; small = λ instance. subst (λ x. x < 65536) size.0 size.1 })))
+      new_due p m _ s refl (record { there = fits_made class n made size.0; known = active_known p m sound steady; small = λ instance. subst (λ x. x < 65536) size.0 size.1; environments = λ instance zero. absurd (other zero) })))
 
 checked_due : (type : TestedType) (p : Packages) (s : Frames) (m : MemoryState) → AllDue (IsFit p) (checked type p s m) m
 unfolding checked
@@ -81,4 +82,4 @@ unfolding examined
 examined_due type p s m = due_some (IsFit p) m (reference_on s.current.stack) _ (λ top taken. due_some (IsFit p) m (own_type type p s) _ (λ t named. due_ok (IsFit p) m s (tested false t p m top.0) _ (λ answer is. tt)))
 
 pub objects_are_fit : ObjectsFit
-objects_are_fit = record { made = λ index p s m known sound steady. made_due p m known sound steady index s; checked = checked_due; examined = examined_due }
+objects_are_fit = record { made = λ index p s m known sound steady other. made_due p m known sound steady index s other; checked = checked_due; examined = examined_due }
