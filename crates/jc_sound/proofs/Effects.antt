@@ -295,7 +295,7 @@ effect_kept p (Fills r i values) m fits s = again p m _ m.command m.sent s
 effect_kept p (Flags r flag) m fits s = again p m _ m.command m.sent s
 effect_kept p (Clears event) m fits s = again p m _ m.command m.sent s
 effect_kept p Buries m fits s = again p m _ m.command m.sent s
-effect_kept p (Turns registers) m fits s = turned_kept p m s registers fits
+effect_kept p (Turns registers) m fits s = turned_kept p m s registers (record { active = fits.active; leaves = fits.leaves; home = fits.home; selected = fits.selected })
 effect_kept p (Starts bytes) m fits s = again p m m.ram bytes [] s
 effect_kept p (Sends bytes) m fits s = again p m m.ram m.command (m.sent ++ bytes) s
 

@@ -1,5 +1,5 @@
 -- A memory after one change of its heap, or after a step of its transaction.
-use Rattle.std.proofs.Common.{◌≡◌, ℕ, ◌+◌, ◌<◌, ◌≤◌, ◌&&◌, Bool, true, false, inl, inr, List, length, refl, sym, ◌∙◌, ap, subst, arith, if◌then◌else◌, nat_lt, nat_le}
+use Rattle.std.proofs.Common.{◌≡◌, ℕ, ◌+◌, ◌<◌, ◌≤◌, ◌&&◌, Bool, true, false, inl, inr, List, length, refl, sym, ◌∙◌, ap, subst, arith, Some, if◌then◌else◌, nat_lt, nat_le}
 use Rattle.std.proofs.lemmas.Bool.{and_from, and_parts, cases_Bool, le-leb, leb-true}
 use Rattle.jc_words.specs.Layout.{registry_length}
 use Rattle.jc_transient.specs.State.{RamState}
@@ -17,9 +17,15 @@ use Rattle.jc_memory.specs.State.{MemoryState, Changes, Turns, effected}
 use Rattle.jc_packages.specs.Values.{Packages}
 use Rattle.jc_card_checks.specs.Objects.{is_kept}
 use Rattle.jc_sound.specs.State.{IsSoundMemory, IsSoundUpTo, is_applet, is_home, is_open, is_owner_up_to, last_own, most_in, most_new, most_owner}
-use Rattle.jc_sound.specs.Fit.{FitsTurn}
 use Rattle.jc_sound.proofs.Kept.{more_owners, owner_more, owner_same}
 use Rattle.jc_sound.proofs.Frames.{Frames}
+
+-- registers that suit a memory; an installation may begin with them
+pub record IsTurned (m : MemoryState) (g : Registers) : Type 0 where
+  pub active : is_owner_up_to (most_in g m) m.heap.now (owner_number g.active) ≡ true
+  pub leaves : is_open m.registers.installation ≡ true → is_open g.installation ≡ false → m.heap.begun ≡ false
+  pub home : is_home m.heap.now g.installation ≡ true
+  pub selected : (a : AppletNumber) → g.selected ≡ Some a → is_applet m.heap.durable a ≡ true
 
 -- what is so of the heap that a change leaves durable
 pub choose : {X : Type 0} (P : X → Type 0) (b : Bool) (x y : X) → (b ≡ true → P x) → (b ≡ false → P y) → P (if b then x else y)
@@ -208,7 +214,7 @@ module _ (p : Packages) (m : MemoryState) (s : IsSoundMemory p m) where
   }
 
   -- the registers are set
-  module _ (g : Registers) (fits : FitsTurn m g) where
+  module _ (g : Registers) (fits : IsTurned m g) where
     turned_counts : is_open g.installation ≡ false → now.counts ≡ durable.counts
     turned_counts closed = elim (cases_Bool (is_open m.registers.installation)) [
       | inl opened ↦ ap (λ h. h.counts) (s.settled (fits.leaves opened closed))

@@ -159,13 +159,14 @@ FitsMove p Begin m = m.heap.begun ≡ false
 FitsMove p Commit m = is_open m.registers.installation ≡ true → m.heap.now.counts.1 ≡ m.heap.durable.counts.1 + 1
 FitsMove p Abort m = Unit {0}
 
--- the registers are set: code runs for an owner that is there, an installation is of a package that is there, and it is left only with
--- no transaction open; an applet that is selected is there
+-- the registers are set: code runs for an owner that is there, an applet that is selected is there, and an installation, which is of a
+-- package that is there, is left only with no transaction open; none begins
 pub record FitsTurn (m : MemoryState) (g : Registers) : Type 0 where
   pub active : is_owner_up_to (most_in g m) m.heap.now (owner_number g.active) ≡ true
   pub leaves : is_open m.registers.installation ≡ true → is_open g.installation ≡ false → m.heap.begun ≡ false
   pub home : is_home m.heap.now g.installation ≡ true
   pub selected : (a : AppletNumber) → g.selected ≡ Some a → is_applet m.heap.durable a ≡ true
+  pub opens : is_open g.installation ≡ true → is_open m.registers.installation ≡ true
 
 -- an effect leaves a memory sound: what it sets fits
 abbrev pub IsFit : Packages → Effect → MemoryState → Type 0
