@@ -142,6 +142,7 @@ module _ (keeps : KeepsSound) (p : Packages) (m : MemoryState) (known : KnowsCla
         there = and_from (is_class p aid_class) _ one.0 (and_from (not (names_interface p aid_class)) _ two.0 (eq-eqb 9 (size_of p aid_class) (sym (known.platform.exact Aid refl))));
         known = refl;
         small = λ is. omega arith;
+        environments = λ is zero. (Aid, refl, refl);
       }
 
   no_pin : is_a p aid_class OwnerPin ≡ false
@@ -302,12 +303,15 @@ module _ (keeps : KeepsSound) (p : Packages) (m : MemoryState) (known : KnowsCla
       abbrev fifth : MemoryState
       fifth = effected (Changes Commit) fourth
 
+      fifth_sound : IsSoundMemory p fifth
+      fifth_sound = keeps p (Changes Commit) fourth (λ on. one_more) fourth_sound
+
       known_fourth : is_owner_up_to fourth.heap.now.counts.1 fourth.heap.now (owner_number m.registers.active) ≡ true
       known_fourth =
           subst (λ n. is_owner_up_to n fourth.heap.now (owner_number m.registers.active) ≡ true) (cond-true (is_open m.registers.installation) (fourth.heap.durable.counts.1 + 1) fourth.heap.now.counts.1 open_now ∙ sym one_more) fourth_sound.active
 
       turn_registered : FitsTurn fifth (with_installation fourth (Registered k))
-      turn_registered = record { active = known_fourth; leaves = λ one none. refl; home = refl }
+      turn_registered = record { active = known_fourth; leaves = λ one none. refl; home = refl; selected = λ a is. fifth_sound.selected a is }
 
       all_fit : IsFit p (Changes (SetPlaces (applet_changes third.heap.now entry))) third × (IsFit p (Changes Commit) fourth × FitsTurn fifth (with_installation fourth (Registered k)))
       all_fit = (OfRegistry registers_fit, (λ on. one_more, turn_registered))

@@ -153,7 +153,7 @@ module _ (keeps : KeepsSound) (p : Packages) where
       let same = same_registers (facts m.heap.now buffer).event buffer 5 (data_of m.command) m in
       let fits = bytes_fit p m buffer 5 (data_of m.command) (buffer_kind m buffer there) in
       call_unless (IsFit p) m (no_room_for_run m buffer 5 (data_of m.command)) _
-      (fits, (turn_fits p _ (keeps p (sets_run m buffer 5 (data_of m.command)) m fits sound) _ (ap (λ g. g.active) (sym same)) (ap (λ g. g.installation) (sym same)), tt)))
+      (fits, (turn_fits p _ (keeps p (sets_run m buffer 5 (data_of m.command)) m fits sound) _ (ap (λ g. g.active) (sym same)) (ap (λ g. g.installation) (sym same)) (ap (λ g. g.selected) (sym same)), tt)))
   received_in_due m sound Received = tt
   received_in_due m sound Outgoing = tt
   received_in_due m sound (Sending left) = tt
@@ -172,8 +172,8 @@ module _ (keeps : KeepsSound) (p : Packages) where
   received_more_due m (Sending left) = tt
 
   outgoing_in_due : (m : MemoryState) → IsSoundMemory p m → (phase : ApduPhase) → AllDue (IsFit p) (outgoing_in m phase) m
-  outgoing_in_due m sound Waiting = (turn_fits p m sound _ refl refl, tt)
-  outgoing_in_due m sound Received = (turn_fits p m sound _ refl refl, tt)
+  outgoing_in_due m sound Waiting = (turn_fits p m sound _ refl refl refl, tt)
+  outgoing_in_due m sound Received = (turn_fits p m sound _ refl refl refl, tt)
   outgoing_in_due m sound Outgoing = tt
   outgoing_in_due m sound (Sending left) = tt
 
@@ -184,7 +184,7 @@ module _ (keeps : KeepsSound) (p : Packages) where
   length_in_due : (m : MemoryState) → IsSoundMemory p m → (phase : ApduPhase) (count : ℤ) → AllDue (IsFit p) (length_set_in m phase count) m
   length_in_due m sound Waiting count = tt
   length_in_due m sound Received count = tt
-  length_in_due m sound Outgoing count = call_ok (IsFit p) m (length_of count) _ (λ n is. (turn_fits p m sound _ refl refl, tt))
+  length_in_due m sound Outgoing count = call_ok (IsFit p) m (length_of count) _ (λ n is. (turn_fits p m sound _ refl refl refl, tt))
   length_in_due m sound (Sending left) count = tt
 
   pub length_due : (m : MemoryState) → IsSoundMemory p m → (count : ℤ) → AllDue (IsFit p) (length_set count m) m
@@ -196,7 +196,7 @@ module _ (keeps : KeepsSound) (p : Packages) where
   sent_in_due m sound Received start count = tt
   sent_in_due m sound Outgoing start count = tt
   sent_in_due m sound (Sending left) start count = call_ok (IsFit p) m (piece_of m left start count) _ (λ piece is. call_some (IsFit p) m (buffer_of m) _ (λ buffer there.
-      (tt, (turn_fits p _ (keeps p (Sends (bytes_at m buffer piece.start piece.count)) m tt sound) _ refl refl, tt))))
+      (tt, (turn_fits p _ (keeps p (Sends (bytes_at m buffer piece.start piece.count)) m tt sound) _ refl refl refl, tt))))
 
   pub sent_due : (m : MemoryState) → IsSoundMemory p m → (start count : ℤ) → AllDue (IsFit p) (bytes_sent start count m) m
   unfolding bytes_sent

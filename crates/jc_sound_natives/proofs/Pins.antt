@@ -169,7 +169,7 @@ module _ (p : Packages) (m : MemoryState) (sound : IsSoundMemory p m) (steady : 
   unfolding started array with_array
   started_due = due_if (IsFit p) m (not (has_space m maximum)) _ _ (λ on. tt) (λ off. due_if (IsFit p) m (lacks_room m 6) _ _ (λ on. tt) (λ off.
       new_kept {A = Result (Unit {0}) PinRefusal} p (value_array m maximum) (λ value. Then (Changes (SetPlaces (first_record r limit maximum value))) (Then (Flags r false) (Gives (Ok tt)))) m
-      (record { there = refl; known = active_known p m sound steady; small = λ is. absurd (true≢false (sym is)) }) refl (λ value new. (
+      (record { there = refl; known = active_known p m sound steady; small = λ is. absurd (true≢false (sym is)); environments = λ is zero. absurd (true≢false (sym is)) }) refl (λ value new. (
         OfPin (record {
           pin = r;
           limit = limit;

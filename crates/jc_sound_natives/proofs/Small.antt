@@ -92,15 +92,15 @@ thrown_due p m of args = call_some (IsFit p) m (short_argument args 0) _ (λ rea
 module _ (keeps : KeepsSound) (p : Packages) (m : MemoryState) (sound : IsSoundMemory p m) where
   pub begun_due : (depth : Depth) → AllDue (IsFit p) (begun_at depth m) m
   begun_due Inside = tt
-  begun_due Outside = due_if (IsFit p) m m.heap.begun _ _ (λ on. (turn_fits p m sound _ refl refl, tt)) (λ off. (off, (turn_fits p _ (keeps p (Changes Begin) m off sound) _ refl refl, tt)))
+  begun_due Outside = due_if (IsFit p) m m.heap.begun _ _ (λ on. (turn_fits p m sound _ refl refl refl, tt)) (λ off. (off, (turn_fits p _ (keeps p (Changes Begin) m off sound) _ refl refl refl, tt)))
 
   closed : (installation : Installation) → m.registers.installation ≡ installation → is_open installation ≡ false → IsFit p (Changes Commit) m
   closed installation is off = λ on. absurd (both_ways (is_open installation) off (ap is_open (sym is) ∙ on))
 
   committed_in_due : (installation : Installation) → m.registers.installation ≡ installation → AllDue (IsFit p) (committed_in installation m) m
-  committed_in_due (Open home entry) is = (turn_fits p m sound _ refl refl, tt)
-  committed_in_due Idle is = due_if (IsFit p) m m.heap.begun _ _ (λ on. (closed Idle is refl, (turn_fits p _ (keeps p (Changes Commit) m (closed Idle is refl) sound) _ refl refl, tt))) (λ off. (turn_fits p m sound _ refl refl, tt))
-  committed_in_due (Registered home) is = due_if (IsFit p) m m.heap.begun _ _ (λ on. (closed (Registered home) is refl, (turn_fits p _ (keeps p (Changes Commit) m (closed (Registered home) is refl) sound) _ refl refl, tt))) (λ off. (turn_fits p m sound _ refl refl, tt))
+  committed_in_due (Open home entry) is = (turn_fits p m sound _ refl refl refl, tt)
+  committed_in_due Idle is = due_if (IsFit p) m m.heap.begun _ _ (λ on. (closed Idle is refl, (turn_fits p _ (keeps p (Changes Commit) m (closed Idle is refl) sound) _ refl refl refl, tt))) (λ off. (turn_fits p m sound _ refl refl refl, tt))
+  committed_in_due (Registered home) is = due_if (IsFit p) m m.heap.begun _ _ (λ on. (closed (Registered home) is refl, (turn_fits p _ (keeps p (Changes Commit) m (closed (Registered home) is refl) sound) _ refl refl refl, tt))) (λ off. (turn_fits p m sound _ refl refl refl, tt))
 
   pub committed_due : (depth : Depth) → AllDue (IsFit p) (committed_at depth m) m
   committed_due Outside = tt
@@ -114,8 +114,8 @@ module _ (keeps : KeepsSound) (p : Packages) (m : MemoryState) (sound : IsSoundM
   pub aborted_due : (depth : Depth) → AllDue (IsFit p) (aborted_at depth m) m
   aborted_due Outside = tt
   aborted_due Inside = due_if (IsFit p) m m.heap.begun _ _
-      (λ on. (tt, (tt, (turn_fits p _ (keeps p Buries _ tt (keeps p (Changes Abort) m tt sound)) _ refl refl, after_abort_due m.registers.installation _))))
-      (λ off. (turn_fits p m sound _ refl refl, after_abort_due m.registers.installation _))
+      (λ on. (tt, (tt, (turn_fits p _ (keeps p Buries _ tt (keeps p (Changes Abort) m tt sound)) _ refl refl refl, after_abort_due m.registers.installation _))))
+      (λ off. (turn_fits p m sound _ refl refl refl, after_abort_due m.registers.installation _))
 
 -- JCSystem's look-ups
 module _ (p : Packages) (m : MemoryState) where
@@ -183,6 +183,7 @@ module _ (p : Packages) (m : MemoryState) (known : KnowsClasses p) (sound : IsSo
     there = subst (λ k. fits_class p k o.class o.length ≡ true) (sym is.kind_is) (subst (λ c. fits_class p kind c o.length ≡ true) (sym is.class) (fits_for kind o.length none));
     known = subst (λ a. is_owner_up_to (most_new m) m.heap.now (owner_number a) ≡ true) (sym is.owner) (active_known p m sound steady);
     small = λ instance. absurd (both_ways (is_instance kind) none (ap is_instance (sym is.kind_is) ∙ instance));
+    environments = λ instance zero. absurd (both_ways (is_instance kind) none (ap is_instance (sym is.kind_is) ∙ instance));
   }
 
   pub transient_due : (kind : Kind) (args : List frames.Cell) → is_instance kind ≡ false → AllDue (IsFit p) (array_made kind args p m) m

@@ -21,8 +21,8 @@ module _ (keeps : KeepsSound) (p : Packages) where
   sound_each (Picks choose) m due sound = λ r new. sound_each (choose r) m (due r new) sound
   sound_each (Or x y) m due sound = (sound_each x m due.0 sound, sound_each y m due.1 sound)
 
--- registers that tell of the same owner and the same installation
-module _ (p : Packages) (m : MemoryState) (sound : IsSoundMemory p m) (g : Registers) (active : g.active ≡ m.registers.active) (installation : g.installation ≡ m.registers.installation) where
+-- registers that tell of the same owner, the same installation and the same selected applet
+module _ (p : Packages) (m : MemoryState) (sound : IsSoundMemory p m) (g : Registers) (active : g.active ≡ m.registers.active) (installation : g.installation ≡ m.registers.installation) (selected : g.selected ≡ m.registers.selected) where
   known_for : (i : Installation) → m.registers.installation ≡ i → is_owner_up_to (if is_open i then m.heap.durable.counts.1 + 1 else m.heap.now.counts.1) m.heap.now (owner_number g.active) ≡ true
   known_for i is = subst (λ x. is_owner_up_to (if is_open x then m.heap.durable.counts.1 + 1 else m.heap.now.counts.1) m.heap.now (owner_number g.active) ≡ true) is
       (subst (λ o. is_owner_up_to (if is_open m.registers.installation then m.heap.durable.counts.1 + 1 else m.heap.now.counts.1) m.heap.now (owner_number o) ≡ true) (sym active) sound.active)
@@ -32,6 +32,7 @@ module _ (p : Packages) (m : MemoryState) (sound : IsSoundMemory p m) (g : Regis
     active = known_for g.installation (sym installation);
     leaves = λ one other. absurd (both_ways (is_open g.installation) other (ap is_open installation ∙ one));
     home = subst (λ i. is_home m.heap.now i ≡ true) (sym installation) sound.home;
+    selected = λ a is. sound.selected a (sym selected ∙ is);
   }
 
 -- a run of cells that is set leaves the registers
