@@ -1,5 +1,5 @@
 -- Calls.
-use Rattle.std.proofs.Common.{◌≡◌, true, List, Option, Some, None, refl, subst, ℕ}
+use Rattle.std.proofs.Common.{◌≡◌, true, List, Option, Some, None, refl, ap, subst, ℕ}
 use Rattle.jc_memory.specs.declared.registers.Owner.{Owner}
 use Rattle.jc_memory.specs.declared.registers.Owner.TheVariants.{Applet}
 use Rattle.jc_memory.specs.Cells.{header_at}
@@ -38,7 +38,7 @@ module _ (p : Packages) (m : MemoryState) (methods : KnowsMethods p) (sound : Is
   -- an owner that a call switches to, if there is one, is known
   pub switching_due : (owner : Option Owner) (next : Next Frames) → ((o : Owner) → owner ≡ Some o → is_owner_up_to (most_owner m) m.heap.now (owner_number o) ≡ true) → AllDue (IsFit p) (switching owner m.registers next) m
   switching_due None next known = tt
-  switching_due (Some owner) (Goes s) known = (turn_known p m methods sound (switched (Some owner) m.registers) refl (known owner refl), tt)
+  switching_due (Some owner) (Goes s) known = (turn_known p m methods sound (switched (Some owner) m.registers) refl refl (known owner refl), tt)
   switching_due (Some owner) (Throws e s) known = tt
   switching_due (Some owner) (Ends o) known = tt
 
@@ -57,9 +57,9 @@ module _ (p : Packages) (m : MemoryState) (methods : KnowsMethods p) (sound : Is
 pub calls_are_fit : CallsFit
 calls_are_fit = record {
   natively = λ i c method args p s m known aids methods machine home chose is are.
-      natives_are_fit method args p m known aids machine.sound machine.steady (is_receiver p m methods machine.sound s.current.stack args c method (chosen_fit p m s known methods machine.sound machine.own (machine.code home) i c chose) is are);
+      natives_are_fit method args p m known aids machine.sound machine.steady (is_receiver p m methods machine.sound s.current.stack args c method (chosen_fit p m s known methods machine.sound machine.environment.now.first (λ runs. machine.code home (ap owner_number runs)) i c chose) is are);
   entered = λ i c number offset place p s m known aids methods machine home chose is.
-      entering_due p m methods machine.sound _ _ s (chosen_fit p m s known methods machine.sound machine.own (machine.code home) i c chose).switches;
+      entering_due p m methods machine.sound _ _ s (chosen_fit p m s known methods machine.sound machine.environment.now.first (λ runs. machine.code home (ap owner_number runs)) i c chose).switches;
 }
 
 module _ (p : Packages) (m : MemoryState) (methods : KnowsMethods p) (sound : IsSoundMemory p m) (asked : Asked) (known : is_owner_up_to (most_owner m) m.heap.now asked.owner.0 ≡ true) where

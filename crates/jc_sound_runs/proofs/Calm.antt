@@ -89,7 +89,7 @@ same_known most h g n same known = subst (λ l. is_owner_up_to most (record h { 
 still_known : (m v : MemoryState) (callers : List Caller) → Stays m v → KnowOwners callers m → KnowOwners callers v
 still_known m v [] s known = tt
 still_known m v (c ∷ callers) s known =
-    (same_known (most_owner v) m.heap.now v.heap.now c.resume.active s.now.packages (subst (λ n. is_owner_up_to n m.heap.now c.resume.active ≡ true) (sym (same_most m v s)) known.0), still_known m v callers s known.1)
+    (same_known (most_owner v) m.heap.now v.heap.now c.resume.active s.now.packages (subst (λ n. is_owner_up_to n m.heap.now c.resume.active ≡ true) (sym (same_most m v s)) known.0), known.1, still_known m v callers s known.2)
 
 pub calm_stays : CalmStays
 calm_stays = record {

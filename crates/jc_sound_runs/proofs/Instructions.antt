@@ -1,6 +1,7 @@
 -- Instructions that call no method.
-use Rattle.std.proofs.Common.{ℕ}
-use Rattle.std.proofs.lemmas.Bool.{true≢false}
+use Rattle.std.proofs.Common.{◌≡◌, ℕ, false}
+use Rattle.std.proofs.lemmas.Bool.{not-true, true≢false}
+use Rattle.std.specs.Prelude.{◌==◌}
 use Rattle.jc_memory.specs.State.{MemoryState}
 use Rattle.jc_memory.specs.Reading.{AllDue}
 use Rattle.jc_packages.specs.Values.{Packages}
@@ -19,22 +20,22 @@ use Rattle.jc_sound_runs.specs.Methods.{KnowsMethods}
 use Rattle.jc_sound_runs.specs.Steps.{InstructionsFit}
 use Rattle.jc_sound_runs.proofs.Leaves.{leaves_are_fit}
 
-operated_due : (o : Object) (place : ℕ) (p : Packages) (s : Frames) (m : MemoryState) → KnowsClasses p → KnowsMethods p → IsSoundMachine p s m → AllDue (IsFit p) (operated o place p s m) m
-operated_due (New index) place p s m known methods machine = objects_are_fit.made index p s m known machine.sound machine.steady
-operated_due Throw place p s m known methods machine = leaves_are_fit.throws place p s m methods machine.sound machine.callers
-operated_due (CheckCast type) place p s m known methods machine = objects_are_fit.checked type p s m
-operated_due (InstanceOf type) place p s m known methods machine = objects_are_fit.examined type p s m
+operated_due : (o : Object) (place : ℕ) (p : Packages) (s : Frames) (m : MemoryState) → KnowsClasses p → KnowsMethods p → IsSoundMachine p s m → s.current.origin.package_number == 0 ≡ false → AllDue (IsFit p) (operated o place p s m) m
+operated_due (New index) place p s m known methods machine home = objects_are_fit.made index p s m known machine.sound machine.steady (machine.code home)
+operated_due Throw place p s m known methods machine home = leaves_are_fit.throws place p s m methods machine.sound machine.callers
+operated_due (CheckCast type) place p s m known methods machine home = objects_are_fit.checked type p s m
+operated_due (InstanceOf type) place p s m known methods machine home = objects_are_fit.examined type p s m
 
 pub instructions_are_fit : InstructionsFit
 unfolding executed
-instructions_are_fit Nop code place p s m known methods machine no_call = tt
-instructions_are_fit (Push constant) code place p s m known methods machine no_call = tt
-instructions_are_fit (Access local) code place p s m known methods machine no_call = tt
-instructions_are_fit (Arrange stack) code place p s m known methods machine no_call = tt
-instructions_are_fit (Compute arithmetic) code place p s m known methods machine no_call = tt
-instructions_are_fit (Jump branch) code place p s m known methods machine no_call = tt
-instructions_are_fit (Leave how) code place p s m known methods machine no_call = leaves_are_fit.returns how p s m methods machine.sound machine.callers
-instructions_are_fit (Reach field) code place p s m known methods machine no_call = fields_are_fit field p s m known machine.sound
-instructions_are_fit (Index operation) code place p s m known methods machine no_call = arrays_are_fit operation p s m known machine.sound machine.steady
-instructions_are_fit (Operate operation) code place p s m known methods machine no_call = operated_due operation place p s m known methods machine
-instructions_are_fit (Call method) code place p s m known methods machine no_call = absurd (true≢false no_call)
+instructions_are_fit Nop code place p s m known methods machine no_call plain = tt
+instructions_are_fit (Push constant) code place p s m known methods machine no_call plain = tt
+instructions_are_fit (Access local) code place p s m known methods machine no_call plain = tt
+instructions_are_fit (Arrange stack) code place p s m known methods machine no_call plain = tt
+instructions_are_fit (Compute arithmetic) code place p s m known methods machine no_call plain = tt
+instructions_are_fit (Jump branch) code place p s m known methods machine no_call plain = tt
+instructions_are_fit (Leave how) code place p s m known methods machine no_call plain = leaves_are_fit.returns how p s m methods machine.sound machine.callers
+instructions_are_fit (Reach field) code place p s m known methods machine no_call plain = fields_are_fit field p s m known machine.sound
+instructions_are_fit (Index operation) code place p s m known methods machine no_call plain = arrays_are_fit operation p s m known machine.sound machine.steady
+instructions_are_fit (Operate operation) code place p s m known methods machine no_call plain = operated_due operation place p s m known methods machine (not-true (s.current.origin.package_number == 0) plain)
+instructions_are_fit (Call method) code place p s m known methods machine no_call plain = absurd (true≢false no_call)

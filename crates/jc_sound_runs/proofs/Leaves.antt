@@ -38,7 +38,7 @@ use Rattle.jc_sound_runs.proofs.Owners.{known_again, turn_known}
 
 module _ (p : Packages) (methods : KnowsMethods p) where
   back_fits : (resume : Resume) (m : MemoryState) → IsSoundMemory p m → is_owner_up_to (most_owner m) m.heap.now resume.active ≡ true → FitsTurn m (back_to resume m.registers)
-  back_fits resume m sound known = turn_known p m methods sound (back_to resume m.registers) refl (known_again p m methods sound resume.active known)
+  back_fits resume m sound known = turn_known p m methods sound (back_to resume m.registers) refl refl (known_again p m methods sound resume.active known)
 
   come_back_due : (value : Option Cell) (callers : List Caller) (m : MemoryState) → IsSoundMemory p m → KnowOwners callers m → AllDue (IsFit p) (come_back value (left_to callers) m) m
   come_back_due value [] m sound known = tt
@@ -60,7 +60,7 @@ module _ (p : Packages) (methods : KnowsMethods p) where
   -- an owner that is known stays so as the registers turn back
   still_known : (resume : Resume) (callers : List Caller) (m : MemoryState) → KnowOwners callers m → KnowOwners callers (effected (Turns (back_to resume m.registers)) m)
   still_known resume [] m known = tt
-  still_known resume (c ∷ callers) m known = (known.0, still_known resume callers m known.1)
+  still_known resume (c ∷ callers) m known = (known.0, known.1, still_known resume callers m known.2)
 
   passed_due : (class r : ℕ) (callers : List Caller) (m : MemoryState) → IsSoundMemory p m → KnowOwners callers m → AllDue (IsFit p) (passed_on p class r callers m) m
   passed_due class r [] m sound known = tt
@@ -68,7 +68,7 @@ module _ (p : Packages) (methods : KnowsMethods p) where
       let fits : FitsTurn m (back_to c.resume m.registers) = back_fits c.resume m sound known.0 in (
         fits,
         passed_in _ c.resume.call _ _ (caught_due _ (caught_in p class c.frame.origin c.resume.place) _ _ (λ target. tt)
-            (passed_due class r callers _ (keeps_sound p (Turns (back_to c.resume m.registers)) m fits sound) (still_known c.resume callers m known.1))),
+            (passed_due class r callers _ (keeps_sound p (Turns (back_to c.resume m.registers)) m fits sound) (still_known c.resume callers m known.2))),
       )
 
   unwound_due : (class r place : ℕ) (s : Frames) (m : MemoryState) → IsSoundMemory p m → KnowOwners s.callers m → AllDue (IsFit p) (unwound p class r place s m) m
@@ -86,7 +86,7 @@ module _ (p : Packages) (methods : KnowsMethods p) where
 
   filled_known : (r : ℕ) (v : ℤ) (callers : List Caller) (m : MemoryState) → KnowOwners callers m → KnowOwners callers (effected (Fills r 0 (Short v ∷ [])) m)
   filled_known r v [] m known = tt
-  filled_known r v (c ∷ callers) m known = (known.0, filled_known r v callers m known.1)
+  filled_known r v (c ∷ callers) m known = (known.0, known.1, filled_known r v callers m known.2)
 
   reason_due : (m : MemoryState) (reason : Option ℤ) (r place : ℕ) (s : Frames) → IsSoundMemory p m → KnowOwners s.callers m → AllDue (IsFit p) (with_reason reason r place p s m) m
   reason_due m None r place s sound known = unwinding_due r place s m sound known

@@ -57,12 +57,13 @@ module _ (p : Packages) (m : MemoryState) (methods : KnowsMethods p) (sound : Is
   pub known_again : (n : ℕ) → is_owner_up_to (most_owner m) m.heap.now n ≡ true → is_owner_up_to (most_owner m) m.heap.now (owner_number (owner_of n)) ≡ true
   known_again n known = subst (λ k. is_owner_up_to (most_owner m) m.heap.now k ≡ true) (sym (again n (small_of (most_owner m) m.heap.now n few_applets few_packages known))) known
 
-  -- registers of the same installation, for an owner that is known
-  pub turn_known : (g : Registers) → g.installation ≡ m.registers.installation → is_owner_up_to (most_owner m) m.heap.now (owner_number g.active) ≡ true → FitsTurn m g
-  turn_known g same known = record {
+  -- registers of the same installation and the same selected applet, for an owner that is known
+  pub turn_known : (g : Registers) → g.installation ≡ m.registers.installation → g.selected ≡ m.registers.selected → is_owner_up_to (most_owner m) m.heap.now (owner_number g.active) ≡ true → FitsTurn m g
+  turn_known g same selected known = record {
     active = subst (λ i. is_owner_up_to (if is_open i then m.heap.durable.counts.1 + 1 else m.heap.now.counts.1) m.heap.now (owner_number g.active) ≡ true) (sym same) known;
     leaves = λ one other. absurd (both_ways (is_open g.installation) other (ap is_open same ∙ one));
     home = subst (λ i. is_home m.heap.now i ≡ true) (sym same) sound.home;
+    selected = λ a is. sound.selected a (sym selected ∙ is);
   }
 
   -- the owner of an object is known

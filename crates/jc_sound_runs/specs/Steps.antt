@@ -1,5 +1,5 @@
 -- Instructions, calls, returns and exceptions leave a memory sound.
-use Rattle.std.specs.Prelude.{ℕ, ◌≡◌, ◌==◌, Bool, true, false, List, Some, Ok}
+use Rattle.std.specs.Prelude.{ℕ, ◌≡◌, ◌==◌, ◌||◌, not, Bool, true, false, List, Some, Ok}
 use Rattle.jc_opcodes.specs.declared.instr.Instr.{Instr}
 use Rattle.jc_opcodes.specs.declared.instr.Instr.TheVariants as instr
 use Rattle.jc_opcodes.specs.declared.instr.Invoke.{Invoke}
@@ -22,7 +22,7 @@ use Rattle.jc_interp_calls.specs.Choosing.{chosen}
 use Rattle.jc_interp_calls.specs.Entering.{entering}
 use Rattle.jc_interp_calls.specs.Returning.{returning}
 use Rattle.jc_interp_calls.specs.Throwing.{throwing, thrown}
-use Rattle.jc_interp.specs.Stepping.{executed}
+use Rattle.jc_interp.specs.Stepping.{executed, is_plain}
 use Rattle.jc_world.specs.declared.answer.Asked.{Asked}
 use Rattle.jc_sound.specs.Classes.{HasAids, KnowsClasses}
 use Rattle.jc_sound.specs.Fit.{IsFit}
@@ -58,6 +58,8 @@ abbrev pub calls : Instr → Bool
 calls (instr.Call method) = true
 calls i = false
 
--- in a sound machine each effect of an instruction that calls no method fits
+-- in a sound machine each effect of an instruction that calls no method fits: of any in a package's method, and of a plain one in code
+-- that was lent
 abbrev pub InstructionsFit : Type 0
-InstructionsFit = (i : Instr) (code : List ℕ) (place : ℕ) (p : Packages) (s : Frames) (m : MemoryState) → KnowsClasses p → KnowsMethods p → IsSoundMachine p s m → calls i ≡ false → AllDue (IsFit p) (executed i code place p s m) m
+InstructionsFit = (i : Instr) (code : List ℕ) (place : ℕ) (p : Packages) (s : Frames) (m : MemoryState) → KnowsClasses p → KnowsMethods p → IsSoundMachine p s m → calls i ≡ false →
+    (is_plain i || not (s.current.origin.package_number == 0)) ≡ true → AllDue (IsFit p) (executed i code place p s m) m

@@ -18,7 +18,8 @@ pub fn asks_fit()
     ensures { AsksFit }
 {}
 
-/// A law of the definitions: in a sound machine each effect of an instruction that calls no method fits.
+/// A law of the definitions: in a sound machine each effect of an instruction that calls no method fits, of any in a package's
+/// method, and of a plain one in code that was lent.
 pub fn instructions_fit()
     ensures { InstructionsFit }
 {}
