@@ -311,7 +311,7 @@ module _ (keeps : KeepsSound) (p : Packages) (m : MemoryState) (known : KnowsCla
           subst (λ n. is_owner_up_to n fourth.heap.now (owner_number m.registers.active) ≡ true) (cond-true (is_open m.registers.installation) (fourth.heap.durable.counts.1 + 1) fourth.heap.now.counts.1 open_now ∙ sym one_more) fourth_sound.active
 
       turn_registered : FitsTurn fifth (with_installation fourth (Registered k))
-      turn_registered = record { active = known_fourth; leaves = λ one none. refl; home = refl; selected = λ a is. fifth_sound.selected a is }
+      turn_registered = record { active = known_fourth; leaves = λ one none. refl; home = refl; selected = λ a is. fifth_sound.selected a is; opens = λ on. absurd (true≢false (sym on)) }
 
       all_fit : IsFit p (Changes (SetPlaces (applet_changes third.heap.now entry))) third × (IsFit p (Changes Commit) fourth × FitsTurn fifth (with_installation fourth (Registered k)))
       all_fit = (OfRegistry registers_fit, (λ on. one_more, turn_registered))

@@ -33,6 +33,7 @@ module _ (p : Packages) (m : MemoryState) (sound : IsSoundMemory p m) (g : Regis
     leaves = λ one other. absurd (both_ways (is_open g.installation) other (ap is_open installation ∙ one));
     home = subst (λ i. is_home m.heap.now i ≡ true) (sym installation) sound.home;
     selected = λ a is. sound.selected a (sym selected ∙ is);
+    opens = λ on. ap is_open (sym installation) ∙ on;
   }
 
 -- a run of cells that is set leaves the registers

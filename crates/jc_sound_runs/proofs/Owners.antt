@@ -64,6 +64,7 @@ module _ (p : Packages) (m : MemoryState) (methods : KnowsMethods p) (sound : Is
     leaves = λ one other. absurd (both_ways (is_open g.installation) other (ap is_open same ∙ one));
     home = subst (λ i. is_home m.heap.now i ≡ true) (sym same) sound.home;
     selected = λ a is. sound.selected a (sym selected ∙ is);
+    opens = λ on. ap is_open (sym same) ∙ on;
   }
 
   -- the owner of an object is known
