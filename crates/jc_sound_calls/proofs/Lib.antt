@@ -1,0 +1,5 @@
+pub mod Still
+pub mod Util
+pub mod Aids
+pub mod Apdus
+pub mod Pins
