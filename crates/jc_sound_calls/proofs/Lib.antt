@@ -3,3 +3,8 @@ pub mod Util
 pub mod Aids
 pub mod Apdus
 pub mod Pins
+pub mod Leaving
+pub mod System
+pub mod Transactions
+pub mod Register
+pub mod Natives
