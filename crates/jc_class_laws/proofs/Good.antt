@@ -97,7 +97,7 @@ module _ (p : Packages) (q : PackageValue) (closed : IsClosed p) (room : length 
       good_stays c (there_at (IsClosedClass (length p.loaded)) (class_in p w) c was (class_closed p q closed room w)) (good w c was)
 
   -- a class of the package that came in
-  class_last : (w : ℕ) → w / 256 ≡ next_number p → class_in next w ≡ slice_get q.classes (w % 256)
+  pub class_last : (w : ℕ) → w / 256 ≡ next_number p → class_in next w ≡ slice_get q.classes (w % 256)
   unfolding class_in
   class_last w here = ap (λ n. option_and_then (λ r. slice_get r.classes (w % 256)) (package_in next n)) here ∙ ap (option_and_then (λ r. slice_get r.classes (w % 256))) (package_last p q)
 

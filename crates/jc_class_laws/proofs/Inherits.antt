@@ -130,22 +130,30 @@ module _ (p : Packages) (c : Components) (imports : List ℕ) (closed : IsClosed
     fits = inl refl;
   }
 
-  each_more : (at : ℕ) (before : List ℕ) (done : List ClassValue) (rs : List Placed) (text : List ℕ) → AreRecords at before rs text → offsets_of c.classes ≡ before ++ offsets_of rs → length before + length rs ≤ 256 → length before ≡ length done →
-      AllOf (Inherits p number done) done → AllOf (Inherits p number (classes_behind p sketched number done rs)) (classes_behind p sketched number done rs)
+  -- what each class adds to, behind those that stand before it, is so of all
+  each_more : (P : List ClassValue → Type 0) → ((done : List ClassValue) (new : ClassValue) → Inherits p number done new → P done → P (done ++ new ∷ [])) → (at : ℕ) (before : List ℕ) (done : List ClassValue) (rs : List Placed) (text : List ℕ) → AreRecords at before rs text →
+      offsets_of c.classes ≡ before ++ offsets_of rs → length before + length rs ≤ 256 → length before ≡ length done → P done → P (classes_behind p sketched number done rs)
   unfolding classes_behind
-  each_more at before done [] text are all few long each = each
-  each_more at before done (r ∷ rs) text are all few long each =
+  each_more P step at before done [] text are all few long each = each
+  each_more P step at before done (r ∷ rs) text are all few long each =
       let new = class_by_record p sketched number done r.offset r.contents in
       let one : Inherits p number done new = one_more before (offsets_of (r ∷ rs)) done r.offset r.contents are.0 all (omega (arith, few)) long are.3 are.4 in
       let longer = length-append done (new ∷ []) in
       let further = length-append before (at ∷ []) in
-      each_more (at + length are.0) (before ++ at ∷ []) (done ++ new ∷ []) rs are.1 are.6
-      (all ∙ behind before r.offset at (offsets_of rs) are.2) (omega (arith, few, further)) (omega (arith, long, longer, further))
-      (all_behind (Inherits p number (done ++ new ∷ [])) done new (all_more (Inherits p number done) (Inherits p number (done ++ new ∷ [])) (inherits_still p number done new) done each) (inherits_still p number done new new one))
+      each_more P step (at + length are.0) (before ++ at ∷ []) (done ++ new ∷ []) rs are.1 are.6
+      (all ∙ behind before r.offset at (offsets_of rs) are.2) (omega (arith, few, further)) (omega (arith, long, longer, further)) (step done new one each)
     where
       behind : (xs : List ℕ) (x y : ℕ) (ys : List ℕ) → x ≡ y → xs ++ x ∷ ys ≡ (xs ++ y ∷ []) ++ ys
       behind [] x y ys e = ap (λ z. z ∷ ys) e
       behind (w ∷ xs) x y ys e = ap (λ l. w ∷ l) (behind xs x y ys e)
 
+  pub one_by_one : (P : List ClassValue → Type 0) → ((done : List ClassValue) (new : ClassValue) → Inherits p number done new → P done → P (done ++ new ∷ [])) → P [] →
+      (format : Format) (info : List ℕ) → AreClasses format c.classes info → P (classes_behind p sketched number [] c.classes)
+  one_by_one P step none V2_1 info are = each_more P step 0 [] [] c.classes info are.1 refl (let few = are.0 in omega (arith, few)) refl none
+
   pub all_inherit : (format : Format) (info : List ℕ) → AreClasses format c.classes info → AllOf (Inherits p number (classes_behind p sketched number [] c.classes)) (classes_behind p sketched number [] c.classes)
-  all_inherit V2_1 info are = each_more 0 [] [] c.classes info are.1 refl (let few = are.0 in omega (arith, few)) refl tt
+  all_inherit format info are = one_by_one (λ done. AllOf (Inherits p number done) done) further tt format info are
+    where
+      further : (done : List ClassValue) (new : ClassValue) → Inherits p number done new → AllOf (Inherits p number done) done → AllOf (Inherits p number (done ++ new ∷ [])) (done ++ new ∷ [])
+      further done new one each = all_behind (Inherits p number (done ++ new ∷ [])) done new
+          (all_more (Inherits p number done) (Inherits p number (done ++ new ∷ [])) (inherits_still p number done new) done each) (inherits_still p number done new new one)

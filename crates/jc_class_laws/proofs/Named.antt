@@ -20,7 +20,7 @@ use Rattle.jc_linker.specs.declared.components.Components.{Components}
 use Rattle.jc_linker.specs.Linking.{outline_of}
 use Rattle.jc_linked_laws.proofs.Closed.{IsClosed, IsClosedPackage}
 use Rattle.jc_linked_laws.proofs.Entered.{entered, there as some_at}
-use Rattle.jc_linked_laws.proofs.Fields.{any_field, any_foreign, mapped_there, of_entry, some_there}
+use Rattle.jc_linked_laws.proofs.Fields.{any_field, any_foreign, any_super, mapped_there, of_entry, some_there}
 use Rattle.jc_linked_laws.proofs.Laws.{linked_closed}
 use Rattle.jc_linked_laws.proofs.Lists.{IfThere, all_at}
 use Rattle.jc_class_laws.specs.Given.{AreRead, HasByteTokens}
@@ -93,7 +93,7 @@ named_there cs p read number index class is =
       classes = λ c. class_one p read.names read.bytes closed (class_named p number c) (ref_there p read.names read.bytes closed number c);
       fields = any_field p (NamesOne p read.names read.bytes closed) (λ w cell reference. tt);
       virtual = λ w token m. tt;
-      super = λ w m. tt;
+      super = any_super p (NamesOne p read.names read.bytes closed) (λ w m. tt);
       statics = λ n offset. tt;
       own = λ offset. tt;
       foreign = any_foreign p (NamesOne p read.names read.bytes closed) (λ w m. tt);

@@ -29,13 +29,13 @@ use Rattle.jc_linker.specs.declared.components.Components.{Components}
 use Rattle.jc_card_checks.specs.Objects.{is_a}
 use Rattle.jc_linked_laws.specs.Linked.{AreLinked}
 use Rattle.jc_linked_laws.proofs.Entered.{entered}
-use Rattle.jc_linked_laws.proofs.Fields.{any_field, mapped_there, of_entry, some_there}
+use Rattle.jc_linked_laws.proofs.Fields.{any_field, any_super, mapped_there, of_entry, some_there}
 use Rattle.jc_linked_laws.proofs.Lists.{IfThere}
 use Rattle.jc_class_laws.proofs.Tokens.{place_of_method, word_of_class}
 
 -- ---- by token
 
-abbrev native : PlatformMethod → Search Method
+abbrev pub native : PlatformMethod → Search Method
 native m = Found (Native m)
 
 offset_never : (n : ℕ) (o : Option ℕ) (m : PlatformMethod) → by_offset n o ≡ native m → ⊥
@@ -60,16 +60,21 @@ found_native (Some x) m e = ap Some (same e)
     same : native x ≡ native m → x ≡ m
     same is = cc
 
-said_native : (p : Packages) (token : VirtualToken) (w : ℕ) (m : PlatformMethod) (o : Option ClassValue) (other : Option PlatformClass) → class_by_word p.platform w ≡ other → said_by p token w o other ≡ native m → w ≡ class_word p.platform (class_of m)
+-- a method of the platform is a virtual one of the class with this word
+abbrev pub IsOwnMethod : Packages → ℕ → PlatformMethod → Type 0
+IsOwnMethod p w m = (w ≡ class_word p.platform (class_of m)) × (kind_number (kind_of_method m) ≡ kind_number kinds.Virtual)
+
+said_native : (p : Packages) (token : VirtualToken) (w : ℕ) (m : PlatformMethod) (o : Option ClassValue) (other : Option PlatformClass) → class_by_word p.platform w ≡ other → said_by p token w o other ≡ native m → IsOwnMethod p w m
 said_native p (Public token) w m (Some c) other at e = absurd (table_never (w / 256) c.public_methods token m e)
 said_native p (PackageVisible token) w m (Some c) other at e = absurd (table_never (w / 256) c.package_methods token m e)
 said_native p (Public token) w m None None at e = absurd cc
 said_native p (PackageVisible token) w m None None at e = absurd cc
 said_native p (Public token) w m None (Some c) at e =
-    word_of_class p.platform w c at ∙ ap (class_word p.platform) (sym (place_of_method p.platform c kinds.Virtual token m (found_native (method_by_token p.platform c kinds.Virtual token) m e)).0)
+    let place = place_of_method p.platform c kinds.Virtual token m (found_native (method_by_token p.platform c kinds.Virtual token) m e) in
+    (word_of_class p.platform w c at ∙ ap (class_word p.platform) (sym place.0), place.1)
 said_native p (PackageVisible token) w m None (Some c) at e = absurd cc
 
-native_in : (p : Packages) (token : VirtualToken) (w : ℕ) (m : PlatformMethod) → method_in p token w ≡ native m → w ≡ class_word p.platform (class_of m)
+pub native_in : (p : Packages) (token : VirtualToken) (w : ℕ) (m : PlatformMethod) → method_in p token w ≡ native m → IsOwnMethod p w m
 unfolding method_in
 native_in p token w m e = said_native p token w m (class_in p w) (class_by_word p.platform w) refl e
 
@@ -81,7 +86,7 @@ one_more : (p : Packages) (token : VirtualToken) (m : PlatformMethod) (c : ℕ) 
     (c == class_word p.platform (class_of m) || implements p c (class_word p.platform (class_of m)) || there) ≡ true
 one_more p token m c above there (Found a) at rest is =
     or_left (c == class_word p.platform (class_of m) || implements p c (class_word p.platform (class_of m))) there
-    (or_left (c == class_word p.platform (class_of m)) (implements p c (class_word p.platform (class_of m))) (eq-eqb c (class_word p.platform (class_of m)) (native_in p token c m (at ∙ native_of a m is))))
+    (or_left (c == class_word p.platform (class_of m)) (implements p c (class_word p.platform (class_of m))) (eq-eqb c (class_word p.platform (class_of m)) (native_in p token c m (at ∙ native_of a m is)).0))
 one_more p token m c above there Above at rest is = or_right (c == class_word p.platform (class_of m) || implements p c (class_word p.platform (class_of m))) there (rest is)
 one_more p token m c above there Nowhere at rest is = absurd (none-some (Native m) is)
 
@@ -154,7 +159,7 @@ by_entry cs p linked number index class m is =
       classes = λ c. mapped_there (IsNamed p) targets.Class (named_class p number c) (λ w. tt);
       fields = any_field p (IsNamed p) (λ w cell reference. tt);
       virtual = λ w token method. tt;
-      super = λ w method. tt;
+      super = any_super p (IsNamed p) (λ w method. tt);
       statics = λ n offset. tt;
       own = λ offset. tt;
       foreign = foreign_named p;

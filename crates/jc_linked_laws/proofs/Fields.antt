@@ -47,7 +47,7 @@ module _ (p : Packages) (few : length p.loaded ≤ 32) where
   unfolding superclass_in
   above_high w high = superclass_high w high (class_in p w) refl (class_by_word p.platform w)
 
-  lineage_high : (n : ℕ) (o : Option ℕ) → IfThere IsHigh o → AllOf IsHigh (lineage_from p n o)
+  pub lineage_high : (n : ℕ) (o : Option ℕ) → IfThere IsHigh o → AllOf IsHigh (lineage_from p n o)
   unfolding lineage_from
   lineage_high zero o high = tt
   lineage_high (suc n) None high = tt
@@ -108,26 +108,25 @@ pub record IsOfTargets (p : Packages) (number : ℕ) (Q : Target → Type 0) : T
   pub classes : (c : ClassRef) → IfThere Q (option_map targets.Class (class_named p number c))
   pub fields : (token class : ℕ) → IfThere Q (field_target p token class)
   pub virtual : (class : ℕ) (token : VirtualToken) (m : Method) → Q (targets.VirtualMethod class token m)
-  pub super : (class : ℕ) (m : Method) → Q (targets.SuperMethod class m)
+  pub super : (token : VirtualToken) (class : ℕ) → IfThere Q (super_target p token class)
   pub statics : (n offset : ℕ) → Q (targets.StaticField n offset)
   pub own : (offset : ℕ) → Q (targets.StaticMethod None (Code number offset))
   pub foreign : (class_token token n : ℕ) → IfThere Q (foreign_method p class_token token n)
 
 pub of_entry : (p : Packages) (number : ℕ) (Q : Target → Type 0) → IsOfTargets p number Q → (e : Entry) → IfThere Q (resolution p number e)
-unfolding resolution virtual_target super_target foreign_field
+unfolding resolution virtual_target foreign_field
 of_entry p number Q all (entries.Class c) = all.classes c
 of_entry p number Q all (entries.InstanceField c token) = some_there Q (field_target p token) (class_named p number c) (all.fields token)
 of_entry p number Q all (entries.VirtualMethod c token) = some_there Q (virtual_target p token) (class_named p number c) (λ class.
     unless_there Q (names_interface p class) (option_map (targets.VirtualMethod class token) (method_at p class (class / 256) token)) (mapped_there Q (targets.VirtualMethod class token) (method_at p class (class / 256) token) (all.virtual class token)))
-of_entry p number Q all (entries.SuperMethod c token) = some_there Q (super_target p token) (class_named p number c) (λ class.
-    some_there Q (λ above. option_map (targets.SuperMethod class) (method_at p above (class / 256) token)) (superclass_in p class) (λ above. mapped_there Q (targets.SuperMethod class) (method_at p above (class / 256) token) (all.super class)))
+of_entry p number Q all (entries.SuperMethod c token) = some_there Q (super_target p token) (class_named p number c) (all.super token)
 of_entry p number Q all (entries.StaticField (statics.Internal offset)) = all.statics number offset
 of_entry p number Q all (entries.StaticField (statics.External package_token class_token token)) = some_there Q (foreign_field p class_token token) (imported_by p number package_token) (λ n.
     some_there Q (λ x. option_map (targets.StaticField n) (slice_get x.field_offsets token)) (export_of p n class_token) (λ x. mapped_there Q (targets.StaticField n) (slice_get x.field_offsets token) (all.statics n)))
 of_entry p number Q all (entries.StaticMethod (statics.Internal offset)) = all.own offset
 of_entry p number Q all (entries.StaticMethod (statics.External package_token class_token token)) = some_there Q (foreign_method p class_token token) (imported_by p number package_token) (all.foreign class_token token)
 
--- all fields have it, or all static methods of other packages do
+-- all fields have it, or all methods of superclasses, or all static methods of other packages do
 field_there : (Q : Target → Type 0) (b : Bool) (t : Target) → Q t → IfThere Q (if b then Some t else None)
 field_there Q true t is = is
 field_there Q false t is = tt
@@ -136,6 +135,11 @@ pub any_field : (p : Packages) (Q : Target → Type 0) → ((class cell : ℕ) (
 unfolding field_target
 any_field p Q each token class = some_there Q (field_of class token) (class_in p class)
     (λ c. field_there Q (nat_lt token c.declared_cells) (targets.InstanceField class (c.inherited_cells + token) (declares_reference c token)) (each class (c.inherited_cells + token) (declares_reference c token)))
+
+pub any_super : (p : Packages) (Q : Target → Type 0) → ((class : ℕ) (m : Method) → Q (targets.SuperMethod class m)) → (token : VirtualToken) (class : ℕ) → IfThere Q (super_target p token class)
+unfolding super_target
+any_super p Q each token class = some_there Q (λ above. option_map (targets.SuperMethod class) (method_at p above (class / 256) token)) (superclass_in p class)
+    (λ above. mapped_there Q (targets.SuperMethod class) (method_at p above (class / 256) token) (each class))
 
 pub any_foreign : (p : Packages) (Q : Target → Type 0) → ((class : ℕ) (m : Method) → Q (targets.StaticMethod (Some class) m)) → (class_token token n : ℕ) → IfThere Q (foreign_method p class_token token n)
 unfolding foreign_method
@@ -165,7 +169,7 @@ entry_loaded p number e = of_entry p number (IsLoaded p) (record {
   classes = λ c. mapped_there (IsLoaded p) targets.Class (class_named p number c) (λ class. tt);
   fields = field_loaded p;
   virtual = λ class token m. tt;
-  super = λ class m. tt;
+  super = any_super p (IsLoaded p) (λ class m. tt);
   statics = λ n offset. tt;
   own = λ offset. tt;
   foreign = any_foreign p (IsLoaded p) (λ class m. tt);
