@@ -18,7 +18,7 @@ use Rattle.jc_class_laws.proofs.Good.{AllGood, all_good}
 use Rattle.jc_class_laws.proofs.Named.{named_there}
 use Rattle.jc_class_laws.proofs.Receivers.{by_entry, by_token}
 
-good_of : (cs : List Components) (p : Packages) → AreRead cs p → AllGood p
+pub good_of : (cs : List Components) (p : Packages) → AreRead cs p → AllGood p
 good_of cs p read = all_good cs p read.linked read.classes
 
 pub have_cells : HaveCells

@@ -54,7 +54,7 @@ few_cells _ = refl
 
 -- ---- they stand behind their words
 
-no_value : (o : Option ClassValue) → ((c : ClassValue) → o ≡ Some c → ⊥) → o ≡ None
+pub no_value : (o : Option ClassValue) → ((c : ClassValue) → o ≡ Some c → ⊥) → o ≡ None
 no_value None never = refl
 no_value (Some c) never = absurd (never c refl)
 

@@ -1,0 +1,113 @@
+-- A class of a linked package stands behind its superclass.
+use Rattle.std.proofs.Common.{◌≡◌, ℕ, zero, suc, ◌-◌, ◌/◌, ◌%◌, ◌<◌, ◌≤◌, ◌==◌, ◌⊎◌, inl, inr, Bool, true, false, List, [], ◌∷◌, ◌++◌, Some, None, length, refl, sym, subst, ap, ◌∙◌, arith, if◌then◌else◌}
+use Rattle.std.specs.Prelude.{slice_get}
+use Rattle.std.specs.Option.{option_and_then}
+use Rattle.std.proofs.lemmas.Bool.{cases_eq, false≢true}
+use Rattle.std.proofs.lemmas.Option.{none-some, same_Some}
+use Rattle.jc_packages.specs.Classes.{class_in, package_in}
+use Rattle.jc_packages.specs.Values.{ClassValue, PackageValue, Packages}
+use Rattle.jc_linker.specs.declared.components.Components.{Components}
+use Rattle.jc_linker.specs.Linking.{next_number, with_classes, with_package}
+use Rattle.jc_linked_laws.specs.Linked.{AreLinkedOnto, IsLinkedOnto}
+use Rattle.jc_linked_laws.proofs.Closed.{IsClosed, IsClosedClass, IsClosedPackage, package_same}
+use Rattle.jc_linked_laws.proofs.Linking.{closed_next, imports_stand, longer, made}
+use Rattle.jc_linked_laws.proofs.Lists.{IfThere, all_at, then_there}
+use Rattle.jc_linked_laws.proofs.Numbers.{Stands}
+use Rattle.jc_class_laws.specs.Given.{AreRead, HasClassComponent}
+use Rattle.jc_class_laws.proofs.Good.{class_last}
+use Rattle.jc_class_laws.proofs.Inherits.{Inherits, one_by_one}
+
+-- ---- where both are of one package
+
+-- a class of the package with this number stands behind its superclass, where that is of this package too
+abbrev Behind : ℕ → List ClassValue → Type 0
+Behind number cs = (i : ℕ) (c : ClassValue) → slice_get cs i ≡ Some c → c.is_interface ≡ false → c.superclass / 256 ≡ number → c.superclass % 256 < i
+
+none_behind : (number : ℕ) → Behind number []
+none_behind number i c is = absurd (none-some c is)
+
+last_or : {A : Type 0} (xs : List A) (y x : A) (i : ℕ) → slice_get (xs ++ y ∷ []) i ≡ Some x → (slice_get xs i ≡ Some x) ⊎ ((i ≡ length xs) × (y ≡ x))
+last_or [] y x zero is = inr (refl, same_Some y x is)
+last_or [] y x (suc i) is = absurd (none-some x is)
+last_or (z ∷ xs) y x zero is = inl is
+last_or (z ∷ xs) y x (suc i) is = elim (last_or xs y x i is) [
+  | inl before ↦ inl before
+  | inr last ↦ inr (ap suc last.0, last.1)
+]
+
+behind_more : (p : Packages) (number : ℕ) (done : List ClassValue) (new : ClassValue) → Inherits p number done new → Behind number done → Behind number (done ++ new ∷ [])
+behind_more p number done new one behind i c is class here = elim (last_or done new c i is) [
+  | inl before ↦ behind i c before class here
+  | inr last ↦ subst (λ n. c.superclass % 256 < n) (sym last.0) (subst (λ d. d.is_interface ≡ false → d.superclass / 256 ≡ number → d.superclass % 256 < length done) last.1 one.back class here)
+]
+
+-- ---- in all packages
+
+closed_in : (p : Packages) → IsClosed p → (number : ℕ) → IfThere (IsClosedPackage (length p.loaded)) (package_in p number)
+unfolding package_in
+closed_in p closed number = by_none (number == 0)
+  where
+    by_none : (b : Bool) → IfThere (IsClosedPackage (length p.loaded)) (if b then None else slice_get p.loaded (number - 1))
+    by_none true = tt
+    by_none false = all_at (IsClosedPackage (length p.loaded)) p.loaded (number - 1) closed
+
+class_closed : (p : Packages) → IsClosed p → (w : ℕ) → IfThere (IsClosedClass (length p.loaded)) (class_in p w)
+unfolding class_in
+class_closed p closed w = then_there (IsClosedPackage (length p.loaded)) (IsClosedClass (length p.loaded)) (λ r. slice_get r.classes (w % 256)) (package_in p (w / 256)) (closed_in p closed (w / 256))
+    (λ r each. all_at (IsClosedClass (length p.loaded)) r.classes (w % 256) each.classes)
+
+superclass_stands : (p : Packages) → IsClosed p → (w : ℕ) (c : ClassValue) → class_in p w ≡ Some c → c.is_interface ≡ false → Stands (length p.loaded) (c.superclass / 256)
+superclass_stands p closed w c is class = elim (subst (IfThere (IsClosedClass (length p.loaded))) is (class_closed p closed w)).0 [
+  | inl interface ↦ absurd (false≢true (sym class ∙ interface))
+  | inr stands ↦ stands
+]
+
+-- the superclass's word is lower than the class's, or one of the platform's
+abbrev StandsBehind : ℕ → ClassValue → Type 0
+StandsBehind w c = (c.superclass < w) ⊎ (64 ≤ c.superclass / 256)
+
+abbrev pub AllBehind : Packages → Type 0
+AllBehind p = (w : ℕ) (c : ClassValue) → class_in p w ≡ Some c → c.is_interface ≡ false → StandsBehind w c
+
+class_stays : (p : Packages) (q : PackageValue) (w : ℕ) → (w / 256 ≡ next_number p → ⊥) → class_in (with_package p q) w ≡ class_in p w
+unfolding class_in
+class_stays p q w other = ap (option_and_then (λ r. slice_get r.classes (w % 256))) (package_same p q (w / 256) other)
+
+-- a class of the last package, whose superclass stands
+last_behind : (number w : ℕ) (c : ClassValue) → w / 256 ≡ number → Stands number (c.superclass / 256) → (c.superclass / 256 ≡ number → c.superclass % 256 < w % 256) → StandsBehind w c
+last_behind number w c here (inr high) behind = inr high
+last_behind number w c here (inl low) behind = elim (cases_eq (c.superclass / 256) number) [
+  | inl same ↦ inl (let less = behind same in omega (arith, same, here, less))
+  | inr other ↦ inl (omega (arith, other, here, low))
+]
+
+behind_next : (p : Packages) (c : Components) (q : PackageValue) → IsClosed p → AllBehind p → HasClassComponent c → IsLinkedOnto p c q → AllBehind (with_package p q)
+behind_next p c q closed all component linked w d is class = elim (cases_eq (w / 256) (next_number p)) [
+  | inr other ↦ all w d (sym (class_stays p q w other) ∙ is) class
+  | inl here ↦
+      let m = made p c q linked.2 in
+      let classes : q.classes ≡ (with_classes p c m.imports).classes = ap (λ r. r.classes) m.is in
+      let behind : Behind (next_number p) (with_classes p c m.imports).classes =
+      one_by_one p c m.imports closed linked.0 (imports_stand p c.imports m.imports m.imported) (Behind (next_number p)) (behind_more p (next_number p)) (none_behind (next_number p)) component.0 component.1 component.2 in
+      last_behind (next_number p) w d here (subst (λ n. Stands n (d.superclass / 256)) (longer p q) (superclass_stands (with_package p q) (closed_next p c q closed linked) w d is class))
+      (behind (w % 256) d (ap (λ l. slice_get l (w % 256)) (sym classes) ∙ sym (class_last p q closed linked.0 w here) ∙ is) class)
+]
+
+abbrev AllRead : List Components → Type 0
+AllRead cs = (i : ℕ) (c : Components) → slice_get cs i ≡ Some c → HasClassComponent c
+
+behind_onto : (cs : List Components) (p all : Packages) → IsClosed p → AllBehind p → AllRead cs → AreLinkedOnto p cs all → AllBehind all
+behind_onto [] p all closed behind read linked = subst AllBehind (sym linked) behind
+behind_onto (c ∷ cs) p all closed behind read linked =
+    behind_onto cs (with_package p linked.0) all (closed_next p c linked.0 closed linked.1) (behind_next p c linked.0 closed behind (read 0 c refl) linked.1) (λ i d at. read (suc i) d at) linked.2
+
+nothing_in : (none : Bool) (n : ℕ) → (if none then None else slice_get {X = PackageValue} [] n) ≡ None
+nothing_in true n = refl
+nothing_in false n = refl
+
+no_classes : (p : Packages) → AllBehind (record p { loaded = [] })
+unfolding class_in package_in
+no_classes p w c is = absurd (none-some c (sym (ap (option_and_then (λ q. slice_get q.classes (w % 256))) (nothing_in (w / 256 == 0) (w / 256 - 1))) ∙ is))
+
+pub all_stand_behind : (cs : List Components) (p : Packages) → AreRead cs p → AllBehind p
+all_stand_behind cs p read = behind_onto cs (record p { loaded = [] }) p tt (no_classes p) read.classes read.linked

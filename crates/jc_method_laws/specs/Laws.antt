@@ -1,0 +1,22 @@
+-- What linked packages know of methods, and what reading a platform table says of its tokens.
+use Rattle.std.specs.Prelude.{ℕ, List, Ok}
+use Rattle.jc_platform.specs.Table.{Reads}
+use Rattle.jc_platform.specs.Tokens.{Tokens}
+use Rattle.jc_packages.specs.Values.{Packages}
+use Rattle.jc_linker.specs.declared.components.Components.{Components}
+use Rattle.jc_linked_laws.specs.Linked.{AreLinked}
+use Rattle.jc_class_laws.specs.Given.{AreRead, HasByteTokens}
+use Rattle.jc_sound_runs.specs.Methods.{KnowsMethods}
+use Rattle.jc_sound_runs.specs.Platform.{KeepsPlatform}
+
+-- what a call finds of the platform is a method of the receiver's class, and no static one
+abbrev pub HaveMethods : Type 0
+HaveMethods = (cs : List Components) (p : Packages) → AreRead cs p → KnowsMethods p
+
+-- a call on an instance of one of the platform's classes finds no method in bytecode
+abbrev pub HaveNoCode : Type 0
+HaveNoCode = (cs : List Components) (p : Packages) → AreLinked cs p → KeepsPlatform p
+
+-- each class's token in a table that was read is one byte
+abbrev pub HaveBytes : Type 0
+HaveBytes = (text : List ℕ) (t : Tokens) → Reads text (Ok t) → HasByteTokens t

@@ -1,0 +1,19 @@
+//! Laws of the definitions of methods, and of the platform's tokens.
+ghost use Rattle.jc_method_laws.specs.Laws.{HaveBytes, HaveMethods, HaveNoCode};
+
+/// A law of the definitions: among packages that were linked, each onto those before it, what a call by token, one by
+/// interface and one of a superclass's method find of the platform is a method of the receiver's class, and no static one.
+pub fn linked_packages_know_their_methods()
+    ensures { HaveMethods }
+{}
+
+/// A law of the definitions: among packages that were linked, each onto those before it, a call on an instance of one of the
+/// platform's classes, by token or by interface, finds no method in bytecode.
+pub fn classes_of_the_platform_have_no_code()
+    ensures { HaveNoCode }
+{}
+
+/// A law of the definitions: where reading a text answers a platform table, the token of each class is one byte.
+pub fn platform_tokens_are_bytes()
+    ensures { HaveBytes }
+{}
