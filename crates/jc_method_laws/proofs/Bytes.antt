@@ -28,26 +28,29 @@ number_low : (word : List ℕ) → IfThere IsByte (number_of word)
 number_low word = where_so IsByte (nat_lt 0 (length word) && all_ascii_digits word && nat_lt (digits_value 10 word) 256) (digits_value 10 word)
     (λ all. ltb-true (digits_value 10 word) 256 (and_parts (nat_lt 0 (length word) && all_ascii_digits word) (nat_lt (digits_value 10 word) 256) all).1)
 
--- ---- lines
+-- ---- rows
+
+-- what rows tell, where it is a byte or nothing, is so with this row in front too
+abbrev KeepsByte : {R : Type 0} → (List R → Option ℕ) → R → Type 0
+KeepsByte {R = R} told row = (rest : List R) → IfThere IsByte (told rest) → IfThere IsByte (told (row ∷ rest))
 
 module _ (c : PlatformClass) where
-  -- the token of a class is a byte above a row, and so it is with the row
-  class_low : (a : Above) (token name : List ℕ) → IfThere (λ row. (rest : _) → IfThere IsByte (class_token_in rest c) → IfThere IsByte (class_token_in (row ∷ rest) c)) (class_row a token name)
+  class_low : (a : Above) (token name : List ℕ) → IfThere (KeepsByte (λ rows. class_token_in rows c)) (class_row a token name)
   class_low a token name =
       then_there IsByte _ _ (number_of token) (number_low token) (λ t low. some_there _ _ (find (λ e. bytes_eq e.name name) classes) (λ e. where_so _ (may_be_class a e t) _ (λ may rest is.
       one_of_two IsByte (same_class e.class c) (Some t) (class_token_in rest c) low is)))
 
-  method_low : (a : Above) (keyword token name : List ℕ) → IfThere (λ row. (rest : _) → IfThere IsByte (class_token_in rest c) → IfThere IsByte (class_token_in (row ∷ rest) c)) (method_row a keyword token name)
+  method_low : (a : Above) (keyword token name : List ℕ) → IfThere (KeepsByte (λ rows. class_token_in rows c)) (method_row a keyword token name)
   method_low a keyword token name =
       some_there _ _ (kind_of keyword) (λ kind. some_there _ _ (number_of token) (λ t. some_there _ _ a.class (λ d. some_there _ _ (method_named d kind name)
       (λ e. where_so _ (may_be_method a e t) _ (λ may rest is. is)))))
 
-  package_low : (a : Above) (aid major minor : List ℕ) → IfThere (λ row. (rest : _) → IfThere IsByte (class_token_in rest c) → IfThere IsByte (class_token_in (row ∷ rest) c)) (package_row a aid major minor)
+  package_low : (a : Above) (aid major minor : List ℕ) → IfThere (KeepsByte (λ rows. class_token_in rows c)) (package_row a aid major minor)
   package_low a aid major minor =
       some_there _ _ (find (λ e. bytes_eq e.aid_text aid) packages) (λ e. some_there _ _ (number_of major) (λ j. some_there _ _ (number_of minor)
       (λ n. where_so _ (may_be_package a e.package_id) _ (λ may rest is. is))))
 
-  row_low : (a : Above) (words : List (List ℕ)) → IfThere (λ row. (rest : _) → IfThere IsByte (class_token_in rest c) → IfThere IsByte (class_token_in (row ∷ rest) c)) (row_of a words)
+  row_low : (a : Above) (words : List (List ℕ)) → IfThere (KeepsByte (λ rows. class_token_in rows c)) (row_of a words)
   row_low a [] = tt
   row_low a (keyword ∷ []) = tt
   row_low a (keyword ∷ x ∷ []) = tt
@@ -59,7 +62,7 @@ module _ (c : PlatformClass) where
   rows_low [] [] say = tt
   rows_low [] (row ∷ rows) say = absurd say
   rows_low (line ∷ lines) [] say = absurd say
-  rows_low (line ∷ lines) (row ∷ rows) say = subst (IfThere _) say.0 (row_low (above rows) (parts_at 32 line)) rows (rows_low lines rows say.1)
+  rows_low (line ∷ lines) (row ∷ rows) say = subst (IfThere (KeepsByte (λ l. class_token_in l c))) say.0 (row_low (above rows) (parts_at 32 line)) rows (rows_low lines rows say.1)
 
 pub have_bytes : HaveBytes
 have_bytes text t reads c =

@@ -9,7 +9,7 @@ use Rattle.jc_class_laws.specs.Given.{AreRead, HasByteTokens}
 use Rattle.jc_sound_runs.specs.Methods.{KnowsMethods}
 use Rattle.jc_sound_runs.specs.Platform.{KeepsPlatform}
 
--- what a call finds of the platform is a method of the receiver's class, and no static one
+-- they know their methods: what calls find of the platform is a method of the receiver's class
 abbrev pub HaveMethods : Type 0
 HaveMethods = (cs : List Components) (p : Packages) → AreRead cs p → KnowsMethods p
 

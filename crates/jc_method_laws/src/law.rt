@@ -2,7 +2,8 @@
 ghost use Rattle.jc_method_laws.specs.Laws.{HaveBytes, HaveMethods, HaveNoCode};
 
 /// A law of the definitions: among packages that were linked, each onto those before it, what a call by token, one by
-/// interface and one of a superclass's method find of the platform is a method of the receiver's class, and no static one.
+/// interface and one of a superclass's method find of the platform is a method of the receiver's class, by the first two no
+/// static one; above Object is no class; and there are no more packages than a card can have.
 pub fn linked_packages_know_their_methods()
     ensures { HaveMethods }
 {}

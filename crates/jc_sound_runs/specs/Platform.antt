@@ -1,4 +1,4 @@
--- Classes of the platform have no methods in bytecode.
+-- The platform's own classes have the platform's methods alone.
 use Rattle.std.specs.Prelude.{ℕ, ◌≡◌, Some}
 use Rattle.jc_cap_text.specs.declared.pool.VirtualToken.{VirtualToken}
 use Rattle.jc_platform.specs.declared.names.PlatformClass.{PlatformClass}
@@ -7,7 +7,7 @@ use Rattle.jc_packages.specs.declared.target.Method.TheVariants.{Code}
 use Rattle.jc_packages.specs.Methods.{interface_method_at, method_at}
 use Rattle.jc_packages.specs.Values.{Packages}
 
--- neither by token nor by interface is a method in bytecode found in a class of the platform
+-- a call on an instance of one of the platform's classes, by token or by interface, finds no method in bytecode
 pub record KeepsPlatform (p : Packages) : Type 0 where
-  pub virtually : (of : PlatformClass) (number q offset : ℕ) (token : VirtualToken) → method_at p (class_word p.platform of) number token ≡ Some (Code q offset) → ⊥
-  pub by_interface : (of : PlatformClass) (interface token q offset : ℕ) → interface_method_at p (class_word p.platform of) interface token ≡ Some (Code q offset) → ⊥
+  pub virtually : (of : PlatformClass) (number : ℕ) (token : VirtualToken) (home offset : ℕ) → method_at p (class_word p.platform of) number token ≡ Some (Code home offset) → ⊥
+  pub by_interface : (of : PlatformClass) (interface token home offset : ℕ) → interface_method_at p (class_word p.platform of) interface token ≡ Some (Code home offset) → ⊥
