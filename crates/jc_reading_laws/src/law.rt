@@ -1,0 +1,13 @@
+//! Laws of the definitions.
+ghost use Rattle.jc_reading_laws.specs.Kept.{KeepsReading, PlacesLeavePackages};
+
+/// A law of the definitions: whatever is set in places that a heap has, its packages are read of it as before.
+pub fn places_leave_packages()
+    ensures { PlacesLeavePackages }
+{}
+
+/// A law of the definitions: where the packages that a card works with are those that are read of its heap, and of the one that
+/// a loss of power leaves, an effect that fits them leaves it so.
+pub fn fit_effects_keep_what_is_read()
+    ensures { KeepsReading }
+{}
