@@ -35,7 +35,7 @@ and_then_same : {A B : Type 0} (f g : A → Option B) (o : Option A) → ((x : A
 and_then_same f g None same = refl
 and_then_same f g (Some x) same = same x
 
-records_same : (h g : HeapState) (p : Packages) (l : List ℕ) → ((k : ℕ) → k < length l → load_of (record_of g (get_or l k 0)) ≡ load_of (record_of h (get_or l k 0))) → with_records p (map (record_of g) l) ≡ with_records p (map (record_of h) l)
+pub records_same : (h g : HeapState) (p : Packages) (l : List ℕ) → ((k : ℕ) → k < length l → load_of (record_of g (get_or l k 0)) ≡ load_of (record_of h (get_or l k 0))) → with_records p (map (record_of g) l) ≡ with_records p (map (record_of h) l)
 records_same h g p [] same = refl
 records_same h g p (r ∷ rs) same =
     ap (λ load. option_and_then (λ q. with_records q (map (record_of g) rs)) (with_prepared p (prepared p load))) (same 0 (omega arith))
@@ -174,7 +174,7 @@ pub run_tells : (h : HeapState) (r i : ℕ) (vs : List ℕ) → TellSame h (set_
 run_tells h r i [] = still h h refl (λ k lt. refl)
 run_tells h r i (v ∷ vs) = also h (set_cell h r i v) (set_cells (set_cell h r i v) r (suc i) vs) (place_tells h (Cell r i) v tt) (run_tells (set_cell h r i v) r (suc i) vs)
 
-packages-add_object : (h : HeapState) (o : Object) (n : ℕ) → (add_object h o n).packages ≡ h.packages
+pub packages-add_object : (h : HeapState) (o : Object) (n : ℕ) → (add_object h o n).packages ≡ h.packages
 unfolding add_object
 packages-add_object h o n = refl
 

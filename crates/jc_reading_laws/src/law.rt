@@ -1,5 +1,6 @@
 //! Laws of the definitions.
 ghost use Rattle.jc_reading_laws.specs.Kept.{KeepsReading, PlacesLeavePackages};
+ghost use Rattle.jc_reading_laws.specs.Loaded.{LoadedPackagesReadBack};
 
 /// A law of the definitions: whatever is set in places that a heap has, its packages are read of it as before.
 pub fn places_leave_packages()
@@ -10,4 +11,9 @@ pub fn places_leave_packages()
 /// a loss of power leaves, an effect that fits them leaves it so.
 pub fn fit_effects_keep_what_is_read()
     ensures { KeepsReading }
+{}
+
+/// A law of the definitions: behind the end of a load the packages that are read are those from before with the one that came in.
+pub fn loaded_packages_read_back()
+    ensures { LoadedPackagesReadBack }
 {}

@@ -3,4 +3,4 @@
 
 mod law;
 
-pub use law::{fit_effects_keep_what_is_read, places_leave_packages};
+pub use law::{fit_effects_keep_what_is_read, loaded_packages_read_back, places_leave_packages};
