@@ -5,3 +5,5 @@ pub mod ReadBack
 pub mod Texts
 pub mod Preparing
 pub mod Loaded
+pub mod OpenLoads
+pub mod Ends

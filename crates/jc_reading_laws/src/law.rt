@@ -1,6 +1,7 @@
 //! Laws of the definitions.
 ghost use Rattle.jc_reading_laws.specs.Kept.{KeepsReading, PlacesLeavePackages};
 ghost use Rattle.jc_reading_laws.specs.Loaded.{LoadedPackagesReadBack};
+ghost use Rattle.jc_reading_laws.specs.Loads.{LoadEndsKeepReading, LoadsAreReadable};
 
 /// A law of the definitions: whatever is set in places that a heap has, its packages are read of it as before.
 pub fn places_leave_packages()
@@ -16,4 +17,15 @@ pub fn fit_effects_keep_what_is_read()
 /// A law of the definitions: behind the end of a load the packages that are read are those from before with the one that came in.
 pub fn loaded_packages_read_back()
     ensures { LoadedPackagesReadBack }
+{}
+
+/// A law of the definitions: an open load has components of bytes, in the format in which those of a record are read.
+pub fn open_loads_are_readable()
+    ensures { LoadsAreReadable }
+{}
+
+/// A law of the definitions: the packages that the end of a load leaves are those that are read of the memory that it leaves, and a
+/// loss of power within it leaves those from before.
+pub fn ends_of_loads_keep_what_is_read()
+    ensures { LoadEndsKeepReading }
 {}
