@@ -2,8 +2,5 @@
 #![tactic(auto)]
 
 mod law;
-<<<<<<< HEAD
 
-pub use law::commands_are_sound;
-=======
->>>>>>> 9e4ce81 (Soundness: selecting, installing and answering leave a memory sound)
+pub use law::{commands_are_sound, effects_of_commands_keep_memories_sound};
