@@ -1,0 +1,9 @@
+pub mod Quiet
+pub mod Plain
+pub mod Fields
+pub mod Objects
+pub mod Machines
+pub mod Leaves
+pub mod Switches
+pub mod Calls
+pub mod Stepping
