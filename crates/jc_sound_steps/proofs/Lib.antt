@@ -7,3 +7,4 @@ pub mod Leaves
 pub mod Switches
 pub mod Calls
 pub mod Stepping
+pub mod Laws
