@@ -94,7 +94,7 @@ module _ (p : Packages) (q : PackageValue) (closed : IsClosed p) (room : length 
   old_good : AllGood p → (w : ℕ) (c : ClassValue) → Aside w → class_in next w ≡ Some c → IsGood next c
   old_good good w c other is =
       let was : class_in p w ≡ Some c = sym ((alike p q closed room).class w other) ∙ is in
-      good_stays c (there_at (IsClosedClass (length p.loaded)) (class_in p w) c was (class_closed p q closed room w)) (good w c was)
+      good_stays c (there_at (IsClosedClass (length p.loaded)) (class_in p w) c was (class_closed p closed w)) (good w c was)
 
   -- a class of the package that came in
   pub class_last : (w : ℕ) → w / 256 ≡ next_number p → class_in next w ≡ slice_get q.classes (w % 256)
@@ -143,7 +143,7 @@ good_next p c q closed good component linked =
     (subst (λ l. AllOf (Inherits p (next_number p) l) l) (sym classes) inherit)
     (subst (AllOf (λ d. AreInterfaces (with_package p q) d.interfaces)) (sym classes) named)
 
-abbrev AllRead : List Components → Type 0
+abbrev pub AllRead : List Components → Type 0
 AllRead cs = (i : ℕ) (c : Components) → slice_get cs i ≡ Some c → HasClassComponent c
 
 good_onto : (cs : List Components) (p all : Packages) → IsClosed p → AllGood p → AllRead cs → AreLinkedOnto p cs all → AllGood all
@@ -155,9 +155,12 @@ nothing_in : (none : Bool) (n : ℕ) → (if none then None else slice_get {X = 
 nothing_in true n = refl
 nothing_in false n = refl
 
-no_classes : (p : Packages) → AllGood (record p { loaded = [] })
+pub none_loaded : (p : Packages) (w : ℕ) (c : ClassValue) → class_in (record p { loaded = [] }) w ≡ Some c → ⊥
 unfolding class_in package_in
-no_classes p w c is = absurd (none-some c (sym (ap (option_and_then (λ q. slice_get q.classes (w % 256))) (nothing_in (w / 256 == 0) (w / 256 - 1))) ∙ is))
+none_loaded p w c is = none-some c (sym (ap (option_and_then (λ q. slice_get q.classes (w % 256))) (nothing_in (w / 256 == 0) (w / 256 - 1))) ∙ is)
+
+no_classes : (p : Packages) → AllGood (record p { loaded = [] })
+no_classes p w c is = absurd (none_loaded p w c is)
 
 pub all_good : (cs : List Components) (p : Packages) → AreLinked cs p → AllRead cs → AllGood p
 all_good cs p linked read = good_onto cs (record p { loaded = [] }) p tt (no_classes p) read linked

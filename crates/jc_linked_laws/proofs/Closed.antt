@@ -89,6 +89,17 @@ pub package_same : (p : Packages) (q : PackageValue) (n : ℕ) → (n ≡ next_n
 unfolding package_in
 package_same p q n other = unless_none n (slice_get (p.loaded ++ q ∷ []) (n - 1)) (slice_get p.loaded (n - 1)) (λ some. slice_behind p.loaded q (n - 1) (λ e. other (omega (arith, some, e))))
 
+-- ---- what closed packages have
+
+package_closed : (p : Packages) → IsClosed p → (n : ℕ) → IfThere (IsClosedPackage (length p.loaded)) (package_in p n)
+unfolding package_in
+package_closed p closed n = unless (IsClosedPackage (length p.loaded)) (n == 0) (slice_get p.loaded (n - 1)) (all_at (IsClosedPackage (length p.loaded)) p.loaded (n - 1) closed)
+
+pub class_closed : (p : Packages) → IsClosed p → (w : ℕ) → IfThere (IsClosedClass (length p.loaded)) (class_in p w)
+unfolding class_in
+class_closed p closed w = then_there (IsClosedPackage (length p.loaded)) (IsClosedClass (length p.loaded)) (λ r. slice_get r.classes (w % 256)) (package_in p (w / 256)) (package_closed p closed (w / 256))
+    (λ r each. all_at (IsClosedClass (length p.loaded)) r.classes (w % 256) each.classes)
+
 module _ (p : Packages) (q : PackageValue) (closed : IsClosed p) (room : length p.loaded < 32) where
   abbrev pub Beside : ℕ → Type 0
   Beside n = n ≡ next_number p → ⊥
@@ -104,15 +115,6 @@ module _ (p : Packages) (q : PackageValue) (closed : IsClosed p) (room : length 
 
   place_beside : (n place : ℕ) → Beside n → place < 256 → IsBeside (256 * n + place)
   place_beside n place other low e = other (sym (word_of_place n place low) ∙ e)
-
-  package_closed : (n : ℕ) → IfThere (IsClosedPackage (length p.loaded)) (package_in p n)
-  unfolding package_in
-  package_closed n = unless (IsClosedPackage (length p.loaded)) (n == 0) (slice_get p.loaded (n - 1)) (all_at (IsClosedPackage (length p.loaded)) p.loaded (n - 1) closed)
-
-  pub class_closed : (w : ℕ) → IfThere (IsClosedClass (length p.loaded)) (class_in p w)
-  unfolding class_in
-  class_closed w = then_there (IsClosedPackage (length p.loaded)) (IsClosedClass (length p.loaded)) (λ r. slice_get r.classes (w % 256)) (package_in p (w / 256)) (package_closed (w / 256))
-      (λ r each. all_at (IsClosedClass (length p.loaded)) r.classes (w % 256) each.classes)
 
   -- ---- classes
 
@@ -131,7 +133,7 @@ module _ (p : Packages) (q : PackageValue) (closed : IsClosed p) (room : length 
 
   above : (w : ℕ) → IsBeside w → IfThere IsBeside (superclass_in p w)
   unfolding superclass_in
-  above w other = superclass_beside (class_in p w) (class_by_word p.platform w) (class_closed w)
+  above w other = superclass_beside (class_in p w) (class_by_word p.platform w) (class_closed p closed w)
 
   named_beside : (o : Option PlatformClass) → AllOf (λ i. IsBeside i.interface) (interfaces_named p o)
   named_beside None = tt
@@ -144,7 +146,7 @@ module _ (p : Packages) (q : PackageValue) (closed : IsClosed p) (room : length 
 
   interfaces : (w : ℕ) → IsBeside w → AllOf (λ i. IsBeside i.interface) (interfaces_in p w)
   unfolding interfaces_in
-  interfaces w other = interfaces_beside (class_in p w) (class_by_word p.platform w) (class_closed w)
+  interfaces w other = interfaces_beside (class_in p w) (class_by_word p.platform w) (class_closed p closed w)
 
   pub alike : AreAlike p (with_package p q) IsBeside
   alike = record { class = class_same; above = above; interfaces = interfaces }
@@ -157,7 +159,7 @@ module _ (p : Packages) (q : PackageValue) (closed : IsClosed p) (room : length 
 
   imports : (n token : ℕ) → Beside n → IfThere Beside (imported_by p n token)
   unfolding imported_by
-  imports n token other = imports_of (package_in p n) token (package_closed n)
+  imports n token other = imports_of (package_in p n) token (package_closed p closed n)
 
   placed : (n offset : ℕ) (classes : List ClassValue) → Beside n → length classes ≤ 256 → IfThere IsBeside (option_map (λ place. 256 * n + place) (place_of offset classes))
   placed n offset classes other few = map_there (λ place. place < 256) IsBeside (λ place. 256 * n + place) (place_of offset classes) (place_low offset classes few) (λ place low. place_beside n place other low)
@@ -168,7 +170,7 @@ module _ (p : Packages) (q : PackageValue) (closed : IsClosed p) (room : length 
 
   offsets : (n offset : ℕ) → Beside n → IfThere IsBeside (class_at_offset p n offset)
   unfolding class_at_offset
-  offsets n offset other = offsets_of n offset (package_in p n) other (package_closed n)
+  offsets n offset other = offsets_of n offset (package_in p n) other (package_closed p closed n)
 
   tokens_of : (n token : ℕ) (o : Option PackageValue) → Beside n → IfThere (IsClosedPackage (length p.loaded)) o → IfThere IsBeside (class_by p n token o)
   tokens_of n token None other closes =
@@ -179,7 +181,7 @@ module _ (p : Packages) (q : PackageValue) (closed : IsClosed p) (room : length 
 
   tokens : (n token : ℕ) → Beside n → IfThere IsBeside (class_with_token p n token)
   unfolding class_with_token
-  tokens n token other = tokens_of n token (package_in p n) other (package_closed n)
+  tokens n token other = tokens_of n token (package_in p n) other (package_closed p closed n)
 
   pub names : NamesAlike p (with_package p q) IsBeside Beside
   names = record { packages = λ n other. ap bare (package_same p q n other); imports = imports; named = tokens; offsets = offsets }

@@ -1,20 +1,20 @@
 -- A class of a linked package stands behind its superclass.
-use Rattle.std.proofs.Common.{◌≡◌, ℕ, zero, suc, ◌-◌, ◌/◌, ◌%◌, ◌<◌, ◌≤◌, ◌==◌, ◌⊎◌, inl, inr, Bool, true, false, List, [], ◌∷◌, ◌++◌, Some, None, length, refl, sym, subst, ap, ◌∙◌, arith, if◌then◌else◌}
+use Rattle.std.proofs.Common.{◌≡◌, ℕ, zero, suc, ◌/◌, ◌%◌, ◌<◌, ◌≤◌, ◌⊎◌, inl, inr, false, List, [], ◌∷◌, ◌++◌, Some, length, refl, sym, subst, ap, ◌∙◌, arith}
 use Rattle.std.specs.Prelude.{slice_get}
 use Rattle.std.specs.Option.{option_and_then}
 use Rattle.std.proofs.lemmas.Bool.{cases_eq, false≢true}
 use Rattle.std.proofs.lemmas.Option.{none-some, same_Some}
-use Rattle.jc_packages.specs.Classes.{class_in, package_in}
+use Rattle.jc_packages.specs.Classes.{class_in}
 use Rattle.jc_packages.specs.Values.{ClassValue, PackageValue, Packages}
 use Rattle.jc_linker.specs.declared.components.Components.{Components}
 use Rattle.jc_linker.specs.Linking.{next_number, with_classes, with_package}
 use Rattle.jc_linked_laws.specs.Linked.{AreLinkedOnto, IsLinkedOnto}
-use Rattle.jc_linked_laws.proofs.Closed.{IsClosed, IsClosedClass, IsClosedPackage, package_same}
+use Rattle.jc_linked_laws.proofs.Closed.{IsClosed, IsClosedClass, class_closed, package_same}
 use Rattle.jc_linked_laws.proofs.Linking.{closed_next, imports_stand, longer, made}
-use Rattle.jc_linked_laws.proofs.Lists.{IfThere, all_at, then_there}
+use Rattle.jc_linked_laws.proofs.Lists.{IfThere}
 use Rattle.jc_linked_laws.proofs.Numbers.{Stands}
 use Rattle.jc_class_laws.specs.Given.{AreRead, HasClassComponent}
-use Rattle.jc_class_laws.proofs.Good.{class_last}
+use Rattle.jc_class_laws.proofs.Good.{AllRead, class_last, none_loaded}
 use Rattle.jc_class_laws.proofs.Inherits.{Inherits, one_by_one}
 
 -- ---- where both are of one package
@@ -42,19 +42,6 @@ behind_more p number done new one behind i c is class here = elim (last_or done 
 ]
 
 -- ---- in all packages
-
-closed_in : (p : Packages) → IsClosed p → (number : ℕ) → IfThere (IsClosedPackage (length p.loaded)) (package_in p number)
-unfolding package_in
-closed_in p closed number = by_none (number == 0)
-  where
-    by_none : (b : Bool) → IfThere (IsClosedPackage (length p.loaded)) (if b then None else slice_get p.loaded (number - 1))
-    by_none true = tt
-    by_none false = all_at (IsClosedPackage (length p.loaded)) p.loaded (number - 1) closed
-
-class_closed : (p : Packages) → IsClosed p → (w : ℕ) → IfThere (IsClosedClass (length p.loaded)) (class_in p w)
-unfolding class_in
-class_closed p closed w = then_there (IsClosedPackage (length p.loaded)) (IsClosedClass (length p.loaded)) (λ r. slice_get r.classes (w % 256)) (package_in p (w / 256)) (closed_in p closed (w / 256))
-    (λ r each. all_at (IsClosedClass (length p.loaded)) r.classes (w % 256) each.classes)
 
 superclass_stands : (p : Packages) → IsClosed p → (w : ℕ) (c : ClassValue) → class_in p w ≡ Some c → c.is_interface ≡ false → Stands (length p.loaded) (c.superclass / 256)
 superclass_stands p closed w c is class = elim (subst (IfThere (IsClosedClass (length p.loaded))) is (class_closed p closed w)).0 [
@@ -93,21 +80,13 @@ behind_next p c q closed all component linked w d is class = elim (cases_eq (w /
       (behind (w % 256) d (ap (λ l. slice_get l (w % 256)) (sym classes) ∙ sym (class_last p q closed linked.0 w here) ∙ is) class)
 ]
 
-abbrev AllRead : List Components → Type 0
-AllRead cs = (i : ℕ) (c : Components) → slice_get cs i ≡ Some c → HasClassComponent c
-
 behind_onto : (cs : List Components) (p all : Packages) → IsClosed p → AllBehind p → AllRead cs → AreLinkedOnto p cs all → AllBehind all
 behind_onto [] p all closed behind read linked = subst AllBehind (sym linked) behind
 behind_onto (c ∷ cs) p all closed behind read linked =
     behind_onto cs (with_package p linked.0) all (closed_next p c linked.0 closed linked.1) (behind_next p c linked.0 closed behind (read 0 c refl) linked.1) (λ i d at. read (suc i) d at) linked.2
 
-nothing_in : (none : Bool) (n : ℕ) → (if none then None else slice_get {X = PackageValue} [] n) ≡ None
-nothing_in true n = refl
-nothing_in false n = refl
-
 no_classes : (p : Packages) → AllBehind (record p { loaded = [] })
-unfolding class_in package_in
-no_classes p w c is = absurd (none-some c (sym (ap (option_and_then (λ q. slice_get q.classes (w % 256))) (nothing_in (w / 256 == 0) (w / 256 - 1))) ∙ is))
+no_classes p w c is = absurd (none_loaded p w c is)
 
 pub all_stand_behind : (cs : List Components) (p : Packages) → AreRead cs p → AllBehind p
 all_stand_behind cs p read = behind_onto cs (record p { loaded = [] }) p tt (no_classes p) read.classes read.linked
