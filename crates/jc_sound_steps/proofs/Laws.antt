@@ -9,7 +9,7 @@ use Rattle.jc_sound_runs.proofs.Calm.{calm_stays}
 use Rattle.jc_sound_runs.proofs.Instructions.{instructions_are_fit}
 use Rattle.jc_sound_runs.proofs.Leaves.{leaves_are_fit}
 use Rattle.jc_sound_runs.proofs.Receivers.{chosen_fit}
-use Rattle.jc_sound_calls.proofs.Calls.{natives_leave}
+use Rattle.jc_sound_calls.proofs.Natives.{natives_leave}
 use Rattle.jc_sound_steps.proofs.Machines.{CallsReceive, Given}
 
 calls_receive : CallsReceive
@@ -27,5 +27,5 @@ given = record {
   leaves = leaves_are_fit;
   asks = asks_are_fit;
   instructions = instructions_are_fit;
-  natives = natives_leave keeps_sound natives_are_fit;
+  natives = natives_leave keeps_sound natives_are_fit calm_stays;
 }

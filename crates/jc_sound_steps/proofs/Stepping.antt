@@ -1,6 +1,6 @@
 -- Steps and runs.
-use Rattle.std.proofs.Common.{◌≡◌, ℕ, zero, suc, Bool, true, false, List, Option, Some, None, refl}
-use Rattle.std.proofs.lemmas.Bool.{false≢true, true≢false}
+use Rattle.std.proofs.Common.{◌≡◌, ℕ, zero, suc, Bool, true, false, inl, inr, List, Option, Some, None, refl, ap}
+use Rattle.std.proofs.lemmas.Bool.{cases_Bool, false≢true, or_left, or_right, true≢false}
 use Rattle.std.specs.Prelude.{not, ◌==◌, ◌||◌}
 use Rattle.jc_memory.specs.Doing.{Doing}
 use Rattle.jc_memory.specs.Reading.{AllDue, Each}
@@ -55,7 +55,10 @@ module _ (g : Given) (p : Packages) (known : AreKnown p) where
 
     -- one that calls no method
     alone_due : (i : Instr) (code : List ℕ) (place : ℕ) → (is_plain i ≡ false → s.current.origin.package_number == 0 ≡ false) → calls i ≡ false → AllDue (IsFit p) (executed i code place p s m) m
-    alone_due i code place home alone = g.instructions i code place p s m known.classes known.methods machine alone
+    alone_due i code place home alone = g.instructions i code place p s m known.classes known.methods machine alone (elim (cases_Bool (is_plain i)) [
+      | inl plain ↦ or_left (is_plain i) _ plain
+      | inr other ↦ or_right (is_plain i) _ (ap not (home other))
+    ])
 
     executed_due : (i : Instr) (code : List ℕ) (place : ℕ) → (is_plain i ≡ false → s.current.origin.package_number == 0 ≡ false) → AllDue (IsFit p) (executed i code place p s m) m
     unfolding executed

@@ -86,7 +86,7 @@ module _ (p : Packages) (m : MemoryState) (platform : KeepsPlatform p) (environm
       let two = both_fine (if_so (fits one.0 p m stack)) _ c one.2 in
       judged_others (decided access.VirtualCall p m f) f one.0 n (λ zero is.
       let of = own_class n f there zero in
-      platform.virtually of.0 (class / 256) number offset token
+      platform.virtually of.0 (class / 256) token number offset
       (ap (λ x. method_at p x (class / 256) token) (sym of.1) ∙ is_there (method_at p (class_of p f) (class / 256) token) one.0 one.1 ∙ ap Some is)) two.2
 
   found_by_interface : (f : Facts) (interface n token : ℕ) → receiver_of n stack m ≡ Ok f →
