@@ -10,7 +10,9 @@ use Rattle.jc_sound_runs.proofs.Instructions.{instructions_are_fit}
 use Rattle.jc_sound_runs.proofs.Leaves.{leaves_are_fit}
 use Rattle.jc_sound_runs.proofs.Receivers.{chosen_fit}
 use Rattle.jc_sound_calls.proofs.Natives.{natives_leave}
+use Rattle.jc_sound_steps.specs.Steps.{RunsAreSound}
 use Rattle.jc_sound_steps.proofs.Machines.{CallsReceive, Given}
+use Rattle.jc_sound_steps.proofs.Stepping.{runs_sound}
 
 calls_receive : CallsReceive
 calls_receive i c method args p s m known methods machine home chose is are =
@@ -29,3 +31,6 @@ given = record {
   instructions = instructions_are_fit;
   natives = natives_leave keeps_sound natives_are_fit calm_stays;
 }
+
+pub runs_are_sound : RunsAreSound
+runs_are_sound = runs_sound given
