@@ -7,3 +7,4 @@ pub mod Preparing
 pub mod Loaded
 pub mod OpenLoads
 pub mod Ends
+pub mod Runs

@@ -3,7 +3,9 @@ use Rattle.std.specs.Prelude.{ℕ, ◌≡◌, List, Some}
 use Rattle.jc_heap.specs.declared.place.Place.{Place}
 use Rattle.jc_heap.specs.Heap.{HeapState}
 use Rattle.jc_heap.specs.Places.{AreThere, HasPlace, set_place, set_places}
-use Rattle.jc_memory.specs.State.{MemoryState, Effect, effected}
+use Rattle.jc_heap.specs.Moves.{Left}
+use Rattle.jc_memory.specs.Reading.{AreDue}
+use Rattle.jc_memory.specs.State.{MemoryState, Effect, effected, effected_all, moves_of}
 use Rattle.jc_packages.specs.Values.{Packages}
 use Rattle.jc_platform.specs.Tokens.{Tokens}
 use Rattle.jc_card_packages.specs.Reading.{packages_of}
@@ -23,3 +25,10 @@ pub record IsReadAs (t : Tokens) (p : Packages) (m : MemoryState) : Type 0 where
 -- an effect that fits a sound memory's packages leaves those that are read
 abbrev pub KeepsReading : Type 0
 KeepsReading = (t : Tokens) (p : Packages) (e : Effect) (m : MemoryState) → IsFit p e m → IsSoundMemory p m → IsReadAs t p m → IsReadAs t p (effected e m)
+
+-- Effects that fit, one after another, leave the packages that are read. Of what a loss of power within them leaves they are read, too, and of the
+-- memory of a card that is powered up over it
+pub record RunsKeepReading : Type 0 where
+  pub done : (t : Tokens) (p : Packages) (es : List Effect) (m : MemoryState) → AreDue (IsFit p) es m → IsSoundMemory p m → IsReadAs t p m → IsReadAs t p (effected_all es m)
+  pub lost : (t : Tokens) (p : Packages) (es : List Effect) (m : MemoryState) (h : HeapState) → AreDue (IsFit p) es m → IsSoundMemory p m → IsReadAs t p m → Left (moves_of es) m.heap h → packages_of t h ≡ Some p
+  pub again : (t : Tokens) (p : Packages) (m : MemoryState) → packages_of t m.heap.durable ≡ Some p → m.heap.now ≡ m.heap.durable → IsReadAs t p m

@@ -1,5 +1,5 @@
 //! Laws of the definitions.
-ghost use Rattle.jc_reading_laws.specs.Kept.{KeepsReading, PlacesLeavePackages};
+ghost use Rattle.jc_reading_laws.specs.Kept.{KeepsReading, PlacesLeavePackages, RunsKeepReading};
 ghost use Rattle.jc_reading_laws.specs.Loaded.{LoadedPackagesReadBack};
 ghost use Rattle.jc_reading_laws.specs.Loads.{LoadEndsKeepReading, LoadsAreReadable};
 
@@ -12,6 +12,12 @@ pub fn places_leave_packages()
 /// a loss of power leaves, an effect that fits them leaves it so.
 pub fn fit_effects_keep_what_is_read()
     ensures { KeepsReading }
+{}
+
+/// A law of the definitions: so do effects that fit, one after another; and the packages are read of what a loss of power within them
+/// leaves, and of a memory with that heap at rest.
+pub fn runs_keep_what_is_read()
+    ensures { RunsKeepReading }
 {}
 
 /// A law of the definitions: behind the end of a load the packages that are read are those from before with the one that came in.
