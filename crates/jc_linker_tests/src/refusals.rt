@@ -5,6 +5,7 @@ use jc_linker::fault::LinkFault;
 use jc_linker::link::link;
 use std::test::Fail;
 
+// Why a package is not linked, where it is not; an error where memory was refused.
 fn fault(rt: &HostRuntime, infos: &Infos) -> Result<Option<LinkFault>, Fail> {
     let linked = platform_alone(rt)?;
     let components = read(infos)?;
@@ -13,6 +14,7 @@ fn fault(rt: &HostRuntime, infos: &Infos) -> Result<Option<LinkFault>, Fail> {
     }
     match link(rt.alloc(), &linked, &components) {
         Ok(_) => Ok(None),
+        Err(LinkFault::NoMemory) => Err(Fail::from("no memory")),
         Err(fault) => Ok(Some(fault)),
     }
 }
