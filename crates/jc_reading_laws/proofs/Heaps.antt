@@ -1,8 +1,8 @@
 -- Heaps of whose packages the same is read.
-use Rattle.std.proofs.Common.{◌≡◌, ℕ, suc, ◌+◌, ◌<◌, true, false, inl, inr, List, [], ◌∷◌, map, length, set, get_or, refl, sym, ◌∙◌, ap, subst, arith, Option, Some, None}
+use Rattle.std.proofs.Common.{◌≡◌, ℕ, suc, ◌+◌, ◌<◌, false, inl, inr, List, [], ◌∷◌, map, length, set, get_or, refl, sym, ◌∙◌, ap, subst, arith, Option, Some, None}
 use Rattle.std.specs.Option.{option_and_then}
 use Rattle.std.proofs.lemmas.List.{length-set}
-use Rattle.std.proofs.lemmas.Bool.{cases_Bool, cases_eq, false≢true}
+use Rattle.std.proofs.lemmas.Bool.{cases_eq, false≢true}
 use Rattle.jc_transient.specs.declared.cell.ClearEvent.{ClearEvent}
 use Rattle.jc_transient.specs.declared.cell.ClearEvent.TheVariants.{Reset, Deselect}
 use Rattle.jc_heap.specs.declared.object.Kind.{Kind}
@@ -10,17 +10,17 @@ use Rattle.jc_heap.specs.declared.place.Place.{Place}
 use Rattle.jc_heap.specs.declared.place.Place.TheVariants.{Cell, Static, Registry, AppletCount}
 use Rattle.jc_heap.specs.Components.{record_of, words_of}
 use Rattle.jc_heap.specs.Heap.{HeapState, add_object, add_transient, area_end, item_at, names, set_cell, set_cells, with_area_end}
-use Rattle.jc_heap.specs.Object.{AnObject, APackage, Item, Object, new_transient, transient_size, with_cell}
+use Rattle.jc_heap.specs.Object.{Object, new_transient, transient_size}
 use Rattle.jc_heap.specs.Places.{AreThere, HasPlace, set_place, set_places}
-use Rattle.jc_heap.specs.Statics.{IsStatic, set_word, with_word}
+use Rattle.jc_heap.specs.Statics.{IsStatic, set_word}
 use Rattle.jc_heap.specs.Whole.{AreMet}
-use Rattle.jc_heap.proofs.Laws.{item_at-absent, item_at-add_other, item_at-set_cell, item_at-set_other, set_cell-absent}
-use Rattle.jc_heap.proofs.Tables.{at_or-put_other, at_or-put_same}
+use Rattle.jc_heap.proofs.Laws.{item_at-add_other}
 use Rattle.jc_packages.specs.Values.{Packages}
 use Rattle.jc_platform.specs.Tokens.{Tokens}
 use Rattle.jc_card_packages.specs.Prepared.{prepared}
 use Rattle.jc_card_packages.specs.Reading.{load_of, packages_of, with_prepared, with_records}
-use Rattle.jc_sound.proofs.Statics.{statics_set}
+use Rattle.jc_sound.proofs.Cells.{record-set_cell}
+use Rattle.jc_sound.proofs.Statics.{record-other, record-set_word, statics_set}
 use Rattle.jc_reading_laws.specs.Kept.{PlacesLeavePackages}
 use Rattle.jc_reading_laws.proofs.Records.{load_set}
 
@@ -61,40 +61,6 @@ also h g f first second = record {
 
 -- ---- places
 
-words-with_cell : (t : Item) (i v : ℕ) → words_of (with_cell t i v) ≡ words_of t
-words-with_cell (AnObject o) i v = refl
-words-with_cell (APackage ws) i v = refl
-
-record-set_cell : (h : HeapState) (r i v q : ℕ) → record_of (set_cell h r i v) q ≡ record_of h q
-record-set_cell h r i v q = elim (cases_eq r q) [
-  | inl is ↦ elim (cases_Bool (names h r)) [
-    | inl e ↦ subst (λ n. record_of (set_cell h r i v) n ≡ record_of h n) is (ap words_of (item_at-set_cell h r i v e) ∙ words-with_cell (item_at h r) i v)
-    | inr e ↦ ap (λ g. record_of g q) (set_cell-absent h r i v e)
-  ]
-  | inr n ↦ ap words_of (item_at-set_other h r i v q n)
-]
-
-words-with_word : (t : Item) (j v : ℕ) → words_of (with_word t j v) ≡ set (words_of t) j v
-words-with_word (AnObject o) j v = refl
-words-with_word (APackage ws) j v = refl
-
-record_named : (h : HeapState) (r : ℕ) → 0 < length (record_of h r) → names h r ≡ true
-record_named h r some = elim (cases_Bool (names h r)) [
-  | inl e ↦ e
-  | inr e ↦ absurd (let none : 0 < 0 = subst (λ t. 0 < length (words_of t)) (item_at-absent h r e) some in omega (arith, none))
-]
-
-record-set_word : (h : HeapState) (r j v : ℕ) → names h r ≡ true → record_of (set_word h r j v) r ≡ set (record_of h r) j v
-unfolding item_at names set_word
-record-set_word h r j v e = ap words_of (at_or-put_same (APackage []) h.items r (with_word (item_at h r) j v) e) ∙ words-with_word (item_at h r) j v
-
-record-set_other : (h : HeapState) (r j v q : ℕ) → (r ≡ q → ⊥) → record_of (set_word h r j v) q ≡ record_of h q
-unfolding item_at set_word
-record-set_other h r j v q ne = ap words_of (at_or-put_other (APackage []) h.items r q (with_word (item_at h r) j v) ne)
-
-static_named : (h : HeapState) (r j : ℕ) → IsStatic (record_of h r) j → names h r ≡ true
-static_named h r j static = let within = static.within in record_named h r (omega (arith, within))
-
 record-registry : (h : HeapState) (i v q : ℕ) → record_of (set_place h (Registry i) v) q ≡ record_of h q
 unfolding item_at
 record-registry h i v q = refl
@@ -123,8 +89,8 @@ ArePlaced h (c ∷ cs) = IsPlaced h c.0 × ArePlaced h cs
 
 load-set_word : (h : HeapState) (r j v q : ℕ) → IsStatic (record_of h r) j → load_of (record_of (set_word h r j v) q) ≡ load_of (record_of h q)
 load-set_word h r j v q static = elim (cases_eq r q) [
-  | inl is ↦ subst (λ n. load_of (record_of (set_word h r j v) n) ≡ load_of (record_of h n)) is (ap load_of (record-set_word h r j v (static_named h r j static)) ∙ load_set (record_of h r) j v static)
-  | inr ne ↦ ap load_of (record-set_other h r j v q ne)
+  | inl is ↦ subst (λ n. load_of (record_of (set_word h r j v) n) ≡ load_of (record_of h n)) is (ap load_of (record-set_word h r j v static) ∙ load_set (record_of h r) j v static)
+  | inr ne ↦ ap load_of (record-other h r j v q ne)
 ]
 
 pub place_tells : (h : HeapState) (p : Place) (v : ℕ) → IsPlaced h p → TellSame h (set_place h p v)
@@ -147,8 +113,8 @@ static_stays h (Cell r n) v q i placed static = subst (λ ws. IsStatic ws i) (sy
 static_stays h (Static r j) v q i placed static = elim (cases_eq r q) [
   | inl is ↦
       let here : IsStatic (record_of h r) i = subst (λ n. IsStatic (record_of h n) i) (sym is) static in
-      subst (λ n. IsStatic (record_of (set_word h r j v) n) i) is (subst (λ ws. IsStatic ws i) (sym (record-set_word h r j v (static_named h r j placed))) (image_set (record_of h r) i j v here placed))
-  | inr ne ↦ subst (λ ws. IsStatic ws i) (sym (record-set_other h r j v q ne)) static
+      subst (λ n. IsStatic (record_of (set_word h r j v) n) i) is (subst (λ ws. IsStatic ws i) (sym (record-set_word h r j v placed)) (image_set (record_of h r) i j v here placed))
+  | inr ne ↦ subst (λ ws. IsStatic ws i) (sym (record-other h r j v q ne)) static
 ]
 static_stays h (Registry n) v q i placed static = subst (λ ws. IsStatic ws i) (sym (record-registry h n v q)) static
 static_stays h AppletCount v q i placed static = subst (λ ws. IsStatic ws i) (sym (record-count h v q)) static

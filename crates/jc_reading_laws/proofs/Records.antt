@@ -1,16 +1,18 @@
 -- A word of a package's static image says nothing of its components.
-use Rattle.std.proofs.Common.{◌≡◌, ℕ, zero, suc, ◌+◌, ◌-◌, ◌/◌, ◌%◌, ◌<◌, ◌≤◌, ◌==◌, inl, inr, List, [], ◌∷◌, length, take, drop, set, map, get_or, refl, sym, ◌∙◌, ap, arith, Option, Some, None, if◌then◌else◌, nat_lt}
-use Rattle.std.specs.List.{range_with_len}
+use Rattle.std.proofs.Common.{◌≡◌, ℕ, zero, suc, ◌+◌, ◌-◌, ◌/◌, ◌%◌, ◌<◌, ◌≤◌, inl, inr, List, [], ◌∷◌, length, take, drop, set, get_or, refl, sym, ◌∙◌, ap, arith, Option, Some, None, if◌then◌else◌, nat_lt}
 use Rattle.std.specs.Option.{option_map}
 use Rattle.std.proofs.lemmas.List.{get_or-drop, get_or-set_other, get_or-take, take-set-le}
 use Rattle.std.proofs.lemmas.Bool.{cases_Bool, cases_eq, eq-eqb, ne_eqb}
 use Rattle.std.proofs.lemmas.Option.{none-some, same_Some}
+use Rattle.jc_cap_fields.specs.declared.formats.Format.TheVariants.{V2_1}
+use Rattle.jc_cap.specs.declared.texts.Load.{Load}
 use Rattle.jc_heap.specs.declared.component.Span.{Span}
 use Rattle.jc_heap.specs.Components.{info_of, info_span, part_sizes, record_parts, span_in, words_for}
 use Rattle.jc_heap.specs.Cut.{cut}
 use Rattle.jc_heap.specs.Image.{packed_byte, unpacked}
 use Rattle.jc_heap.specs.Statics.{IsStatic, image_from, statics_of}
 use Rattle.jc_heap.proofs.StaticImages.{static_behind, statics-walk, statics-zero}
+use Rattle.jc_sound.proofs.Lists.{byte_same, map_same}
 use Rattle.jc_card_packages.specs.Reading.{load_of, text_at, text_in}
 
 -- words that all belong to an earlier part begin none
@@ -121,16 +123,9 @@ span_before tag zero at (w ∷ ws) b sp some e is = elim (cases_eq w 0) [
 
 -- ---- the bytes of an info
 
-map_same : (f g : ℕ → ℕ) (a n m : ℕ) → a + n ≤ m → ((k : ℕ) → k < m → f k ≡ g k) → map f (range_with_len a n) ≡ map g (range_with_len a n)
-map_same f g a zero m le same = refl
-map_same f g a (suc n) m le same = λ i. same a (omega (arith, le)) i ∷ map_same f g (a + 1) n m (omega (arith, le)) same i
-
-pub bytes_same : (n : ℕ) (xs ys : List ℕ) → ((i : ℕ) → i < n → packed_byte xs i ≡ packed_byte ys i) → unpacked n xs ≡ unpacked n ys
+bytes_same : (n : ℕ) (xs ys : List ℕ) → ((i : ℕ) → i < n → packed_byte xs i ≡ packed_byte ys i) → unpacked n xs ≡ unpacked n ys
 unfolding unpacked
 bytes_same n xs ys same = map_same (packed_byte xs) (packed_byte ys) 0 n n (omega arith) same
-
-byte_same : (xs ys : List ℕ) (i : ℕ) → get_or xs (i / 2) 0 ≡ get_or ys (i / 2) 0 → packed_byte xs i ≡ packed_byte ys i
-byte_same xs ys i e = λ t. if i % 2 == 0 then e t / 256 else e t % 256
 
 text_same : (tag : ℕ) (words : List ℕ) (j v : ℕ) (sp : Span) → sp.at + words_for sp.size < j → text_at tag (set words j v) sp ≡ text_at tag words sp
 text_same tag words j v sp before =
@@ -168,27 +163,23 @@ text_set tag words j v some static =
     ap (option_map (text_at tag (set words j v))) (info_set tag words j v some static)
     ∙ of_span (text_at tag (set words j v)) (text_at tag words) (info_of words tag) (λ sp is. text_same tag words j v sp (info_before tag words j sp some static is))
 
+-- the components of a record, by what is read with each tag
+pub load_is : (words : List ℕ) (l : Load) → text_in words 1 ≡ l.header → text_in words 2 ≡ l.directory → text_in words 3 ≡ l.applets → text_in words 4 ≡ l.imports → text_in words 5 ≡ l.pool → text_in words 6 ≡ l.classes →
+    text_in words 7 ≡ l.methods → text_in words 8 ≡ l.statics → text_in words 10 ≡ l.exports → load_of words ≡ record l { format = V2_1; reference_location = None; descriptor = None }
+load_is words l e1 e2 e3 e4 e5 e6 e7 e8 e10 = λ k. record (load_of words) {
+  header = e1 k;
+  directory = e2 k;
+  applets = e3 k;
+  imports = e4 k;
+  pool = e5 k;
+  classes = e6 k;
+  methods = e7 k;
+  statics = e8 k;
+  exports = e10 k;
+}
+
 -- the components of a record are the same, whatever is set in a word of its image
 pub load_set : (words : List ℕ) (j v : ℕ) → IsStatic words j → load_of (set words j v) ≡ load_of words
 load_set words j v static =
     let same : (tag : ℕ) → 0 < tag → text_in (set words j v) tag ≡ text_in words tag = λ tag some. text_set tag words j v some static in
-    let e1 : text_in (set words j v) 1 ≡ text_in words 1 = same 1 (omega arith) in
-    let e2 : text_in (set words j v) 2 ≡ text_in words 2 = same 2 (omega arith) in
-    let e3 : text_in (set words j v) 3 ≡ text_in words 3 = same 3 (omega arith) in
-    let e4 : text_in (set words j v) 4 ≡ text_in words 4 = same 4 (omega arith) in
-    let e5 : text_in (set words j v) 5 ≡ text_in words 5 = same 5 (omega arith) in
-    let e6 : text_in (set words j v) 6 ≡ text_in words 6 = same 6 (omega arith) in
-    let e7 : text_in (set words j v) 7 ≡ text_in words 7 = same 7 (omega arith) in
-    let e8 : text_in (set words j v) 8 ≡ text_in words 8 = same 8 (omega arith) in
-    let e10 : text_in (set words j v) 10 ≡ text_in words 10 = same 10 (omega arith) in
-    λ k. record (load_of words) {
-      header = e1 k;
-      directory = e2 k;
-      applets = e3 k;
-      imports = e4 k;
-      pool = e5 k;
-      classes = e6 k;
-      methods = e7 k;
-      statics = e8 k;
-      exports = e10 k;
-    }
+    load_is (set words j v) (load_of words) (same 1 (omega arith)) (same 2 (omega arith)) (same 3 (omega arith)) (same 4 (omega arith)) (same 5 (omega arith)) (same 6 (omega arith)) (same 7 (omega arith)) (same 8 (omega arith)) (same 10 (omega arith))

@@ -17,6 +17,7 @@ use Rattle.jc_card_packages.specs.Reading.{load_of, text_in}
 use Rattle.jc_card_packages.specs.Told.{info_in}
 use Rattle.jc_card_packages.proofs.Fit.{parts_fit}
 use Rattle.jc_reading_laws.specs.Loaded.{AreBytes}
+use Rattle.jc_reading_laws.proofs.Records.{load_is}
 use Rattle.jc_reading_laws.proofs.ReadBack.{look, text_back, text_of}
 
 -- ---- one component
@@ -176,23 +177,6 @@ module _ (at : ℕ) (t : Texts) (xs : List (Kind × List ℕ)) (rest : List ℕ)
   -- all of them are read of it
   pub load_back : load_of words ≡ kept t
   load_back =
-      let e1 : text_in words 1 ≡ Some t.header = one 1 t.header (omega arith) r.header seen.header in
-      let e2 : text_in words 2 ≡ Some t.directory = one 2 t.directory (omega arith) r.directory seen.directory in
-      let e3 : text_in words 3 ≡ t.applets = one_if 3 t.applets (omega arith) r.applets seen.applets in
-      let e4 : text_in words 4 ≡ Some t.imports = one 4 t.imports (omega arith) r.imports seen.imports in
-      let e5 : text_in words 5 ≡ Some t.pool = one 5 t.pool (omega arith) r.pool seen.pool in
-      let e6 : text_in words 6 ≡ Some t.classes = one 6 t.classes (omega arith) r.classes seen.classes in
-      let e7 : text_in words 7 ≡ Some t.methods = one 7 t.methods (omega arith) r.methods seen.methods in
-      let e8 : text_in words 8 ≡ Some t.statics = one 8 t.statics (omega arith) r.statics seen.statics in
-      let e10 : text_in words 10 ≡ t.exports = one_if 10 t.exports (omega arith) r.exports seen.exports in
-      λ k. record (kept t) {
-        header = e1 k;
-        directory = e2 k;
-        applets = e3 k;
-        imports = e4 k;
-        pool = e5 k;
-        classes = e6 k;
-        methods = e7 k;
-        statics = e8 k;
-        exports = e10 k;
-      }
+      load_is words (kept t) (one 1 t.header (omega arith) r.header seen.header) (one 2 t.directory (omega arith) r.directory seen.directory) (one_if 3 t.applets (omega arith) r.applets seen.applets)
+      (one 4 t.imports (omega arith) r.imports seen.imports) (one 5 t.pool (omega arith) r.pool seen.pool) (one 6 t.classes (omega arith) r.classes seen.classes) (one 7 t.methods (omega arith) r.methods seen.methods)
+      (one 8 t.statics (omega arith) r.statics seen.statics) (one_if 10 t.exports (omega arith) r.exports seen.exports)

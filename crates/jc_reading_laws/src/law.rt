@@ -14,8 +14,8 @@ pub fn fit_effects_keep_what_is_read()
     ensures { KeepsReading }
 {}
 
-/// A law of the definitions: so do effects that fit, one after another; and the packages are read of what a loss of power within them
-/// leaves, and of a memory with that heap at rest.
+/// A law of the definitions: effects that fit, one after another, leave the packages that are read; they are read of what a loss of
+/// power within them leaves, and of a memory with that heap at rest.
 pub fn runs_keep_what_is_read()
     ensures { RunsKeepReading }
 {}

@@ -46,7 +46,7 @@ module _ (h : HeapState) (r i v : ℕ) where
     packages = packages-set_cell h r i v;
   }
 
-  record-set_cell : (q : ℕ) → record_of (set_cell h r i v) q ≡ record_of h q
+  pub record-set_cell : (q : ℕ) → record_of (set_cell h r i v) q ≡ record_of h q
   record-set_cell q = elim (cases_eq r q) [
     | inl is ↦ elim (cases_Bool (names h r)) [
       | inl e ↦ subst (λ n. record_of (set_cell h r i v) n ≡ record_of h n) is (ap words_of (item_at-set_cell h r i v e) ∙ words-with_cell (item_at h r) i v)

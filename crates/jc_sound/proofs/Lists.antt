@@ -16,7 +16,7 @@ pub first_set : (l : List ℕ) (v n : ℕ) → v ≤ n → get_or (set l 0 v) 0 
 first_set [] v n le = omega arith
 first_set (x ∷ l) v n le = le
 
-map_same : (f g : ℕ → ℕ) (a n m : ℕ) → a + n ≤ m → ((k : ℕ) → k < m → f k ≡ g k) → map f (range_with_len a n) ≡ map g (range_with_len a n)
+pub map_same : (f g : ℕ → ℕ) (a n m : ℕ) → a + n ≤ m → ((k : ℕ) → k < m → f k ≡ g k) → map f (range_with_len a n) ≡ map g (range_with_len a n)
 map_same f g a zero m le same = refl
 map_same f g a (suc n) m le same = λ i. same a (omega (arith, le)) i ∷ map_same f g (a + 1) n m (omega (arith, le)) same i
 
@@ -24,7 +24,7 @@ map_same f g a (suc n) m le same = λ i. same a (omega (arith, le)) i ∷ map_sa
 abbrev pub Agree : ℕ → List ℕ → List ℕ → Type 0
 Agree n xs ys = (k : ℕ) → k < n → get_or xs k 0 ≡ get_or ys k 0
 
-byte_same : (xs ys : List ℕ) (i : ℕ) → get_or xs (i / 2) 0 ≡ get_or ys (i / 2) 0 → packed_byte xs i ≡ packed_byte ys i
+pub byte_same : (xs ys : List ℕ) (i : ℕ) → get_or xs (i / 2) 0 ≡ get_or ys (i / 2) 0 → packed_byte xs i ≡ packed_byte ys i
 byte_same xs ys i e = λ t. if i % 2 == 0 then e t / 256 else e t % 256
 
 unpacked_same : (n : ℕ) (xs ys : List ℕ) → n ≤ 16 → Agree 8 xs ys → unpacked n xs ≡ unpacked n ys

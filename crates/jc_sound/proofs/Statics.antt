@@ -109,7 +109,7 @@ item_at-set_word : (h : HeapState) (r j v : ℕ) → names h r ≡ true → item
 unfolding item_at names set_word
 item_at-set_word h r j v e = at_or-put_same (APackage []) h.items r (with_word (item_at h r) j v) e
 
-record-other : (h : HeapState) (r j v q : ℕ) → (r ≡ q → ⊥) → record_of (set_word h r j v) q ≡ record_of h q
+pub record-other : (h : HeapState) (r j v q : ℕ) → (r ≡ q → ⊥) → record_of (set_word h r j v) q ≡ record_of h q
 unfolding item_at set_word
 record-other h r j v q ne = ap words_of (at_or-put_other (APackage []) h.items r q (with_word (item_at h r) j v) ne)
 
@@ -131,7 +131,7 @@ module _ (h : HeapState) (r j v : ℕ) (static : IsStatic (record_of h r) j) whe
   abbrev g : HeapState
   g = set_word h r j v
 
-  record-set_word : record_of g r ≡ set (record_of h r) j v
+  pub record-set_word : record_of g r ≡ set (record_of h r) j v
   record-set_word =
       let within = static.within in
       ap words_of (item_at-set_word h r j v (record_named h r (omega (arith, within)))) ∙ words-with_word (item_at h r) j v
