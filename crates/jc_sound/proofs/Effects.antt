@@ -9,7 +9,7 @@ use Rattle.jc_heap.specs.declared.object.Kind.{Kind}
 use Rattle.jc_heap.specs.declared.object.Kind.TheVariants.{ReferenceArray}
 use Rattle.jc_heap.specs.declared.place.Place.{Place}
 use Rattle.jc_heap.specs.declared.place.Place.TheVariants.{Cell, Static, Registry, AppletCount}
-use Rattle.jc_heap.specs.Object.{facts_of, new_object, object_size, transient_size}
+use Rattle.jc_heap.specs.Object.{facts_of, is_object, new_object, object_size, transient_size}
 use Rattle.jc_heap.specs.Heap.{HeapState, LacksCells, add_object, add_transient, cells, facts, is_touched, item_at, names, set_cell, set_cells}
 use Rattle.jc_heap.specs.Keeping.{MayAllStand, MayStand}
 use Rattle.jc_heap.specs.Moves.{Move, Write, SetPlaces, Count, SetCells, AddObject, AddTransient, AddPackage, Begin, Commit, Abort, new_move}
@@ -17,7 +17,7 @@ use Rattle.jc_heap.specs.Places.{applet_changes, place_word, set_places}
 use Rattle.jc_heap.specs.Statics.{set_word}
 use Rattle.jc_heap.specs.Whole.{IsReference}
 use Rattle.jc_heap.proofs.KeepingMoves.{keeps}
-use Rattle.jc_heap.proofs.Laws.{facts-set_cell, item_at-absent, set_cell-absent}
+use Rattle.jc_heap.proofs.Laws.{bare-set_cell, facts-set_cell, item_at-absent, set_cell-absent}
 use Rattle.jc_memory.specs.Cells.{word_at, word_in}
 use Rattle.jc_memory.specs.Owners.{owner_number}
 use Rattle.jc_memory.specs.State.{MemoryState, Effect, Changes, Fills, Flags, Clears, Buries, Turns, Starts, Sends, effected}
@@ -27,13 +27,13 @@ use Rattle.jc_pin.specs.Updating.{bytes_put}
 use Rattle.jc_card_checks.specs.Objects.{is_bytes, is_instance, is_kept, is_reference, stands}
 use Rattle.jc_sound.specs.State.{IsFitObject, IsSoundMemory, IsSoundUpTo, is_applet, is_open, is_owner_up_to, last_own, most_owner}
 use Rattle.jc_sound.specs.Fit.{AreStatics, FitsChange, FitsMove, FitsNew, FitsPlace, FitsRun, IsFit, IsPinObject, KeepsSound, OfPin, OfRegistry, OfStatics, OfValue, RegistersApplet, SetsAid, SetsUpPin, UpdatesPin}
-use Rattle.jc_sound.proofs.Frames.{Frames, bytes_held, cell_frames, object_frames, places_frames, run_frames, statics_held, transient_frames, word_frames}
+use Rattle.jc_sound.proofs.Frames.{Frames, bytes_held, cell_frames, object_frames, places_frames, run_frames, same_object, statics_held, transient_frames, word_frames}
 use Rattle.jc_sound.proofs.Kept.{IsSoundBut, owner_same}
 use Rattle.jc_sound.proofs.Lists.{zeros}
 use Rattle.jc_sound.proofs.Memories.{aborted_kept, again, applet_same, begun_kept, change_kept, choose, committed_kept, home_same, kept_changed, known_low, known_now, low_now, most_opened, turned_kept}
 use Rattle.jc_sound.proofs.Objects.{object_added, transient_added}
 use Rattle.jc_sound.proofs.Pins.{PinAt, array_bytes, counter_kept, first_kept, pin_at, pin_still, update_kept}
-use Rattle.jc_sound.proofs.Registry.{IsEntry, entered, facts_still}
+use Rattle.jc_sound.proofs.Registry.{IsEntry, entered, facts_still, item_still}
 use Rattle.jc_sound.proofs.Statics.{static_kept, words_kept}
 use Rattle.jc_sound.proofs.Values.{aid_run_kept, none_of, of_all, run_kept, value_kept}
 
@@ -101,7 +101,7 @@ module _ (p : Packages) (m : MemoryState) (s : IsSoundMemory p m) (r v : ℕ) (p
   untouched off = ap (λ b. b && list_any (λ k. k == place_word (Cell r 2)) m.heap.touched) off
 
   durable_frames : Frames m.heap.durable left
-  durable_frames = choose (Frames m.heap.durable) touched m.heap.durable counted_durable (λ on. record { packages = refl; counts = refl; registry = refl; top = omega arith; headers = λ q low. refl }) (λ off. cell_frames m.heap.durable r 2 v)
+  durable_frames = choose (Frames m.heap.durable) touched m.heap.durable counted_durable (λ on. record { packages = refl; counts = refl; registry = refl; top = omega arith; headers = λ q low. refl; objects = λ q low. refl }) (λ off. cell_frames m.heap.durable r 2 v)
 
   count_kept : IsSoundMemory p (effected (Changes (Count (Cell r 2) v)) m)
   count_kept =
@@ -121,7 +121,8 @@ module _ (p : Packages) (m : MemoryState) (s : IsSoundMemory p m) (r v : ℕ) (p
         counts = λ closed. f.counts ∙ s.counts closed ∙ sym d.counts;
         active = owner_same _ m.heap.now (set_cell m.heap.now r 2 v) (owner_number m.registers.active) f.packages ∙ ap (λ n. is_owner_up_to n m.heap.now (owner_number m.registers.active)) same ∙ s.active;
         behind = let low = s.behind in let more = d.top in omega (arith, low, more);
-        own = λ q low. ap is_kept (facts-set_cell m.heap.now r 2 v q) ∙ s.own q low;
+        own = λ q low there. ap is_kept (facts-set_cell m.heap.now r 2 v q)
+            ∙ s.own q low (sym (same_object (item_at (set_cell m.heap.now r 2 v) q) (item_at m.heap.now q) (bare-set_cell m.heap.now r 2 v q)) ∙ there);
         home = home_same m.heap.now (set_cell m.heap.now r 2 v) m.registers.installation f.packages ∙ s.home;
         selected = λ a e. applet_same m.heap.durable left a d.counts ∙ s.selected a e;
       }
@@ -169,7 +170,7 @@ module _ (p : Packages) (m : MemoryState) (s : IsSoundMemory p m) (changes : Lis
     counts = λ closed. absurd (false≢true (sym closed ∙ f.installing));
     active = owner_same _ m.heap.now registered (owner_number m.registers.active) refl ∙ ap (λ n. is_owner_up_to n m.heap.now (owner_number m.registers.active)) most_is ∙ s.active;
     behind = subst (λ h. last_own m < h.top) (sym left_is) s.behind;
-    own = λ q low. ap is_kept (facts_still p m.heap.now (last_own m) f.entry new_entry q) ∙ s.own q low;
+    own = λ q low there. ap is_kept (facts_still p m.heap.now (last_own m) f.entry new_entry q) ∙ s.own q low (sym (ap is_object (item_still p m.heap.now (last_own m) f.entry new_entry q)) ∙ there);
     home = s.home;
     selected = λ a e. ap (λ h. is_applet h a) left_is ∙ s.selected a e;
   }

@@ -8,8 +8,9 @@ use Rattle.jc_heap.proofs.Laws.{same_facts}
 use Rattle.jc_memory.specs.Owners.{at_reset, owner_number}
 use Rattle.jc_memory.specs.State.{MemoryState}
 use Rattle.jc_packages.specs.Values.{Packages}
-use Rattle.jc_card_checks.specs.Objects.{is_kept}
+use Rattle.jc_card_checks.specs.Objects.{is_kept, stands}
 use Rattle.jc_card_checks.specs.Sound.{IsSound}
+use Rattle.jc_sound.proofs.Frames.{same_object}
 use Rattle.jc_sound.specs.State.{IsFitObject, IsSoundMemory, IsSoundUpTo, OutlastsLosses, is_home, is_open, is_owner_up_to, last_own, most_owner}
 
 found : (p : Packages) (m : MemoryState) → IsSoundMemory p m → IsSound p m.heap.durable (last_own m)
@@ -52,10 +53,12 @@ module _ (p : Packages) (m n : MemoryState) (s : IsSoundMemory p m) (now : n.hea
     counts = λ closed. ap (λ h. h.counts) (now ∙ sym durable);
     active = ap (λ g. is_owner_up_to (most_owner n) n.heap.now (owner_number g.active)) reset;
     behind = let a = ap (λ h. h.top) durable in let b = own_is in let c = s.behind in omega (arith, a, b, c);
-    own = λ r below.
+    own = λ r below there.
         let b = own_is in let c = s.behind in
         let here : r ≤ last_own m = omega (arith, below, b) in
-        ap (λ h. is_kept (facts h r)) now ∙ ap is_kept (sym (same_facts (item_at m.heap.now r) (item_at m.heap.durable r) (s.whole.shape.items r (omega (arith, here, c))))) ∙ s.own r here;
+        let same = s.whole.shape.items r (omega (arith, here, c)) in
+        ap (λ h. is_kept (facts h r)) now ∙ ap is_kept (sym (same_facts (item_at m.heap.now r) (item_at m.heap.durable r) same))
+        ∙ s.own r here (same_object (item_at m.heap.now r) (item_at m.heap.durable r) same ∙ ap (λ h. stands h r) (sym now) ∙ there);
     home = ap (λ g. is_home n.heap.now g.installation) reset;
     selected = λ a e. absurd (none-some a (ap (λ g. g.selected) (sym reset) ∙ e));
   }

@@ -18,7 +18,7 @@ use Rattle.jc_packages.specs.Values.{Packages}
 use Rattle.jc_card_checks.specs.Objects.{is_kept}
 use Rattle.jc_sound.specs.State.{IsSoundMemory, IsSoundUpTo, is_applet, is_home, is_open, is_owner_up_to, last_own, most_in, most_new, most_owner}
 use Rattle.jc_sound.proofs.Kept.{more_owners, owner_more, owner_same}
-use Rattle.jc_sound.proofs.Frames.{Frames}
+use Rattle.jc_sound.proofs.Frames.{Frames, same_object}
 
 -- registers that suit a memory; an installation may begin with them
 pub record IsTurned (m : MemoryState) (g : Registers) : Type 0 where
@@ -113,7 +113,8 @@ module _ (p : Packages) (m : MemoryState) (s : IsSoundMemory p m) where
       counts = λ closed. f.counts ∙ s.counts closed ∙ sym counts_left;
       active = owner_same _ now h (owner_number m.registers.active) f.packages ∙ ap (λ n. is_owner_up_to n now (owner_number m.registers.active)) most_same ∙ s.active;
       behind = choose (λ k. own < k.top) m.heap.begun durable h (λ on. s.behind) (λ off. let top = f.top in let first = top_behind in omega (arith, top, first));
-      own = λ r low. ap is_kept (f.headers r (let first = top_behind in omega (arith, low, first))) ∙ s.own r low;
+      own = λ r low there. let first = top_behind in let inside : r < now.top = omega (arith, low, first) in
+          ap is_kept (f.headers r inside) ∙ s.own r low (sym (f.objects r inside) ∙ there);
       home = home_same now h m.registers.installation f.packages ∙ s.home;
       selected = λ a e. applet_same durable left a counts_left ∙ s.selected a e;
     }
@@ -208,7 +209,8 @@ module _ (p : Packages) (m : MemoryState) (s : IsSoundMemory p m) where
     counts = λ closed. refl;
     active = owner_same _ now durable (owner_number m.registers.active) (sym s.packages) ∙ ap (λ n. is_owner_up_to n now (owner_number m.registers.active)) aborted_most ∙ s.active;
     behind = s.behind;
-    own = λ r low. ap is_kept (sym (same_facts (item_at now r) (item_at durable r) (s.whole.shape.items r (let first = s.behind in omega (arith, low, first))))) ∙ s.own r low;
+    own = λ r low there. let first = s.behind in let same = s.whole.shape.items r (omega (arith, low, first)) in
+        ap is_kept (sym (same_facts (item_at now r) (item_at durable r) same)) ∙ s.own r low (same_object (item_at now r) (item_at durable r) same ∙ there);
     home = home_same now durable m.registers.installation (sym s.packages) ∙ s.home;
     selected = s.selected;
   }

@@ -37,7 +37,7 @@ module _ (p : Packages) (h : HeapState) (own : ℕ) (entry : AppletEntry) (new :
   abbrev count : ℕ
   count = h.counts.1
 
-  item_still : (q : ℕ) → item_at g q ≡ item_at h q
+  pub item_still : (q : ℕ) → item_at g q ≡ item_at h q
   unfolding item_at
   item_still q = refl
 

@@ -11,7 +11,7 @@ use Rattle.jc_memory.specs.Owners.{at_reset, owner_number}
 use Rattle.jc_memory.specs.State.{MemoryState}
 use Rattle.jc_packages.specs.Values.{Packages}
 use Rattle.jc_packages.specs.Lookups.{statics_at}
-use Rattle.jc_card_checks.specs.Objects.{HoldsValues, fits_class, is_instance, is_kept}
+use Rattle.jc_card_checks.specs.Objects.{HoldsValues, fits_class, is_instance, is_kept, stands}
 use Rattle.jc_card_checks.specs.Sound.{HasOwnAid, HoldsStatics, IsRegistered, IsSound, entry_word, package_record_at}
 
 -- the runtime environment, an applet with a number up to this one, or a package
@@ -86,7 +86,7 @@ pub record IsSoundMemory (p : Packages) (m : MemoryState) : Type 0 where
   pub counts : is_open m.registers.installation ≡ false → m.heap.now.counts ≡ m.heap.durable.counts
   pub active : is_owner_up_to (most_owner m) m.heap.now (owner_number m.registers.active) ≡ true
   pub behind : last_own m < m.heap.durable.top
-  pub own : (r : ℕ) → r ≤ last_own m → is_kept (facts m.heap.now r) ≡ false
+  pub own : (r : ℕ) → r ≤ last_own m → stands m.heap.now r ≡ true → is_kept (facts m.heap.now r) ≡ false
   pub home : is_home m.heap.now m.registers.installation ≡ true
   pub selected : (a : AppletNumber) → m.registers.selected ≡ Some a → is_applet m.heap.durable a ≡ true
 

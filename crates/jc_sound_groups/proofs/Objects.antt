@@ -46,16 +46,16 @@ fits_has_instances p kind class long is fits small =
 
 module _ (p : Packages) (m : MemoryState) (sound : IsSoundMemory p m) where
   -- a persistent instance is none of the environment's own objects
-  pub kept_behind : (r : ℕ) → is_kept (facts m.heap.now r) ≡ true → last_own m < r
-  kept_behind r kept = elim (cases_lt (last_own m) r) [
+  pub kept_behind : (r : ℕ) → IsObject m.heap.now r → is_kept (facts m.heap.now r) ≡ true → last_own m < r
+  kept_behind r there kept = elim (cases_lt (last_own m) r) [
     | inl behind ↦ behind
-    | inr own ↦ absurd (both_ways (is_kept (facts m.heap.now r)) (sound.own r own) kept)
+    | inr own ↦ absurd (both_ways (is_kept (facts m.heap.now r)) (sound.own r own there) kept)
   ]
 
   -- it fits its class
   pub kept_fits : (r : ℕ) → IsObject m.heap.now r → is_kept (facts m.heap.now r) ≡ true → has_instances p (facts m.heap.now r).class ≡ true
   kept_fits r there kept =
-      let fit = sound.now.objects r (kept_behind r kept) there in
+      let fit = sound.now.objects r (kept_behind r there kept) there in
       let instance = (and_parts (is_instance (facts m.heap.now r).kind) (is_none (facts m.heap.now r).event) kept).0 in
       fits_has_instances p (facts m.heap.now r).kind (facts m.heap.now r).class (facts m.heap.now r).length (instance_kind (facts m.heap.now r).kind instance) fit.class (fit.small instance)
 

@@ -194,7 +194,7 @@ module _ (p : Packages) (m : MemoryState) (known : KnowsClasses p) (sound : IsSo
       let own = class r is.0 in
       record {
         there = (is.1).there;
-        behind = kept_behind p m sound r (is.1).kept;
+        behind = kept_behind p m sound r (is.1).there (is.1).kept;
         kept = (is.1).kept;
         pin = own;
         aid = false_from_ne_true (is_a p (facts m.heap.now r).class Aid) (λ isnt. aid_no_pin p known (facts m.heap.now r).class instances isnt own);

@@ -58,7 +58,7 @@ module _ (p : Packages) (m : MemoryState) (known : KnowsClasses p) (sound : IsSo
     has_nine : (facts m.heap.now r).length ≡ 9
     unfolding cells_of is_interface
     has_nine =
-        let fit = sound.now.objects r (kept_behind p m sound r kept) there in
+        let fit = sound.now.objects r (kept_behind p m sound r there kept) there in
         let instance = instance_kind (facts m.heap.now r).kind (and_parts (is_instance (facts m.heap.now r).kind) _ kept).0 in
         let whole : fits_class p Instance (facts m.heap.now r).class (facts m.heap.now r).length ≡ true = subst (λ k. fits_class p k (facts m.heap.now r).class (facts m.heap.now r).length ≡ true) instance fit.class in
         let one = and_parts (is_class p (facts m.heap.now r).class) _ whole in
@@ -67,7 +67,7 @@ module _ (p : Packages) (m : MemoryState) (known : KnowsClasses p) (sound : IsSo
 
     words_are : words_at m r 0 9 ≡ cells m.heap.now r
     words_are =
-        let long = (sound.now.objects r (kept_behind p m sound r kept) there).cells no_event in
+        let long = (sound.now.objects r (kept_behind p m sound r there kept) there).cells no_event in
         sym (fill_by_all (word_at m r) (cells m.heap.now r) 9 0 (long ∙ has_nine) (λ k lt. sym (ap (λ e. word_in e m r k) no_event)))
 
     behind_header : (b : Bool) → is_object (item_at m.heap.now r) ≡ b → b ≡ true → aid_behind m r (if b then Some (facts m.heap.now r) else None) ≡ Some (aid_in (cells m.heap.now r))
