@@ -1,0 +1,3 @@
+pub mod Prepares
+pub mod Names
+pub mod Grows
