@@ -1,3 +1,5 @@
 pub mod Prepares
 pub mod Names
 pub mod Grows
+pub mod Texts
+pub mod Records

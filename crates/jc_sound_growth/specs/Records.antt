@@ -1,0 +1,24 @@
+-- Packages as a heap has them.
+use Rattle.std.specs.Prelude.{ℕ, ◌≡◌, ◌<◌, List, Some, Ok, length, slice_get, slice_index}
+use Rattle.jc_heap.specs.Heap.{HeapState}
+use Rattle.jc_platform.specs.Table.{Reads}
+use Rattle.jc_platform.specs.Tokens.{Tokens}
+use Rattle.jc_packages.specs.Values.{Packages}
+use Rattle.jc_linker.specs.declared.components.Components.{Components}
+use Rattle.jc_card_packages.specs.Reading.{packages_of}
+use Rattle.jc_card_checks.specs.Sound.{package_record_at}
+use Rattle.jc_class_laws.specs.Given.{AreRead, HasAppletComponent, HasByteTokens}
+
+-- words of 16 bits
+abbrev pub AreWords : List ℕ → Type 0
+AreWords words = (i : ℕ) → slice_index words i < 65536
+
+-- each package's record is of such words
+abbrev pub HasWords : HeapState → Type 0
+HasWords h = (k : ℕ) → k < length h.packages → AreWords (package_record_at h k)
+
+-- the packages of a heap, behind those of a platform whose table was read, with tokens of one byte each, were linked of components,
+-- among them right Class and Applet components
+abbrev pub RecordsAreRead : Type 0
+RecordsAreRead = (text : List ℕ) (t : Tokens) (h : HeapState) (p : Packages) → Reads text (Ok t) → HasByteTokens t → HasWords h → packages_of t h ≡ Some p →
+    (cs : List Components) × AreRead cs p × ((i : ℕ) (c : Components) → slice_get cs i ≡ Some c → HasAppletComponent c.applets)
