@@ -3,3 +3,5 @@ pub mod Names
 pub mod Grows
 pub mod Texts
 pub mod Records
+pub mod Words
+pub mod OneMore

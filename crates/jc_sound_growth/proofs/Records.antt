@@ -7,13 +7,14 @@ use Rattle.jc_heap.specs.Heap.{HeapState}
 use Rattle.jc_platform.specs.Platform.{TellNames}
 use Rattle.jc_platform.proofs.NamesTold.{names_told}
 use Rattle.jc_packages.specs.Values.{Packages}
+use Rattle.jc_cap.specs.declared.texts.Load.{Load}
 use Rattle.jc_linker.specs.declared.components.Components.{Components}
 use Rattle.jc_linker.specs.Linking.{with_package}
 use Rattle.jc_card_packages.specs.Prepared.{PreparedPackage, prepared}
 use Rattle.jc_card_packages.specs.Reading.{load_of, packages_of, with_prepared, with_records}
 use Rattle.jc_card_packages.specs.Told.{told}
 use Rattle.jc_card_packages.specs.declared.refusal.Refusal.{Refusal}
-use Rattle.jc_linked_laws.specs.Linked.{AreLinkedOnto}
+use Rattle.jc_linked_laws.specs.Linked.{AreLinkedOnto, IsLinkedOnto}
 use Rattle.jc_linked_laws.proofs.Linking.{some_value}
 use Rattle.jc_linked_laws.proofs.Lists.{AllOf, IfThere, all_at}
 use Rattle.jc_class_laws.specs.Given.{HasAppletComponent, HasByteTokens, HasClassComponent}
@@ -41,13 +42,18 @@ prepared_some : (p all : Packages) (r : Result PreparedPackage Refusal) → with
 prepared_some p all (Err why) e = absurd cc
 prepared_some p all (Ok x) e = (x, refl, some_value (with_package p x.linked) all e)
 
-components_good : (p : Packages) (words : List ℕ) (x : PreparedPackage) → AreWords words → (i : IsPrepared p (load_of words) x.linked) → IsOfComponents (told i.texts i.contents)
-components_good p words x small i =
-    let classes = class_component (load_of words) i.texts i.contents i.assembles i.reads in
+pub components_good : (p : Packages) (load : Load) (x : PreparedPackage) → IfThere IsOfBytes load.applets → (i : IsPrepared p load x.linked) → IsOfComponents (told i.texts i.contents)
+components_good p load x bytes i =
+    let classes = class_component load i.texts i.contents i.assembles i.reads in
     record {
       classes = (i.texts.format, classes.0, classes.1);
-      applets = applet_component i.texts.applets i.contents.applets (subst (IfThere IsOfBytes) (assembled_applets (load_of words) i.texts i.assembles) (text_bytes words 3 small)) (applets_said i.texts i.contents i.reads);
+      applets = applet_component i.texts.applets i.contents.applets (subst (IfThere IsOfBytes) (assembled_applets load i.texts i.assembles) bytes) (applets_said i.texts i.contents i.reads);
     }
+
+pub linked_onto : (p : Packages) (load : Load) (x : PreparedPackage) (i : IsPrepared p load x.linked) → IsOfComponents (told i.texts i.contents) → IsLinkedOnto p (told i.texts i.contents) x.linked
+linked_onto p load x i good =
+    let few = few_classes good.classes.0 i.contents.classes good.classes.1 good.classes.2 in
+    (i.few, omega (arith, few), i.links)
 
 read_onto : (rs : List (List ℕ)) (p all : Packages) → AllOf AreWords rs → with_records p rs ≡ Some all → IsReadOnto p all
 read_onto [] p all small e =
@@ -59,11 +65,10 @@ read_onto (words ∷ rs) p all small e =
     let i = prepares p (load_of words) x.0 x.1 in
     let c = told i.texts i.contents in
     let rest = read_onto rs (with_package p x.0.linked) all small.1 (ap (λ r. with_records r rs) x.2 ∙ s.2) in
-    let good = components_good p words x.0 small.0 i in
-    let few : length c.classes < 257 = few_classes good.classes.0 c.classes good.classes.1 good.classes.2 in
+    let good = components_good p (load_of words) x.0 (text_bytes words 3 small.0) i in
     record {
       components = c ∷ rest.components;
-      linked = (x.0.linked, (i.few, omega (arith, few), i.links), rest.linked);
+      linked = (x.0.linked, linked_onto p (load_of words) x.0 i good, rest.linked);
       good = (good, rest.good);
       platform = rest.platform;
     }

@@ -3,4 +3,7 @@
 
 mod law;
 
-pub use law::{packages_that_were_read_are_linked, what_fits_packages_fits_with_one_more};
+pub use law::{
+    images_have_words, one_more_package_is_linked_well, packages_that_were_read_are_linked,
+    what_fits_packages_fits_with_one_more,
+};
