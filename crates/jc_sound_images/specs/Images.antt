@@ -4,7 +4,6 @@ use Rattle.jc_words.specs.Layout.{least_size}
 use Rattle.jc_memory.specs.State.{MemoryState, Effect, effected}
 use Rattle.jc_platform.specs.Tokens.{Tokens}
 use Rattle.jc_platform.specs.Table.{Reads}
-use Rattle.jc_packages.specs.Values.{Packages}
 use Rattle.jc_card.specs.Fixed.{fixed_of}
 use Rattle.jc_card.specs.Made.{formatted}
 use Rattle.jc_sound_images.specs.Heaps.{HasBeginning, IsOwnHeap}
