@@ -1,7 +1,7 @@
 -- The heap of a card as commands leave it.
 use Rattle.std.specs.Prelude.{ℕ, ◌≡◌, ◌<◌, ◌≤◌, false, [], ◌∷◌, length, Ok, Some}
 use Rattle.jc_words.specs.Layout.{magic, version, least_size, registry_length}
-use Rattle.jc_heap.specs.Heap.{HeapState, facts}
+use Rattle.jc_heap.specs.Heap.{HeapState, IsObject, facts}
 use Rattle.jc_heap.specs.Keeping.{StandsWhole}
 use Rattle.jc_platform.specs.Tokens.{Tokens}
 use Rattle.jc_platform.specs.Table.{Reads}
@@ -29,4 +29,4 @@ pub record IsOwnHeap (n : ℕ) (t : Tokens) (p : Packages) (h : HeapState) : Typ
   pub fits : IsSoundUpTo h.counts.1 p h (last_fixed h)
   pub environment : IsEnvironments p h (last_fixed h)
   pub behind : last_fixed h < h.top
-  pub own : (r : ℕ) → r ≤ last_fixed h → is_kept (facts h r) ≡ false
+  pub own : (r : ℕ) → r ≤ last_fixed h → IsObject h r → is_kept (facts h r) ≡ false
