@@ -1,0 +1,6 @@
+//! Soundness: the package that a load brings leaves a memory fitting the packages.
+#![tactic(auto)]
+
+mod law;
+
+pub use law::{effects_count_packages, laid_words_count_packages, records_of_loads_fit};
