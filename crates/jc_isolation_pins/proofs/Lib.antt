@@ -1,0 +1,4 @@
+pub mod Contexts
+pub mod Cells
+pub mod Heaps
+pub mod Effects
