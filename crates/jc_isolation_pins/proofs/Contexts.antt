@@ -43,7 +43,7 @@ module _ (m n : MemoryState) (h : HeapState) (few : h.counts.1 ≤ 64) where
   unfolding package_of_applet
   registered a some low =
       let is : (not (a == 0) && nat_le a 64 && nat_le a h.counts.1) ≡ true =
-          and_from (not (a == 0) && nat_le a 64) _ (and_from (not (a == 0)) _ (ap not (ne_eqb a 0 (λ e. omega (arith, e, some)))) (le-leb a 64 (omega (arith, few, low)))) (le-leb a h.counts.1 low) in
+      and_from (not (a == 0) && nat_le a 64) _ (and_from (not (a == 0)) _ (ap not (ne_eqb a 0 (λ e. omega (arith, e, some)))) (le-leb a 64 (omega (arith, few, low)))) (le-leb a h.counts.1 low) in
       ap (λ b. if b then slice_index h.applets (3 * (a - 1) + 1) else installed_package n.registers.installation) is
       ∙ sym (ap (λ b. if b then slice_index h.applets (3 * (a - 1) + 1) else installed_package m.registers.installation) is)
 
