@@ -1,10 +1,10 @@
 -- What leaves the fifth cell of an object as it is.
-use Rattle.std.proofs.Common.{◌≡◌, ◌⊎◌, ℕ, suc, ◌+◌, ◌<◌, ◌≤◌, ◌++◌, true, false, inl, inr, List, [], ◌∷◌, length, set, get_or, refl, sym, ◌∙◌, ap, subst, arith}
+use Rattle.std.proofs.Common.{◌≡◌, ℕ, suc, ◌≤◌, ◌++◌, inl, inr, List, [], ◌∷◌, length, get_or, refl, sym, ◌∙◌, ap, subst, arith}
 use Rattle.std.proofs.lemmas.Bool.{cases_Bool, cases_eq}
 use Rattle.std.proofs.lemmas.List.{get_or-set_other, get_or-set_same}
 use Rattle.jc_heap.specs.declared.place.Place.{Place}
 use Rattle.jc_heap.specs.declared.place.Place.TheVariants.{Cell, Static, Registry, AppletCount}
-use Rattle.jc_heap.specs.Object.{AnObject, APackage, Item, bare, cells_of, with_cell}
+use Rattle.jc_heap.specs.Object.{AnObject, APackage, Item, bare, cells_of}
 use Rattle.jc_heap.specs.Heap.{HeapState, cells, item_at, names, set_cell, set_cells}
 use Rattle.jc_heap.specs.Places.{set_place, set_places}
 use Rattle.jc_heap.specs.Statics.{set_word, with_word}

@@ -1,7 +1,7 @@
 -- What leaves contexts as they are.
 use Rattle.std.proofs.Common.{◌≡◌, ℕ, ◌+◌, ◌-◌, ◌*◌, ◌<◌, ◌≤◌, ◌==◌, ◌&&◌, Bool, true, false, inl, inr, List, length, set, get_or, refl, sym, ◌∙◌, ap, subst, arith, nat_lt, nat_le, if◌then◌else◌}
 use Rattle.std.specs.Prelude.{◌%◌, not, slice_index}
-use Rattle.std.proofs.lemmas.Bool.{and_from, and_parts, both_ways, cases_Bool, cases_eq, cases_lt, eq-eqb, eqb-true, le-leb, leb-true, lt-ltb, ltb-true, ne_eqb, not_from_false, or_cases}
+use Rattle.std.proofs.lemmas.Bool.{and_from, and_parts, both_ways, cases_Bool, cases_eq, cases_lt, eq-eqb, le-leb, leb-true, ltb-true, ne_eqb, or_cases}
 use Rattle.std.proofs.lemmas.List.{get_or-set_other, get_or-set_same, length-set}
 use Rattle.jc_heap.specs.declared.place.AppletEntry.{AppletEntry}
 use Rattle.jc_heap.specs.Heap.{HeapState}

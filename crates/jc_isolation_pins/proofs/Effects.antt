@@ -1,5 +1,5 @@
 -- Effects leave values in the contexts of their PINs.
-use Rattle.std.proofs.Common.{◌≡◌, ◌⊎◌, ℕ, suc, ◌+◌, ◌<◌, ◌≤◌, ◌++◌, Bool, true, false, inl, inr, List, [], ◌∷◌, length, get_or, refl, sym, ◌∙◌, ap, subst, arith, None, if◌then◌else◌}
+use Rattle.std.proofs.Common.{◌≡◌, ◌⊎◌, ℕ, suc, ◌+◌, ◌<◌, ◌≤◌, true, false, inl, inr, List, [], ◌∷◌, length, refl, sym, ◌∙◌, ap, subst, arith, None, if◌then◌else◌}
 use Rattle.std.proofs.lemmas.Bool.{and_parts, cases_Bool, cases_eq, cases_lt, false≢true}
 use Rattle.jc_transient.specs.declared.cell.ClearEvent.{ClearEvent}
 use Rattle.jc_platform.specs.declared.names.PlatformClass.TheVariants.{OwnerPin}
@@ -17,21 +17,20 @@ use Rattle.jc_memory.specs.Cells.{word_at, word_in}
 use Rattle.jc_memory.specs.State.{MemoryState, Effect, Changes, Fills, Flags, Clears, Buries, Turns, Starts, Sends, effected}
 use Rattle.jc_packages.specs.Values.{Packages}
 use Rattle.jc_pin.specs.Starting.{first_record}
-use Rattle.jc_pin.specs.Updating.{bytes_put}
 use Rattle.jc_world.specs.Contexts.{installed_package}
-use Rattle.jc_card_checks.specs.Objects.{is_a, is_bytes, is_instance, is_kept}
+use Rattle.jc_card_checks.specs.Objects.{is_a, is_instance, is_kept}
 use Rattle.jc_sound.specs.Environment.{HasEnvironment}
 use Rattle.jc_sound.specs.Fit.{AreStatics, FitsChange, FitsMove, FitsPlace, FitsRun, FitsTurn, IsFit, IsPinObject, OfPin, OfRegistry, OfStatics, OfValue, RegistersApplet, SetsUpPin, UpdatesPin}
 use Rattle.jc_sound.specs.State.{IsSoundMemory, IsSoundUpTo, is_open, is_owner_up_to, last_own, most_owner}
 use Rattle.jc_sound.proofs.Cells.{applets-set_cell}
-use Rattle.jc_sound.proofs.Frames.{AreHeld, bytes_held, run_frames, statics_held}
+use Rattle.jc_sound.proofs.Frames.{AreHeld, bytes_held, statics_held}
 use Rattle.jc_sound.proofs.Kept.{SameApplets}
 use Rattle.jc_sound.proofs.Lists.{zeros}
 use Rattle.jc_sound.proofs.Memories.{choose, low_now}
 use Rattle.jc_sound.proofs.Values.{bytes_other, none_of}
-use Rattle.jc_isolation_pins.specs.Values.{EffectsKeepValues, HasOwnValues, IsPinOf, KeepsContexts, OwnValues, SetsOwn, ShareContext, context_in, value_of}
+use Rattle.jc_isolation_pins.specs.Values.{EffectsKeepValues, HasOwnValues, IsPinOf, KeepsContexts, OwnValues, SetsOwn, ShareContext, value_of}
 use Rattle.jc_isolation_pins.proofs.Cells.{AreNoValueOf, bytes_apart, cells_long, places_bare, run_bare, value-set_cells, value-set_places, value_set}
-use Rattle.jc_isolation_pins.proofs.Contexts.{SameContexts, by_registry, entered_contexts, known_same}
+use Rattle.jc_isolation_pins.proofs.Contexts.{by_registry, entered_contexts, known_same}
 use Rattle.jc_isolation_pins.proofs.Heaps.{IsHeld, pin_held, values_added, values_ended, values_kept, values_same}
 
 -- the registry stays

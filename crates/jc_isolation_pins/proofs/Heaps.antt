@@ -1,22 +1,20 @@
 -- What leaves values in the contexts of their PINs, in one heap.
-use Rattle.std.proofs.Common.{◌≡◌, ◌⊎◌, ℕ, ◌<◌, ◌≤◌, ◌==◌, ◌&&◌, true, false, inl, inr, length, get_or, refl, sym, ◌∙◌, ap, subst, arith, nat_le}
+use Rattle.std.proofs.Common.{◌≡◌, ◌⊎◌, ℕ, ◌<◌, true, false, inl, inr, get_or, refl, sym, ◌∙◌, ap, subst, nat_le}
 use Rattle.std.specs.Prelude.{not}
-use Rattle.std.proofs.lemmas.Bool.{and_parts, cases_Bool, cases_eq, cases_lt, eqb-true, false≢true, ne_eqb, or_cases, true≢false}
+use Rattle.std.proofs.lemmas.Bool.{and_parts, cases_eq, false≢true, ne_eqb, or_cases, true≢false}
 use Rattle.jc_transient.specs.declared.cell.ClearEvent.{ClearEvent}
 use Rattle.jc_transient.specs.declared.cell.ClearEvent.TheVariants.{Reset, Deselect}
 use Rattle.jc_platform.specs.declared.names.PlatformClass.TheVariants.{OwnerPin}
-use Rattle.jc_heap.specs.declared.object.Facts.{Facts}
-use Rattle.jc_heap.specs.Object.{Object, cells_of, facts_of, is_object, new_transient}
-use Rattle.jc_heap.specs.Heap.{HeapState, IsObject, add_object, add_transient, area_end, cells, facts, item_at, names, with_area_end}
+use Rattle.jc_heap.specs.Object.{Object, cells_of, facts_of, is_object}
+use Rattle.jc_heap.specs.Heap.{HeapState, add_object, cells, facts, item_at, names, with_area_end}
 use Rattle.jc_heap.proofs.Keeping.{object-bare}
 use Rattle.jc_heap.proofs.Laws.{item_at-add_object, item_at-add_other, object_named, same_facts}
 use Rattle.jc_memory.specs.Owners.{owner_of}
 use Rattle.jc_memory.specs.State.{MemoryState}
 use Rattle.jc_packages.specs.Values.{Packages}
 use Rattle.jc_world.specs.Contexts.{context_of, installed_package}
-use Rattle.jc_card_checks.specs.Objects.{fits_pin, has_value, is_a, is_bytes, is_instance, is_kept, stands}
+use Rattle.jc_card_checks.specs.Objects.{fits_pin, has_value, is_a, is_bytes, is_kept, stands}
 use Rattle.jc_sound.specs.State.{IsFitObject, IsSoundUpTo}
-use Rattle.jc_sound.proofs.Values.{bytes_other}
 use Rattle.jc_isolation_pins.specs.Values.{IsPinOf, OwnValues, ShareContext, context_in, over, value_of}
 use Rattle.jc_isolation_pins.proofs.Cells.{SameBare}
 use Rattle.jc_isolation_pins.proofs.Contexts.{SameContexts, by_registry}
