@@ -85,7 +85,7 @@ ranged f n k true rest end lt is more = let e = same_Some n k is in (omega (arit
 ranged f n k false rest end lt is more = let m = more is in (let x = m.0 in omega (arith, x), m.1)
 
 -- what is found is one of them
-in_range : (f : ℕ → Bool) (count n k : ℕ) → find f (range_with_len n count) ≡ Some k → (n ≤ k) × (k < n + count)
+pub in_range : (f : ℕ → Bool) (count n k : ℕ) → find f (range_with_len n count) ≡ Some k → (n ≤ k) × (k < n + count)
 in_range f zero n k is = absurd (none-some k is)
 in_range f (suc count) n k is = ranged f n k (f n) (find f (range_with_len (n + 1) count)) (n + suc count) (omega arith) is (λ rest. let m = in_range f count (n + 1) k rest in (m.0, let x = m.1 in omega (arith, x)))
 

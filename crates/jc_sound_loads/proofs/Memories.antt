@@ -6,7 +6,7 @@ use Rattle.jc_cap.specs.declared.texts.Load.{Load}
 use Rattle.jc_heap.specs.declared.object.Kind.{Kind}
 use Rattle.jc_heap.specs.Heap.{HeapState, SameShape}
 use Rattle.jc_heap.specs.Keeping.{StandsWhole}
-use Rattle.jc_heap.specs.Object.{facts_of}
+use Rattle.jc_heap.specs.Object.{facts_of, is_object}
 use Rattle.jc_heap.proofs.Changing.{shape-same}
 use Rattle.jc_heap.proofs.NewPackages.{top-package}
 use Rattle.jc_memory.specs.declared.registers.Installation.{Installation}
@@ -22,7 +22,8 @@ use Rattle.jc_card_packages.specs.Prepared.{PreparedPackage, prepared}
 use Rattle.jc_card_checks.specs.Objects.{is_instance, is_kept}
 use Rattle.jc_sound.specs.Environment.{HasEnvironment, IsEnvironments}
 use Rattle.jc_sound.specs.State.{IsSoundMemory, IsSoundUpTo, is_home, is_open, is_owner_up_to, last_own, most_owner}
-use Rattle.jc_sound_loads.specs.Growth.{GrowthKeepsSound}
+use Rattle.jc_sound_growth.specs.Growth.{GrowthKeepsSound}
+use Rattle.jc_sound_growth.proofs.Grows.{growth_keeps}
 use Rattle.jc_sound_loads.specs.Loads.{CountPackages, CountsPackages, IsSoundForLoads, LoadsKeepSound, load_move, with_record}
 use Rattle.jc_sound_loads.proofs.Fitting.{records_fit}
 use Rattle.jc_sound_loads.proofs.Prepared.{initial_arrays}
@@ -129,7 +130,7 @@ module _ (all : List Components) (p : Packages) (load : Load) (q : PreparedPacka
     counts = λ still. ap (λ k. k.counts) (sym settled);
     active = ap (λ n. is_owner_up_to n g (owner_number m.registers.active)) (most_after ∙ sym most_before) ∙ owner_more (most_owner m) h g (owner_number m.registers.active) packages_more sound.active;
     behind = subst (λ k. own < k.top) (sym settled) (omega (arith, behind, top-package h cs xs rest));
-    own = λ r low. ap (λ t. is_kept (facts_of t)) (item_low h cs xs rest s r (omega (arith, low, behind))) ∙ sound.own r low;
+    own = λ r low there. let item = item_low h cs xs rest s r (omega (arith, low, behind)) in ap (λ t. is_kept (facts_of t)) item ∙ sound.own r low (sym (ap is_object item) ∙ there);
     home = home_closed g m.registers.installation closed;
     selected = λ a e. (λ t. nat_lt 0 a.0 && nat_le a.0 ((ap (λ k. k.counts.1) settled ∙ ap (λ c. c.1) counts_are ∙ ap (λ c. c.1) counts_settled) t)) ∙ sound.selected a e;
   }
@@ -159,3 +160,6 @@ module _ (all : List Components) (p : Packages) (load : Load) (q : PreparedPacka
 -- where more packages leave what a heap fits
 pub loads_keep_sound : GrowthKeepsSound → LoadsKeepSound
 loads_keep_sound grows = λ all p load q m linked is off closed room old. sound_with all p load q m linked is off closed room old.sound old.environment old.counted grows
+
+pub loads_are_sound : LoadsKeepSound
+loads_are_sound = loads_keep_sound growth_keeps

@@ -1,0 +1,4 @@
+//! Soundness of cards and of their sessions.
+#![tactic(auto)]
+
+mod law;
