@@ -11,6 +11,7 @@ use Rattle.jc_reading_laws.specs.Kept.{IsReadAs}
 use Rattle.jc_reading_laws.proofs.Effects.{keeps_reading}
 use Rattle.jc_sound.specs.Environment.{HasEnvironment, IsEnvironments}
 use Rattle.jc_sound.specs.State.{IsSoundMemory, IsSoundUpTo, last_own}
+use Rattle.jc_sound.proofs.Frames.{same_object}
 use Rattle.jc_sound_commands.specs.Commands.{IsServed}
 use Rattle.jc_sound_commands.proofs.Serving.{serving_keeps}
 use Rattle.jc_sound_loads.specs.Loads.{CountPackages, CountsPackages}
@@ -64,9 +65,10 @@ module _ (n : ℕ) (t : Tokens) (p : Packages) (m : MemoryState) (o : IsOwnMemor
     fits = subst (IsSoundUpTo m.heap.durable.counts.1 p m.heap.durable) last_is o.sound.durable;
     environment = subst (IsEnvironments p m.heap.durable) last_is o.environment.durable;
     behind = let a = o.sound.behind in let b = last_is in omega (arith, a, b);
-    own = λ r low.
-        let a = o.sound.behind in let b = last_is in
-        ap is_kept (sym (same_facts (item_at m.heap.now r) (item_at m.heap.durable r) (o.sound.whole.shape.items r (omega (arith, low, a, b))))) ∙ o.sound.own r (omega (arith, low, b));
+    own = λ r low there.
+        let a = o.sound.behind in let b = last_is in let same = o.sound.whole.shape.items r (omega (arith, low, a, b)) in
+        ap is_kept (sym (same_facts (item_at m.heap.now r) (item_at m.heap.durable r) same))
+        ∙ o.sound.own r (omega (arith, low, b)) (same_object (item_at m.heap.now r) (item_at m.heap.durable r) same ∙ there);
   }
 
   pub left_own : IsLeft n t p m.heap.durable

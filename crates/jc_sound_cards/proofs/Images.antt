@@ -30,7 +30,7 @@ use Rattle.jc_sound_images.specs.Heaps.{IsOwnHeap}
 use Rattle.jc_sound_images.specs.Images.{NewImagesFit}
 use Rattle.jc_sound_cards.specs.Cards.{AreOfBytes, IsOwnKept, IsOwnPower}
 use Rattle.jc_sound_cards.specs.Images.{ImagesStayMade, IsOwnStore}
-use Rattle.jc_sound_cards.proofs.Sessions.{Given, kept_own, powered_own, stays_own}
+use Rattle.jc_sound_cards.proofs.Sessions.{OneTable, kept_own, powered_own, stays_own}
 
 found : (n : ℕ) (t : Tokens) (p : Packages) (h : HeapState) → IsOwnHeap n t p h → IsSound p h (last_fixed h)
 found n t p h own = record {
@@ -86,7 +86,7 @@ some_bytes zero events are = tt
 some_bytes (suc n) [] are = tt
 some_bytes (suc n) (event ∷ events) are = (are.0, some_bytes n events are.1)
 
-module _ (g : Given) where
+module _ (g : OneTable) where
   starts_own : (t : Tokens) (store : StoreState) (s : Power) → IsOwnStore t store → Starts store s → IsOwnPower t s
   starts_own t store (Up card) own starts = powered_own g t (kept_in store) card own.kept starts.1
   starts_own t store (Off k) own starts = subst (IsOwnKept t) (sym starts.1) (record { packages = own.kept.packages; linked = own.kept.linked; heap = own.kept.heap; counted = own.kept.counted })

@@ -36,12 +36,13 @@ use Rattle.jc_reading_laws.specs.Loaded.{AreBytes}
 use Rattle.jc_reading_laws.proofs.OpenLoads.{are_readable}
 use Rattle.jc_sound.specs.State.{IsSoundMemory}
 use Rattle.jc_sound_steps.specs.Steps.{AreKnown}
-use Rattle.jc_sound_commands.specs.Commands.{CommandsAreSound}
+use Rattle.jc_sound_commands.proofs.Laws.{commands_are_sound}
 use Rattle.jc_sound_commands.proofs.Phases.{Good}
 use Rattle.jc_sound_images.specs.Heaps.{IsOwnHeap}
-use Rattle.jc_sound_images.specs.Images.{EffectsKeepBeginnings}
+use Rattle.jc_sound_loads.proofs.Memories.{loads_are_sound}
+use Rattle.jc_sound_images.proofs.Effects.{effects_keep}
 use Rattle.jc_sound_cards.specs.Cards.{AreLinkedWell, AreOfBytes, IsOfBytes, IsOwnCard, IsOwnKept, IsOwnPower, StaysOwn}
-use Rattle.jc_sound_loads.specs.Loads.{CountsPackages, LoadsKeepSound}
+use Rattle.jc_sound_loads.specs.Loads.{CountsPackages}
 use Rattle.jc_sound_cards.proofs.Commands.{IsAnswered, answers_good, creates_good, did_own, dispatched_good, grows_good, loads_good, lost_own, on_load_good, own_memory, runs_good}
 use Rattle.jc_sound_cards.proofs.Heaps.{IsLeft, left_own}
 use Rattle.jc_sound_cards.proofs.Loads.{ends_lost, ends_own}
@@ -55,14 +56,11 @@ linked_known p l = record {
   platform = have_no_code l.components p l.read.linked;
 }
 
--- what the laws below give
-pub record Given : Type 0 where
-  pub begins : EffectsKeepBeginnings
-  pub loads : LoadsKeepSound
-  pub commands : CommandsAreSound
-  pub one_table : (text : List ℕ) (t u : Tokens) → Reads text (Ok t) → Reads text (Ok u) → t ≡ u
+-- a text is read as one table
+abbrev pub OneTable : Type 0
+OneTable = (text : List ℕ) (t u : Tokens) → Reads text (Ok t) → Reads text (Ok u) → t ≡ u
 
--- ---- the content of a command
+-- ---- the data of a command
 
 data_bytes : (a b c d e : Bool) (n : ℕ) (bytes content : List ℕ) → AreBytes bytes → (if a then None else if b then Some [] else if c then None else if d then Some (drop 5 bytes) else if e then Some (take n (drop 5 bytes)) else None) ≡ Some content → AreBytes content
 data_bytes true b c d e n bytes content are is = absurd (none-some content is)
@@ -78,7 +76,7 @@ content_of bytes (Some d) c is are e = subst AreBytes (ap (λ x. x.content) (sam
 
 -- ---- a command
 
-module _ (g : Given) (t : Tokens) (card : CardState) (own : IsOwnCard t card) where
+module _ (t : Tokens) (card : CardState) (own : IsOwnCard t card) where
   -- wherever a command ends, or the power is lost within it
   record Does (d : Doing Answered) : Type 0 where
     did : (ans : Answered) (new : MemoryState) → Did d card.memory ans new → IsOwnCard t (record { memory = new; packages = ans.packages; load = ans.load })
@@ -88,7 +86,7 @@ module _ (g : Given) (t : Tokens) (card : CardState) (own : IsOwnCard t card) wh
   are_known = linked_known card.packages own.linked
 
   does : (d : Doing Answered) → Good card.packages d card.memory (IsAnswered card.packages) → Does d
-  does d good = record { did = did_own g.begins t card own d good; lost = lost_own g.begins t card own d good }
+  does d good = record { did = did_own effects_keep t card own d good; lost = lost_own effects_keep t card own d good }
 
   does_if : (b : Bool) (x y : Doing Answered) → Does x → Does y → Does (if b then x else y)
   does_if true x y first second = first
@@ -97,21 +95,21 @@ module _ (g : Given) (t : Tokens) (card : CardState) (own : IsOwnCard t card) wh
   commanded_does : (c : Apdu) → AreBytes c.content → Does (commanded c card)
   unfolding commanded
   commanded_does c are =
-      does_if (c.instruction == 0x10) _ _ (does (runs_code c.p1 c.p2 c.content card) (runs_good g.commands t card own are_known c.p1 c.p2 c.content))
-      (does_if (c.instruction == 0xB0) _ _ (does (load_begins card) (loads_good g.commands t card own are_known (Ok tt) (Some begun_load) are_readable.new))
-      (does_if (c.instruction == 0xB2) _ _ (does (component_begins c.p1 card) (on_load_good g.commands t card own are_known (component_begun c.p1) (are_readable.begins c.p1) card.load own.load))
-      (does_if (c.instruction == 0xB4) _ _ (does (component_grows c.content card) (grows_good g.commands t card own are_known c.content are))
-      (does_if (c.instruction == 0xBC) _ _ (does (component_ends card) (on_load_good g.commands t card own are_known ended_component are_readable.ends card.load own.load))
-      (does_if (c.instruction == 0xBA) _ _ (record { did = ends_own g.begins g.loads t card own; lost = ends_lost g.begins g.loads t card own })
-      (does_if (c.instruction == 0xB8) _ _ (does (creates c.content card) (creates_good g.commands t card own are_known c.content))
-      (does (answers card (status_bytes ins_not_supported)) (answers_good g.commands t card own are_known (status_bytes ins_not_supported)))))))))
+      does_if (c.instruction == 0x10) _ _ (does (runs_code c.p1 c.p2 c.content card) (runs_good commands_are_sound t card own are_known c.p1 c.p2 c.content))
+      (does_if (c.instruction == 0xB0) _ _ (does (load_begins card) (loads_good commands_are_sound t card own are_known (Ok tt) (Some begun_load) are_readable.new))
+      (does_if (c.instruction == 0xB2) _ _ (does (component_begins c.p1 card) (on_load_good commands_are_sound t card own are_known (component_begun c.p1) (are_readable.begins c.p1) card.load own.load))
+      (does_if (c.instruction == 0xB4) _ _ (does (component_grows c.content card) (grows_good commands_are_sound t card own are_known c.content are))
+      (does_if (c.instruction == 0xBC) _ _ (does (component_ends card) (on_load_good commands_are_sound t card own are_known ended_component are_readable.ends card.load own.load))
+      (does_if (c.instruction == 0xBA) _ _ (record { did = ends_own effects_keep loads_are_sound t card own; lost = ends_lost effects_keep loads_are_sound t card own })
+      (does_if (c.instruction == 0xB8) _ _ (does (creates c.content card) (creates_good commands_are_sound t card own are_known c.content))
+      (does (answers card (status_bytes ins_not_supported)) (answers_good commands_are_sound t card own are_known (status_bytes ins_not_supported)))))))))
 
   managed_does : (c : Apdu) → AreBytes c.content → Does (managed c card)
-  managed_does c are = does_if (c.class == 0x80) _ _ (commanded_does c are) (does (answers card (status_bytes cla_not_supported)) (answers_good g.commands t card own are_known (status_bytes cla_not_supported)))
+  managed_does c are = does_if (c.class == 0x80) _ _ (commanded_does c are) (does (answers card (status_bytes cla_not_supported)) (answers_good commands_are_sound t card own are_known (status_bytes cla_not_supported)))
 
   apdu_does : (bytes : List ℕ) (o : Option Apdu) → ((c : Apdu) → o ≡ Some c → AreBytes c.content) → Does (exchanging_apdu bytes o card)
-  apdu_does bytes None are = does (answers card (status_bytes wrong_length)) (answers_good g.commands t card own are_known (status_bytes wrong_length))
-  apdu_does bytes (Some c) are = does_if (is_dispatched card c) _ _ (does (dispatched bytes c card) (dispatched_good g.commands t card own are_known bytes c)) (managed_does c (are c refl))
+  apdu_does bytes None are = does (answers card (status_bytes wrong_length)) (answers_good commands_are_sound t card own are_known (status_bytes wrong_length))
+  apdu_does bytes (Some c) are = does_if (is_dispatched card c) _ _ (does (dispatched bytes c card) (dispatched_good commands_are_sound t card own are_known bytes c)) (managed_does c (are c refl))
 
   exchanging_does : (bytes : List ℕ) → AreBytes bytes → Does (exchanging bytes card)
   unfolding exchanging
@@ -165,9 +163,9 @@ module _ (n : ℕ) (t : Tokens) (p : Packages) (h : HeapState) (own : IsOwnHeap 
     load = tt;
   }
 
-pub powered_own : Given → (t : Tokens) (k : KeptState) (card : CardState) → IsOwnKept t k → IsPoweredUp k card → IsOwnCard t card
+pub powered_own : OneTable → (t : Tokens) (k : KeptState) (card : CardState) → IsOwnKept t k → IsPoweredUp k card → IsOwnCard t card
 powered_own g t k card own up =
-    let table : up.reset.packages.0 ≡ t = g.one_table k.durable.text up.reset.packages.0 t up.reset.packages.1 own.heap.beginning.table in
+    let table : up.reset.packages.0 ≡ t = g k.durable.text up.reset.packages.0 t up.reset.packages.1 own.heap.beginning.table in
     let read : packages_of t k.durable ≡ Some card.packages = subst (λ u. packages_of u k.durable ≡ Some card.packages) table up.reset.packages.2 in
     let same : card.packages ≡ own.packages = same_Some card.packages own.packages (sym read ∙ own.heap.packages) in
     let reset = reset_own k.size t own.packages k.durable own.heap own.linked own.counted card.memory.heap.passed k.refused card.memory in
@@ -179,7 +177,7 @@ powered_own g t k card own up =
     } in
     subst (IsOwnCard t) (sym path) reset
 
-reset_answered : Given → (t : Tokens) (s : Power) (answer : Answer) (next : Power) → IsOwnPower t s → AnswersReset s answer next → IsOwnPower t next
+reset_answered : OneTable → (t : Tokens) (s : Power) (answer : Answer) (next : Power) → IsOwnPower t s → AnswersReset s answer next → IsOwnPower t next
 reset_answered g t s Ready (Up card) own up = powered_own g t (kept s) card (kept_own t s own) up
 reset_answered g t s Down (Off k) own same = let old = kept_own t s own in subst (IsOwnKept t) (sym same) (record { packages = old.packages; linked = old.linked; heap = old.heap; counted = old.counted })
 reset_answered g t s Ready (Off k) own none = absurd none
@@ -188,22 +186,22 @@ reset_answered g t s (Response r) next own none = absurd none
 
 -- ---- sessions
 
-command_answered : Given → (t : Tokens) (s : Power) (bytes : List ℕ) (answer : Answer) (next : Power) → AreBytes bytes → IsOwnPower t s → AnswersCommand s bytes answer next → IsOwnPower t next
-command_answered g t (Up card) bytes answer next are own served = command_own g t card own bytes answer next are served
-command_answered g t (Off k) bytes Down (Off l) are own same = subst (IsOwnKept t) (sym same) own
-command_answered g t (Off k) bytes (Response r) next are own none = absurd none
-command_answered g t (Off k) bytes Ready next are own none = absurd none
-command_answered g t (Off k) bytes Down (Up next) are own none = absurd none
+command_answered : (t : Tokens) (s : Power) (bytes : List ℕ) (answer : Answer) (next : Power) → AreBytes bytes → IsOwnPower t s → AnswersCommand s bytes answer next → IsOwnPower t next
+command_answered t (Up card) bytes answer next are own served = command_own t card own bytes answer next are served
+command_answered t (Off k) bytes Down (Off l) are own same = subst (IsOwnKept t) (sym same) own
+command_answered t (Off k) bytes (Response r) next are own none = absurd none
+command_answered t (Off k) bytes Ready next are own none = absurd none
+command_answered t (Off k) bytes Down (Up next) are own none = absurd none
 
-event_own : Given → (t : Tokens) (s : Power) (event : Event) (answer : Answer) (next : Power) → IsOfBytes event → IsOwnPower t s → Serves s event answer next → IsOwnPower t next
-event_own g t s (Command bytes) answer next are own served = command_answered g t s bytes.items answer next are own served
+event_own : OneTable → (t : Tokens) (s : Power) (event : Event) (answer : Answer) (next : Power) → IsOfBytes event → IsOwnPower t s → Serves s event answer next → IsOwnPower t next
+event_own g t s (Command bytes) answer next are own served = command_answered t s bytes.items answer next are own served
 event_own g t s Reset answer next are own served = reset_answered g t s answer next own served
 
-session_own : Given → (t : Tokens) (s : Power) (events : List Event) (answers : List Answer) (last : Power) → AreOfBytes events → IsOwnPower t s → SessionRun s events answers last → IsOwnPower t last
+session_own : OneTable → (t : Tokens) (s : Power) (events : List Event) (answers : List Answer) (last : Power) → AreOfBytes events → IsOwnPower t s → SessionRun s events answers last → IsOwnPower t last
 session_own g t s [] [] last are own same = subst (IsOwnPower t) (sym same) own
 session_own g t s (event ∷ events) (answer ∷ answers) last are own run = session_own g t run.0 events answers last are.1 (event_own g t s event answer run.0 are.0 own run.1) run.2
 session_own g t s [] (answer ∷ answers) last are own none = absurd none
 session_own g t s (event ∷ events) [] last are own none = absurd none
 
-pub stays_own : Given → StaysOwn
+pub stays_own : OneTable → StaysOwn
 stays_own g = record { event = event_own g; session = session_own g }

@@ -2,3 +2,5 @@
 #![tactic(auto)]
 
 mod law;
+
+pub use law::sessions_keep_cards_sound;

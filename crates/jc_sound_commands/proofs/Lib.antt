@@ -1,3 +1,4 @@
 pub mod Serving
 pub mod Phases
 pub mod Commands
+pub mod Laws
