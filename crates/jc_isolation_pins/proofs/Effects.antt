@@ -23,7 +23,7 @@ use Rattle.jc_sound.specs.Environment.{HasEnvironment}
 use Rattle.jc_sound.specs.Fit.{AreStatics, FitsChange, FitsMove, FitsPlace, FitsRun, FitsTurn, IsFit, IsPinObject, OfPin, OfRegistry, OfStatics, OfValue, RegistersApplet, SetsUpPin, UpdatesPin}
 use Rattle.jc_sound.specs.State.{IsSoundMemory, IsSoundUpTo, is_open, is_owner_up_to, last_own, most_owner}
 use Rattle.jc_sound.proofs.Cells.{applets-set_cell}
-use Rattle.jc_sound.proofs.Frames.{AreHeld, bytes_held, statics_held}
+use Rattle.jc_sound.proofs.Frames.{AreHeld, bytes_held, same_object, statics_held}
 use Rattle.jc_sound.proofs.Kept.{SameApplets}
 use Rattle.jc_sound.proofs.Lists.{zeros}
 use Rattle.jc_sound.proofs.Memories.{choose, low_now}
@@ -84,7 +84,7 @@ module _ (p : Packages) (m : MemoryState) (s : IsSoundMemory p m) (e : HasEnviro
   behind_now : (r : ℕ) → IsPinOf p m.heap.now r → last_own m < r
   behind_now r pin = elim (cases_lt (last_own m) r) [
     | inl lt ↦ lt
-    | inr low ↦ absurd (false≢true (sym (s.own r low) ∙ pin.kept))
+    | inr low ↦ absurd (false≢true (sym (s.own r low pin.there) ∙ pin.kept))
   ]
 
   behind_durable : (r : ℕ) → IsPinOf p m.heap.durable r → last_own m < r
@@ -92,8 +92,9 @@ module _ (p : Packages) (m : MemoryState) (s : IsSoundMemory p m) (e : HasEnviro
     | inl lt ↦ lt
     | inr low ↦
         let under = s.behind in
-        let same : facts m.heap.now r ≡ facts m.heap.durable r = same_facts (item_at m.heap.now r) (item_at m.heap.durable r) (s.whole.shape.items r (omega (arith, low, under))) in
-        absurd (false≢true (sym (s.own r low) ∙ ap is_kept same ∙ pin.kept))
+        let bare_same = s.whole.shape.items r (omega (arith, low, under)) in
+        let same : facts m.heap.now r ≡ facts m.heap.durable r = same_facts (item_at m.heap.now r) (item_at m.heap.durable r) bare_same in
+        absurd (false≢true (sym (s.own r low (same_object (item_at m.heap.now r) (item_at m.heap.durable r) bare_same ∙ pin.there)) ∙ ap is_kept same ∙ pin.kept))
   ]
 
   free : names m.heap.now m.heap.now.top ≡ false

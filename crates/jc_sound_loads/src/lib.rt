@@ -4,5 +4,6 @@
 mod law;
 
 pub use law::{
-    effects_count_packages, laid_words_count_packages, loads_keep_memories_sound, records_of_loads_fit,
+    effects_count_packages, laid_words_count_packages, loads_keep_memories_sound,
+    records_of_loads_fit,
 };
