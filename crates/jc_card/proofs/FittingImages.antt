@@ -1,4 +1,4 @@
--- A new image fits every table that its text is read as: nothing stands behind the objects of the runtime environment.
+-- A new image fits its packages, of which there are none: nothing stands behind the objects of the runtime environment.
 use Rattle.std.proofs.Common.{◌≡◌, ℕ, zero, suc, ◌+◌, ◌<◌, ◌≤◌, false, List, [], ◌∷◌, ◌++◌, length, map, Some, None, refl, sym, ◌∙◌, ap, subst, arith}
 use Rattle.std.specs.Prelude.{unwrap_or}
 use Rattle.std.proofs.lemmas.Bool.{false≢true}
@@ -25,7 +25,7 @@ above-one t h o b x above object =
     let absent : has ((with_one t h o).items) x ≡ false = ap (λ l. has l x) (items-one t h o) ∙ has-push h.items (h.top, AnObject (new_transient o.kind Reset (class_number_of t o.class) 0 o.cells (area_end h Reset))) x (b.absent x (omega arith)) (λ e. omega (arith, e)) in
     false≢true (sym absent ∙ object_named (with_one t h o) x object)
 
-number_suc : (h : HeapState) (k : ℕ) → object_number h (suc k) ≡ next_or_null h (object_number h k)
+pub number_suc : (h : HeapState) (k : ℕ) → object_number h (suc k) ≡ next_or_null h (object_number h k)
 unfolding object_number
 number_suc h k = refl
 
@@ -58,7 +58,7 @@ last_made t h j k o (p ∷ os) e b none below x above object =
     (omega (arith, there, top-add h o.kind (class_number_of t o.class) 0 o.cells)) x above object
 
 -- a seal changes no object
-number_sealed : (h : HeapState) (k : ℕ) → object_number (sealed h) k ≡ object_number h k
+pub number_sealed : (h : HeapState) (k : ℕ) → object_number (sealed h) k ≡ object_number h k
 unfolding object_number
 number_sealed h zero = refl
 number_sealed h (suc k) = ap (next_or_null (sealed h)) (number_sealed h k) ∙ ap (λ q. unwrap_or q 0) (next_sealed h (object_number h k))
@@ -82,24 +82,24 @@ fixed_count : 17 ≡ length fixed_objects
 unfolding fixed_objects
 fixed_count = refl
 
-alone : (n : ℕ) (text : List ℕ) (t : Tokens) (x : ℕ) → last_fixed (formatted n text t) < x → IsObject (formatted n text t) x → ⊥
+pub alone : (n : ℕ) (text : List ℕ) (t : Tokens) (x : ℕ) → last_fixed (formatted n text t) < x → IsObject (formatted n text t) x → ⊥
 alone n text t x above object =
     let h : HeapState = with_objects t (laid_heap n text) fixed_objects in
     last_all t (laid_heap n text) fixed_objects 17 fixed_count (omega arith) (record { absent = λ q le. refl; none = λ q le. refl }) refl (omega arith)
     x (omega (arith, number_sealed h 17, above)) (object_sealed h x object)
 
-packages_add : (t : Tokens) (h : HeapState) (os : List FixedObject) → (with_objects t h os).packages ≡ h.packages
+pub packages_add : (t : Tokens) (h : HeapState) (os : List FixedObject) → (with_objects t h os).packages ≡ h.packages
 unfolding add_transient add_object
 packages_add t h [] = refl
 packages_add t h (o ∷ os) = packages_add t (with_one t h o) os
 
-counts_add : (t : Tokens) (h : HeapState) (os : List FixedObject) → (with_objects t h os).counts ≡ h.counts
+pub counts_add : (t : Tokens) (h : HeapState) (os : List FixedObject) → (with_objects t h os).counts ≡ h.counts
 unfolding add_transient add_object
 counts_add t h [] = refl
 counts_add t h (o ∷ os) = counts_add t (with_one t h o) os
 
 -- where there are no packages, they all link
-no_packages : (t : Tokens) (h : HeapState) → h.packages ≡ [] → packages_of t h ≡ Some (record { platform = t; loaded = [] })
+pub no_packages : (t : Tokens) (h : HeapState) → h.packages ≡ [] → packages_of t h ≡ Some (record { platform = t; loaded = [] })
 unfolding packages_of
 no_packages t h none = ap (λ ps. with_records (record { platform = t; loaded = [] }) (map (record_of h) ps)) none
 

@@ -1,10 +1,11 @@
 -- A new image is one that the product makes.
-use Rattle.std.proofs.Common.{◌≡◌, ℕ, ◌≤◌, List, length, sym, subst, Ok, Err}
+use Rattle.std.proofs.Common.{◌≡◌, ◌∙◌, ℕ, ◌≤◌, Bool, List, length, sym, subst, Ok, Err}
 use Rattle.std.specs.Prelude.{Result, IfOk}
 use Rattle.jc_words.specs.Layout.{least_size}
 use Rattle.jc_commit.specs.Image.{IsGoodLog, recovered_of}
 use Rattle.jc_heap.specs.Image.{IsLaid}
-use Rattle.jc_heap.specs.Heap.{heap_of}
+use Rattle.jc_heap.specs.Heap.{HeapView, heap_of}
+use Rattle.jc_heap.specs.Stored.{HoldsHeap}
 use Rattle.jc_platform.specs.Tokens.{Tokens}
 use Rattle.jc_platform.specs.Table.{Reads}
 use Rattle.jc_card.specs.Made.{IsCardHeap, IsMade, formatted}
@@ -26,10 +27,10 @@ made-formatted w n text t log laid heap size enough reads = record {
   heap = subst (λ k. IsCardHeap k (heap_of (recovered_of w))) (sym size) (subst (IsCardHeap n) (sym heap) (card-formatted n text t enough reads));
 }
 
-pub made_if : {A E : Type 0} (words : A → List ℕ) (r : Result A E) (n : ℕ) (text : List ℕ) (t : Tokens) → IfOk r (λ s. IsGoodLog (words s)) → IfOk r (λ s. IsLaid (recovered_of (words s))) →
-    IfOk r (λ s. heap_of (recovered_of (words s)) ≡ formatted n text t) → IfOk r (λ s. length (words s) ≡ n) → least_size ≤ n → Reads text (Ok t) → IfOk r (λ s. IsMade (words s))
-made_if words (Ok s) n text t log laid heap size enough reads = made-formatted (words s) n text t log laid heap size enough reads
-made_if words (Err e) n text t log laid heap size enough reads = tt
+pub made_if : {A E : Type 0} (words : A → List ℕ) (down : A → Bool) (passed refused : A → ℕ) (r : Result A E) (v : HeapView) (n : ℕ) (text : List ℕ) (t : Tokens) →
+    IfOk r (λ s. HoldsHeap (words s) (down s) (passed s) (refused s) v) → v.durable ≡ formatted n text t → v.size ≡ n → least_size ≤ n → Reads text (Ok t) → IfOk r (λ s. IsMade (words s))
+made_if words down passed refused (Ok s) v n text t holds heap size enough reads = made-formatted (words s) n text t holds.good holds.laid (holds.durable ∙ heap) (holds.size ∙ size) enough reads
+made_if words down passed refused (Err e) v n text t holds heap size enough reads = tt
 
 pub mapped_if : {A E : Type 0} (r : Result A E) (P Q : A → Type 0) → ((a : A) → P a → Q a) → IfOk r P → IfOk r Q
 mapped_if (Ok a) P Q f p = f a p

@@ -21,11 +21,11 @@ use Rattle.jc_platform.specs.Tokens.{Tokens}
 use Rattle.jc_platform.specs.Table.{Reads}
 use Rattle.jc_platform.specs.Distinct.{class_word}
 use Rattle.jc_platform.specs.declared.names.PlatformClass.{PlatformClass}
-use Rattle.jc_platform.proofs.OneAnswer.{same_words}
+use Rattle.jc_platform.proofs.OneAnswer.{one_table}
 use Rattle.jc_card.specs.declared.fixed.FixedObject.{FixedObject}
 use Rattle.jc_card.specs.Fixed.{class_number_of, fixed_facts, fixed_objects, last_fixed}
 use Rattle.jc_card.specs.Made.{IsMade}
-use Rattle.jc_card.specs.PowerUp.{HasHead, HasTable, HasHeap, FitsItsTable, Refuses, Fails, Stands, StandsBy, HasPackages}
+use Rattle.jc_card.specs.PowerUp.{HasHead, HasTable, HasHeap, Refuses, Fails, Stands, StandsBy, HasPackages}
 use Rattle.jc_card.specs.declared.power_up.PowerFault.{PowerFault}
 use Rattle.jc_card.specs.declared.power_up.PowerFault.TheVariants.{BadMagic, BadVersion, BadSize, BadLog, BadTable, BadPackage, NoMemory, StoreDown}
 
@@ -58,14 +58,6 @@ made_found w head log t table heap = record {
 pub too_long : (w : List ℕ) → 16384 < get_or w text_length_address 0 → (t : Tokens) → HasTable w t → ⊥
 too_long w h t table = omega (arith, table.1.0, length-table_text w)
 
-same_class : (t u : Tokens) → ((c : PlatformClass) → class_word t c ≡ class_word u c) → (class : Option PlatformClass) → class_number_of t class ≡ class_number_of u class
-same_class t u same None = refl
-same_class t u same (Some c) = same c
-
-same_facts : (t u : Tokens) → ((c : PlatformClass) → class_word t c ≡ class_word u c) → (place : ℕ) (os : List FixedObject) → fixed_facts t place os ≡ fixed_facts u place os
-same_facts t u same place [] = refl
-same_facts t u same place (o ∷ os) = λ i. record { kind = o.kind; event = Some Reset; class = same_class t u same o.class i; owner = 0; length = o.cells; place = place } ∷ same_facts t u same (place + o.cells) os i
-
 -- an image that the product made has a head and a table
 head_made : (w : List ℕ) → IsMade w → take 3 w ≡ magic ∷ version ∷ length w ∷ []
 head_made w made = sym (recovered-front w made.log) ∙ sym (head_is (recovered_of w) made.laid) ∙ made.heap.head
@@ -84,23 +76,23 @@ has_table : (w : List ℕ) (t : Tokens) → IsLaid w → Reads (heap_of w).text 
 has_table w t laid reads = (text_fits w laid, subst (λ l. Reads l (Ok t)) (text_is w laid) reads)
 
 -- what the product made is refused for want of memory alone, or by the store
-pub refused_made : (w : List ℕ) (f : PowerFault) → IsMade w → FitsItsTable (heap_of (recovered_of w)) → Refuses f w → (f ≡ NoMemory) ⊎ (f ≡ StoreDown)
-refused_made w BadMagic made fits r = absurd (r (has_head w made).magic)
-refused_made w BadVersion made fits r = absurd (r.1 (has_head w made).version)
-refused_made w BadSize made fits r = absurd (r.2 (has_head w made).size)
-refused_made w BadLog made fits r = absurd (r.1 made.log)
-refused_made w BadTable made fits r = absurd (r.2 made.heap.platform.0 (has_table (recovered_of w) made.heap.platform.0 made.laid made.heap.platform.1))
-refused_made w BadPackage made fits r =
-    let reads : Reads (heap_of (recovered_of w)).text (Ok r.2.0) = subst (λ l. Reads l (Ok r.2.0)) (sym (text_is (recovered_of w) made.laid)) r.2.1.1 in
-    let words : (c : PlatformClass) → class_word made.heap.platform.0 c ≡ class_word r.2.0 c =
-    same_words (heap_of (recovered_of w)).text made.heap.platform.0 r.2.0 made.heap.platform.1 reads in
-    absurd (r.2.2 (made.laid, made.heap.whole, subst (BeginsWith (heap_of (recovered_of w))) (same_facts made.heap.platform.0 r.2.0 words 0 fixed_objects) made.heap.platform.2, fits r.2.0 reads))
-refused_made w NoMemory made fits r = inl refl
-refused_made w StoreDown made fits r = inr refl
+pub refused_made : (w : List ℕ) (f : PowerFault) → IsMade w → Refuses f w → (f ≡ NoMemory) ⊎ (f ≡ StoreDown)
+refused_made w BadMagic made r = absurd (r (has_head w made).magic)
+refused_made w BadVersion made r = absurd (r.1 (has_head w made).version)
+refused_made w BadSize made r = absurd (r.2 (has_head w made).size)
+refused_made w BadLog made r = absurd (r.1 made.log)
+refused_made w BadTable made r = absurd (r.2 made.heap.platform.0 (has_table (recovered_of w) made.heap.platform.0 made.laid made.heap.platform.1))
+refused_made w BadPackage made r =
+    let h = heap_of (recovered_of w) in
+    let reads : Reads h.text (Ok r.2.0) = subst (λ l. Reads l (Ok r.2.0)) (sym (text_is (recovered_of w) made.laid)) r.2.1.1 in
+    let same : made.heap.platform.0 ≡ r.2.0 = one_table h.text made.heap.platform.0 r.2.0 made.heap.platform.1 reads in
+    absurd (r.2.2 (subst (λ t. HasHeap t (recovered_of w)) same (made.laid, made.heap.whole, made.heap.platform.2, made.heap.platform.3)))
+refused_made w NoMemory made r = inl refl
+refused_made w StoreDown made r = inr refl
 
-pub refused_if : {A E : Type 0} (r : Result A E) (fault : E → PowerFault) (w : List ℕ) → IsMade w → FitsItsTable (heap_of (recovered_of w)) → IfErr r (λ e. Refuses (fault e) w) → IfErr r (λ e. (fault e ≡ NoMemory) ⊎ (fault e ≡ StoreDown))
-refused_if (Ok a) fault w made fits f = tt
-refused_if (Err e) fault w made fits f = refused_made w (fault e) made fits f
+pub refused_if : {A E : Type 0} (r : Result A E) (fault : E → PowerFault) (w : List ℕ) → IsMade w → IfErr r (λ e. Refuses (fault e) w) → IfErr r (λ e. (fault e ≡ NoMemory) ⊎ (fault e ≡ StoreDown))
+refused_if (Ok a) fault w made f = tt
+refused_if (Err e) fault w made f = refused_made w (fault e) made f
 
 -- the same for the parts of a recovered image
 pub refuses_from : (w : List ℕ) (f : PowerFault) → HasHead w → IsGoodLog w → Fails f (recovered_of w) → Refuses f w

@@ -37,10 +37,6 @@ HasTable w t = (text_start + (slice_index w text_length_address + 1) / 2 ≤ len
 abbrev pub HasPackages : Tokens → HeapState → Type 0
 HasPackages t h = (p : Packages) × (packages_of t h ≡ Some p) × IsSound p h (last_fixed h)
 
--- so it is with every table that the heap's text is read as
-abbrev pub FitsItsTable : HeapState → Type 0
-FitsItsTable h = (t : Tokens) → Reads h.text (Ok t) → HasPackages t h
-
 -- a whole heap that begins with the objects of the runtime environment, and that fits its packages
 abbrev pub HasHeap : Tokens → List ℕ → Type 0
 HasHeap t w = IsLaid w × IsWhole (heap_of w) × BeginsWithFixed t (heap_of w) × HasPackages t (heap_of w)

@@ -8,7 +8,6 @@ ghost use Rattle.jc_commit.specs.Image.{recovered_of};
 ghost use Rattle.jc_platform.specs.Tokens.{Tokens};
 ghost use Rattle.jc_platform.specs.Table.{Reads};
 ghost use Rattle.jc_card.specs.Made.{IsMade, formatted};
-ghost use Rattle.jc_card.specs.PowerUp.{FitsItsTable};
 
 use crate::fixed::make_fixed;
 use jc_heap::Heap;
@@ -44,7 +43,6 @@ pub enum FormatFault {
 /// environment, and last the magic word. So an image that was not made to its end has none.
 pub fn format<S: WordStore>(store: S, text: &[u8]) -> (S, Result<(), FormatFault>)
     ensures made { OnOk result.1 (IsMade (S.words result.0)) }
-    ensures fits { OnOk result.1 (FitsItsTable (heap_of (recovered_of (S.words result.0)))) }
     ensures heap { OnOk result.1 ((t : Tokens) × Reads text.now (Ok t) × (heap_of (recovered_of (S.words result.0)) ≡ formatted (length (S.words store)) text.now t)) }
     ensures size { length (S.words result.0) ≡ length (S.words store) }
     ensures up { OnOk result.1 (S.down result.0 ≡ false) }
@@ -78,7 +76,6 @@ fn make_image<S: WordStore>(store: S, text: &[u8], table: &Table) -> Result<S, S
     requires fits { first_free (length text.now) + 85 ≤ length (S.words store) }
     requires reads { Reads text.now (Ok table.now) }
     ensures made { IfOk result (λ s. IsMade (S.words s)) }
-    ensures fits { IfOk result (λ s. FitsItsTable (heap_of (recovered_of (S.words s)))) }
     ensures heap { IfOk result (λ s. heap_of (recovered_of (S.words s)) ≡ formatted (length (S.words store)) text.now table.now) }
     ensures size { IfOk result (λ s. length (S.words s) ≡ length (S.words store)) }
     ensures up { IfOk result (λ s. S.down s ≡ false) }

@@ -11,14 +11,15 @@ ghost use Rattle.jc_platform.specs.Tokens.{Tokens};
 ghost use Rattle.jc_card.specs.Made.{IsMade};
 ghost use Rattle.jc_heap.specs.Whole.{IsWhole};
 ghost use Rattle.jc_heap.specs.Heap.{heap_of};
-ghost use Rattle.jc_commit.specs.Image.{IsGoodLog, count_of, plain_of, recovered_of};
+ghost use Rattle.jc_heap.specs.Stored.{HoldsHeap};
+ghost use Rattle.jc_commit.specs.Image.{IsGoodLog, recovered_of};
 ghost use Rattle.jc_transient.specs.State.{HasSizes};
 ghost use Rattle.jc_memory.specs.Owners.{at_reset};
 ghost use Rattle.jc_card_packages.specs.Reading.{packages_of};
 ghost use Rattle.jc_card_checks.specs.Sound.{IsSound};
 ghost use Rattle.jc_card.specs.Fixed.{fixed_of, last_fixed};
 ghost use Rattle.jc_card.specs.Reset.{IsAtReset};
-ghost use Rattle.jc_card.specs.PowerUp.{Refuses, Fails, FailsToLink, FitsItsTable, Stands, StandsBy, IsFoundFirst, IsFoundAfter, HasTable, HasHeap, fault_of};
+ghost use Rattle.jc_card.specs.PowerUp.{Refuses, Fails, FailsToLink, Stands, StandsBy, IsFoundFirst, IsFoundAfter, HasTable, HasHeap, fault_of};
 
 use crate::card::Card;
 use crate::fixed::{LAST_FIXED, fixed_headers, fixed_of};
@@ -84,9 +85,8 @@ impl<S: WordStore> Card<S> {
         ensures reset { IfOk result (λ card. IsAtReset (heap_of (recovered_of (S.words store))) card) }
         ensures cause { IfErr result (λ e. Refuses e.0 (S.words store)) }
         ensures stands { IfErr result (λ e. Stands e.0 (S.words store) (S.words e.1)) }
-        // Over an image that the product made, whose packages link and fit with each table of its text, it refuses for
-        // want of memory alone, or by the store.
-        ensures of_made { IsMade (S.words store) → FitsItsTable (heap_of (recovered_of (S.words store))) → IfErr result (λ e. (e.0 ≡ PowerFault.NoMemory) ⊎ (e.0 ≡ PowerFault.StoreDown)) }
+        // Over an image that the product made it refuses for want of memory alone, or by the store.
+        ensures of_made { IsMade (S.words store) → IfErr result (λ e. (e.0 ≡ PowerFault.NoMemory) ⊎ (e.0 ≡ PowerFault.StoreDown)) }
         ensures was_up { OnOk result (S.down store ≡ false) }
         ensures down { IfErr result (λ e. e.0 ≡ PowerFault.StoreDown → S.down e.1 ≡ true) }
         ensures was_down { IfErr result (λ e. S.down store ≡ true → e.1 ≡ store) }
@@ -155,10 +155,7 @@ fn link_packages<S: WordStore>(
     ensures memory { IfOk result (λ card. card.memory ≡ record { heap = heap; ram = ram; fixed = fixed_of heap.now; registers = at_reset; command = []; sent = [] }) }
     ensures load { IfOk result (λ card. card.load ≡ None) }
     ensures cause { IfErr result (λ e. FailsToLink e.0 platform heap.now) }
-    ensures good { IfErr result (λ e. IsGoodLog (S.words e.1)) }
-    ensures size { IfErr result (λ e. length (S.words e.1) ≡ heap.size) }
-    ensures stands { IfErr result (λ e. (heap_of (plain_of (S.words e.1)) ≡ heap.now) × (heap_of (recovered_of (S.words e.1)) ≡ heap.durable) × (count_of (S.words e.1) ≡ 0)) }
-    ensures store { IfErr result (λ e. (S.down e.1 ≡ false) × (S.passed e.1 ≡ heap.passed) × (S.refused e.1 ≡ heap.refused)) }
+    ensures store { IfErr result (λ e. HoldsHeap (S.words e.1) (S.down e.1) (S.passed e.1) (S.refused e.1) heap) }
 {
     let Ok(marks) = Marks::new(alloc) else {
         return Err((PowerFault::NoMemory, heap.into_store()));

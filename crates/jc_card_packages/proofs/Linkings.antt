@@ -1,7 +1,7 @@
 -- Linking tells no difference by where bytes lie.
 use Rattle.std.proofs.Common.{◌≡◌, refl}
 use Rattle.jc_packages.specs.Values.{Packages}
-use Rattle.jc_linker.specs.declared.components.Components.{Components}
+use Rattle.jc_loaded.specs.declared.components.Components.{Components}
 use Rattle.jc_linker.specs.Linking.{linking}
 use Rattle.jc_card_packages.specs.Told.{seen}
 

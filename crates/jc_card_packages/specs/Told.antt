@@ -7,7 +7,7 @@ use Rattle.jc_cap_fields.specs.Packages.{NamedPackage}
 use Rattle.jc_cap_text.specs.Envelope.{info_at}
 use Rattle.jc_cap.specs.declared.texts.Texts.{Texts}
 use Rattle.jc_cap.specs.Contents.{PackageContents}
-use Rattle.jc_linker.specs.declared.components.Components.{Components}
+use Rattle.jc_loaded.specs.declared.components.Components.{Components}
 
 -- the info of a component with this tag, which has 65,535 bytes at most: nothing, where the bytes are no such component
 abbrev pub info_in : ℕ → List ℕ → List ℕ

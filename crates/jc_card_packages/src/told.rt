@@ -6,7 +6,7 @@ ghost use Rattle.jc_card_packages.specs.Told.{info_in, seen, told};
 use jc_cap::assembling::Package;
 use jc_cap::contents::Contents;
 use jc_cap_text::envelope::info_of;
-use jc_linker::components::Components;
+use jc_loaded::components::Components;
 
 /// The info of a component with this tag; none of its bytes, where the bytes are no such component.
 pub(crate) fn info_in(tag: u8, text: &[u8]) -> &[u8]

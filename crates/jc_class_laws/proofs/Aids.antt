@@ -8,8 +8,9 @@ use Rattle.jc_cap_text.specs.Applets.{AppletNamed, IsApplet}
 use Rattle.jc_packages.specs.Classes.{package_in}
 use Rattle.jc_packages.specs.Lookups.{applet_entry}
 use Rattle.jc_packages.specs.Values.{AppletEntry, PackageValue, Packages}
-use Rattle.jc_linker.specs.declared.components.Components.{Components}
-use Rattle.jc_linker.specs.Linking.{all_of, applet_of, with_package}
+use Rattle.jc_loaded.specs.declared.components.Components.{Components}
+use Rattle.jc_linker.specs.Linking.{with_package}
+use Rattle.jc_loaded.specs.Outlines.{all_of, applet_of}
 use Rattle.jc_linked_laws.specs.Linked.{AreLinkedOnto}
 use Rattle.jc_linked_laws.proofs.Linking.{made}
 use Rattle.jc_linked_laws.proofs.Lists.{AllOf, IfThere, all_at, all_behind, then_there}

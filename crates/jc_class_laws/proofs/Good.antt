@@ -9,7 +9,7 @@ use Rattle.jc_platform.specs.Platform.{class_by_word}
 use Rattle.jc_packages.specs.Classes.{class_in, package_in, size_by, size_of}
 use Rattle.jc_packages.specs.Resolves.{names_interface}
 use Rattle.jc_packages.specs.Values.{ClassValue, Implementation, PackageValue, Packages}
-use Rattle.jc_linker.specs.declared.components.Components.{Components}
+use Rattle.jc_loaded.specs.declared.components.Components.{Components}
 use Rattle.jc_linker.specs.Linking.{cells_above, cells_in, next_number, with_classes, with_package}
 use Rattle.jc_linker.specs.Whole.{are_whole_from, has_superclass, inherits_from, is_carried_out, is_whole}
 use Rattle.jc_linked_laws.specs.Linked.{AreLinked, AreLinkedOnto, IsLinkedOnto}

@@ -16,8 +16,9 @@ use Rattle.jc_cap_code.specs.ClassValues.{Placed, offsets_of}
 use Rattle.jc_packages.specs.Classes.{size_of}
 use Rattle.jc_packages.specs.Resolves.{class_at_offset, class_named, class_of, class_with_token, import_of, imported_by, place_of}
 use Rattle.jc_packages.specs.Values.{ClassValue, PackageValue, Packages}
-use Rattle.jc_linker.specs.declared.components.Components.{Components}
-use Rattle.jc_linker.specs.Linking.{cells_above, cells_in, class_by_record, classes_behind, next_number, outline_of, outlined, with_package, word_of}
+use Rattle.jc_loaded.specs.declared.components.Components.{Components}
+use Rattle.jc_linker.specs.Linking.{cells_above, cells_in, class_by_record, classes_behind, next_number, with_package, word_of}
+use Rattle.jc_loaded.specs.Outlines.{outline_of, outlined}
 use Rattle.jc_linked_laws.proofs.Closed.{Beside, IsBeside, IsClosed, alike, names}
 use Rattle.jc_linked_laws.proofs.Entries.{token_alike}
 use Rattle.jc_linked_laws.proofs.Laws.{package_last}

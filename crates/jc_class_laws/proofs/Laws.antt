@@ -6,7 +6,7 @@ use Rattle.jc_packages.specs.declared.target.Target.TheVariants.{InstanceField}
 use Rattle.jc_packages.specs.Classes.{is_below, reference_cell}
 use Rattle.jc_packages.specs.Lookups.{target_at}
 use Rattle.jc_packages.specs.Values.{Packages}
-use Rattle.jc_linker.specs.declared.components.Components.{Components}
+use Rattle.jc_loaded.specs.declared.components.Components.{Components}
 use Rattle.jc_linked_laws.proofs.Entered.{few_packages}
 use Rattle.jc_linked_laws.proofs.Fields.{named_field}
 use Rattle.jc_card_checks.specs.Objects.{is_a}

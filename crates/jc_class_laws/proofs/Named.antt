@@ -16,8 +16,8 @@ use Rattle.jc_packages.specs.Classes.{class_in, is_class, package_in}
 use Rattle.jc_packages.specs.Lookups.{target_at}
 use Rattle.jc_packages.specs.Resolves.{class_at_offset, class_by, class_named, class_of, class_with_token, exported_class, imported_by, place_of}
 use Rattle.jc_packages.specs.Values.{PackageValue, Packages}
-use Rattle.jc_linker.specs.declared.components.Components.{Components}
-use Rattle.jc_linker.specs.Linking.{outline_of}
+use Rattle.jc_loaded.specs.declared.components.Components.{Components}
+use Rattle.jc_loaded.specs.Outlines.{outline_of}
 use Rattle.jc_linked_laws.proofs.Closed.{IsClosed, IsClosedPackage}
 use Rattle.jc_linked_laws.proofs.Entered.{entered, there as some_at}
 use Rattle.jc_linked_laws.proofs.Fields.{any_field, any_foreign, any_super, mapped_there, of_entry, some_there}

@@ -25,7 +25,7 @@ use Rattle.jc_packages.specs.Lookups.{target_at}
 use Rattle.jc_packages.specs.Methods.{by_offset, if_native, in_table, looked_up_in, method_at, method_in, said_by, searched, settled}
 use Rattle.jc_packages.specs.Resolves.{class_named as named_class, class_with_token, export_of, foreign_method, static_method_by}
 use Rattle.jc_packages.specs.Values.{ClassValue, Export, MethodTable, Packages}
-use Rattle.jc_linker.specs.declared.components.Components.{Components}
+use Rattle.jc_loaded.specs.declared.components.Components.{Components}
 use Rattle.jc_card_checks.specs.Objects.{is_a}
 use Rattle.jc_linked_laws.specs.Linked.{AreLinked}
 use Rattle.jc_linked_laws.proofs.Entered.{entered}

@@ -8,7 +8,7 @@ use Rattle.jc_platform.specs.Numbers.{class_number}
 use Rattle.jc_platform.specs.Platform.{TellNames}
 use Rattle.jc_platform.specs.Tokens.{Tokens}
 use Rattle.jc_packages.specs.Values.{Packages}
-use Rattle.jc_linker.specs.declared.components.Components.{Components}
+use Rattle.jc_loaded.specs.declared.components.Components.{Components}
 use Rattle.jc_linked_laws.specs.Linked.{AreLinked}
 
 -- the token of each class of the platform is one byte

@@ -1,7 +1,7 @@
 -- What linked packages know of classes.
 use Rattle.std.specs.Prelude.{ℕ, ◌≡◌, List, Some, slice_get}
 use Rattle.jc_packages.specs.Values.{Packages}
-use Rattle.jc_linker.specs.declared.components.Components.{Components}
+use Rattle.jc_loaded.specs.declared.components.Components.{Components}
 use Rattle.jc_linked_laws.specs.Linked.{AreLinked}
 use Rattle.jc_sound.specs.Classes.{HasAids, HasFieldCells, HasPlatformCells, HasReceivers, KnowsClasses}
 use Rattle.jc_class_laws.specs.Given.{AreRead, HasAppletComponent}

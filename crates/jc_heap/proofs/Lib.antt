@@ -21,7 +21,6 @@ pub mod KeepingMoves
 pub mod KeepingPackages
 pub mod RecordReading
 pub mod OwnCells
-pub mod ReadBack
 pub mod RecordWords
 pub mod StaticImages
 pub mod Runs
@@ -30,5 +29,6 @@ pub mod Places
 pub mod MoveLaws
 pub mod Calls
 pub mod RawWords
+pub mod Holding
 pub mod AreaRuns
 pub mod Several

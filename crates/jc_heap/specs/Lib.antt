@@ -3,6 +3,7 @@ pub mod Table
 pub mod Object
 pub mod Image
 pub mod Heap
+pub mod Stored
 pub mod Whole
 pub mod Keeping
 pub mod Places

@@ -2,7 +2,7 @@
 ghost use Rattle.std.specs.Prelude.{◌≡◌, ◌<◌, ◌≤◌, ◌+◌, ◌/◌, false, length, slice_index, take, drop, IfSome, Some, None};
 ghost use Rattle.jc_words.specs.Layout.{text_start};
 ghost use Rattle.jc_heap.specs.Image.{packed_byte};
-ghost use Rattle.jc_heap.specs.Components.{record_of, info_of, span_in, IsWithin, ReadsBack, words_for};
+ghost use Rattle.jc_heap.specs.Components.{record_of, info_of, span_in, IsWithin, words_for};
 
 use crate::heap::Heap;
 use jc_commit::Journal;
@@ -94,9 +94,3 @@ impl<S: WordStore> Heap<S> {
         (word % 256) as u8
     }
 }
-
-/// A law of the definitions: from the record that `add_package` writes each component is read as it was
-/// given, byte by byte, and no other one.
-pub fn components_are_read_back()
-    ensures { ReadsBack }
-{}

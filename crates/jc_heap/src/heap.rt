@@ -1,11 +1,12 @@
 //! A heap: reading, cells, transactions.
 ghost use Rattle.std.specs.Prelude.{ℕ, take, ◌≡◌, ◌<◌, ◌≤◌, [], ◌∷◌, true, false, Ok, Err, length, slice_index, OnOk, OnErr, ◌+◌, ◌/◌, ◌==◌, if◌then◌else◌, ◌↔◌, IsTrue, None, IfSome};
 ghost use Rattle.jc_words.specs.Layout.{text_start};
-ghost use Rattle.jc_commit.specs.Image.{capacity, count_of, plain_of, recovered_of, IsGoodLog};
+ghost use Rattle.jc_commit.specs.Image.{capacity};
 ghost use Rattle.jc_commit.specs.Entries.{addresses_of};
 ghost use Rattle.jc_heap.specs.Object.{IsElement};
 ghost use Rattle.jc_heap.specs.Image.{IsLaid};
-ghost use Rattle.jc_heap.specs.Heap.{HeapView, HeapState, heap_of, heap_view, IsSound, cells, facts, IsObject, HasEnd, next_object, set_cell, set_cells, run_words, changed, cell_address, IsStopped, has_room_for, room_left, begun, committed, aborted, resting, KeepsBelowTop};
+ghost use Rattle.jc_heap.specs.Heap.{HeapView, heap_view, IsSound, cells, facts, IsObject, HasEnd, next_object, set_cell, set_cells, run_words, changed, cell_address, IsStopped, has_room_for, room_left, begun, committed, aborted, KeepsBelowTop};
+ghost use Rattle.jc_heap.specs.Stored.{HoldsHeap, IsAtRest, rested};
 ghost use Rattle.jc_heap.specs.declared.place.Place.TheVariants.{Cell};
 ghost use Rattle.jc_heap.specs.Moves.{Write, SetCells, Begin, Commit, Abort, Made, Makes, MakesUnless, after_change, after_step, no_room, no_run};
 
@@ -252,11 +253,8 @@ impl<S: WordStore> Heap<S> {
     /// A heap at rest, over a store as `into_store` gives it while no transaction is open. Nothing is
     /// read or written.
     pub fn resume(store: S) -> Heap<S>
-        requires up { S.down store ≡ false }
-        requires good { IsGoodLog (S.words store) }
-        requires closed { count_of (S.words store) ≡ 0 }
-        requires laid { IsLaid (recovered_of (S.words store)) }
-        ensures { result ≡ resting (heap_of (recovered_of (S.words store))) (S.passed store) (S.refused store) (length (S.words store)) }
+        requires { IsAtRest (S.words store) (S.down store) }
+        ensures { result ≡ rested (S.words store) (S.passed store) (S.refused store) }
     {
         let size = store.size();
         Heap {
@@ -267,16 +265,7 @@ impl<S: WordStore> Heap<S> {
 
     /// The store, for a power up or for `resume`.
     pub fn into_store(self) -> S
-        ensures good { IsGoodLog (S.words result) }
-        ensures durable { heap_of (recovered_of (S.words result)) ≡ self.durable }
-        ensures laid { IsLaid (recovered_of (S.words result)) }
-        ensures now { heap_of (plain_of (S.words result)) ≡ self.now }
-        ensures head { take 3 (S.words result) ≡ self.durable.head }
-        ensures size { length (S.words result) ≡ self.size }
-        ensures down { S.down result ≡ self.down }
-        ensures passed { S.passed result ≡ self.passed }
-        ensures refused { S.refused result ≡ self.refused }
-        ensures closed { self.down ≡ false → self.begun ≡ false → count_of (S.words result) ≡ 0 }
+        ensures { HoldsHeap (S.words result) (S.down result) (S.passed result) (S.refused result) self }
     {
         let Heap { journal, size: _ } = self;
         journal.into_store()

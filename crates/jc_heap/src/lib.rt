@@ -5,7 +5,6 @@ mod adding;
 mod component;
 mod fresh;
 mod heap;
-mod law;
 pub mod layout;
 pub mod lookup;
 mod making;
@@ -19,12 +18,8 @@ mod registered;
 mod statics;
 pub mod walk;
 
-pub use component::{Span, components_are_read_back};
+pub use component::Span;
 pub use heap::Heap;
-pub use law::{
-    changes_keep_a_heap_whole, places_have_words_of_their_own, transactions_keep_what_is_durable,
-    transient_objects_own_their_cells,
-};
 pub use object::{Facts, Kind};
 pub use package::{Component, StaticArray};
 pub use place::{AppletEntry, Place};

@@ -8,3 +8,4 @@ pub mod LaidStores
 pub mod Filling
 pub mod Referring
 pub mod Stepping
+pub mod OpenImages

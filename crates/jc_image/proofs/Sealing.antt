@@ -1,13 +1,15 @@
 -- The magic word, written in place.
-use Rattle.std.proofs.Common.{◌≡◌, ℕ, ◌+◌, ◌/◌, ◌<◌, ◌&&◌, Bool, true, false, List, [], ◌∷◌, length, take, drop, set, get_or, map, refl, ◌∙◌, ap, arith, if◌then◌else◌, lit<}
+use Rattle.std.proofs.Common.{◌≡◌, sym, subst, ℕ, ◌+◌, ◌/◌, ◌<◌, ◌&&◌, Bool, true, false, List, [], ◌∷◌, length, take, drop, set, get_or, map, refl, ◌∙◌, ap, arith, if◌then◌else◌, lit<}
 use Rattle.std.proofs.lemmas.List.{get_or-set_other, drop-set-lt, length-set, length-take-le}
 use Rattle.std.proofs.lemmas.Bool.{true≢false}
 use Rattle.jc_words.specs.Layout.{top_address, packages_address, applets_address, reset_end_address, deselect_end_address, text_length_address, addresses_start, registry_start, registry_length, text_start, magic}
-use Rattle.jc_commit.specs.State.{State, written_in_place, is_touched}
+use Rattle.jc_commit.specs.State.{State, refusing, written_in_place, is_touched}
 use Rattle.jc_heap.specs.Cut.{cut, lacking}
 use Rattle.jc_heap.specs.Image.{image, base, package_addresses, is_package, sizes, item_entry, records, missing, table_text, IsLaid}
 use Rattle.jc_heap.specs.Heap.{HeapView, heap_of, heap_view, read_image, IsSound}
-use Rattle.jc_image.specs.Laying.{sealed}
+use Rattle.jc_heap.specs.Stored.{HoldsHeap}
+use Rattle.jc_image.specs.Laying.{sealed, sealed_view, unsealed}
+use Rattle.jc_heap.proofs.Holding.{IsStoreOf, holds}
 use Rattle.jc_heap.proofs.Images.{text-same}
 use Rattle.jc_heap.proofs.Records.{take-set_comm}
 use Rattle.jc_heap.proofs.Changing.{up_is}
@@ -98,3 +100,27 @@ is_sealed j v n is s up closed =
       laid = IsLaid-magic j.plain magic (s.now here);
       recovered = closed_words j.in_transaction (is_touched j 0) j.recovered (set j.recovered 0 magic) outside ∙ ap (λ l. set l 0 magic) (s.settled here outside);
     }
+
+view_sealed : (j : State) (v : HeapView) (n : ℕ) → heap_view j n ≡ v → IsSealed v (written_in_place j 0 magic) → heap_view (written_in_place j 0 magic) n ≡ sealed_view v
+view_sealed j v n is s =
+    let durable : heap_of (written_in_place j 0 magic).recovered ≡ sealed v.now = ap heap_of s.recovered ∙ s.now in
+    λ i. record (sealed_view (is i)) { now = s.now i; durable = durable i }
+
+-- the store of a journal that wrote the magic word
+pub holds_sealed : (w : List ℕ) (d : Bool) (p r : ℕ) (k j : State) (v : HeapView) (n : ℕ) → IsStoreOf w d p r k → k ≡ written_in_place j 0 magic → heap_view j n ≡ v → IsSound j n → v.down ≡ false → v.begun ≡ false → HoldsHeap w d p r (sealed_view v)
+holds_sealed w d p r k j v n store same is sound up closed =
+    let s : IsSealed v (written_in_place j 0 magic) = is_sealed j v n is sound up closed in
+    let long : length (written_in_place j 0 magic).recovered ≡ n = ap length s.recovered ∙ length-set j.plain 0 magic ∙ sound.size_now (up_is j v n is up) in
+    subst (HoldsHeap w d p r) (view_sealed j v n is s)
+    (holds w d p r (written_in_place j 0 magic) n (subst (IsStoreOf w d p r) same store) (subst IsLaid (sym s.recovered) s.laid) long)
+
+-- and that of one whose store refused it
+pub holds_unsealed : (w : List ℕ) (d : Bool) (p r : ℕ) (k j : State) (v : HeapView) (n : ℕ) → IsStoreOf w d p r k → k ≡ refusing j → heap_view j n ≡ v → IsSound j n → HoldsHeap w d p r (unsealed v)
+holds_unsealed w d p r k j v n store same is sound =
+    subst (HoldsHeap w d p r) (ap unsealed is)
+    (holds w d p r (refusing j) n (subst (IsStoreOf w d p r) same store) sound.back sound.size_recovered)
+
+pub settled_outside : (j : State) (v : HeapView) (n : ℕ) → heap_view j n ≡ v → IsSound j n → v.down ≡ false → v.begun ≡ false → v.durable ≡ v.now
+settled_outside j v n is sound up closed =
+    let outside : j.in_transaction ≡ false = ap (λ u. u.begun) is ∙ closed in
+    ap (λ u. u.durable) (sym is) ∙ ap heap_of (sound.settled (up_is j v n is up) outside) ∙ ap (λ u. u.now) is

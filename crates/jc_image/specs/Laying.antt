@@ -1,5 +1,6 @@
 -- An image without objects: the words that are written, and the heap that they stand for.
-use Rattle.std.specs.Prelude.{ℕ, ◌+◌, ◌-◌, ◌/◌, ◌≡◌, ◌<◌, ◌≤◌, List, [], ◌∷◌, ◌++◌, take, drop, length, slice_index, replicate}
+use Rattle.std.specs.Prelude.{ℕ, true, ◌+◌, ◌-◌, ◌/◌, ◌≡◌, ◌<◌, ◌≤◌, List, [], ◌∷◌, ◌++◌, take, drop, length, slice_index, replicate}
+use Rattle.jc_words.specs.Count.{raised}
 use Rattle.jc_words.specs.Layout.{front_length, registry_length, text_start, magic, version, journal_capacity}
 use Rattle.jc_heap.specs.Packed.{packed}
 use Rattle.jc_heap.specs.Heap.{HeapState, HeapView, resting}
@@ -48,3 +49,11 @@ laid_view n text passed refused = resting (laid_heap n text) passed refused n
 -- the heap with the magic word in its image
 abbrev pub sealed : HeapState → HeapState
 sealed h = record h { head = magic ∷ drop 1 h.head }
+
+-- what the layers above see of it: one more write has passed
+abbrev pub sealed_view : HeapView → HeapView
+sealed_view v = record v { now = sealed v.now; durable = sealed v.now; passed = raised v.passed 1 }
+
+-- the heap where the store refused that write
+abbrev pub unsealed : HeapView → HeapView
+unsealed v = record v { down = true; refused = raised v.refused 1 }

@@ -1,6 +1,7 @@
 -- What opening an image leaves.
-use Rattle.std.specs.Prelude.{ℕ, ◌≡◌, ◌<◌, ◌≤◌, false, length}
+use Rattle.std.specs.Prelude.{ℕ, ◌≡◌, ◌<◌, ◌≤◌, Bool, false, List, length, take}
 use Rattle.jc_words.specs.Layout.{text_start}
+use Rattle.jc_commit.specs.Image.{count_of, plain_of, recovered_of, IsGoodLog}
 use Rattle.jc_commit.specs.State.{State}
 
 -- what the journal of a recovered image meets
@@ -11,3 +12,16 @@ pub record IsOpen (j : State) (size : ℕ) : Type 0 where
   pub size_now : length j.plain ≡ size
   pub small : size < 65536
   pub wide : text_start ≤ size
+
+-- a store with these words, which is down or not, has let so many writes pass and refused so many, holds this recovered image: its
+-- words are the image's, as they are and after another recovery, and no entry of the log counts
+pub record HoldsImage (words : List ℕ) (is_down : Bool) (let_pass turned_down : ℕ) (j : State) : Type 0 where
+  pub good : IsGoodLog words
+  pub plain : plain_of words ≡ j.plain
+  pub recovered : recovered_of words ≡ j.plain
+  pub head : take 3 words ≡ take 3 j.plain
+  pub size : length words ≡ length j.plain
+  pub up : is_down ≡ false
+  pub closed : count_of words ≡ 0
+  pub passed : let_pass ≡ j.passed
+  pub refused : turned_down ≡ j.refused

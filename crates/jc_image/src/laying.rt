@@ -2,10 +2,8 @@
 ghost use Rattle.std.specs.Prelude.{◌≡◌, ◌<◌, ◌≤◌, ◌+◌, ◌-◌, ◌*◌, ◌/◌, ◌++◌, ◌⊎◌, true, false, drop, length, slice_index, take, is_ok, if◌then◌else◌, OnOk, OnErr, IfOk, IfErr};
 ghost use Rattle.jc_words.specs.Count.{raised};
 ghost use Rattle.jc_words.specs.Layout.{magic_address, text_start};
-ghost use Rattle.jc_commit.specs.Image.{IsGoodLog, plain_of, recovered_of};
-ghost use Rattle.jc_heap.specs.Image.{IsLaid};
-ghost use Rattle.jc_heap.specs.Heap.{heap_of};
-ghost use Rattle.jc_image.specs.Laying.{AreBytes, IsPartlyLaid, first_free, laid_front, laid_to, laid_view, laid_words, sealed};
+ghost use Rattle.jc_heap.specs.Stored.{HoldsHeap};
+ghost use Rattle.jc_image.specs.Laying.{AreBytes, IsPartlyLaid, first_free, laid_front, laid_to, laid_view, laid_words, sealed_view, unsealed};
 
 use jc_commit::Journal;
 use jc_heap::Heap;
@@ -109,24 +107,9 @@ pub fn lay<S: WordStore>(mut store: S, text: &[u8]) -> Result<Heap<S>, S>
 pub fn seal<S: WordStore>(heap: Heap<S>) -> Result<S, S>
     requires up { heap.down ≡ false }
     requires outside { heap.begun ≡ false }
-    ensures good { IfOk result (λ s. IsGoodLog (S.words s)) }
-    ensures now { IfOk result (λ s. heap_of (plain_of (S.words s)) ≡ sealed heap.now) }
-    ensures durable { IfOk result (λ s. heap_of (recovered_of (S.words s)) ≡ sealed heap.now) }
-    ensures laid { IfOk result (λ s. IsLaid (recovered_of (S.words s))) }
-    ensures head { IfOk result (λ s. take 3 (S.words s) ≡ (sealed heap.now).head) }
-    ensures up { IfOk result (λ s. S.down s ≡ false) }
-    ensures passed { IfOk result (λ s. S.passed s ≡ raised heap.passed 1) }
-    ensures refused { IfOk result (λ s. S.refused s ≡ heap.refused) }
-    ensures size { IfOk result (λ s. length (S.words s) ≡ heap.size) }
-    ensures stopped_good { IfErr result (λ s. IsGoodLog (S.words s)) }
-    ensures stopped_now { IfErr result (λ s. heap_of (plain_of (S.words s)) ≡ heap.now) }
-    ensures stopped_durable { IfErr result (λ s. heap_of (recovered_of (S.words s)) ≡ heap.durable) }
-    ensures stopped_laid { IfErr result (λ s. IsLaid (recovered_of (S.words s))) }
-    ensures stopped_head { IfErr result (λ s. take 3 (S.words s) ≡ heap.now.head) }
-    ensures stopped_down { IfErr result (λ s. S.down s ≡ true) }
-    ensures stopped_passed { IfErr result (λ s. S.passed s ≡ heap.passed) }
-    ensures stopped_refused { IfErr result (λ s. S.refused s ≡ raised heap.refused 1) }
-    ensures stopped_size { IfErr result (λ s. length (S.words s) ≡ heap.size) }
+    ensures sealed { IfOk result (λ s. HoldsHeap (S.words s) (S.down s) (S.passed s) (S.refused s) (sealed_view heap)) }
+    ensures stopped { IfErr result (λ s. HoldsHeap (S.words s) (S.down s) (S.passed s) (S.refused s) (unsealed heap)) }
+    ensures settled { heap.durable ≡ heap.now }
 {
     let mut journal = heap.into_journal();
     match journal.write_both(MAGIC_WORD, MAGIC) {

@@ -2,7 +2,7 @@
 ghost use Rattle.std.specs.Prelude.{ℕ, ◌+◌, ◌/◌, ◌≡◌, ◌<◌, ◌≤◌, ◌^◌, ◌↔◌, IsTrue, IsOk, IfOk, IfErr, OnOk, true, false, length, slice_index, take};
 ghost use Rattle.jc_words.specs.Count.{raised};
 ghost use Rattle.jc_words.specs.Layout.{top_address, text_length_address, text_start};
-ghost use Rattle.jc_commit.specs.Image.{count_of, plain_of, recovered_of, IsGoodLog, StillRecovers};
+ghost use Rattle.jc_commit.specs.Image.{IsGoodLog, StillRecovers};
 ghost use Rattle.jc_commit.specs.Replay.{IsPartOfReplay};
 ghost use Rattle.jc_commit.specs.State.{opened};
 ghost use Rattle.jc_heap.specs.Cut.{lacking};
@@ -10,6 +10,7 @@ ghost use Rattle.jc_heap.specs.Image.{text_byte, table_text, IsLaid, image, base
 ghost use Rattle.jc_heap.specs.Heap.{heap_view, heap_of};
 ghost use Rattle.jc_heap.specs.Whole.{IsWhole};
 ghost use Rattle.jc_image.specs.Beginning.{BeginsWith};
+ghost use Rattle.jc_image.specs.Opening.{HoldsImage};
 
 use crate::beginning::begins_with;
 use crate::whole::words_agree;
@@ -166,15 +167,7 @@ impl<S: WordStore> OpenImage<S> {
 
     /// The store, with its recovered words.
     pub fn into_store(self) -> S
-        ensures good { IsGoodLog (S.words result) }
-        ensures words { plain_of (S.words result) ≡ self.plain }
-        ensures recovered { recovered_of (S.words result) ≡ self.plain }
-        ensures head { take 3 (S.words result) ≡ take 3 self.plain }
-        ensures size { length (S.words result) ≡ length self.plain }
-        ensures up { S.down result ≡ false }
-        ensures closed { count_of (S.words result) ≡ 0 }
-        ensures passed { S.passed result ≡ self.passed }
-        ensures refused { S.refused result ≡ self.refused }
+        ensures { HoldsImage (S.words result) (S.down result) (S.passed result) (S.refused result) self }
     {
         let OpenImage { journal, size: _ } = self;
         journal.into_store()
@@ -187,14 +180,7 @@ impl<S: WordStore> OpenImage<S> {
         ensures exact { IsOk result ↔ (IsLaid self.plain × IsWhole (heap_of self.plain) × BeginsWith (heap_of self.plain) first.now) }
         ensures whole { IfOk result (λ h. IsWhole h.now) }
         ensures heap { IfOk result (λ h. h ≡ heap_view self (length self.plain)) }
-        ensures words { IfErr result (λ s. plain_of (S.words s) ≡ self.plain) }
-        ensures size { IfErr result (λ s. length (S.words s) ≡ length self.plain) }
-        ensures recovered { IfErr result (λ s. recovered_of (S.words s) ≡ self.plain) }
-        ensures up { IfErr result (λ s. S.down s ≡ false) }
-        ensures good { IfErr result (λ s. IsGoodLog (S.words s)) }
-        ensures closed { IfErr result (λ s. count_of (S.words s) ≡ 0) }
-        ensures passed { IfErr result (λ s. S.passed s ≡ self.passed) }
-        ensures refused { IfErr result (λ s. S.refused s ≡ self.refused) }
+        ensures store { IfErr result (λ s. HoldsImage (S.words s) (S.down s) (S.passed s) (S.refused s) self) }
     {
         let OpenImage { journal, size } = self;
         if !is_heap(&journal, size) {

@@ -6,7 +6,7 @@ ghost use Rattle.jc_interp.specs.Calling.{answered, invoked, natively};
 
 use jc_frames::{CallKind, Frames, Outcome};
 use jc_interp_calls::ask::ask;
-use jc_interp_calls::choose::choose;
+use jc_interp_calls::choose::{Chosen, choose};
 use jc_interp_calls::enter::{CallSite, Callee, enter};
 use jc_interp_calls::signatures::argument_cells;
 use jc_linker::linked::Linked;
@@ -69,7 +69,7 @@ fn call_natively<S: WordStore>(
 }
 
 /// A call by the instruction at a place.
-#[tactic(auto, unfolding(crate::specs::Calling::invoked))]
+#[tactic(auto, unfolding(crate::specs::Calling::invoked, jc_interp_calls::specs::Choosing::header_of, jc_interp_calls::specs::Entering::entering))]
 #[inline(always)]
 pub(crate) fn invoke<S: WordStore>(
     invoke: Invoke,
@@ -81,7 +81,7 @@ pub(crate) fn invoke<S: WordStore>(
     requires up { memory.old.heap.down ≡ false }
     ensures { Makes (invoked invoke place linked.now frames.old memory.old) memory.old (after_group result frames.new memory.new) }
 {
-    let call = choose(invoke, frames, memory, linked)?;
+    let Chosen { call, header } = choose(invoke, frames, memory, linked)?;
     match call.method {
         Method::Code {
             package_number,
@@ -97,7 +97,7 @@ pub(crate) fn invoke<S: WordStore>(
                 place,
                 kind: CallKind::Plain,
             };
-            enter(callee, site, frames, memory, linked)
+            enter(header, callee, site, frames, memory)
         }
         Method::Native(method) => {
             call_natively(method, call.arguments, place, frames, memory, linked)

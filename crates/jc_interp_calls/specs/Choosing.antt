@@ -29,10 +29,12 @@ use Rattle.jc_frames.specs.declared.outcome.Stop.{Stop}
 use Rattle.jc_frames.specs.declared.outcome.Stop.TheVariants.{Throw, End}
 use Rattle.jc_frames.specs.Cells.{as_reference}
 use Rattle.jc_frames.specs.Frames.{Frames}
+use Rattle.jc_methods.specs.declared.header.Header.{Header}
 use Rattle.jc_methods.specs.Headers.{header_in}
 use Rattle.jc_world.specs.Contexts.{allowed, decided}
 use Rattle.jc_world.specs.Objects.{object_at, or_fault, if_so, is_instance}
 use Rattle.jc_interp_calls.specs.declared.choose.Call.{Call}
+use Rattle.jc_interp_calls.specs.declared.choose.Chosen.{Chosen}
 use Rattle.jc_interp_calls.specs.Parameters.{fits, is_there}
 use Rattle.jc_interp_calls.specs.Signatures.{argument_cells, is_constructor}
 use Rattle.jc_interp_calls.specs.Texts.{text_of}
@@ -41,6 +43,11 @@ use Rattle.jc_interp_calls.specs.Texts.{text_of}
 abbrev pub if_fine : {A B : Type 0} → Result A Stop → (A → Result B Stop) → Result B Stop
 if_fine (Ok a) go = go a
 if_fine (Err e) go = Err e
+
+-- what the header of a method in bytecode says, if it is not cut
+unfoldable pub header_of : Packages → Method → Option Header
+header_of p (Code number offset) = header_in (text_of p number) offset
+header_of p (Native method) = None
 
 -- how many cells the arguments of a method have, the receiver among them; none where its header is cut
 unfoldable pub arguments_of : Packages → Method → Option ℕ
@@ -144,3 +151,8 @@ chosen (Virtual index) p s m = virtual_by (target_at p s.current.origin.package_
 chosen (Special index) p s m = special_by (target_at p s.current.origin.package_number index) p s.current.stack m
 chosen (Static index) p s m = static_by (target_at p s.current.origin.package_number index) p
 chosen (Interface n index token) p s m = interface_by (target_at p s.current.origin.package_number index) n token p s.current.stack m
+
+-- the call that was chosen, with what the header of its method says
+abbrev pub with_header : Packages → Result Call Stop → Result Chosen Stop
+with_header p (Ok c) = Ok (record { call = c; header = header_of p c.method })
+with_header p (Err e) = Err e

@@ -48,12 +48,15 @@ switching (Some owner) r (Goes s) = Then (Turns (switched (Some owner) r)) (Give
 switching (Some owner) r (Throws e s) = Gives (Throws e s)
 switching (Some owner) r (Ends o) = Gives (Ends o)
 
+-- a call of a method in bytecode with this header
+abbrev pub entering_by : Option Header → Callee → CallSite → Frames → MemoryState → Doing (Next Frames)
+entering_by header c site s m =
+    if_some header (λ h. if takes c.arguments h then switching c.switches_to m.registers (entered (entry_of h c site m.registers) s) else Gives (Ends Fault))
+
 -- a call of a method in bytecode: a code fault where its header is cut, where it is abstract or takes another number
 -- of cells, where the arguments are not there, or where frames or cells are too many
 unfoldable pub entering : Callee → CallSite → Packages → Frames → MemoryState → Doing (Next Frames)
-entering c site p s m =
-    if_some (header_in (text_of p c.package_number) c.offset) (λ h.
-    if takes c.arguments h then switching c.switches_to m.registers (entered (entry_of h c site m.registers) s) else Gives (Ends Fault))
+entering c site p s m = entering_by (header_in (text_of p c.package_number) c.offset) c site s m
 
 -- ---- a method that nothing called
 

@@ -1,7 +1,9 @@
 //! Which method a call runs, and for whom.
-ghost use Rattle.std.specs.Prelude.{◌≡◌, false, None};
+ghost use Rattle.std.specs.Prelude.{◌≡◌, false, true, IfSome, None};
+ghost use Rattle.std.specs.Option.{option_map};
+ghost use Rattle.jc_packages.specs.Classes.{is_below};
 ghost use Rattle.jc_world.specs.Objects.{if_so};
-ghost use Rattle.jc_interp_calls.specs.Choosing.{arguments_of, called_by_interface, called_specially, called_statically, called_virtually, call_of, chosen, class_of, fits_at_null, interface_access, is_native_constructor, is_null_on, is_of_any, judged, receiver_of, receiver_on};
+ghost use Rattle.jc_interp_calls.specs.Choosing.{arguments_of, called_by_interface, called_specially, called_statically, called_virtually, call_of, chosen, class_of, fits_at_null, header_of, interface_access, is_native_constructor, is_null_on, is_of_any, judged, receiver_of, receiver_on, with_header};
 
 use crate::parameters::fits;
 use crate::signatures::{argument_cells, is_constructor};
@@ -13,7 +15,7 @@ use jc_frames::{Cell, Exception, Frames, Outcome, Stop};
 use jc_heap::Facts;
 use jc_linker::linked::Linked;
 use jc_memory::{Memory, Owner};
-use jc_methods::header_at;
+use jc_methods::{Header, header_at};
 use jc_names::ClassWord;
 use jc_opcodes::instr::Invoke;
 use jc_packages::target::{Method, Target};
@@ -31,6 +33,13 @@ pub struct Call {
     pub arguments: u8,
     /// The owner that is active while it runs, where that is another one than the caller's.
     pub switches_to: Option<Owner>,
+}
+
+/// A call, and what the header of its method says, if that is in bytecode and its header is not cut.
+#[derive(Clone, Copy, PartialEq, Eq, Debug)]
+pub struct Chosen {
+    pub call: Call,
+    pub header: Option<Header>,
 }
 
 impl Call {
@@ -59,22 +68,77 @@ const fn check(holds: bool) -> Result<(), Stop>
     }
 }
 
-// How many cells the arguments of a method have; none where its header is cut.
-#[tactic(auto, unfolding(crate::specs::Choosing::arguments_of))]
+// What the header of a method in bytecode says, if it is not cut.
+#[tactic(auto, unfolding(crate::specs::Choosing::header_of))]
 #[inline(always)]
-fn arguments_of(method: Method, linked: &Linked) -> Option<u8>
-    ensures { result ≡ arguments_of linked.now method }
+fn header_of(method: Method, linked: &Linked) -> Option<Header>
+    ensures { result ≡ header_of linked.now method }
 {
     match method {
         Method::Code {
             package_number,
             offset,
-        } => Some(header_at(text_of(package_number, linked), offset)?.arguments),
-        Method::Native(method) => Some(argument_cells(method)),
+        } => header_at(text_of(package_number, linked), offset),
+        Method::Native(_) => None,
+    }
+}
+
+// How many cells the arguments of a method have, and its header; none where its header is cut.
+#[tactic(auto, unfolding(crate::specs::Choosing::arguments_of, crate::specs::Choosing::header_of))]
+#[inline(always)]
+fn arguments_of(method: Method, linked: &Linked) -> Option<(u8, Option<Header>)>
+    ensures count { option_map (λ r. r.0) result ≡ arguments_of linked.now method }
+    ensures header { IfSome result (λ r. r.1 ≡ header_of linked.now method) }
+{
+    match method {
+        Method::Code { .. } => {
+            let header = header_of(method, linked)?;
+            Some((header.arguments, Some(header)))
+        }
+        Method::Native(method) => Some((argument_cells(method), None)),
+    }
+}
+
+// The two are one method in bytecode.
+#[inline(always)]
+fn is_same(one: Method, other: Method) -> bool
+    ensures { result ≡ true → one ≡ other }
+{
+    match (one, other) {
+        (
+            Method::Code {
+                package_number,
+                offset,
+            },
+            Method::Code {
+                package_number: number,
+                offset: place,
+            },
+        ) => package_number == number && offset == place,
+        _ => false,
+    }
+}
+
+// The header of a method, where that of another one is known.
+#[inline(always)]
+fn header_by(
+    found: Method,
+    method: Method,
+    header: Option<Header>,
+    linked: &Linked,
+) -> Option<Header>
+    requires { header ≡ header_of linked.now method }
+    ensures { result ≡ header_of linked.now found }
+{
+    if is_same(found, method) {
+        header
+    } else {
+        header_of(found, linked)
     }
 }
 
 // The reference below the other arguments, of which there are so many with it.
+#[inline(always)]
 fn receiver_on(arguments: u8, frames: &Frames) -> Option<Ref>
     ensures { result ≡ receiver_on arguments frames.now.current.stack }
 {
@@ -89,6 +153,7 @@ fn receiver_on(arguments: u8, frames: &Frames) -> Option<Ref>
 
 // The header of the receiver of a method with so many arguments.
 #[tactic(auto, unfolding(crate::specs::Choosing::receiver_of))]
+#[inline(always)]
 fn receiver_of<S: WordStore>(
     arguments: u8,
     frames: &Frames,
@@ -125,6 +190,7 @@ fn fits_at_null<S: WordStore>(
 }
 
 // An object's class. Arrays are instances of `Object`.
+#[inline(always)]
 fn class_of(facts: Facts, linked: &Linked) -> ClassWord
     ensures { result ≡ class_of linked.now facts }
 {
@@ -135,7 +201,17 @@ fn class_of(facts: Facts, linked: &Linked) -> ClassWord
     }
 }
 
+// The class is the other, below it, or implements it.
+#[tactic(auto, using(jc_world::proofs::Below::below_same))]
+#[inline(always)]
+fn is_below(own: ClassWord, class: ClassWord, linked: &Linked) -> bool
+    ensures { result ≡ is_below linked.now own class }
+{
+    own == class || linked.is_below(own, class)
+}
+
 // What the firewall says of a call on an object.
+#[inline(always)]
 fn judged(decision: Decision, facts: Facts, method: Method, arguments: u8) -> Result<Call, Stop>
     ensures { result ≡ judged decision facts method arguments }
 {
@@ -159,21 +235,23 @@ fn call_virtually<S: WordStore>(
     frames: &Frames,
     memory: &Memory<S>,
     linked: &Linked,
-) -> Result<Call, Stop>
+) -> Result<Chosen, Stop>
     requires up { memory.now.heap.down ≡ false }
-    ensures { result ≡ called_virtually class token method linked.now frames.now.current.stack memory.now }
+    ensures { result ≡ with_header linked.now (called_virtually class token method linked.now frames.now.current.stack memory.now) }
 {
-    let arguments = arguments_of(method, linked).ok_or(Stop::End(Outcome::Fault))?;
+    let (arguments, header) = arguments_of(method, linked).ok_or(Stop::End(Outcome::Fault))?;
     check(fits_at_null(arguments, method, frames, memory, linked))?;
     let facts = receiver_of(arguments, frames, memory)?;
     let own = class_of(facts, linked);
-    check(linked.is_below(own, class))?;
+    check(is_below(own, class, linked))?;
     let found = linked
         .method_at(own, (class.0 / 256) as u8, token)
         .ok_or(Stop::End(Outcome::Fault))?;
     check(fits(found, frames, memory, linked))?;
     let decision = decided(Access::VirtualCall, facts, memory, linked);
-    judged(decision, facts, found, arguments)
+    let call = judged(decision, facts, found, arguments)?;
+    let header = header_by(found, method, header, linked);
+    Ok(Chosen { call, header })
 }
 
 // The receiver is of the class, where one is asked for.
@@ -194,17 +272,18 @@ fn call_specially<S: WordStore>(
     frames: &Frames,
     memory: &Memory<S>,
     linked: &Linked,
-) -> Result<Call, Stop>
+) -> Result<Chosen, Stop>
     requires up { memory.now.heap.down ≡ false }
-    ensures { result ≡ called_specially class method linked.now frames.now.current.stack memory.now }
+    ensures { result ≡ with_header linked.now (called_specially class method linked.now frames.now.current.stack memory.now) }
 {
-    let arguments = arguments_of(method, linked).ok_or(Stop::End(Outcome::Fault))?;
+    let (arguments, header) = arguments_of(method, linked).ok_or(Stop::End(Outcome::Fault))?;
     check(fits_at_null(arguments, method, frames, memory, linked))?;
     let facts = receiver_of(arguments, frames, memory)?;
     check(is_of_any(facts, class, linked))?;
     check(fits(method, frames, memory, linked))?;
     allow(Access::InstanceField, facts, memory, linked)?;
-    Ok(Call::of(method, arguments))
+    let call = Call::of(method, arguments);
+    Ok(Chosen { call, header })
 }
 
 #[inline(always)]
@@ -220,12 +299,13 @@ fn is_native_constructor(method: Method) -> bool
 // A call without a receiver.
 #[tactic(auto, unfolding(crate::specs::Choosing::called_statically))]
 #[inline(always)]
-fn call_statically(method: Method, linked: &Linked) -> Result<Call, Stop>
-    ensures { result ≡ called_statically method linked.now }
+fn call_statically(method: Method, linked: &Linked) -> Result<Chosen, Stop>
+    ensures { result ≡ with_header linked.now (called_statically method linked.now) }
 {
     check(!is_native_constructor(method))?;
-    let arguments = arguments_of(method, linked).ok_or(Stop::End(Outcome::Fault))?;
-    Ok(Call::of(method, arguments))
+    let (arguments, header) = arguments_of(method, linked).ok_or(Stop::End(Outcome::Fault))?;
+    let call = Call::of(method, arguments);
+    Ok(Chosen { call, header })
 }
 
 // A call of an interface's method, as the firewall sees it.
@@ -248,9 +328,9 @@ fn call_by_interface<S: WordStore>(
     frames: &Frames,
     memory: &Memory<S>,
     linked: &Linked,
-) -> Result<Call, Stop>
+) -> Result<Chosen, Stop>
     requires up { memory.now.heap.down ≡ false }
-    ensures { result ≡ called_by_interface interface arguments token linked.now frames.now.current.stack memory.now }
+    ensures { result ≡ with_header linked.now (called_by_interface interface arguments token linked.now frames.now.current.stack memory.now) }
 {
     let facts = receiver_of(arguments, frames, memory)?;
     let own = class_of(facts, linked);
@@ -260,10 +340,12 @@ fn call_by_interface<S: WordStore>(
         .ok_or(Stop::End(Outcome::Fault))?;
     check(fits(found, frames, memory, linked))?;
     let decision = decided(interface_access(interface, linked), facts, memory, linked);
-    judged(decision, facts, found, arguments)
+    let call = judged(decision, facts, found, arguments)?;
+    let header = header_of(found, linked);
+    Ok(Chosen { call, header })
 }
 
-/// Which method a call runs, with how many arguments, and for whom.
+/// Which method a call runs, with how many arguments, and for whom; and what the method's header says.
 ///
 /// A code fault where the entry of the constant pool is another one, where the receiver is no reference
 /// or no instance of the class that the entry names, where its class has no such method, or where an
@@ -276,9 +358,9 @@ pub fn choose<S: WordStore>(
     frames: &Frames,
     memory: &Memory<S>,
     linked: &Linked,
-) -> Result<Call, Stop>
+) -> Result<Chosen, Stop>
     requires up { memory.now.heap.down ≡ false }
-    ensures { result ≡ chosen invoke linked.now frames.now memory.now }
+    ensures { result ≡ with_header linked.now (chosen invoke linked.now frames.now memory.now) }
 {
     let package_number = frames.origin().package_number;
     match invoke {

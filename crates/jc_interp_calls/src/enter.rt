@@ -2,7 +2,7 @@
 ghost use Rattle.std.specs.Prelude.{◌≡◌, false};
 ghost use Rattle.jc_memory.specs.Doing.{Makes};
 ghost use Rattle.jc_world.specs.Groups.{after_group};
-ghost use Rattle.jc_interp_calls.specs.Entering.{begun, entering, entry_of, origin_of, switched, takes};
+ghost use Rattle.jc_interp_calls.specs.Entering.{begun, entering_by, entry_of, origin_of, switched, takes};
 
 use crate::text::text_of;
 use jc_frames::{CallKind, Cell, Entry, Frames, MOST_CELLS, Origin, Outcome, Resume};
@@ -92,31 +92,28 @@ pub(crate) fn entry_of(
     }
 }
 
-/// Begins the frame of a method that is called, for the owner that is active while it runs. A code fault
-/// where its header is cut, where it is abstract or takes another number of cells, where the arguments are
+/// Begins the frame of a method with this header that is called, for the owner that is active while it runs. A code
+/// fault where its header is cut, where it is abstract or takes another number of cells, where the arguments are
 /// not there, or where frames or cells are too many.
-#[tactic(auto, unfolding(crate::specs::Entering::entering))]
 #[inline(always)]
 pub fn enter<S: WordStore>(
+    header: Option<Header>,
     callee: Callee,
     site: CallSite,
     frames: &mut Frames,
     memory: &mut Memory<S>,
-    linked: &Linked,
 ) -> Result<(), Break>
-    ensures { Makes (entering callee site linked.now frames.old memory.old) memory.old (after_group result frames.new memory.new) }
+    ensures { Makes (entering_by header callee site frames.old memory.old) memory.old (after_group result frames.new memory.new) }
 {
-    let text = text_of(callee.package_number, linked);
-    let Some(header) = header_at(text, callee.offset) else {
+    let Some(header) = header else {
         return Err(Break::End(Outcome::Fault));
     };
     if !takes(usize::from(callee.arguments), header) {
         return Err(Break::End(Outcome::Fault));
     }
-    let registers = memory.registers();
-    frames.enter(entry_of(header, callee, site, registers))?;
+    frames.enter(entry_of(header, callee, site, memory.registers()))?;
     if let Some(owner) = callee.switches_to {
-        memory.turn(switched(Some(owner), registers));
+        memory.turn(switched(Some(owner), memory.registers()));
     }
     Ok(())
 }

@@ -189,6 +189,7 @@ fn has_kinds<S: WordStore>(
 /// Whether the arguments on the stack behind the receiver have the kinds that a method of the platform
 /// wants. Methods in bytecode look at what they are given as they use it.
 #[tactic(auto, unfolding(crate::specs::Parameters::fits))]
+#[inline(always)]
 pub fn fits<S: WordStore>(
     method: Method,
     frames: &Frames,

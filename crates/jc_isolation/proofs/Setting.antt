@@ -2,6 +2,7 @@
 use Rattle.std.proofs.Common.{◌≡◌, ℕ, ◌+◌, ◌<◌, ◌≤◌, false, List, length, Option, Some, None, refl, sym, ◌∙◌, ap, subst, arith}
 use Rattle.std.proofs.lemmas.Bool.{true≢false}
 use Rattle.std.proofs.lemmas.List.{length-map, length-replicate}
+use Rattle.jc_transient.specs.Cells.{number_of}
 use Rattle.jc_transient.specs.declared.cell.CellValue.{CellValue}
 use Rattle.jc_transient.specs.declared.cell.ClearEvent.{ClearEvent}
 use Rattle.jc_transient.specs.declared.cell.ClearEvent.TheVariants.{Reset, Deselect}
@@ -13,7 +14,7 @@ use Rattle.jc_memory.specs.Owners.{owner_number}
 use Rattle.jc_memory.specs.State.{MemoryState, Changes, Flags, effected, IsNew}
 use Rattle.jc_memory.specs.Doing.{Doing, Then}
 use Rattle.jc_memory.specs.Reading.{AllDue}
-use Rattle.jc_memory.specs.Cells.{number_of, sets, sets_in, sets_run, sets_run_in}
+use Rattle.jc_memory.specs.Cells.{sets, sets_in, sets_run, sets_run_in}
 use Rattle.jc_memory.specs.Making.{makes_new, new_move_in, zeroed_in, zero_of}
 use Rattle.jc_isolation.specs.Sparing.{Spares}
 

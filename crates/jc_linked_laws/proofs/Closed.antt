@@ -11,7 +11,8 @@ use Rattle.jc_platform.specs.Platform.{class_by_token, class_by_word, package_by
 use Rattle.jc_packages.specs.Classes.{class_in, interfaces_by, interfaces_in, interfaces_named, package_in, superclass_by, superclass_in}
 use Rattle.jc_packages.specs.Resolves.{class_at_offset, class_by, class_of, class_with_token, exported_class, import_of, imported_by, place_of}
 use Rattle.jc_packages.specs.Values.{ClassValue, PackageValue, Packages}
-use Rattle.jc_linker.specs.Linking.{next_number, outline_of, with_package}
+use Rattle.jc_linker.specs.Linking.{next_number, with_package}
+use Rattle.jc_loaded.specs.Outlines.{outline_of}
 use Rattle.jc_linked_laws.proofs.Lists.{AllOf, IfThere, all_at, all_more, map_there, then_there}
 use Rattle.jc_linked_laws.proofs.Alike.{AreAlike}
 use Rattle.jc_linked_laws.proofs.Entries.{NamesAlike, bare}

@@ -9,7 +9,7 @@ use Rattle.jc_packages.specs.Classes.{package_in}
 use Rattle.jc_packages.specs.Lookups.{target_at, target_of}
 use Rattle.jc_packages.specs.Resolves.{resolution}
 use Rattle.jc_packages.specs.Values.{PackageValue, Packages}
-use Rattle.jc_linker.specs.declared.components.Components.{Components}
+use Rattle.jc_loaded.specs.declared.components.Components.{Components}
 use Rattle.jc_linker.specs.Linking.{with_package}
 use Rattle.jc_linked_laws.specs.Linked.{AreLinked, AreLinkedOnto}
 use Rattle.jc_linked_laws.specs.Resolving.{Resolve}

@@ -21,7 +21,7 @@ use Rattle.jc_packages.specs.Lookups.{target_at}
 use Rattle.jc_packages.specs.Methods.{method_at}
 use Rattle.jc_packages.specs.Resolves.{class_named, class_with_token, export_of, field_of, field_target, foreign_field, foreign_method, imported_by, names_interface, resolution, static_method_by, super_target, virtual_target}
 use Rattle.jc_packages.specs.Values.{ClassValue, Implementation, Packages}
-use Rattle.jc_linker.specs.declared.components.Components.{Components}
+use Rattle.jc_loaded.specs.declared.components.Components.{Components}
 use Rattle.jc_linked_laws.specs.Fields.{HideFields}
 use Rattle.jc_linked_laws.specs.Linked.{AreLinked}
 use Rattle.jc_linked_laws.proofs.Lists.{AllOf, IfThere, any_so, map_there, then_there}

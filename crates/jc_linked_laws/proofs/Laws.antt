@@ -15,7 +15,7 @@ use Rattle.jc_packages.specs.Classes.{class_in, interfaces_in, package_in, super
 use Rattle.jc_packages.specs.Lookups.{applet_entry, applet_of, code_at, entry_at, entry_with_aid, found, if_entry, methods_of, statics_at, statics_of, target_at, target_of}
 use Rattle.jc_packages.specs.Resolves.{class_at_offset, class_with_token, imported_by, resolution}
 use Rattle.jc_packages.specs.Values.{PackageValue, Packages}
-use Rattle.jc_linker.specs.declared.components.Components.{Components}
+use Rattle.jc_loaded.specs.declared.components.Components.{Components}
 use Rattle.jc_linker.specs.Linking.{next_number, with_classes, with_package}
 use Rattle.jc_linked_laws.specs.Linked.{AreLinkedOnto, IsLinkedOnto}
 use Rattle.jc_linked_laws.specs.Staying.{AddingKeeps, PackageStays, Stays}

@@ -16,12 +16,13 @@ use Rattle.jc_packages.specs.Classes.{is_class}
 use Rattle.jc_packages.specs.Lookups.{found}
 use Rattle.jc_packages.specs.Resolves.{names_interface, resolution}
 use Rattle.jc_packages.specs.Values.{ClassValue, Implementation, PackageValue, Packages}
-use Rattle.jc_linker.specs.declared.components.Components.{Components}
+use Rattle.jc_loaded.specs.declared.components.Components.{Components}
 use Rattle.jc_linker.specs.declared.fault.LinkFault.{LinkFault}
 use Rattle.jc_linker.specs.declared.fault.LinkFault.TheVariants.{ImportMissing, ImportVersion, Unresolved}
 use Rattle.jc_linker.specs.Answers.{then_on}
 use Rattle.jc_linker.specs.Imports.{fits, if_fits, import_number, import_numbers, version_of}
-use Rattle.jc_linker.specs.Linking.{class_by_record, classes_behind, if_resolved, if_whole, linking, next_number, outlined, resolved, targets_from, with_classes, with_package}
+use Rattle.jc_linker.specs.Linking.{class_by_record, classes_behind, if_resolved, if_whole, linking, next_number, resolved, targets_from, with_classes, with_package}
+use Rattle.jc_loaded.specs.Outlines.{outlined}
 use Rattle.jc_linker.specs.Whole.{are_whole, are_whole_from, has_superclass, inherits_from, is_carried_out, is_whole}
 use Rattle.jc_linked_laws.specs.Linked.{IsLinkedOnto}
 use Rattle.jc_linked_laws.proofs.Lists.{AllOf, IfThere, all_behind, all_more, map_there}

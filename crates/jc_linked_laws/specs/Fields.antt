@@ -6,7 +6,7 @@ use Rattle.jc_packages.specs.declared.target.Target.TheVariants.{InstanceField}
 use Rattle.jc_packages.specs.Classes.{is_below}
 use Rattle.jc_packages.specs.Lookups.{target_at}
 use Rattle.jc_packages.specs.Values.{Packages}
-use Rattle.jc_linker.specs.declared.components.Components.{Components}
+use Rattle.jc_loaded.specs.declared.components.Components.{Components}
 use Rattle.jc_linked_laws.specs.Linked.{AreLinked}
 
 -- among packages that were linked no entry names a field that instances of a class of the platform have, if they are of no class below it

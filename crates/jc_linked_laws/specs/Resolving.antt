@@ -5,7 +5,7 @@ use Rattle.jc_packages.specs.declared.target.Target.{Target}
 use Rattle.jc_packages.specs.Lookups.{target_at}
 use Rattle.jc_packages.specs.Resolves.{resolution}
 use Rattle.jc_packages.specs.Values.{Packages}
-use Rattle.jc_linker.specs.declared.components.Components.{Components}
+use Rattle.jc_loaded.specs.declared.components.Components.{Components}
 use Rattle.jc_linked_laws.specs.Linked.{AreLinked}
 
 -- each entry of this constant pool resolves in the package with this number, and is looked up by its index as what it

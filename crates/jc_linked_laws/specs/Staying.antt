@@ -7,7 +7,7 @@ use Rattle.jc_packages.specs.Lookups.{applet_entry, code_at, entry_at, entry_wit
 use Rattle.jc_packages.specs.Methods.{interface_method_at, method_at}
 use Rattle.jc_packages.specs.Resolves.{names_interface, resolution}
 use Rattle.jc_packages.specs.Values.{PackageValue, Packages}
-use Rattle.jc_linker.specs.declared.components.Components.{Components}
+use Rattle.jc_loaded.specs.declared.components.Components.{Components}
 use Rattle.jc_linker.specs.Linking.{next_number, with_package}
 use Rattle.jc_linked_laws.specs.Linked.{AreLinked}
 

@@ -7,7 +7,7 @@ use Rattle.jc_cap_code.specs.ClassValues.{Placed}
 use Rattle.jc_packages.specs.Values.{ClassValue, Packages}
 use Rattle.jc_linker.specs.Linking.{class_by_record, classes_behind}
 use Rattle.jc_linker.specs.Whole.{are_whole_from, has_method, inherits_from, is_whole}
-use Rattle.jc_linker.proofs.Walks.{dropped_next}
+use Rattle.jc_loaded.proofs.Walks.{dropped_next}
 
 behind_cons : (p names : Packages) (number : ℕ) (done : List ClassValue) (r : Placed) (rs : List Placed) → classes_behind p names number done (r ∷ rs) ≡ classes_behind p names number (done ++ class_by_record p names number done r.offset r.contents ∷ []) rs
 unfolding classes_behind

@@ -12,7 +12,7 @@ use Rattle.jc_linker.specs.declared.fault.LinkFault.TheVariants.{ImportMissing, 
 use Rattle.jc_linker.specs.Answers.{IsFault, onto, then_on}
 use Rattle.jc_linker.specs.Imports.{import_number, import_numbers}
 use Rattle.jc_linker.specs.Linking.{targets_from}
-use Rattle.jc_linker.proofs.Walks.{dropped_next}
+use Rattle.jc_loaded.proofs.Walks.{dropped_next}
 
 pub onto_nothing : {A : Type 0} (r : Result (List A) LinkFault) → r ≡ onto [] r
 unfolding onto

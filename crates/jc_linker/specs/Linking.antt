@@ -1,20 +1,18 @@
 -- A package as it is linked.
 use Rattle.std.specs.Prelude.{ℕ, ◌+◌, ◌*◌, ◌/◌, ◌%◌, ◌==◌, min, true, false, List, [], ◌∷◌, ◌++◌, map, length, Option, Some, None, Result, Ok, Err, if◌then◌else◌, slice_get, unwrap_or}
 use Rattle.jc_cap_fields.specs.declared.class_refs.ClassRef.{ClassRef}
-use Rattle.jc_cap_fields.specs.Views.{package_info}
-use Rattle.jc_cap_text.specs.declared.exports.ExportedClass.{ExportedClass}
 use Rattle.jc_cap_text.specs.declared.pool.Entry.{Entry}
-use Rattle.jc_cap_text.specs.Applets.{AppletNamed}
 use Rattle.jc_cap_code.specs.declared.class_records.ClassRecord.{ClassRecord}
 use Rattle.jc_cap_code.specs.declared.class_records.ClassRecord.TheVariants as records
 use Rattle.jc_cap_code.specs.declared.class_records.ClassInfo.{ClassInfo}
-use Rattle.jc_cap_code.specs.ClassValues.{Placed, offsets_of}
+use Rattle.jc_cap_code.specs.ClassValues.{Placed}
 use Rattle.jc_cap_code.specs.Implemented.{Implemented}
 use Rattle.jc_packages.specs.declared.target.Target.{Target}
 use Rattle.jc_packages.specs.Classes.{size_of}
 use Rattle.jc_packages.specs.Resolves.{class_named, resolution}
-use Rattle.jc_packages.specs.Values.{AppletEntry, ClassValue, Export, Implementation, MethodTable, PackageValue, Packages}
-use Rattle.jc_linker.specs.declared.components.Components.{Components}
+use Rattle.jc_packages.specs.Values.{ClassValue, Implementation, PackageValue, Packages}
+use Rattle.jc_loaded.specs.declared.components.Components.{Components}
+use Rattle.jc_loaded.specs.Outlines.{outline_of, outlined}
 use Rattle.jc_linker.specs.declared.fault.LinkFault.{LinkFault}
 use Rattle.jc_linker.specs.declared.fault.LinkFault.TheVariants.{Unresolved}
 use Rattle.jc_linker.specs.Answers.{then_on}
@@ -29,24 +27,7 @@ with_package p q = record p { loaded = p.loaded ++ q ∷ [] }
 abbrev pub next_number : Packages → ℕ
 next_number p = length p.loaded + 1
 
--- ---- what is copied
-
-abbrev pub export_of : ExportedClass → Export
-export_of e = record { class_offset = e.class_offset; field_offsets = e.static_field_offsets; method_offsets = e.static_method_offsets }
-
-abbrev pub applet_of : AppletNamed → AppletEntry
-applet_of a = record { aid = a.aid; install_offset = a.install_method_offset }
-
--- the list of a component that may be absent
-abbrev pub all_of : {A : Type 0} → Option (List A) → List A
-all_of None = []
-all_of (Some xs) = xs
-
 -- ---- classes. Names are looked up among packages in which each class of this one is known by its offset.
-
--- a class of which no more is known than where its record stands
-abbrev pub outline_of : ℕ → ClassValue
-outline_of offset = record { offset = offset; is_interface = false; superclass = 0; interfaces = []; inherited_cells = 0; declared_cells = 0; first_reference = 0; reference_count = 0; public_methods = record { base = 0; offsets = [] }; package_methods = record { base = 0; offsets = [] } }
 
 -- the class that a reference names, 0 for none
 abbrev pub word_of : Packages → ℕ → ClassRef → ℕ
@@ -95,20 +76,6 @@ classes_behind p names number done [] = done
 classes_behind p names number done (r ∷ rs) = classes_behind p names number (done ++ class_by_record p names number done r.offset r.contents ∷ []) rs
 
 -- ---- the package
-
--- what stands in it before its classes are linked and its entries resolved
-abbrev pub outlined : Components → List ℕ → PackageValue
-outlined c imports = record {
-  name = package_info c.name;
-  imports = imports;
-  classes = map outline_of (offsets_of c.classes);
-  exports = map export_of (all_of c.exports);
-  targets = [];
-  methods = c.methods.now;
-  image_size = c.image_size;
-  image_references = c.image_references;
-  applets = map applet_of (all_of c.applets);
-}
 
 abbrev pub if_resolved : ℕ → Option Target → Result (List Target) LinkFault → Result (List Target) LinkFault
 if_resolved index None others = Err (Unresolved index)

@@ -3,13 +3,13 @@ ghost use Rattle.std.specs.Prelude.{◌≡◌, ◌+◌, ◌≤◌, ◌<◌, [], 
 ghost use Rattle.jc_cap_code.specs.ImplementedViews.{implemented};
 ghost use Rattle.jc_linker.specs.Linking.{cells_above, class_by_record, class_of, classes_behind, implementation_of, superinterface_of, word_of};
 
-use crate::class::{Implemented, LinkedClass, TokenTable};
-use crate::copies::{bytes, numbers, outline};
 use crate::scope::Scope;
 use jc_cap_code::class_lists::{ClassRefs, ImplementedInterface, ImplementedInterfaces};
 use jc_cap_code::class_records::{ClassInfo, ClassRecord};
 use jc_cap_code::classes::Classes;
 use jc_cap_fields::class_refs::ClassRef;
+use jc_loaded::class::{Implemented, LinkedClass, TokenTable};
+use jc_loaded::copies::{bytes, numbers, outline};
 use jc_names::{ClassWord, NO_CLASS};
 use std::alloc::{AllocError, Global};
 

@@ -1,11 +1,8 @@
 //! Linked packages: classes, methods and entries by their numbers.
 #![tactic(auto)]
 
-mod class;
 mod classes;
 mod classes_linked;
-pub mod components;
-mod copies;
 pub mod fault;
 mod imports;
 mod lineage;
@@ -13,7 +10,6 @@ pub mod link;
 pub mod linked;
 mod lookups;
 mod methods;
-mod package;
 mod resolve;
 mod scope;
 mod whole;

@@ -3,16 +3,16 @@ ghost use Rattle.std.specs.Prelude.{◌≡◌, ◌<◌, ◌≤◌, ◌++◌, [],
 ghost use Rattle.jc_linker.specs.Answers.{Answers};
 ghost use Rattle.jc_linker.specs.Linking.{classes_behind, linking, targets_from, with_package};
 
-use crate::class::LinkedClass;
 use crate::classes_linked::Linking;
-use crate::components::Components;
-use crate::copies::outlined;
 use crate::fault::LinkFault;
 use crate::linked::{Addition, Linked};
-use crate::package::LinkedPackage;
 use crate::scope::Scope;
 use jc_cap_code::classes::Classes;
 use jc_cap_text::pool::ConstantPool;
+use jc_loaded::class::LinkedClass;
+use jc_loaded::components::Components;
+use jc_loaded::copies::outlined;
+use jc_loaded::package::LinkedPackage;
 use jc_packages::target::Target;
 use std::alloc::{AllocError, Global};
 

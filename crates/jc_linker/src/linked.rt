@@ -5,9 +5,9 @@ ghost use Rattle.jc_linker.specs.Linking.{with_package};
 ghost use Rattle.jc_packages.specs.Methods.{interface_method_at, method_at};
 ghost use Rattle.jc_packages.specs.Resolves.{names_interface};
 
-use crate::package::LinkedPackage;
 use crate::scope::Scope;
 use jc_cap_text::pool::VirtualToken;
+use jc_loaded::package::LinkedPackage;
 use jc_names::ClassWord;
 use jc_packages::target::Method;
 use jc_platform::platform::Platform;

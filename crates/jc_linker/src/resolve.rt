@@ -3,10 +3,10 @@ ghost use Rattle.std.specs.Prelude.{◌≡◌, option_copied};
 ghost use Rattle.jc_packages.specs.Classes.{class_in};
 ghost use Rattle.jc_packages.specs.Resolves.{class_at_offset, class_named, class_with_token, export_of, field_target, foreign_field, foreign_method, imported_by, names_interface, resolution, static_method_by, super_target, virtual_target};
 
-use crate::package::ExportedClass;
 use crate::scope::Scope;
 use jc_cap_fields::class_refs::ClassRef;
 use jc_cap_text::pool::{Entry, StaticRef, VirtualToken};
+use jc_loaded::package::ExportedClass;
 use jc_names::ClassWord;
 use jc_packages::target::{Method, Target};
 use jc_platform::names::MethodKind;

@@ -2,8 +2,8 @@
 ghost use Rattle.std.specs.Prelude.{◌≡◌, option_copied};
 ghost use Rattle.jc_packages.specs.Classes.{class_in, package_in};
 
-use crate::class::LinkedClass;
-use crate::package::LinkedPackage;
+use jc_loaded::class::LinkedClass;
+use jc_loaded::package::LinkedPackage;
 use jc_names::ClassWord;
 use jc_platform::platform::Platform;
 use std::marker::Model;

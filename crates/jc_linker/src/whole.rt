@@ -3,9 +3,9 @@ ghost use Rattle.std.specs.Prelude.{◌≡◌, ◌==◌, ◌||◌, ◌<◌, ◌�
 ghost use Rattle.std.specs.List.{list_all};
 ghost use Rattle.jc_linker.specs.Whole.{are_whole, has_method, has_superclass, inherits_from, is_carried_out, is_whole};
 
-use crate::class::{Implemented, LinkedClass};
 use crate::scope::Scope;
 use jc_cap_text::pool::VirtualToken;
+use jc_loaded::class::{Implemented, LinkedClass};
 use jc_names::ClassWord;
 
 impl Scope<'_> {

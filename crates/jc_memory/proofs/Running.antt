@@ -3,16 +3,15 @@ use Rattle.std.proofs.Common.{◌≡◌, ℕ, Some, zero, suc, pos, replicate, �
 use Rattle.std.specs.List.{range_with_len}
 use Rattle.std.proofs.lemmas.List.{take_more_set, take_more, length-append, length-map, map-append, take_all}
 use Rattle.std.proofs.lemmas.List.FromFn.{map-range_with_len_more}
-use Rattle.std.proofs.lemmas.List.Edits.{paste_none, paste_more, paste_all, paste-paste}
-use Rattle.std.proofs.Math.ListN.{get_or-map}
+use Rattle.std.proofs.lemmas.List.Edits.{paste_all, paste-paste}
 use lib.Seq.{paste}
 use Rattle.jc_transient.specs.declared.cell.CellValue.{CellValue}
 use Rattle.jc_transient.specs.declared.cell.CellValue.TheVariants.{Short}
 use Rattle.jc_transient.specs.declared.cell.ClearEvent.{ClearEvent}
 use Rattle.jc_transient.specs.declared.cell.ClearEvent.TheVariants.{Reset, Deselect}
+use Rattle.jc_transient.specs.Cells.{number_of}
 use Rattle.jc_transient.specs.State.{RamState, HasSizes, area, area_size, with_area, with_cells}
 use Rattle.jc_heap.specs.Heap.{facts}
-use Rattle.jc_memory.specs.Cells.{number_of}
 use Rattle.jc_memory.specs.State.{MemoryState, filled}
 
 pub widen_more : (ws bs : List ℕ) (k v : ℕ) → k < length ws → k < length bs → v ≡ get_or bs k 0 → take k ws ≡ take k bs → take (k + 1) (set ws k v) ≡ take (k + 1) bs
@@ -24,36 +23,6 @@ read_more f out i k v here is e =
 
 pub read_all : (f : ℕ → ℕ) (out : List ℕ) (i k n : ℕ) → k ≡ n → length out ≡ n → take k out ≡ map f (range_with_len i k) → out ≡ map f (range_with_len i n)
 read_all f out i k n all long e = sym (take_all k out (omega (arith, all, long))) ∙ e ∙ ap (λ m. map f (range_with_len i m)) all
-
--- so many numbers stand in an area from a place on
-abbrev pub filled_to : RamState → ClearEvent → ℕ → List ℕ → ℕ → RamState
-filled_to ram event place words k = with_area ram event (paste (area ram event) place (map number_of words) k)
-
-one_more : (d : List CellValue) (place : ℕ) (words : List ℕ) (k : ℕ) (v : CellValue) → length d ≡ area_size → place + length words ≤ area_size → k < length words → v ≡ number_of (get_or words k 0) →
-    set (paste d place (map number_of words) k) (place + k) v ≡ paste d place (map number_of words) (k + 1)
-one_more d place words k v long fits below is =
-    let same : length (map number_of words) ≡ length words = length-map words number_of in
-    ap (set (paste d place (map number_of words) k) (place + k)) (is ∙ sym (get_or-map number_of words k 0))
-    ∙ paste_more d place (map number_of words) k (number_of 0) (omega (arith, long, fits, below)) (omega (arith, same, below))
-
-pub fill_more : (event : ClearEvent) (ram mid new : RamState) (place : ℕ) (words : List ℕ) (k : ℕ) (v : CellValue) → HasSizes ram → place + length words ≤ area_size → k < length words →
-    mid ≡ filled_to ram event place words k → v ≡ number_of (get_or words k 0) → new ≡ with_area mid event (set (area mid event) (place + k) v) → new ≡ filled_to ram event place words (k + 1)
-fill_more Reset ram mid new place words k v sizes fits below mid_is v_is new_is =
-    new_is ∙ ap {A = RamState} (λ m. record m { reset_cells = set m.reset_cells (place + k) v }) mid_is ∙ ap (λ l. record ram { reset_cells = l }) (one_more ram.reset_cells place words k v sizes.reset_cells fits below v_is)
-fill_more Deselect ram mid new place words k v sizes fits below mid_is v_is new_is =
-    new_is ∙ ap {A = RamState} (λ m. record m { deselect_cells = set m.deselect_cells (place + k) v }) mid_is ∙ ap (λ l. record ram { deselect_cells = l }) (one_more ram.deselect_cells place words k v sizes.deselect_cells fits below v_is)
-
-pub fill_none : (event : ClearEvent) (ram : RamState) (place : ℕ) (words : List ℕ) → ram ≡ filled_to ram event place words 0
-fill_none Reset ram place words = ap (λ l. record ram { reset_cells = l }) (paste_none ram.reset_cells place (map number_of words))
-fill_none Deselect ram place words = ap (λ l. record ram { deselect_cells = l }) (paste_none ram.deselect_cells place (map number_of words))
-
-all_cells : (d : List CellValue) (place : ℕ) (words : List ℕ) (k : ℕ) → k ≡ length words → paste d place (map number_of words) k ≡ with_cells d place (map number_of words)
-all_cells d place words k all =
-    let same : k ≡ length (map number_of words) = all ∙ sym (length-map words number_of) in
-    paste_all d place (map number_of words) k same ∙ ap (λ n. take place d ++ (map number_of words ++ drop (place + n) d)) same
-
-pub fill_all : (event : ClearEvent) (ram new : RamState) (place : ℕ) (words : List ℕ) (k : ℕ) → k ≡ length words → new ≡ filled_to ram event place words k → new ≡ with_area ram event (with_cells (area ram event) place (map number_of words))
-fill_all event ram new place words k all is = is ∙ ap (with_area ram event) (all_cells (area ram event) place words k all)
 
 zeros_are : (n : ℕ) → replicate n (Short (pos 0)) ≡ map number_of (replicate n 0)
 zeros_are zero = refl

@@ -5,6 +5,7 @@ use Rattle.std.specs.Int.{w16, cast_unsigned, cast_signed}
 use Rattle.jc_transient.specs.declared.cell.CellValue.{CellValue}
 use Rattle.jc_transient.specs.declared.cell.CellValue.TheVariants.{Short, Reference}
 use Rattle.jc_transient.specs.declared.cell.ClearEvent.{ClearEvent}
+use Rattle.jc_transient.specs.Cells.{number_of}
 use Rattle.jc_transient.specs.State.{area_size, cell_at}
 use Rattle.jc_heap.specs.declared.object.Facts.{Facts}
 use Rattle.jc_heap.specs.declared.object.Kind.TheVariants.{ReferenceArray}
@@ -21,10 +22,6 @@ use Rattle.jc_memory.specs.Doing.{Doing, Gives, Then, unless_refused}
 abbrev pub word_of : CellValue → ℕ
 word_of (Short v) = cast_unsigned w16 v
 word_of (Reference r) = r
-
--- a word as a number
-abbrev pub number_of : ℕ → CellValue
-number_of word = Short (cast_signed w16 word)
 
 -- the word of a cell of an object that is kept so
 abbrev pub word_in : Option ClearEvent → MemoryState → ℕ → ℕ → ℕ

@@ -1,33 +1,13 @@
 //! Runs of cells.
-ghost use Rattle.std.specs.Prelude.{◌≡◌, ◌+◌, ◌≤◌, false, length, map, take};
-ghost use Rattle.jc_transient.specs.State.{HasSizes, area, area_size, with_area, with_cells};
+ghost use Rattle.std.specs.Prelude.{◌≡◌, ◌+◌, ◌≤◌, false, length, take};
 ghost use Rattle.jc_heap.specs.Heap.{IsObject, facts};
 ghost use Rattle.jc_memory.specs.Doing.{Makes, after_change};
-ghost use Rattle.jc_memory.specs.Cells.{bytes_at, words_at, number_of, stored_run, MayHaveAll};
+ghost use Rattle.jc_memory.specs.Cells.{bytes_at, words_at, stored_run, MayHaveAll};
 
 use crate::memory::{MOST_COMMAND, Memory};
 use jc_heap::ChangeRefusal;
-use jc_transient::{CellValue, ClearEvent, Ram, Ref};
+use jc_transient::Ref;
 use jc_words::WordStore;
-
-// A word as a number.
-pub(crate) fn number_of(word: u16) -> CellValue
-    ensures { result ≡ number_of word }
-{
-    CellValue::Short(word.cast_signed())
-}
-
-// Puts numbers into an event's area from a place on.
-fn fill_run(ram: &mut Ram, event: ClearEvent, place: u16, words: &[u16])
-    requires sizes { HasSizes ram.old }
-    requires fits { place + length words.now ≤ area_size }
-    ensures done { ram.new ≡ with_area ram.old event (with_cells (area ram.old event) place (map number_of words.now)) }
-    ensures sizes { HasSizes ram.new }
-{
-    for (k, word) in words.iter().enumerate() {
-        ram.set(event, place + k as u16, number_of(*word));
-    }
-}
 
 // Bytes as words.
 #[inline(always)]
@@ -80,7 +60,7 @@ impl<S: WordStore> Memory<S> {
         match facts.event {
             None => self.heap.set_run(object, i, words),
             Some(event) => {
-                fill_run(&mut self.ram, event, facts.place + i, words);
+                self.ram.put_words(event, facts.place + i, words);
                 Ok(())
             }
         }
@@ -95,8 +75,17 @@ impl<S: WordStore> Memory<S> {
         requires few { length bytes.now ≤ MOST_COMMAND }
         ensures { Makes (stored_run self.old object i bytes.now) self.old (after_change result self.new) }
     {
-        let mut words = [0; MOST_COMMAND];
-        widen(&mut words, bytes);
-        self.set_run(object, i, &words[..bytes.len()])
+        let facts = self.facts(object);
+        match facts.event {
+            None => {
+                let mut words = [0; MOST_COMMAND];
+                widen(&mut words, bytes);
+                self.set_run(object, i, &words[..bytes.len()])
+            }
+            Some(event) => {
+                self.ram.put_bytes(event, facts.place + i, bytes);
+                Ok(())
+            }
+        }
     }
 }

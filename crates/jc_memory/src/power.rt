@@ -1,8 +1,8 @@
 //! The store of a memory, and what of a memory is not kept in it.
-ghost use Rattle.std.specs.Prelude.{◌≡◌, false, length};
-ghost use Rattle.jc_commit.specs.Image.{count_of, recovered_of, IsGoodLog};
-ghost use Rattle.jc_heap.specs.Heap.{heap_of, resting};
-ghost use Rattle.jc_heap.specs.Image.{IsLaid};
+ghost use Rattle.std.specs.Prelude.{◌≡◌, false};
+ghost use Rattle.jc_commit.specs.Image.{recovered_of};
+ghost use Rattle.jc_heap.specs.Heap.{heap_of};
+ghost use Rattle.jc_heap.specs.Stored.{HoldsHeap, IsAtRest, rested};
 ghost use Rattle.jc_heap.specs.Whole.{IsWhole};
 ghost use Rattle.jc_memory.specs.Power.{resumed, volatile_of};
 
@@ -40,14 +40,7 @@ impl Model for Volatile {
 impl<S: WordStore> Memory<S> {
     /// The store, and what is not kept in it.
     pub fn into_store(self) -> (S, Volatile)
-        ensures good { IsGoodLog (S.words result.0) }
-        ensures durable { heap_of (recovered_of (S.words result.0)) ≡ self.heap.durable }
-        ensures laid { IsLaid (recovered_of (S.words result.0)) }
-        ensures size { length (S.words result.0) ≡ self.heap.size }
-        ensures down { S.down result.0 ≡ self.heap.down }
-        ensures passed { S.passed result.0 ≡ self.heap.passed }
-        ensures refused { S.refused result.0 ≡ self.heap.refused }
-        ensures closed { self.heap.down ≡ false → self.heap.begun ≡ false → count_of (S.words result.0) ≡ 0 }
+        ensures store { HoldsHeap (S.words result.0) (S.down result.0) (S.passed result.0) (S.refused result.0) self.heap }
         ensures whole { self.heap.down ≡ false → IsWhole self.heap.durable }
         ensures volatile { result.1 ≡ volatile_of self }
     {
@@ -74,12 +67,9 @@ impl<S: WordStore> Memory<S> {
     /// The memory of a store and of what was not kept in it, as `into_store` gives them while no transaction is open.
     /// Nothing is read or written.
     pub fn resume(store: S, volatile: Volatile) -> Memory<S>
-        requires up { S.down store ≡ false }
-        requires good { IsGoodLog (S.words store) }
-        requires closed { count_of (S.words store) ≡ 0 }
-        requires laid { IsLaid (recovered_of (S.words store)) }
+        requires rests { IsAtRest (S.words store) (S.down store) }
         requires whole { IsWhole (heap_of (recovered_of (S.words store))) }
-        ensures { result ≡ resumed (resting (heap_of (recovered_of (S.words store))) (S.passed store) (S.refused store) (length (S.words store))) volatile }
+        ensures { result ≡ resumed (rested (S.words store) (S.passed store) (S.refused store)) volatile }
     {
         let Volatile {
             ram,

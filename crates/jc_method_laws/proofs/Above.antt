@@ -16,7 +16,7 @@ use Rattle.jc_packages.specs.Lookups.{target_at}
 use Rattle.jc_packages.specs.Methods.{method_at}
 use Rattle.jc_packages.specs.Resolves.{class_named, interface_by, names_interface, super_target}
 use Rattle.jc_packages.specs.Values.{ClassValue, Packages}
-use Rattle.jc_linker.specs.declared.components.Components.{Components}
+use Rattle.jc_loaded.specs.declared.components.Components.{Components}
 use Rattle.jc_linked_laws.specs.Linked.{AreLinked}
 use Rattle.jc_linked_laws.proofs.Entered.{entered}
 use Rattle.jc_linked_laws.proofs.Fields.{any_field, any_foreign, mapped_there, of_entry}

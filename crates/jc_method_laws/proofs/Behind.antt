@@ -6,7 +6,7 @@ use Rattle.std.proofs.lemmas.Bool.{cases_eq, false≢true}
 use Rattle.std.proofs.lemmas.Option.{none-some, same_Some}
 use Rattle.jc_packages.specs.Classes.{class_in}
 use Rattle.jc_packages.specs.Values.{ClassValue, PackageValue, Packages}
-use Rattle.jc_linker.specs.declared.components.Components.{Components}
+use Rattle.jc_loaded.specs.declared.components.Components.{Components}
 use Rattle.jc_linker.specs.Linking.{next_number, with_classes, with_package}
 use Rattle.jc_linked_laws.specs.Linked.{AreLinkedOnto, IsLinkedOnto}
 use Rattle.jc_linked_laws.proofs.Closed.{IsClosed, IsClosedClass, class_closed, package_same}

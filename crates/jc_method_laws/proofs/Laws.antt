@@ -7,7 +7,7 @@ use Rattle.jc_packages.specs.declared.target.Target.TheVariants.{SuperMethod}
 use Rattle.jc_packages.specs.Classes.{is_below}
 use Rattle.jc_packages.specs.Lookups.{target_at}
 use Rattle.jc_packages.specs.Values.{Packages}
-use Rattle.jc_linker.specs.declared.components.Components.{Components}
+use Rattle.jc_loaded.specs.declared.components.Components.{Components}
 use Rattle.jc_card_checks.specs.Objects.{is_a}
 use Rattle.jc_linked_laws.proofs.Entered.{few_packages}
 use Rattle.jc_class_laws.specs.Given.{AreRead}

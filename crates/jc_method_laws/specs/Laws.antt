@@ -3,7 +3,7 @@ use Rattle.std.specs.Prelude.{ℕ, List, Ok}
 use Rattle.jc_platform.specs.Table.{Reads}
 use Rattle.jc_platform.specs.Tokens.{Tokens}
 use Rattle.jc_packages.specs.Values.{Packages}
-use Rattle.jc_linker.specs.declared.components.Components.{Components}
+use Rattle.jc_loaded.specs.declared.components.Components.{Components}
 use Rattle.jc_linked_laws.specs.Linked.{AreLinked}
 use Rattle.jc_class_laws.specs.Given.{AreRead, HasByteTokens}
 use Rattle.jc_sound_runs.specs.Methods.{KnowsMethods}

@@ -45,6 +45,7 @@ fn long_header_at(text: &[u8], place: u16, first: u8) -> Option<Header>
 
 /// The header that begins at a place of a Method component; `None` where the component ends before it does.
 #[tactic(auto, unfolding(crate::specs::Headers::header_in))]
+#[inline(always)]
 pub fn header_at(text: &[u8], place: u16) -> Option<Header>
     requires { length text.now < 2 ^ 16 }
     ensures header { result ≡ header_in text.now place }

@@ -28,12 +28,16 @@ versions_are r v w e f JavacardFramework = f
 pub those_of : (r : Reading) (first : PlatformPackage) (versions : List Version) (cs ms : List ℕ)
     → r.first ≡ Some first
     → ((p : PlatformPackage) → get_or r.versions (package_number p) None ≡ slice_get versions (package_number p))
+    → length versions ≡ 2 → length cs ≡ 28 → length ms ≡ 83
     → length r.class_tokens ≡ 28 → AreCopied r.class_tokens cs
     → length r.method_tokens ≡ 83 → AreCopied r.method_tokens ms
     → AreThoseOf (above_of r) (record { first = first; versions = versions; class_tokens = cs; method_tokens = ms })
-those_of r first versions cs ms f v n c o m = record {
+those_of r first versions cs ms f v two many more n c o m = record {
   first = f;
   versions = v;
   class_tokens = λ d. c (class_number d) (subst (λ (k : ℕ). class_number d < k) (sym n) (class_below d));
   method_tokens = λ d. m (method_number d) (subst (λ (k : ℕ). method_number d < k) (sym o) (method_below d));
+  as_many_versions = two;
+  as_many_classes = many;
+  as_many_methods = more;
 }

@@ -1,18 +1,24 @@
 -- A text has one answer.
-use Rattle.std.proofs.Common.{◌≡◌, ◌+◌, ◌*◌, ◌<◌, ◌≤◌, ℕ, cond, ◌==◌, List, [], ◌∷◌, ◌++◌, Option, Some, None, Ok, Err, length, reverse, refl, ap, sym, subst, ◌∙◌, arith, ⊎_elim}
-use Rattle.std.specs.Prelude.{slice_index}
+use Rattle.std.proofs.Common.{◌≡◌, ◌+◌, ◌*◌, ◌<◌, ◌≤◌, ℕ, List, [], ◌∷◌, ◌++◌, Option, Some, None, Ok, Err, get_or, length, reverse, refl, ap, sym, subst, ◌∙◌, arith, ⊎_elim}
+use Rattle.std.specs.Prelude.{slice_get, slice_index}
+use Rattle.std.proofs.lemmas.Grind.{get_or_default_zero}
+use Rattle.std.proofs.lemmas.List.{same_lists}
+use Rattle.std.proofs.lemmas.Option.{same_Some}
 use Rattle.std.proofs.lemmas.Bool.{cases_lt}
 use Rattle.jc_platform.specs.declared.fault.TableFault.{TableFault}
 use Rattle.jc_platform.specs.declared.fault.TableFault.TheVariants.{BadTable}
 use Rattle.jc_platform.specs.declared.names.PlatformClass.{PlatformClass}
+use Rattle.jc_platform.specs.declared.names.PlatformMethod.{PlatformMethod}
 use Rattle.jc_platform.specs.declared.names.PlatformPackage.{PlatformPackage}
+use Rattle.jc_platform.specs.declared.names.PlatformPackage.TheVariants.{JavaLang, JavacardFramework}
 use Rattle.jc_platform.specs.declared.row.Row.{Row}
-use Rattle.jc_platform.specs.Distinct.{class_word, home_of}
-use Rattle.jc_platform.specs.Numbers.{class_number, package_number}
+use Rattle.jc_platform.specs.declared.row.Version.{Version}
+use Rattle.jc_platform.specs.Numbers.{class_count, class_number, method_count, method_number}
 use Rattle.jc_platform.specs.Rows.{Above, above, row_of_line}
 use Rattle.jc_platform.specs.Table.{AreThoseOf, IsBad, IsFirstBad, IsMissing, Reads, Say, Spells, largest_text}
-use Rattle.jc_platform.specs.Tokens.{TellTheSame, Tokens, number_in}
+use Rattle.jc_platform.specs.Tokens.{Tokens}
 use Rattle.jc_platform.proofs.Lines.{reverse-cons}
+use Rattle.jc_platform.proofs.Numbers.{class_at, method_at}
 use Rattle.jc_platform.proofs.Versions.{packages_have_versions}
 
 -- ---- lines say one list of rows
@@ -133,25 +139,40 @@ no_fault text t (BadTable n) read = ⊎_elim
 some_once : {A : Type 0} (o : Option A) (x y : A) → o ≡ Some x → o ≡ Some y → x ≡ y
 some_once o x y e f = let g : Some x ≡ Some y = sym e ∙ f in cc
 
--- two tables of one text tell the same
-pub one_table : (text : List ℕ) (t u : Tokens) → Reads text (Ok t) → Reads text (Ok u) → TellTheSame t u
+-- lists that agree wherever they have an element
+all_same : (xs ys : List ℕ) (n : ℕ) → length xs ≡ n → length ys ≡ n → ((k : ℕ) → k < n → get_or xs k 0 ≡ get_or ys k 0) → xs ≡ ys
+all_same xs ys n a b each = same_lists xs ys (a ∙ sym b) (λ k d lt.
+    let x : get_or xs k d ≡ get_or xs k 0 = get_or_default_zero xs k d lt in
+    let y : get_or ys k d ≡ get_or ys k 0 = get_or_default_zero ys k d (omega (arith, lt, a, b)) in
+    x ∙ each k (omega (arith, lt, a)) ∙ sym y)
+
+one_class : (cs ds : List ℕ) → ((c : PlatformClass) → slice_index cs (class_number c) ≡ slice_index ds (class_number c)) → (k : ℕ) → k < class_count → get_or cs k 0 ≡ get_or ds k 0
+one_class cs ds each k lt = let w = class_at k lt in ap (λ (j : ℕ). get_or cs j 0) (sym w.1) ∙ each w.0 ∙ ap (λ (j : ℕ). get_or ds j 0) w.1
+
+one_method : (cs ds : List ℕ) → ((m : PlatformMethod) → slice_index cs (method_number m) ≡ slice_index ds (method_number m)) → (k : ℕ) → k < method_count → get_or cs k 0 ≡ get_or ds k 0
+one_method cs ds each k lt = let w = method_at k lt in ap (λ (j : ℕ). get_or cs j 0) (sym w.1) ∙ each w.0 ∙ ap (λ (j : ℕ). get_or ds j 0) w.1
+
+-- both versions
+two_same : (vs ws : List Version) → length vs ≡ 2 → length ws ≡ 2 → slice_get vs 0 ≡ slice_get ws 0 → slice_get vs 1 ≡ slice_get ws 1 → vs ≡ ws
+two_same (v ∷ w ∷ []) (x ∷ y ∷ []) a b first second = λ t. same_Some v x first t ∷ same_Some w y second t ∷ []
+two_same [] ws a b first second = absurd (omega (arith, a))
+two_same (v ∷ []) ws a b first second = absurd (omega (arith, a))
+two_same (v ∷ w ∷ x ∷ vs) ws a b first second = absurd (omega (arith, a))
+two_same vs [] a b first second = absurd (omega (arith, b))
+two_same vs (x ∷ []) a b first second = absurd (omega (arith, b))
+two_same vs (x ∷ y ∷ z ∷ ws) a b first second = absurd (omega (arith, b))
+
+-- two tables of one text are one
+pub one_table : (text : List ℕ) (t u : Tokens) → Reads text (Ok t) → Reads text (Ok u) → t ≡ u
 one_table text t u a b =
     let same : b.1.0 ≡ a.1.0 = spelt_once text b.1.0 a.1.0 b.1.1 a.1.1 in
     let x = a.1.2 in
     let y : AreThoseOf (above a.1.0) u = subst (λ (rows : List Row). AreThoseOf (above rows) u) same b.1.2 in
-    record {
-      first = some_once (above a.1.0).first t.first u.first x.first y.first;
-      versions = λ p. sym (x.versions p) ∙ y.versions p;
-      class_tokens = λ c. some_once ((above a.1.0).class_token c) _ _ (x.class_tokens c) (y.class_tokens c);
-      method_tokens = λ m. some_once ((above a.1.0).method_token m) _ _ (x.method_tokens m) (y.method_tokens m);
-    }
-
--- and name each class by the same word
-pub same_words : (text : List ℕ) (t u : Tokens) → Reads text (Ok t) → Reads text (Ok u) → (c : PlatformClass) → class_word t c ≡ class_word u c
-same_words text t u a b c =
-    let w = one_table text t u a b in
-    let number : number_in t (home_of c) ≡ number_in u (home_of c) = ap (λ (p : PlatformPackage). cond (package_number (home_of c) == package_number p) 64 65) w.first in
-    ap (λ (n : ℕ). 256 * n + slice_index t.class_tokens (class_number c)) number ∙ ap (λ (n : ℕ). 256 * number_in u (home_of c) + n) (w.class_tokens c)
+    let first = some_once (above a.1.0).first t.first u.first x.first y.first in
+    let versions = two_same t.versions u.versions x.as_many_versions y.as_many_versions (sym (x.versions JavaLang) ∙ y.versions JavaLang) (sym (x.versions JavacardFramework) ∙ y.versions JavacardFramework) in
+    let classes = all_same t.class_tokens u.class_tokens class_count x.as_many_classes y.as_many_classes (one_class t.class_tokens u.class_tokens (λ c. some_once ((above a.1.0).class_token c) _ _ (x.class_tokens c) (y.class_tokens c))) in
+    let methods = all_same t.method_tokens u.method_tokens method_count x.as_many_methods y.as_many_methods (one_method t.method_tokens u.method_tokens (λ m. some_once ((above a.1.0).method_token m) _ _ (x.method_tokens m) (y.method_tokens m))) in
+    λ i. record { first = first i; versions = versions i; class_tokens = classes i; method_tokens = methods i }
 
 -- two faults of one text are one
 pub one_fault : (text : List ℕ) (f g : TableFault) → Reads text (Err f) → Reads text (Err g) → f ≡ g

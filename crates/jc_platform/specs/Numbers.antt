@@ -9,6 +9,16 @@ use Rattle.jc_platform.specs.declared.names.MethodKind.TheVariants.{Static, Virt
 use Rattle.jc_platform.specs.declared.names.PlatformMethod.{PlatformMethod}
 use Rattle.jc_platform.specs.declared.names.PlatformMethod.TheVariants.{ObjectInit, ObjectEquals, ThrowableInit, ExceptionInit, RuntimeExceptionInit, IndexOutOfBoundsExceptionInit, ArithmeticExceptionInit, ArrayIndexOutOfBoundsExceptionInit, ArrayStoreExceptionInit, ClassCastExceptionInit, NegativeArraySizeExceptionInit, NullPointerExceptionInit, SecurityExceptionInit, PinCheck, PinGetTriesRemaining, PinIsValidated, PinReset, AppletInit, AppletDeselect, AppletGetShareableInterfaceObject, AppletRegister, AppletRegisterBytes, AppletSelect, AppletSelectingApplet, AppletProcess, ApduGetBuffer, ApduReceiveBytes, ApduSendBytes, ApduSetIncomingAndReceive, ApduSetOutgoing, ApduSetOutgoingAndSend, ApduSetOutgoingLength, AidInit, AidEquals, AidEqualsBytes, AidGetBytes, JcSystemAbortTransaction, JcSystemBeginTransaction, JcSystemCommitTransaction, JcSystemGetAid, JcSystemGetAppletShareableInterfaceObject, JcSystemGetMaxCommitCapacity, JcSystemGetPreviousContextAid, JcSystemGetTransactionDepth, JcSystemGetUnusedCommitCapacity, JcSystemIsTransient, JcSystemLookupAid, JcSystemMakeTransientBooleanArray, JcSystemMakeTransientByteArray, JcSystemMakeTransientObjectArray, JcSystemMakeTransientShortArray, UtilArrayCompare, UtilArrayCopy, UtilGetShort, UtilMakeShort, UtilSetShort, OwnerPinInit, OwnerPinCheck, OwnerPinGetTriesRemaining, OwnerPinIsValidated, OwnerPinReset, OwnerPinResetAndUnblock, OwnerPinUpdate, CardExceptionInit, CardExceptionThrowIt, CardExceptionGetReason, CardExceptionSetReason, CardRuntimeExceptionInit, CardRuntimeExceptionThrowIt, CardRuntimeExceptionGetReason, CardRuntimeExceptionSetReason, IsoExceptionInit, IsoExceptionThrowIt, PinExceptionInit, PinExceptionThrowIt, SystemExceptionInit, SystemExceptionThrowIt, TransactionExceptionInit, TransactionExceptionThrowIt, ApduExceptionInit, ApduExceptionThrowIt, UserExceptionInit, UserExceptionThrowIt}
 
+-- how many packages, classes and methods there are
+abbrev pub package_count : ℕ
+package_count = 2
+
+abbrev pub class_count : ℕ
+class_count = 28
+
+abbrev pub method_count : ℕ
+method_count = 83
+
 -- the place of a package
 abbrev pub package_number : PlatformPackage → ℕ
 package_number JavaLang = 0

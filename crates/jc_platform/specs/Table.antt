@@ -6,7 +6,7 @@ use Rattle.jc_platform.specs.declared.names.PlatformMethod.{PlatformMethod}
 use Rattle.jc_platform.specs.declared.row.Row.{Row}
 use Rattle.jc_platform.specs.declared.fault.TableFault.{TableFault}
 use Rattle.jc_platform.specs.declared.fault.TableFault.TheVariants.{BadTable}
-use Rattle.jc_platform.specs.Numbers.{package_number, class_number, method_number}
+use Rattle.jc_platform.specs.Numbers.{class_count, class_number, method_count, method_number, package_count, package_number}
 use Rattle.jc_platform.specs.Rows.{Above, above, parts_at, row_of_line}
 use Rattle.jc_platform.specs.Tokens.{Tokens}
 
@@ -35,12 +35,15 @@ IsFirstBad text n = (lines : List (List ℕ)) × (rows : List Row) × (part : Li
 abbrev pub IsMissing : Above → Type 0
 IsMissing a = (a.first ≡ None) ⊎ ((p : PlatformPackage) × (a.version p ≡ None)) ⊎ ((c : PlatformClass) × (a.class_token c ≡ None)) ⊎ ((m : PlatformMethod) × (a.method_token m ≡ None))
 
--- the tokens and versions are those that stand above, and all stand there
+-- the tokens and versions are those that stand above, all stand there, and there are no more
 pub record AreThoseOf (a : Above) (t : Tokens) : Type 0 where
   pub first : a.first ≡ Some t.first
   pub versions : (p : PlatformPackage) → a.version p ≡ slice_get t.versions (package_number p)
   pub class_tokens : (c : PlatformClass) → a.class_token c ≡ Some (slice_index t.class_tokens (class_number c))
   pub method_tokens : (m : PlatformMethod) → a.method_token m ≡ Some (slice_index t.method_tokens (method_number m))
+  pub as_many_versions : length t.versions ≡ package_count
+  pub as_many_classes : length t.class_tokens ≡ class_count
+  pub as_many_methods : length t.method_tokens ≡ method_count
 
 -- the most bytes of a table's text
 abbrev pub largest_text : ℕ

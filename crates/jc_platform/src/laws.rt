@@ -4,7 +4,7 @@ ghost use Rattle.std.specs.Prelude.{List, ℕ, ◌≡◌};
 ghost use Rattle.jc_platform.specs.Distinct.{AreDistinct, class_word};
 ghost use Rattle.jc_platform.specs.Platform.{TellNames};
 ghost use Rattle.jc_platform.specs.Table.{Reads};
-ghost use Rattle.jc_platform.specs.Tokens.{TellTheSame, Tokens};
+ghost use Rattle.jc_platform.specs.Tokens.{Tokens};
 
 use crate::fault::TableFault;
 use crate::names::PlatformClass;
@@ -15,12 +15,11 @@ pub fn tokens_are_distinct()
     ensures { (text : List ℕ) (t : Tokens) → Reads text (Ok t) → AreDistinct t }
 {}
 
-/// Law: a text has one answer. It is read as a table or refused, never both; two tables that it is read as tell
-/// the same, and name each class by the same word; two faults are one. It does nothing.
+/// Law: a text has one answer. It is read as a table or refused, never both; two tables that it is read as are
+/// one; two faults are one. It does nothing.
 pub fn a_text_has_one_answer()
     ensures table_or_fault { (text : List ℕ) (t : Tokens) (f : TableFault) → Reads text (Ok t) → Reads text (Err f) → ⊥ }
-    ensures one_table { (text : List ℕ) (t u : Tokens) → Reads text (Ok t) → Reads text (Ok u) → TellTheSame t u }
-    ensures same_words { (text : List ℕ) (t u : Tokens) → Reads text (Ok t) → Reads text (Ok u) → (c : PlatformClass) → class_word t c ≡ class_word u c }
+    ensures one_table { (text : List ℕ) (t u : Tokens) → Reads text (Ok t) → Reads text (Ok u) → t ≡ u }
     ensures one_fault { (text : List ℕ) (f g : TableFault) → Reads text (Err f) → Reads text (Err g) → f ≡ g }
 {}
 

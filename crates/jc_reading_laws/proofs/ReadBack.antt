@@ -9,7 +9,7 @@ use Rattle.jc_heap.specs.declared.object.Kind.{Kind}
 use Rattle.jc_heap.specs.Components.{AreInfosOfBytes, HasBytes, info_of}
 use Rattle.jc_heap.specs.Image.{packed_byte, unpacked}
 use Rattle.jc_heap.specs.Packages.{AreComponents, package_record}
-use Rattle.jc_heap.proofs.ReadBack.{reads_back}
+use Rattle.jc_heap_laws.proofs.ReadBack.{reads_back}
 use Rattle.jc_card_packages.specs.Reading.{text_at, text_in}
 
 -- the info with a tag among components

@@ -3,7 +3,7 @@ use Rattle.std.proofs.Common.{◌≡◌, ℕ, zero, suc, ◌<◌, List, [], ◌�
 use Rattle.std.specs.Prelude.{All, slice_get}
 use Rattle.std.proofs.lemmas.List.Elements.{All-nil, All-tail}
 use Rattle.jc_packages.specs.Values.{PackageValue, Packages}
-use Rattle.jc_linker.specs.declared.components.Components.{Components}
+use Rattle.jc_loaded.specs.declared.components.Components.{Components}
 use Rattle.jc_linker.specs.Linking.{with_package}
 use Rattle.jc_card_packages.specs.Told.{told}
 use Rattle.jc_linked_laws.specs.Linked.{AreLinkedOnto, IsLinkedOnto}

@@ -8,7 +8,7 @@ use Rattle.jc_platform.specs.Platform.{TellNames}
 use Rattle.jc_platform.proofs.NamesTold.{names_told}
 use Rattle.jc_packages.specs.Values.{Packages}
 use Rattle.jc_cap.specs.declared.texts.Load.{Load}
-use Rattle.jc_linker.specs.declared.components.Components.{Components}
+use Rattle.jc_loaded.specs.declared.components.Components.{Components}
 use Rattle.jc_linker.specs.Linking.{with_package}
 use Rattle.jc_card_packages.specs.Prepared.{PreparedPackage, prepared}
 use Rattle.jc_card_packages.specs.Reading.{load_of, packages_of, with_prepared, with_records}

@@ -4,7 +4,7 @@ use Rattle.jc_heap.specs.Heap.{HeapState, heap_of}
 use Rattle.jc_platform.specs.Table.{Reads}
 use Rattle.jc_platform.specs.Tokens.{Tokens}
 use Rattle.jc_packages.specs.Values.{Packages}
-use Rattle.jc_linker.specs.declared.components.Components.{Components}
+use Rattle.jc_loaded.specs.declared.components.Components.{Components}
 use Rattle.jc_card_packages.specs.Reading.{packages_of}
 use Rattle.jc_card_checks.specs.Sound.{package_record_at}
 use Rattle.jc_class_laws.specs.Given.{AreRead, HasAppletComponent, HasByteTokens}

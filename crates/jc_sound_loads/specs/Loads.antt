@@ -10,7 +10,7 @@ use Rattle.jc_heap.specs.Moves.{Move, AddPackage}
 use Rattle.jc_heap.specs.Packages.{add_package}
 use Rattle.jc_memory.specs.State.{MemoryState, Effect, Changes, effected}
 use Rattle.jc_packages.specs.Values.{Packages}
-use Rattle.jc_linker.specs.declared.components.Components.{Components}
+use Rattle.jc_loaded.specs.declared.components.Components.{Components}
 use Rattle.jc_linker.specs.Linking.{with_package}
 use Rattle.jc_linked_laws.specs.Linked.{AreLinked}
 use Rattle.jc_card_packages.specs.Material.{arrays_of, image_of, parts_of, statics_of}

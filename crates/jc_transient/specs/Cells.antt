@@ -1,6 +1,6 @@
 -- Values of cells.
 use Rattle.std.specs.Prelude.{ℕ, ◌≡◌, ◌%◌, List, map, drop, pos, nat_lt, if◌then◌else◌}
-use Rattle.std.specs.Int.{w16, cast_unsigned}
+use Rattle.std.specs.Int.{w16, cast_signed, cast_unsigned}
 use Rattle.jc_transient.specs.declared.cell.CellValue.{CellValue}
 use Rattle.jc_transient.specs.declared.cell.CellValue.TheVariants.{Short, Reference}
 
@@ -14,9 +14,9 @@ abbrev pub without_dead : ℕ → CellValue → CellValue
 without_dead top (Short v) = Short v
 without_dead top (Reference r) = Reference (if nat_lt r top then r else 0)
 
--- an element of a byte array
-abbrev pub byte_value : ℕ → CellValue
-byte_value byte = Short (pos byte)
+-- a word as a number: from 2^15 on it is 2^16 less; a byte is itself
+abbrev pub number_of : ℕ → CellValue
+number_of word = Short (cast_signed w16 word)
 
 -- the low byte of a number, 0 for a reference
 abbrev pub low_byte : CellValue → ℕ

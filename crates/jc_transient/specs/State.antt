@@ -4,7 +4,7 @@ use Rattle.jc_transient.specs.declared.cell.CellValue.{CellValue}
 use Rattle.jc_transient.specs.declared.cell.CellValue.TheVariants.{Short}
 use Rattle.jc_transient.specs.declared.cell.ClearEvent.{ClearEvent}
 use Rattle.jc_transient.specs.declared.cell.ClearEvent.TheVariants.{Reset, Deselect}
-use Rattle.jc_transient.specs.Cells.{byte_value}
+use Rattle.jc_transient.specs.Cells.{number_of}
 
 -- the cells of the two areas, and for each address the flag of the object there
 pub record RamState : Type 0 where
@@ -64,4 +64,4 @@ with_cells cells place values = take place cells ++ (values ++ drop (place + len
 
 -- these bytes stand in the APDU buffer from an index on, and nothing else changes
 abbrev pub with_buffer_bytes : RamState → ℕ → List ℕ → RamState
-with_buffer_bytes s index bytes = record s { reset_cells = with_cells s.reset_cells (buffer_place + index) (map byte_value bytes) }
+with_buffer_bytes s index bytes = record s { reset_cells = with_cells s.reset_cells (buffer_place + index) (map number_of bytes) }

@@ -1,6 +1,6 @@
 //! The cells of one area.
 ghost use Rattle.std.specs.Prelude.{◌≡◌, ◌<◌, ◌≤◌, ◌+◌, ℕ, ◌++◌, length, map, replicate, take, drop, pos, IfOk, vec_len, slice_index_or, slice_set};
-ghost use Rattle.jc_transient.specs.Cells.{cleared, without_dead, byte_value};
+ghost use Rattle.jc_transient.specs.Cells.{cleared, without_dead, number_of};
 ghost use Rattle.jc_transient.specs.State.{with_cells};
 
 use crate::cell::CellValue;
@@ -66,13 +66,22 @@ impl Area {
         self.used = self.used.max(place + count);
     }
 
-    /// Puts bytes into the cells from a place on.
-    pub(crate) fn put(&mut self, place: usize, bytes: &[u8])
+    /// Puts bytes, each as a number, into the cells from a place on.
+    pub(crate) fn put_bytes(&mut self, place: usize, bytes: &[u8])
         requires { place + length bytes.now ≤ length self.old }
-        ensures { self.new ≡ with_cells self.old place (map byte_value bytes.now) }
+        ensures { self.new ≡ with_cells self.old place (map number_of bytes.now) }
     {
         write_bytes(self.cells.as_mut_slice(), place, bytes);
         self.used = self.used.max(place + bytes.len());
+    }
+
+    /// The same for words.
+    pub(crate) fn put_words(&mut self, place: usize, words: &[u16])
+        requires { place + length words.now ≤ length self.old }
+        ensures { self.new ≡ with_cells self.old place (map number_of words.now) }
+    {
+        write_words(self.cells.as_mut_slice(), place, words);
+        self.used = self.used.max(place + words.len());
     }
 
     /// Clears the cells.
@@ -132,9 +141,18 @@ fn null_dead_cells(cells: &mut [CellValue], count: usize, top: u16)
 
 fn write_bytes(cells: &mut [CellValue], place: usize, bytes: &[u8])
     requires { place + length bytes.now ≤ length cells.old }
-    ensures { cells.new ≡ with_cells cells.old place (map byte_value bytes.now) }
+    ensures { cells.new ≡ with_cells cells.old place (map number_of bytes.now) }
 {
     for (k, byte) in bytes.iter().enumerate() {
         cells[place + k] = CellValue::of_byte(*byte);
+    }
+}
+
+fn write_words(cells: &mut [CellValue], place: usize, words: &[u16])
+    requires { place + length words.now ≤ length cells.old }
+    ensures { cells.new ≡ with_cells cells.old place (map number_of words.now) }
+{
+    for (k, word) in words.iter().enumerate() {
+        cells[place + k] = CellValue::of_word(*word);
     }
 }

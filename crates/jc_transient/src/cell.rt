@@ -1,6 +1,6 @@
 //! Values of cells.
 ghost use Rattle.std.specs.Prelude.{◌≡◌};
-ghost use Rattle.jc_transient.specs.Cells.{cleared, without_dead, byte_value, low_byte};
+ghost use Rattle.jc_transient.specs.Cells.{cleared, without_dead, number_of, low_byte};
 
 use crate::Ref;
 
@@ -51,9 +51,16 @@ impl CellValue {
 
     /// An element of a byte array.
     pub const fn of_byte(byte: u8) -> CellValue
-        ensures { result ≡ byte_value byte }
+        ensures { result ≡ number_of byte }
     {
         CellValue::Short(byte as i16)
+    }
+
+    /// A word as a number.
+    pub const fn of_word(word: u16) -> CellValue
+        ensures { result ≡ number_of word }
+    {
+        CellValue::Short(word.cast_signed())
     }
 
     /// The low byte of a number; 0 for a reference.

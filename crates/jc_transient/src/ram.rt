@@ -1,6 +1,6 @@
 //! The contents of memory.
 ghost use Rattle.std.specs.Prelude.{◌≡◌, ◌<◌, ◌≤◌, ◌+◌, Bool, ℕ, List, false, length, map, replicate, take, drop, ◌++◌, pos, IfOk, vec_len, slice_index_or, slice_set};
-ghost use Rattle.jc_transient.specs.Cells.{cleared, without_dead, byte_value, low_byte};
+ghost use Rattle.jc_transient.specs.Cells.{cleared, without_dead, number_of, low_byte};
 ghost use Rattle.jc_transient.specs.State.{area_size, flag_count, buffer_size, buffer_place, HasSizes, IsBlank, area, with_area, cell_at, flag_of, with_cells, with_buffer_bytes};
 
 use crate::area::Area;
@@ -89,6 +89,30 @@ impl Ram {
         }
     }
 
+    /// Puts bytes, each as a number, into the cells from a place on.
+    pub fn put_bytes(&mut self, event: ClearEvent, place: u16, bytes: &[u8])
+        requires { place + length bytes.now ≤ area_size }
+        ensures done { self.new ≡ with_area self.old event (with_cells (area self.old event) place (map number_of bytes.now)) }
+        ensures sizes { HasSizes self.new }
+    {
+        match event {
+            ClearEvent::Reset => self.reset_cells.put_bytes(place as usize, bytes),
+            ClearEvent::Deselect => self.deselect_cells.put_bytes(place as usize, bytes),
+        }
+    }
+
+    /// The same for words.
+    pub fn put_words(&mut self, event: ClearEvent, place: u16, words: &[u16])
+        requires { place + length words.now ≤ area_size }
+        ensures done { self.new ≡ with_area self.old event (with_cells (area self.old event) place (map number_of words.now)) }
+        ensures sizes { HasSizes self.new }
+    {
+        match event {
+            ClearEvent::Reset => self.reset_cells.put_words(place as usize, words),
+            ClearEvent::Deselect => self.deselect_cells.put_words(place as usize, words),
+        }
+    }
+
     /// The flag of an object.
     pub fn flag(&self, object: Ref) -> bool
         ensures { result ≡ flag_of self.now object }
@@ -150,8 +174,7 @@ impl Ram {
         ensures done { self.new ≡ with_buffer_bytes self.old index bytes.now }
         ensures sizes { HasSizes self.new }
     {
-        let place = (BUFFER_PLACE + index) as usize;
-        self.reset_cells.put(place, bytes);
+        self.put_bytes(ClearEvent::Reset, BUFFER_PLACE + index, bytes);
     }
 }
 

@@ -1,4 +1,4 @@
-use Rattle.jc_platform.proofs.OneAnswer.{no_fault, one_fault, one_table, same_words}
+use Rattle.jc_platform.proofs.OneAnswer.{no_fault, one_fault, one_table}
 use Rattle.jc_platform.proofs.laws.a_text_has_one_answer.Goals as goal
 
 pub returns-clause-table_or_fault : goal.returns-clause-table_or_fault
@@ -6,9 +6,6 @@ returns-clause-table_or_fault c = no_fault
 
 pub returns-clause-one_table : goal.returns-clause-one_table
 returns-clause-one_table c = one_table
-
-pub returns-clause-same_words : goal.returns-clause-same_words
-returns-clause-same_words c = same_words
 
 pub returns-clause-one_fault : goal.returns-clause-one_fault
 returns-clause-one_fault c = one_fault

@@ -1,8 +1,8 @@
 -- The bytes before the index are written.
 use Rattle.std.proofs.Common.{◌≡◌, map}
-use Rattle.jc_transient.specs.Cells.{byte_value}
+use Rattle.jc_transient.specs.Cells.{number_of}
 use lib.Seq.{paste}
 use Rattle.jc_transient.proofs.area.write_bytes.Given as goal
 
 abbrev pub invariant-loop-k : goal.invariant-loop-k
-invariant-loop-k l = l.cells ≡ paste l.fn.cells l.place (map byte_value l.bytes) l.k
+invariant-loop-k l = l.cells ≡ paste l.fn.cells l.place (map number_of l.bytes) l.k

@@ -1,11 +1,13 @@
-use Rattle.std.proofs.Common.{sym, ◌∙◌, ap, take}
-use Rattle.jc_heap.proofs.RawWords.{recovered-front, head_is}
+use Rattle.std.proofs.Common.{subst}
+use Rattle.jc_heap.specs.Stored.{HoldsHeap}
+use Rattle.jc_heap.proofs.Holding.{holds}
 use Rattle.jc_heap.proofs.heap.Heap.into_store.Goals as goal
 
-pub returns-clause-head : goal.returns-clause-head
-returns-clause-head g c =
+pub returns : goal.returns
+returns g c =
     let w = g.S.WordStore.words c.into_store.result in
-    sym (recovered-front w c.into_store.ensures.good)
-    ∙ ap (λ l. take 3 l) c.into_store.ensures.recovered
-    ∙ sym (head_is c.self.inside.journal.recovered c.self.invariant.back)
-    ∙ ap (λ v. v.durable.head) c.self.view_is
+    let e = c.into_store.ensures in
+    subst (HoldsHeap w (g.S.WordStore.down c.into_store.result) (g.S.WordStore.passed c.into_store.result) (g.S.WordStore.refused c.into_store.result)) c.self.view_is
+    (holds w _ _ _ c.self.inside.journal c.self.inside.size
+    (record { good = e.good; plain = e.plain; recovered = e.recovered; size = e.size; down = e.down; passed = e.passed; refused = e.refused; closed = e.closed })
+    c.self.invariant.back c.self.invariant.size_recovered)

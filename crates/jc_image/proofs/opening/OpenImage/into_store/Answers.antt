@@ -1,9 +1,13 @@
-use Rattle.std.proofs.Common.{List, ℕ, take, sym, ap, ◌∙◌}
-use Rattle.jc_commit.specs.State.{State}
-use Rattle.jc_heap.proofs.RawWords.{plain-front}
+use Rattle.std.proofs.Common.{subst}
+use Rattle.jc_image.specs.Opening.{HoldsImage}
+use Rattle.jc_image.proofs.OpenImages.{holds_image}
 use Rattle.jc_image.proofs.opening.OpenImage.into_store.Goals as goal
 
-pub returns-clause-head : goal.returns-clause-head
-returns-clause-head g c =
-    sym (plain-front (g.S.WordStore.words c.into_store.result))
-    ∙ ap (λ (l : List ℕ). take 3 l) (c.into_store.ensures.plain ∙ ap (λ (j : State). j.plain) c.self.view_is)
+pub returns : goal.returns
+returns g c =
+    let s = c.into_store.result in
+    let e = c.into_store.ensures in
+    subst (HoldsImage (g.S.WordStore.words s) (g.S.WordStore.down s) (g.S.WordStore.passed s) (g.S.WordStore.refused s)) c.self.view_is
+    (holds_image _ _ _ _ c.self.inside.journal c.self.inside.size
+    (record { good = e.good; plain = e.plain; recovered = e.recovered; size = e.size; down = e.down; passed = e.passed; refused = e.refused; closed = e.closed })
+    c.self.invariant)

@@ -1,5 +1,5 @@
 use Rattle.std.proofs.Common.{◌≡◌, ◌∙◌, ◌++◌, ◌+◌, ◌*◌, ◌≤◌, [], ◌∷◌, ap, sym, arith, length, length-append, map}
-use Rattle.jc_linker.proofs.Walks.{taken_map}
+use Rattle.jc_loaded.proofs.Walks.{taken_map}
 use Rattle.jc_linker.specs.Linking.{superinterface_of}
 use Rattle.jc_linker.proofs.classes_linked.Linking.superinterfaces.Goals as goal
 

@@ -1,6 +1,6 @@
 use Rattle.std.proofs.Common.{◌∙◌, ◌+◌, ◌≤◌, ap, arith, length, map, subst}
+use Rattle.jc_transient.specs.Cells.{number_of}
 use Rattle.jc_transient.specs.State.{HasSizes, RamState, area, area_size, with_area, with_cells}
-use Rattle.jc_memory.specs.Cells.{number_of}
 use Rattle.jc_memory.specs.State.{MemoryState}
 use Rattle.jc_memory.proofs.Running.{filled_from}
 use Rattle.jc_memory.proofs.memory.Memory.fill.Goals as goal
@@ -10,6 +10,6 @@ returns g c =
     let ram = ap (λ s. s.ram) c.self.view_is in
     let is = c.facts-place.ensures.is in
     let fits : c.facts-place.result.place + length c.args.bytes.now ≤ area_size = omega (arith, c.facts-place.ensures.transient c.args.event (ap (λ f. f.event) is ∙ c.requires.transient), ap (λ f. f.length) is, c.requires.cells) in
-    let mid = c.fill_bytes.ensures.done ∙ ap (λ r. with_area r c.args.event (with_cells (area r c.args.event) c.facts-place.result.place (map number_of c.args.bytes.now))) ram in
+    let mid = c.put_bytes.ensures.done ∙ ap (λ r. with_area r c.args.event (with_cells (area r c.args.event) c.facts-place.result.place (map number_of c.args.bytes.now))) ram in
     ap {A = MemoryState} (λ s. record s { ram = c.fill.new.self }) c.self.view_is
-    ∙ ap {A = RamState} (λ r. record c.args.self.now { ram = r }) (filled_from c.args.event c.args.self.now c.fill_bytes.new.ram c.fill.new.self c.args.object c.facts-place.result.place c.args.zeros c.args.bytes.now (subst HasSizes ram c.self.invariant.0.ram) c.requires.transient (ap (λ f. f.place) is) fits mid c.fill.ensures.done)
+    ∙ ap {A = RamState} (λ r. record c.args.self.now { ram = r }) (filled_from c.args.event c.args.self.now c.put_bytes.new.self c.fill.new.self c.args.object c.facts-place.result.place c.args.zeros c.args.bytes.now (subst HasSizes ram c.self.invariant.0.ram) c.requires.transient (ap (λ f. f.place) is) fits mid c.fill.ensures.done)

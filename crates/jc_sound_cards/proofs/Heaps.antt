@@ -1,0 +1,75 @@
+-- The heap that a loss of power leaves of a card.
+use Rattle.std.proofs.Common.{◌≡◌, ℕ, ◌<◌, ◌≤◌, ◌⊎◌, inl, inr, length, get_or, refl, sym, ◌∙◌, ap, subst, arith}
+use Rattle.jc_heap.specs.Heap.{HeapState, facts, item_at}
+use Rattle.jc_heap.proofs.Laws.{same_facts}
+use Rattle.jc_memory.specs.State.{MemoryState, Effect, Changes, Fills, Flags, Clears, Buries, Turns, Starts, Sends, effected}
+use Rattle.jc_packages.specs.Values.{Packages}
+use Rattle.jc_platform.specs.Tokens.{Tokens}
+use Rattle.jc_card.specs.Fixed.{last_fixed}
+use Rattle.jc_card_checks.specs.Objects.{is_kept}
+use Rattle.jc_reading_laws.specs.Kept.{IsReadAs}
+use Rattle.jc_reading_laws.proofs.Effects.{keeps_reading}
+use Rattle.jc_sound.specs.Environment.{HasEnvironment, IsEnvironments}
+use Rattle.jc_sound.specs.State.{IsSoundMemory, IsSoundUpTo, last_own}
+use Rattle.jc_sound.proofs.Frames.{same_object}
+use Rattle.jc_sound_commands.specs.Commands.{IsServed}
+use Rattle.jc_sound_commands.proofs.Serving.{serving_keeps}
+use Rattle.jc_sound_loads.specs.Loads.{CountPackages, CountsPackages}
+use Rattle.jc_sound_loads.proofs.Counts.{effects_count}
+use Rattle.jc_sound_images.specs.Heaps.{IsOwnHeap}
+use Rattle.jc_sound_images.specs.Images.{EffectsKeepBeginnings, KeepsBeginning}
+
+-- the heap that a loss of power leaves
+pub record IsLeft (n : ℕ) (t : Tokens) (p : Packages) (h : HeapState) : Type 0 where
+  pub heap : IsOwnHeap n t p h
+  pub counted : CountsPackages h
+
+-- what each effect of a command leaves so
+pub record IsOwnMemory (n : ℕ) (t : Tokens) (p : Packages) (m : MemoryState) : Type 0 where
+  pub sound : IsSoundMemory p m
+  pub environment : HasEnvironment p m
+  pub reading : IsReadAs t p m
+  pub beginning : KeepsBeginning n t m
+  pub counted : CountPackages m
+
+read_served : (t : Tokens) (p : Packages) (e : Effect) (m : MemoryState) → IsServed p e m → IsSoundMemory p m → IsReadAs t p m → IsReadAs t p (effected e m)
+read_served t p (Changes move) m due s r = keeps_reading t p (Changes move) m due s r
+read_served t p (Fills q i values) m due s r = keeps_reading t p (Fills q i values) m due s r
+read_served t p (Flags q flag) m due s r = keeps_reading t p (Flags q flag) m due s r
+read_served t p (Clears event) m due s r = keeps_reading t p (Clears event) m due s r
+read_served t p Buries m due s r = keeps_reading t p Buries m due s r
+read_served t p (Turns g) m due s r = record { now = r.now; durable = r.durable }
+read_served t p (Starts bytes) m due s r = keeps_reading t p (Starts bytes) m due s r
+read_served t p (Sends bytes) m due s r = keeps_reading t p (Sends bytes) m due s r
+
+pub still_own : EffectsKeepBeginnings → (n : ℕ) (t : Tokens) (p : Packages) (e : Effect) (m : MemoryState) → IsServed p e m → IsOwnMemory n t p m → IsOwnMemory n t p (effected e m)
+still_own begins n t p e m due o = record {
+  sound = serving_keeps.sound p e m due o.sound;
+  environment = serving_keeps.environment p e m due o.sound o.environment;
+  reading = read_served t p e m due o.sound o.reading;
+  beginning = begins n t e m o.beginning;
+  counted = effects_count e m o.counted;
+}
+
+module _ (n : ℕ) (t : Tokens) (p : Packages) (m : MemoryState) (o : IsOwnMemory n t p m) where
+  last_is : last_own m ≡ last_fixed m.heap.durable
+  last_is = ap (λ f. get_or f 16 0) o.beginning.fixed
+
+  durable_own : IsOwnHeap n t p m.heap.durable
+  durable_own = record {
+    beginning = o.beginning.durable;
+    packages = o.reading.durable;
+    stands = o.sound.whole.durable;
+    registry = o.sound.registry_kept;
+    loaded = ap length (sym o.sound.packages) ∙ o.sound.loaded;
+    fits = subst (IsSoundUpTo m.heap.durable.counts.1 p m.heap.durable) last_is o.sound.durable;
+    environment = subst (IsEnvironments p m.heap.durable) last_is o.environment.durable;
+    behind = let a = o.sound.behind in let b = last_is in omega (arith, a, b);
+    own = λ r low there.
+        let a = o.sound.behind in let b = last_is in let same = o.sound.whole.shape.items r (omega (arith, low, a, b)) in
+        ap is_kept (sym (same_facts (item_at m.heap.now r) (item_at m.heap.durable r) same))
+        ∙ o.sound.own r (omega (arith, low, b)) (same_object (item_at m.heap.now r) (item_at m.heap.durable r) same ∙ there);
+  }
+
+  pub left_own : IsLeft n t p m.heap.durable
+  left_own = record { heap = durable_own; counted = o.counted.durable }

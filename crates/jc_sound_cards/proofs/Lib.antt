@@ -1,0 +1,5 @@
+pub mod Heaps
+pub mod Commands
+pub mod Loads
+pub mod Sessions
+pub mod Images

@@ -1,0 +1,15 @@
+//! Laws of the definitions.
+ghost use Rattle.jc_sound_cards.specs.Cards.{StaysOwn};
+ghost use Rattle.jc_sound_cards.specs.Images.{ImagesStayMade};
+
+/// A law of the definitions: however a card is answered that commands left, and whatever a loss of power leaves of it, it is such a
+/// card; and so is each behind a session.
+pub fn sessions_keep_cards_sound()
+    ensures { StaysOwn }
+{}
+
+/// A law of the definitions: what is left of a new image is a card that commands may go on from; and the words of the store that such
+/// a card gives back, and those that keep what is left of one, are an image that the product makes, which powers up again.
+pub fn images_stay_made()
+    ensures { ImagesStayMade }
+{}

@@ -1,0 +1,6 @@
+//! Soundness of cards and of their sessions.
+#![tactic(auto)]
+
+mod law;
+
+pub use law::{images_stay_made, sessions_keep_cards_sound};

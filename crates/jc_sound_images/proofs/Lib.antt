@@ -1,0 +1,4 @@
+pub mod Finding
+pub mod Beginnings
+pub mod Effects
+pub mod NewImages

@@ -1,0 +1,16 @@
+use Rattle.std.proofs.Common.{◌≡◌, ◌<◌, ◌+◌, length, map, arith}
+use Rattle.std.proofs.lemmas.List.{length-map}
+use Rattle.std.proofs.Math.ListN.{get_or-map}
+use Rattle.std.proofs.lemmas.List.Edits.{paste_more}
+use Rattle.jc_transient.specs.Cells.{number_of}
+use Rattle.jc_transient.proofs.area.write_words.Goals as goal
+
+pub loop-k-preserved : goal.loop-k-preserved
+loop-k-preserved c =
+    let words = c.args.words.now in
+    let within : c.args.place + c.loop-k.k < length c.args.cells.now = omega arith in
+    let same : length (map number_of words) ≡ length words = simp length-map in
+    let below : c.loop-k.k < length (map number_of words) = omega arith in
+    let step = paste_more c.args.cells.now c.args.place (map number_of words) c.loop-k.k (number_of 0) within below in
+    let word = get_or-map number_of words c.loop-k.k 0 in
+    cc (step, word, c.loop-k.invariant, c.of_word.ensures)
