@@ -1,14 +1,18 @@
 -- What the calls of OwnerPIN are given.
 use Rattle.std.specs.Prelude.{ℕ, ℤ, pos, negsuc, nat_le, List, if◌then◌else◌, Option, Some, None, Result, Ok, Err}
 use Rattle.std.specs.Option.{option_and_then}
+use Rattle.jc_heap.specs.declared.object.Facts.{Facts}
+use Rattle.jc_firewall.specs.declared.access.Access.TheVariants.{ArrayElement}
 use Rattle.jc_frames.specs.declared.cell.Cell.{Cell}
 use Rattle.jc_frames.specs.declared.outcome.Exception.{Exception}
 use Rattle.jc_frames.specs.declared.outcome.Exception.TheVariants.{PINException}
 use Rattle.jc_frames.specs.declared.outcome.Stop.{Stop}
 use Rattle.jc_frames.specs.declared.outcome.Stop.TheVariants.{Throw}
+use Rattle.jc_memory.specs.Cells.{header_at}
 use Rattle.jc_memory.specs.State.{MemoryState}
 use Rattle.jc_packages.specs.Values.{Packages}
-use Rattle.jc_pin.specs.Pins.{is_pin}
+use Rattle.jc_pin.specs.Pins.{is_pin, record_of}
+use Rattle.jc_world.specs.Contexts.{allowed}
 use Rattle.jc_world.specs.Objects.{or_fault, short_argument, reference_argument}
 use Rattle.jc_api_arguments.specs.declared.arrays.Stretch.{Stretch}
 use Rattle.jc_api_arguments.specs.Arrays.{bytes_argument, elements_of}
@@ -41,3 +45,11 @@ given_in args m =
 -- the bytes that they name, or what throws
 abbrev pub named_by : Given → Packages → MemoryState → Result Stretch Stop
 named_by g p m = elements_of p m g.array g.header g.start g.count
+
+-- the firewall lets the array be written in which a PIN keeps its value, if it has one
+abbrev pub reached_in : Packages → MemoryState → Option Facts → Result (Unit {0}) Stop
+reached_in p m None = Ok tt
+reached_in p m (Some f) = allowed ArrayElement p m f
+
+abbrev pub value_reached : Packages → MemoryState → ℕ → Result (Unit {0}) Stop
+value_reached p m pin = reached_in p m (header_at m (record_of m pin).value)

@@ -8,7 +8,7 @@ ghost use Rattle.jc_pin.specs.Updating.{after_pin, updated};
 ghost use Rattle.jc_api_arguments.specs.Arrays.{IsInArray};
 ghost use Rattle.jc_api_pin.specs.OwnerPin.{answer_of, bytes_in, constructed, settled, value_set};
 
-use crate::given::{ILLEGAL_VALUE, at_least_1, given_in, named_by, receiver};
+use crate::given::{ILLEGAL_VALUE, at_least_1, given_in, named_by, reach_value, receiver};
 use jc_api_arguments::Stretch;
 use jc_frames::{Cell, Exception};
 use jc_linker::linked::Linked;
@@ -113,7 +113,8 @@ fn set_named<S: WordStore>(
     answer_of(set_bytes(memory, pin, bytes))
 }
 
-/// `update`: gives a PIN another value.
+/// `update`: gives a PIN another value. The firewall is asked for the array of the bytes, and for the one in which the PIN
+/// keeps its value.
 #[tactic(auto, unfolding(crate::specs::OwnerPin::value_set))]
 pub(crate) fn set_value<S: WordStore>(
     args: &[Cell],
@@ -126,5 +127,6 @@ pub(crate) fn set_value<S: WordStore>(
     let pin = receiver(args, memory)?;
     let given = given_in(args, memory)?;
     let bytes = named_by(&given, memory, linked)?;
+    reach_value(pin, memory, linked)?;
     set_named(memory, pin, bytes)
 }

@@ -24,7 +24,7 @@ use Rattle.jc_api_util.specs.Util.{util_called}
 use Rattle.jc_isolation.specs.Reach.{IsOutside}
 use Rattle.jc_isolation.specs.Sparing.{Spares}
 use Rattle.jc_isolation.proofs.Due.{call_some}
-use Rattle.jc_isolation_natives.specs.Natives.{IsNoValue, IsNotCalled, NativesSpare, sets_receiver}
+use Rattle.jc_isolation_natives.specs.Natives.{IsNotCalled, NativesSpare, sets_receiver}
 use Rattle.jc_isolation_natives.proofs.Small.{aborted_due, begun_due, committed_due, event_due, got_due, looked_up_due, reason_due, same_due, server_due, thrown_due, transient_due}
 use Rattle.jc_isolation_natives.proofs.Arrays.{aid_equals_bytes_due, aid_equals_due, aid_got_due, aid_made_due, all_sent_due, buffer_got_due, compared_due, copied_due, length_due, outgoing_due, received_due, received_more_due, sent_due, short_got_due, short_made_due, short_set_due}
 use Rattle.jc_isolation_natives.proofs.Pins.{constructed_due, pin_checked_due, tries_due, validated_due, value_set_due, was_reset_due, was_unblocked_due}
@@ -130,27 +130,27 @@ module _ (args : List Cell) (p : Packages) (m : MemoryState) (q : ℕ) (out : Is
   aids_due AidGetBytes other = aid_got_due p m q out args
   aids_due _ other = tt
 
-  pins_due : (method : PlatformMethod) → (sets_receiver method ≡ true → IsNotCalled q args) → (method ≡ OwnerPinUpdate → IsNoValue q args m) → AllDue (Spares q) (pin_called method args p m) m
+  pins_due : (method : PlatformMethod) → (sets_receiver method ≡ true → IsNotCalled q args) → AllDue (Spares q) (pin_called method args p m) m
   unfolding pin_called sets_receiver
-  pins_due OwnerPinInit other value = constructed_due q p m args out.there (other refl)
-  pins_due OwnerPinCheck other value = pin_checked_due q p m args (other refl)
-  pins_due OwnerPinGetTriesRemaining other value = tries_due q p m args
-  pins_due OwnerPinIsValidated other value = validated_due q p m args
-  pins_due OwnerPinReset other value = was_reset_due q p m args (other refl)
-  pins_due OwnerPinResetAndUnblock other value = was_unblocked_due q p m args (other refl)
-  pins_due OwnerPinUpdate other value = value_set_due q p m args (other refl) (value refl)
-  pins_due _ other value = tt
+  pins_due OwnerPinInit other = constructed_due q p m args out.there (other refl)
+  pins_due OwnerPinCheck other = pin_checked_due q p m args (other refl)
+  pins_due OwnerPinGetTriesRemaining other = tries_due q p m args
+  pins_due OwnerPinIsValidated other = validated_due q p m args
+  pins_due OwnerPinReset other = was_reset_due q p m args (other refl)
+  pins_due OwnerPinResetAndUnblock other = was_unblocked_due q p m args (other refl)
+  pins_due OwnerPinUpdate other = value_set_due q p m args out (other refl)
+  pins_due _ other = tt
 
-  part_due : (part : Part) (method : PlatformMethod) → length m.command ≤ 261 → (sets_receiver method ≡ true → IsNotCalled q args) → (method ≡ OwnerPinUpdate → IsNoValue q args m) → AllDue (Spares q) (called_in part method args p m) m
-  part_due Objects method few other value = objects_due method
-  part_due CardExceptions method few other value = exceptions_due method other
-  part_due Utilities method few other value = util_due method
-  part_due System method few other value = system_due method
-  part_due Aids method few other value = aids_due method other
-  part_due Pins method few other value = pins_due method other value
-  part_due Applets method few other value = applet_due method
-  part_due Apdus method few other value = apdu_due few method
+  part_due : (part : Part) (method : PlatformMethod) → length m.command ≤ 261 → (sets_receiver method ≡ true → IsNotCalled q args) → AllDue (Spares q) (called_in part method args p m) m
+  part_due Objects method few other = objects_due method
+  part_due CardExceptions method few other = exceptions_due method other
+  part_due Utilities method few other = util_due method
+  part_due System method few other = system_due method
+  part_due Aids method few other = aids_due method other
+  part_due Pins method few other = pins_due method other
+  part_due Applets method few other = applet_due method
+  part_due Apdus method few other = apdu_due few method
 
 pub natives_spare : NativesSpare
 unfolding called
-natives_spare method args p m q out few other value = part_due args p m q out (part_of method) method few other value
+natives_spare method args p m q out few other = part_due args p m q out (part_of method) method few other

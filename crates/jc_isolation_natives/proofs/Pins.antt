@@ -1,19 +1,21 @@
 -- OwnerPIN: its cells, and those of its value.
-use Rattle.std.proofs.Common.{◌≡◌, ℕ, suc, Bool, true, false, inl, List, [], ◌∷◌, ◌++◌, length, Option, Some, None, Result, Ok, Err, if◌then◌else◌}
+use Rattle.std.proofs.Common.{◌≡◌, ℕ, suc, Bool, true, false, inl, List, [], ◌∷◌, ◌++◌, length, Option, Some, None, Result, Ok, Err, refl, sym, subst, if◌then◌else◌}
+use Rattle.std.proofs.lemmas.Bool.{false≢true}
 use Rattle.std.proofs.lemmas.Option.{none-some}
 use Rattle.std.specs.Option.{option_and_then}
 use Rattle.std.specs.Prelude.{not, nat_lt, ◌==◌}
 use Rattle.jc_transient.specs.State.{flag_of}
+use Rattle.jc_heap.specs.declared.object.Facts.{Facts}
 use Rattle.jc_heap.specs.declared.place.Place.{Place}
 use Rattle.jc_heap.specs.declared.refusal.HeapRefusal.{HeapRefusal}
-use Rattle.jc_heap.specs.Heap.{IsObject}
+use Rattle.jc_heap.specs.Heap.{IsObject, facts, is_object, item_at}
 use Rattle.jc_heap.specs.Moves.{SetPlaces, no_room}
 use Rattle.jc_heap.specs.Places.{places_of}
 use Rattle.jc_frames.specs.declared.cell.Cell.{Cell}
 use Rattle.jc_frames.specs.declared.outcome.Stop.{Stop}
 use Rattle.jc_memory.specs.State.{MemoryState, Changes, Flags}
 use Rattle.jc_memory.specs.Doing.{Doing, Gives, Then}
-use Rattle.jc_memory.specs.Cells.{word_at}
+use Rattle.jc_memory.specs.Cells.{header_at, word_at}
 use Rattle.jc_memory.specs.Reading.{AllDue}
 use Rattle.jc_memory.proofs.Doings.{due_bind, each_always}
 use Rattle.jc_packages.specs.Values.{Packages}
@@ -26,12 +28,14 @@ use Rattle.jc_pin.specs.Updating.{bytes_put, unless_full, update_of, updated}
 use Rattle.jc_room.specs.Room.{has_space, lacks_room}
 use Rattle.jc_world.specs.Objects.{reference_argument, short_argument}
 use Rattle.jc_api_arguments.specs.declared.arrays.Stretch.{Stretch}
-use Rattle.jc_api_pin.specs.Arguments.{at_least_1, given_in, named_by, receiver}
+use Rattle.jc_api_pin.specs.Arguments.{at_least_1, given_in, named_by, reached_in, receiver, value_reached}
 use Rattle.jc_api_pin.specs.OwnerPin.{bytes_in, compared, constructed, guess_of, pin_checked, settled, tries_got, unless_refused, validated_got, value_set, was_reset, was_unblocked}
+use Rattle.jc_isolation.specs.Reach.{IsOutside}
 use Rattle.jc_isolation.specs.Sparing.{AreBeside, Spares}
 use Rattle.jc_isolation.proofs.Due.{call_ok, call_some, due_if}
+use Rattle.jc_isolation.proofs.Reaching.{element_allowed, header_is, not_outside}
 use Rattle.jc_isolation.proofs.Setting.{new_spares}
-use Rattle.jc_isolation_natives.specs.Natives.{IsNoValue, IsNotCalled}
+use Rattle.jc_isolation_natives.specs.Natives.{IsNotCalled}
 
 -- the PIN that is called is the receiver
 pin_in : (m : MemoryState) (o : Option ℕ) (pin : ℕ) → option_and_then (λ r. if is_pin m r then Some r else None) o ≡ Some pin → o ≡ Some pin
@@ -52,6 +56,15 @@ beside_append q (c ∷ cs) ds first second = (first.0, beside_append q cs ds fir
 beside_put : (q array i : ℕ) (bytes : List ℕ) → (array ≡ q → ⊥) → AreBeside q (bytes_put array i bytes)
 beside_put q array i [] other = tt
 beside_put q array i (b ∷ bs) other = (other, beside_put q array (suc i) bs other)
+
+-- the array that a PIN keeps its value in, where the firewall lets it be written, is none outside reach
+no_header : (b : Bool) (f : Facts) → (if b then Some f else None) ≡ None → b ≡ true → ⊥
+no_header true f e is = none-some f (sym e)
+no_header false f e is = false≢true is
+
+value_inside : (p : Packages) (m : MemoryState) (q r : ℕ) (o : Option Facts) → IsOutside p m q → header_at m r ≡ o → reached_in p m o ≡ Ok tt → r ≡ q → ⊥
+value_inside p m q r None out is fine same = no_header (is_object (item_at m.heap.now r)) (facts m.heap.now r) is (subst (IsObject m.heap.now) (sym same) out.there)
+value_inside p m q r (Some f) out is fine same = not_outside p m q r f out (header_is m r f is).1 (element_allowed p m f fine) same
 
 module _ (q : ℕ) where
   full_due : {A : Type 0} (m : MemoryState) (o : Option HeapRefusal) (d : Doing (Result A PinRefusal)) → AllDue (Spares q) d m → AllDue (Spares q) (unless_full o d) m
@@ -107,10 +120,10 @@ module _ (q : ℕ) where
     unfolding pin_checked
     pin_checked_due other = call_some (Spares q) m (receiver m args) _ (λ pin is. call_ok (Spares q) m (given_in args m) _ (λ given fine. compared_due pin (named_by given p m) (other_pin pin is other)))
 
-    pub value_set_due : IsNotCalled q args → IsNoValue q args m → AllDue (Spares q) (value_set args p m) m
+    pub value_set_due : IsOutside p m q → IsNotCalled q args → AllDue (Spares q) (value_set args p m) m
     unfolding value_set
-    value_set_due other value = call_some (Spares q) m (receiver m args) _ (λ pin is. call_ok (Spares q) m (given_in args m) _ (λ given fine. call_ok (Spares q) m (named_by given p m) _ (λ e there.
-        settled_due (updated m pin (bytes_in m e)) m (updated_due m pin (bytes_in m e) (other_pin pin is other) (value pin (pin_is m args pin is))))))
+    value_set_due out other = call_some (Spares q) m (receiver m args) _ (λ pin is. call_ok (Spares q) m (given_in args m) _ (λ given fine. call_ok (Spares q) m (named_by given p m) _ (λ e there.
+        call_ok (Spares q) m (value_reached p m pin) _ (λ u reached. settled_due (updated m pin (bytes_in m e)) m (updated_due m pin (bytes_in m e) (other_pin pin is other) (value_inside p m q (record_of m pin).value (header_at m (record_of m pin).value) out refl reached))))))
 
     pub was_reset_due : IsNotCalled q args → AllDue (Spares q) (was_reset args m) m
     unfolding was_reset

@@ -2,7 +2,6 @@
 use Rattle.std.specs.Prelude.{ℕ, ◌≡◌, ◌≤◌, Bool, true, false, List, length, Some}
 use Rattle.jc_frames.specs.declared.cell.Cell.{Cell}
 use Rattle.jc_memory.specs.State.{MemoryState}
-use Rattle.jc_memory.specs.Cells.{word_at}
 use Rattle.jc_memory.specs.Reading.{AllDue}
 use Rattle.jc_platform.specs.declared.names.PlatformMethod.{PlatformMethod}
 use Rattle.jc_platform.specs.declared.names.PlatformMethod.TheVariants.{CardExceptionInit, CardExceptionSetReason, CardRuntimeExceptionInit, CardRuntimeExceptionSetReason, IsoExceptionInit, PinExceptionInit, SystemExceptionInit, TransactionExceptionInit, ApduExceptionInit, UserExceptionInit, AidInit, OwnerPinInit, OwnerPinCheck, OwnerPinReset, OwnerPinResetAndUnblock, OwnerPinUpdate}
@@ -36,12 +35,8 @@ sets_receiver _ = false
 abbrev pub IsNotCalled : ℕ → List Cell → Type 0
 IsNotCalled q args = (own : ℕ) → reference_argument args 0 ≡ Some own → own ≡ q → ⊥
 
--- an object is not the array that holds the value of the PIN that a method is called on
-abbrev pub IsNoValue : ℕ → List Cell → MemoryState → Type 0
-IsNoValue q args m = (pin : ℕ) → reference_argument args 0 ≡ Some pin → word_at m pin 4 ≡ q → ⊥
-
--- where a method that sets cells of its receiver is called on another object, and PIN.update on a PIN with another value, each
--- effect of a method of the platform spares each object outside reach: of arrays the firewall is asked
+-- where a method that sets cells of its receiver is called on another object, each effect of a method of the platform spares
+-- each object outside reach: of arrays the firewall is asked
 abbrev pub NativesSpare : Type 0
 NativesSpare = (method : PlatformMethod) (args : List Cell) (p : Packages) (m : MemoryState) (q : ℕ) → IsOutside p m q → length m.command ≤ 261 →
-    (sets_receiver method ≡ true → IsNotCalled q args) → (method ≡ OwnerPinUpdate → IsNoValue q args m) → AllDue (Spares q) (called method args p m) m
+    (sets_receiver method ≡ true → IsNotCalled q args) → AllDue (Spares q) (called method args p m) m

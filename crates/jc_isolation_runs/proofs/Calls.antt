@@ -46,7 +46,7 @@ use Rattle.jc_isolation.specs.Reach.{IsOutside}
 use Rattle.jc_isolation.specs.Sparing.{Spares}
 use Rattle.jc_isolation.proofs.Due.{due_if, due_ok, due_some, due_stopped}
 use Rattle.jc_isolation.proofs.Reaching.{not_outside}
-use Rattle.jc_isolation_natives.specs.Natives.{IsNoValue, IsNotCalled, sets_receiver}
+use Rattle.jc_isolation_natives.specs.Natives.{IsNotCalled, sets_receiver}
 use Rattle.jc_isolation_natives.proofs.Natives.{natives_spare}
 use Rattle.jc_isolation_runs.specs.Steps.{NamesStatics}
 use Rattle.jc_isolation_runs.proofs.Receivers.{IsFit, chosen_fit, first_argument}
@@ -120,20 +120,19 @@ module _ (p : Packages) (q : ℕ) where
         not_outside p m q own.receiver (facts m.heap.now own.receiver) out refl own.reach (sym (first_argument c.arguments s.current.stack args own.receiver r (Short (pos 0)) own.on are there) ∙ same)
     not_called c (inr static) method is args are sets = absurd (statics_spare method (static method is).0 (static method is).1 sets)
 
-    natively_due : (c : Call) → IsFit p m s.current.stack c → (method : PlatformMethod) → c.method ≡ Native method → ((args : List Cell) → method ≡ OwnerPinUpdate → arguments_on c.arguments s.current.stack ≡ Some args → IsNoValue q args m) → (place : ℕ) →
+    natively_due : (c : Call) → IsFit p m s.current.stack c → (method : PlatformMethod) → c.method ≡ Native method → (place : ℕ) →
         AllDue (Spares q) (natively method c.arguments place p s m) m
     unfolding natively
-    natively_due c fit method is value place = due_if (Spares q) m (c.arguments == argument_cells method) _ _ (λ on. due_some (Spares q) m (arguments_on c.arguments s.current.stack) _ (λ args are.
+    natively_due c fit method is place = due_if (Spares q) m (c.arguments == argument_cells method) _ _ (λ on. due_some (Spares q) m (arguments_on c.arguments s.current.stack) _ (λ args are.
         due_bind (Spares q) (λ result v. after_native result place p (with_stack s (drop c.arguments s.current.stack)) v) (called method args p m) m
-        (natives_spare method args p m q out few (not_called c fit method is args are) (λ update. value args update are))
+        (natives_spare method args p m q out few (not_called c fit method is args are))
         (each_always _ (after_due place (with_stack s (drop c.arguments s.current.stack))) (called method args p m) m))) (λ off. tt)
 
-    made_due : (c : Call) → IsFit p m s.current.stack c → (method : Method) → c.method ≡ method → ((args : List Cell) → c.method ≡ Native OwnerPinUpdate → arguments_on c.arguments s.current.stack ≡ Some args → IsNoValue q args m) → (place : ℕ) →
+    made_due : (c : Call) → IsFit p m s.current.stack c → (method : Method) → c.method ≡ method → (place : ℕ) →
         AllDue (Spares q) (made_by method c place p s m) m
-    made_due c fit (Code number offset) is value place = entering_due _ _ s m
-    made_due c fit (Native method) is value place = natively_due c fit method is (λ args update are. value args (is ∙ ap Native update) are) place
+    made_due c fit (Code number offset) is place = entering_due _ _ s m
+    made_due c fit (Native method) is place = natively_due c fit method is place
 
-    pub invoked_due : (i : Invoke) → ((c : Call) → chosen i p s m ≡ Ok c → c.switches_to ≡ None) →
-        ((c : Call) (args : List Cell) → chosen i p s m ≡ Ok c → c.method ≡ Native OwnerPinUpdate → arguments_on c.arguments s.current.stack ≡ Some args → IsNoValue q args m) → (place : ℕ) → AllDue (Spares q) (invoked i place p s m) m
+    pub invoked_due : (i : Invoke) → ((c : Call) → chosen i p s m ≡ Ok c → c.switches_to ≡ None) → (place : ℕ) → AllDue (Spares q) (invoked i place p s m) m
     unfolding invoked
-    invoked_due i here value place = due_ok (Spares q) m s (chosen i p s m) _ (λ c is. made_due c (chosen_fit p statics m s c (here c is) i is) c.method refl (λ args update are. value c args is update are) place)
+    invoked_due i here place = due_ok (Spares q) m s (chosen i p s m) _ (λ c is. made_due c (chosen_fit p statics m s c (here c is) i is) c.method refl place)

@@ -13,7 +13,7 @@ use Rattle.jc_isolation.specs.Sparing.{IsSet, Spares}
 use Rattle.jc_isolation.proofs.Sparing.{behind, keeps_cells, outside_still, stands_after, stands_first}
 use Rattle.jc_isolation.proofs.Standing.{Stands}
 use Rattle.jc_isolation_runs.specs.Runs.{AreIsolated, RanWithin}
-use Rattle.jc_isolation_runs.specs.Steps.{NamesStatics, StaysFor}
+use Rattle.jc_isolation_runs.specs.Steps.{NamesStatics, Stays}
 use Rattle.jc_isolation_runs.proofs.Steps.{steps_spare}
 
 -- an object stands as it stood when the run began
@@ -21,10 +21,10 @@ module _ (p : Packages) (statics : NamesStatics p) (lent : List ℕ) (start : Me
   fits : (m : MemoryState) → Stands q o start m → length m.command ≤ 261
   fits m st = subst (λ l. length l ≤ 261) (sym st.command) set.command
 
-  step_taken : (s : Frames) (m : MemoryState) (es : List Effect) (next : Next Frames) → Stands q o start m → StaysFor q lent p s m → Takes (stepped lent p s m) m es next → AreDue (Spares q) es m
+  step_taken : (s : Frames) (m : MemoryState) (es : List Effect) (next : Next Frames) → Stands q o start m → Stays lent p s m → Takes (stepped lent p s m) m es next → AreDue (Spares q) es m
   step_taken s m es next st stays takes = due_taken (Spares q) (stepped lent p s m) m es next (steps_spare lent p s m q statics (fits m st) (outside_still p q o start m is out st) stays) takes
 
-  ran_stands : (k : ℕ) (s : Frames) (m : MemoryState) (t : Frames) (n : MemoryState) → RanWithin k q lent p s m t n → Stands q o start m → Stands q o start n
+  ran_stands : (k : ℕ) (s : Frames) (m : MemoryState) (t : Frames) (n : MemoryState) → RanWithin k lent p s m t n → Stands q o start m → Stands q o start n
   ran_stands zero s m t n ran st = subst (Stands q o start) (sym ran.1) st
   ran_stands (suc k) s m t n ran st = ran_stands k ran.1 (effected_all ran.0 m) t n ran.5 (stands_after q o start m ran.0 (step_taken s m ran.0 (Goes ran.1) st ran.4 ran.2) ran.3 st)
 

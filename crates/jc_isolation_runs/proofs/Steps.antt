@@ -18,11 +18,11 @@ use Rattle.jc_isolation.proofs.Due.{due_if}
 use Rattle.jc_isolation_groups.proofs.Arrays.{arrays_spare}
 use Rattle.jc_isolation_groups.proofs.Fields.{fields_spare}
 use Rattle.jc_isolation_groups.proofs.Objects.{objects_spare}
-use Rattle.jc_isolation_runs.specs.Steps.{NamesStatics, StaysFor, StepsSpare}
+use Rattle.jc_isolation_runs.specs.Steps.{NamesStatics, Stays, StepsSpare}
 use Rattle.jc_isolation_runs.proofs.Calls.{invoked_due, returning_due}
 use Rattle.jc_isolation_runs.proofs.Throws.{each_fixed, throwing_due, thrown_due}
 
-module _ (lent : List ℕ) (p : Packages) (s : Frames) (m : MemoryState) (q : ℕ) (statics : NamesStatics p) (few : length m.command ≤ 261) (out : IsOutside p m q) (stays : StaysFor q lent p s m) where
+module _ (lent : List ℕ) (p : Packages) (s : Frames) (m : MemoryState) (q : ℕ) (statics : NamesStatics p) (few : length m.command ≤ 261) (out : IsOutside p m q) (stays : Stays lent p s m) where
   operated_due : (o : Object) (place : ℕ) (t : Frames) → AllDue (Spares q) (operated o place p t m) m
   operated_due (New index) place t = objects_spare.made index p t m q out
   operated_due Throw place t = throwing_due p q place t m
@@ -42,7 +42,7 @@ module _ (lent : List ℕ) (p : Packages) (s : Frames) (m : MemoryState) (q : �
   executed_due (Reach field) next is = fields_spare field p (at_place s next) m q out
   executed_due (Index operation) next is = arrays_spare operation p (at_place s next) m q out
   executed_due (Operate operation) next is = operated_due operation s.current.place (at_place s next)
-  executed_due (Call method) next is = invoked_due p q m statics few out (at_place s next) method (λ c chosen. stays.context c (method, next, is, chosen)) (λ c args chosen update are. stays.value c args (method, next, is, chosen) update are) s.current.place
+  executed_due (Call method) next is = invoked_due p q m statics few out (at_place s next) method (λ c chosen. stays c (method, next, is, chosen)) s.current.place
 
   fetched_due : (o : Option (Instr × ℕ)) → decoded (code_of lent p s.current.origin.package_number) s.current.place ≡ o → AllDue (Spares q) (fetched o (code_of lent p s.current.origin.package_number) p s m) m
   fetched_due None is = tt

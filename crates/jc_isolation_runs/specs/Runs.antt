@@ -10,21 +10,21 @@ use Rattle.jc_interp.specs.Running.{running_in}
 use Rattle.jc_interp.specs.Stepping.{stepped}
 use Rattle.jc_isolation.specs.Reach.{IsOutside, KeepsCells}
 use Rattle.jc_isolation.specs.Sparing.{AreQuiet, IsSet}
-use Rattle.jc_isolation_runs.specs.Steps.{NamesStatics, StaysFor}
+use Rattle.jc_isolation_runs.specs.Steps.{NamesStatics, Stays}
 
 -- so many steps of a run in a row, none of which switches, aborts or clears, lead from frames and a memory to others
-abbrev pub RanWithin : ℕ → ℕ → List ℕ → Packages → Frames → MemoryState → Frames → MemoryState → Type 0
-RanWithin zero q lent p s m t n = (t ≡ s) × (n ≡ m)
-RanWithin (suc k) q lent p s m t n =
-    (es : List Effect) × (u : Frames) × Takes (stepped lent p s m) m es (Goes u) × AreQuiet es m × StaysFor q lent p s m × RanWithin k q lent p u (effected_all es m) t n
+abbrev pub RanWithin : ℕ → List ℕ → Packages → Frames → MemoryState → Frames → MemoryState → Type 0
+RanWithin zero lent p s m t n = (t ≡ s) × (n ≡ m)
+RanWithin (suc k) lent p s m t n =
+    (es : List Effect) × (u : Frames) × Takes (stepped lent p s m) m es (Goes u) × AreQuiet es m × Stays lent p s m × RanWithin k lent p u (effected_all es m) t n
 
 -- an object outside the reach of the code that runs keeps its cells in all such steps, and in the step behind them as far as
 -- that is quiet; and it stays outside reach
 pub record AreIsolated : Type 0 where
-  pub ran : (k q : ℕ) (lent : List ℕ) (p : Packages) (s : Frames) (m : MemoryState) (t : Frames) (n : MemoryState) → NamesStatics p → IsSet m → IsOutside p m q → RanWithin k q lent p s m t n →
+  pub ran : (k q : ℕ) (lent : List ℕ) (p : Packages) (s : Frames) (m : MemoryState) (t : Frames) (n : MemoryState) → NamesStatics p → IsSet m → IsOutside p m q → RanWithin k lent p s m t n →
       KeepsCells q m n × IsOutside p n q
-  pub ends : (k q : ℕ) (lent : List ℕ) (p : Packages) (s : Frames) (m : MemoryState) (t : Frames) (n : MemoryState) → NamesStatics p → IsSet m → IsOutside p m q → RanWithin k q lent p s m t n →
-      (during after : List Effect) (next : Next Frames) → Takes (stepped lent p t n) n (during ++ after) next → StaysFor q lent p t n → AreQuiet during n → KeepsCells q m (effected_all during n)
+  pub ends : (k q : ℕ) (lent : List ℕ) (p : Packages) (s : Frames) (m : MemoryState) (t : Frames) (n : MemoryState) → NamesStatics p → IsSet m → IsOutside p m q → RanWithin k lent p s m t n →
+      (during after : List Effect) (next : Next Frames) → Takes (stepped lent p t n) n (during ++ after) next → Stays lent p t n → AreQuiet during n → KeepsCells q m (effected_all during n)
 
 -- ---- what a run is
 

@@ -3,15 +3,12 @@ use Rattle.std.specs.Prelude.{ℕ, ◌≡◌, ◌≤◌, List, length, Option, S
 use Rattle.jc_opcodes.specs.declared.instr.Instr.TheVariants as instr
 use Rattle.jc_opcodes.specs.declared.instr.Invoke.{Invoke}
 use Rattle.jc_opcodes.specs.Table.{decoded}
-use Rattle.jc_frames.specs.declared.cell.Cell.{Cell}
-use Rattle.jc_frames.specs.Calls.{arguments_on}
 use Rattle.jc_frames.specs.Frames.{Frames}
 use Rattle.jc_memory.specs.State.{MemoryState}
 use Rattle.jc_memory.specs.Reading.{AllDue}
 use Rattle.jc_cap_text.specs.declared.pool.Entry.{Entry}
 use Rattle.jc_platform.specs.declared.names.MethodKind.TheVariants.{Static}
 use Rattle.jc_platform.specs.declared.names.PlatformMethod.{PlatformMethod}
-use Rattle.jc_platform.specs.declared.names.PlatformMethod.TheVariants.{OwnerPinUpdate}
 use Rattle.jc_platform.specs.Distinct.{kind_of_method}
 use Rattle.jc_packages.specs.declared.target.Method.TheVariants.{Native}
 use Rattle.jc_packages.specs.declared.target.Target.TheVariants.{StaticMethod}
@@ -23,7 +20,6 @@ use Rattle.jc_interp_calls.specs.Choosing.{chosen}
 use Rattle.jc_interp.specs.Stepping.{at_place, code_of, stepped}
 use Rattle.jc_isolation.specs.Reach.{IsOutside}
 use Rattle.jc_isolation.specs.Sparing.{Spares}
-use Rattle.jc_isolation_natives.specs.Natives.{IsNoValue}
 
 -- what an entry resolves to as a static method of the platform is one, constructors among them
 abbrev pub ResolveStatics : Type 0
@@ -37,12 +33,10 @@ NamesStatics p = (number index : ℕ) (class : Option ℕ) (method : PlatformMet
 abbrev pub IsCalled : List ℕ → Packages → Frames → MemoryState → Call → Type 0
 IsCalled lent p s m c = (invoke : Invoke) × (next : ℕ) × (decoded (code_of lent p s.current.origin.package_number) s.current.place ≡ Some (instr.Call invoke, next)) × (chosen invoke p (at_place s next) m ≡ Ok c)
 
--- a step stays in its context, as far as an object is concerned: no method is called in another context, and the object is not
--- the array in which a PIN that is updated keeps its value
-pub record StaysFor (q : ℕ) (lent : List ℕ) (p : Packages) (s : Frames) (m : MemoryState) : Type 0 where
-  pub context : (c : Call) → IsCalled lent p s m c → c.switches_to ≡ None
-  pub value : (c : Call) (args : List Cell) → IsCalled lent p s m c → c.method ≡ Native OwnerPinUpdate → arguments_on c.arguments s.current.stack ≡ Some args → IsNoValue q args m
+-- a step stays in its context: no method is called in another one
+abbrev pub Stays : List ℕ → Packages → Frames → MemoryState → Type 0
+Stays lent p s m = (c : Call) → IsCalled lent p s m c → c.switches_to ≡ None
 
 -- each effect of such a step spares each object outside reach
 abbrev pub StepsSpare : Type 0
-StepsSpare = (lent : List ℕ) (p : Packages) (s : Frames) (m : MemoryState) (q : ℕ) → NamesStatics p → length m.command ≤ 261 → IsOutside p m q → StaysFor q lent p s m → AllDue (Spares q) (stepped lent p s m) m
+StepsSpare = (lent : List ℕ) (p : Packages) (s : Frames) (m : MemoryState) (q : ℕ) → NamesStatics p → length m.command ≤ 261 → IsOutside p m q → Stays lent p s m → AllDue (Spares q) (stepped lent p s m) m

@@ -1,4 +1,0 @@
-pub mod Contexts
-pub mod Cells
-pub mod Heaps
-pub mod Effects

@@ -1,6 +1,0 @@
-//! Isolation of the values of PINs.
-#![tactic(auto)]
-
-mod law;
-
-pub use law::effects_keep_values;
