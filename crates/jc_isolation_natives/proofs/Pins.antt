@@ -8,7 +8,8 @@ use Rattle.jc_transient.specs.State.{flag_of}
 use Rattle.jc_heap.specs.declared.object.Facts.{Facts}
 use Rattle.jc_heap.specs.declared.place.Place.{Place}
 use Rattle.jc_heap.specs.declared.refusal.HeapRefusal.{HeapRefusal}
-use Rattle.jc_heap.specs.Heap.{IsObject, facts, is_object, item_at}
+use Rattle.jc_heap.specs.Object.{is_object}
+use Rattle.jc_heap.specs.Heap.{IsObject, facts, item_at}
 use Rattle.jc_heap.specs.Moves.{SetPlaces, no_room}
 use Rattle.jc_heap.specs.Places.{places_of}
 use Rattle.jc_frames.specs.declared.cell.Cell.{Cell}
