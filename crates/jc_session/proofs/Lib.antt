@@ -1,3 +1,5 @@
+pub mod Laid
+pub mod Resets
 pub mod Refusals
 pub mod WholeSessions
 pub mod SessionRuns

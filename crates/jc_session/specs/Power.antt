@@ -1,14 +1,18 @@
 -- A card with its power, and what is left of it without.
-use Rattle.std.specs.Prelude.{ℕ, ◌≡◌, Bool, true, false, List, length}
+use Rattle.std.specs.Prelude.{ℕ, ◌≡◌, ◌==◌, ◌&&◌, nat_le, nat_lt, Bool, true, false, List, length, slice_index}
+use Rattle.std.specs.List.{list_all}
+use Rattle.jc_words.specs.Layout.{top_address}
 use Rattle.jc_words.specs.Count.{raised}
 use Rattle.jc_commit.specs.Image.{IsGoodLog, recovered_of}
 use Rattle.jc_heap.specs.Heap.{HeapState, HeapView, heap_of}
+use Rattle.jc_heap.specs.Image.{base, image, missing, package_addresses}
 use Rattle.jc_card.specs.CardState.{CardState}
 
--- what is left of a card without power: the heap that a recovery gives; of its store, whether it is down, how many writes it has
--- refused, and its number of words
+-- what is left of a card without power: the heap that a recovery gives, and whether its words are laid; of its store, whether it is
+-- down, how many writes it has refused, and its number of words
 pub record KeptState : Type 0 where
   pub durable : HeapState
+  pub laid : Bool
   pub down : Bool
   pub refused : ℕ
   pub size : ℕ
@@ -18,9 +22,9 @@ pub data Power : Type 0 where
   Up : CardState → Power
   Off : KeptState → Power
 
--- what a loss of power leaves of a heap
+-- what a loss of power leaves of a heap, whose words are laid
 abbrev pub kept_by : HeapView → KeptState
-kept_by v = record { durable = v.durable; down = v.down; refused = v.refused; size = v.size }
+kept_by v = record { durable = v.durable; laid = true; down = v.down; refused = v.refused; size = v.size }
 
 -- what a loss of power leaves now
 abbrev pub kept : Power → KeptState
@@ -29,11 +33,11 @@ kept (Off k) = k
 
 -- one more write was refused
 abbrev pub refused_once : KeptState → KeptState
-refused_once k = record { durable = k.durable; down = true; refused = raised k.refused 1; size = k.size }
+refused_once k = record { durable = k.durable; laid = k.laid; down = true; refused = raised k.refused 1; size = k.size }
 
 -- the power is back
 abbrev pub powered_on : KeptState → KeptState
-powered_on k = record { durable = k.durable; down = false; refused = k.refused; size = k.size }
+powered_on k = record { durable = k.durable; laid = k.laid; down = false; refused = k.refused; size = k.size }
 
 -- the words of a store, whether it is down, and how many writes it has refused
 pub record StoreState : Type 0 where
@@ -41,9 +45,15 @@ pub record StoreState : Type 0 where
   pub down : Bool
   pub refused : ℕ
 
+-- whether words are laid: the top is not below the places that every heap has nor above the words, the records reach up to it, and no
+-- package stands at or above it
+unfoldable pub is_laid : List ℕ → Bool
+is_laid words = nat_le (base (image words)) (slice_index words top_address) && (nat_le (slice_index words top_address) (length words)
+    && (missing (image words) == 0 && list_all (λ a. nat_lt a (slice_index words top_address)) (package_addresses (image words))))
+
 -- what is left of a card in its store
 abbrev pub kept_in : StoreState → KeptState
-kept_in store = record { durable = heap_of (recovered_of store.words); down = store.down; refused = store.refused; size = length store.words }
+kept_in store = record { durable = heap_of (recovered_of store.words); laid = is_laid (recovered_of store.words); down = store.down; refused = store.refused; size = length store.words }
 
 -- the store of a card that is so: a recovery of its words gives the durable heap
 pub record IsStoreOf (s : Power) (store : StoreState) : Type 0 where

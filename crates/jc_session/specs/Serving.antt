@@ -15,8 +15,8 @@ use Rattle.jc_session.specs.Starting.{IsPoweredUp}
 abbrev pub AnswersCommand : Power → List ℕ → Answer → Power → Type 0
 -- no write was refused: all of it was done
 AnswersCommand (Up card) bytes (Response r) (Up next) = Did (exchanging bytes card) card.memory (answered next r) next.memory
--- a write was refused within it: this heap a loss within it may leave, in a store of the same size
-AnswersCommand (Up card) bytes Down (Off k) = LeftBy (exchanging bytes card) card.memory k.durable × (k.down ≡ true) × (k.refused ≡ raised card.memory.heap.refused 1) × (k.size ≡ card.memory.heap.size)
+-- a write was refused within it: this heap a loss within it may leave, laid in a store of the same size
+AnswersCommand (Up card) bytes Down (Off k) = LeftBy (exchanging bytes card) card.memory k.durable × (k.down ≡ true) × (k.refused ≡ raised card.memory.heap.refused 1) × (k.size ≡ card.memory.heap.size) × (k.laid ≡ true)
 -- without power nothing is done
 AnswersCommand (Off k) bytes Down (Off l) = l ≡ k
 AnswersCommand (Up card) bytes (Response r) (Off k) = ⊥

@@ -45,10 +45,11 @@ impl<S: WordStore> UpCard<S> {
     }
 
     // The card and its response to a command, or its store where that refuses a write.
+    #[tactic(auto, using(crate::proofs::Laid::if_laid))]
     fn exchange(self, command: &[u8]) -> Result<(UpCard<S>, Response), Unpowered<S>>
         ensures { MatchResult result
             (λ r. Did (exchanging command.now self) self.memory (answered r.0 r.1) r.0.memory)
-            (λ k. LeftBy (exchanging command.now self) self.memory k.durable × (k.down ≡ true) × (k.refused ≡ raised self.memory.heap.refused 1) × (k.size ≡ self.memory.heap.size)) }
+            (λ k. LeftBy (exchanging command.now self) self.memory k.durable × (k.down ≡ true) × (k.refused ≡ raised self.memory.heap.refused 1) × (k.size ≡ self.memory.heap.size) × (k.laid ≡ true)) }
     {
         let UpCard { mut card } = self;
         match card.exchange(command) {
@@ -118,6 +119,7 @@ impl<S: WordStore> Held<S> {
     }
 
     /// The store.
+    #[tactic(auto, using(crate::proofs::Laid::if_laid))]
     pub fn into_store(self) -> S
         ensures { IsStoreOf (power_of self) (record { words = S.words result; down = S.down result; refused = S.refused result }) }
     {
@@ -146,9 +148,13 @@ impl<S: WordStore> Held<S> {
         ensures fault { IfErr result (λ e. FailsToReset e.0 (power_of self) (record { words = S.words e.1; down = S.down e.1; refused = S.refused e.1 })) }
     {
         let store = self.into_store();
-        let held = Held::start(alloc, store)?;
-        let answer = held.told();
-        Ok((held, answer))
+        match Held::start(alloc, store) {
+            Ok(held) => {
+                let answer = held.told();
+                Ok((held, answer))
+            }
+            Err(fault) => Err(fault),
+        }
     }
 
     // What is answered after a power up.

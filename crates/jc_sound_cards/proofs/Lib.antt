@@ -3,3 +3,4 @@ pub mod Commands
 pub mod Loads
 pub mod Sessions
 pub mod Images
+pub mod Faults

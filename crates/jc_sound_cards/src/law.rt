@@ -1,5 +1,6 @@
 //! Laws of the definitions.
 ghost use Rattle.jc_sound_cards.specs.Cards.{StaysOwn};
+ghost use Rattle.jc_sound_cards.specs.Faults.{SessionsEndWell};
 ghost use Rattle.jc_sound_cards.specs.Images.{ImagesStayMade};
 
 /// A law of the definitions: however a card is answered that commands left, and whatever a loss of power leaves of it, it is such a
@@ -12,4 +13,10 @@ pub fn sessions_keep_cards_sound()
 /// a card gives back, and those that keep what is left of one, are an image that the product makes, which powers up again.
 pub fn images_stay_made()
     ensures { ImagesStayMade }
+{}
+
+/// A law of the definitions: a session over the store of a new image, or over one that sessions left of it, leaves such a store, which
+/// powers up again; neither its first power up nor a reset in it finds a fault but want of memory.
+pub fn sessions_end_well()
+    ensures { SessionsEndWell }
 {}

@@ -3,4 +3,4 @@
 
 mod law;
 
-pub use law::{images_stay_made, sessions_keep_cards_sound};
+pub use law::{images_stay_made, sessions_end_well, sessions_keep_cards_sound};

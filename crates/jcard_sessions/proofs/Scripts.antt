@@ -4,7 +4,7 @@ use Rattle.std.specs.Prelude.{◌⊎◌, Bool, false, Result, Ok, Err}
 use Rattle.std.proofs.lemmas.List.{append_assoc, append-nil}
 use Rattle.std.specs.Str.Lines.{lines}
 use Rattle.jc_words.specs.Stores.{Fused}
-use Rattle.jc_commit.specs.Image.{IsGoodLog}
+use Rattle.jc_commit.specs.Image.{IsGoodLog, recovered_of}
 use Rattle.jc_heap.specs.Heap.{HeapState, HeapView, resting}
 use Rattle.jc_memory.specs.Doing.{After, Made, Cut}
 use Rattle.jc_card.specs.CardState.{CardState}
@@ -19,6 +19,8 @@ use Rattle.jc_session.specs.Serving.{AnswersCommand, AnswersReset, SessionRun}
 use Rattle.jc_session.specs.Starting.{FailsToReset, IsPoweredUp, Starts}
 use Rattle.jc_card.specs.declared.power_up.PowerFault.{PowerFault as Fault}
 use Rattle.jc_card.specs.PowerUp.{Stands}
+use Rattle.jc_session.proofs.Laid.{if_laid}
+use Rattle.jc_session.proofs.Resets.{fails_to_reset}
 use Rattle.jc_session.proofs.WholeSessions.{are_whole}
 use Rattle.jcard_script.specs.declared.script.ScriptFault.{ScriptFault}
 use Rattle.jcard_script.specs.declared.script.ScriptFault.TheVariants.{ReadFailed, WriteFailed, BadLine, TooLong, PowerFault}
@@ -26,7 +28,7 @@ use Rattle.jcard_script.specs.Standing.{Standing, Up as UpIn, Down as DownIn, Ex
 use Rattle.jcard_script.specs.Script.{AreCarriedOut, Ends, Form, Skipped, Command, Resets, Stops, Bad, IsAnswered, IsToldOf, IsWrittenFor, armed_text, form_of, lines_so_far, power_text}
 use Rattle.jcard_script.specs.Texts.{IsCutOf}
 use Rattle.jcard_sessions.proofs.Rest.{leave_at_rest, rests_so}
-use Rattle.jcard_sessions.proofs.Steps.{cut_kept, fails_to_reset, starts_off, starts_up}
+use Rattle.jcard_sessions.proofs.Steps.{cut_kept, starts_off, starts_up}
 use Rattle.jcard_sessions.specs.Rest.{IsResting}
 use Rattle.jcard_sessions.specs.Scripts.{AreAnswered, AreServed, AreSessions, AreWholeSessions, EndsServed, IsWrittenFirst, Leaves, Spell, SpellsFirst, state_of, text_of_answer}
 
@@ -41,7 +43,7 @@ IsGood (UpIn card) = IsResting card.memory.heap
 IsGood (DownIn store) = IsGoodLog store.words
 
 same_kept : (heap : HeapView) (store : Fused) → IsStoreOfHeap heap store → kept_in (state_of store) ≡ kept_by heap
-same_kept heap store h = λ i. record { durable = h.durable i; down = h.down i; refused = h.refused i; size = h.size i }
+same_kept heap store h = λ i. record { durable = h.durable i; laid = if_laid (recovered_of store.words) h.laid i; down = h.down i; refused = h.refused i; size = h.size i }
 
 kept_held : (s : Standing) (store : Fused) → Holds s store → kept_in (state_of store) ≡ kept (power_in s)
 kept_held (UpIn card) store h = same_kept card.memory.heap store h
@@ -59,7 +61,7 @@ told_after : (bytes : List ℕ) (card : CardState) (after : After Answered) (t :
 told_after bytes card (Made a memory) t text rest made says =
     (Response a.response, subst (λ (u : Standing). AnswersCommand (Up card) bytes (Response a.response) (power_in u)) (sym says.1) made, says.0, subst IsGood (sym says.1) (leave_at_rest bytes card a memory rest made))
 told_after bytes card (Cut memory) t text rest cut says =
-    let left = cut_kept card bytes memory (state_of says.1) cut says.2.durable says.2.down says.2.refused says.2.size in
+    let left = cut_kept card bytes memory (state_of says.1) cut says.2.durable says.2.down says.2.refused says.2.size says.2.laid in
     (Down, subst (λ (u : Standing). AnswersCommand (Up card) bytes Down (power_in u)) (sym says.3) left, says.0, subst IsGood (sym says.3) says.2.good)
 
 told_of : (bytes : List ℕ) (s t : Standing) (text : List ℕ) → IsGood s → IsAnswered bytes s t text → IsTold bytes (power_in s) t text

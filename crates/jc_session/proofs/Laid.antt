@@ -1,0 +1,54 @@
+-- Whether words are laid, as an answer.
+use Rattle.std.proofs.Common.{arith, ◌≡◌, ℕ, ◌≤◌, ◌<◌, ◌⊎◌, inl, inr, List, [], ◌∷◌, length, get_or, refl, sym, ◌∙◌, ap, true, false}
+use Rattle.std.specs.Prelude.{◌↔◌, ◌==◌, ◌&&◌, Bool, nat_le, nat_lt}
+use Rattle.std.specs.List.{list_all}
+use Rattle.std.proofs.lemmas.Bool.{and_from, and_parts, cases_Bool, cases_lt, eq-eqb, eqb-true, le-leb, leb-true, lt-ltb, ltb-true, ne_eqb, or_from, or_parts, true≢false}
+use Rattle.jc_words.specs.Layout.{top_address}
+use Rattle.jc_heap.specs.Image.{IsLaid, base, image, is_package, missing, package_addresses}
+use Rattle.jc_session.specs.Power.{is_laid}
+
+none_above : (top : ℕ) (ps : List ℕ) → list_all (λ p. nat_lt p top) ps ≡ true → (a : ℕ) → top ≤ a → is_package ps a ≡ false
+none_above top [] below a le = refl
+none_above top (p ∷ ps) below a le =
+    let both = and_parts (nat_lt p top) (list_all (λ q. nat_lt q top) ps) below in
+    or_from (p == a) (is_package ps a) (ne_eqb p a (λ same. omega (arith, same, le, ltb-true p top both.0))) (none_above top ps both.1 a le)
+
+all_below : (top : ℕ) (ps : List ℕ) → ((a : ℕ) → top ≤ a → is_package ps a ≡ false) → list_all (λ p. nat_lt p top) ps ≡ true
+all_below top [] none = refl
+all_below top (p ∷ ps) none =
+    let rest = all_below top ps (λ a le. (or_parts (p == a) (is_package ps a) (none a le)).1) in
+    elim (cases_lt p top) [
+      | inl below ↦ and_from (nat_lt p top) (list_all (λ q. nat_lt q top) ps) (lt-ltb p top below) rest
+      | inr above ↦ absurd (true≢false (sym (eq-eqb p p refl) ∙ (or_parts (p == p) (is_package ps p) (none p above)).0))
+    ]
+
+-- words of which that is answered are laid
+pub laid_if : (w : List ℕ) → is_laid w ≡ true → IsLaid w
+unfolding is_laid
+laid_if w is =
+    let top = get_or w top_address 0 in
+    let a = nat_le (base (image w)) top in
+    let b = nat_le top (length w) in
+    let c = missing (image w) == 0 in
+    let d = list_all (λ p. nat_lt p top) (package_addresses (image w)) in
+    let first = and_parts a (b && (c && d)) is in
+    let second = and_parts b (c && d) first.1 in
+    let third = and_parts c d second.1 in
+    record {
+      based = leb-true (base (image w)) top first.0;
+      fits = leb-true top (length w) second.0;
+      whole = eqb-true (missing (image w)) 0 third.0;
+      packages = none_above top (package_addresses (image w)) third.1;
+    }
+
+-- of laid words that is answered
+pub if_laid : (w : List ℕ) → IsLaid w → is_laid w ≡ true
+unfolding is_laid
+if_laid w laid =
+    let top = get_or w top_address 0 in
+    let a = nat_le (base (image w)) top in
+    let b = nat_le top (length w) in
+    let c = missing (image w) == 0 in
+    let d = list_all (λ p. nat_lt p top) (package_addresses (image w)) in
+    and_from a (b && (c && d)) (le-leb (base (image w)) top laid.based) (and_from b (c && d) (le-leb top (length w) laid.fits)
+    (and_from c d (eq-eqb (missing (image w)) 0 laid.whole) (all_below top (package_addresses (image w)) laid.packages)))

@@ -1,0 +1,47 @@
+-- A reset that finds a fault leaves what was there.
+use Rattle.std.proofs.Common.{arith, ◌≡◌, ◌≤◌, ◌<◌, List, ℕ, false, length, refl, sym, ◌∙◌, ap, subst}
+use Rattle.jc_commit.specs.Image.{IsGoodLog, count_of, recovered_of}
+use Rattle.jc_words.specs.Layout.{log_end}
+use Rattle.jc_heap.specs.Heap.{heap_of}
+use Rattle.jc_card.specs.PowerUp.{Refuses, Stands}
+use Rattle.jc_card.specs.declared.power_up.PowerFault.{PowerFault as Fault}
+use Rattle.jc_card.specs.declared.power_up.PowerFault.TheVariants.{BadMagic, BadVersion, BadSize, BadLog, BadTable, BadPackage, NoMemory, StoreDown}
+use Rattle.jc_session.specs.Power.{KeptState, Power, StoreState, IsStoreOf, is_laid}
+use Rattle.jc_session.specs.Starting.{FailsToReset, FailsToStart}
+
+-- no entry counts
+closed_log : (old new : List ℕ) → IsGoodLog old → length new ≡ length old → count_of new ≡ 0 → IsGoodLog new
+closed_log old new good size closed = record {
+  size = subst (λ n. log_end ≤ n) (sym size) good.size;
+  few = omega (arith, closed);
+  places = λ k below. absurd (omega (arith, below, closed));
+}
+
+-- what a power up that found a fault leaves: its log is good, and it recovers to the same heap
+still_left : (fault : Fault) (old new : List ℕ) → (fault ≡ StoreDown → ⊥) → IsGoodLog old → length new ≡ length old → Stands fault old new → IsGoodLog new × (heap_of (recovered_of new) ≡ heap_of (recovered_of old))
+still_left BadMagic old new other good size stands = (subst IsGoodLog (sym stands) good, ap (λ w. heap_of (recovered_of w)) stands)
+still_left BadVersion old new other good size stands = (subst IsGoodLog (sym stands) good, ap (λ w. heap_of (recovered_of w)) stands)
+still_left BadSize old new other good size stands = (subst IsGoodLog (sym stands) good, ap (λ w. heap_of (recovered_of w)) stands)
+still_left BadLog old new other good size stands = (subst IsGoodLog (sym stands) good, ap (λ w. heap_of (recovered_of w)) stands)
+still_left BadTable old new other good size stands = (closed_log old new good size stands.closed, ap heap_of stands.recovered)
+still_left BadPackage old new other good size stands = (closed_log old new good size stands.closed, stands.recovered)
+still_left NoMemory old new other good size stands = (closed_log old new good size stands.closed, stands.recovered)
+still_left StoreDown old new other good size stands = absurd (other refl)
+
+-- a reset that finds a fault leaves what was there, with the power on
+pub fails_to_reset : (fault : Fault) (s : Power) (before after : StoreState) → IsStoreOf s before → Refuses fault before.words → (fault ≡ StoreDown → ⊥) → length after.words ≡ length before.words → Stands fault before.words after.words → after.down ≡ false → after.refused ≡ before.refused → FailsToReset fault s after
+fails_to_reset fault s before after held cause other size stands up refused =
+    let left = still_left fault before.words after.words other held.good size stands in (
+      before,
+      held,
+      cause,
+      other,
+      is_laid (recovered_of after.words),
+      record {
+        good = left.0;
+        kept = λ i. record { durable = (left.1 ∙ ap (λ (k : KeptState). k.durable) held.kept) i; laid = is_laid (recovered_of after.words); down = up i; refused = (refused ∙ ap (λ (k : KeptState). k.refused) held.kept) i; size = (size ∙ ap (λ (k : KeptState). k.size) held.kept) i };
+      },
+    )
+
+pub start_fails : (fault : Fault) (s : Power) (before after : StoreState) → IsStoreOf s before → FailsToStart fault before after → FailsToReset fault s after
+start_fails fault s before after held fails = fails_to_reset fault s before after held fails.cause fails.other fails.size fails.stands fails.up fails.refused
