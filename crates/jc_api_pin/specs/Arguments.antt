@@ -2,17 +2,19 @@
 use Rattle.std.specs.Prelude.{ℕ, ℤ, pos, negsuc, nat_le, List, if◌then◌else◌, Option, Some, None, Result, Ok, Err}
 use Rattle.std.specs.Option.{option_and_then}
 use Rattle.jc_heap.specs.declared.object.Facts.{Facts}
-use Rattle.jc_firewall.specs.declared.access.Access.TheVariants.{ArrayElement}
+use Rattle.jc_heap.specs.Heap.{facts}
+use Rattle.jc_firewall.specs.Situation.{same_context}
 use Rattle.jc_frames.specs.declared.cell.Cell.{Cell}
 use Rattle.jc_frames.specs.declared.outcome.Exception.{Exception}
-use Rattle.jc_frames.specs.declared.outcome.Exception.TheVariants.{PINException}
+use Rattle.jc_frames.specs.declared.outcome.Exception.TheVariants.{PINException, SecurityException}
 use Rattle.jc_frames.specs.declared.outcome.Stop.{Stop}
 use Rattle.jc_frames.specs.declared.outcome.Stop.TheVariants.{Throw}
 use Rattle.jc_memory.specs.Cells.{header_at}
+use Rattle.jc_memory.specs.Owners.{owner_of}
 use Rattle.jc_memory.specs.State.{MemoryState}
 use Rattle.jc_packages.specs.Values.{Packages}
 use Rattle.jc_pin.specs.Pins.{is_pin, record_of}
-use Rattle.jc_world.specs.Contexts.{allowed}
+use Rattle.jc_world.specs.Contexts.{context_of}
 use Rattle.jc_world.specs.Objects.{or_fault, short_argument, reference_argument}
 use Rattle.jc_api_arguments.specs.declared.arrays.Stretch.{Stretch}
 use Rattle.jc_api_arguments.specs.Arrays.{bytes_argument, elements_of}
@@ -46,10 +48,10 @@ given_in args m =
 abbrev pub named_by : Given → Packages → MemoryState → Result Stretch Stop
 named_by g p m = elements_of p m g.array g.header g.start g.count
 
--- the firewall lets the array be written in which a PIN keeps its value, if it has one
-abbrev pub reached_in : Packages → MemoryState → Option Facts → Result (Unit {0}) Stop
-reached_in p m None = Ok tt
-reached_in p m (Some f) = allowed ArrayElement p m f
+-- the array in which a PIN keeps its value belongs to the context of the PIN, if it has one; of another context's nothing is set
+abbrev pub owned_with : MemoryState → Facts → Option Facts → Result (Unit {0}) Stop
+owned_with m pin None = Ok tt
+owned_with m pin (Some f) = if same_context (context_of m (owner_of f.owner)) (context_of m (owner_of pin.owner)) then Ok tt else Err (Throw SecurityException)
 
-abbrev pub value_reached : Packages → MemoryState → ℕ → Result (Unit {0}) Stop
-value_reached p m pin = reached_in p m (header_at m (record_of m pin).value)
+abbrev pub value_owned : MemoryState → ℕ → Result (Unit {0}) Stop
+value_owned m pin = owned_with m (facts m.heap.now pin) (header_at m (record_of m pin).value)

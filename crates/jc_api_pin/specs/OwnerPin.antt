@@ -27,7 +27,7 @@ use Rattle.jc_world.specs.declared.stop.Break.TheVariants.{Throw, Down}
 use Rattle.jc_world.specs.Calls.{Calling, answers, throws, faults, if_some, if_ok}
 use Rattle.jc_world.specs.Objects.{short_argument}
 use Rattle.jc_api_arguments.specs.declared.arrays.Stretch.{Stretch}
-use Rattle.jc_api_pin.specs.Arguments.{at_least_1, given_in, illegal_value, named_by, receiver, value_reached}
+use Rattle.jc_api_pin.specs.Arguments.{at_least_1, given_in, illegal_value, named_by, receiver, value_owned}
 
 abbrev pub returns_bool : Bool → Calling
 returns_bool b = answers (Value (Short (if b then pos 1 else pos 0)))
@@ -77,9 +77,9 @@ compared m pin bytes =
 unfoldable pub pin_checked : List Cell → Packages → MemoryState → Calling
 pin_checked args p m = if_some (receiver m args) (λ pin. if_ok (given_in args m) (λ given. compared m pin (named_by given p m)))
 
--- update: the firewall is asked for the array of the value too
+-- update
 unfoldable pub value_set : List Cell → Packages → MemoryState → Calling
-value_set args p m = if_some (receiver m args) (λ pin. if_ok (given_in args m) (λ given. if_ok (named_by given p m) (λ e. if_ok (value_reached p m pin) (λ u.
+value_set args p m = if_some (receiver m args) (λ pin. if_ok (given_in args m) (λ given. if_ok (named_by given p m) (λ e. if_ok (value_owned m pin) (λ u.
     settled (updated m pin (bytes_in m e)) m))))
 
 -- reset, and resetAndUnblock

@@ -3,19 +3,18 @@ ghost use Rattle.std.specs.Prelude.{◌≡◌, ◌≤◌, false, IfOk};
 ghost use Rattle.jc_frames.specs.Cells.{found};
 ghost use Rattle.jc_pin.specs.Pins.{IsPin};
 ghost use Rattle.jc_api_arguments.specs.Arrays.{IsBytesArgument, IsInArray};
-ghost use Rattle.jc_api_pin.specs.Arguments.{at_least_1, given_in, named_by, receiver, value_reached};
+ghost use Rattle.jc_api_pin.specs.Arguments.{at_least_1, given_in, named_by, receiver, value_owned};
 
 use jc_api_arguments::{Stretch, bytes_argument, elements};
-use jc_firewall::access::Access;
 use jc_frames::{Cell, CodeFault, Exception, Stop};
 use jc_heap::Facts;
 use jc_linker::linked::Linked;
-use jc_memory::Memory;
+use jc_memory::{Memory, Owner};
 use jc_pin::{is_pin, record};
 use jc_transient::Ref;
 use jc_words::WordStore;
 use jc_world::arguments::{reference_argument, short_argument};
-use jc_world::contexts::allow;
+use jc_world::contexts::context_of;
 
 /// A value is longer than the maximum, or a limit or maximum is below 1 (`ILLEGAL_VALUE`).
 pub(crate) const ILLEGAL_VALUE: Exception = Exception::PINException(1);
@@ -91,19 +90,20 @@ pub(crate) fn named_by<S: WordStore>(
     )
 }
 
-/// The firewall lets the array be written in which a PIN keeps its value, as it does for each PIN that code made: that array
-/// belongs to the PIN's context. A PIN of which the maximum is 0 may have none.
-pub(crate) fn reach_value<S: WordStore>(
-    pin: Ref,
-    memory: &Memory<S>,
-    linked: &Linked,
-) -> Result<(), Stop>
+/// The array in which a PIN keeps its value belongs to the context of the PIN, as it does for each PIN that code made; an
+/// image of another maker may name another's, which nobody is to set by way of a PIN. A PIN of which the maximum is 0 may have none.
+pub(crate) fn own_value<S: WordStore>(pin: Ref, memory: &Memory<S>) -> Result<(), Stop>
     requires up { memory.now.heap.down ≡ false }
     requires pin { IsPin memory.now pin }
-    ensures { result ≡ value_reached linked.now memory.now pin }
+    ensures { result ≡ value_owned memory.now pin }
 {
-    match memory.header(record(memory, pin).value) {
-        Some(facts) => allow(Access::ArrayElement, facts, memory, linked),
-        None => Ok(()),
+    let Some(value) = memory.header(record(memory, pin).value) else {
+        return Ok(());
+    };
+    let context = context_of(Owner::of(memory.facts(pin).owner()), memory);
+    if context_of(Owner::of(value.owner()), memory).is(context) {
+        Ok(())
+    } else {
+        Err(Stop::Throw(Exception::SecurityException))
     }
 }

@@ -8,7 +8,7 @@ ghost use Rattle.jc_pin.specs.Updating.{after_pin, updated};
 ghost use Rattle.jc_api_arguments.specs.Arrays.{IsInArray};
 ghost use Rattle.jc_api_pin.specs.OwnerPin.{answer_of, bytes_in, constructed, settled, value_set};
 
-use crate::given::{ILLEGAL_VALUE, at_least_1, given_in, named_by, reach_value, receiver};
+use crate::given::{ILLEGAL_VALUE, at_least_1, given_in, named_by, own_value, receiver};
 use jc_api_arguments::Stretch;
 use jc_frames::{Cell, Exception};
 use jc_linker::linked::Linked;
@@ -113,8 +113,7 @@ fn set_named<S: WordStore>(
     answer_of(set_bytes(memory, pin, bytes))
 }
 
-/// `update`: gives a PIN another value. The firewall is asked for the array of the bytes, and for the one in which the PIN
-/// keeps its value.
+/// `update`: gives a PIN another value, in an array of its own context.
 #[tactic(auto, unfolding(crate::specs::OwnerPin::value_set))]
 pub(crate) fn set_value<S: WordStore>(
     args: &[Cell],
@@ -127,6 +126,6 @@ pub(crate) fn set_value<S: WordStore>(
     let pin = receiver(args, memory)?;
     let given = given_in(args, memory)?;
     let bytes = named_by(&given, memory, linked)?;
-    reach_value(pin, memory, linked)?;
+    own_value(pin, memory)?;
     set_named(memory, pin, bytes)
 }

@@ -2,6 +2,7 @@
 use Rattle.std.proofs.Common.{◌≡◌, ℕ, ◌≤◌, true, List, length, refl}
 use Rattle.jc_frames.specs.declared.cell.Cell.{Cell}
 use Rattle.jc_frames.specs.declared.outcome.Exception.TheVariants as exception
+use Rattle.jc_heap.specs.Heap.{facts}
 use Rattle.jc_memory.specs.State.{MemoryState}
 use Rattle.jc_memory.specs.Reading.{AllDue}
 use Rattle.jc_packages.specs.Values.{Packages}
@@ -24,7 +25,8 @@ use Rattle.jc_api_util.specs.Util.{util_called}
 use Rattle.jc_isolation.specs.Reach.{IsOutside}
 use Rattle.jc_isolation.specs.Sparing.{Spares}
 use Rattle.jc_isolation.proofs.Due.{call_some}
-use Rattle.jc_isolation_natives.specs.Natives.{IsNotCalled, NativesSpare, sets_receiver}
+use Rattle.jc_isolation.proofs.Reaching.{not_outside}
+use Rattle.jc_isolation_natives.specs.Natives.{IsNotCalled, NativesSpare, ReachesCalled, sets_receiver}
 use Rattle.jc_isolation_natives.proofs.Small.{aborted_due, begun_due, committed_due, event_due, got_due, looked_up_due, reason_due, same_due, server_due, thrown_due, transient_due}
 use Rattle.jc_isolation_natives.proofs.Arrays.{aid_equals_bytes_due, aid_equals_due, aid_got_due, aid_made_due, all_sent_due, buffer_got_due, compared_due, copied_due, length_due, outgoing_due, received_due, received_more_due, sent_due, short_got_due, short_made_due, short_set_due}
 use Rattle.jc_isolation_natives.proofs.Pins.{constructed_due, pin_checked_due, tries_due, validated_due, value_set_due, was_reset_due, was_unblocked_due}
@@ -130,27 +132,28 @@ module _ (args : List Cell) (p : Packages) (m : MemoryState) (q : ℕ) (out : Is
   aids_due AidGetBytes other = aid_got_due p m q out args
   aids_due _ other = tt
 
-  pins_due : (method : PlatformMethod) → (sets_receiver method ≡ true → IsNotCalled q args) → AllDue (Spares q) (pin_called method args p m) m
+  pins_due : (method : PlatformMethod) → (sets_receiver method ≡ true → IsNotCalled q args) → (sets_receiver method ≡ true → ReachesCalled args p m) → AllDue (Spares q) (pin_called method args p m) m
   unfolding pin_called sets_receiver
-  pins_due OwnerPinInit other = constructed_due q p m args out.there (other refl)
-  pins_due OwnerPinCheck other = pin_checked_due q p m args (other refl)
-  pins_due OwnerPinGetTriesRemaining other = tries_due q p m args
-  pins_due OwnerPinIsValidated other = validated_due q p m args
-  pins_due OwnerPinReset other = was_reset_due q p m args (other refl)
-  pins_due OwnerPinResetAndUnblock other = was_unblocked_due q p m args (other refl)
-  pins_due OwnerPinUpdate other = value_set_due q p m args out (other refl)
-  pins_due _ other = tt
+  pins_due OwnerPinInit other reach = constructed_due q p m args out.there (other refl)
+  pins_due OwnerPinCheck other reach = pin_checked_due q p m args (other refl)
+  pins_due OwnerPinGetTriesRemaining other reach = tries_due q p m args
+  pins_due OwnerPinIsValidated other reach = validated_due q p m args
+  pins_due OwnerPinReset other reach = was_reset_due q p m args (other refl)
+  pins_due OwnerPinResetAndUnblock other reach = was_unblocked_due q p m args (other refl)
+  pins_due OwnerPinUpdate other reach = value_set_due q p m args out (other refl) (reach refl)
+  pins_due _ other reach = tt
 
-  part_due : (part : Part) (method : PlatformMethod) → length m.command ≤ 261 → (sets_receiver method ≡ true → IsNotCalled q args) → AllDue (Spares q) (called_in part method args p m) m
-  part_due Objects method few other = objects_due method
-  part_due CardExceptions method few other = exceptions_due method other
-  part_due Utilities method few other = util_due method
-  part_due System method few other = system_due method
-  part_due Aids method few other = aids_due method other
-  part_due Pins method few other = pins_due method other
-  part_due Applets method few other = applet_due method
-  part_due Apdus method few other = apdu_due few method
+  part_due : (part : Part) (method : PlatformMethod) → length m.command ≤ 261 → (sets_receiver method ≡ true → IsNotCalled q args) → (sets_receiver method ≡ true → ReachesCalled args p m) → AllDue (Spares q) (called_in part method args p m) m
+  part_due Objects method few other reach = objects_due method
+  part_due CardExceptions method few other reach = exceptions_due method other
+  part_due Utilities method few other reach = util_due method
+  part_due System method few other reach = system_due method
+  part_due Aids method few other reach = aids_due method other
+  part_due Pins method few other reach = pins_due method other reach
+  part_due Applets method few other reach = applet_due method
+  part_due Apdus method few other reach = apdu_due few method
 
 pub natives_spare : NativesSpare
 unfolding called
-natives_spare method args p m q out few other = part_due args p m q out (part_of method) method few other
+natives_spare method args p m q out few reach =
+    part_due args p m q out (part_of method) method few (λ sets own is same. not_outside p m q own (facts m.heap.now own) out refl (reach sets own is) same) reach

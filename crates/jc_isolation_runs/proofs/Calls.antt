@@ -1,5 +1,5 @@
 -- Calls and returns.
-use Rattle.std.proofs.Common.{◌≡◌, ℕ, ◌≤◌, true, false, List, length, Option, Some, None, Result, Ok, Err, inl, inr, refl, sym, ◌∙◌, ap}
+use Rattle.std.proofs.Common.{◌≡◌, ℕ, ◌≤◌, true, false, List, length, Option, Some, None, Result, Ok, Err, inl, inr, refl, sym, ◌∙◌, ap, subst}
 use Rattle.std.proofs.lemmas.Bool.{true≢false, false≢true}
 use Rattle.std.specs.Prelude.{pos, ◌==◌, drop}
 use Rattle.jc_heap.specs.Heap.{facts}
@@ -45,8 +45,9 @@ use Rattle.jc_interp.specs.Calling.{after_native, answered, invoked, made_by, na
 use Rattle.jc_isolation.specs.Reach.{IsOutside}
 use Rattle.jc_isolation.specs.Sparing.{Spares}
 use Rattle.jc_isolation.proofs.Due.{due_if, due_ok, due_some, due_stopped}
-use Rattle.jc_isolation.proofs.Reaching.{not_outside}
-use Rattle.jc_isolation_natives.specs.Natives.{IsNotCalled, sets_receiver}
+use Rattle.jc_firewall.specs.Reach.{IsInReach}
+use Rattle.jc_world.specs.Contexts.{situation_of}
+use Rattle.jc_isolation_natives.specs.Natives.{ReachesCalled, sets_receiver}
 use Rattle.jc_isolation_natives.proofs.Natives.{natives_spare}
 use Rattle.jc_isolation_runs.specs.Steps.{NamesStatics}
 use Rattle.jc_isolation_runs.proofs.Receivers.{IsFit, chosen_fit, first_argument}
@@ -114,18 +115,18 @@ module _ (p : Packages) (q : ℕ) where
   after_due place s (Err e) m = due_stopped (Spares q) m s e
 
   module _ (m : MemoryState) (statics : NamesStatics p) (few : length m.command ≤ 261) (out : IsOutside p m q) (s : Frames) where
-    -- the object outside reach is not the one that is called
-    not_called : (c : Call) → IsFit p m s.current.stack c → (method : PlatformMethod) → c.method ≡ Native method → (args : List Cell) → arguments_on c.arguments s.current.stack ≡ Some args → sets_receiver method ≡ true → IsNotCalled q args
-    not_called c (inl own) method is args are sets = λ r there same.
-        not_outside p m q own.receiver (facts m.heap.now own.receiver) out refl own.reach (sym (first_argument c.arguments s.current.stack args own.receiver r (Short (pos 0)) own.on are there) ∙ same)
-    not_called c (inr static) method is args are sets = absurd (statics_spare method (static method is).0 (static method is).1 sets)
+    -- what sets cells of its receiver is called on an object within reach
+    reaches_called : (c : Call) → IsFit p m s.current.stack c → (method : PlatformMethod) → c.method ≡ Native method → (args : List Cell) → arguments_on c.arguments s.current.stack ≡ Some args → sets_receiver method ≡ true → ReachesCalled args p m
+    reaches_called c (inl own) method is args are sets = λ r there.
+        subst (λ k. IsInReach (situation_of p m (facts m.heap.now k))) (sym (first_argument c.arguments s.current.stack args own.receiver r (Short (pos 0)) own.on are there)) own.reach
+    reaches_called c (inr static) method is args are sets = absurd (statics_spare method (static method is).0 (static method is).1 sets)
 
     natively_due : (c : Call) → IsFit p m s.current.stack c → (method : PlatformMethod) → c.method ≡ Native method → (place : ℕ) →
         AllDue (Spares q) (natively method c.arguments place p s m) m
     unfolding natively
     natively_due c fit method is place = due_if (Spares q) m (c.arguments == argument_cells method) _ _ (λ on. due_some (Spares q) m (arguments_on c.arguments s.current.stack) _ (λ args are.
         due_bind (Spares q) (λ result v. after_native result place p (with_stack s (drop c.arguments s.current.stack)) v) (called method args p m) m
-        (natives_spare method args p m q out few (not_called c fit method is args are))
+        (natives_spare method args p m q out few (reaches_called c fit method is args are))
         (each_always _ (after_due place (with_stack s (drop c.arguments s.current.stack))) (called method args p m) m))) (λ off. tt)
 
     made_due : (c : Call) → IsFit p m s.current.stack c → (method : Method) → c.method ≡ method → (place : ℕ) →

@@ -25,7 +25,7 @@ use Rattle.jc_world.specs.declared.answer.Answer.TheVariants.{Nothing}
 use Rattle.jc_world.specs.Calls.{answers}
 use Rattle.jc_world.specs.Objects.{short_argument}
 use Rattle.jc_api_arguments.specs.declared.arrays.Stretch.{Stretch}
-use Rattle.jc_api_pin.specs.Arguments.{at_least_1, given_in, named_by, receiver, value_reached}
+use Rattle.jc_api_pin.specs.Arguments.{at_least_1, given_in, named_by, receiver, value_owned}
 use Rattle.jc_api_pin.specs.OwnerPin.{bytes_in, compared, constructed, guess_of, pin_called, pin_checked, settled, tries_got, unless_refused, validated_got, value_set, was_reset, was_unblocked}
 use Rattle.jc_sound_runs.specs.Calm.{AreElsewhere}
 use Rattle.jc_sound_calls.proofs.Still.{AllStill, Any, AsksNone, IsLike, IsStillCall, still_bind, still_if, still_makes_new, still_ok, still_some}
@@ -93,7 +93,7 @@ module _ (g : Registers) where
     unfolding value_set
     value_still =
         still_some g (receiver m args) _ (λ pin. still_ok g (given_in args m) _ (λ given. still_ok g (named_by given p m) _ (λ e.
-        still_ok g (value_reached p m pin) _ (λ u. settled_still (updated m pin (bytes_in m e)) (updated_still m pin (bytes_in m e))))))
+        still_ok g (value_owned m pin) _ (λ u. settled_still (updated m pin (bytes_in m e)) (updated_still m pin (bytes_in m e))))))
 
     was_reset_still : IsStillCall g (was_reset args m)
     unfolding was_reset

@@ -35,7 +35,7 @@ use Rattle.jc_room.specs.Room.{has_space, lacks_room}
 use Rattle.jc_card_checks.specs.Objects.{is_a, is_byte_array, is_instance, is_kept, stands}
 use Rattle.jc_world.specs.Objects.{reference_argument, short_argument}
 use Rattle.jc_api_arguments.specs.declared.arrays.Stretch.{Stretch}
-use Rattle.jc_api_pin.specs.Arguments.{at_least_1, given_in, named_by, receiver, value_reached}
+use Rattle.jc_api_pin.specs.Arguments.{at_least_1, given_in, named_by, receiver, value_owned}
 use Rattle.jc_api_pin.specs.OwnerPin.{bytes_in, compared, constructed, guess_of, pin_checked, settled, tries_got, unless_refused, validated_got, value_set, was_reset, was_unblocked}
 use Rattle.jc_sound.specs.Classes.{KnowsClasses}
 use Rattle.jc_sound.specs.Fit.{IsFit, IsPinObject, OfPin, OfValue}
@@ -219,7 +219,7 @@ module _ (p : Packages) (m : MemoryState) (known : KnowsClasses p) (sound : IsSo
   pub value_set_due : AllDue (IsFit p) (value_set args p m) m
   unfolding value_set
   value_set_due = call_some (IsFit p) m (receiver m args) _ (λ pin is. call_ok (IsFit p) m (given_in args m) _ (λ given fine. call_ok (IsFit p) m (named_by given p m) _ (λ e there.
-      call_ok (IsFit p) m (value_reached p m pin) _ (λ u reached. settled_due p (updated m pin (bytes_in m e)) m (updated_due p m pin (bytes_in m e) (pin_object pin is))))))
+      call_ok (IsFit p) m (value_owned m pin) _ (λ u reached. settled_due p (updated m pin (bytes_in m e)) m (updated_due p m pin (bytes_in m e) (pin_object pin is))))))
 
   pub was_reset_due : AllDue (IsFit p) (was_reset args m) m
   unfolding was_reset

@@ -20,7 +20,7 @@ use Rattle.jc_world.specs.declared.answer.Answer.TheVariants.{Nothing}
 use Rattle.jc_world.specs.Calls.{answers}
 use Rattle.jc_world.specs.Objects.{short_argument, reference_argument}
 use Rattle.jc_api_arguments.specs.declared.arrays.Stretch.{Stretch}
-use Rattle.jc_api_pin.specs.Arguments.{at_least_1, given_in, named_by, receiver, value_reached}
+use Rattle.jc_api_pin.specs.Arguments.{at_least_1, given_in, named_by, receiver, value_owned}
 use Rattle.jc_api_pin.specs.OwnerPin.{bytes_in, compared, constructed, guess_of, pin_called, pin_checked, settled, tries_got, unless_refused, validated_got, value_set, was_reset, was_unblocked}
 use Rattle.jc_tears.specs.Orderly.{IsOrderly}
 use Rattle.jc_tears.proofs.Plain.{due_if, orderly_bind, plain_due}
@@ -71,7 +71,7 @@ checked_by args p m =
 value_orderly : (args : List Cell) (p : Packages) (m : MemoryState) → AllDue IsOrderly (value_set args p m) m
 unfolding value_set
 value_orderly args p m =
-    orderly_some (receiver m args) _ m (λ pin is. orderly_ok (given_in args m) _ m (λ given a. orderly_ok (named_by given p m) _ m (λ e b. orderly_ok (value_reached p m pin) _ m (λ u c.
+    orderly_some (receiver m args) _ m (λ pin is. orderly_ok (given_in args m) _ m (λ given a. orderly_ok (named_by given p m) _ m (λ e b. orderly_ok (value_owned m pin) _ m (λ u c.
     settled_orderly (updated m pin (bytes_in m e)) m (plain_due (updated m pin (bytes_in m e)) m (updated_plain m pin (bytes_in m e)))))))
 
 reset_by : (args : List Cell) (m : MemoryState) → AllDue IsOrderly (was_reset args m) m

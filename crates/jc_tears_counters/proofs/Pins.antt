@@ -31,7 +31,7 @@ use Rattle.jc_pin.specs.Updating.{bytes_put, unless_full, update_of, updated}
 use Rattle.jc_room.specs.Room.{has_space, lacks_room}
 use Rattle.jc_world.specs.Objects.{reference_argument, short_argument}
 use Rattle.jc_api_arguments.specs.declared.arrays.Stretch.{Stretch}
-use Rattle.jc_api_pin.specs.Arguments.{at_least_1, given_in, named_by, receiver, value_reached}
+use Rattle.jc_api_pin.specs.Arguments.{at_least_1, given_in, named_by, receiver, value_owned}
 use Rattle.jc_api_pin.specs.OwnerPin.{bytes_in, compared, constructed, guess_of, pin_checked, settled, tries_got, unless_refused, validated_got, value_set, was_reset, was_unblocked}
 use Rattle.jc_isolation.proofs.Due.{call_ok, call_some, due_if}
 use Rattle.jc_isolation.proofs.Reaching.{header_is}
@@ -163,7 +163,7 @@ module _ (q : ℕ) where
     pub value_set_due : IsInstance m q → AllDue (Leaves q) (value_set args p m) m
     unfolding value_set
     value_set_due own = call_some (Leaves q) m (receiver m args) _ (λ pin is. call_ok (Leaves q) m (given_in args m) _ (λ given fine. call_ok (Leaves q) m (named_by given p m) _ (λ e there.
-        call_ok (Leaves q) m (value_reached p m pin) _ (λ u reached. settled_due (updated m pin (bytes_in m e)) m (updated_due m pin (bytes_in m e) own (pin_is m args pin is))))))
+        call_ok (Leaves q) m (value_owned m pin) _ (λ u reached. settled_due (updated m pin (bytes_in m e)) m (updated_due m pin (bytes_in m e) own (pin_is m args pin is))))))
 
     pub was_reset_due : AllDue (Leaves q) (was_reset args m) m
     unfolding was_reset
