@@ -78,7 +78,7 @@ impl Frames {
     pub fn receive(&mut self, call: CallKind, value: Option<Cell>) -> Result<(), CodeFault>
         ensures { unless_fault result self.new ≡ in_frame self.old (received call value self.old.current) }
     {
-        let _ = &self.cells;
+        let _ = &self.cells; // so that the proof knows what holds of all frames
         match call {
             CallKind::Plain => match value {
                 Some(cell) => self.try_push(cell),

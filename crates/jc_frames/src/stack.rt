@@ -185,7 +185,7 @@ impl Frames {
         ensures lack { OnErr result (length self.old.current.stack < count) }
         ensures limit { OnOk result (length self.new.current.stack + count ≤ self.new.current.limit) }
     {
-        let _ = &self.cells;
+        let _ = &self.cells; // so that the proof knows what holds of all frames
         let mut top = ArrayVec::new();
         for _done in 0..count {
             top.push(self.pop()?);
