@@ -47,7 +47,7 @@ fn offset_at(offsets: &[u16], number: usize) -> u16
 }
 
 /// The first place of the offset in the list.
-fn place_of(offset: u16, offsets: &[u16]) -> Option<usize>
+fn index_of(offset: u16, offsets: &[u16]) -> Option<usize>
     ensures { MatchOption result (is_among offset offsets.now ≡ false) (λ i. (slice_get offsets.now i ≡ Some offset) × (is_among offset (take i offsets.now) ≡ false)) }
 {
     for i in 0..offsets.len() {
@@ -151,7 +151,7 @@ impl<'a> Classes<'a> {
     pub fn number_of(&self, offset: u16) -> Option<usize>
         ensures { MatchOption result (is_among offset (offsets_of self.now) ≡ false) (λ i. (slice_get (offsets_of self.now) i ≡ Some offset) × (is_among offset (take i (offsets_of self.now)) ≡ false)) }
     {
-        place_of(offset, self.offsets.as_slice())
+        index_of(offset, self.offsets.as_slice())
     }
 
     /// The record with this number.

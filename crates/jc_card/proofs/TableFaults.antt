@@ -8,6 +8,7 @@ use Rattle.jc_platform.specs.declared.fault.TableFault.{TableFault}
 use Rattle.jc_platform.specs.declared.fault.TableFault.TheVariants as table
 use Rattle.jc_platform.proofs.OneAnswer.{no_fault, one_fault}
 use Rattle.jc_image.specs.Laying.{first_free}
+use Rattle.jc_card.specs.Fixed.{fixed_size}
 use Rattle.jc_card.specs.declared.formatting.FormatFault.{FormatFault}
 use Rattle.jc_card.specs.declared.formatting.FormatFault.TheVariants.{BadTable, TooSmall}
 
@@ -17,7 +18,7 @@ TellsLines n text r = (line : ℕ) → (r ≡ Err (BadTable line)) ↔ ((least_s
 
 -- it is that the store is too small exactly where the text is a table, and it and the objects don't fit
 abbrev pub TellsRoom : ℕ → List ℕ → Result (Unit {0}) FormatFault → Type 0
-TellsRoom n text r = (r ≡ Err TooSmall) ↔ ((least_size ≤ n) × (n < first_free (length text) + 85) × ((t : Tokens) × Reads text (Ok t)))
+TellsRoom n text r = (r ≡ Err TooSmall) ↔ ((least_size ≤ n) × (n < first_free (length text) + fixed_size) × ((t : Tokens) × Reads text (Ok t)))
 
 module _ (n : ℕ) (text : List ℕ) where
   -- a text that is refused for this line

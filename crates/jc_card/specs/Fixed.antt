@@ -40,6 +40,10 @@ fixed_objects =
     record { kind = ByteArray; class = None; cells = buffer_size } ∷
     []
 
+-- how many words these objects take: five each
+abbrev pub fixed_size : ℕ
+fixed_size = 85
+
 -- the class as a header names it; an array of numbers has none
 abbrev pub class_number_of : Tokens → Option PlatformClass → ℕ
 class_number_of t None = 0

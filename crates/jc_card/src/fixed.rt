@@ -4,7 +4,7 @@ ghost use Rattle.jc_words.specs.Count.{raised};
 ghost use Rattle.jc_transient.specs.State.{area_size};
 ghost use Rattle.jc_transient.specs.declared.cell.ClearEvent.TheVariants.{Reset};
 ghost use Rattle.jc_heap.specs.Heap.{IsObject, area_end};
-ghost use Rattle.jc_card.specs.Fixed.{fixed_objects, class_number_of, facts_of_fixed, cells_of_all, fixed_facts, fixed_of, last_fixed, next_or_null, with_objects};
+ghost use Rattle.jc_card.specs.Fixed.{fixed_objects, fixed_size, class_number_of, facts_of_fixed, cells_of_all, fixed_facts, fixed_of, last_fixed, next_or_null, with_objects};
 
 use arrayvec::ArrayVec;
 use jc_heap::{Facts, Heap, Kind};
@@ -131,7 +131,7 @@ pub(crate) fn make_fixed<S: WordStore>(heap: &mut Heap<S>, table: &Table) -> Res
     requires up { heap.old.down ≡ false }
     requires outside { heap.old.begun ≡ false }
     requires settled { heap.old.durable ≡ heap.old.now }
-    requires space { heap.old.now.top + 85 ≤ heap.old.size }
+    requires space { heap.old.now.top + fixed_size ≤ heap.old.size }
     requires area { area_end heap.old.now Reset + 269 ≤ area_size }
     ensures made { OnOk result (heap.new.now ≡ with_objects table.now heap.old.now fixed_objects) }
     ensures size { heap.new.size ≡ heap.old.size }

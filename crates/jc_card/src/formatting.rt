@@ -7,6 +7,7 @@ ghost use Rattle.jc_heap.specs.Heap.{heap_of};
 ghost use Rattle.jc_commit.specs.Image.{recovered_of};
 ghost use Rattle.jc_platform.specs.Tokens.{Tokens};
 ghost use Rattle.jc_platform.specs.Table.{Reads};
+ghost use Rattle.jc_card.specs.Fixed.{fixed_size};
 ghost use Rattle.jc_card.specs.Made.{IsMade, formatted};
 
 use crate::fixed::make_fixed;
@@ -49,7 +50,7 @@ pub fn format<S: WordStore>(store: S, text: &[u8]) -> (S, Result<(), FormatFault
     ensures none_refused { OnOk result.1 (S.refused result.0 ≡ S.refused store) }
     ensures bad_size { (result.1 ≡ Err FormatFault.BadSize) ↔ (length (S.words store) < least_size) }
     ensures bad_table { (line : ℕ) → (result.1 ≡ Err (FormatFault.BadTable line)) ↔ ((least_size ≤ length (S.words store)) × Reads text.now (Err (TableFault.BadTable line))) }
-    ensures too_small { (result.1 ≡ Err FormatFault.TooSmall) ↔ ((least_size ≤ length (S.words store)) × (length (S.words store) < first_free (length text.now) + 85) × ((t : Tokens) × Reads text.now (Ok t))) }
+    ensures too_small { (result.1 ≡ Err FormatFault.TooSmall) ↔ ((least_size ≤ length (S.words store)) × (length (S.words store) < first_free (length text.now) + fixed_size) × ((t : Tokens) × Reads text.now (Ok t))) }
     ensures kept { OnErr result.1 ((result.1 ≡ Err FormatFault.StoreDown → ⊥) → result.0 ≡ store) }
     ensures stopped { result.1 ≡ Err FormatFault.StoreDown → (S.down result.0 ≡ true) × (S.refused result.0 ≡ raised (S.refused store) 1) × ((S.words result.0 ≡ S.words store) ⊎ (slice_index (S.words result.0) magic_address ≢ magic)) }
 {
@@ -73,7 +74,7 @@ pub fn format<S: WordStore>(store: S, text: &[u8]) -> (S, Result<(), FormatFault
 // Makes an image that fits. Where the store refuses a write it is given back.
 fn make_image<S: WordStore>(store: S, text: &[u8], table: &Table) -> Result<S, S>
     requires enough { least_size ≤ length (S.words store) }
-    requires fits { first_free (length text.now) + 85 ≤ length (S.words store) }
+    requires fits { first_free (length text.now) + fixed_size ≤ length (S.words store) }
     requires reads { Reads text.now (Ok table.now) }
     ensures made { IfOk result (λ s. IsMade (S.words s)) }
     ensures heap { IfOk result (λ s. heap_of (recovered_of (S.words s)) ≡ formatted (length (S.words store)) text.now table.now) }

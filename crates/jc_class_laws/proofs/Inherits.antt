@@ -14,7 +14,7 @@ use Rattle.jc_cap_code.specs.declared.class_records.ClassRecord.TheVariants as r
 use Rattle.jc_cap_code.specs.ClassGrammar.{AreClasses, AreRecords, IsEarlier, IsRecord, LooksBack}
 use Rattle.jc_cap_code.specs.ClassValues.{Placed, offsets_of}
 use Rattle.jc_packages.specs.Classes.{size_of}
-use Rattle.jc_packages.specs.Resolves.{class_at_offset, class_named, class_of, class_with_token, import_of, imported_by, place_of}
+use Rattle.jc_packages.specs.Resolves.{class_at_offset, class_named, class_of, class_with_token, import_of, imported_by, class_index}
 use Rattle.jc_packages.specs.Values.{ClassValue, PackageValue, Packages}
 use Rattle.jc_loaded.specs.declared.components.Components.{Components}
 use Rattle.jc_linker.specs.Linking.{cells_above, cells_in, class_by_record, classes_behind, next_number, with_package, word_of}
@@ -58,8 +58,8 @@ offset_at before rest k d less =
     let long = length-append before rest in
     ap (λ c. c.offset) (get_or-map outline_of (before ++ rest) k d (outline_of d) (omega (arith, less, long))) ∙ get_or_append_left before rest d k less
 
-place_before : (before rest : List ℕ) (offset place : ℕ) → Contains before offset → place_of offset (map outline_of (before ++ rest)) ≡ Some place → place < length before
-unfolding place_of
+place_before : (before rest : List ℕ) (offset place : ℕ) → Contains before offset → class_index offset (map outline_of (before ++ rest)) ≡ Some place → place < length before
+unfolding class_index
 place_before before rest offset place there is =
     let found = position-Some (λ c. c.offset == offset) (map outline_of (before ++ rest)) place (outline_of offset) is in
     let same : (get_or (map outline_of (before ++ rest)) there.0 (outline_of offset)).offset ≡ offset = offset_at before rest there.0 offset there.1 ∙ there.2 in
@@ -109,10 +109,10 @@ module _ (p : Packages) (c : Components) (imports : List ℕ) (closed : IsClosed
   unfolding class_named class_at_offset
   looks_back before rest (External package_token class_token) all few earlier e = absurd (beside_or (class_named sketched number (External package_token class_token)) (external_beside package_token class_token) e)
   looks_back before rest (Internal offset) all few earlier e =
-      let here : class_at_offset sketched number offset ≡ option_map (λ place. 256 * number + place) (place_of offset (map outline_of (before ++ rest))) =
-      ap (λ o. class_of number o offset) (package_last p sketch) ∙ ap (λ l. option_map (λ place. 256 * number + place) (place_of offset (map outline_of l))) all in
+      let here : class_at_offset sketched number offset ≡ option_map (λ place. 256 * number + place) (class_index offset (map outline_of (before ++ rest))) =
+      ap (λ o. class_of number o offset) (package_last p sketch) ∙ ap (λ l. option_map (λ place. 256 * number + place) (class_index offset (map outline_of l))) all in
       subst (λ o. unwrap_or o 0 % 256 < length before) (sym here)
-      (low_word (place_of offset (map outline_of (before ++ rest))) (length before) few (λ place is. place_before before rest offset place earlier is) (ap (λ o. unwrap_or o 0 / 256) (sym here) ∙ e))
+      (low_word (class_index offset (map outline_of (before ++ rest))) (length before) few (λ place is. place_before before rest offset place earlier is) (ap (λ o. unwrap_or o 0 / 256) (sym here) ∙ e))
 
   -- ---- one record after the other
 

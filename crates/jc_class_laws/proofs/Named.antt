@@ -14,7 +14,7 @@ use Rattle.jc_packages.specs.declared.target.Target.{Target}
 use Rattle.jc_packages.specs.declared.target.Target.TheVariants as targets
 use Rattle.jc_packages.specs.Classes.{class_in, is_class, package_in}
 use Rattle.jc_packages.specs.Lookups.{target_at}
-use Rattle.jc_packages.specs.Resolves.{class_at_offset, class_by, class_named, class_of, class_with_token, exported_class, imported_by, place_of}
+use Rattle.jc_packages.specs.Resolves.{class_at_offset, class_by, class_named, class_of, class_with_token, exported_class, imported_by, class_index}
 use Rattle.jc_packages.specs.Values.{PackageValue, Packages}
 use Rattle.jc_loaded.specs.declared.components.Components.{Components}
 use Rattle.jc_loaded.specs.Outlines.{outline_of}
@@ -43,8 +43,8 @@ place_there p number place q is less few =
     ∙ ap (option_and_then (λ r. slice_get r.classes ((256 * number + place) % 256))) is ∙ ap (slice_get q.classes) parts.1 ∙ at.1 in
     or_left (is_some (class_in p (256 * number + place))) (is_some (class_by_word p.platform (256 * number + place))) (ap is_some found)
 
-offset_there : (p : Packages) (number offset : ℕ) (q : PackageValue) → package_in p number ≡ Some q → length q.classes ≤ 256 → (o : Option ℕ) → place_of offset q.classes ≡ o → IfThere (IsThere p) (option_map (λ place. 256 * number + place) o)
-unfolding place_of
+offset_there : (p : Packages) (number offset : ℕ) (q : PackageValue) → package_in p number ≡ Some q → length q.classes ≤ 256 → (o : Option ℕ) → class_index offset q.classes ≡ o → IfThere (IsThere p) (option_map (λ place. 256 * number + place) o)
+unfolding class_index
 offset_there p number offset q is few None at = tt
 offset_there p number offset q is few (Some place) at = place_there p number place q is (position-Some (λ c. c.offset == offset) q.classes place (outline_of 0) at).0 few
 
@@ -64,11 +64,11 @@ module _ (p : Packages) (names : TellNames p.platform) (bytes : HasByteTokens p.
   token_there : (n token : ℕ) (o : Option PackageValue) → package_in p n ≡ o → IfThere (IsThere p) (class_by p n token o)
   token_there n token None is = some_there (IsThere p) (λ home. option_map (class_word p.platform) (class_by_token p.platform home token)) (package_by_number p.platform n)
       (λ home. mapped_there (IsThere p) (class_word p.platform) (class_by_token p.platform home token) platform_there)
-  token_there n token (Some q) is = some_there (IsThere p) (exported_class n q) (slice_get q.exports token) (λ e. offset_there p n e.class_offset q is (few_in p n q closed is) (place_of e.class_offset q.classes) refl)
+  token_there n token (Some q) is = some_there (IsThere p) (exported_class n q) (slice_get q.exports token) (λ e. offset_there p n e.class_offset q is (few_in p n q closed is) (class_index e.class_offset q.classes) refl)
 
   offset_named : (number offset : ℕ) (o : Option PackageValue) → package_in p number ≡ o → IfThere (IsThere p) (class_of number o offset)
   offset_named number offset None is = tt
-  offset_named number offset (Some q) is = offset_there p number offset q is (few_in p number q closed is) (place_of offset q.classes) refl
+  offset_named number offset (Some q) is = offset_there p number offset q is (few_in p number q closed is) (class_index offset q.classes) refl
 
   ref_there : (number : ℕ) (c : ClassRef) → IfThere (IsThere p) (class_named p number c)
   unfolding class_named class_at_offset class_with_token

@@ -1,5 +1,7 @@
 //! Which method a frame runs, and what it comes back to.
 
+use jc_names::OwnerWord;
+
 /// Which method a frame runs, and for whom.
 #[derive(Clone, Copy, PartialEq, Eq, Debug, Default)]
 pub struct Origin {
@@ -7,8 +9,8 @@ pub struct Origin {
     pub package_number: u8,
     /// Where the method begins in its package's Method component.
     pub method: u16,
-    /// The number of the owner that is active while it runs.
-    pub owner: u16,
+    /// The owner that is active while it runs.
+    pub owner: OwnerWord,
 }
 
 /// Who called a method.
@@ -24,10 +26,10 @@ pub enum CallKind {
 /// What a return comes back to.
 #[derive(Clone, Copy, PartialEq, Eq, Debug, Default)]
 pub struct Resume {
-    /// The number of the owner that was active before the call.
-    pub active: u16,
-    /// The number of the owner that was active before the last switch, as it was then.
-    pub previous: u16,
+    /// The owner that was active before the call.
+    pub active: OwnerWord,
+    /// The owner that was active before the last switch, as it was then.
+    pub previous: OwnerWord,
     /// Where the instruction stands that called.
     pub place: u16,
     /// Who called.

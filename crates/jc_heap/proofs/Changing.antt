@@ -90,8 +90,8 @@ pub change_view : (cs : List (ℕ × ℕ)) (k m : State) (n : ℕ) (h : HeapStat
 change_view cs k m n h c is =
     let now : heap_of m.plain ≡ h = ap heap_of c.plain ∙ is in
     let durable : heap_of m.recovered ≡ (if k.in_transaction then heap_of k.recovered else h) = durable_after k.in_transaction k.recovered m.recovered m.plain h c.recovered now in
-    let count : journal_writes k (addresses_of cs) ≡ 0 + journal_writes k (addresses_of cs) = omega arith in
-    let passed : m.passed ≡ raised k.passed (0 + journal_writes k (addresses_of cs)) = c.passed ∙ ap (raised k.passed) count in
+    let count : journal_writes k.in_transaction (addresses_of cs) ≡ 0 + journal_writes k.in_transaction (addresses_of cs) = omega arith in
+    let passed : m.passed ≡ raised k.passed (0 + journal_writes k.in_transaction (addresses_of cs)) = c.passed ∙ ap (raised k.passed) count in
     λ i. record { now = now i; durable = durable i; begun = c.in_transaction i; touched = c.touched i; down = c.down i; passed = passed i; refused = c.refused i; size = n }
 
 -- a refused write leaves what a recovery leaves

@@ -1,8 +1,7 @@
 -- A new object through the journal: fresh words, then the top.
 use Rattle.std.proofs.Common.{◌≡◌, ℕ, ◌+◌, ◌<◌, ◌≤◌, Bool, true, false, List, [], ◌∷◌, ◌++◌, length, get_or, set, replicate, refl, sym, ◌∙◌, ap, subst, arith, if◌then◌else◌, Some}
-use Rattle.std.specs.Prelude.{nat_le, IsTrue}
+use Rattle.std.specs.Prelude.{IsTrue}
 use Rattle.std.proofs.lemmas.Bool.{false≢true}
-use Rattle.jc_commit.specs.Image.{capacity}
 use Rattle.jc_commit.specs.declared.refusal.WriteRefusal.{WriteRefusal}
 use Rattle.jc_commit.specs.declared.refusal.WriteRefusal.TheVariants.{StoreDown, Full}
 use Rattle.std.proofs.lemmas.List.{length-replicate, length-take-le}
@@ -10,7 +9,7 @@ use Rattle.jc_words.specs.Count.{raised}
 use Rattle.jc_words.specs.Layout.{top_address}
 use Rattle.jc_commit.specs.Image.{with_words}
 use Rattle.jc_commit.specs.Entries.{addresses_of}
-use Rattle.jc_commit.specs.State.{State, live, Changes, IsStopped as JournalStopped, writes_inside, writes_outside, has_room_for as journal_room}
+use Rattle.jc_commit.specs.State.{State, live, Changes, IsStopped as JournalStopped, added, writes_for, has_room_for as journal_room}
 use Rattle.jc_heap.specs.declared.object.Kind.{Kind}
 use Rattle.jc_heap.specs.declared.object.Kind.TheVariants.{Instance, BooleanArray, ByteArray, ShortArray, ReferenceArray}
 use Rattle.jc_transient.specs.declared.cell.ClearEvent.{ClearEvent}
@@ -95,12 +94,6 @@ module _ (j k : State) (n : ℕ) (s : IsSound j n) (up : j.down ≡ false) (b : 
     pub top_stopped_view : (m : State) (v : HeapView) → heap_view j n ≡ v → JournalStopped k m → IsStopped v (heap_view m n)
     top_stopped_view m v is st = stopped_view j m v n is (st.recovered ∙ live_back) st.down (st.refused ∙ ap (λ r. raised r 1) f.refused)
 
-    abbrev kept_places : List ℕ → Bool → List ℕ
-    kept_places places g = if g then places else []
-
-    abbrev writes : List ℕ → Bool → ℕ
-    writes places g = if g then writes_inside (length places) (length (kept_places places g)) else writes_outside (length places)
-
     raised_twice : (p q a w : ℕ) → q ≡ raised p a → raised q (0 + w) ≡ raised p (a + w)
     raised_twice p q a w e = omega (arith, e)
 
@@ -110,12 +103,12 @@ module _ (j k : State) (n : ℕ) (s : IsSound j n) (up : j.down ≡ false) (b : 
         let made : heap_view m n ≡ changed (heap_view k n) h (addresses_of cs) 0 = change_view cs k m n h c now in
         let durable : (if k.in_transaction then heap_of k.recovered else h) ≡ (if j.in_transaction then heap_of j.recovered else h) =
         ap (λ d. if k.in_transaction then d else h) (ap read_image live_back) ∙ ap (λ g. if g then heap_of j.recovered else h) b.in_transaction in
-        let touched : k.touched ++ kept_places (addresses_of cs) k.in_transaction ≡ j.touched ++ kept_places (addresses_of cs) j.in_transaction =
-        ap (λ l. l ++ kept_places (addresses_of cs) k.in_transaction) b.touched ∙ ap (λ g. j.touched ++ kept_places (addresses_of cs) g) b.in_transaction in
-        let sum : raised k.passed (0 + writes (addresses_of cs) j.in_transaction) ≡ raised j.passed (length rec + writes (addresses_of cs) j.in_transaction) =
-        raised_twice j.passed k.passed (length rec) (writes (addresses_of cs) j.in_transaction) f.passed in
-        let passed : raised k.passed (0 + writes (addresses_of cs) k.in_transaction) ≡ raised j.passed (length rec + writes (addresses_of cs) j.in_transaction) =
-        ap (λ g. raised k.passed (0 + writes (addresses_of cs) g)) b.in_transaction ∙ sum in
+        let touched : k.touched ++ added k.in_transaction (addresses_of cs) ≡ j.touched ++ added j.in_transaction (addresses_of cs) =
+        ap (λ l. l ++ added k.in_transaction (addresses_of cs)) b.touched ∙ ap (λ g. j.touched ++ added g (addresses_of cs)) b.in_transaction in
+        let sum : raised k.passed (0 + writes_for j.in_transaction (addresses_of cs)) ≡ raised j.passed (length rec + writes_for j.in_transaction (addresses_of cs)) =
+        raised_twice j.passed k.passed (length rec) (writes_for j.in_transaction (addresses_of cs)) f.passed in
+        let passed : raised k.passed (0 + writes_for k.in_transaction (addresses_of cs)) ≡ raised j.passed (length rec + writes_for j.in_transaction (addresses_of cs)) =
+        ap (λ g. raised k.passed (0 + writes_for g (addresses_of cs))) b.in_transaction ∙ sum in
         made ∙ (λ i. record { now = h; durable = durable i; begun = b.in_transaction i; touched = touched i; down = f.down i; passed = passed i; refused = f.refused i; size = n })
 
     pub sound_then : (cs : List (ℕ × ℕ)) (h : HeapState) (m : State) → Changes cs k m → heap_of (with_words k.plain cs) ≡ h → IsLaid (with_words k.plain cs) →
@@ -259,20 +252,16 @@ module _ (j k m : State) (n : ℕ) (kind : Kind) (event : ClearEvent) (class own
   transient_view v is = subst (λ u. heap_view m n ≡ changed u (add_transient (u.now) kind event class owner long) (top_address ∷ area_end_address event ∷ []) 5) is
       (view_then j k n s up b (transient_record kind event class owner long place) f ((top_address, get_or j.plain top_address 0 + 5) ∷ (area_end_address event, place + long) ∷ []) (add_transient (heap_of j.plain) kind event class owner long) m there heap_both)
 
--- of these places, those that a change keeps
-abbrev kept_of : List ℕ → Bool → List ℕ
-kept_of places g = if g then places else []
-
 -- fresh words leave the journal's room as it is
-room_kept : (at : ℕ) (j k : State) → KeepsBelow at j k → (places : List ℕ) → journal_room k places ≡ journal_room j places
-room_kept at j k b places = λ i. if b.in_transaction i then nat_le (length (b.touched i) + length (kept_of places (b.in_transaction i))) capacity else nat_le (length places) capacity
+room_kept : (at : ℕ) (j k : State) → KeepsBelow at j k → (places : List ℕ) → journal_room k.in_transaction k.touched places ≡ journal_room j.in_transaction j.touched places
+room_kept at j k b places = λ i. journal_room (b.in_transaction i) (b.touched i) places
 
 pub room_there : (r b : Bool) → (IsTrue r → b ≡ false) × (b ≡ false → IsTrue r) → r ≡ false → b ≡ true
 room_there r true iff f = refl
 room_there r false iff f = absurd (false≢true (sym f ∙ iff.1 refl))
 
 -- where there was room, the store alone refuses
-pub only_down : (at : ℕ) (j k : State) → KeepsBelow at j k → (places : List ℕ) → journal_room j places ≡ true → (r : WriteRefusal) → (r ≡ Full → journal_room k places ≡ false) → r ≡ StoreDown
+pub only_down : (at : ℕ) (j k : State) → KeepsBelow at j k → (places : List ℕ) → journal_room j.in_transaction j.touched places ≡ true → (r : WriteRefusal) → (r ≡ Full → journal_room k.in_transaction k.touched places ≡ false) → r ≡ StoreDown
 only_down at j k b places fit StoreDown f = refl
 only_down at j k b places fit Full f = absurd (false≢true (sym (f refl) ∙ room_kept at j k b places ∙ fit))
 

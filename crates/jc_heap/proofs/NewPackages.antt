@@ -166,13 +166,13 @@ package_are_places n number t e wide few (suc (suc zero)) h = record { above = o
 package_are_places n number t e wide few (suc (suc (suc k))) h = absurd (omega arith)
 
 -- what the journal has no room for the heap has none for
-pub view_no_room : (j : State) (v : HeapView) (n number : ℕ) → heap_view j n ≡ v → IsLaid j.plain → number ≡ get_or j.plain packages_address 0 → journal_room j ((addresses_start + number) ∷ packages_address ∷ top_address ∷ []) ≡ false → has_room_for v (addresses_of_package v.now) ≡ false
+pub view_no_room : (j : State) (v : HeapView) (n number : ℕ) → heap_view j n ≡ v → IsLaid j.plain → number ≡ get_or j.plain packages_address 0 → journal_room j.in_transaction j.touched ((addresses_start + number) ∷ packages_address ∷ top_address ∷ []) ≡ false → has_room_for v (addresses_of_package v.now) ≡ false
 unfolding addresses_of_package end_address
 view_no_room j v n number is laid e none =
     let count : number ≡ (heap_of j.plain).counts.0 = e ∙ sym (count_is j.plain laid) in
     subst (λ u. has_room_for u ((addresses_start + u.now.counts.0) ∷ packages_address ∷ top_address ∷ []) ≡ false) is (subst (λ a. has_room_for (heap_view j n) ((addresses_start + a) ∷ packages_address ∷ top_address ∷ []) ≡ false) count none)
 
-pub view_room : (j : State) (v : HeapView) (n number : ℕ) → heap_view j n ≡ v → IsLaid j.plain → number ≡ get_or j.plain packages_address 0 → journal_room j ((addresses_start + number) ∷ packages_address ∷ top_address ∷ []) ≡ true → has_room_for v (addresses_of_package v.now) ≡ true
+pub view_room : (j : State) (v : HeapView) (n number : ℕ) → heap_view j n ≡ v → IsLaid j.plain → number ≡ get_or j.plain packages_address 0 → journal_room j.in_transaction j.touched ((addresses_start + number) ∷ packages_address ∷ top_address ∷ []) ≡ true → has_room_for v (addresses_of_package v.now) ≡ true
 unfolding addresses_of_package end_address
 view_room j v n number is laid e some =
     let count : number ≡ (heap_of j.plain).counts.0 = e ∙ sym (count_is j.plain laid) in

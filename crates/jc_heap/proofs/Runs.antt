@@ -1,13 +1,12 @@
 -- Runs of cells.
-use Rattle.std.proofs.Common.{◌≡◌, ℕ, zero, suc, ◌+◌, ◌<◌, ◌≤◌, List, [], ◌∷◌, ◌++◌, length, take, set, get_or, refl, sym, ◌∙◌, ap, subst, arith, true, false, add-zero, Bool, if◌then◌else◌}
-use Rattle.std.specs.Prelude.{nat_le}
+use Rattle.std.proofs.Common.{◌≡◌, ℕ, zero, suc, ◌+◌, ◌<◌, ◌≤◌, List, [], ◌∷◌, ◌++◌, length, take, set, get_or, refl, sym, ◌∙◌, ap, subst, arith, true, false, add-zero}
 use Rattle.std.proofs.lemmas.List.{length-take-le, take_more_set, take_more}
 use Rattle.std.proofs.lemmas.Bool.{lt-leb}
 use Rattle.jc_words.specs.Layout.{top_address, text_start}
 use Rattle.jc_commit.specs.Image.{with_words, IsPlace, capacity}
 use Rattle.jc_commit.specs.Entries.{addresses_of, ArePlaces}
 use Rattle.jc_heap.specs.Image.{IsLaid}
-use Rattle.jc_commit.specs.State.{State, Changes}
+use Rattle.jc_commit.specs.State.{State, Changes, has_room_for as journal_room}
 use Rattle.jc_heap.specs.Heap.{HeapState, HeapView, heap_view, heap_of, cells, set_cell, set_cells, run_words, cell_address, changed, has_room_for, SameShape, IsSound}
 use Rattle.jc_heap.proofs.Changing.{change_view, change_sound}
 use Rattle.jc_heap.proofs.Laws.{shape-set, length-cells-set_cell}
@@ -58,13 +57,9 @@ pub length-addresses : (at : ℕ) (vs : List ℕ) → length (addresses_of (run_
 length-addresses at [] = refl
 length-addresses at (v ∷ vs) = ap suc (length-addresses (suc at) vs)
 
--- of these places, those that a change keeps
-abbrev kept_of : List ℕ → Bool → List ℕ
-kept_of places g = if g then places else []
-
 -- a change of more words than there can be entries has no room
 pub too_many : (v : HeapView) (places : List ℕ) → capacity < length places → has_room_for v places ≡ false
-too_many v places h = elim v.begun as (λ g. (if g then nat_le (length v.touched + length (kept_of places g)) capacity else nat_le (length places) capacity) ≡ false) [
+too_many v places h = elim v.begun as (λ g. journal_room g v.touched places ≡ false) [
   | true ↦ lt-leb (length v.touched + length places) capacity (omega arith)
   | false ↦ lt-leb (length places) capacity h
 ]

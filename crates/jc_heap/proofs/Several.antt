@@ -211,8 +211,8 @@ module _ (j : State) (v : HeapView) (n : ℕ) (cs : List (Place × ℕ)) (is : h
       (λ _. omega (arith, s.order up, t.2))
       (λ _. subst (SameShape (heap_of j.recovered)) (sym t.0) (shape-places (heap_of j.recovered) (heap_of j.plain) cs (s.shape up)))
 
-  pub several_room : has_room_for v (map place_word (places_of cs)) ≡ journal_room j (addresses_of (words_of cs))
-  several_room = room_is j v n (map place_word (places_of cs)) is ∙ ap (journal_room j) (sym several_addresses)
+  pub several_room : has_room_for v (map place_word (places_of cs)) ≡ journal_room j.in_transaction j.touched (addresses_of (words_of cs))
+  several_room = room_is j v n (map place_word (places_of cs)) is ∙ ap (journal_room j.in_transaction j.touched) (sym several_addresses)
 
 pub length-places : (cs : List (Place × ℕ)) → length (map place_word (places_of cs)) ≡ length cs
 length-places [] = refl

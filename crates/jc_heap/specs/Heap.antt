@@ -1,16 +1,17 @@
 -- The heap that words stand for, and the changes of a heap.
-use Rattle.std.specs.Prelude.{ℕ, suc, ◌+◌, ◌-◌, ◌≡◌, ◌<◌, ◌≤◌, ◌==◌, Bool, true, false, List, [], ◌∷◌, ◌++◌, map, take, drop, length, slice_index, Option, Some, None, if◌then◌else◌, ◌&&◌, nat_lt, nat_le}
+use Rattle.std.specs.Prelude.{ℕ, suc, ◌+◌, ◌-◌, ◌≡◌, ◌<◌, ◌≤◌, ◌==◌, Bool, true, false, List, [], ◌∷◌, ◌++◌, map, take, drop, length, slice_index, Option, Some, None, if◌then◌else◌, ◌&&◌, nat_lt}
 use Rattle.std.specs.List.{list_any}
 use Rattle.jc_words.specs.Count.{raised}
 use Rattle.jc_words.specs.Layout.{top_address, packages_address, applets_address, reset_end_address, deselect_end_address, registry_start, registry_length}
 use Rattle.jc_commit.specs.Image.{capacity, top_of}
-use Rattle.jc_commit.specs.State.{State, writes_inside, writes_outside, undo_writes}
+use Rattle.jc_commit.specs.State.{State, added, undo_writes}
+use Rattle.jc_commit.specs.State as journal
 use Rattle.jc_heap.specs.declared.object.Facts.{Facts}
 use Rattle.jc_transient.specs.declared.cell.ClearEvent.{ClearEvent}
 use Rattle.jc_transient.specs.declared.cell.ClearEvent.TheVariants.{Reset, Deselect}
 use Rattle.jc_transient.specs.State.{area_size}
 use Rattle.jc_heap.specs.declared.object.Kind.{Kind}
-use Rattle.jc_heap.specs.Object.{Object, new_transient, transient_size, Item, AnObject, APackage, cells_of, with_cell, bare, facts_of, is_object}
+use Rattle.jc_heap.specs.Object.{Object, header_size, new_transient, transient_size, Item, AnObject, APackage, cells_of, with_cell, bare, facts_of, is_object}
 use Rattle.jc_heap.specs.Table.{at_or, has, put}
 use Rattle.jc_heap.specs.Image.{image, package_addresses, item_entry, records, table_text, IsLaid}
 
@@ -154,11 +155,11 @@ saved v = if v.begun then Some v.durable else None
 
 -- of these places, those whose old values a change has to keep: its cost
 abbrev pub kept : HeapView → List ℕ → List ℕ
-kept v places = if v.begun then places else []
+kept v places = added v.begun places
 
 -- how many word writes it is to change these places
 abbrev pub writes_for : HeapView → List ℕ → ℕ
-writes_for v places = if v.begun then writes_inside (length places) (length (kept v places)) else writes_outside (length places)
+writes_for v places = journal.writes_for v.begun places
 
 -- how many more words' old values the transaction can keep
 abbrev pub room_left : HeapView → ℕ
@@ -166,7 +167,7 @@ room_left v = capacity - length v.touched
 
 -- there is room for a change of these places, in the open transaction or in one of its own
 abbrev pub has_room_for : HeapView → List ℕ → Bool
-has_room_for v places = if v.begun then nat_le (length v.touched + length (kept v places)) capacity else nat_le (length places) capacity
+has_room_for v places = journal.has_room_for v.begun v.touched places
 
 -- a heap at rest: no transaction is open, and a loss of power leaves it as it is
 abbrev pub resting : HeapState → ℕ → ℕ → ℕ → HeapView
@@ -183,7 +184,7 @@ changed v h places fresh = record v {
 
 -- the address of a cell
 unfoldable pub cell_address : ℕ → ℕ → ℕ
-cell_address r i = r + (4 + i)
+cell_address r i = r + (header_size + i)
 
 -- the address of the word with the heap's end
 unfoldable pub end_address : ℕ

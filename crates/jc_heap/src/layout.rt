@@ -8,6 +8,9 @@ use jc_words::layout::{DESELECT_END, RESET_END};
 /// How many words an object's header has.
 pub const HEADER: u16 = 4;
 
+/// How many words a transient object takes: its header, and the place of its first cell.
+pub const TRANSIENT: u16 = HEADER + 1;
+
 /// The word of a header with the number of cells.
 pub const LENGTH: u16 = 3;
 

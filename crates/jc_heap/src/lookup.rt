@@ -4,7 +4,7 @@ ghost use Rattle.jc_words.specs.Layout.{text_start};
 ghost use Rattle.jc_heap.specs.Image.{IsLaid};
 ghost use Rattle.jc_heap.specs.Heap.{heap_of, cells, facts, IsObject, next_object};
 
-use crate::layout::HEADER;
+use crate::layout::{HEADER, LENGTH};
 use crate::object::{Facts, Kind, event_of_number};
 use crate::walk::first_object;
 use jc_commit::Journal;
@@ -43,7 +43,7 @@ pub fn facts_at<S: WordStore>(journal: &Journal<S>, object: Ref) -> Facts
         event: event_of_number(word / 256),
         class: journal.read(at + 1),
         owner: journal.read(at + 2),
-        length: journal.read(at + 3),
+        length: journal.read(at + LENGTH),
         place,
     }
 }

@@ -1,9 +1,9 @@
 //! Words that a change names: cells, the words of static images and of the registry.
-ghost use Rattle.std.specs.Prelude.{◌≡◌, ◌<◌, ◌≤◌, ◌↔◌, false, [], ◌∷◌, Err, map, length, slice_index, take, OnOk, OnErr};
+ghost use Rattle.std.specs.Prelude.{◌≡◌, ◌<◌, ◌≤◌, false, [], ◌∷◌, map, length, slice_index, take};
 ghost use Rattle.jc_words.specs.Layout.{registry_length, most_applets};
-ghost use Rattle.jc_heap.specs.Heap.{IsStopped, has_room_for, kept};
+ghost use Rattle.jc_heap.specs.Heap.{has_room_for, kept};
 ghost use Rattle.jc_heap.specs.Moves.{Write, SetPlaces, Count, Makes, MakesUnless, after_change, after_step, no_room, no_applet, applet_move};
-ghost use Rattle.jc_heap.specs.Places.{HasPlace, MayHold, AreThere, AreApart, place_word, places_of, words_of, written, counted};
+ghost use Rattle.jc_heap.specs.Places.{HasPlace, MayHold, AreThere, AreApart, place_word, places_of, words_of};
 
 use crate::heap::{Heap, MOST_CHANGES};
 use crate::refusal::ChangeRefusal;
@@ -86,11 +86,7 @@ impl<S: WordStore> Heap<S> {
         requires up { self.old.down ≡ false }
         requires there { HasPlace self.old.now place }
         requires value { MayHold self.old.now place v }
-        ensures moves { MakesUnless (no_room self.old (place ∷ [])) self.old (after_change result self.new) (Write place v ∷ []) tt }
-        ensures done { OnOk result (self.new ≡ written self.old place v) }
-        ensures full { (result ≡ Err ChangeRefusal.CommitFull) ↔ (has_room_for self.old (place_word place ∷ []) ≡ false) }
-        ensures kept { result ≡ Err ChangeRefusal.CommitFull → self.new ≡ self.old }
-        ensures stopped { result ≡ Err ChangeRefusal.StoreDown → IsStopped self.old self.new }
+        ensures { MakesUnless (no_room self.old (place ∷ [])) self.old (after_change result self.new) (Write place v ∷ []) tt }
     {
         let word = self.place_word(place);
         self.journal.write(word, v)?;
@@ -136,9 +132,7 @@ impl<S: WordStore> Heap<S> {
         requires up { self.old.down ≡ false }
         requires there { HasPlace self.old.now place }
         requires value { MayHold self.old.now place v }
-        ensures moves { Makes self.old (after_step result self.new) (Count place v ∷ []) tt }
-        ensures done { OnOk result (self.new ≡ counted self.old place v) }
-        ensures stopped { OnErr result (IsStopped self.old self.new) }
+        ensures { Makes self.old (after_step result self.new) (Count place v ∷ []) tt }
     {
         let word = self.place_word(place);
         self.journal.write_both(word, v)?;

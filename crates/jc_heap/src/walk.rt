@@ -7,6 +7,7 @@ ghost use Rattle.jc_heap.specs.Table.{has};
 ghost use Rattle.jc_heap.specs.Image.{item_entry};
 ghost use Rattle.jc_heap.specs.Heap.{first_above};
 
+use crate::layout::{HEADER, LENGTH, TRANSIENT};
 use crate::object::begins_header;
 use jc_commit::Journal;
 use jc_transient::Ref;
@@ -50,12 +51,12 @@ pub fn record_size<S: WordStore>(journal: &Journal<S>, at: u16, top: u16) -> u32
         return NO_HEADER;
     }
     if word / 256 != 0 {
-        return 5;
+        return u32::from(TRANSIENT);
     }
-    if top - at < 4 {
-        return 4;
+    if top - at < HEADER {
+        return u32::from(HEADER);
     }
-    4 + u32::from(journal.read(at + 3))
+    u32::from(HEADER) + u32::from(journal.read(at + LENGTH))
 }
 
 // An object begins at the address of a record, and it lies above the other address.

@@ -12,14 +12,14 @@ use Rattle.jc_heap.proofs.RawWords.{plain_zero}
 use Rattle.jc_heap.specs.Image.{packed_byte, unpacked, image, base, package_addresses, is_package, sizes, item_entry, records, missing, table_text, IsLaid}
 use Rattle.jc_heap.specs.Packed.{packed}
 use Rattle.jc_heap.proofs.Packing.{packed-word}
-use Rattle.jc_image.specs.Laying.{AreBytes, first_free, laid_front, laid_words, laid_heap}
+use Rattle.jc_image.specs.Laying.{IsOfBytes, first_free, laid_front, laid_words, laid_heap}
 
 pub length-packed : (text : List ℕ) → length (packed text) ≡ (length text + 1) / 2
 length-packed [] = refl
 length-packed (b ∷ []) = refl
 length-packed (b ∷ c ∷ bytes) = omega (arith, length-packed bytes)
 
-packed_byte-packed : (text : List ℕ) (i : ℕ) → AreBytes text → packed_byte (packed text) i ≡ get_or text i 0
+packed_byte-packed : (text : List ℕ) (i : ℕ) → IsOfBytes text → packed_byte (packed text) i ≡ get_or text i 0
 packed_byte-packed text i bytes =
     let word : get_or (packed text) (i / 2) 0 ≡ 256 * get_or text (2 * (i / 2)) 0 + get_or text (2 * (i / 2) + 1) 0 = packed-word text (i / 2) in
     elim (cases_eq (i % 2) 0) [
@@ -32,7 +32,7 @@ packed_byte-packed text i bytes =
     ]
 
 -- packed words hold the bytes
-pub unpacked-packed : (text : List ℕ) → AreBytes text → unpacked (length text) (packed text) ≡ text
+pub unpacked-packed : (text : List ℕ) → IsOfBytes text → unpacked (length text) (packed text) ≡ text
 unfolding unpacked
 unpacked-packed text bytes =
     ext_get_or 0 (unpacked (length text) (packed text)) text
@@ -101,7 +101,7 @@ module _ (n : ℕ) (text : List ℕ) where
   unfolding laid_words
   head-laid = refl
 
-  module _ (bytes : AreBytes text) where
+  module _ (bytes : IsOfBytes text) where
     text-laid : table_text (laid_words n text) ≡ text
     text-laid =
         ap (λ k. unpacked k (take ((k + 1) / 2) (drop text_start (laid_words n text)))) (front-word text_length_address (lit< tt))

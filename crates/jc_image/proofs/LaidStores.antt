@@ -13,7 +13,7 @@ use Rattle.jc_commit.proofs.Steps.{recovered_plain}
 use Rattle.jc_commit.proofs.Views.{touched_none}
 use Rattle.jc_heap.specs.Image.{IsLaid}
 use Rattle.jc_heap.specs.Heap.{heap_of, heap_view}
-use Rattle.jc_image.specs.Laying.{AreBytes, first_free, laid_words, laid_to, laid_heap, laid_view, IsPartlyLaid}
+use Rattle.jc_image.specs.Laying.{IsOfBytes, first_free, laid_words, laid_to, laid_heap, laid_view, IsPartlyLaid}
 use Rattle.jc_image.proofs.LaidImages.{length-laid, front-word, heap_of-laid, IsLaid-laid, count-laid}
 
 -- a good log is refused by a store that is down alone
@@ -41,7 +41,7 @@ unmarked text old new (suc k, le, e) =
     ∙ get_or-take (suc k) (laid_words (length old) text) 0 0 (omega arith)
     ∙ front-word (length old) text 0 (lit< tt))
 
-module _ (text old w : List ℕ) (bytes : AreBytes text) (fits : first_free (length text) ≤ length old) (is : w ≡ laid_to (first_free (length text)) (length old) text old) where
+module _ (text old w : List ℕ) (bytes : IsOfBytes text) (fits : first_free (length text) ≤ length old) (is : w ≡ laid_to (first_free (length text)) (length old) text old) where
   abbrev rest : List ℕ
   rest = drop (first_free (length text)) old
 

@@ -6,8 +6,8 @@ use Rattle.jc_heap.specs.Packed.{packed}
 use Rattle.jc_heap.specs.Heap.{HeapState, HeapView, resting}
 
 -- each is a byte
-abbrev pub AreBytes : List ℕ → Type 0
-AreBytes text = (k : ℕ) → slice_index text k < 256
+abbrev pub IsOfBytes : List ℕ → Type 0
+IsOfBytes text = (k : ℕ) → slice_index text k < 256
 
 -- the first free word over a table text of so many bytes
 abbrev pub first_free : ℕ → ℕ

@@ -3,7 +3,7 @@ ghost use Rattle.std.specs.Prelude.{◌≡◌, ◌<◌, ◌≤◌, ◌+◌, ◌-
 ghost use Rattle.jc_words.specs.Count.{raised};
 ghost use Rattle.jc_words.specs.Layout.{magic_address, text_start};
 ghost use Rattle.jc_heap.specs.Stored.{HoldsHeap};
-ghost use Rattle.jc_image.specs.Laying.{AreBytes, IsPartlyLaid, first_free, laid_front, laid_to, laid_view, laid_words, sealed_view, unsealed};
+ghost use Rattle.jc_image.specs.Laying.{IsOfBytes, IsPartlyLaid, first_free, laid_front, laid_to, laid_view, laid_words, sealed_view, unsealed};
 
 use jc_commit::Journal;
 use jc_heap::Heap;
@@ -68,7 +68,7 @@ fn write_image<S: WordStore>(store: &mut S, text: &[u8]) -> Result<(), StoreDown
     ensures done { OnOk result (S.words store.new ≡ laid_to (first_free (length text.now)) (length (S.words store.old)) text.now (S.words store.old)) }
     ensures part { IsPartlyLaid text.now (S.words store.old) (S.words store.new) }
     ensures size { length (S.words store.new) ≡ length (S.words store.old) }
-    ensures bytes { OnOk result (AreBytes text.now) }
+    ensures bytes { OnOk result (IsOfBytes text.now) }
     ensures up { OnOk result (S.down store.new ≡ false) }
     ensures down { OnErr result (S.down store.new ≡ true) }
     ensures passed { OnOk result (S.passed store.new ≡ raised (S.passed store.old) (first_free (length text.now))) }

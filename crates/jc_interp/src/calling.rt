@@ -2,11 +2,12 @@
 ghost use Rattle.std.specs.Prelude.{◌≡◌, false};
 ghost use Rattle.jc_memory.specs.Doing.{Makes};
 ghost use Rattle.jc_world.specs.Groups.{after_group};
-ghost use Rattle.jc_interp.specs.Calling.{answered, invoked, natively};
+ghost use Rattle.jc_interp_calls.specs.Choosing.{header_of};
+ghost use Rattle.jc_interp.specs.Calling.{answered, invoked, made_by, natively};
 
 use jc_frames::{CallKind, Frames, Outcome};
 use jc_interp_calls::ask::ask;
-use jc_interp_calls::choose::{Chosen, choose};
+use jc_interp_calls::choose::{Chosen, choose, choose_static};
 use jc_interp_calls::enter::{CallSite, Callee, enter};
 use jc_interp_calls::signatures::argument_cells;
 use jc_linker::linked::Linked;
@@ -68,20 +69,21 @@ fn call_natively<S: WordStore>(
     answer(answered, place, frames, memory, linked)
 }
 
-/// A call by the instruction at a place.
-#[tactic(auto, unfolding(crate::specs::Calling::invoked, jc_interp_calls::specs::Choosing::header_of, jc_interp_calls::specs::Entering::entering))]
+// A call by the instruction at a place, whose method was chosen.
+#[tactic(auto, unfolding(jc_interp_calls::specs::Choosing::header_of, jc_interp_calls::specs::Entering::entering))]
 #[inline(always)]
-pub(crate) fn invoke<S: WordStore>(
-    invoke: Invoke,
+fn carry_out_call<S: WordStore>(
+    chosen: Chosen,
     place: u16,
     frames: &mut Frames,
     memory: &mut Memory<S>,
     linked: &Linked,
 ) -> Result<(), Break>
     requires up { memory.old.heap.down ≡ false }
-    ensures { Makes (invoked invoke place linked.now frames.old memory.old) memory.old (after_group result frames.new memory.new) }
+    requires header { chosen.header ≡ header_of linked.now chosen.call.method }
+    ensures { Makes (made_by chosen.call.method chosen.call place linked.now frames.old memory.old) memory.old (after_group result frames.new memory.new) }
 {
-    let Chosen { call, header } = choose(invoke, frames, memory, linked)?;
+    let Chosen { call, header } = chosen;
     match call.method {
         Method::Code {
             package_number,
@@ -103,4 +105,25 @@ pub(crate) fn invoke<S: WordStore>(
             call_natively(method, call.arguments, place, frames, memory, linked)
         }
     }
+}
+
+/// A call by the instruction at a place. Static calls take a path of their own, which looks at no receiver.
+#[tactic(auto, unfolding(crate::specs::Calling::invoked, jc_interp_calls::specs::Choosing::chosen))]
+#[inline(always)]
+pub(crate) fn invoke<S: WordStore>(
+    invoke: Invoke,
+    place: u16,
+    frames: &mut Frames,
+    memory: &mut Memory<S>,
+    linked: &Linked,
+) -> Result<(), Break>
+    requires up { memory.old.heap.down ≡ false }
+    ensures { Makes (invoked invoke place linked.now frames.old memory.old) memory.old (after_group result frames.new memory.new) }
+{
+    if let Invoke::Static(index) = invoke {
+        let chosen = choose_static(index, frames, linked)?;
+        return carry_out_call(chosen, place, frames, memory, linked);
+    }
+    let chosen = choose(invoke, frames, memory, linked)?;
+    carry_out_call(chosen, place, frames, memory, linked)
 }

@@ -8,6 +8,7 @@ use crate::turns::advance;
 use jc_frames::{Frames, Origin, Outcome};
 use jc_linker::linked::Linked;
 use jc_memory::Memory;
+use jc_names::RUNTIME_ENVIRONMENT;
 use jc_words::{StoreDown, WordStore};
 use jc_world::Break;
 
@@ -74,7 +75,7 @@ pub fn run_code<S: WordStore>(
     let no_package = Origin {
         package_number: 0,
         method: 0,
-        owner: 0,
+        owner: RUNTIME_ENVIRONMENT,
     };
     let mut frames = Frames::begin(&[], locals, max_stack, 0, no_package);
     run_lent(code, budget, &mut frames, memory, linked)

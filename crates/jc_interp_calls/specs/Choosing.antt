@@ -145,11 +145,15 @@ abbrev pub interface_by : Option Target → ℕ → ℕ → Packages → List Ce
 interface_by (Some (Class class)) n token p stack m = called_by_interface class n token p stack m
 interface_by _ n token p stack m = Err (End Fault)
 
+-- which method a static call runs
+abbrev pub chosen_statically : ℕ → Packages → Frames → Result Call Stop
+chosen_statically index p s = static_by (target_at p s.current.origin.package_number index) p
+
 -- which method a call runs, with how many arguments, and for whom
 unfoldable pub chosen : Invoke → Packages → Frames → MemoryState → Result Call Stop
 chosen (Virtual index) p s m = virtual_by (target_at p s.current.origin.package_number index) p s.current.stack m
 chosen (Special index) p s m = special_by (target_at p s.current.origin.package_number index) p s.current.stack m
-chosen (Static index) p s m = static_by (target_at p s.current.origin.package_number index) p
+chosen (Static index) p s m = chosen_statically index p s
 chosen (Interface n index token) p s m = interface_by (target_at p s.current.origin.package_number index) n token p s.current.stack m
 
 -- the call that was chosen, with what the header of its method says

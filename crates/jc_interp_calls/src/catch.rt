@@ -52,13 +52,13 @@ fn caught_as(thrown: ClassWord, entry: Option<Target>, caught: Catch, linked: &L
 // What a handler does with an exception of this class that is thrown at a place.
 fn caught_by(
     thrown: ClassWord,
-    origin: Origin,
+    origin: &Origin,
     place: u16,
     text: &[u8],
     handler: Handler,
     linked: &Linked,
 ) -> Catch
-    ensures { result ≡ caught_by linked.now thrown origin place text.now handler }
+    ensures { result ≡ caught_by linked.now thrown origin.now place text.now handler }
 {
     if !handler.watches(place) {
         return Catch::Above;
@@ -75,14 +75,14 @@ fn caught_by(
 #[tactic(auto, unfolding(crate::specs::Catching::tried))]
 fn try_at(
     thrown: ClassWord,
-    origin: Origin,
+    origin: &Origin,
     place: u16,
     text: &[u8],
     at: usize,
     linked: &Linked,
 ) -> Catch
     requires { at < 2 ^ 16 }
-    ensures { result ≡ tried linked.now thrown origin place text.now (handler_in text.now at) }
+    ensures { result ≡ tried linked.now thrown origin.now place text.now (handler_in text.now at) }
 {
     match handler_at(text, at) {
         Some(handler) => caught_by(thrown, origin, place, text, handler, linked),
@@ -94,12 +94,12 @@ fn try_at(
 #[tactic(auto, using(crate::proofs::Handlers::more))]
 fn caught_among(
     thrown: ClassWord,
-    origin: Origin,
+    origin: &Origin,
     place: u16,
     text: &[u8],
     linked: &Linked,
 ) -> Catch
-    ensures { result ≡ caught_among linked.now thrown origin place text.now }
+    ensures { result ≡ caught_among linked.now thrown origin.now place text.now }
 {
     let count = u1_at(text, 0).unwrap_or(0);
     let mut at = 1;
@@ -116,8 +116,8 @@ fn caught_among(
 /// What the handlers of a method do with an exception of this class that is thrown by the instruction at
 /// this place. They are tried in their order.
 #[tactic(auto, unfolding(crate::specs::Catching::caught_in))]
-pub fn caught_in(thrown: ClassWord, origin: Origin, place: u16, linked: &Linked) -> Catch
-    ensures { result ≡ caught_in linked.now thrown origin place }
+pub fn caught_in(thrown: ClassWord, origin: &Origin, place: u16, linked: &Linked) -> Catch
+    ensures { result ≡ caught_in linked.now thrown origin.now place }
 {
     let text = text_of(origin.package_number, linked);
     caught_among(thrown, origin, place, text, linked)

@@ -3,7 +3,7 @@ ghost use Rattle.std.specs.Prelude.{◌≡◌, false, true, IfSome, None};
 ghost use Rattle.std.specs.Option.{option_map};
 ghost use Rattle.jc_packages.specs.Classes.{is_below};
 ghost use Rattle.jc_world.specs.Objects.{if_so};
-ghost use Rattle.jc_interp_calls.specs.Choosing.{arguments_of, called_by_interface, called_specially, called_statically, called_virtually, call_of, chosen, class_of, fits_at_null, header_of, interface_access, is_native_constructor, is_null_on, is_of_any, judged, receiver_of, receiver_on, with_header};
+ghost use Rattle.jc_interp_calls.specs.Choosing.{arguments_of, called_by_interface, called_specially, called_statically, called_virtually, call_of, chosen, chosen_statically, class_of, fits_at_null, header_of, interface_access, is_native_constructor, is_null_on, is_of_any, judged, receiver_of, receiver_on, with_header};
 
 use crate::parameters::fits;
 use crate::signatures::{argument_cells, is_constructor};
@@ -345,6 +345,17 @@ fn call_by_interface<S: WordStore>(
     Ok(Chosen { call, header })
 }
 
+/// Which method a static call runs, as `choose` says it, and what the method's header says.
+#[inline(always)]
+pub fn choose_static(index: u16, frames: &Frames, linked: &Linked) -> Result<Chosen, Stop>
+    ensures { result ≡ with_header linked.now (chosen_statically index linked.now frames.now) }
+{
+    match linked.target_at(frames.origin().package_number, index) {
+        Some(Target::StaticMethod { class: _, method }) => call_statically(method, linked),
+        _ => Err(Stop::End(Outcome::Fault)),
+    }
+}
+
 /// Which method a call runs, with how many arguments, and for whom; and what the method's header says.
 ///
 /// A code fault where the entry of the constant pool is another one, where the receiver is no reference
@@ -383,10 +394,7 @@ pub fn choose<S: WordStore>(
             }
             _ => Err(Stop::End(Outcome::Fault)),
         },
-        Invoke::Static(index) => match linked.target_at(package_number, index) {
-            Some(Target::StaticMethod { class: _, method }) => call_statically(method, linked),
-            _ => Err(Stop::End(Outcome::Fault)),
-        },
+        Invoke::Static(index) => choose_static(index, frames, linked),
         Invoke::Interface {
             arguments,
             index,

@@ -7,7 +7,6 @@ ghost use Rattle.jc_interp_calls.specs.Returning.{back_to, returning};
 use jc_frames::{Frames, Outcome, Resume};
 use jc_interp_plain::returns::hand_over;
 use jc_memory::{Memory, Owner, Registers};
-use jc_names::OwnerWord;
 use jc_opcodes::instr::Return;
 use jc_words::WordStore;
 use jc_world::Break;
@@ -18,8 +17,8 @@ pub(crate) fn back_to(resume: Resume, registers: Registers) -> Registers
     ensures { result ≡ back_to resume registers }
 {
     Registers {
-        active: Owner::of(OwnerWord(resume.active)),
-        previous: Owner::of(OwnerWord(resume.previous)),
+        active: Owner::of(resume.active),
+        previous: Owner::of(resume.previous),
         ..registers
     }
 }
@@ -39,7 +38,8 @@ pub fn come_back<S: WordStore>(
     let Some(resume) = frames.leave() else {
         return Err(Break::End(Outcome::of_value(value)));
     };
+    let call = resume.call;
     memory.turn(back_to(resume, memory.registers()));
-    frames.receive(resume.call, value)?;
+    frames.receive(call, value)?;
     Ok(())
 }

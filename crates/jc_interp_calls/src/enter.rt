@@ -64,7 +64,7 @@ fn origin_of(callee: Callee, registers: Registers) -> Origin
     Origin {
         package_number: callee.package_number,
         method: callee.offset,
-        owner: switched(callee.switches_to, registers).active.number().0,
+        owner: switched(callee.switches_to, registers).active.number(),
     }
 }
 
@@ -84,8 +84,8 @@ pub(crate) fn entry_of(
         place: header.place,
         origin: origin_of(callee, registers),
         resume: Resume {
-            active: registers.active.number().0,
-            previous: registers.previous.number().0,
+            active: registers.active.number(),
+            previous: registers.previous.number(),
             place: site.place,
             call: site.kind,
         },
@@ -139,7 +139,7 @@ pub fn begin(
     let origin = Origin {
         package_number,
         method: offset,
-        owner: owner.0,
+        owner,
     };
     Some(Frames::begin(arguments, header.locals, header.limit, header.place, origin))
 }

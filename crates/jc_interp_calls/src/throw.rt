@@ -41,7 +41,7 @@ fn unwind<S: WordStore>(
 ) -> Result<(), Break>
     ensures { Makes (unwound linked.now class thrown place frames.old memory.old) memory.old (after_group result frames.new memory.new) }
 {
-    match caught_in(class, frames.origin(), place, linked) {
+    match caught_in(class, &frames.origin(), place, linked) {
         Catch::Here(target) => {
             handle(thrown, target, frames)?;
             Ok(())
@@ -51,9 +51,11 @@ fn unwind<S: WordStore>(
             let Some(resume) = frames.leave() else {
                 return Err(Break::End(Outcome::Thrown(thrown)));
             };
+            let call = resume.call;
+            let place = resume.place;
             memory.turn(back_to(resume, memory.registers()));
-            match resume.call {
-                CallKind::Plain => unwind(class, thrown, resume.place, frames, memory, linked),
+            match call {
+                CallKind::Plain => unwind(class, thrown, place, frames, memory, linked),
                 CallKind::Sharing => {
                     frames.try_push(Cell::Reference(Ref::null()))?;
                     Ok(())

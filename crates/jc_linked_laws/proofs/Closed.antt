@@ -9,7 +9,7 @@ use Rattle.jc_platform.specs.Distinct.{class_word}
 use Rattle.jc_platform.specs.Hierarchy.{interface_of, superclass_of}
 use Rattle.jc_platform.specs.Platform.{class_by_token, class_by_word, package_by_number}
 use Rattle.jc_packages.specs.Classes.{class_in, interfaces_by, interfaces_in, interfaces_named, package_in, superclass_by, superclass_in}
-use Rattle.jc_packages.specs.Resolves.{class_at_offset, class_by, class_of, class_with_token, exported_class, import_of, imported_by, place_of}
+use Rattle.jc_packages.specs.Resolves.{class_at_offset, class_by, class_of, class_with_token, exported_class, import_of, imported_by, class_index}
 use Rattle.jc_packages.specs.Values.{ClassValue, PackageValue, Packages}
 use Rattle.jc_linker.specs.Linking.{next_number, with_package}
 use Rattle.jc_loaded.specs.Outlines.{outline_of}
@@ -64,8 +64,8 @@ anything (Some x) = tt
 
 -- ---- places of classes
 
-place_low : (offset : ℕ) (classes : List ClassValue) → length classes ≤ 256 → IfThere (λ place. place < 256) (place_of offset classes)
-unfolding place_of
+place_low : (offset : ℕ) (classes : List ClassValue) → length classes ≤ 256 → IfThere (λ place. place < 256) (class_index offset classes)
+unfolding class_index
 place_low offset classes few = if_each (λ place. place < 256) (position (λ c. c.offset == offset) classes) (λ place is.
     let less = (position-Some (λ c. c.offset == offset) classes place (outline_of 0) is).0 in omega (arith, few, less))
 
@@ -162,8 +162,8 @@ module _ (p : Packages) (q : PackageValue) (closed : IsClosed p) (room : length 
   unfolding imported_by
   imports n token other = imports_of (package_in p n) token (package_closed p closed n)
 
-  placed : (n offset : ℕ) (classes : List ClassValue) → Beside n → length classes ≤ 256 → IfThere IsBeside (option_map (λ place. 256 * n + place) (place_of offset classes))
-  placed n offset classes other few = map_there (λ place. place < 256) IsBeside (λ place. 256 * n + place) (place_of offset classes) (place_low offset classes few) (λ place low. place_beside n place other low)
+  placed : (n offset : ℕ) (classes : List ClassValue) → Beside n → length classes ≤ 256 → IfThere IsBeside (option_map (λ place. 256 * n + place) (class_index offset classes))
+  placed n offset classes other few = map_there (λ place. place < 256) IsBeside (λ place. 256 * n + place) (class_index offset classes) (place_low offset classes few) (λ place low. place_beside n place other low)
 
   offsets_of : (n offset : ℕ) (o : Option PackageValue) → Beside n → IfThere (IsClosedPackage (length p.loaded)) o → IfThere IsBeside (class_of n o offset)
   offsets_of n offset None other closes = tt

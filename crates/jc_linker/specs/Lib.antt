@@ -1,4 +1,5 @@
 pub mod Answers
 pub mod Imports
 pub mod Linking
+pub mod Walk
 pub mod Whole

@@ -1,5 +1,6 @@
 //! A class and the classes above it.
 ghost use Rattle.std.specs.Prelude.{◌≡◌, [], ◌∷◌, MatchOption};
+ghost use Rattle.jc_linker.specs.Walk.{next_class};
 ghost use Rattle.jc_packages.specs.Classes.{lineage};
 
 use crate::scope::Scope;
@@ -9,21 +10,31 @@ use std::marker::Model;
 /// More classes than this no card has.
 const MOST_CLASSES: u16 = 8704;
 
+/// Which class comes next in a walk. A superclass is looked up only as it is asked for.
+#[derive(Clone, Copy)]
+pub(crate) enum Next {
+    /// This class.
+    Class(ClassWord),
+    /// The superclass of this class, if it has one.
+    Above(ClassWord),
+}
+
 /// What is left of the walk from a class upwards.
 #[derive(Drop)]
 pub(crate) struct Lineage<'a> {
     scope: &'a Scope<'a>,
-    next: Option<ClassWord>,
+    next: Next,
     left: u16,
 }
 
 impl<'a> Model for Lineage<'a> {
     ghost use Rattle.std.specs.Prelude.{ℕ, List};
     ghost use Rattle.jc_packages.specs.Classes.{lineage_from};
+    ghost use Rattle.jc_linker.specs.Walk.{next_class};
 
     ghost Value = { List ℕ };
 
-    ghost view = { λ w. lineage_from w.scope.now w.left w.next };
+    ghost view = { λ w. lineage_from w.scope.now w.left (next_class w.scope.now w.next) };
 }
 
 impl<'a> Scope<'a> {
@@ -32,8 +43,18 @@ impl<'a> Scope<'a> {
     {
         Lineage {
             scope: self,
-            next: Some(class),
+            next: Next::Class(class),
             left: MOST_CLASSES,
+        }
+    }
+
+    // The class that comes next in a walk.
+    fn next_class(&self, next: Next) -> Option<ClassWord>
+        ensures { result ≡ next_class self.now next }
+    {
+        match next {
+            Next::Class(class) => Some(class),
+            Next::Above(class) => self.superclass(class),
         }
     }
 }
@@ -47,9 +68,9 @@ impl<'a> Lineage<'a> {
         if self.left == 0 {
             return None;
         }
-        let class = self.next?;
+        let class = self.scope.next_class(self.next)?;
         self.left -= 1;
-        self.next = self.scope.superclass(class);
+        self.next = Next::Above(class);
         Some(class)
     }
 }

@@ -88,12 +88,12 @@ impl Linked {
         if let Some(named) = PlatformPackage::with_aid(aid) {
             return Some(self.platform.number(named));
         }
-        let place = self.place_of(aid)?;
+        let place = self.package_index(aid)?;
         Some(place as u8 + 1)
     }
 
     // The place of the first loaded package with this AID.
-    fn place_of(&self, aid: &[u8]) -> Option<usize>
+    fn package_index(&self, aid: &[u8]) -> Option<usize>
         ensures place { result ≡ position (λ q. bytes_eq q.name.aid aid.now) self.now.loaded }
         ensures few { IfSome result (λ place. place < 32) }
     {

@@ -74,7 +74,7 @@ impl Scope<'_> {
     fn class_at_offset(&self, number: u8, offset: u16) -> Option<ClassWord>
         ensures { result ≡ class_at_offset self.now number offset }
     {
-        let place = self.package(number)?.place_of(offset)?;
+        let place = self.package(number)?.class_index(offset)?;
         Some(ClassWord(256 * u16::from(number) + u16::from(place)))
     }
 
@@ -91,7 +91,7 @@ impl Scope<'_> {
         ensures { result ≡ class_with_token self.now number token }
     {
         if let Some(package) = self.package(number) {
-            let place = package.place_of(package.exports.get(token as usize)?.class_offset)?;
+            let place = package.class_index(package.exports.get(token as usize)?.class_offset)?;
             return Some(ClassWord(256 * u16::from(number) + u16::from(place)));
         }
         let home = self.platform.package(number)?;

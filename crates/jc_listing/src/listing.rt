@@ -18,6 +18,27 @@ const LEAST_AID: u16 = 5;
 
 const MOST_AID: u16 = 16;
 
+/// The tag of a Header component, which comes first in a package's record.
+const HEADER_COMPONENT: u16 = 1;
+
+/// Where a record's first component has its tag, the number of its bytes, and these.
+const TAG: u16 = 1;
+
+const COUNT: u16 = 2;
+
+const BYTES: u16 = 3;
+
+/// The first word of a persistent instance.
+const PERSISTENT_INSTANCE: u16 = 1;
+
+/// Where an object's header counts the cells, and where these begin.
+const CELL_COUNT: u16 = 3;
+
+const FIRST_CELL: u16 = 4;
+
+/// How many cells an AID object has: the AID's length, then its bytes, two a cell.
+const AID_CELLS: u16 = 9;
+
 /// The version and the AID of a package.
 #[derive(Drop)]
 pub struct PackageName {
@@ -143,18 +164,18 @@ fn named_at<S: WordStore>(store: &S, at: u16) -> Option<PackageName>
     ensures { result ≡ named_at (S.words store.now) at }
 {
     let size = u32::from(store.size());
-    if u32::from(at) + 2 >= size {
+    if u32::from(at) + u32::from(COUNT) >= size {
         return None;
     }
-    let tag = store.read(at + 1);
-    let count = store.read(at + 2);
-    if tag != 1 || count > MOST_HEADER as u16 {
+    let tag = store.read(at + TAG);
+    let count = store.read(at + COUNT);
+    if tag != HEADER_COMPONENT || count > MOST_HEADER as u16 {
         return None;
     }
-    if u32::from(at) + 3 + (u32::from(count) + 1) / 2 > size {
+    if u32::from(at) + u32::from(BYTES) + (u32::from(count) + 1) / 2 > size {
         return None;
     }
-    name_in(bytes_in(store, at + 3, count).as_slice())
+    name_in(bytes_in(store, at + BYTES, count).as_slice())
 }
 
 /// The name of the package with this number, from 1 on; `None` where the words tell none.
@@ -174,17 +195,17 @@ pub fn package_at<S: WordStore>(store: &S, number: u16) -> Option<PackageName>
 fn applet_in<S: WordStore>(store: &S, at: u16, package_number: u16) -> Option<AppletName>
     ensures { result ≡ applet_in (S.words store.now) at package_number }
 {
-    if u32::from(at) + 12 >= u32::from(store.size()) {
+    if u32::from(at) + u32::from(FIRST_CELL + AID_CELLS) > u32::from(store.size()) {
         return None;
     }
     let kind = store.read(at);
-    let cells = store.read(at + 3);
-    let count = store.read(at + 4);
-    if kind != 1 || cells != 9 || count < LEAST_AID || count > MOST_AID {
+    let cells = store.read(at + CELL_COUNT);
+    let count = store.read(at + FIRST_CELL);
+    if kind != PERSISTENT_INSTANCE || cells != AID_CELLS || count < LEAST_AID || count > MOST_AID {
         return None;
     }
     Some(AppletName {
-        aid: bytes_in(store, at + 5, count),
+        aid: bytes_in(store, at + FIRST_CELL + 1, count),
         package_number,
     })
 }

@@ -1,6 +1,6 @@
 //! Loaded packages.
 ghost use Rattle.std.specs.Prelude.{◌≡◌, ◌<◌, ◌==◌, IfSome, find, option_copied, position};
-ghost use Rattle.jc_packages.specs.Resolves.{place_of};
+ghost use Rattle.jc_packages.specs.Resolves.{class_index};
 ghost use Rattle.std.specs.Option.{option_map};
 ghost use Rattle.std.specs.Str.{bytes_eq};
 
@@ -83,16 +83,16 @@ impl Model for LinkedPackage {
 }
 
 impl LinkedPackage {
-    /// The place of the class whose record stands at an offset.
-    #[tactic(auto, unfolding(jc_packages::specs::Resolves::place_of))]
-    pub fn place_of(&self, offset: u16) -> Option<u8>
-        ensures { result ≡ place_of offset self.now.classes }
+    /// The number of the class whose record stands at an offset.
+    #[tactic(auto, unfolding(jc_packages::specs::Resolves::class_index))]
+    pub fn class_index(&self, offset: u16) -> Option<u8>
+        ensures { result ≡ class_index offset self.now.classes }
     {
-        let place = self.class_place(offset)?;
-        Some(place as u8)
+        let index = self.class_position(offset)?;
+        Some(index as u8)
     }
 
-    fn class_place(&self, offset: u16) -> Option<usize>
+    fn class_position(&self, offset: u16) -> Option<usize>
         ensures place { result ≡ position (λ c. c.offset == offset) self.now.classes }
         ensures few { IfSome result (λ place. place < 256) }
     {

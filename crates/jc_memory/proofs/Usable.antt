@@ -66,14 +66,11 @@ made_so : {A : Type 0} (P : HeapView → Type 0) (old : HeapView) (after : After
 made_so P old (Made x new) m a made so up = subst P (sym made.1) so
 made_so P old (Cut new) m a made so up = absurd (not_both new.down made.down up)
 
-refused_so : {A : Type 0} (P : HeapView → Type 0) (old : HeapView) (after : After A) (a : A) → Makes old after [] a → P old → (heap_of after).down ≡ false → P (heap_of after)
-refused_so P old (Made x new) a made so up = subst P (sym made.1) so
-refused_so P old (Cut new) a made so up = absurd (not_both new.down made.down up)
-
 unless_so : {A : Type 0} (P : HeapView → Type 0) (reason : Option HeapRefusal) (old : HeapView) (after : After (Answer A)) (m : Move) (a : A) → MakesUnless reason old after (m ∷ []) a →
     (reason ≡ None → P (apply m old)) → P old → (heap_of after).down ≡ false → P (heap_of after)
-unless_so P None old after m a made so before up = made_so P old after m (Done a) made (so refl) up
-unless_so P (Some why) old after m a made so before up = refused_so P old after (Refused why) made before up
+unless_so P reason old (Made (Done x) new) m a made so before up = subst P (sym made.2) (so made.0)
+unless_so P reason old (Made (Refused why) new) m a made so before up = subst P (sym made.1) before
+unless_so P reason old (Cut new) m a made so before up = absurd (not_both new.down made.1.down up)
 
 pub made_by : {A : Type 0} (P : HeapView → Type 0) (reason : Option HeapRefusal) (old new : HeapView) (result : Result A HeapRefusal) (m : Move) (a : A) →
     MakesUnless reason old (after_making result new) (m ∷ []) a → (reason ≡ None → P (apply m old)) → P old → new.down ≡ false → P new

@@ -26,6 +26,7 @@ pub enum Owner {
 impl Owner {
     /// The owner as an object header has it: 0, the number of the applet, or 256 and the number of
     /// the package.
+    #[inline(always)]
     pub const fn number(self) -> OwnerWord
         ensures { result ≡ owner_number self }
     {

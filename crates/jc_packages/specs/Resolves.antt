@@ -22,13 +22,13 @@ use Rattle.jc_packages.specs.Classes.{class_in, declares_reference, package_in, 
 use Rattle.jc_packages.specs.Methods.{method_at}
 use Rattle.jc_packages.specs.Values.{ClassValue, Export, PackageValue, Packages}
 
--- the place of the class whose record stands at an offset
-unfoldable pub place_of : ℕ → List ClassValue → Option ℕ
-place_of offset classes = position (λ c. c.offset == offset) classes
+-- the number of the class whose record stands at an offset
+unfoldable pub class_index : ℕ → List ClassValue → Option ℕ
+class_index offset classes = position (λ c. c.offset == offset) classes
 
 -- the class that an export names
 abbrev pub exported_class : ℕ → PackageValue → Export → Option ℕ
-exported_class number q e = option_map (λ place. 256 * number + place) (place_of e.class_offset q.classes)
+exported_class number q e = option_map (λ place. 256 * number + place) (class_index e.class_offset q.classes)
 
 -- the class with a token that a loaded package exports, or else one of the platform
 abbrev pub class_by : Packages → ℕ → ℕ → Option PackageValue → Option ℕ
@@ -50,7 +50,7 @@ imported_by p number token = import_of (package_in p number) token
 -- the class whose record stands at an offset of the package with this number
 abbrev pub class_of : ℕ → Option PackageValue → ℕ → Option ℕ
 class_of number None offset = None
-class_of number (Some q) offset = option_map (λ place. 256 * number + place) (place_of offset q.classes)
+class_of number (Some q) offset = option_map (λ place. 256 * number + place) (class_index offset q.classes)
 
 unfoldable pub class_at_offset : Packages → ℕ → ℕ → Option ℕ
 class_at_offset p number offset = class_of number (package_in p number) offset

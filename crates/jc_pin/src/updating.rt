@@ -9,10 +9,11 @@ use crate::pin::{PinRecord, record};
 use jc_heap::{ChangeRefusal, Place};
 use jc_memory::Memory;
 use jc_transient::Ref;
+use jc_words::layout::JOURNAL_CAPACITY;
 use jc_words::{StoreDown, WordStore};
 
-// How many places one change may have at most.
-const MOST_CHANGES: usize = 256;
+// How many places one change may have at most: the journal has an entry for each.
+const MOST_CHANGES: usize = JOURNAL_CAPACITY as usize;
 
 /// Why a PIN is not changed.
 #[derive(Clone, Copy, Debug, PartialEq, Eq)]

@@ -1,5 +1,6 @@
 -- Contexts: to whom objects belong, for whom code runs, and what the firewall answers.
 use Rattle.std.specs.Prelude.{ℕ, ◌+◌, ◌*◌, ◌-◌, ◌%◌, ◌==◌, ◌&&◌, nat_lt, nat_le, Bool, true, false, not, slice_index, Option, Some, None, Result, Ok, Err, if◌then◌else◌}
+use Rattle.jc_words.specs.Layout.{most_applets}
 use Rattle.jc_transient.specs.declared.cell.ClearEvent.{ClearEvent}
 use Rattle.jc_transient.specs.declared.cell.ClearEvent.TheVariants.{Reset, Deselect}
 use Rattle.jc_heap.specs.declared.object.Facts.{Facts}
@@ -39,7 +40,7 @@ installed_package (Registered p) = p.0
 
 -- the package of an applet instance: the registry says it, and of the applet that is not registered yet its installation
 unfoldable pub package_of_applet : MemoryState → ℕ → ℕ
-package_of_applet m a = if not (a == 0) && nat_le a 64 && nat_le a m.heap.now.counts.1 then slice_index m.heap.now.applets (3 * (a - 1) + 1) else installed_package m.registers.installation
+package_of_applet m a = if not (a == 0) && nat_le a most_applets && nat_le a m.heap.now.counts.1 then slice_index m.heap.now.applets (3 * (a - 1) + 1) else installed_package m.registers.installation
 
 -- the context of an owner: all applets of a package share one with it
 abbrev pub context_of : MemoryState → Owner → Context

@@ -17,10 +17,11 @@ use jc_frames::{Exception, Stop};
 use jc_heap::{Facts, Kind};
 use jc_linker::linked::Linked;
 use jc_memory::{Installation, Memory, Owner, Registers};
-use jc_names::RUNTIME_ENVIRONMENT;
+use jc_names::{ClassWord, OwnerWord, RUNTIME_ENVIRONMENT};
 use jc_platform::names::PlatformClass;
 use jc_transient::ClearEvent;
 use jc_words::WordStore;
+use jc_words::layout::MOST_APPLETS;
 
 // The package of the applet that is being installed; 0, where none is.
 fn installed_package(installation: Installation) -> u16
@@ -42,7 +43,7 @@ pub fn package_of_applet<S: WordStore>(applet: u8, memory: &Memory<S>) -> u16
 {
     let heap = memory.heap();
     let number = u16::from(applet);
-    if number != 0 && number <= 64 && number <= heap.applets() {
+    if number != 0 && number <= MOST_APPLETS && number <= heap.applets() {
         heap.registry(3 * (number - 1) + 1)
     } else {
         installed_package(memory.registers().installation)
@@ -156,15 +157,15 @@ pub fn subject_of<S: WordStore>(facts: Facts, memory: &Memory<S>, linked: &Linke
     subject_with(shares(facts, linked), facts, memory, linked)
 }
 
-// The number in a header names this owner.
+// The word in a header names this owner.
 #[inline(always)]
-const fn is_owner(owner: Owner, number: u16) -> bool
-    ensures { result ≡ true → owner_of number ≡ owner }
+const fn is_owner(owner: Owner, word: OwnerWord) -> bool
+    ensures { result ≡ true → owner_of word ≡ owner }
 {
     match owner {
-        Owner::Runtime => number == 0,
-        Owner::Applet(applet) => number != 0 && number == applet.0 as u16,
-        Owner::Package(package) => number == 256 + package.0 as u16,
+        Owner::Runtime => word.0 == 0,
+        Owner::Applet(applet) => word.0 != 0 && word.0 == applet.0 as u16,
+        Owner::Package(package) => word.0 == 256 + package.0 as u16,
     }
 }
 
@@ -210,7 +211,7 @@ const fn is_free(access: Access, facts: Facts, registers: Registers) -> bool
     ensures { (p : Packages) (m : MemoryState) → m.registers ≡ registers → result ≡ true → decided access p m facts ≡ Allow }
 {
     has_time(facts, registers)
-        && (is_owner(registers.active, facts.owner) || is_shared(access, facts))
+        && (is_owner(registers.active, facts.owner()) || is_shared(access, facts))
 }
 
 // What the rules answer to an access to an object with this kind, event, class and owner.
@@ -220,8 +221,8 @@ fn judged<S: WordStore>(
     access: Access,
     kind: Kind,
     event: Option<ClearEvent>,
-    class: u16,
-    owner: u16,
+    class: ClassWord,
+    owner: OwnerWord,
     memory: &Memory<S>,
     linked: &Linked,
 ) -> Decision
@@ -231,8 +232,8 @@ fn judged<S: WordStore>(
     let facts = Facts {
         kind,
         event,
-        class,
-        owner,
+        class: class.0,
+        owner: owner.0,
         length: 0,
         place: 0,
     };
@@ -268,8 +269,8 @@ pub fn decided<S: WordStore>(
         access,
         facts.kind,
         facts.event,
-        facts.class,
-        facts.owner,
+        facts.class(),
+        facts.owner(),
         memory,
         linked,
     )

@@ -3,6 +3,7 @@
 #![tactic(auto)]
 
 use jc_frames::{CallKind, Cell, CodeFault, Entry, Frames, Origin, Resume};
+use jc_names::{OwnerWord, RUNTIME_ENVIRONMENT};
 use std::process::ExitCode;
 use std::{env, io};
 
@@ -11,7 +12,7 @@ const DEPTH: i16 = 30;
 const METHOD: Origin = Origin {
     package_number: 0,
     method: 12,
-    owner: 1,
+    owner: OwnerWord(1),
 };
 
 /// The method that calls itself: two arguments, one local more, three cells on its stack.
@@ -22,8 +23,8 @@ const ITSELF: Entry = Entry {
     place: 2,
     origin: METHOD,
     resume: Resume {
-        active: 1,
-        previous: 0,
+        active: OwnerWord(1),
+        previous: RUNTIME_ENVIRONMENT,
         place: 0,
         call: CallKind::Plain,
     },

@@ -8,6 +8,7 @@ use Rattle.jc_image.specs.Laying.{first_free}
 use Rattle.jc_platform.specs.Tokens.{Tokens}
 use Rattle.jc_platform.specs.Table.{Reads}
 use Rattle.jc_platform.specs.declared.fault.TableFault.TheVariants.{BadTable as BadLine}
+use Rattle.jc_card.specs.Fixed.{fixed_size}
 use Rattle.jc_card.specs.Made.{IsMade, formatted}
 use Rattle.jcard_commands.specs.Asked.{Asked, asked, more}
 use Rattle.jcard_commands.specs.Images.{IsNotRead}
@@ -33,13 +34,13 @@ pub record IsNewImage (n : ℕ) (text w : List ℕ) : Type 0 where
 
 -- how the making of an image of this name and size ended, from this text, and which files were asked for since it was read: it is
 -- no table, and no file was asked for; or one was, and it was not made, or not written to its end; or the table and the objects of
--- the runtime environment, 85 words, do not fit
+-- the runtime environment do not fit
 abbrev pub IsMadeFrom : List ℕ → ℕ → List ℕ → Result Unit Fault → Asked → Type 0
 IsMadeFrom image n text (Ok done) files = (files ≡ asked 0 1) × ((w : List ℕ) × IsNewImage n text w)
 IsMadeFrom image n text (Err (BadTable line)) files = (files ≡ asked 0 0) × Reads text (Err (BadLine line))
 IsMadeFrom image n text (Err (CannotWrite path)) files = (files ≡ asked 0 1) × IsTable text × (path.now ≡ image)
 IsMadeFrom image n text (Err NoMemory) files = (files ≡ asked 0 1) × IsTable text
-IsMadeFrom image n text (Err ImageTooSmall) files = (files ≡ asked 0 1) × IsTable text × (n < first_free (length text) + 85)
+IsMadeFrom image n text (Err ImageTooSmall) files = (files ≡ asked 0 1) × IsTable text × (n < first_free (length text) + fixed_size)
 IsMadeFrom image n text (Err other) files = ⊥
 
 -- the image of the first name was made, with so many words, from the text in the file of the last; or an image cannot have so many,

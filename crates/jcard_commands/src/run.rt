@@ -98,7 +98,7 @@ fn run_file<'n, R: Files + AllocGlobal, W: TextOut>(
         Err(fault) => return Err(fault),
     };
     let names = Names { image, script };
-    carry_out(disk.alloc(), names, store, &mut StdText::new(file), out)
+    run_named(disk.alloc(), names, store, &mut StdText::new(file), out)
 }
 
 // The names of the files of a run.
@@ -109,7 +109,7 @@ struct Names<'a> {
 }
 
 // Carries out the script on the card of this store.
-fn carry_out<'a, S: WordStore + Drop, I: TextIn, W: TextOut>(
+fn run_named<'a, S: WordStore + Drop, I: TextIn, W: TextOut>(
     alloc: Global,
     names: Names<'a>,
     store: S,

@@ -148,7 +148,7 @@ impl<S: WordStore + Drop> Session<S> {
     {
         let asked = self.line.ended();
         self.number += 1;
-        let result = self.carry_out(asked, writer);
+        let result = self.answer_line(asked, writer);
         self.line.clear();
         result
     }
@@ -165,11 +165,11 @@ impl<S: WordStore + Drop> Session<S> {
     {
         let asked = self.line.last();
         self.number += 1;
-        self.carry_out(asked, writer)
+        self.answer_line(asked, writer)
     }
 
-    // Carries out the line with the session's number.
-    fn carry_out<W: TextOut>(&mut self, asked: Asked, writer: &mut W) -> Result<(), ScriptFault>
+    // Answers the line with the session's number.
+    fn answer_line<W: TextOut>(&mut self, asked: Asked, writer: &mut W) -> Result<(), ScriptFault>
         requires held { IsHeld self.old.held }
         ensures held { IsHeld self.new.held }
         ensures number { self.new.number ≡ self.old.number }

@@ -2,24 +2,25 @@
 use jc_frames::{
     CallKind, Cell, CodeFault, Entry, Frames, MOST_CELLS, MOST_FRAMES, Origin, Resume,
 };
+use jc_names::OwnerWord;
 use jc_transient::Ref;
 use std::test::Fail;
 
 const FIRST: Origin = Origin {
     package_number: 3,
     method: 40,
-    owner: 5,
+    owner: OwnerWord(5),
 };
 
 const CALLED: Origin = Origin {
     package_number: 4,
     method: 60,
-    owner: 6,
+    owner: OwnerWord(6),
 };
 
 const BACK: Resume = Resume {
-    active: 5,
-    previous: 2,
+    active: OwnerWord(5),
+    previous: OwnerWord(2),
     place: 0,
     call: CallKind::Plain,
 };

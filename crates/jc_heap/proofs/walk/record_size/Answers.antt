@@ -27,14 +27,14 @@ returns-then-word-ne0 g c =
     let transient : (get_or (drop c.args.at (image c.args.journal.now.plain)) 0 0 / 256 == 0) ≡ false = ne_eqb _ _ (λ e. c.if-word-ne0.true (ap (λ w. w / 256) word ∙ e)) in
     rw (is, header, transient) (omega arith)
 
-pub returns-then-top-at-lt4 : goal.returns-then-top-at-lt4
-returns-then-top-at-lt4 g c =
+pub returns-then-top-at-lt-HEADER : goal.returns-then-top-at-lt-HEADER
+returns-then-top-at-lt-HEADER g c =
     let is : is_package (package_addresses (image c.args.journal.now.plain)) c.args.at ≡ false = sym c.begins_package.ensures ∙ c.if-begins_package.false in
     let word : c.read-word.result ≡ get_or (drop c.args.at (image c.args.journal.now.plain)) 0 0 = c.read-word.ensures ∙ sym (word_at c.args.journal.now.plain c.args.at c.requires.inside) in
     let header : is_header (get_or (drop c.args.at (image c.args.journal.now.plain)) 0 0) ≡ true = ap is_header (sym word) ∙ sym c.begins_header.ensures ∙ c.if-not-begins_header.false in
     let persistent : (get_or (drop c.args.at (image c.args.journal.now.plain)) 0 0 / 256 == 0) ≡ true = eq-eqb _ _ (ap (λ w. w / 256) (sym word) ∙ (omega arith)) in
     let behind : get_or (drop c.args.at (image c.args.journal.now.plain)) 3 0 ≡ 0 = get_or_past (drop c.args.at (image c.args.journal.now.plain)) 3 0 (omega (arith, length-drop c.args.at (image c.args.journal.now.plain), length-take (get_or c.args.journal.now.plain top_address 0) c.args.journal.now.plain)) in
-    rw (is, header, persistent, behind) refl
+    rw (is, header, persistent, behind) (omega arith)
 
 pub returns : goal.returns
 returns g c =

@@ -18,7 +18,7 @@ returns-in-Err-open_text-clause-done g c = (
 
 pub returns-clause-done : goal.returns-clause-done
 returns-clause-done g c =
-    let done = c.carry_out.ensures.done in (
+    let done = c.run_named.ensures.done in (
       done.1,
       asked 2 0,
       done.7,

@@ -48,7 +48,7 @@ pub invariant_of-self-in_default-write_all : goal.invariant_of-self-in_default-w
 invariant_of-self-in_default-write_all g c =
     let below : KeepsBelow (get_or c.self.inside.journal.plain top_address 0) c.self.inside.journal c.write_package-written.new.journal = subst (λ t. KeepsBelow t c.self.inside.journal c.write_package-written.new.journal) c.read-top.ensures c.write_package-written.ensures.below in
     let fills : Fills (get_or c.self.inside.journal.plain top_address 0) (package_words (get_or c.self.inside.journal.plain top_address 0) (c.read-count.result + 1) (parts c.args.components.now) (initials c.args.arrays.now) c.args.image.now) c.self.inside.journal c.write_package-written.new.journal = subst (λ t. Fills t (package_words t (c.read-count.result + 1) (parts c.args.components.now) (initials c.args.arrays.now) c.args.image.now) c.self.inside.journal c.write_package-written.new.journal) c.read-top.ensures c.in-Ok.ensures.done in
-    let fit : has_room_for c.self.inside.journal ((addresses_start + c.read-count.result) ∷ packages_address ∷ top_address ∷ []) ≡ true = (sym c.fits.ensures ∙ c.if-not-fits.false) in
+    let fit : has_room_for c.self.inside.journal.in_transaction c.self.inside.journal.touched ((addresses_start + c.read-count.result) ∷ packages_address ∷ top_address ∷ []) ≡ true = (sym c.fits.ensures ∙ c.if-not-fits.false) in
     let down : c.in_default-write_all.field-0 ≡ StoreDown = only_down (get_or c.self.inside.journal.plain top_address 0) c.self.inside.journal c.write_package-written.new.journal below ((addresses_start + c.read-count.result) ∷ packages_address ∷ top_address ∷ []) fit c.in_default-write_all.field-0 (λ e. c.in_default-write_all.ensures.full.0 (ap Err e)) in
     top_stopped_sound c.self.inside.journal c.write_package-written.new.journal c.self.inside.size c.self.invariant (up_is c.self.inside.journal c.args.self.now c.self.inside.size c.self.view_is c.requires.up) below (package_words (get_or c.self.inside.journal.plain top_address 0) (c.read-count.result + 1) (parts c.args.components.now) (initials c.args.arrays.now) c.args.image.now) fills c.write_all.new.self (c.in_default-write_all.ensures.stopped (ap Err down))
 
@@ -88,7 +88,7 @@ pub returns-in_default-write_all-clause-moves : goal.returns-in_default-write_al
 returns-in_default-write_all-clause-moves g c =
     let below : KeepsBelow (get_or c.self.inside.journal.plain top_address 0) c.self.inside.journal c.write_package-written.new.journal = subst (λ t. KeepsBelow t c.self.inside.journal c.write_package-written.new.journal) c.read-top.ensures c.write_package-written.ensures.below in
     let fills : Fills (get_or c.self.inside.journal.plain top_address 0) (package_words (get_or c.self.inside.journal.plain top_address 0) (c.read-count.result + 1) (parts c.args.components.now) (initials c.args.arrays.now) c.args.image.now) c.self.inside.journal c.write_package-written.new.journal = subst (λ t. Fills t (package_words t (c.read-count.result + 1) (parts c.args.components.now) (initials c.args.arrays.now) c.args.image.now) c.self.inside.journal c.write_package-written.new.journal) c.read-top.ensures c.in-Ok.ensures.done in
-    let fit : has_room_for c.self.inside.journal ((addresses_start + c.read-count.result) ∷ packages_address ∷ top_address ∷ []) ≡ true = (sym c.fits.ensures ∙ c.if-not-fits.false) in
+    let fit : has_room_for c.self.inside.journal.in_transaction c.self.inside.journal.touched ((addresses_start + c.read-count.result) ∷ packages_address ∷ top_address ∷ []) ≡ true = (sym c.fits.ensures ∙ c.if-not-fits.false) in
     let down : c.in_default-write_all.field-0 ≡ StoreDown = only_down (get_or c.self.inside.journal.plain top_address 0) c.self.inside.journal c.write_package-written.new.journal below ((addresses_start + c.read-count.result) ∷ packages_address ∷ top_address ∷ []) fit c.in_default-write_all.field-0 (λ e. c.in_default-write_all.ensures.full.0 (ap Err e)) in
     let st : IsStopped c.args.self.now (heap_view c.write_all.new.self c.self.inside.size) = top_stopped_view c.self.inside.journal c.write_package-written.new.journal c.self.inside.size c.self.invariant (up_is c.self.inside.journal c.args.self.now c.self.inside.size c.self.view_is c.requires.up) below (package_words (get_or c.self.inside.journal.plain top_address 0) (c.read-count.result + 1) (parts c.args.components.now) (initials c.args.arrays.now) c.args.image.now) fills c.write_all.new.self c.args.self.now c.self.view_is (c.in_default-write_all.ensures.stopped (ap Err down)) in
     unless_cut (no_package c.args.self.now (parts c.args.components.now) (initials c.args.arrays.now) c.args.image.now) c.args.self.now (heap_view c.write_all.new.self c.self.inside.size) (AddPackage (parts c.args.components.now) (initials c.args.arrays.now) c.args.image.now) c.args.self.now.now.top

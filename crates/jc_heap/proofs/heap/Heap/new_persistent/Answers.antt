@@ -46,7 +46,7 @@ invariant_of-self-in_default-write g c =
     let below : KeepsBelow (get_or c.self.inside.journal.plain top_address 0) c.self.inside.journal c.write_record.new.journal = subst (λ t. KeepsBelow t c.self.inside.journal c.write_record.new.journal) c.read-top.ensures c.write_record.ensures.below in
     let fills : Fills (get_or c.self.inside.journal.plain top_address 0) (new_record (kind_number c.args.kind) c.args.class c.args.owner c.args.length) c.self.inside.journal c.write_record.new.journal = subst (λ n. Fills (get_or c.self.inside.journal.plain top_address 0) (new_record n c.args.class c.args.owner c.args.length) c.self.inside.journal c.write_record.new.journal) c.number.ensures
     (unfold new_record in subst (λ t. Fills t (c.number.result ∷ c.args.class ∷ c.args.owner ∷ c.args.length ∷ [] ++ replicate c.args.length 0) c.self.inside.journal c.write_record.new.journal) c.read-top.ensures (fills_same c.read-top.result c.number.result c.class.inside.0 c.args.class c.owner.inside.0 c.args.owner (c.args.length ∷ [] ++ replicate c.args.length 0) c.self.inside.journal c.write_record.new.journal c.class.view_is c.owner.view_is c.in-Ok.ensures.done)) in
-    let fit : has_room_for c.self.inside.journal (top_address ∷ []) ≡ true = (sym c.fits.ensures ∙ c.if-not-fits.false) in
+    let fit : has_room_for c.self.inside.journal.in_transaction c.self.inside.journal.touched (top_address ∷ []) ≡ true = (sym c.fits.ensures ∙ c.if-not-fits.false) in
     let down : c.in_default-write.field-0 ≡ StoreDown = only_down (get_or c.self.inside.journal.plain top_address 0) c.self.inside.journal c.write_record.new.journal below (top_address ∷ []) fit c.in_default-write.field-0 (λ e. c.in_default-write.ensures.full.0 (ap Err e)) in
     top_stopped_sound c.self.inside.journal c.write_record.new.journal c.self.inside.size c.self.invariant (up_is c.self.inside.journal c.args.self.now c.self.inside.size c.self.view_is c.requires) below (new_record (kind_number c.args.kind) c.args.class c.args.owner c.args.length) fills c.write.new.self (c.in_default-write.ensures.stopped (ap Err down))
 
@@ -61,7 +61,7 @@ returns-in_default-write-clause-stopped g c =
     let below : KeepsBelow (get_or c.self.inside.journal.plain top_address 0) c.self.inside.journal c.write_record.new.journal = subst (λ t. KeepsBelow t c.self.inside.journal c.write_record.new.journal) c.read-top.ensures c.write_record.ensures.below in
     let fills : Fills (get_or c.self.inside.journal.plain top_address 0) (new_record (kind_number c.args.kind) c.args.class c.args.owner c.args.length) c.self.inside.journal c.write_record.new.journal = subst (λ n. Fills (get_or c.self.inside.journal.plain top_address 0) (new_record n c.args.class c.args.owner c.args.length) c.self.inside.journal c.write_record.new.journal) c.number.ensures
     (unfold new_record in subst (λ t. Fills t (c.number.result ∷ c.args.class ∷ c.args.owner ∷ c.args.length ∷ [] ++ replicate c.args.length 0) c.self.inside.journal c.write_record.new.journal) c.read-top.ensures (fills_same c.read-top.result c.number.result c.class.inside.0 c.args.class c.owner.inside.0 c.args.owner (c.args.length ∷ [] ++ replicate c.args.length 0) c.self.inside.journal c.write_record.new.journal c.class.view_is c.owner.view_is c.in-Ok.ensures.done)) in
-    let fit : has_room_for c.self.inside.journal (top_address ∷ []) ≡ true = (sym c.fits.ensures ∙ c.if-not-fits.false) in
+    let fit : has_room_for c.self.inside.journal.in_transaction c.self.inside.journal.touched (top_address ∷ []) ≡ true = (sym c.fits.ensures ∙ c.if-not-fits.false) in
     let down : c.in_default-write.field-0 ≡ StoreDown = only_down (get_or c.self.inside.journal.plain top_address 0) c.self.inside.journal c.write_record.new.journal below (top_address ∷ []) fit c.in_default-write.field-0 (λ e. c.in_default-write.ensures.full.0 (ap Err e)) in
     λ _. top_stopped_view c.self.inside.journal c.write_record.new.journal c.self.inside.size c.self.invariant (up_is c.self.inside.journal c.args.self.now c.self.inside.size c.self.view_is c.requires) below (new_record (kind_number c.args.kind) c.args.class c.args.owner c.args.length) fills c.write.new.self c.args.self.now c.self.view_is (c.in_default-write.ensures.stopped (ap Err down))
 

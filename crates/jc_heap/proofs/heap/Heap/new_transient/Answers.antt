@@ -67,7 +67,7 @@ invariant_of-self-in_default-write_all g c =
     let below : KeepsBelow (get_or c.self.inside.journal.plain top_address 0) c.self.inside.journal c.write_run.new.journal = subst (λ t. KeepsBelow t c.self.inside.journal c.write_run.new.journal) c.read-top.ensures c.write_run.ensures.below in
     let fills : Fills (get_or c.self.inside.journal.plain top_address 0) (transient_record c.args.kind c.args.event c.args.class c.args.owner c.args.length c.read-place.result) c.self.inside.journal c.write_run.new.journal = subst (λ w. Fills (get_or c.self.inside.journal.plain top_address 0) (w ∷ c.args.class ∷ c.args.owner ∷ c.args.length ∷ c.read-place.result ∷ []) c.self.inside.journal c.write_run.new.journal) c.header_of.ensures
     (subst (λ t. Fills t (c.header_of.result ∷ c.args.class ∷ c.args.owner ∷ c.args.length ∷ c.read-place.result ∷ []) c.self.inside.journal c.write_run.new.journal) c.read-top.ensures (fills_same c.read-top.result c.header_of.result c.class.inside.0 c.args.class c.owner.inside.0 c.args.owner (c.args.length ∷ c.read-place.result ∷ []) c.self.inside.journal c.write_run.new.journal c.class.view_is c.owner.view_is c.in-Ok.ensures.done)) in
-    let fit : has_room_for c.self.inside.journal (top_address ∷ c.area_word-end_word.result ∷ []) ≡ true = (sym c.fits.ensures ∙ c.if-not-fits.false) in
+    let fit : has_room_for c.self.inside.journal.in_transaction c.self.inside.journal.touched (top_address ∷ c.area_word-end_word.result ∷ []) ≡ true = (sym c.fits.ensures ∙ c.if-not-fits.false) in
     let down : c.in_default-write_all.field-0 ≡ StoreDown = only_down (get_or c.self.inside.journal.plain top_address 0) c.self.inside.journal c.write_run.new.journal below (top_address ∷ c.area_word-end_word.result ∷ []) fit c.in_default-write_all.field-0 (λ e. c.in_default-write_all.ensures.full.0 (ap Err e)) in
     top_stopped_sound c.self.inside.journal c.write_run.new.journal c.self.inside.size c.self.invariant (up_is c.self.inside.journal c.args.self.now c.self.inside.size c.self.view_is c.requires) below (transient_record c.args.kind c.args.event c.args.class c.args.owner c.args.length c.read-place.result) fills c.write_all.new.self (c.in_default-write_all.ensures.stopped (ap Err down))
 
@@ -85,7 +85,7 @@ returns-in_default-write_all-clause-stopped g c =
     let below : KeepsBelow (get_or c.self.inside.journal.plain top_address 0) c.self.inside.journal c.write_run.new.journal = subst (λ t. KeepsBelow t c.self.inside.journal c.write_run.new.journal) c.read-top.ensures c.write_run.ensures.below in
     let fills : Fills (get_or c.self.inside.journal.plain top_address 0) (transient_record c.args.kind c.args.event c.args.class c.args.owner c.args.length c.read-place.result) c.self.inside.journal c.write_run.new.journal = subst (λ w. Fills (get_or c.self.inside.journal.plain top_address 0) (w ∷ c.args.class ∷ c.args.owner ∷ c.args.length ∷ c.read-place.result ∷ []) c.self.inside.journal c.write_run.new.journal) c.header_of.ensures
     (subst (λ t. Fills t (c.header_of.result ∷ c.args.class ∷ c.args.owner ∷ c.args.length ∷ c.read-place.result ∷ []) c.self.inside.journal c.write_run.new.journal) c.read-top.ensures (fills_same c.read-top.result c.header_of.result c.class.inside.0 c.args.class c.owner.inside.0 c.args.owner (c.args.length ∷ c.read-place.result ∷ []) c.self.inside.journal c.write_run.new.journal c.class.view_is c.owner.view_is c.in-Ok.ensures.done)) in
-    let fit : has_room_for c.self.inside.journal (top_address ∷ c.area_word-end_word.result ∷ []) ≡ true = (sym c.fits.ensures ∙ c.if-not-fits.false) in
+    let fit : has_room_for c.self.inside.journal.in_transaction c.self.inside.journal.touched (top_address ∷ c.area_word-end_word.result ∷ []) ≡ true = (sym c.fits.ensures ∙ c.if-not-fits.false) in
     let down : c.in_default-write_all.field-0 ≡ StoreDown = only_down (get_or c.self.inside.journal.plain top_address 0) c.self.inside.journal c.write_run.new.journal below (top_address ∷ c.area_word-end_word.result ∷ []) fit c.in_default-write_all.field-0 (λ e. c.in_default-write_all.ensures.full.0 (ap Err e)) in
     λ _. top_stopped_view c.self.inside.journal c.write_run.new.journal c.self.inside.size c.self.invariant (up_is c.self.inside.journal c.args.self.now c.self.inside.size c.self.view_is c.requires) below (transient_record c.args.kind c.args.event c.args.class c.args.owner c.args.length c.read-place.result) fills c.write_all.new.self c.args.self.now c.self.view_is (c.in_default-write_all.ensures.stopped (ap Err down))
 

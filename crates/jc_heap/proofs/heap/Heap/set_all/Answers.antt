@@ -14,7 +14,7 @@ use Rattle.jc_heap.proofs.heap.Heap.set_all.Goals as goal
 pub returns-then-changes-gt-MOST_CHANGES : goal.returns-then-changes-gt-MOST_CHANGES
 returns-then-changes-gt-MOST_CHANGES g c =
     let places : List ℕ = map place_word (places_of c.args.changes.now) in
-    unless_refused (no_room c.args.self.now (places_of c.args.changes.now)) c.args.self.now c.args.self.now CommitFull (SetPlaces c.args.changes.now ∷ []) tt (is_full c.args.self.now places (too_many c.args.self.now places (omega (arith, length-places c.args.changes.now)))) refl
+    unless_refused {A = Unit {0}} (no_room c.args.self.now (places_of c.args.changes.now)) c.args.self.now c.args.self.now CommitFull (SetPlaces c.args.changes.now ∷ []) tt (is_full c.args.self.now places (too_many c.args.self.now places (omega (arith, length-places c.args.changes.now)))) refl
 
 pub write_all-requires-clause-places : goal.write_all-requires-clause-places
 write_all-requires-clause-places g c =
@@ -39,6 +39,6 @@ pub returns : goal.returns
 returns g c =
     let places : List ℕ = map place_word (places_of c.args.changes.now) in
     let room : has_room_for c.args.self.now places ≡ true =
-    not_false _ (λ f. ok_not_err _ _ (c.in_ok-write_all.ensures.full.1 (ap (λ cs. journal_room c.self.inside.journal (addresses_of cs)) c.fill_words.ensures ∙ sym (several_room c.self.inside.journal c.args.self.now c.self.inside.size c.args.changes.now c.self.view_is c.requires.there) ∙ f))) in
+    not_false _ (λ f. ok_not_err _ _ (c.in_ok-write_all.ensures.full.1 (ap (λ cs. journal_room c.self.inside.journal.in_transaction c.self.inside.journal.touched (addresses_of cs)) c.fill_words.ensures ∙ sym (several_room c.self.inside.journal c.args.self.now c.self.inside.size c.args.changes.now c.self.view_is c.requires.there) ∙ f))) in
     unless_done (no_room c.args.self.now (places_of c.args.changes.now)) c.args.self.now (heap_view c.write_all.new.self c.self.inside.size) (SetPlaces c.args.changes.now) tt tt (not_full c.args.self.now places room) refl
     (several_view c.self.inside.journal c.args.self.now c.self.inside.size c.args.changes.now c.self.view_is c.requires.there c.write_all.new.self (c.self.invariant.now (up_is c.self.inside.journal c.args.self.now c.self.inside.size c.self.view_is c.requires.up)) (subst (λ cs. Changes cs c.self.inside.journal c.write_all.new.self) c.fill_words.ensures c.in_ok-write_all.ensures.ok))

@@ -9,10 +9,6 @@ use Rattle.jc_heap.proofs.Changing.{up_is, refusal_cases, journal_stopped_sound}
 use Rattle.jc_heap.proofs.Runs.{too_many, length-addresses, places_of_run, distinct-run, run_view, run_sound}
 use Rattle.jc_heap.proofs.heap.Heap.set_run.Goals as goal
 
-pub returns-then-values-gt-MOST_CHANGES-clause-full : goal.returns-then-values-gt-MOST_CHANGES-clause-full
-returns-then-values-gt-MOST_CHANGES-clause-full g c =
-    ((λ _. too_many c.args.self.now (addresses_of (run_words (cell_address c.args.object c.args.i) c.args.values.now)) (omega (arith, length-addresses (cell_address c.args.object c.args.i) c.args.values.now))), λ _. refl)
-
 pub write_all-requires-clause-places : goal.write_all-requires-clause-places
 write_all-requires-clause-places g c =
     let words : take (length c.args.values.now) c.words_of_run.new.changes ≡ run_words (cell_address c.args.object c.args.i) c.args.values.now = c.words_of_run.ensures ∙ c.run_word-at.ensures.words in
@@ -34,20 +30,16 @@ invariant_of-self-2 g c =
     let words : take (length c.args.values.now) c.words_of_run.new.changes ≡ run_words (cell_address c.args.object c.args.i) c.args.values.now = c.words_of_run.ensures ∙ c.run_word-at.ensures.words in
     run_sound c.self.inside.journal c.write_all.new.self c.args.self.now c.self.inside.size c.args.object c.args.i c.args.values.now c.self.view_is c.requires.cells (up_is c.self.inside.journal c.args.self.now c.self.inside.size c.self.view_is c.requires.up) c.self.invariant (subst (λ cs. Changes cs c.self.inside.journal c.write_all.new.self) words c.in_ok-write_all.ensures.ok)
 
-pub returns-clause-done : goal.returns-clause-done
-returns-clause-done g c =
-    let words : take (length c.args.values.now) c.words_of_run.new.changes ≡ run_words (cell_address c.args.object c.args.i) c.args.values.now = c.words_of_run.ensures ∙ c.run_word-at.ensures.words in
-    run_view c.self.inside.journal c.write_all.new.self c.args.self.now c.self.inside.size c.args.object c.args.i c.args.values.now c.self.view_is (c.self.invariant.now (up_is c.self.inside.journal c.args.self.now c.self.inside.size c.self.view_is c.requires.up)) c.requires.cells (subst (λ cs. Changes cs c.self.inside.journal c.write_all.new.self) words c.in_ok-write_all.ensures.ok)
-
-pub returns-then-values-gt-MOST_CHANGES-clause-moves : goal.returns-then-values-gt-MOST_CHANGES-clause-moves
-returns-then-values-gt-MOST_CHANGES-clause-moves g c =
+pub returns-then-values-gt-MOST_CHANGES : goal.returns-then-values-gt-MOST_CHANGES
+returns-then-values-gt-MOST_CHANGES g c =
     let places : List ℕ = addresses_of (run_words (cell_address c.args.object c.args.i) c.args.values.now) in
-    unless_refused (full_at c.args.self.now places) c.args.self.now c.args.self.now CommitFull (SetCells c.args.object c.args.i c.args.values.now ∷ []) tt (is_full c.args.self.now places (too_many c.args.self.now places (omega (arith, length-addresses (cell_address c.args.object c.args.i) c.args.values.now)))) refl
+    unless_refused {A = Unit {0}} (full_at c.args.self.now places) c.args.self.now c.args.self.now CommitFull (SetCells c.args.object c.args.i c.args.values.now ∷ []) tt (is_full c.args.self.now places (too_many c.args.self.now places (omega (arith, length-addresses (cell_address c.args.object c.args.i) c.args.values.now)))) refl
 
-pub returns-clause-moves : goal.returns-clause-moves
-returns-clause-moves g c =
+pub returns : goal.returns
+returns g c =
     let words : take (length c.args.values.now) c.words_of_run.new.changes ≡ run_words (cell_address c.args.object c.args.i) c.args.values.now = c.words_of_run.ensures ∙ c.run_word-at.ensures.words in
     let places : List ℕ = addresses_of (run_words (cell_address c.args.object c.args.i) c.args.values.now) in
     let room : has_room_for c.args.self.now places ≡ true =
-    not_false _ (λ f. ok_not_err _ _ (c.in_ok-write_all.ensures.full.1 (ap (λ cs. journal_room c.self.inside.journal (addresses_of cs)) words ∙ sym (room_is c.self.inside.journal c.args.self.now c.self.inside.size places c.self.view_is) ∙ f))) in
-    unless_done (full_at c.args.self.now places) c.args.self.now (heap_view c.write_all.new.self c.self.inside.size) (SetCells c.args.object c.args.i c.args.values.now) tt tt (not_full c.args.self.now places room) refl (returns-clause-done g c)
+    not_false _ (λ f. ok_not_err _ _ (c.in_ok-write_all.ensures.full.1 (ap (λ cs. journal_room c.self.inside.journal.in_transaction c.self.inside.journal.touched (addresses_of cs)) words ∙ sym (room_is c.self.inside.journal c.args.self.now c.self.inside.size places c.self.view_is) ∙ f))) in
+    unless_done (full_at c.args.self.now places) c.args.self.now (heap_view c.write_all.new.self c.self.inside.size) (SetCells c.args.object c.args.i c.args.values.now) tt tt (not_full c.args.self.now places room) refl
+    (run_view c.self.inside.journal c.write_all.new.self c.args.self.now c.self.inside.size c.args.object c.args.i c.args.values.now c.self.view_is (c.self.invariant.now (up_is c.self.inside.journal c.args.self.now c.self.inside.size c.self.view_is c.requires.up)) c.requires.cells (subst (λ cs. Changes cs c.self.inside.journal c.write_all.new.self) words c.in_ok-write_all.ensures.ok))

@@ -25,14 +25,11 @@ invariant_of-self-2 g c =
     subst (λ a. Changes ((a, c.args.v) ∷ []) c.self.inside.journal c.write.new.self) c.place_word-word.ensures c.in_ok-write.ensures.ok in
     place_sound c.self.inside.journal c.write.new.self c.args.self.now c.self.inside.size c.args.place c.args.v c.self.view_is c.requires.there (up_is c.self.inside.journal c.args.self.now c.self.inside.size c.self.view_is c.requires.up) c.self.invariant there
 
-pub returns-clause-done : goal.returns-clause-done
-returns-clause-done g c =
+pub returns : goal.returns
+returns g c =
     let there : Changes ((place_word c.args.place, c.args.v) ∷ []) c.self.inside.journal c.write.new.self =
     subst (λ a. Changes ((a, c.args.v) ∷ []) c.self.inside.journal c.write.new.self) c.place_word-word.ensures c.in_ok-write.ensures.ok in
-    place_view c.self.inside.journal c.write.new.self c.args.self.now c.self.inside.size c.args.place c.args.v c.self.view_is (c.self.invariant.now (up_is c.self.inside.journal c.args.self.now c.self.inside.size c.self.view_is c.requires.up)) c.requires.there there
-
-pub returns-clause-moves : goal.returns-clause-moves
-returns-clause-moves g c =
     let room : has_room_for c.args.self.now (place_word c.args.place ∷ []) ≡ true =
-    not_false _ (λ f. ok_not_err _ _ (c.in_ok-write.ensures.full.1 (ap (λ a. journal_room c.self.inside.journal (a ∷ [])) c.place_word-word.ensures ∙ sym (room_is c.self.inside.journal c.args.self.now c.self.inside.size (place_word c.args.place ∷ []) c.self.view_is) ∙ f))) in
-    unless_done (full_at c.args.self.now (place_word c.args.place ∷ [])) c.args.self.now (heap_view c.write.new.self c.self.inside.size) (Write c.args.place c.args.v) tt tt (not_full c.args.self.now (place_word c.args.place ∷ []) room) refl (returns-clause-done g c)
+    not_false _ (λ f. ok_not_err _ _ (c.in_ok-write.ensures.full.1 (ap (λ a. journal_room c.self.inside.journal.in_transaction c.self.inside.journal.touched (a ∷ [])) c.place_word-word.ensures ∙ sym (room_is c.self.inside.journal c.args.self.now c.self.inside.size (place_word c.args.place ∷ []) c.self.view_is) ∙ f))) in
+    unless_done (full_at c.args.self.now (place_word c.args.place ∷ [])) c.args.self.now (heap_view c.write.new.self c.self.inside.size) (Write c.args.place c.args.v) tt tt (not_full c.args.self.now (place_word c.args.place ∷ []) room) refl
+    (place_view c.self.inside.journal c.write.new.self c.args.self.now c.self.inside.size c.args.place c.args.v c.self.view_is (c.self.invariant.now (up_is c.self.inside.journal c.args.self.now c.self.inside.size c.self.view_is c.requires.up)) c.requires.there there)

@@ -13,9 +13,6 @@ pub invariant_of-self-2 : goal.invariant_of-self-2
 invariant_of-self-2 g c =
     rw (c.in_ok-write_both.ensures.ok, c.place_word-word.ensures) (both_sound c.self.inside.journal c.args.self.now c.self.inside.size c.args.place c.args.v c.self.view_is c.requires.there (up_is c.self.inside.journal c.args.self.now c.self.inside.size c.self.view_is c.requires.up) c.self.invariant)
 
-pub returns-clause-done : goal.returns-clause-done
-returns-clause-done g c =
-    rw (c.in_ok-write_both.ensures.ok, c.place_word-word.ensures) (both_view c.self.inside.journal c.args.self.now c.self.inside.size c.args.place c.args.v c.self.view_is c.requires.there (up_is c.self.inside.journal c.args.self.now c.self.inside.size c.self.view_is c.requires.up) c.self.invariant)
-
-pub returns-clause-moves : goal.returns-clause-moves
-returns-clause-moves g c = (refl, returns-clause-done g c)
+pub returns : goal.returns
+returns g c =
+    (refl, rw (c.in_ok-write_both.ensures.ok, c.place_word-word.ensures) (both_view c.self.inside.journal c.args.self.now c.self.inside.size c.args.place c.args.v c.self.view_is c.requires.there (up_is c.self.inside.journal c.args.self.now c.self.inside.size c.self.view_is c.requires.up) c.self.invariant))

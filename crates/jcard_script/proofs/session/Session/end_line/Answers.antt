@@ -10,12 +10,12 @@ use Rattle.jcard_script.proofs.session.Session.end_line.Goals as goal
 pub returns-clause-goes : goal.returns-clause-goes
 returns-clause-goes g c = λ script text first h.
     let line = strip_carriage_return (begun_line script) in
-    let went = c.carry_out-result.ensures.goes line (c.ended-asked.ensures (begun_line script) h.0) in
+    let went = c.answer_line-result.ensures.goes line (c.ended-asked.ensures (begun_line script) h.0) in
     let more : ended_lines (script ++ 10 ∷ []) ≡ ended_lines script ++ line ∷ [] = ended_feed script in
     let next = ap (λ n. n + 1) h.1 in
-    let now = standing_in c.carry_out-result.new.self.held in
-    let done = line_done c.carry_out-result.result _ (ended_lines script) line text went.0 first _ now h.2 next went.2 in
-    let lines = subst (λ all. LinesEnd c.carry_out-result.result all first now (text ++ went.0)) (sym more) done in
+    let now = standing_in c.answer_line-result.new.self.held in
+    let done = line_done c.answer_line-result.result _ (ended_lines script) line text went.0 first _ now h.2 next went.2 in
+    let lines = subst (λ all. LinesEnd c.answer_line-result.result all first now (text ++ went.0)) (sym more) done in
     let kept = subst (IsKeptOf c.clear.new.self) (sym (begun_feed script)) c.clear.ensures in
-    let count = c.carry_out-result.ensures.number ∙ next ∙ sym (ap length more ∙ length-append (ended_lines script) (line ∷ [])) in
-    (went.0, went.1, if_carried c.carry_out-result.result _ _ first now _ lines (λ carried. (kept, count, carried)), lines)
+    let count = c.answer_line-result.ensures.number ∙ next ∙ sym (ap length more ∙ length-append (ended_lines script) (line ∷ [])) in
+    (went.0, went.1, if_carried c.answer_line-result.result _ _ first now _ lines (λ carried. (kept, count, carried)), lines)

@@ -6,5 +6,5 @@ use Rattle.jcard_script.proofs.session.Session.finish.Goals as goal
 pub returns-clause-goes : goal.returns-clause-goes
 returns-clause-goes g c = λ script text first h.
     let asks = c.last-asked.ensures (begun_line script) h.0 in
-    let went = c.carry_out.ensures.goes (begun_line script) asks in
-    (went.0, went.1, script_done c.carry_out.result _ script text went.0 first _ _ h.2 (ap (λ n. n + 1) h.1) went.2)
+    let went = c.answer_line.ensures.goes (begun_line script) asks in
+    (went.0, went.1, script_done c.answer_line.result _ script text went.0 first _ _ h.2 (ap (λ n. n + 1) h.1) went.2)

@@ -2,7 +2,7 @@ use Rattle.std.proofs.Common.{[]}
 use Rattle.jcard_script.specs.Reply.{text_of_reply}
 use Rattle.jcard_script.proofs.Known.{appends_same}
 use Rattle.jcard_script.proofs.Ending.{failed_line}
-use Rattle.jcard_script.proofs.session.Session.carry_out.Goals as goal
+use Rattle.jcard_script.proofs.session.Session.answer_line.Goals as goal
 
 pub returns-in-Ok-write_reply-clause-goes : goal.returns-in-Ok-write_reply-clause-goes
 returns-in-Ok-write_reply-clause-goes g c = λ line h. (text_of_reply c.in-Ok.reply, c.in-Ok-write_reply.ensures.text, c.in-Ok.ensures.goes line h)

@@ -1,7 +1,7 @@
 use Rattle.std.proofs.Common.{Err, refl, subst}
 use Rattle.jcard_script.specs.Script.{Ends}
 use Rattle.jcard_script.specs.declared.script.ScriptFault.TheVariants.{ReadFailed, WriteFailed, BadLine, TooLong, PowerFault}
-use Rattle.jcard_commands.proofs.run.carry_out.Goals as goal
+use Rattle.jcard_commands.proofs.run.run_named.Goals as goal
 
 pub returns-in-Err-ReadFailed-clause-done : goal.returns-in-Err-ReadFailed-clause-done
 returns-in-Err-ReadFailed-clause-done g c =

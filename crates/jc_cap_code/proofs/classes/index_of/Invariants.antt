@@ -1,6 +1,6 @@
 use Rattle.std.proofs.Common.{◌≡◌, drop, take, false}
 use Rattle.jc_cap_code.specs.ClassReading.{is_among}
-use Rattle.jc_cap_code.proofs.classes.place_of.Given as goal
+use Rattle.jc_cap_code.proofs.classes.index_of.Given as goal
 
 abbrev pub invariant-loop-i : goal.invariant-loop-i
 invariant-loop-i l = record {

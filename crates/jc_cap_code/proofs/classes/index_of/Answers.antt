@@ -2,7 +2,7 @@ use Rattle.std.proofs.Common.{refl}
 use Rattle.jc_cap_code.specs.ClassReading.{is_among}
 use Rattle.jc_cap_code.proofs.RecordWalk.{among_goes_on, among_ends}
 use Rattle.jc_cap_code.proofs.Earlier.{none_before}
-use Rattle.jc_cap_code.proofs.classes.place_of.Goals as goal
+use Rattle.jc_cap_code.proofs.classes.index_of.Goals as goal
 
 pub loop-i-init : goal.loop-i-init
 loop-i-init c = record { ahead = refl; none = refl }
