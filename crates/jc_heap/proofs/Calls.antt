@@ -12,8 +12,8 @@ use Rattle.jc_heap.specs.declared.refusal.ChangeRefusal.TheVariants.{StoreDown, 
 use Rattle.jc_heap.specs.declared.refusal.HeapRefusal.{HeapRefusal}
 use Rattle.jc_heap.specs.declared.refusal.HeapRefusal.TheVariants.{CommitFull, HeapFull, NoTransientSpace}
 use Rattle.jc_heap.specs.declared.refusal.HeapRefusal.TheVariants as making
-use Rattle.jc_heap.specs.Object.{transient_size}
-use Rattle.jc_heap.specs.Heap.{HeapView, heap_view, has_room_for, area_end, area_end_address, end_address, IsStopped, LacksSpace, LacksCells}
+use Rattle.jc_heap.specs.Object.{Object, AnObject, facts_of, is_object, transient_size}
+use Rattle.jc_heap.specs.Heap.{HeapState, HeapView, IsObject, item_at, facts, heap_view, has_room_for, area_end, area_end_address, end_address, IsStopped, LacksSpace, LacksCells}
 use Rattle.jc_heap.specs.declared.place.Place.{Place}
 use Rattle.jc_heap.specs.declared.place.Place.TheVariants.{Registry, AppletCount}
 use Rattle.jc_heap.specs.declared.place.AppletEntry.{AppletEntry}
@@ -122,6 +122,20 @@ made_all reason old new ms r a m = m.2
 pub made_none : {A : Type 0} (reason : Option HeapRefusal) (old new : HeapView) (ms : List Move) (r : HeapRefusal) (a : A) → MakesUnless reason old (Made (Refused r) new) ms a → new ≡ old
 made_none reason old new ms r a m = m.1
 
+-- what is made is an object, with its header and its cells
+pub made_there : (h : HeapState) (r : ℕ) (o : Object) → item_at h r ≡ AnObject o → IsObject h r
+made_there h r o is = ap is_object is
+
+pub made_facts : (h : HeapState) (r : ℕ) (o : Object) → item_at h r ≡ AnObject o → facts h r ≡ o.facts
+made_facts h r o is = ap facts_of is
+
+-- where there is no reason against it, a refused call was cut
+pub cut_only : {A : Type 0} (reason : Option HeapRefusal) (old new : HeapView) (e : HeapRefusal) (ms : List Move) (a : A) → reason ≡ None → MakesUnless reason old (after_making {A = A} (Err e) new) ms a → IsCut ms old new
+cut_only reason old new making.StoreDown ms a none m = m.1
+cut_only reason old new CommitFull ms a none m = absurd (none-some _ (sym none ∙ m.0))
+cut_only reason old new HeapFull ms a none m = absurd (none-some _ (sym none ∙ m.0))
+cut_only reason old new NoTransientSpace ms a none m = absurd (none-some _ (sym none ∙ m.0))
+
 -- a call of one move that the store stopped leaves what a recovery would have left before
 pub stopped_one : (m : Move) (old new : HeapView) → IsCut (m ∷ []) old new → IsStopped old new
 stopped_one m old new cut = record { durable = before cut.left; down = cut.down; refused = cut.refused; size = cut.size }
@@ -131,8 +145,8 @@ stopped_one m old new cut = record { durable = before cut.left; down = cut.down;
     before (inr none) = absurd none
 
 -- what the reasons mean
-pub lacks_room : (v : HeapView) (places : List ℕ) → full_at v places ≡ Some CommitFull → has_room_for v places ≡ false
-lacks_room v places is = elim (cases_Bool (has_room_for v places)) [
+pub full_lacks : (v : HeapView) (places : List ℕ) → full_at v places ≡ Some CommitFull → has_room_for v places ≡ false
+full_lacks v places is = elim (cases_Bool (has_room_for v places)) [
   | inl room ↦ absurd (none-some _ (sym (not_full v places room) ∙ is))
   | inr none ↦ none
 ]
@@ -141,6 +155,12 @@ pub lacks_words : (v : HeapView) (size : ℕ) (places : List ℕ) → no_object 
 lacks_words v size places is = elim (cases_lt v.size (v.now.top + size)) [
   | inl lacks ↦ lacks
   | inr fits ↦ absurd (full_no_heap v places (sym (has_some_space v size places (λ l. omega (arith, l, fits))) ∙ is))
+]
+
+pub lacks_room : (v : HeapView) (size : ℕ) (places : List ℕ) → no_object v size places ≡ Some CommitFull → has_room_for v places ≡ false
+lacks_room v size places is = elim (cases_lt v.size (v.now.top + size)) [
+  | inl lacks ↦ absurd (true≢false (ap is_of_words (sym (has_no_space v size places lacks) ∙ is)))
+  | inr fits ↦ full_lacks v places (sym (has_some_space v size places (λ l. omega (arith, l, fits))) ∙ is)
 ]
 
 pub lacks_cells : (v : HeapView) (event : ClearEvent) (n : ℕ) → no_transient v event n ≡ Some NoTransientSpace → LacksCells v.now event n
@@ -154,7 +174,7 @@ pub full_exactly : {A : Type 0} (old new : HeapView) (places : List ℕ) (result
     MakesUnless (full_at old places) old (after_change result new) ms a → (result ≡ Err Full) ↔ (has_room_for old places ≡ false)
 full_exactly old new places (Ok x) ms a m = ((λ e. absurd (ok_not_err _ _ e)), λ f. absurd (none-some _ (sym m.0 ∙ is_full old places f)))
 full_exactly old new places (Err StoreDown) ms a m = ((λ e. cc), λ f. absurd (none-some _ (sym m.0 ∙ is_full old places f)))
-full_exactly old new places (Err Full) ms a m = ((λ _. lacks_room old places m.0), λ _. refl)
+full_exactly old new places (Err Full) ms a m = ((λ _. full_lacks old places m.0), λ _. refl)
 
 -- the refusal that a call answered, if it did
 abbrev answered : {A : Type 0} → HeapRefusal → Result A HeapRefusal → HeapRefusal

@@ -1,7 +1,7 @@
 //! New objects.
-ghost use Rattle.std.specs.Prelude.{IsTrue, nat_le, ◌≡◌, ◌<◌, ◌≤◌, [], ◌∷◌, true, false, Ok, Err, length, OnOk, OnErr, IfOk, Some, replicate, ◌+◌, ◌↔◌};
-ghost use Rattle.jc_heap.specs.Object.{new_object, object_size, new_transient, header_word};
-ghost use Rattle.jc_heap.specs.Heap.{changed, add_object, end_address, IsStopped, has_room_for, LacksSpace, names, IsObject, cells, facts, add_transient, area_end, area_end_address, LacksCells};
+ghost use Rattle.std.specs.Prelude.{nat_le, ◌≡◌, [], ◌∷◌, false, IfOk, Some, ◌+◌};
+ghost use Rattle.jc_heap.specs.Object.{AnObject, new_object, object_size, new_transient, header_word};
+ghost use Rattle.jc_heap.specs.Heap.{names, item_at, area_end};
 ghost use Rattle.jc_heap.specs.Moves.{AddTransient, MakesUnless, after_making, new_move, no_new, no_transient};
 
 use crate::fresh::{write_record, write_run};
@@ -34,16 +34,8 @@ impl<S: WordStore> Heap<S> {
     ) -> Result<Ref, HeapRefusal>
         requires { self.old.down ≡ false }
         ensures moves { MakesUnless (no_new self.old length) self.old (after_making result self.new) (new_move kind class owner length ∷ []) self.old.now.top }
-        ensures object { IfOk result (λ r. IsObject self.new.now r) }
-        ensures cells { IfOk result (λ r. cells self.new.now r ≡ replicate length 0) }
-        ensures facts { IfOk result (λ r. facts self.new.now r ≡ (new_object kind class owner length).facts) }
-        ensures named { IfOk result (λ r. r ≡ self.old.now.top) }
+        ensures made { IfOk result (λ r. item_at self.new.now r ≡ AnObject (new_object kind class owner length)) }
         ensures free { names self.old.now self.old.now.top ≡ false }
-        ensures done { OnOk result (self.new ≡ changed self.old (add_object self.old.now (new_object kind class owner length) (4 + length)) (end_address ∷ []) (4 + length)) }
-        ensures heap_full { (result ≡ Err HeapRefusal.HeapFull) ↔ LacksSpace self.old (4 + length) }
-        ensures heap_full_kept { result ≡ Err HeapRefusal.HeapFull → self.new ≡ self.old }
-        ensures full { result ≡ Err HeapRefusal.CommitFull → (self.new ≡ self.old) × (has_room_for self.old (end_address ∷ []) ≡ false) }
-        ensures stopped { result ≡ Err HeapRefusal.StoreDown → IsStopped self.old self.new }
     {
         let top = self.journal.read(TOP);
         let end = u32::from(top) + u32::from(HEADER) + u32::from(length);
@@ -76,16 +68,8 @@ impl<S: WordStore> Heap<S> {
     ) -> Result<Ref, HeapRefusal>
         requires { self.old.down ≡ false }
         ensures moves { MakesUnless (no_transient self.old event length) self.old (after_making result self.new) (AddTransient kind event class owner length ∷ []) self.old.now.top }
-        ensures object { IfOk result (λ r. IsObject self.new.now r) }
-        ensures facts { IfOk result (λ r. facts self.new.now r ≡ (new_transient kind event class owner length (area_end self.old.now event)).facts) }
-        ensures named { IfOk result (λ r. r ≡ self.old.now.top) }
+        ensures made { IfOk result (λ r. item_at self.new.now r ≡ AnObject (new_transient kind event class owner length (area_end self.old.now event))) }
         ensures free { names self.old.now self.old.now.top ≡ false }
-        ensures done { OnOk result (self.new ≡ changed self.old (add_transient self.old.now kind event class owner length) (end_address ∷ area_end_address event ∷ []) 5) }
-        ensures area_full { (result ≡ Err HeapRefusal.NoTransientSpace) ↔ LacksCells self.old.now event length }
-        ensures area_full_kept { result ≡ Err HeapRefusal.NoTransientSpace → self.new ≡ self.old }
-        ensures heap_full { result ≡ Err HeapRefusal.HeapFull → (self.new ≡ self.old) × LacksSpace self.old 5 }
-        ensures full { result ≡ Err HeapRefusal.CommitFull → (self.new ≡ self.old) × (has_room_for self.old (end_address ∷ area_end_address event ∷ []) ≡ false) }
-        ensures stopped { result ≡ Err HeapRefusal.StoreDown → IsStopped self.old self.new }
     {
         let end_word = area_word(event);
         let place = self.journal.read(end_word);

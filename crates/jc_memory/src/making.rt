@@ -50,6 +50,7 @@ impl<S: WordStore> Memory<S> {
     }
 
     // Makes a transient object.
+    #[tactic(auto, using(jc_heap::proofs::Calls::made_there, jc_heap::proofs::Calls::made_facts))]
     fn make_transient(&mut self, event: ClearEvent, object: NewObject) -> Result<Ref, HeapRefusal>
         requires up { self.old.heap.down ≡ false }
         requires event { object.event ≡ Some event }

@@ -27,7 +27,7 @@ use Rattle.jc_packages.specs.Values.{ClassValue, Implementation, Packages}
 use Rattle.jc_class_laws.proofs.Receivers.{IsOwnMethod, by_token, native_in}
 use Rattle.jc_class_laws.proofs.Tokens.{word_of_class}
 use Rattle.jc_linked_laws.proofs.Lists.{AllOf}
-use Rattle.jc_sound_runs.specs.Methods.{IsMethodOf}
+use Rattle.jc_sound.specs.Methods.{IsMethodOf}
 
 -- ---- a search that finds something finds it in one of the classes
 

@@ -27,7 +27,7 @@ use Rattle.jc_linked_laws.proofs.Lists.{AllOf, all_filtered}
 use Rattle.jc_linked_laws.proofs.Numbers.{word_high}
 use Rattle.jc_class_laws.specs.Given.{HasByteTokens}
 use Rattle.jc_class_laws.proofs.Ordered.{named, not_loaded, platform_above}
-use Rattle.jc_sound_runs.specs.Platform.{KeepsPlatform}
+use Rattle.jc_sound.specs.Platform.{KeepsPlatform}
 use Rattle.jc_method_laws.proofs.Found.{found_in, one_and_all}
 
 -- ---- no method in bytecode

@@ -6,8 +6,8 @@ use Rattle.jc_packages.specs.Values.{Packages}
 use Rattle.jc_loaded.specs.declared.components.Components.{Components}
 use Rattle.jc_linked_laws.specs.Linked.{AreLinked}
 use Rattle.jc_class_laws.specs.Given.{AreRead, HasByteTokens}
-use Rattle.jc_sound_runs.specs.Methods.{KnowsMethods}
-use Rattle.jc_sound_runs.specs.Platform.{KeepsPlatform}
+use Rattle.jc_sound.specs.Methods.{KnowsMethods}
+use Rattle.jc_sound.specs.Platform.{KeepsPlatform}
 
 -- they know their methods: what calls find of the platform is a method of the receiver's class
 abbrev pub HaveMethods : Type 0

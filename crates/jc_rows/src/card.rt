@@ -2,8 +2,8 @@
 use crate::difference::first_difference;
 use crate::random::random_lines;
 use crate::sessions::run_session;
-use jc_card::formatting::format;
 use jc_platform::example::EXAMPLE;
+use jc_session::card::formatting::format;
 use jc_words::{FuseStore, MemStore, WordStore};
 use jcard_script::mem_text::MemText;
 use jcard_script::script::run_script;

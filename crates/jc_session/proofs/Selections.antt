@@ -7,9 +7,9 @@ use Rattle.jc_memory.specs.Doing.{Gives, Then, Did}
 use Rattle.jc_memory.proofs.Doings.{did_bind}
 use Rattle.jc_packages.specs.Values.{Packages}
 use Rattle.jc_registry.specs.Registry.{applet_with_aid}
-use Rattle.jc_dispatch.specs.declared.ending.Ending.{Ending}
-use Rattle.jc_dispatch.specs.declared.ending.Ending.TheVariants.{Done}
-use Rattle.jc_dispatch.specs.Selecting.{left, managed, with_selected}
+use Rattle.jc_card.specs.jc_dispatch.specs.declared.ending.Ending.{Ending}
+use Rattle.jc_card.specs.jc_dispatch.specs.declared.ending.Ending.TheVariants.{Done}
+use Rattle.jc_card.specs.jc_dispatch.specs.Selecting.{left, managed, with_selected}
 use Rattle.jc_card.specs.Answers.{exchanging, exchanging_apdu, is_dispatched}
 use Rattle.jc_card.specs.Answers.{managed as to_manager}
 use Rattle.jc_card.specs.Apdu.{Apdu}

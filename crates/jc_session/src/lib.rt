@@ -6,6 +6,7 @@ pub mod held;
 mod law;
 pub mod session;
 
+pub use jc_card as card;
 pub use law::{
     a_reset_begins_anew, down_is_answered_for_a_refused_write, selecting_the_manager_unselects,
     sessions_are_those_of_whole_copies,

@@ -1,7 +1,7 @@
 //! Sessions over a new card, told as rows.
-use jc_card::formatting::format;
-use jc_card::power_up::PowerFault;
 use jc_platform::example::EXAMPLE;
+use jc_session::card::formatting::format;
+use jc_session::card::power_up::PowerFault;
 use jc_session::event::{Answer, Event};
 use jc_session::session::{SessionFault, session};
 use jc_words::{MemStore, WordStore};

@@ -1,6 +1,6 @@
 //! Sessions over a new image, and over none.
 use crate::rows::{DONE, READY, Row, are_same, new_store, push_events, result_of, serve};
-use jc_card::power_up::PowerFault;
+use jc_session::card::power_up::PowerFault;
 use jc_session::event::Event;
 use jc_session::session::{SessionFault, session};
 use jc_words::{MemStore, WordStore};

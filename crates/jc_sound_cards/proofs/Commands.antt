@@ -20,24 +20,24 @@ use Rattle.jc_registry.specs.Registry.{applet_count, applet_with_aid, first_with
 use Rattle.jc_card_load.specs.declared.load.OpenLoad.{OpenLoad}
 use Rattle.jc_card_load.specs.declared.refusal.LoadRefusal.TheVariants.{OutOfTurn}
 use Rattle.jc_card_load.specs.Loading.{Ended, begun_load, component_begun, component_ended, component_grown, no_memory}
-use Rattle.jc_dispatch.specs.declared.ending.Ending.{Ending}
-use Rattle.jc_dispatch.specs.declared.ending.Ending.TheVariants.{NotSelected}
-use Rattle.jc_dispatch.specs.Creating.{created}
-use Rattle.jc_dispatch.specs.LentCode.{code_run}
-use Rattle.jc_card.specs.Answers.{answer_of, answers, runs_code}
-use Rattle.jc_card.specs.Apdu.{Apdu}
-use Rattle.jc_card.specs.CardState.{CardState}
-use Rattle.jc_card.specs.Dispatching.{answered, creates, dispatched, expected_by, is_select, manager_aid, most_instructions, routed, to_named, to_selected}
-use Rattle.jc_card.specs.Loads.{Answered, component_begins, component_ends, component_grows, load_begins, loads, on_load}
+use Rattle.jc_session.specs.jc_dispatch.specs.declared.ending.Ending.{Ending}
+use Rattle.jc_session.specs.jc_dispatch.specs.declared.ending.Ending.TheVariants.{NotSelected}
+use Rattle.jc_session.specs.jc_dispatch.specs.Creating.{created}
+use Rattle.jc_session.specs.jc_dispatch.specs.LentCode.{code_run}
+use Rattle.jc_session.specs.jc_card.specs.Answers.{answer_of, answers, runs_code}
+use Rattle.jc_session.specs.jc_card.specs.Apdu.{Apdu}
+use Rattle.jc_session.specs.jc_card.specs.CardState.{CardState}
+use Rattle.jc_session.specs.jc_card.specs.Dispatching.{answered, creates, dispatched, expected_by, is_select, manager_aid, most_instructions, routed, to_named, to_selected}
+use Rattle.jc_session.specs.jc_card.specs.Loads.{Answered, component_begins, component_ends, component_grows, load_begins, loads, on_load}
 use Rattle.jc_reading_laws.specs.Loaded.{AreBytes}
 use Rattle.jc_reading_laws.specs.Loads.{IsOpenReadable}
 use Rattle.jc_reading_laws.proofs.OpenLoads.{are_readable}
 use Rattle.jc_sound.specs.State.{is_applet}
-use Rattle.jc_sound_steps.specs.Steps.{AreKnown}
-use Rattle.jc_sound_commands.specs.Commands.{CommandsAreSound, IsReady, IsServed, LeavesReady}
-use Rattle.jc_sound_commands.proofs.Commands.{in_range}
-use Rattle.jc_sound_commands.proofs.Phases.{Good, good_bind, good_gives, good_more, good_then}
-use Rattle.jc_sound_commands.proofs.Serving.{serving_keeps}
+use Rattle.jc_sound_runs.specs.Soundness.{AreKnown}
+use Rattle.jc_sound_runs.specs.Commands.{CommandsAreSound, IsReady, IsServed, LeavesReady}
+use Rattle.jc_sound_runs.proofs.Commands.{in_range}
+use Rattle.jc_sound_runs.proofs.Phases.{Good, good_bind, good_gives, good_more, good_then}
+use Rattle.jc_sound_runs.proofs.Serving.{serving_keeps}
 use Rattle.jc_sound_images.specs.Heaps.{IsOwnHeap}
 use Rattle.jc_sound_images.specs.Images.{EffectsKeepBeginnings, KeepsBeginning}
 use Rattle.jc_sound_cards.specs.Cards.{IsOwnCard}

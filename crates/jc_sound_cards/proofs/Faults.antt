@@ -3,11 +3,11 @@ use Rattle.std.proofs.Common.{◌≡◌, ℕ, zero, suc, List, [], ◌∷◌, ta
 use Rattle.std.specs.Prelude.{◌⊎◌}
 use Rattle.jc_commit.specs.Image.{recovered_of}
 use Rattle.jc_platform.specs.Tokens.{Tokens}
-use Rattle.jc_card.specs.Made.{IsMade}
-use Rattle.jc_card.specs.PowerUp.{Refuses}
-use Rattle.jc_card.specs.declared.power_up.PowerFault.{PowerFault as Fault}
-use Rattle.jc_card.specs.declared.power_up.PowerFault.TheVariants.{NoMemory, StoreDown}
-use Rattle.jc_card.proofs.PoweredUp.{refused_made}
+use Rattle.jc_session.specs.jc_card.specs.Made.{IsMade}
+use Rattle.jc_session.specs.jc_card.specs.PowerUp.{Refuses}
+use Rattle.jc_session.specs.jc_card.specs.declared.power_up.PowerFault.{PowerFault as Fault}
+use Rattle.jc_session.specs.jc_card.specs.declared.power_up.PowerFault.TheVariants.{NoMemory, StoreDown}
+use Rattle.jc_session.specs.jc_card.proofs.PoweredUp.{refused_made}
 use Rattle.jc_session.specs.declared.event.Event.{Event}
 use Rattle.jc_session.specs.declared.event.Event.TheVariants.{Command, Reset}
 use Rattle.jc_session.specs.declared.event.Answer.{Answer}

@@ -5,15 +5,15 @@ use Rattle.jc_heap.proofs.Laws.{same_facts}
 use Rattle.jc_memory.specs.State.{MemoryState, Effect, Changes, Fills, Flags, Clears, Buries, Turns, Starts, Sends, effected}
 use Rattle.jc_packages.specs.Values.{Packages}
 use Rattle.jc_platform.specs.Tokens.{Tokens}
-use Rattle.jc_card.specs.Fixed.{last_fixed}
+use Rattle.jc_session.specs.jc_card.specs.Fixed.{last_fixed}
 use Rattle.jc_card_checks.specs.Objects.{is_kept}
 use Rattle.jc_reading_laws.specs.Kept.{IsReadAs}
 use Rattle.jc_reading_laws.proofs.Effects.{keeps_reading}
 use Rattle.jc_sound.specs.Environment.{HasEnvironment, IsEnvironments}
 use Rattle.jc_sound.specs.State.{IsSoundMemory, IsSoundUpTo, last_own}
 use Rattle.jc_sound.proofs.Frames.{same_object}
-use Rattle.jc_sound_commands.specs.Commands.{IsServed}
-use Rattle.jc_sound_commands.proofs.Serving.{serving_keeps}
+use Rattle.jc_sound_runs.specs.Commands.{IsServed}
+use Rattle.jc_sound_runs.proofs.Serving.{serving_keeps}
 use Rattle.jc_sound_loads.specs.Loads.{CountPackages, CountsPackages}
 use Rattle.jc_sound_loads.proofs.Counts.{effects_count}
 use Rattle.jc_sound_images.specs.Heaps.{IsOwnHeap}

@@ -11,10 +11,10 @@ use Rattle.jc_method_laws.proofs.Bytes.{have_bytes}
 use Rattle.jc_platform.proofs.NamesTold.{names_told}
 use Rattle.jc_platform.specs.Table.{Reads}
 use Rattle.jc_platform.specs.Tokens.{Tokens}
-use Rattle.jc_card.specs.CardState.{CardState}
-use Rattle.jc_card.specs.Fixed.{fixed_objects, last_fixed}
-use Rattle.jc_card.specs.Made.{IsCardHeap, IsMade, formatted}
-use Rattle.jc_card.proofs.FittingImages.{counts_add, packages_add}
+use Rattle.jc_session.specs.jc_card.specs.CardState.{CardState}
+use Rattle.jc_session.specs.jc_card.specs.Fixed.{fixed_objects, last_fixed}
+use Rattle.jc_session.specs.jc_card.specs.Made.{IsCardHeap, IsMade, formatted}
+use Rattle.jc_session.specs.jc_card.proofs.FittingImages.{counts_add, packages_add}
 use Rattle.jc_card_checks.specs.Sound.{IsSound}
 use Rattle.jc_session.specs.Power.{KeptState, Up, kept_by}
 use Rattle.jc_sound.specs.State.{IsFitObject}

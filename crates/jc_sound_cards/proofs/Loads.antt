@@ -22,8 +22,8 @@ use Rattle.jc_card_load.specs.declared.load.OpenLoad.{OpenLoad}
 use Rattle.jc_card_load.specs.declared.refusal.LoadRefusal.{LoadRefusal}
 use Rattle.jc_card_load.specs.declared.refusal.LoadRefusal.TheVariants.{HeapFull, NotIn, OutOfTurn}
 use Rattle.jc_card_load.specs.Ending.{Left, added, comes_in, drops, if_added, if_prepared, package_ended}
-use Rattle.jc_card.specs.CardState.{CardState}
-use Rattle.jc_card.specs.Loads.{Answered, answer_of_left, load_ends}
+use Rattle.jc_session.specs.jc_card.specs.CardState.{CardState}
+use Rattle.jc_session.specs.jc_card.specs.Loads.{Answered, answer_of_left, load_ends}
 use Rattle.jc_reading_laws.specs.Loaded.{AreBytes, IsReadable}
 use Rattle.jc_reading_laws.specs.Loads.{IsOpenReadable}
 use Rattle.jc_reading_laws.proofs.Ends.{ends_keep}

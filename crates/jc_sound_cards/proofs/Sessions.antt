@@ -15,13 +15,13 @@ use Rattle.jc_platform.specs.Table.{Reads}
 use Rattle.jc_platform.specs.Tokens.{Tokens}
 use Rattle.jc_card_packages.specs.Reading.{packages_of}
 use Rattle.jc_card_load.specs.Loading.{begun_load, component_begun, component_ended as ended_component}
-use Rattle.jc_card.specs.Answers.{answers, commanded, exchanging, exchanging_apdu, is_dispatched, managed, runs_code}
-use Rattle.jc_card.specs.Apdu.{Apdu, apdu_of, data_of}
-use Rattle.jc_card.specs.CardState.{CardState}
-use Rattle.jc_card.specs.Dispatching.{answered, creates, dispatched}
-use Rattle.jc_card.specs.Fixed.{fixed_of}
-use Rattle.jc_card.specs.Loads.{Answered, component_begins, component_ends, component_grows, load_begins}
-use Rattle.jc_card.specs.StatusWord.{cla_not_supported, ins_not_supported, status_bytes, wrong_length}
+use Rattle.jc_session.specs.jc_card.specs.Answers.{answers, commanded, exchanging, exchanging_apdu, is_dispatched, managed, runs_code}
+use Rattle.jc_session.specs.jc_card.specs.Apdu.{Apdu, apdu_of, data_of}
+use Rattle.jc_session.specs.jc_card.specs.CardState.{CardState}
+use Rattle.jc_session.specs.jc_card.specs.Dispatching.{answered, creates, dispatched}
+use Rattle.jc_session.specs.jc_card.specs.Fixed.{fixed_of}
+use Rattle.jc_session.specs.jc_card.specs.Loads.{Answered, component_begins, component_ends, component_grows, load_begins}
+use Rattle.jc_session.specs.jc_card.specs.StatusWord.{cla_not_supported, ins_not_supported, status_bytes, wrong_length}
 use Rattle.jc_session.specs.declared.event.Answer.{Answer}
 use Rattle.jc_session.specs.declared.event.Answer.TheVariants.{Response, Ready, Down}
 use Rattle.jc_session.specs.declared.event.Event.{Event}
@@ -35,9 +35,9 @@ use Rattle.jc_method_laws.proofs.Laws.{have_methods, have_no_code}
 use Rattle.jc_reading_laws.specs.Loaded.{AreBytes}
 use Rattle.jc_reading_laws.proofs.OpenLoads.{are_readable}
 use Rattle.jc_sound.specs.State.{IsSoundMemory}
-use Rattle.jc_sound_steps.specs.Steps.{AreKnown}
-use Rattle.jc_sound_commands.proofs.Laws.{commands_are_sound}
-use Rattle.jc_sound_commands.proofs.Phases.{Good}
+use Rattle.jc_sound_runs.specs.Soundness.{AreKnown}
+use Rattle.jc_sound_runs.proofs.CommandLaws.{commands_are_sound}
+use Rattle.jc_sound_runs.proofs.Phases.{Good}
 use Rattle.jc_sound_images.specs.Heaps.{IsOwnHeap}
 use Rattle.jc_sound_loads.proofs.Memories.{loads_are_sound}
 use Rattle.jc_sound_images.proofs.Effects.{effects_keep}

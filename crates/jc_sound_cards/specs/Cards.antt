@@ -4,7 +4,7 @@ use Rattle.jc_heap.specs.Heap.{HeapState}
 use Rattle.jc_platform.specs.Tokens.{Tokens}
 use Rattle.jc_packages.specs.Values.{Packages}
 use Rattle.jc_loaded.specs.declared.components.Components.{Components}
-use Rattle.jc_card.specs.CardState.{CardState}
+use Rattle.jc_session.specs.jc_card.specs.CardState.{CardState}
 use Rattle.jc_class_laws.specs.Given.{AreRead}
 use Rattle.jc_sound_growth.specs.Records.{HaveAppletComponents}
 use Rattle.jc_session.specs.declared.event.Event.{Event}
@@ -15,7 +15,7 @@ use Rattle.jc_session.specs.Serving.{Serves, SessionRun}
 use Rattle.jc_reading_laws.specs.Kept.{IsReadAs}
 use Rattle.jc_reading_laws.specs.Loaded.{AreBytes}
 use Rattle.jc_reading_laws.specs.Loads.{IsOpenReadable}
-use Rattle.jc_sound_commands.specs.Commands.{IsReady}
+use Rattle.jc_sound_runs.specs.Commands.{IsReady}
 use Rattle.jc_sound_loads.specs.Loads.{CountPackages, CountsPackages}
 use Rattle.jc_sound_images.specs.Heaps.{IsOwnHeap}
 use Rattle.jc_sound_images.specs.Images.{KeepsBeginning}

@@ -4,9 +4,9 @@ use Rattle.jc_commit.specs.Image.{recovered_of}
 use Rattle.jc_heap.specs.Heap.{heap_of}
 use Rattle.jc_platform.specs.Table.{Reads}
 use Rattle.jc_platform.specs.Tokens.{Tokens}
-use Rattle.jc_card.specs.Made.{IsMade, formatted}
-use Rattle.jc_card.specs.declared.power_up.PowerFault.{PowerFault as Fault}
-use Rattle.jc_card.specs.declared.power_up.PowerFault.TheVariants.{NoMemory}
+use Rattle.jc_session.specs.jc_card.specs.Made.{IsMade, formatted}
+use Rattle.jc_session.specs.jc_card.specs.declared.power_up.PowerFault.{PowerFault as Fault}
+use Rattle.jc_session.specs.jc_card.specs.declared.power_up.PowerFault.TheVariants.{NoMemory}
 use Rattle.jc_session.specs.declared.event.Event.{Event}
 use Rattle.jc_session.specs.declared.event.Answer.{Answer}
 use Rattle.jc_session.specs.declared.session.SessionFault.TheVariants.{PowerFault}

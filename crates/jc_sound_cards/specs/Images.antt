@@ -6,8 +6,8 @@ use Rattle.jc_heap.specs.Image.{IsLaid}
 use Rattle.jc_heap.specs.Stored.{HoldsHeap}
 use Rattle.jc_platform.specs.Table.{Reads}
 use Rattle.jc_platform.specs.Tokens.{Tokens}
-use Rattle.jc_card.specs.CardState.{CardState}
-use Rattle.jc_card.specs.Made.{IsMade, formatted}
+use Rattle.jc_session.specs.jc_card.specs.CardState.{CardState}
+use Rattle.jc_session.specs.jc_card.specs.Made.{IsMade, formatted}
 use Rattle.jc_session.specs.Power.{KeptState}
 use Rattle.jc_sound_cards.specs.Cards.{IsOwnCard, IsOwnKept}
 

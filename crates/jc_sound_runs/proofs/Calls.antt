@@ -5,7 +5,7 @@ use Rattle.jc_memory.specs.declared.registers.Owner.TheVariants.{Applet}
 use Rattle.jc_memory.specs.Cells.{header_at}
 use Rattle.jc_packages.specs.declared.target.Method.{Method}
 use Rattle.jc_world.specs.declared.answer.Asked.{Asked}
-use Rattle.jc_interp_calls.specs.Asking.{asked_by, asking, sharing_method, takes_asked}
+use Rattle.jc_isolation.specs.jc_interp_calls.specs.Asking.{asked_by, asking, sharing_method, takes_asked}
 use Rattle.std.proofs.lemmas.Option.{same_Some}
 use Rattle.jc_memory.specs.Owners.{owner_number}
 use Rattle.jc_memory.specs.State.{MemoryState}
@@ -17,17 +17,17 @@ use Rattle.jc_frames.specs.declared.cell.Cell.{Cell}
 use Rattle.jc_frames.specs.Calls.{arguments_on}
 use Rattle.jc_frames.specs.Frames.{Frames, Next, Goes, Throws, Ends}
 use Rattle.jc_methods.specs.Headers.{header_in}
-use Rattle.jc_interp_calls.specs.declared.choose.Call.{Call}
-use Rattle.jc_interp_calls.specs.declared.enter.Callee.{Callee}
-use Rattle.jc_interp_calls.specs.declared.enter.CallSite.{CallSite}
-use Rattle.jc_interp_calls.specs.Entering.{entering, switched, switching, takes}
-use Rattle.jc_interp_calls.specs.Texts.{text_of}
+use Rattle.jc_isolation.specs.jc_interp_calls.specs.declared.choose.Call.{Call}
+use Rattle.jc_isolation.specs.jc_interp_calls.specs.declared.enter.Callee.{Callee}
+use Rattle.jc_isolation.specs.jc_interp_calls.specs.declared.enter.CallSite.{CallSite}
+use Rattle.jc_isolation.specs.jc_interp_calls.specs.Entering.{entering, switched, switching, takes}
+use Rattle.jc_isolation.specs.jc_interp_calls.specs.Texts.{text_of}
 use Rattle.jc_isolation.proofs.Due.{due_if, due_some}
 use Rattle.jc_sound.specs.Fit.{IsFit}
 use Rattle.jc_sound.specs.State.{IsSoundMemory, is_owner_up_to, most_owner}
-use Rattle.jc_sound_natives.specs.Natives.{IsReceiver}
-use Rattle.jc_sound_natives.proofs.Natives.{natives_are_fit}
-use Rattle.jc_sound_runs.specs.Methods.{KnowsMethods}
+use Rattle.jc_sound_runs.specs.Natives.{IsReceiver}
+use Rattle.jc_sound_runs.proofs.Natives.{natives_are_fit}
+use Rattle.jc_sound.specs.Methods.{KnowsMethods}
 use Rattle.jc_sound_runs.specs.Steps.{AsksFit, CallsFit}
 use Rattle.jc_sound_runs.proofs.Arguments.{receiver_first}
 use Rattle.jc_sound_runs.proofs.Minding.{aid_minds}

@@ -9,14 +9,14 @@ use Rattle.jc_opcodes.specs.declared.instr.Instr.TheVariants.{Nop, Push, Access,
 use Rattle.jc_opcodes.specs.declared.instr.Object.{Object}
 use Rattle.jc_opcodes.specs.declared.instr.Object.TheVariants.{New, Throw, CheckCast, InstanceOf}
 use Rattle.jc_frames.specs.Frames.{Frames}
-use Rattle.jc_interp.specs.Stepping.{executed, operated}
+use Rattle.jc_isolation.specs.jc_interp.specs.Stepping.{executed, operated}
 use Rattle.jc_sound.specs.Classes.{KnowsClasses}
 use Rattle.jc_sound.specs.Fit.{IsFit}
-use Rattle.jc_sound_groups.proofs.Arrays.{arrays_are_fit}
-use Rattle.jc_sound_groups.proofs.Fields.{fields_are_fit}
-use Rattle.jc_sound_groups.proofs.Making.{objects_are_fit}
+use Rattle.jc_sound_runs.proofs.Arrays.{arrays_are_fit}
+use Rattle.jc_sound_runs.proofs.Fields.{fields_are_fit}
+use Rattle.jc_sound_runs.proofs.Making.{objects_are_fit}
 use Rattle.jc_sound_runs.specs.Machines.{IsSoundMachine}
-use Rattle.jc_sound_runs.specs.Methods.{KnowsMethods}
+use Rattle.jc_sound.specs.Methods.{KnowsMethods}
 use Rattle.jc_sound_runs.specs.Steps.{InstructionsFit}
 use Rattle.jc_sound_runs.proofs.Leaves.{leaves_are_fit}
 

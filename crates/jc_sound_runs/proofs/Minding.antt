@@ -7,10 +7,10 @@ use Rattle.jc_platform.specs.declared.names.PlatformMethod.{PlatformMethod}
 use Rattle.jc_platform.specs.declared.names.PlatformMethod.TheVariants.{AppletRegister, AppletRegisterBytes, CardExceptionInit, CardExceptionSetReason, CardRuntimeExceptionInit, CardRuntimeExceptionSetReason, IsoExceptionInit, PinExceptionInit, SystemExceptionInit, TransactionExceptionInit, ApduExceptionInit, UserExceptionInit, AidInit, OwnerPinInit, OwnerPinCheck, OwnerPinReset, OwnerPinResetAndUnblock, OwnerPinUpdate}
 use Rattle.jc_platform.specs.Distinct.{class_of, kind_of_method}
 use Rattle.jc_platform.specs.Names.{methods}
-use Rattle.jc_interp_calls.specs.Signatures.{is_constructor}
-use Rattle.jc_isolation_runs.proofs.Calls.{virtual_not_static}
-use Rattle.jc_isolation_natives.specs.Natives.{sets_receiver}
-use Rattle.jc_sound_natives.specs.Natives.{minds_receiver}
+use Rattle.jc_isolation.specs.jc_interp_calls.specs.Signatures.{is_constructor}
+use Rattle.jc_isolation.proofs.Calls.{virtual_not_static}
+use Rattle.jc_isolation.specs.Natives.{sets_receiver}
+use Rattle.jc_sound_runs.specs.Natives.{minds_receiver}
 
 pub minds_below : (method : PlatformMethod) → minds_receiver method ≡ true → class_of method ≡ Object → ⊥
 unfolding methods minds_receiver sets_receiver

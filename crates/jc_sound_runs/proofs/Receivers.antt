@@ -41,15 +41,15 @@ use Rattle.jc_world.specs.Contexts.{allowed, context_of, decided, designation_of
 use Rattle.jc_world.specs.Objects.{if_so, object_at, or_fault}
 use Rattle.jc_world.specs.Objects as world
 use Rattle.jc_card_checks.specs.Objects.{is_a, is_instance}
-use Rattle.jc_interp_calls.specs.declared.choose.Call.{Call}
-use Rattle.jc_interp_calls.specs.Choosing.{arguments_of, call_of, called_by_interface, called_specially, called_statically, called_virtually, chosen, class_of, fits_at_null, interface_access, interface_by, is_native_constructor, is_of, is_of_any, judged, receiver_of, receiver_on, special_by, static_by, virtual_by}
-use Rattle.jc_interp_calls.specs.Parameters.{fits}
+use Rattle.jc_isolation.specs.jc_interp_calls.specs.declared.choose.Call.{Call}
+use Rattle.jc_isolation.specs.jc_interp_calls.specs.Choosing.{arguments_of, call_of, called_by_interface, called_specially, called_statically, called_virtually, chosen, class_of, fits_at_null, interface_access, interface_by, is_native_constructor, is_of, is_of_any, judged, receiver_of, receiver_on, special_by, static_by, virtual_by}
+use Rattle.jc_isolation.specs.jc_interp_calls.specs.Parameters.{fits}
 use Rattle.jc_isolation.proofs.Reaching.{err_not_ok, field_allowed, object_is, same_Ok}
-use Rattle.jc_isolation_runs.proofs.Receivers.{both_fine, is_there}
+use Rattle.jc_isolation.proofs.Receivers.{both_fine, is_there}
 use Rattle.jc_sound.specs.Classes.{KnowsClasses}
 use Rattle.jc_sound.specs.State.{IsSoundMemory, is_owner_up_to, last_own, most_owner}
-use Rattle.jc_sound_natives.specs.Natives.{minds_receiver}
-use Rattle.jc_sound_runs.specs.Methods.{IsMethodOf, KnowsMethods}
+use Rattle.jc_sound_runs.specs.Natives.{minds_receiver}
+use Rattle.jc_sound.specs.Methods.{IsMethodOf, KnowsMethods}
 use Rattle.jc_sound_runs.proofs.Minding.{aid_static, minds_below, minds_no_static}
 use Rattle.jc_sound_runs.proofs.Owners.{known_again, object_owner}
 

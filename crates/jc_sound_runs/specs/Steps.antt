@@ -14,21 +14,21 @@ use Rattle.jc_memory.specs.Reading.{AllDue}
 use Rattle.jc_platform.specs.declared.names.PlatformMethod.{PlatformMethod}
 use Rattle.jc_packages.specs.declared.target.Method.TheVariants.{Code, Native}
 use Rattle.jc_packages.specs.Values.{Packages}
-use Rattle.jc_natives.specs.Natives.{called}
-use Rattle.jc_interp_calls.specs.declared.choose.Call.{Call}
-use Rattle.jc_interp_calls.specs.declared.enter.Callee.{Callee}
-use Rattle.jc_interp_calls.specs.Asking.{asking}
-use Rattle.jc_interp_calls.specs.Choosing.{chosen}
-use Rattle.jc_interp_calls.specs.Entering.{entering}
-use Rattle.jc_interp_calls.specs.Returning.{returning}
-use Rattle.jc_interp_calls.specs.Throwing.{throwing, thrown}
-use Rattle.jc_interp.specs.Stepping.{executed, is_plain}
+use Rattle.jc_isolation.specs.jc_natives.specs.Natives.{called}
+use Rattle.jc_isolation.specs.jc_interp_calls.specs.declared.choose.Call.{Call}
+use Rattle.jc_isolation.specs.jc_interp_calls.specs.declared.enter.Callee.{Callee}
+use Rattle.jc_isolation.specs.jc_interp_calls.specs.Asking.{asking}
+use Rattle.jc_isolation.specs.jc_interp_calls.specs.Choosing.{chosen}
+use Rattle.jc_isolation.specs.jc_interp_calls.specs.Entering.{entering}
+use Rattle.jc_isolation.specs.jc_interp_calls.specs.Returning.{returning}
+use Rattle.jc_isolation.specs.jc_interp_calls.specs.Throwing.{throwing, thrown}
+use Rattle.jc_isolation.specs.jc_interp.specs.Stepping.{executed, is_plain}
 use Rattle.jc_world.specs.declared.answer.Asked.{Asked}
 use Rattle.jc_sound.specs.Classes.{HasAids, KnowsClasses}
 use Rattle.jc_sound.specs.Fit.{IsFit}
 use Rattle.jc_sound.specs.State.{IsSoundMemory, is_owner_up_to, most_owner}
 use Rattle.jc_sound_runs.specs.Machines.{IsSoundMachine, KnowOwners}
-use Rattle.jc_sound_runs.specs.Methods.{KnowsMethods}
+use Rattle.jc_sound.specs.Methods.{KnowsMethods}
 
 -- a method in bytecode that a call reaches
 abbrev pub callee_of : Call → ℕ → ℕ → Callee

@@ -25,8 +25,8 @@ use Rattle.jc_packages.specs.declared.target.Method.{Method}
 use Rattle.jc_packages.specs.declared.target.Method.TheVariants.{Code, Native}
 use Rattle.jc_packages.specs.Lookups.{applet_entry}
 use Rattle.jc_packages.specs.Values.{Packages}
-use Rattle.jc_interp_calls.specs.Entering.{begun}
-use Rattle.jc_interp.specs.Running.{running}
+use Rattle.jc_dispatch.specs.jc_interp_calls.specs.Entering.{begun}
+use Rattle.jc_dispatch.specs.jc_interp.specs.Running.{running}
 use Rattle.jc_dispatch.specs.Buffer.{apdu_buffer, apdu_object, filled, fills_in, is_buffer}
 use Rattle.jc_dispatch.specs.Endings.{is_accepted}
 use Rattle.jc_dispatch.specs.Phases.{after, called, closed, closing, instance_of, method_named, resting, run_for, run_from, run_method, running_for}
@@ -35,7 +35,7 @@ use Rattle.jc_dispatch.specs.Installing.{installed, next_applet, with_installati
 use Rattle.jc_dispatch.specs.Creating.{applet_named, created, created_by, created_of, creation_of, installing}
 use Rattle.jc_tears.specs.Orderly.{IsOrderly}
 use Rattle.jc_tears.proofs.Plain.{AllPlain, due_if, orderly_bind, plain_due, plain_if, plain_sets_run}
-use Rattle.jc_tears_steps.proofs.Stepping.{run_orderly}
+use Rattle.jc_tears_commands.proofs.Stepping.{run_orderly}
 
 -- ---- a method runs
 

@@ -1,2 +1,15 @@
+pub mod CallChecks
+pub mod Util
+pub mod Aids
+pub mod Apdus
+pub mod System
+pub mod Applets
+pub mod Pins
+pub mod Called
+pub mod Checks
+pub mod Fields
+pub mod Objects
+pub mod Frames
+pub mod Stepping
 pub mod Commands
 pub mod Closing

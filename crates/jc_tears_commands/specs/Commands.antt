@@ -16,7 +16,7 @@ use Rattle.jc_tears.specs.Orderly.{IsOrderly}
 use Rattle.jc_tears.specs.Tears.{IsSettled, LeftBehind}
 
 -- each is orderly: an applet answers, an applet or the manager is selected, an applet is made while no transaction is open
-pub record AreOrderly : Type 0 where
+pub record CommandsAreOrderly : Type 0 where
   pub answering : (budget : ℕ) (p : Packages) (a : AppletNumber) (selecting : Bool) (expected : ℕ) (m : MemoryState) → AllDue IsOrderly (processed budget p a selecting expected m) m
   pub selecting : (budget : ℕ) (p : Packages) (a : AppletNumber) (expected : ℕ) (m : MemoryState) → AllDue IsOrderly (selected budget p a expected m) m
   pub managing : (budget : ℕ) (p : Packages) (m : MemoryState) → AllDue IsOrderly (managed budget p m) m
@@ -27,7 +27,7 @@ abbrev pub IsKeptIn : {A : Type 0} → Doing A → MemoryState → Type 0
 IsKeptIn d m = IsSettled m → (h : HeapState) → LeftBy d m h → (es : List Effect) × Begins d m es × LeftBehind es m h
 
 -- so it is with each
-pub record KeepWhatWasFound : Type 0 where
+pub record CommandsKeepWhatWasFound : Type 0 where
   pub answering : (budget : ℕ) (p : Packages) (a : AppletNumber) (selecting : Bool) (expected : ℕ) (m : MemoryState) → IsKeptIn (processed budget p a selecting expected m) m
   pub selecting : (budget : ℕ) (p : Packages) (a : AppletNumber) (expected : ℕ) (m : MemoryState) → IsKeptIn (selected budget p a expected m) m
   pub managing : (budget : ℕ) (p : Packages) (m : MemoryState) → IsKeptIn (managed budget p m) m

@@ -1,17 +1,39 @@
-//! Laws of the definitions of selecting, installing and answering.
-ghost use Rattle.jc_tears_commands.specs.Commands.{AreOrderly, KeepWhatWasFound, TakesBack};
+//! Laws of the definitions.
+ghost use Rattle.jc_tears_commands.specs.Calls.{CallsAreOrderly};
+ghost use Rattle.jc_tears_commands.specs.Commands.{CommandsAreOrderly, CommandsKeepWhatWasFound, TakesBack};
+ghost use Rattle.jc_tears_commands.specs.Runs.{CodeIsOrderly, RunsKeepWhatWasFound};
+
+/// A law of the definitions: whatever a call of a method of the platform does, it sets nothing for good but the counter
+/// of a PIN's tries, begins a transaction where none is open, and ends one where one is.
+pub fn calls_keep_the_order_of_transactions()
+    ensures { CallsAreOrderly }
+{}
+
+/// A law of the definitions: whatever a step or a run of code does, it sets nothing for good but the counter of a PIN's
+/// tries, begins a transaction where none is open, and ends one where one is.
+pub fn code_keeps_the_order_of_transactions()
+    ensures { CodeIsOrderly }
+{}
+
+/// A law of the definitions, the first law of atomicity over runs: as long as a run stays within a transaction, what the
+/// transaction found is what a loss of power or an abort leaves, but for the tries of PINs, each as counted before the
+/// transaction changed the PIN itself; and a loss at any moment of any run leaves that, or the heap as it is where no
+/// transaction is open.
+pub fn runs_keep_what_a_transaction_found()
+    ensures { RunsKeepWhatWasFound }
+{}
 
 /// A law of the definitions: whatever is done to select an applet, to install one, or by one to answer, sets nothing for
 /// good but the counter of a PIN's tries, begins a transaction where none is open, and ends one where one is.
 pub fn commands_keep_the_order_of_transactions()
-    ensures { AreOrderly }
+    ensures { CommandsAreOrderly }
 {}
 
 /// A law of the definitions, the first law of atomicity over commands: wherever a loss of power falls within one, it leaves
 /// the heap that the transaction found which is open there, but for the tries of PINs, each as counted before the
 /// transaction changed the PIN itself; where none is open it leaves the heap as it is.
 pub fn commands_keep_what_a_transaction_found()
-    ensures { KeepWhatWasFound }
+    ensures { CommandsKeepWhatWasFound }
 {}
 
 /// A law of the definitions: as the runtime environment takes over from a method, however it ended, what it did not commit

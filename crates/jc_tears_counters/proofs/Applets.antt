@@ -15,9 +15,9 @@ use Rattle.jc_memory.proofs.Doings.{due_bind, each_always}
 use Rattle.jc_packages.specs.Values.{Packages}
 use Rattle.jc_world.specs.Objects.{reference_argument, short_argument}
 use Rattle.jc_api_arguments.specs.Arrays.{bytes_argument, bytes_in, elements_of}
-use Rattle.jc_api_aid.specs.AidCells.{is_aid_length}
-use Rattle.jc_api_applet.specs.Applet.{given_registered, installed_aid, own_registered, registered_as}
-use Rattle.jc_api_applet.specs.Register.{aid_made, entered, registered, registrable}
+use Rattle.jc_isolation.specs.jc_api_aid.specs.AidCells.{is_aid_length}
+use Rattle.jc_isolation.specs.jc_api_applet.specs.Applet.{given_registered, installed_aid, own_registered, registered_as}
+use Rattle.jc_isolation.specs.jc_api_applet.specs.Register.{aid_made, entered, registered, registrable}
 use Rattle.jc_isolation.proofs.Due.{call_ok, call_some, due_if}
 use Rattle.jc_tears_counters.specs.Leaving.{AreBeside, IsBeside, Leaves}
 

@@ -19,16 +19,16 @@ use Rattle.jc_world.specs.Objects.{or_fault, reference_argument, short_argument}
 use Rattle.jc_api_arguments.specs.declared.arrays.Stretch.{Stretch}
 use Rattle.jc_api_arguments.specs.Arrays.{bytes_argument, bytes_in, elements_of, if_array, if_bytes}
 use Rattle.jc_api_arguments.specs.Instances.{instance_at}
-use Rattle.jc_api_util.specs.Pairs.{named_in, pair_of, two_of}
-use Rattle.jc_api_util.specs.Util.{array_compared, array_copied, bytes_of_short, short_got, short_made, short_set}
-use Rattle.jc_api_aid.specs.AidCalls.{aid_equals, aid_equals_bytes, aid_got, aid_made}
-use Rattle.jc_api_aid.specs.AidCells.{cells_of_aid, is_aid_length}
-use Rattle.jc_api_apdu.specs.Apdu.{all_sent, bytes_sent, bytes_sent_in, buffer_got, length_of, length_set, length_set_in, outgoing, outgoing_in, phase_of, piece_of, received, received_in, received_more}
-use Rattle.jc_api_apdu.specs.Buffer.{buffer_of, data_of, is_buffer}
+use Rattle.jc_isolation.specs.jc_api_util.specs.Pairs.{named_in, pair_of, two_of}
+use Rattle.jc_isolation.specs.jc_api_util.specs.Util.{array_compared, array_copied, bytes_of_short, short_got, short_made, short_set}
+use Rattle.jc_isolation.specs.jc_api_aid.specs.AidCalls.{aid_equals, aid_equals_bytes, aid_got, aid_made}
+use Rattle.jc_isolation.specs.jc_api_aid.specs.AidCells.{cells_of_aid, is_aid_length}
+use Rattle.jc_isolation.specs.jc_api_apdu.specs.Apdu.{all_sent, bytes_sent, bytes_sent_in, buffer_got, length_of, length_set, length_set_in, outgoing, outgoing_in, phase_of, piece_of, received, received_in, received_more}
+use Rattle.jc_isolation.specs.jc_api_apdu.specs.Buffer.{buffer_of, data_of, is_buffer}
 use Rattle.jc_isolation.proofs.Due.{call_ok, call_some, call_unless, due_if}
 use Rattle.jc_isolation.proofs.Reaching.{err_not_ok, header_is, same_Ok}
-use Rattle.jc_isolation_natives.specs.Natives.{IsNotCalled}
-use Rattle.jc_isolation_natives.proofs.Arguments.{both_ok, stretch_is}
+use Rattle.jc_isolation.specs.Natives.{IsNotCalled}
+use Rattle.jc_isolation.proofs.Arguments.{both_ok, stretch_is}
 use Rattle.jc_tears_counters.specs.Leaving.{IsInstance, Leaves}
 use Rattle.jc_tears_counters.proofs.Setting.{bytes_other, run_leaves}
 

@@ -21,23 +21,23 @@ use Rattle.jc_frames.specs.declared.outcome.Stop.{Stop}
 use Rattle.jc_frames.specs.Calls.{arguments_on, left_to}
 use Rattle.jc_frames.specs.Frames.{Frames, Next, Goes, Throws, Ends, with_stack}
 use Rattle.jc_methods.specs.Headers.{header_in}
-use Rattle.jc_interp_plain.specs.Returns.{handed}
+use Rattle.jc_isolation.specs.jc_interp_plain.specs.Returns.{handed}
 use Rattle.jc_world.specs.declared.answer.Answer.{Answer}
 use Rattle.jc_world.specs.declared.answer.Answer.TheVariants.{Nothing, Value, Ask, Aborted}
 use Rattle.jc_world.specs.declared.answer.Asked.{Asked}
-use Rattle.jc_natives.specs.Natives.{called}
-use Rattle.jc_interp_calls.specs.declared.choose.Call.{Call}
-use Rattle.jc_interp_calls.specs.declared.enter.Callee.{Callee}
-use Rattle.jc_interp_calls.specs.declared.enter.CallSite.{CallSite}
-use Rattle.jc_interp_calls.specs.Asking.{asked_by, asking, sharing_method, takes_asked}
-use Rattle.jc_interp_calls.specs.Choosing.{chosen}
-use Rattle.jc_interp_calls.specs.Entering.{entering, switching, takes}
-use Rattle.jc_interp_calls.specs.Returning.{come_back, returning}
-use Rattle.jc_interp_calls.specs.Signatures.{argument_cells}
-use Rattle.jc_interp_calls.specs.Texts.{text_of}
-use Rattle.jc_interp.specs.Calling.{after_native, answered, invoked, made_by, natively}
+use Rattle.jc_isolation.specs.jc_natives.specs.Natives.{called}
+use Rattle.jc_isolation.specs.jc_interp_calls.specs.declared.choose.Call.{Call}
+use Rattle.jc_isolation.specs.jc_interp_calls.specs.declared.enter.Callee.{Callee}
+use Rattle.jc_isolation.specs.jc_interp_calls.specs.declared.enter.CallSite.{CallSite}
+use Rattle.jc_isolation.specs.jc_interp_calls.specs.Asking.{asked_by, asking, sharing_method, takes_asked}
+use Rattle.jc_isolation.specs.jc_interp_calls.specs.Choosing.{chosen}
+use Rattle.jc_isolation.specs.jc_interp_calls.specs.Entering.{entering, switching, takes}
+use Rattle.jc_isolation.specs.jc_interp_calls.specs.Returning.{come_back, returning}
+use Rattle.jc_isolation.specs.jc_interp_calls.specs.Signatures.{argument_cells}
+use Rattle.jc_isolation.specs.jc_interp_calls.specs.Texts.{text_of}
+use Rattle.jc_isolation.specs.jc_interp.specs.Calling.{after_native, answered, invoked, made_by, natively}
 use Rattle.jc_isolation.proofs.Due.{due_if, due_ok, due_some, due_stopped}
-use Rattle.jc_isolation_natives.specs.Natives.{IsNotCalled}
+use Rattle.jc_isolation.specs.Natives.{IsNotCalled}
 use Rattle.jc_tears_counters.specs.Leaving.{IsInstance, Leaves}
 use Rattle.jc_tears_counters.proofs.Natives.{calls_leave}
 

@@ -30,14 +30,14 @@ use Rattle.jc_world.specs.Objects.{object_at}
 use Rattle.jc_interp_values.specs.Making.{new_on_top}
 use Rattle.jc_interp_values.specs.Types.{class_named}
 use Rattle.jc_interp_values.specs.Values.{keepable, value_on}
-use Rattle.jc_interp_arrays.specs.Elements.{array_at, array_in, element_at, element_value, facts_if, has_elements, with_index}
-use Rattle.jc_interp_arrays.specs.Group.{indexed}
-use Rattle.jc_interp_arrays.specs.Loads.{counted, loaded, loaded_from_stack, stored, stored_from_stack}
-use Rattle.jc_interp_arrays.specs.Making.{array_made, kind_of, primitives_made, references_made}
+use Rattle.jc_isolation.specs.jc_interp_arrays.specs.Elements.{array_at, array_in, element_at, element_value, facts_if, has_elements, with_index}
+use Rattle.jc_isolation.specs.jc_interp_arrays.specs.Group.{indexed}
+use Rattle.jc_isolation.specs.jc_interp_arrays.specs.Loads.{counted, loaded, loaded_from_stack, stored, stored_from_stack}
+use Rattle.jc_isolation.specs.jc_interp_arrays.specs.Making.{array_made, kind_of, primitives_made, references_made}
 use Rattle.jc_opcodes.specs.declared.instr.TestedType.{TestedType}
 use Rattle.jc_packages.specs.Classes.{size_of}
-use Rattle.jc_interp_objects.specs.Casts.{checked, examined, own_type, tested}
-use Rattle.jc_interp_objects.specs.Making.{cells_for, if_room, instance_made, made_class}
+use Rattle.jc_isolation.specs.jc_interp_objects.specs.Casts.{checked, examined, own_type, tested}
+use Rattle.jc_isolation.specs.jc_interp_objects.specs.Making.{cells_for, if_room, instance_made, made_class}
 use Rattle.jc_isolation.proofs.Due.{due_if, due_ok, due_some, due_stopped, due_unless}
 use Rattle.jc_isolation.proofs.Reaching.{err_not_ok, object_is}
 use Rattle.jc_tears_counters.specs.Leaving.{IsInstance, Leaves}

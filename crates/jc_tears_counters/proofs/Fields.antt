@@ -15,7 +15,7 @@ use Rattle.jc_packages.specs.declared.target.Target.{Target}
 use Rattle.jc_packages.specs.declared.target.Target.TheVariants as targets
 use Rattle.jc_packages.specs.Classes.{is_below}
 use Rattle.jc_packages.specs.Lookups.{target_at}
-use Rattle.jc_interp_fields.specs.Named.{field_named, field_of, is_of}
+use Rattle.jc_isolation.specs.jc_interp_fields.specs.Named.{field_named, field_of, is_of}
 use Rattle.jc_opcodes.specs.declared.instr.Field.{Field}
 use Rattle.jc_opcodes.specs.declared.instr.Field.TheVariants.{GetStatic, PutStatic, Get, Put, GetOfThis, PutOfThis}
 use Rattle.jc_opcodes.specs.declared.instr.ValueType.{ValueType}
@@ -33,13 +33,13 @@ use Rattle.jc_firewall.specs.declared.access.Access.TheVariants.{InstanceField}
 use Rattle.jc_world.specs.Contexts.{allowed}
 use Rattle.jc_world.specs.Objects.{is_instance, is_instance_of, object_at}
 use Rattle.jc_interp_values.specs.Values.{keepable, value_on}
-use Rattle.jc_interp_fields.specs.declared.images.ImageWord.{ImageWord}
-use Rattle.jc_interp_fields.specs.declared.named.FieldOfClass.{FieldOfClass}
-use Rattle.jc_interp_fields.specs.declared.named.FieldOfImage.{FieldOfImage}
-use Rattle.jc_interp_fields.specs.Fields.{cell_if, cell_in, got, got_from_stack, got_of_this, has_cell, own_field, put, put_from_stack, put_of_this, reached, this_for_more, this_of}
-use Rattle.jc_interp_fields.specs.Group.{fielded}
-use Rattle.jc_interp_fields.specs.Images.{image_word, next_word, place_of}
-use Rattle.jc_interp_fields.specs.Statics.{got_static, halves, if_room, own_static, pair_set, put_static, set_in, static_set, static_value, word_set, words_set}
+use Rattle.jc_isolation.specs.jc_interp_fields.specs.declared.images.ImageWord.{ImageWord}
+use Rattle.jc_isolation.specs.jc_interp_fields.specs.declared.named.FieldOfClass.{FieldOfClass}
+use Rattle.jc_isolation.specs.jc_interp_fields.specs.declared.named.FieldOfImage.{FieldOfImage}
+use Rattle.jc_isolation.specs.jc_interp_fields.specs.Fields.{cell_if, cell_in, got, got_from_stack, got_of_this, has_cell, own_field, put, put_from_stack, put_of_this, reached, this_for_more, this_of}
+use Rattle.jc_isolation.specs.jc_interp_fields.specs.Group.{fielded}
+use Rattle.jc_isolation.specs.jc_interp_fields.specs.Images.{image_word, next_word, place_of}
+use Rattle.jc_isolation.specs.jc_interp_fields.specs.Statics.{got_static, halves, if_room, own_static, pair_set, put_static, set_in, static_set, static_value, word_set, words_set}
 use Rattle.jc_isolation.proofs.Due.{due_if, due_ok, due_some, due_unless}
 use Rattle.jc_isolation.proofs.Reaching.{err_not_ok, object_is, same_Ok}
 use Rattle.jc_tears_counters.specs.Leaving.{IsBeside, Leaves}

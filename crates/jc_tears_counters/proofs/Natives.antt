@@ -9,20 +9,20 @@ use Rattle.jc_heap.specs.declared.object.Kind.TheVariants.{BooleanArray, ByteArr
 use Rattle.jc_platform.specs.declared.names.PlatformMethod.{PlatformMethod}
 use Rattle.jc_platform.specs.declared.names.PlatformMethod.TheVariants.{AidEquals, AidEqualsBytes, AidGetBytes, AidInit, ApduExceptionInit, ApduExceptionThrowIt, ApduGetBuffer, ApduReceiveBytes, ApduSendBytes, ApduSetIncomingAndReceive, ApduSetOutgoing, ApduSetOutgoingAndSend, ApduSetOutgoingLength, AppletDeselect, AppletGetShareableInterfaceObject, AppletInit, AppletRegister, AppletRegisterBytes, AppletSelect, AppletSelectingApplet, ArithmeticExceptionInit, ArrayIndexOutOfBoundsExceptionInit, ArrayStoreExceptionInit, CardExceptionGetReason, CardExceptionInit, CardExceptionSetReason, CardExceptionThrowIt, CardRuntimeExceptionGetReason, CardRuntimeExceptionInit, CardRuntimeExceptionSetReason, CardRuntimeExceptionThrowIt, ClassCastExceptionInit, ExceptionInit, IndexOutOfBoundsExceptionInit, IsoExceptionInit, IsoExceptionThrowIt, JcSystemAbortTransaction, JcSystemBeginTransaction, JcSystemCommitTransaction, JcSystemGetAid, JcSystemGetAppletShareableInterfaceObject, JcSystemGetMaxCommitCapacity, JcSystemGetPreviousContextAid, JcSystemGetTransactionDepth, JcSystemGetUnusedCommitCapacity, JcSystemIsTransient, JcSystemLookupAid, JcSystemMakeTransientBooleanArray, JcSystemMakeTransientByteArray, JcSystemMakeTransientObjectArray, JcSystemMakeTransientShortArray, NegativeArraySizeExceptionInit, NullPointerExceptionInit, ObjectEquals, ObjectInit, OwnerPinCheck, OwnerPinGetTriesRemaining, OwnerPinInit, OwnerPinIsValidated, OwnerPinReset, OwnerPinResetAndUnblock, OwnerPinUpdate, PinExceptionInit, PinExceptionThrowIt, RuntimeExceptionInit, SecurityExceptionInit, SystemExceptionInit, SystemExceptionThrowIt, ThrowableInit, TransactionExceptionInit, TransactionExceptionThrowIt, UserExceptionInit, UserExceptionThrowIt, UtilArrayCompare, UtilArrayCopy, UtilGetShort, UtilMakeShort, UtilSetShort}
 use Rattle.jc_world.specs.Objects.{short_argument}
-use Rattle.jc_natives.specs.declared.parts.Part.{Part}
-use Rattle.jc_natives.specs.declared.parts.Part.TheVariants.{Objects, CardExceptions, Utilities, System, Aids, Pins, Applets, Apdus}
-use Rattle.jc_natives.specs.Natives.{called, called_in}
-use Rattle.jc_natives.specs.Parts.{part_of}
-use Rattle.jc_api_aid.specs.AidCalls.{aid_called}
-use Rattle.jc_api_apdu.specs.Apdu.{apdu_called, phase_of}
-use Rattle.jc_api_applet.specs.Applet.{applet_called}
-use Rattle.jc_api_pin.specs.OwnerPin.{pin_called}
-use Rattle.jc_api_system.specs.System.{system_called}
-use Rattle.jc_api_util.specs.Exceptions.{exception_called}
-use Rattle.jc_api_util.specs.Objects.{object_called}
-use Rattle.jc_api_util.specs.Util.{util_called}
+use Rattle.jc_isolation.specs.jc_natives.specs.declared.parts.Part.{Part}
+use Rattle.jc_isolation.specs.jc_natives.specs.declared.parts.Part.TheVariants.{Objects, CardExceptions, Utilities, System, Aids, Pins, Applets, Apdus}
+use Rattle.jc_isolation.specs.jc_natives.specs.Natives.{called, called_in}
+use Rattle.jc_isolation.specs.jc_natives.specs.Parts.{part_of}
+use Rattle.jc_isolation.specs.jc_api_aid.specs.AidCalls.{aid_called}
+use Rattle.jc_isolation.specs.jc_api_apdu.specs.Apdu.{apdu_called, phase_of}
+use Rattle.jc_isolation.specs.jc_api_applet.specs.Applet.{applet_called}
+use Rattle.jc_isolation.specs.jc_api_pin.specs.OwnerPin.{pin_called}
+use Rattle.jc_isolation.specs.jc_api_system.specs.System.{system_called}
+use Rattle.jc_isolation.specs.jc_api_util.specs.Exceptions.{exception_called}
+use Rattle.jc_isolation.specs.jc_api_util.specs.Objects.{object_called}
+use Rattle.jc_isolation.specs.jc_api_util.specs.Util.{util_called}
 use Rattle.jc_isolation.proofs.Due.{call_some}
-use Rattle.jc_isolation_natives.specs.Natives.{IsNotCalled}
+use Rattle.jc_isolation.specs.Natives.{IsNotCalled}
 use Rattle.jc_tears_counters.specs.Laws.{CallsLeave}
 use Rattle.jc_tears_counters.specs.Leaving.{IsInstance, Leaves}
 use Rattle.jc_tears_counters.proofs.Small.{aborted_due, begun_due, committed_due, event_due, got_due, looked_up_due, reason_due, same_due, server_due, thrown_due, transient_due}

@@ -31,8 +31,8 @@ use Rattle.jc_pin.specs.Updating.{bytes_put, unless_full, update_of, updated}
 use Rattle.jc_room.specs.Room.{has_space, lacks_room}
 use Rattle.jc_world.specs.Objects.{reference_argument, short_argument}
 use Rattle.jc_api_arguments.specs.declared.arrays.Stretch.{Stretch}
-use Rattle.jc_api_pin.specs.Arguments.{at_least_1, given_in, named_by, receiver, value_owned}
-use Rattle.jc_api_pin.specs.OwnerPin.{bytes_in, compared, constructed, guess_of, pin_checked, settled, tries_got, unless_refused, validated_got, value_set, was_reset, was_unblocked}
+use Rattle.jc_isolation.specs.jc_api_pin.specs.Arguments.{at_least_1, given_in, named_by, receiver, value_owned}
+use Rattle.jc_isolation.specs.jc_api_pin.specs.OwnerPin.{bytes_in, compared, constructed, guess_of, pin_checked, settled, tries_got, unless_refused, validated_got, value_set, was_reset, was_unblocked}
 use Rattle.jc_isolation.proofs.Due.{call_ok, call_some, due_if}
 use Rattle.jc_isolation.proofs.Reaching.{header_is}
 use Rattle.jc_tears_counters.specs.Leaving.{AreBeside, IsInstance, Leaves}

@@ -23,11 +23,11 @@ use Rattle.jc_registry.specs.Aids.{aid_at}
 use Rattle.jc_world.specs.Objects.{is_instance_of, reference_argument, short_argument}
 use Rattle.jc_api_arguments.specs.Arrays.{bytes_argument, elements_of}
 use Rattle.jc_api_arguments.specs.Instances.{instance_at}
-use Rattle.jc_api_util.specs.Exceptions.{reason_got, reason_set, thrown_with}
-use Rattle.jc_api_util.specs.Objects.{same_object}
-use Rattle.jc_api_system.specs.Sharing.{aid_looked_up, asked, asked_by, asked_if_known, server_asked}
-use Rattle.jc_api_system.specs.Transactions.{aborted_at, after_abort, begun_at, committed_at, committed_in}
-use Rattle.jc_api_system.specs.Transient.{array_made, event_got, wanted}
+use Rattle.jc_isolation.specs.jc_api_util.specs.Exceptions.{reason_got, reason_set, thrown_with}
+use Rattle.jc_isolation.specs.jc_api_util.specs.Objects.{same_object}
+use Rattle.jc_isolation.specs.jc_api_system.specs.Sharing.{aid_looked_up, asked, asked_by, asked_if_known, server_asked}
+use Rattle.jc_isolation.specs.jc_api_system.specs.Transactions.{aborted_at, after_abort, begun_at, committed_at, committed_in}
+use Rattle.jc_isolation.specs.jc_api_system.specs.Transient.{array_made, event_got, wanted}
 use Rattle.std.specs.Option.{option_and_then}
 use Rattle.jc_isolation.proofs.Due.{call_ok, call_some, call_unless, due_if}
 use Rattle.jc_tears_counters.specs.Leaving.{Leaves}

@@ -11,7 +11,7 @@ use Rattle.jc_opcodes.specs.declared.instr.Object.{Object}
 use Rattle.jc_opcodes.specs.declared.instr.Object.TheVariants.{New, Throw, CheckCast, InstanceOf}
 use Rattle.jc_opcodes.specs.Table.{decoded}
 use Rattle.jc_frames.specs.Frames.{Frames, Next, Goes, Throws, Ends}
-use Rattle.jc_interp.specs.Stepping.{at_place, caught, code_of, executed, fetched, instructed, is_plain, operated, stepped}
+use Rattle.jc_isolation.specs.jc_interp.specs.Stepping.{at_place, caught, code_of, executed, fetched, instructed, is_plain, operated, stepped}
 use Rattle.jc_memory.proofs.Doings.{each_always}
 use Rattle.jc_isolation.proofs.Due.{due_if}
 use Rattle.jc_tears_counters.specs.Laws.{IsHeld, StepsLeave}

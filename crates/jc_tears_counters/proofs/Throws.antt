@@ -16,10 +16,10 @@ use Rattle.jc_frames.specs.Cells.{reference_on}
 use Rattle.jc_frames.specs.Frames.{Caller, Frames, Next, with_stack}
 use Rattle.jc_world.specs.Contexts.{allowed}
 use Rattle.jc_world.specs.Objects.{if_so, is_instance_of, object_at}
-use Rattle.jc_interp_calls.specs.declared.catch.Catch.{Catch}
-use Rattle.jc_interp_calls.specs.declared.catch.Catch.TheVariants.{Here, Above, Faulty}
-use Rattle.jc_interp_calls.specs.Catching.{caught_in}
-use Rattle.jc_interp_calls.specs.Throwing.{carries, if_caught, if_passed, number_of, passed_on, reason_of, thrown, throwing, unwinding, unwound, with_reason}
+use Rattle.jc_isolation.specs.jc_interp_calls.specs.declared.catch.Catch.{Catch}
+use Rattle.jc_isolation.specs.jc_interp_calls.specs.declared.catch.Catch.TheVariants.{Here, Above, Faulty}
+use Rattle.jc_isolation.specs.jc_interp_calls.specs.Catching.{caught_in}
+use Rattle.jc_isolation.specs.jc_interp_calls.specs.Throwing.{carries, if_caught, if_passed, number_of, passed_on, reason_of, thrown, throwing, unwinding, unwound, with_reason}
 use Rattle.jc_isolation.proofs.Due.{due_if, due_ok, due_some}
 use Rattle.jc_tears_counters.specs.Leaving.{Leaves}
 

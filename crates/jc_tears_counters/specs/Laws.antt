@@ -13,11 +13,11 @@ use Rattle.jc_packages.specs.declared.target.Target.TheVariants.{InstanceField}
 use Rattle.jc_packages.specs.Classes.{is_below}
 use Rattle.jc_packages.specs.Lookups.{target_at}
 use Rattle.jc_packages.specs.Values.{Packages}
-use Rattle.jc_natives.specs.Natives.{called}
-use Rattle.jc_interp_calls.specs.declared.choose.Call.{Call}
-use Rattle.jc_interp.specs.Stepping.{stepped}
-use Rattle.jc_isolation_natives.specs.Natives.{IsNotCalled}
-use Rattle.jc_isolation_runs.specs.Steps.{IsCalled}
+use Rattle.jc_isolation.specs.jc_natives.specs.Natives.{called}
+use Rattle.jc_isolation.specs.jc_interp_calls.specs.declared.choose.Call.{Call}
+use Rattle.jc_isolation.specs.jc_interp.specs.Stepping.{stepped}
+use Rattle.jc_isolation.specs.Natives.{IsNotCalled}
+use Rattle.jc_isolation.specs.Steps.{IsCalled}
 use Rattle.jc_tears_counters.specs.Leaving.{IsInstance, Leaves}
 
 -- each effect of a call of a method of the platform leaves it, where the constructor of an AID is not called on it

@@ -1,7 +1,7 @@
 //! A card in memory with an applet.
-use jc_card::formatting::format;
 use jc_platform::example::EXAMPLE;
 use jc_words::{FuseStore, MemStore};
+use jcard_script::card::formatting::format;
 use jcard_script::mem_text::MemText;
 use jcard_script::script::run_script;
 use std::test::Fail;

@@ -1,8 +1,8 @@
 //! Entries of the registry that are damaged.
 use crate::counter::counter_card;
-use jc_card::card::Card;
-use jc_card::power_up::PowerFault;
 use jc_words::{FuseStore, MemStore, WordStore};
+use jcard_script::card::card::Card;
+use jcard_script::card::power_up::PowerFault;
 use std::test::Fail;
 
 // Where the number of applets and the first two entries of the registry stand: an AID object, a package's number, an

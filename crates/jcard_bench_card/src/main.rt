@@ -6,9 +6,9 @@
 mod watch;
 
 use crate::watch::Watch;
-use jc_card::formatting::format;
 use jc_platform::example::EXAMPLE;
 use jc_words::{FileStore, FuseStore, MemStore, WordStore};
+use jcard_script::card::formatting::format;
 use jcard_script::mem_text::MemText;
 use jcard_script::script::run_script;
 use std::process::ExitCode;

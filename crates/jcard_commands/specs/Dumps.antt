@@ -2,9 +2,9 @@
 use Rattle.std.specs.Prelude.{ℕ, ◌≡◌, ◌⊎◌, ◌*◌, true, false, List, [], ◌++◌, codes, length, Result, Ok, Err}
 use Rattle.jc_words.specs.Files.{IsImageSize}
 use Rattle.jc_words.specs.declared.image.ImageFault.{ImageFault}
-use Rattle.jc_card.specs.Inventory.{inventory_of}
-use Rattle.jc_card.specs.PowerUp.{HasHead, Refuses, fault_of}
-use Rattle.jc_card.specs.declared.inventory.Inventory.{Inventory}
+use Rattle.jcard_script.specs.jc_card.specs.Inventory.{inventory_of}
+use Rattle.jcard_script.specs.jc_card.specs.PowerUp.{HasHead, Refuses, fault_of}
+use Rattle.jcard_script.specs.jc_card.specs.declared.inventory.Inventory.{Inventory}
 use Rattle.jcard_script.specs.Texts.{IsCutOf}
 use Rattle.jcard_commands.specs.Asked.{Asked, asked}
 use Rattle.jcard_commands.specs.Images.{IsNotOpened, damage_of}

@@ -8,8 +8,8 @@ use Rattle.jcard_script.specs.Script.{Ends}
 use Rattle.jcard_script.specs.Texts.{IsCutOf}
 use Rattle.jcard_script.specs.declared.script.ScriptFault.{ScriptFault}
 use Rattle.jcard_script.specs.declared.script.ScriptFault.TheVariants.{ReadFailed, WriteFailed as NotWritten, BadLine, TooLong, PowerFault as NotPoweredUp}
-use Rattle.jc_card.specs.declared.power_up.PowerFault.{PowerFault}
-use Rattle.jc_card.specs.declared.power_up.PowerFault.TheVariants as power
+use Rattle.jcard_script.specs.jc_card.specs.declared.power_up.PowerFault.{PowerFault}
+use Rattle.jcard_script.specs.jc_card.specs.declared.power_up.PowerFault.TheVariants as power
 use Rattle.jcard_commands.specs.CommandLine.{Request, ToMake, ToRun, ToTell, taken_for}
 use Rattle.jcard_commands.specs.Dumps.{IsDump}
 use Rattle.jcard_commands.specs.Asked.{Asked, asked}

@@ -8,8 +8,8 @@ use Rattle.jc_image.specs.Laying.{first_free}
 use Rattle.jc_platform.specs.Tokens.{Tokens}
 use Rattle.jc_platform.specs.Table.{Reads}
 use Rattle.jc_platform.specs.declared.fault.TableFault.TheVariants.{BadTable as BadLine}
-use Rattle.jc_card.specs.Fixed.{fixed_size}
-use Rattle.jc_card.specs.Made.{IsMade, formatted}
+use Rattle.jcard_script.specs.jc_card.specs.Fixed.{fixed_size}
+use Rattle.jcard_script.specs.jc_card.specs.Made.{IsMade, formatted}
 use Rattle.jcard_commands.specs.Asked.{Asked, asked, more}
 use Rattle.jcard_commands.specs.Images.{IsNotRead}
 use Rattle.jcard_commands.specs.declared.fault.Fault.{Fault}

@@ -14,8 +14,8 @@ ghost use Rattle.jcard_commands.specs.Images.{damage_of};
 use crate::disk::Disk;
 use crate::fault::{Damage, Fault};
 use crate::listing::{Stop, write_applets, write_count, write_packages};
-use jc_card::inventory::Inventory;
 use jc_words::{ImageFault, WordStore};
+use jcard_script::card::inventory::Inventory;
 use jcard_script::streams::{TextOut, WriteFailed};
 use std::rt::Files;
 

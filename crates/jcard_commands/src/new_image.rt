@@ -7,11 +7,11 @@ ghost use Rattle.jcard_commands.specs.NewImages.{IsMadeFrom, IsNew, IsTable, IsW
 
 use crate::disk::Disk;
 use crate::fault::Fault;
-use jc_card::formatting::{FormatFault, format};
 use jc_platform::fault::TableFault;
 use jc_platform::read::read_table;
 use jc_words::WordStore;
 use jc_words::layout::LEAST_SIZE;
+use jcard_script::card::formatting::{FormatFault, format};
 use std::alloc::Global;
 use std::io::Read;
 use std::rt::Files;

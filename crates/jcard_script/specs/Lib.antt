@@ -7,3 +7,4 @@ pub mod Session
 pub mod Standing
 pub mod Texts
 pub mod Word
+pub use Rattle.jc_card as jc_card

@@ -10,3 +10,5 @@ mod session;
 pub mod std_text;
 pub mod streams;
 mod word;
+
+pub use jc_card as card;

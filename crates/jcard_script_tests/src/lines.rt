@@ -1,7 +1,7 @@
 //! Scripts on new cards, over good and failing streams.
-use jc_card::formatting::format;
 use jc_platform::example::EXAMPLE;
 use jc_words::{FuseStore, MemStore};
+use jcard_script::card::formatting::format;
 use jcard_script::mem_text::MemText;
 use jcard_script::script::{self, ScriptFault};
 use jcard_script::std_text::StdText;

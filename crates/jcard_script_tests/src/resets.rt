@@ -1,7 +1,7 @@
 //! Worked scripts, each with what it prints.
-use jc_card::formatting::format;
 use jc_platform::example::EXAMPLE;
 use jc_words::{FuseStore, MemStore, WordStore};
+use jcard_script::card::formatting::format;
 use jcard_script::mem_text::MemText;
 use jcard_script::script::run_script;
 use std::alloc::{AllocError, Global};

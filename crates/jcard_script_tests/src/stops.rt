@@ -1,8 +1,8 @@
 //! `stop K` lets exactly K writes pass, over lines and resets.
 use crate::weak_store::WeakStore;
-use jc_card::formatting::format;
 use jc_platform::example::EXAMPLE;
 use jc_words::{FuseStore, MemStore, WordStore};
+use jcard_script::card::formatting::format;
 use jcard_script::mem_text::MemText;
 use jcard_script::script::run_script;
 use std::alloc::{AllocError, Global};

@@ -7,9 +7,9 @@ use Rattle.jc_heap.specs.Moves.{Write, SetPlaces, Count, SetCells, AddObject, Ad
 use Rattle.jc_memory.specs.State.{MemoryState, Effect, Changes, Fills, Flags, Clears, Buries, Turns, Starts, Sends, effected, effected_all}
 use Rattle.jc_memory.specs.Doing.{Did}
 use Rattle.jc_memory.proofs.Doings.{down_did, each_did, took}
-use Rattle.jc_card.specs.Answers.{exchanging}
-use Rattle.jc_card.specs.CardState.{CardState}
-use Rattle.jc_card.specs.Loads.{Answered}
+use Rattle.jc_session.specs.jc_card.specs.Answers.{exchanging}
+use Rattle.jc_session.specs.jc_card.specs.CardState.{CardState}
+use Rattle.jc_session.specs.jc_card.specs.Loads.{Answered}
 use Rattle.jc_session.specs.Power.{KeptState}
 use Rattle.jc_session.specs.Starting.{IsPoweredUp}
 use Rattle.jc_tears.specs.Tears.{IsSettled}

@@ -7,8 +7,8 @@ use Rattle.jc_words.specs.Stores.{Fused}
 use Rattle.jc_commit.specs.Image.{IsGoodLog, recovered_of}
 use Rattle.jc_heap.specs.Heap.{HeapState, HeapView, resting}
 use Rattle.jc_memory.specs.Doing.{After, Made, Cut}
-use Rattle.jc_card.specs.CardState.{CardState}
-use Rattle.jc_card.specs.Loads.{Answered}
+use Rattle.jc_session.specs.jc_card.specs.CardState.{CardState}
+use Rattle.jc_session.specs.jc_card.specs.Loads.{Answered}
 use Rattle.jc_session.specs.declared.event.Event.{Event}
 use Rattle.jc_session.specs.declared.event.Event.TheVariants as event
 use Rattle.jc_session.specs.declared.event.Answer.{Answer}
@@ -17,8 +17,8 @@ use Rattle.jc_session.specs.Held.{told}
 use Rattle.jc_session.specs.Power.{Power, Up, Off, StoreState, IsStoreOf, kept, kept_by, kept_in, refused_once}
 use Rattle.jc_session.specs.Serving.{AnswersCommand, AnswersReset, SessionRun}
 use Rattle.jc_session.specs.Starting.{FailsToReset, IsPoweredUp, Starts}
-use Rattle.jc_card.specs.declared.power_up.PowerFault.{PowerFault as Fault}
-use Rattle.jc_card.specs.PowerUp.{Stands}
+use Rattle.jc_session.specs.jc_card.specs.declared.power_up.PowerFault.{PowerFault as Fault}
+use Rattle.jc_session.specs.jc_card.specs.PowerUp.{Stands}
 use Rattle.jc_session.proofs.Laid.{if_laid}
 use Rattle.jc_session.proofs.Resets.{fails_to_reset}
 use Rattle.jc_session.proofs.WholeSessions.{are_whole}

@@ -24,15 +24,15 @@ use Rattle.jc_packages.specs.Lookups.{applet_entry}
 use Rattle.jc_packages.specs.Values.{Packages}
 use Rattle.jc_linker.specs.declared.fault.LinkFault.TheVariants as link
 use Rattle.jc_registry.specs.Registry.{applet_with_aid}
-use Rattle.jc_interp.specs.Running.{running_lent}
-use Rattle.jc_dispatch.specs.declared.ending.Ending.{Ending}
-use Rattle.jc_dispatch.specs.Buffer.{apdu_buffer, apdu_object, filled}
-use Rattle.jc_dispatch.specs.Creating.{applet_named, created, created_by, created_of, creation_of, installing}
-use Rattle.jc_dispatch.specs.Endings.{is_accepted}
-use Rattle.jc_dispatch.specs.Installing.{installed, next_applet, with_installation}
-use Rattle.jc_dispatch.specs.LentCode.{code_run}
-use Rattle.jc_dispatch.specs.Phases.{after, called, closed, closing, instance_of, run_for}
-use Rattle.jc_dispatch.specs.Selecting.{accepted, header_of, left, managed, processed, selected, with_command, with_selected}
+use Rattle.jc_session.specs.jc_interp.specs.Running.{running_lent}
+use Rattle.jc_session.specs.jc_dispatch.specs.declared.ending.Ending.{Ending}
+use Rattle.jc_session.specs.jc_dispatch.specs.Buffer.{apdu_buffer, apdu_object, filled}
+use Rattle.jc_session.specs.jc_dispatch.specs.Creating.{applet_named, created, created_by, created_of, creation_of, installing}
+use Rattle.jc_session.specs.jc_dispatch.specs.Endings.{is_accepted}
+use Rattle.jc_session.specs.jc_dispatch.specs.Installing.{installed, next_applet, with_installation}
+use Rattle.jc_session.specs.jc_dispatch.specs.LentCode.{code_run}
+use Rattle.jc_session.specs.jc_dispatch.specs.Phases.{after, called, closed, closing, instance_of, run_for}
+use Rattle.jc_session.specs.jc_dispatch.specs.Selecting.{accepted, header_of, left, managed, processed, selected, with_command, with_selected}
 use Rattle.jc_card_packages.specs.Prepared.{PreparedPackage, prepared}
 use Rattle.jc_card_packages.specs.Material.{arrays_of, image_of, parts_of, statics_of}
 use Rattle.jc_card_packages.specs.declared.refusal.Refusal.{Refusal}
@@ -40,11 +40,11 @@ use Rattle.jc_card_packages.specs.declared.refusal.Refusal.TheVariants.{Full, Un
 use Rattle.jc_card_load.specs.declared.load.OpenLoad.{OpenLoad}
 use Rattle.jc_card_load.specs.declared.refusal.LoadRefusal.TheVariants.{NotIn}
 use Rattle.jc_card_load.specs.Ending.{Left, added, comes_in, drops, if_added, if_prepared, package_ended}
-use Rattle.jc_card.specs.Answers.{commanded, exchanging, exchanging_apdu, is_dispatched, managed as managed_commands, runs_code, short_bytes}
-use Rattle.jc_card.specs.Apdu.{Apdu, apdu_of}
-use Rattle.jc_card.specs.CardState.{CardState}
-use Rattle.jc_card.specs.Dispatching.{creates, dispatched, expected_by, is_select, manager_aid, most_instructions, routed, to_named, to_selected}
-use Rattle.jc_card.specs.Loads.{Answered, component_begins, component_ends, component_grows, load_begins, load_ends}
+use Rattle.jc_session.specs.jc_card.specs.Answers.{commanded, exchanging, exchanging_apdu, is_dispatched, managed as managed_commands, runs_code, short_bytes}
+use Rattle.jc_session.specs.jc_card.specs.Apdu.{Apdu, apdu_of}
+use Rattle.jc_session.specs.jc_card.specs.CardState.{CardState}
+use Rattle.jc_session.specs.jc_card.specs.Dispatching.{creates, dispatched, expected_by, is_select, manager_aid, most_instructions, routed, to_named, to_selected}
+use Rattle.jc_session.specs.jc_card.specs.Loads.{Answered, component_begins, component_ends, component_grows, load_begins, load_ends}
 
 -- no transaction is open
 abbrev pub IsShut : {A : Type 0} → A → MemoryState → Type 0

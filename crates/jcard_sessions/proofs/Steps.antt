@@ -7,12 +7,12 @@ use Rattle.jc_heap.specs.Heap.{HeapView, heap_of, heap_view, resting}
 use Rattle.jc_heap.specs.Image.{IsLaid}
 use Rattle.jc_memory.specs.State.{MemoryState}
 use Rattle.jc_memory.specs.Doing.{IsCutIn, LeftBy}
-use Rattle.jc_card.specs.Answers.{exchanging}
-use Rattle.jc_card.specs.CardState.{CardState}
-use Rattle.jc_card.specs.Made.{IsCardHeap, IsMade}
-use Rattle.jc_card.specs.Reset.{IsAtReset}
-use Rattle.jc_card.specs.PowerUp.{Refuses}
-use Rattle.jc_card.specs.declared.power_up.PowerFault.TheVariants.{StoreDown}
+use Rattle.jc_session.specs.jc_card.specs.Answers.{exchanging}
+use Rattle.jc_session.specs.jc_card.specs.CardState.{CardState}
+use Rattle.jc_session.specs.jc_card.specs.Made.{IsCardHeap, IsMade}
+use Rattle.jc_session.specs.jc_card.specs.Reset.{IsAtReset}
+use Rattle.jc_session.specs.jc_card.specs.PowerUp.{Refuses}
+use Rattle.jc_session.specs.jc_card.specs.declared.power_up.PowerFault.TheVariants.{StoreDown}
 use Rattle.jc_session.specs.Power.{Power, Up, Off, StoreState, is_laid, kept_in}
 use Rattle.jc_session.specs.Starting.{Starts}
 use Rattle.jc_session.proofs.Laid.{if_laid}

@@ -3,9 +3,9 @@ use Rattle.std.specs.Prelude.{ℕ, ◌≡◌, List}
 use Rattle.jc_heap.specs.Heap.{HeapView, resting}
 use Rattle.jc_memory.specs.State.{MemoryState}
 use Rattle.jc_memory.specs.Doing.{Did}
-use Rattle.jc_card.specs.Answers.{exchanging}
-use Rattle.jc_card.specs.CardState.{CardState}
-use Rattle.jc_card.specs.Loads.{Answered}
+use Rattle.jc_session.specs.jc_card.specs.Answers.{exchanging}
+use Rattle.jc_session.specs.jc_card.specs.CardState.{CardState}
+use Rattle.jc_session.specs.jc_card.specs.Loads.{Answered}
 
 -- no transaction is open, and a loss of power leaves the heap as it is
 abbrev pub IsResting : HeapView → Type 0

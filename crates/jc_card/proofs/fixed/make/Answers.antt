@@ -6,13 +6,13 @@ use Rattle.jc_card.proofs.fixed.make.Goals as goal
 
 pub returns-in-Ok-clause-head : goal.returns-in-Ok-clause-head
 returns-in-Ok-clause-head g c =
-    ap (λ v. v.durable.head) c.in-Ok.ensures.done
+    ap (λ v. v.durable.head) c.in-Ok.ensures.moves.2
     ∙ durable-changed c.args.heap.now c.args.object.now.kind c.class_number-class.result 0 c.args.object.now.cells c.requires.outside c.requires.settled
 
 pub returns-in-Ok-clause-top : goal.returns-in-Ok-clause-top
 returns-in-Ok-clause-top g c =
-    ap (λ v. v.now.top) c.in-Ok.ensures.done ∙ top-add c.args.heap.now.now c.args.object.now.kind c.class_number-class.result 0 c.args.object.now.cells
+    ap (λ v. v.now.top) c.in-Ok.ensures.moves.2 ∙ top-add c.args.heap.now.now c.args.object.now.kind c.class_number-class.result 0 c.args.object.now.cells
 
 pub returns-in-Ok-clause-end : goal.returns-in-Ok-clause-end
 returns-in-Ok-clause-end g c =
-    ap (λ v. area_end (v.now) Reset) c.in-Ok.ensures.done ∙ end-add c.args.heap.now.now c.args.object.now.kind c.class_number-class.result 0 c.args.object.now.cells
+    ap (λ v. area_end (v.now) Reset) c.in-Ok.ensures.moves.2 ∙ end-add c.args.heap.now.now c.args.object.now.kind c.class_number-class.result 0 c.args.object.now.cells

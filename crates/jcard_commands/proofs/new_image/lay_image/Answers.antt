@@ -2,7 +2,7 @@ use Rattle.std.proofs.Common.{◌≡◌, Err, rules, arith}
 use Rattle.std.proofs.lemmas.Grind.{common_steps}
 use Rattle.jc_platform.specs.declared.fault.TableFault.TheVariants.{BadTable}
 use Rattle.jc_platform.proofs.OneAnswer.{no_fault}
-use Rattle.jc_card.specs.declared.formatting.FormatFault.TheVariants.{BadTable as BadLine}
+use Rattle.jcard_script.specs.jc_card.specs.declared.formatting.FormatFault.TheVariants.{BadTable as BadLine}
 use Rattle.jcard_commands.proofs.new_image.lay_image.Goals as goal
 
 pub returns-in-Err-BadTable : goal.returns-in-Err-BadTable

@@ -3,8 +3,8 @@ use Rattle.jc_words.specs.Layout.{top_address}
 use Rattle.jc_commit.specs.State.{has_room_for}
 use Rattle.jc_commit.specs.declared.refusal.WriteRefusal.TheVariants.{StoreDown}
 use Rattle.jc_heap.specs.Fresh.{KeepsBelow, Fills}
-use Rattle.jc_heap.specs.Object.{kind_number, new_object, AnObject, is_object, cells_of, facts_of}
-use Rattle.jc_heap.specs.Heap.{heap_view, changed, add_object, end_address, item_at}
+use Rattle.jc_heap.specs.Object.{kind_number, new_object}
+use Rattle.jc_heap.specs.Heap.{heap_view, end_address, item_at}
 use Rattle.jc_heap.proofs.Changing.{up_is}
 use Rattle.jc_heap.proofs.Views.{nothing_at_top, view_top}
 use Rattle.jc_heap.proofs.NewObjects.{fills_same, lacks_space, has_space, new_record, only_down, fresh_stopped_sound, fresh_stopped_view, top_stopped_sound, top_stopped_view, view_made, sound_made, made_object}
@@ -16,14 +16,8 @@ use Rattle.jc_heap.proofs.heap.Heap.new_persistent.Goals as goal
 pub returns-then-end-from-clause-free : goal.returns-then-end-from-clause-free
 returns-then-end-from-clause-free g c = nothing_at_top c.self.inside.journal c.args.self.now c.self.inside.size c.self.view_is (c.self.invariant.now (up_is c.self.inside.journal c.args.self.now c.self.inside.size c.self.view_is c.requires))
 
-pub returns-then-end-from-clause-heap_full : goal.returns-then-end-from-clause-heap_full
-returns-then-end-from-clause-heap_full g c = ((λ _. lacks_space c.self.inside.journal c.args.self.now c.self.inside.size (4 + c.args.length) c.self.view_is (c.self.invariant.now (up_is c.self.inside.journal c.args.self.now c.self.inside.size c.self.view_is c.requires)) (omega arith)), λ _. refl)
-
 pub returns-then-not-fits-clause-free : goal.returns-then-not-fits-clause-free
 returns-then-not-fits-clause-free g c = nothing_at_top c.self.inside.journal c.args.self.now c.self.inside.size c.self.view_is (c.self.invariant.now (up_is c.self.inside.journal c.args.self.now c.self.inside.size c.self.view_is c.requires))
-
-pub returns-then-not-fits-clause-heap_full : goal.returns-then-not-fits-clause-heap_full
-returns-then-not-fits-clause-heap_full g c = ((λ e. cc), λ l. absurd (has_space c.self.inside.journal c.args.self.now c.self.inside.size (4 + c.args.length) c.self.view_is (c.self.invariant.now (up_is c.self.inside.journal c.args.self.now c.self.inside.size c.self.view_is c.requires)) (omega arith) l))
 
 pub invariant_of-self : goal.invariant_of-self
 invariant_of-self g c =
@@ -32,14 +26,6 @@ invariant_of-self g c =
 
 pub returns-in_default-clause-free : goal.returns-in_default-clause-free
 returns-in_default-clause-free g c = nothing_at_top c.self.inside.journal c.args.self.now c.self.inside.size c.self.view_is (c.self.invariant.now (up_is c.self.inside.journal c.args.self.now c.self.inside.size c.self.view_is c.requires))
-
-pub returns-in_default-clause-heap_full : goal.returns-in_default-clause-heap_full
-returns-in_default-clause-heap_full g c = ((λ e. cc), λ l. absurd (has_space c.self.inside.journal c.args.self.now c.self.inside.size (4 + c.args.length) c.self.view_is (c.self.invariant.now (up_is c.self.inside.journal c.args.self.now c.self.inside.size c.self.view_is c.requires)) (omega arith) l))
-
-pub returns-in_default-clause-stopped : goal.returns-in_default-clause-stopped
-returns-in_default-clause-stopped g c =
-    let below : KeepsBelow (get_or c.self.inside.journal.plain top_address 0) c.self.inside.journal c.write_record.new.journal = subst (λ t. KeepsBelow t c.self.inside.journal c.write_record.new.journal) c.read-top.ensures c.write_record.ensures.below in
-    λ _. fresh_stopped_view c.self.inside.journal c.write_record.new.journal c.self.inside.size c.self.invariant (up_is c.self.inside.journal c.args.self.now c.self.inside.size c.self.view_is c.requires) below c.args.self.now c.self.view_is c.in_default.ensures.stopped
 
 pub invariant_of-self-in_default-write : goal.invariant_of-self-in_default-write
 invariant_of-self-in_default-write g c =
@@ -53,18 +39,6 @@ invariant_of-self-in_default-write g c =
 pub returns-in_default-write-clause-free : goal.returns-in_default-write-clause-free
 returns-in_default-write-clause-free g c = nothing_at_top c.self.inside.journal c.args.self.now c.self.inside.size c.self.view_is (c.self.invariant.now (up_is c.self.inside.journal c.args.self.now c.self.inside.size c.self.view_is c.requires))
 
-pub returns-in_default-write-clause-heap_full : goal.returns-in_default-write-clause-heap_full
-returns-in_default-write-clause-heap_full g c = ((λ e. cc), λ l. absurd (has_space c.self.inside.journal c.args.self.now c.self.inside.size (4 + c.args.length) c.self.view_is (c.self.invariant.now (up_is c.self.inside.journal c.args.self.now c.self.inside.size c.self.view_is c.requires)) (omega arith) l))
-
-pub returns-in_default-write-clause-stopped : goal.returns-in_default-write-clause-stopped
-returns-in_default-write-clause-stopped g c =
-    let below : KeepsBelow (get_or c.self.inside.journal.plain top_address 0) c.self.inside.journal c.write_record.new.journal = subst (λ t. KeepsBelow t c.self.inside.journal c.write_record.new.journal) c.read-top.ensures c.write_record.ensures.below in
-    let fills : Fills (get_or c.self.inside.journal.plain top_address 0) (new_record (kind_number c.args.kind) c.args.class c.args.owner c.args.length) c.self.inside.journal c.write_record.new.journal = subst (λ n. Fills (get_or c.self.inside.journal.plain top_address 0) (new_record n c.args.class c.args.owner c.args.length) c.self.inside.journal c.write_record.new.journal) c.number.ensures
-    (unfold new_record in subst (λ t. Fills t (c.number.result ∷ c.args.class ∷ c.args.owner ∷ c.args.length ∷ [] ++ replicate c.args.length 0) c.self.inside.journal c.write_record.new.journal) c.read-top.ensures (fills_same c.read-top.result c.number.result c.class.inside.0 c.args.class c.owner.inside.0 c.args.owner (c.args.length ∷ [] ++ replicate c.args.length 0) c.self.inside.journal c.write_record.new.journal c.class.view_is c.owner.view_is c.in-Ok.ensures.done)) in
-    let fit : has_room_for c.self.inside.journal.in_transaction c.self.inside.journal.touched (top_address ∷ []) ≡ true = (sym c.fits.ensures ∙ c.if-not-fits.false) in
-    let down : c.in_default-write.field-0 ≡ StoreDown = only_down (get_or c.self.inside.journal.plain top_address 0) c.self.inside.journal c.write_record.new.journal below (top_address ∷ []) fit c.in_default-write.field-0 (λ e. c.in_default-write.ensures.full.0 (ap Err e)) in
-    λ _. top_stopped_view c.self.inside.journal c.write_record.new.journal c.self.inside.size c.self.invariant (up_is c.self.inside.journal c.args.self.now c.self.inside.size c.self.view_is c.requires) below (new_record (kind_number c.args.kind) c.args.class c.args.owner c.args.length) fills c.write.new.self c.args.self.now c.self.view_is (c.in_default-write.ensures.stopped (ap Err down))
-
 pub invariant_of-self-2 : goal.invariant_of-self-2
 invariant_of-self-2 g c =
     let below : KeepsBelow (get_or c.self.inside.journal.plain top_address 0) c.self.inside.journal c.write_record.new.journal = subst (λ t. KeepsBelow t c.self.inside.journal c.write_record.new.journal) c.read-top.ensures c.write_record.ensures.below in
@@ -74,54 +48,8 @@ invariant_of-self-2 g c =
     let fits : (c.from.result + c.from-2.result + c.from-3.result) ≤ c.self.inside.size = omega arith in
     sound_made c.self.inside.journal c.write_record.new.journal c.write.new.self c.self.inside.size c.args.kind c.args.class c.args.owner c.args.length (c.from.result + c.from-2.result + c.from-3.result) c.self.invariant (up_is c.self.inside.journal c.args.self.now c.self.inside.size c.self.view_is c.requires) below fills end fits c.in-Ok-write.ensures.ok
 
-pub returns-clause-object : goal.returns-clause-object
-returns-clause-object g c =
-    let below : KeepsBelow (get_or c.self.inside.journal.plain top_address 0) c.self.inside.journal c.write_record.new.journal = subst (λ t. KeepsBelow t c.self.inside.journal c.write_record.new.journal) c.read-top.ensures c.write_record.ensures.below in
-    let fills : Fills (get_or c.self.inside.journal.plain top_address 0) (new_record (kind_number c.args.kind) c.args.class c.args.owner c.args.length) c.self.inside.journal c.write_record.new.journal = subst (λ n. Fills (get_or c.self.inside.journal.plain top_address 0) (new_record n c.args.class c.args.owner c.args.length) c.self.inside.journal c.write_record.new.journal) c.number.ensures
-    (unfold new_record in subst (λ t. Fills t (c.number.result ∷ c.args.class ∷ c.args.owner ∷ c.args.length ∷ [] ++ replicate c.args.length 0) c.self.inside.journal c.write_record.new.journal) c.read-top.ensures (fills_same c.read-top.result c.number.result c.class.inside.0 c.args.class c.owner.inside.0 c.args.owner (c.args.length ∷ [] ++ replicate c.args.length 0) c.self.inside.journal c.write_record.new.journal c.class.view_is c.owner.view_is c.in-Ok.ensures.done)) in
-    let end : (c.from.result + c.from-2.result + c.from-3.result) ≡ (get_or c.self.inside.journal.plain top_address 0) + (4 + c.args.length) = omega arith in
-    let fits : (c.from.result + c.from-2.result + c.from-3.result) ≤ c.self.inside.size = omega arith in
-    let done : heap_view c.write.new.self c.self.inside.size ≡ changed c.args.self.now (add_object c.args.self.now.now (new_object c.args.kind c.args.class c.args.owner c.args.length) (4 + c.args.length)) (end_address ∷ []) (4 + c.args.length) = view_made c.self.inside.journal c.write_record.new.journal c.write.new.self c.args.self.now c.self.inside.size c.args.kind c.args.class c.args.owner c.args.length (c.from.result + c.from-2.result + c.from-3.result) c.self.view_is c.self.invariant (up_is c.self.inside.journal c.args.self.now c.self.inside.size c.self.view_is c.requires) below fills end fits c.in-Ok-write.ensures.ok in
-    let there : item_at ((heap_view c.write.new.self c.self.inside.size).now) c.at.result ≡ AnObject (new_object c.args.kind c.args.class c.args.owner c.args.length) =
-    ap (item_at ((heap_view c.write.new.self c.self.inside.size).now)) (c.at.ensures ∙ c.read-top.ensures ∙ sym (view_top c.self.inside.journal c.args.self.now c.self.inside.size c.self.view_is (c.self.invariant.now (up_is c.self.inside.journal c.args.self.now c.self.inside.size c.self.view_is c.requires)))) ∙ ap (λ v. item_at (v.now) c.args.self.now.now.top) done ∙ made_object c.args.self.now (new_object c.args.kind c.args.class c.args.owner c.args.length) (4 + c.args.length) (4 + c.args.length) (end_address ∷ []) (nothing_at_top c.self.inside.journal c.args.self.now c.self.inside.size c.self.view_is (c.self.invariant.now (up_is c.self.inside.journal c.args.self.now c.self.inside.size c.self.view_is c.requires))) in
-    ap is_object there
-
-pub returns-clause-cells : goal.returns-clause-cells
-returns-clause-cells g c =
-    let below : KeepsBelow (get_or c.self.inside.journal.plain top_address 0) c.self.inside.journal c.write_record.new.journal = subst (λ t. KeepsBelow t c.self.inside.journal c.write_record.new.journal) c.read-top.ensures c.write_record.ensures.below in
-    let fills : Fills (get_or c.self.inside.journal.plain top_address 0) (new_record (kind_number c.args.kind) c.args.class c.args.owner c.args.length) c.self.inside.journal c.write_record.new.journal = subst (λ n. Fills (get_or c.self.inside.journal.plain top_address 0) (new_record n c.args.class c.args.owner c.args.length) c.self.inside.journal c.write_record.new.journal) c.number.ensures
-    (unfold new_record in subst (λ t. Fills t (c.number.result ∷ c.args.class ∷ c.args.owner ∷ c.args.length ∷ [] ++ replicate c.args.length 0) c.self.inside.journal c.write_record.new.journal) c.read-top.ensures (fills_same c.read-top.result c.number.result c.class.inside.0 c.args.class c.owner.inside.0 c.args.owner (c.args.length ∷ [] ++ replicate c.args.length 0) c.self.inside.journal c.write_record.new.journal c.class.view_is c.owner.view_is c.in-Ok.ensures.done)) in
-    let end : (c.from.result + c.from-2.result + c.from-3.result) ≡ (get_or c.self.inside.journal.plain top_address 0) + (4 + c.args.length) = omega arith in
-    let fits : (c.from.result + c.from-2.result + c.from-3.result) ≤ c.self.inside.size = omega arith in
-    let done : heap_view c.write.new.self c.self.inside.size ≡ changed c.args.self.now (add_object c.args.self.now.now (new_object c.args.kind c.args.class c.args.owner c.args.length) (4 + c.args.length)) (end_address ∷ []) (4 + c.args.length) = view_made c.self.inside.journal c.write_record.new.journal c.write.new.self c.args.self.now c.self.inside.size c.args.kind c.args.class c.args.owner c.args.length (c.from.result + c.from-2.result + c.from-3.result) c.self.view_is c.self.invariant (up_is c.self.inside.journal c.args.self.now c.self.inside.size c.self.view_is c.requires) below fills end fits c.in-Ok-write.ensures.ok in
-    let there : item_at ((heap_view c.write.new.self c.self.inside.size).now) c.at.result ≡ AnObject (new_object c.args.kind c.args.class c.args.owner c.args.length) =
-    ap (item_at ((heap_view c.write.new.self c.self.inside.size).now)) (c.at.ensures ∙ c.read-top.ensures ∙ sym (view_top c.self.inside.journal c.args.self.now c.self.inside.size c.self.view_is (c.self.invariant.now (up_is c.self.inside.journal c.args.self.now c.self.inside.size c.self.view_is c.requires)))) ∙ ap (λ v. item_at (v.now) c.args.self.now.now.top) done ∙ made_object c.args.self.now (new_object c.args.kind c.args.class c.args.owner c.args.length) (4 + c.args.length) (4 + c.args.length) (end_address ∷ []) (nothing_at_top c.self.inside.journal c.args.self.now c.self.inside.size c.self.view_is (c.self.invariant.now (up_is c.self.inside.journal c.args.self.now c.self.inside.size c.self.view_is c.requires))) in
-    ap cells_of there
-
-pub returns-clause-named : goal.returns-clause-named
-returns-clause-named g c = (c.at.ensures ∙ c.read-top.ensures ∙ sym (view_top c.self.inside.journal c.args.self.now c.self.inside.size c.self.view_is (c.self.invariant.now (up_is c.self.inside.journal c.args.self.now c.self.inside.size c.self.view_is c.requires))))
-
 pub returns-clause-free : goal.returns-clause-free
 returns-clause-free g c = nothing_at_top c.self.inside.journal c.args.self.now c.self.inside.size c.self.view_is (c.self.invariant.now (up_is c.self.inside.journal c.args.self.now c.self.inside.size c.self.view_is c.requires))
-
-pub returns-clause-done : goal.returns-clause-done
-returns-clause-done g c =
-    let below : KeepsBelow (get_or c.self.inside.journal.plain top_address 0) c.self.inside.journal c.write_record.new.journal = subst (λ t. KeepsBelow t c.self.inside.journal c.write_record.new.journal) c.read-top.ensures c.write_record.ensures.below in
-    let fills : Fills (get_or c.self.inside.journal.plain top_address 0) (new_record (kind_number c.args.kind) c.args.class c.args.owner c.args.length) c.self.inside.journal c.write_record.new.journal = subst (λ n. Fills (get_or c.self.inside.journal.plain top_address 0) (new_record n c.args.class c.args.owner c.args.length) c.self.inside.journal c.write_record.new.journal) c.number.ensures
-    (unfold new_record in subst (λ t. Fills t (c.number.result ∷ c.args.class ∷ c.args.owner ∷ c.args.length ∷ [] ++ replicate c.args.length 0) c.self.inside.journal c.write_record.new.journal) c.read-top.ensures (fills_same c.read-top.result c.number.result c.class.inside.0 c.args.class c.owner.inside.0 c.args.owner (c.args.length ∷ [] ++ replicate c.args.length 0) c.self.inside.journal c.write_record.new.journal c.class.view_is c.owner.view_is c.in-Ok.ensures.done)) in
-    let end : (c.from.result + c.from-2.result + c.from-3.result) ≡ (get_or c.self.inside.journal.plain top_address 0) + (4 + c.args.length) = omega arith in
-    let fits : (c.from.result + c.from-2.result + c.from-3.result) ≤ c.self.inside.size = omega arith in
-    view_made c.self.inside.journal c.write_record.new.journal c.write.new.self c.args.self.now c.self.inside.size c.args.kind c.args.class c.args.owner c.args.length (c.from.result + c.from-2.result + c.from-3.result) c.self.view_is c.self.invariant (up_is c.self.inside.journal c.args.self.now c.self.inside.size c.self.view_is c.requires) below fills end fits c.in-Ok-write.ensures.ok
-
-pub returns-clause-heap_full : goal.returns-clause-heap_full
-returns-clause-heap_full g c = ((λ e. cc), λ l. absurd (has_space c.self.inside.journal c.args.self.now c.self.inside.size (4 + c.args.length) c.self.view_is (c.self.invariant.now (up_is c.self.inside.journal c.args.self.now c.self.inside.size c.self.view_is c.requires)) (omega arith) l))
-
-pub returns-clause-facts : goal.returns-clause-facts
-returns-clause-facts g c =
-    let there : item_at ((heap_view c.write.new.self c.self.inside.size).now) c.at.result ≡ AnObject (new_object c.args.kind c.args.class c.args.owner c.args.length) =
-    ap (item_at ((heap_view c.write.new.self c.self.inside.size).now)) (returns-clause-named g c) ∙ ap (λ v. item_at (v.now) c.args.self.now.now.top) (returns-clause-done g c)
-    ∙ made_object c.args.self.now (new_object c.args.kind c.args.class c.args.owner c.args.length) (4 + c.args.length) (4 + c.args.length) (end_address ∷ []) (returns-clause-free g c) in
-    ap facts_of there
 
 pub returns-then-end-from-clause-moves : goal.returns-then-end-from-clause-moves
 returns-then-end-from-clause-moves g c =
@@ -135,15 +63,32 @@ returns-then-not-fits-clause-moves g c =
 
 pub returns-in_default-clause-moves : goal.returns-in_default-clause-moves
 returns-in_default-clause-moves g c =
+    let below : KeepsBelow (get_or c.self.inside.journal.plain top_address 0) c.self.inside.journal c.write_record.new.journal = subst (λ t. KeepsBelow t c.self.inside.journal c.write_record.new.journal) c.read-top.ensures c.write_record.ensures.below in
     unless_cut (no_object c.args.self.now (4 + c.args.length) (end_address ∷ [])) c.args.self.now (heap_view c.write_record.new.journal c.self.inside.size) (AddObject (new_object c.args.kind c.args.class c.args.owner c.args.length) (4 + c.args.length)) c.args.self.now.now.top
-    (object_fits c.args.self.now (4 + c.args.length) (end_address ∷ []) (has_space c.self.inside.journal c.args.self.now c.self.inside.size (4 + c.args.length) c.self.view_is (c.self.invariant.now (up_is c.self.inside.journal c.args.self.now c.self.inside.size c.self.view_is c.requires)) (omega arith)) (end_room c.self.inside.journal c.args.self.now c.self.inside.size c.self.view_is ∙ (sym c.fits.ensures ∙ c.if-not-fits.false))) (returns-in_default-clause-stopped g c refl)
+    (object_fits c.args.self.now (4 + c.args.length) (end_address ∷ []) (has_space c.self.inside.journal c.args.self.now c.self.inside.size (4 + c.args.length) c.self.view_is (c.self.invariant.now (up_is c.self.inside.journal c.args.self.now c.self.inside.size c.self.view_is c.requires)) (omega arith)) (end_room c.self.inside.journal c.args.self.now c.self.inside.size c.self.view_is ∙ (sym c.fits.ensures ∙ c.if-not-fits.false))) (fresh_stopped_view c.self.inside.journal c.write_record.new.journal c.self.inside.size c.self.invariant (up_is c.self.inside.journal c.args.self.now c.self.inside.size c.self.view_is c.requires) below c.args.self.now c.self.view_is c.in_default.ensures.stopped)
 
 pub returns-in_default-write-clause-moves : goal.returns-in_default-write-clause-moves
 returns-in_default-write-clause-moves g c =
+    let below : KeepsBelow (get_or c.self.inside.journal.plain top_address 0) c.self.inside.journal c.write_record.new.journal = subst (λ t. KeepsBelow t c.self.inside.journal c.write_record.new.journal) c.read-top.ensures c.write_record.ensures.below in
+    let fills : Fills (get_or c.self.inside.journal.plain top_address 0) (new_record (kind_number c.args.kind) c.args.class c.args.owner c.args.length) c.self.inside.journal c.write_record.new.journal = subst (λ n. Fills (get_or c.self.inside.journal.plain top_address 0) (new_record n c.args.class c.args.owner c.args.length) c.self.inside.journal c.write_record.new.journal) c.number.ensures
+    (unfold new_record in subst (λ t. Fills t (c.number.result ∷ c.args.class ∷ c.args.owner ∷ c.args.length ∷ [] ++ replicate c.args.length 0) c.self.inside.journal c.write_record.new.journal) c.read-top.ensures (fills_same c.read-top.result c.number.result c.class.inside.0 c.args.class c.owner.inside.0 c.args.owner (c.args.length ∷ [] ++ replicate c.args.length 0) c.self.inside.journal c.write_record.new.journal c.class.view_is c.owner.view_is c.in-Ok.ensures.done)) in
+    let fit : has_room_for c.self.inside.journal.in_transaction c.self.inside.journal.touched (top_address ∷ []) ≡ true = (sym c.fits.ensures ∙ c.if-not-fits.false) in
+    let down : c.in_default-write.field-0 ≡ StoreDown = only_down (get_or c.self.inside.journal.plain top_address 0) c.self.inside.journal c.write_record.new.journal below (top_address ∷ []) fit c.in_default-write.field-0 (λ e. c.in_default-write.ensures.full.0 (ap Err e)) in
     unless_cut (no_object c.args.self.now (4 + c.args.length) (end_address ∷ [])) c.args.self.now (heap_view c.write.new.self c.self.inside.size) (AddObject (new_object c.args.kind c.args.class c.args.owner c.args.length) (4 + c.args.length)) c.args.self.now.now.top
-    (object_fits c.args.self.now (4 + c.args.length) (end_address ∷ []) (has_space c.self.inside.journal c.args.self.now c.self.inside.size (4 + c.args.length) c.self.view_is (c.self.invariant.now (up_is c.self.inside.journal c.args.self.now c.self.inside.size c.self.view_is c.requires)) (omega arith)) (end_room c.self.inside.journal c.args.self.now c.self.inside.size c.self.view_is ∙ (sym c.fits.ensures ∙ c.if-not-fits.false))) (returns-in_default-write-clause-stopped g c refl)
+    (object_fits c.args.self.now (4 + c.args.length) (end_address ∷ []) (has_space c.self.inside.journal c.args.self.now c.self.inside.size (4 + c.args.length) c.self.view_is (c.self.invariant.now (up_is c.self.inside.journal c.args.self.now c.self.inside.size c.self.view_is c.requires)) (omega arith)) (end_room c.self.inside.journal c.args.self.now c.self.inside.size c.self.view_is ∙ (sym c.fits.ensures ∙ c.if-not-fits.false))) (top_stopped_view c.self.inside.journal c.write_record.new.journal c.self.inside.size c.self.invariant (up_is c.self.inside.journal c.args.self.now c.self.inside.size c.self.view_is c.requires) below (new_record (kind_number c.args.kind) c.args.class c.args.owner c.args.length) fills c.write.new.self c.args.self.now c.self.view_is (c.in_default-write.ensures.stopped (ap Err down)))
 
 pub returns-clause-moves : goal.returns-clause-moves
 returns-clause-moves g c =
+    let below : KeepsBelow (get_or c.self.inside.journal.plain top_address 0) c.self.inside.journal c.write_record.new.journal = subst (λ t. KeepsBelow t c.self.inside.journal c.write_record.new.journal) c.read-top.ensures c.write_record.ensures.below in
+    let fills : Fills (get_or c.self.inside.journal.plain top_address 0) (new_record (kind_number c.args.kind) c.args.class c.args.owner c.args.length) c.self.inside.journal c.write_record.new.journal = subst (λ n. Fills (get_or c.self.inside.journal.plain top_address 0) (new_record n c.args.class c.args.owner c.args.length) c.self.inside.journal c.write_record.new.journal) c.number.ensures
+    (unfold new_record in subst (λ t. Fills t (c.number.result ∷ c.args.class ∷ c.args.owner ∷ c.args.length ∷ [] ++ replicate c.args.length 0) c.self.inside.journal c.write_record.new.journal) c.read-top.ensures (fills_same c.read-top.result c.number.result c.class.inside.0 c.args.class c.owner.inside.0 c.args.owner (c.args.length ∷ [] ++ replicate c.args.length 0) c.self.inside.journal c.write_record.new.journal c.class.view_is c.owner.view_is c.in-Ok.ensures.done)) in
+    let end : (c.from.result + c.from-2.result + c.from-3.result) ≡ (get_or c.self.inside.journal.plain top_address 0) + (4 + c.args.length) = omega arith in
+    let fits : (c.from.result + c.from-2.result + c.from-3.result) ≤ c.self.inside.size = omega arith in
     unless_done (no_object c.args.self.now (4 + c.args.length) (end_address ∷ [])) c.args.self.now (heap_view c.write.new.self c.self.inside.size) (AddObject (new_object c.args.kind c.args.class c.args.owner c.args.length) (4 + c.args.length)) c.at.result c.args.self.now.now.top
-    (object_fits c.args.self.now (4 + c.args.length) (end_address ∷ []) (has_space c.self.inside.journal c.args.self.now c.self.inside.size (4 + c.args.length) c.self.view_is (c.self.invariant.now (up_is c.self.inside.journal c.args.self.now c.self.inside.size c.self.view_is c.requires)) (omega arith)) (end_room c.self.inside.journal c.args.self.now c.self.inside.size c.self.view_is ∙ (sym c.fits.ensures ∙ c.if-not-fits.false))) (returns-clause-named g c) (returns-clause-done g c)
+    (object_fits c.args.self.now (4 + c.args.length) (end_address ∷ []) (has_space c.self.inside.journal c.args.self.now c.self.inside.size (4 + c.args.length) c.self.view_is (c.self.invariant.now (up_is c.self.inside.journal c.args.self.now c.self.inside.size c.self.view_is c.requires)) (omega arith)) (end_room c.self.inside.journal c.args.self.now c.self.inside.size c.self.view_is ∙ (sym c.fits.ensures ∙ c.if-not-fits.false))) (c.at.ensures ∙ c.read-top.ensures ∙ sym (view_top c.self.inside.journal c.args.self.now c.self.inside.size c.self.view_is (c.self.invariant.now (up_is c.self.inside.journal c.args.self.now c.self.inside.size c.self.view_is c.requires)))) (view_made c.self.inside.journal c.write_record.new.journal c.write.new.self c.args.self.now c.self.inside.size c.args.kind c.args.class c.args.owner c.args.length (c.from.result + c.from-2.result + c.from-3.result) c.self.view_is c.self.invariant (up_is c.self.inside.journal c.args.self.now c.self.inside.size c.self.view_is c.requires) below fills end fits c.in-Ok-write.ensures.ok)
+
+pub returns-clause-made : goal.returns-clause-made
+returns-clause-made g c =
+    let moves = returns-clause-moves g c in
+    ap (item_at ((heap_view c.write.new.self c.self.inside.size).now)) moves.1 ∙ ap (λ v. item_at (v.now) c.args.self.now.now.top) moves.2
+    ∙ made_object c.args.self.now (new_object c.args.kind c.args.class c.args.owner c.args.length) (4 + c.args.length) (4 + c.args.length) (end_address ∷ []) (returns-clause-free g c)

@@ -1,0 +1,42 @@
+-- Runs.
+use Rattle.std.proofs.Common.{◌≡◌, ℕ, zero, suc, ◌≤◌, List, ◌++◌, length, sym, subst}
+use Rattle.jc_heap.specs.Object.{Object, AnObject}
+use Rattle.jc_heap.specs.Heap.{item_at}
+use Rattle.jc_memory.specs.State.{MemoryState, Effect, effected_all}
+use Rattle.jc_memory.specs.Reading.{AreDue, Takes}
+use Rattle.jc_memory.proofs.Doings.{due_before, due_taken}
+use Rattle.jc_packages.specs.Values.{Packages}
+use Rattle.jc_frames.specs.Frames.{Frames, Next, Goes}
+use Rattle.jc_interp.specs.Stepping.{stepped}
+use Rattle.jc_isolation.specs.Reach.{IsOutside}
+use Rattle.jc_isolation.specs.Sparing.{IsSet, Spares}
+use Rattle.jc_isolation.proofs.Sparing.{behind, keeps_cells, outside_still, stands_after, stands_first}
+use Rattle.jc_isolation.proofs.Standing.{Stands}
+use Rattle.jc_isolation.specs.Runs.{AreIsolated, RanWithin}
+use Rattle.jc_isolation.specs.Steps.{NamesStatics, Stays}
+use Rattle.jc_isolation.proofs.Steps.{steps_spare}
+
+-- an object stands as it stood when the run began
+module _ (p : Packages) (statics : NamesStatics p) (lent : List ℕ) (start : MemoryState) (set : IsSet start) (q : ℕ) (out : IsOutside p start q) (o : Object) (is : item_at start.heap.now q ≡ AnObject o) where
+  fits : (m : MemoryState) → Stands q o start m → length m.command ≤ 261
+  fits m st = subst (λ l. length l ≤ 261) (sym st.command) set.command
+
+  step_taken : (s : Frames) (m : MemoryState) (es : List Effect) (next : Next Frames) → Stands q o start m → Stays lent p s m → Takes (stepped lent p s m) m es next → AreDue (Spares q) es m
+  step_taken s m es next st stays takes = due_taken (Spares q) (stepped lent p s m) m es next (steps_spare lent p s m q statics (fits m st) (outside_still p q o start m is out st) stays) takes
+
+  ran_stands : (k : ℕ) (s : Frames) (m : MemoryState) (t : Frames) (n : MemoryState) → RanWithin k lent p s m t n → Stands q o start m → Stands q o start n
+  ran_stands zero s m t n ran st = subst (Stands q o start) (sym ran.1) st
+  ran_stands (suc k) s m t n ran st = ran_stands k ran.1 (effected_all ran.0 m) t n ran.5 (stands_after q o start m ran.0 (step_taken s m ran.0 (Goes ran.1) st ran.4 ran.2) ran.3 st)
+
+pub isolated : AreIsolated
+isolated = record {
+  ran = λ k q lent p s m t n statics set out ran.
+      let b = behind m q out.there in
+      let st = ran_stands p statics lent m set q out b.0 b.1 k s m t n ran (stands_first m q b.0 set b.1) in
+      (keeps_cells q b.0 m n b.1 st, outside_still p q b.0 m n b.1 out st);
+  ends = λ k q lent p s m t n statics set out ran during after next takes stays quiet.
+      let b = behind m q out.there in
+      let st = ran_stands p statics lent m set q out b.0 b.1 k s m t n ran (stands_first m q b.0 set b.1) in
+      let due = due_before (Spares q) during after n (step_taken p statics lent m set q out b.0 b.1 t n (during ++ after) next st stays takes) in
+      keeps_cells q b.0 m (effected_all during n) b.1 (stands_after q b.0 m n during due quiet st);
+}

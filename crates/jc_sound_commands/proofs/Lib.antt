@@ -1,4 +1,0 @@
-pub mod Serving
-pub mod Phases
-pub mod Commands
-pub mod Laws

@@ -1,0 +1,30 @@
+-- Instructions on fields, arrays and objects leave a memory sound: what they set fits the packages that are linked.
+use Rattle.std.specs.Prelude.{ℕ, ◌≡◌}
+use Rattle.jc_opcodes.specs.declared.instr.ArrayOp.{ArrayOp}
+use Rattle.jc_opcodes.specs.declared.instr.Field.{Field}
+use Rattle.jc_opcodes.specs.declared.instr.TestedType.{TestedType}
+use Rattle.jc_frames.specs.Frames.{Frames}
+use Rattle.jc_memory.specs.Owners.{owner_number}
+use Rattle.jc_memory.specs.State.{MemoryState}
+use Rattle.jc_memory.specs.Reading.{AllDue}
+use Rattle.jc_packages.specs.Values.{Packages}
+use Rattle.jc_isolation.specs.jc_interp_fields.specs.Group.{fielded}
+use Rattle.jc_isolation.specs.jc_interp_arrays.specs.Group.{indexed}
+use Rattle.jc_isolation.specs.jc_interp_objects.specs.Casts.{checked, examined}
+use Rattle.jc_isolation.specs.jc_interp_objects.specs.Making.{instance_made}
+use Rattle.jc_sound.specs.Classes.{KnowsClasses}
+use Rattle.jc_sound.specs.Fit.{IsFit}
+use Rattle.jc_sound.specs.State.{IsSoundMemory, IsSteady}
+
+-- whatever frames an instruction finds, in a sound memory each of its effects fits
+abbrev pub FieldsFit : Type 0
+FieldsFit = (field : Field) (p : Packages) (s : Frames) (m : MemoryState) → KnowsClasses p → IsSoundMemory p m → AllDue (IsFit p) (fielded field p s m) m
+
+abbrev pub ArraysFit : Type 0
+ArraysFit = (operation : ArrayOp) (p : Packages) (s : Frames) (m : MemoryState) → KnowsClasses p → IsSoundMemory p m → IsSteady m → AllDue (IsFit p) (indexed operation p s m) m
+
+-- (an object is made while code runs for another owner than the runtime environment)
+pub record ObjectsFit : Type 0 where
+  pub made : (index : ℕ) (p : Packages) (s : Frames) (m : MemoryState) → KnowsClasses p → IsSoundMemory p m → IsSteady m → (owner_number m.registers.active ≡ 0 → ⊥) → AllDue (IsFit p) (instance_made index p s m) m
+  pub checked : (type : TestedType) (p : Packages) (s : Frames) (m : MemoryState) → AllDue (IsFit p) (checked type p s m) m
+  pub examined : (type : TestedType) (p : Packages) (s : Frames) (m : MemoryState) → AllDue (IsFit p) (examined type p s m) m

@@ -1,5 +1,0 @@
-pub mod Checks
-pub mod Fields
-pub mod Objects
-pub mod Frames
-pub mod Stepping
