@@ -45,10 +45,18 @@ fn the_counter_package(rt: HostRuntime) -> Result<(), Fail> {
     assert_eq!(rt; contents.imports.count(), 1);
     assert_eq!(rt; contents.pool.count(), 12);
     assert_eq!(rt; contents.classes.count(), 1);
+    Ok(())
+}
+
+#[test]
+fn the_code_of_the_counter_package(rt: HostRuntime) -> Result<(), Fail> {
+    let Ok(package) = assemble(counter(rt.alloc())?) else {
+        return Err("not assembled")?;
+    };
+    let contents = package.contents();
     assert_eq!(rt; contents.statics.image_size, 2);
     assert!(rt; contents.methods.method(21).is_some());
-    assert!(rt; contents.applets.is_some());
-    assert!(rt; contents.exports.is_none());
+    assert!(rt; contents.applets.is_some() && contents.exports.is_none());
     assert_eq!(rt; package.texts().methods.bytes().len(), 87);
     Ok(())
 }
@@ -73,41 +81,46 @@ fn the_arrays_package(rt: HostRuntime) -> Result<(), Fail> {
     Ok(())
 }
 
+// The counter package without the components of these tags.
+fn counter_without(alloc: Global, left_out: &[u8]) -> Result<Load, Fail> {
+    let mut load = counter(alloc)?;
+    for tag in left_out {
+        match *tag {
+            1 => load.header = None,
+            2 => load.directory = None,
+            3 => load.applets = None,
+            4 => load.imports = None,
+            5 => load.pool = None,
+            6 => load.classes = None,
+            7 => load.methods = None,
+            8 => load.statics = None,
+            _ => return Err("no such component")?,
+        }
+    }
+    Ok(load)
+}
+
+// The first one in the order of tags is named.
 #[test]
 fn missing_components(rt: HostRuntime) -> Result<(), Fail> {
-    let mut load = counter(rt.alloc())?;
-    load.header = None;
-    load.directory = None;
-    assert_eq!(rt; fault(load), Some(CapFault::Missing(1)));
-    let mut load = counter(rt.alloc())?;
-    load.directory = None;
-    load.statics = None;
-    assert_eq!(rt; fault(load), Some(CapFault::Missing(2)));
-    let mut load = counter(rt.alloc())?;
-    load.applets = None;
-    load.imports = None;
-    assert_eq!(rt; fault(load), Some(CapFault::Missing(3)));
-    let mut load = counter(rt.alloc())?;
-    load.imports = None;
-    load.pool = None;
-    assert_eq!(rt; fault(load), Some(CapFault::Missing(4)));
-    let mut load = counter(rt.alloc())?;
-    load.pool = None;
-    load.methods = None;
-    assert_eq!(rt; fault(load), Some(CapFault::Missing(5)));
-    let mut load = counter(rt.alloc())?;
-    load.classes = None;
-    load.statics = None;
-    assert_eq!(rt; fault(load), Some(CapFault::Missing(6)));
-    let mut load = counter(rt.alloc())?;
-    load.methods = None;
-    load.statics = None;
-    assert_eq!(rt; fault(load), Some(CapFault::Missing(7)));
-    let mut load = counter(rt.alloc())?;
-    load.statics = None;
-    // Sizes that disagree are told later.
+    for left_out in [[1u8, 2], [2, 8], [3, 4], [4, 5], [5, 7], [6, 8], [7, 8]] {
+        let load = counter_without(rt.alloc(), &left_out)?;
+        assert_eq!(rt; fault(load), Some(CapFault::Missing(left_out[0])));
+    }
+    Ok(())
+}
+
+// Sizes that disagree are told later.
+#[test]
+fn a_missing_component_beside_another_size(rt: HostRuntime) -> Result<(), Fail> {
+    let mut load = counter_without(rt.alloc(), &[8])?;
     load.applets = text(rt.alloc(), "03000100")?;
     assert_eq!(rt; fault(load), Some(CapFault::Missing(8)));
+    Ok(())
+}
+
+#[test]
+fn a_missing_export_component_beside_another_size(rt: HostRuntime) -> Result<(), Fail> {
     let mut load = counter(rt.alloc())?;
     load.header = text(rt.alloc(), "01000FDECAFFED010206000105F000000001")?;
     load.applets = text(rt.alloc(), "03000100")?;
@@ -147,26 +160,32 @@ fn sizes_that_disagree(rt: HostRuntime) -> Result<(), Fail> {
     Ok(())
 }
 
+// The fault of the counter package where its directory says that the two components that are not used have 7 and 9 bytes.
+fn fault_of_unused(
+    alloc: Global,
+    reference_location: Option<u16>,
+    descriptor: Option<u16>,
+) -> Result<Option<CapFault>, Fail> {
+    let digits = "02001F000F001F000A000B0032000C0054000A000700000009000200000000010100";
+    let mut load = counter(alloc)?;
+    load.directory = text(alloc, digits)?;
+    load.reference_location = reference_location;
+    load.descriptor = descriptor;
+    Ok(fault(load))
+}
+
 // The sizes of a ReferenceLocation and of a Descriptor component are compared where these came.
 #[test]
 fn sizes_of_components_that_are_not_used(rt: HostRuntime) -> Result<(), Fail> {
-    let digits = "02001F000F001F000A000B0032000C0054000A000700000009000200000000010100";
-    let mut load = counter(rt.alloc())?;
-    load.directory = text(rt.alloc(), digits)?;
-    assert_eq!(rt; fault(load), None);
-    let mut load = counter(rt.alloc())?;
-    load.directory = text(rt.alloc(), digits)?;
-    load.reference_location = Some(7);
-    load.descriptor = Some(9);
-    assert_eq!(rt; fault(load), None);
-    let mut load = counter(rt.alloc())?;
-    load.directory = text(rt.alloc(), digits)?;
-    load.reference_location = Some(8);
-    assert_eq!(rt; fault(load), Some(CapFault::SizesDisagree));
-    let mut load = counter(rt.alloc())?;
-    load.directory = text(rt.alloc(), digits)?;
-    load.descriptor = Some(8);
-    assert_eq!(rt; fault(load), Some(CapFault::SizesDisagree));
+    for (reference_location, descriptor, wanted) in [
+        (None, None, None),
+        (Some(7u16), Some(9u16), None),
+        (Some(8), None, Some(CapFault::SizesDisagree)),
+        (None, Some(8), Some(CapFault::SizesDisagree)),
+    ] {
+        let found = fault_of_unused(rt.alloc(), reference_location, descriptor)?;
+        assert_eq!(rt; found, wanted);
+    }
     Ok(())
 }
 
@@ -188,6 +207,11 @@ fn offsets_that_name_nothing(rt: HostRuntime) -> Result<(), Fail> {
         load.pool = text(rt.alloc(), digits)?;
         assert_eq!(rt; fault(load), Some(CapFault::BadOffset));
     }
+    Ok(())
+}
+
+#[test]
+fn install_methods_that_are_none(rt: HostRuntime) -> Result<(), Fail> {
     for digits in [
         "03000A0106F000000001010000",
         "03000A0106F000000001010053",
@@ -197,20 +221,23 @@ fn offsets_that_name_nothing(rt: HostRuntime) -> Result<(), Fail> {
         load.applets = text(rt.alloc(), digits)?;
         assert_eq!(rt; fault(load), Some(CapFault::BadOffset));
     }
-    // The public table's offset: before the methods, at the last byte, inherited from another package.
-    let mut load = counter(rt.alloc())?;
-    load.classes = text(rt.alloc(), "06000C00800200FF00070100000000")?;
-    assert_eq!(rt; fault(load), Some(CapFault::BadOffset));
-    let mut load = counter(rt.alloc())?;
-    load.classes = text(rt.alloc(), "06000C00800200FF00070100000053")?;
-    assert_eq!(rt; fault(load), Some(CapFault::BadOffset));
-    let mut load = counter(rt.alloc())?;
-    load.classes = text(rt.alloc(), "06000C00800200FF0007010000FFFF")?;
-    assert_eq!(rt; fault(load), None);
-    // 65535 in the package table is an offset as any other.
-    let mut load = counter(rt.alloc())?;
-    load.classes = text(rt.alloc(), "06000C00800200FF0007000001FFFF")?;
-    assert_eq!(rt; fault(load), Some(CapFault::BadOffset));
+    Ok(())
+}
+
+// The public table's offset: before the methods, at the last byte, inherited from another package. In the package table
+// 65535 is an offset as any other.
+#[test]
+fn offsets_of_methods(rt: HostRuntime) -> Result<(), Fail> {
+    for (digits, wanted) in [
+        ("06000C00800200FF00070100000000", Some(CapFault::BadOffset)),
+        ("06000C00800200FF00070100000053", Some(CapFault::BadOffset)),
+        ("06000C00800200FF0007010000FFFF", None),
+        ("06000C00800200FF0007000001FFFF", Some(CapFault::BadOffset)),
+    ] {
+        let mut load = counter(rt.alloc())?;
+        load.classes = text(rt.alloc(), digits)?;
+        assert_eq!(rt; fault(load), wanted);
+    }
     Ok(())
 }
 

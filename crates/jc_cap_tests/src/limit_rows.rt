@@ -45,16 +45,14 @@ fn counts_of_0(rt: HostRuntime) -> Result<(), Fail> {
     Ok(())
 }
 
+const APPLETS: [u8; 8] = [0x05, 0xA0, 0x00, 0x00, 0x00, 0x01, 0x00, 0x02];
+
+const IMPORTS: [u8; 8] = [0x00, 0x01, 0x05, 0xA0, 0x00, 0x00, 0x00, 0x01];
+
+// An AID and an offset of two bytes, of which the second is the next part's first.
 #[test]
-fn counts_of_255(rt: HostRuntime) -> Result<(), Fail> {
-    // An AID and an offset of two bytes, of which the second is the next part's first.
-    let applets = repeated(
-        rt.alloc(),
-        3,
-        &[255],
-        &[0x05, 0xA0, 0x00, 0x00, 0x00, 0x01, 0x00, 0x02],
-        255,
-    )?;
+fn applets_255_times(rt: HostRuntime) -> Result<(), Fail> {
+    let applets = repeated(rt.alloc(), 3, &[255], &APPLETS, 255)?;
     let Ok(Component::Applet(read)) = read_component(Format::V2_1, 3, &applets) else {
         return Err("no applets")?;
     };
@@ -62,13 +60,12 @@ fn counts_of_255(rt: HostRuntime) -> Result<(), Fail> {
     if read.count() == 255 {
         assert_eq!(rt; read.get(254).install_method_offset, 2);
     }
-    let imports = repeated(
-        rt.alloc(),
-        4,
-        &[255],
-        &[0x00, 0x01, 0x05, 0xA0, 0x00, 0x00, 0x00, 0x01],
-        255,
-    )?;
+    Ok(())
+}
+
+#[test]
+fn imports_255_times(rt: HostRuntime) -> Result<(), Fail> {
+    let imports = repeated(rt.alloc(), 4, &[255], &IMPORTS, 255)?;
     let Ok(Component::Import(read)) = read_component(Format::V2_1, 4, &imports) else {
         return Err("no imports")?;
     };
@@ -76,13 +73,13 @@ fn counts_of_255(rt: HostRuntime) -> Result<(), Fail> {
     if read.count() == 255 {
         assert_eq!(rt; read.get(254).major_version, 1);
     }
-    let exports = repeated(
-        rt.alloc(),
-        10,
-        &[255],
-        &[0x00, 0x07, 0x00, 0x01, 0x12, 0x34],
-        255,
-    )?;
+    Ok(())
+}
+
+#[test]
+fn exports_255_times(rt: HostRuntime) -> Result<(), Fail> {
+    let class = [0x00, 0x07, 0x00, 0x01, 0x12, 0x34];
+    let exports = repeated(rt.alloc(), 10, &[255], &class, 255)?;
     let Ok(Component::Export(read)) = read_component(Format::V2_1, 10, &exports) else {
         return Err("no exports")?;
     };
@@ -90,32 +87,21 @@ fn counts_of_255(rt: HostRuntime) -> Result<(), Fail> {
     if read.count() == 255 {
         assert_eq!(rt; read.get(254).class_offset, 7);
     }
-    let fewer = repeated(
-        rt.alloc(),
-        3,
-        &[255],
-        &[0x05, 0xA0, 0x00, 0x00, 0x00, 0x01, 0x00, 0x02],
-        254,
-    )?;
-    assert!(rt;
-        matches!(
-            read_component(Format::V2_1, 3, &fewer),
-            Err(CapFault::Truncated)
-        )
-    );
-    let more = repeated(
-        rt.alloc(),
-        4,
-        &[254],
-        &[0x00, 0x01, 0x05, 0xA0, 0x00, 0x00, 0x00, 0x01],
-        255,
-    )?;
-    assert!(rt;
-        matches!(
-            read_component(Format::V2_1, 4, &more),
-            Err(CapFault::Trailing)
-        )
-    );
+    Ok(())
+}
+
+#[test]
+fn counts_of_one_more_or_fewer(rt: HostRuntime) -> Result<(), Fail> {
+    for (tag, count, part, times, wanted) in [
+        (3u8, 255u8, APPLETS, 254u16, CapFault::Truncated),
+        (4, 254, IMPORTS, 255, CapFault::Trailing),
+    ] {
+        let bytes = repeated(rt.alloc(), tag, &[count], &part, times)?;
+        assert_eq!(rt;
+            read_component(Format::V2_1, tag, &bytes).err(),
+            Some(wanted)
+        );
+    }
     Ok(())
 }
 

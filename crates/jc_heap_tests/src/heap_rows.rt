@@ -87,37 +87,43 @@ fn make_transient(
     }
 }
 
+// Makes an instance of one cell.
+fn make_instance(heap: &mut Heap<Store>) -> Result<Ref, Fail>
+    requires up { heap.old.down ≡ false }
+    ensures up { OnOk result (heap.new.down ≡ false) }
+    ensures same { OnOk result (heap.new.begun ≡ heap.old.begun) }
+{
+    Ok(heap.new_persistent(Kind::Instance, NO_CLASS, RUNTIME_ENVIRONMENT, 1)?)
+}
+
+// Makes a transient array, and tells where its cells stand in their area.
+fn place_of_new(heap: &mut Heap<Store>, kind: Kind, event: ClearEvent, n: u16) -> Result<u16, Fail>
+    requires up { heap.old.down ≡ false }
+    ensures up { OnOk result (heap.new.down ≡ false) }
+    ensures same { OnOk result (heap.new.begun ≡ heap.old.begun) }
+{
+    let array = heap.new_transient(kind, event, NO_CLASS, RUNTIME_ENVIRONMENT, n)?;
+    Ok(heap.facts(array).place)
+}
+
 #[test]
 fn an_abort_leaves_what_memory_holds_but_no_dead_reference(rt: HostRuntime) -> Result<(), Fail> {
     let mut heap = opened(blank_store(rt.alloc())?)?;
-    let mut ram = Ram::new(rt.alloc())?;
-    let before = heap.new_persistent(Kind::Instance, NO_CLASS, RUNTIME_ENVIRONMENT, 1)?;
-    let list = heap.new_transient(
-        Kind::ReferenceArray,
-        ClearEvent::Deselect,
-        NO_CLASS,
-        RUNTIME_ENVIRONMENT,
-        2,
-    )?;
-    assert_eq!(rt; heap.facts(list).place, 0);
-    let bytes = heap.new_transient(
-        Kind::ByteArray,
-        ClearEvent::Reset,
-        NO_CLASS,
-        RUNTIME_ENVIRONMENT,
-        1,
-    )?;
-    assert_eq!(rt; heap.facts(bytes).place, 0);
+    let before = make_instance(&mut heap)?;
+    let list = place_of_new(&mut heap, Kind::ReferenceArray, ClearEvent::Deselect, 2)?;
+    let bytes = place_of_new(&mut heap, Kind::ByteArray, ClearEvent::Reset, 1)?;
+    assert_eq!(rt; (list, bytes), (0, 0));
     heap.begin();
-    let inside = heap.new_persistent(Kind::Instance, NO_CLASS, RUNTIME_ENVIRONMENT, 1)?;
+    let inside = make_instance(&mut heap)?;
+    heap.abort()?;
+    // A header takes four words, one of a transient object five.
+    assert_eq!(rt; (before, heap.top()), (Ref::at(752), 767));
+
+    let mut ram = Ram::new(rt.alloc())?;
     ram.set(ClearEvent::Deselect, 0, CellValue::Reference(before));
     ram.set(ClearEvent::Deselect, 1, CellValue::Reference(inside));
     ram.set(ClearEvent::Reset, 0, CellValue::Short(7));
-    heap.abort()?;
     ram.null_dead(heap.top());
-
-    // A header takes four words, one of a transient object five.
-    assert_eq!(rt; (before, heap.top()), (Ref::at(752), 767));
     assert_eq!(rt;
         ram.get(ClearEvent::Deselect, 0),
         CellValue::Reference(Ref::at(752))
