@@ -12,7 +12,14 @@ use jc_frames::{Cell, Outcome};
 use jc_heap::Kind;
 use jc_linker::linked::Linked;
 use jc_memory::Memory;
-use jc_platform::names::PlatformMethod;
+use jc_platform::names::PlatformMethod::{
+    self, JcSystemAbortTransaction, JcSystemBeginTransaction, JcSystemCommitTransaction,
+    JcSystemGetAid, JcSystemGetAppletShareableInterfaceObject, JcSystemGetMaxCommitCapacity,
+    JcSystemGetPreviousContextAid, JcSystemGetTransactionDepth, JcSystemGetUnusedCommitCapacity,
+    JcSystemIsTransient, JcSystemLookupAid, JcSystemMakeTransientBooleanArray,
+    JcSystemMakeTransientByteArray, JcSystemMakeTransientObjectArray,
+    JcSystemMakeTransientShortArray,
+};
 use jc_words::WordStore;
 use jc_world::{Answer, Break};
 
@@ -28,47 +35,21 @@ pub fn call_system<S: WordStore>(
     ensures { Makes (system_called method args.now linked.now memory.old) memory.old (after_call result memory.new) }
 {
     match method {
-        PlatformMethod::JcSystemAbortTransaction => abort(memory),
-        PlatformMethod::JcSystemBeginTransaction => begin(memory),
-        PlatformMethod::JcSystemCommitTransaction => commit(memory),
-        PlatformMethod::JcSystemGetAid => Ok(Answer::Value(Cell::Reference(own_aid(memory)))),
-        PlatformMethod::JcSystemGetAppletShareableInterfaceObject => ask_server(
-            args, memory, linked,
-        ),
-        PlatformMethod::JcSystemGetMaxCommitCapacity => Ok(short(1024)),
-        PlatformMethod::JcSystemGetPreviousContextAid => Ok(Answer::Value(Cell::Reference(
-            previous_aid(memory),
-        ))),
-        PlatformMethod::JcSystemGetTransactionDepth => Ok(short(level_of(
-            memory.registers().depth,
-        ))),
-        PlatformMethod::JcSystemGetUnusedCommitCapacity => Ok(short(capacity_left(memory))),
-        PlatformMethod::JcSystemIsTransient => is_transient(args, memory),
-        PlatformMethod::JcSystemLookupAid => look_up_aid(args, memory, linked),
-        PlatformMethod::JcSystemMakeTransientBooleanArray => make_array(
-            Kind::BooleanArray,
-            args,
-            memory,
-            linked,
-        ),
-        PlatformMethod::JcSystemMakeTransientByteArray => make_array(
-            Kind::ByteArray,
-            args,
-            memory,
-            linked,
-        ),
-        PlatformMethod::JcSystemMakeTransientObjectArray => make_array(
-            Kind::ReferenceArray,
-            args,
-            memory,
-            linked,
-        ),
-        PlatformMethod::JcSystemMakeTransientShortArray => make_array(
-            Kind::ShortArray,
-            args,
-            memory,
-            linked,
-        ),
+        JcSystemAbortTransaction => abort(memory),
+        JcSystemBeginTransaction => begin(memory),
+        JcSystemCommitTransaction => commit(memory),
+        JcSystemGetAid => Ok(Answer::Value(Cell::Reference(own_aid(memory)))),
+        JcSystemGetAppletShareableInterfaceObject => ask_server(args, memory, linked),
+        JcSystemGetMaxCommitCapacity => Ok(short(1024)),
+        JcSystemGetPreviousContextAid => Ok(Answer::Value(Cell::Reference(previous_aid(memory)))),
+        JcSystemGetTransactionDepth => Ok(short(level_of(memory.registers().depth))),
+        JcSystemGetUnusedCommitCapacity => Ok(short(capacity_left(memory))),
+        JcSystemIsTransient => is_transient(args, memory),
+        JcSystemLookupAid => look_up_aid(args, memory, linked),
+        JcSystemMakeTransientBooleanArray => make_array(Kind::BooleanArray, args, memory, linked),
+        JcSystemMakeTransientByteArray => make_array(Kind::ByteArray, args, memory, linked),
+        JcSystemMakeTransientObjectArray => make_array(Kind::ReferenceArray, args, memory, linked),
+        JcSystemMakeTransientShortArray => make_array(Kind::ShortArray, args, memory, linked),
         _ => Err(Break::End(Outcome::Fault)),
     }
 }

@@ -82,8 +82,8 @@ impl FixedObject {
         Facts {
             kind: self.kind,
             event: Some(ClearEvent::Reset),
-            class: class_number(table, self.class).0,
-            owner: RUNTIME_ENVIRONMENT.0,
+            class: class_number(table, self.class),
+            owner: RUNTIME_ENVIRONMENT,
             length: self.cells,
             place,
         }

@@ -8,6 +8,7 @@ use crate::layout::{HEADER, LENGTH};
 use crate::object::{Facts, Kind, event_of_number};
 use crate::walk::first_object;
 use jc_commit::Journal;
+use jc_names::{ClassWord, OwnerWord};
 use jc_transient::Ref;
 use jc_words::WordStore;
 use jc_words::layout::{TEXT_LENGTH, TEXT_START};
@@ -41,8 +42,8 @@ pub fn facts_at<S: WordStore>(journal: &Journal<S>, object: Ref) -> Facts
     Facts {
         kind: Kind::of(word % 256),
         event: event_of_number(word / 256),
-        class: journal.read(at + 1),
-        owner: journal.read(at + 2),
+        class: ClassWord(journal.read(at + 1)),
+        owner: OwnerWord(journal.read(at + 2)),
         length: journal.read(at + LENGTH),
         place,
     }

@@ -71,28 +71,11 @@ pub struct Facts {
     pub kind: Kind,
     /// What clears the object's cells; none, where it is persistent.
     pub event: Option<ClearEvent>,
-    /// The word that names the class.
-    pub class: u16,
-    /// The word that names the owner.
-    pub owner: u16,
+    /// The class of an instance, or that of an array's elements, where they are references.
+    pub class: ClassWord,
+    pub owner: OwnerWord,
     /// The number of cells.
     pub length: u16,
     /// The first cell of a transient object in its area, 0 of a persistent one.
     pub place: u16,
-}
-
-impl Facts {
-    /// The class of an instance, or that of an array's elements, where they are references.
-    pub const fn class(self) -> ClassWord
-        ensures { result ≡ self.class }
-    {
-        ClassWord(self.class)
-    }
-
-    /// The owner.
-    pub const fn owner(self) -> OwnerWord
-        ensures { result ≡ self.owner }
-    {
-        OwnerWord(self.owner)
-    }
 }

@@ -39,7 +39,7 @@ fn caught_as(thrown: ClassWord, entry: Option<Target>, caught: Catch, linked: &L
 {
     match entry {
         Some(Target::Class(class)) => {
-            if linked.is_below(thrown, ClassWord(class)) {
+            if linked.is_below(thrown, class) {
                 caught
             } else {
                 Catch::Above

@@ -195,7 +195,7 @@ fn class_of(facts: Facts, linked: &Linked) -> ClassWord
     ensures { result ≡ class_of linked.now facts }
 {
     if is_instance(facts.kind) {
-        facts.class()
+        facts.class
     } else {
         linked.platform().class_word(PlatformClass::Object)
     }
@@ -220,7 +220,7 @@ fn judged(decision: Decision, facts: Facts, method: Method, arguments: u8) -> Re
         Decision::Switch(_) => Ok(Call {
             method,
             arguments,
-            switches_to: Some(Owner::of(facts.owner())),
+            switches_to: Some(Owner::of(facts.owner)),
         }),
         Decision::Deny(_) => Err(Stop::Throw(Exception::SecurityException)),
     }
@@ -255,19 +255,19 @@ fn call_virtually<S: WordStore>(
 }
 
 // The receiver is of the class, where one is asked for.
-fn is_of_any(facts: Facts, class: Option<u16>, linked: &Linked) -> bool
+fn is_of_any(facts: Facts, class: Option<ClassWord>, linked: &Linked) -> bool
     ensures { result ≡ is_of_any linked.now facts class }
 {
     match class {
         None => true,
-        Some(class) => linked.is_below(class_of(facts, linked), ClassWord(class)),
+        Some(class) => linked.is_below(class_of(facts, linked), class),
     }
 }
 
 // A call of the method itself.
 #[tactic(auto, unfolding(crate::specs::Choosing::called_specially))]
 fn call_specially<S: WordStore>(
-    class: Option<u16>,
+    class: Option<ClassWord>,
     method: Method,
     frames: &Frames,
     memory: &Memory<S>,
@@ -382,7 +382,7 @@ pub fn choose<S: WordStore>(
                     token,
                     method,
                 },
-            ) => call_virtually(ClassWord(class), token, method, frames, memory, linked),
+            ) => call_virtually(class, token, method, frames, memory, linked),
             _ => Err(Stop::End(Outcome::Fault)),
         },
         Invoke::Special(index) => match linked.target_at(package_number, index) {
@@ -401,7 +401,7 @@ pub fn choose<S: WordStore>(
             token,
         } => match linked.target_at(package_number, index) {
             Some(Target::Class(class)) => {
-                call_by_interface(ClassWord(class), arguments, token, frames, memory, linked)
+                call_by_interface(class, arguments, token, frames, memory, linked)
             }
             _ => Err(Stop::End(Outcome::Fault)),
         },

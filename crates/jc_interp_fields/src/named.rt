@@ -46,7 +46,7 @@ fn field_of(of_type: ValueType, target: Target) -> Option<FieldOfClass>
         } => {
             if is_of(of_type, is_reference) {
                 Some(FieldOfClass {
-                    class: ClassWord(class),
+                    class,
                     cell,
                 })
             } else {

@@ -13,11 +13,11 @@ use jc_opcodes::instr::{PrimitiveArray, TestedType};
 #[derive(Clone, Copy, Debug, PartialEq, Eq)]
 pub enum ObjectType {
     /// A class or an interface.
-    Class(u16),
+    Class(ClassWord),
     /// Arrays of numbers.
     Primitives(PrimitiveArray),
     /// Arrays of references to instances of a class or an interface.
-    References(u16),
+    References(ClassWord),
 }
 
 /// The type that an instruction of a package names. `None` where it names an entry of the pool that is no class.
@@ -32,12 +32,12 @@ pub(crate) fn type_named(
     match tested {
         TestedType::OfClass(index) => {
             let class = class_named(linked, package_number, index)?;
-            Some(ObjectType::Class(class.0))
+            Some(ObjectType::Class(class))
         }
         TestedType::OfPrimitives(elements) => Some(ObjectType::Primitives(elements)),
         TestedType::OfReferences(index) => {
             let class = class_named(linked, package_number, index)?;
-            Some(ObjectType::References(class.0))
+            Some(ObjectType::References(class))
         }
     }
 }
@@ -85,10 +85,10 @@ pub(crate) fn is_of_type(object_type: ObjectType, linked: &Linked, facts: Facts)
     ensures { result ≡ is_of_type object_type linked.now facts }
 {
     match object_type {
-        ObjectType::Class(class) => is_a(facts, ClassWord(class), linked),
+        ObjectType::Class(class) => is_a(facts, class, linked),
         ObjectType::Primitives(elements) => is_primitives(elements, facts.kind),
         ObjectType::References(class) => {
-            is_references(facts.kind) && is_subtype(facts.class(), ClassWord(class), linked)
+            is_references(facts.kind) && is_subtype(facts.class, class, linked)
         }
     }
 }
@@ -111,7 +111,7 @@ pub(crate) fn access_to(linked: &Linked, object_type: ObjectType) -> Access
     ensures { result ≡ access_to linked.now object_type }
 {
     match object_type {
-        ObjectType::Class(class) => access_to_class(linked, ClassWord(class)),
+        ObjectType::Class(class) => access_to_class(linked, class),
         ObjectType::Primitives(_) => Access::CastToClass,
         ObjectType::References(_) => Access::CastToClass,
     }

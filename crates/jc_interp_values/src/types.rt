@@ -14,7 +14,7 @@ fn class_of(target: Target) -> Option<ClassWord>
     ensures { result ≡ class_of target }
 {
     match target {
-        Target::Class(class) => Some(ClassWord(class)),
+        Target::Class(class) => Some(class),
         _ => None,
     }
 }
@@ -42,7 +42,7 @@ pub fn is_a(facts: Facts, class: ClassWord, linked: &Linked) -> bool
     ensures { result ≡ is_a linked.now facts class }
 {
     if is_instance(facts.kind) {
-        facts.class() == class || linked.is_below(facts.class(), class)
+        facts.class == class || linked.is_below(facts.class, class)
     } else {
         is_object_class(class, linked)
     }

@@ -18,7 +18,7 @@ impl Scope<'_> {
         ensures { result ≡ resolution self.now number entry }
     {
         match entry {
-            Entry::Class(class) => Some(Target::Class(self.class_named(number, class)?.0)),
+            Entry::Class(class) => Some(Target::Class(self.class_named(number, class)?)),
             Entry::InstanceField { class, token } => {
                 self.field_target(token, self.class_named(number, class)?)
             }
@@ -122,7 +122,7 @@ impl Scope<'_> {
             return None;
         }
         Some(Target::InstanceField {
-            class: class.0,
+            class,
             cell: loaded.inherited_cells + u32::from(token),
             is_reference: loaded.declares_reference(u32::from(token)),
         })
@@ -137,7 +137,7 @@ impl Scope<'_> {
         }
         let method = self.method_at(class, (class.0 / 256) as u8, token)?;
         Some(Target::VirtualMethod {
-            class: class.0,
+            class,
             token,
             method,
         })
@@ -150,7 +150,7 @@ impl Scope<'_> {
         let above = self.superclass(class)?;
         let method = self.method_at(above, (class.0 / 256) as u8, token)?;
         Some(Target::SuperMethod {
-            class: class.0,
+            class,
             method,
         })
     }
@@ -181,7 +181,7 @@ impl Scope<'_> {
         let class = self.class_with_token(number, class_token)?;
         let method = self.static_method(number, class, class_token, token)?;
         Some(Target::StaticMethod {
-            class: Some(class.0),
+            class: Some(class),
             method,
         })
     }

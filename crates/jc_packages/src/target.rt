@@ -1,9 +1,7 @@
 //! What the entry of a constant pool resolves to.
-//!
-//! A class or an interface is named as in an object's header: by the number of its package times 256 and its own
-//! number. Packages that were loaded count from 1, those of the platform from 64.
 
 use jc_cap_text::pool::VirtualToken;
+use jc_names::ClassWord;
 use jc_platform::names::PlatformMethod;
 
 /// A method.
@@ -19,22 +17,22 @@ pub enum Method {
 #[derive(Clone, Copy, PartialEq, Eq, Debug)]
 pub enum Target {
     /// A class or an interface.
-    Class(u16),
+    Class(ClassWord),
     /// A field of a class's instances: the number of its cell, and whether it holds a reference.
     InstanceField {
-        class: u16,
+        class: ClassWord,
         cell: u32,
         is_reference: bool,
     },
     /// A virtual method of this class, which may be another one in a receiver's class below it.
     VirtualMethod {
-        class: u16,
+        class: ClassWord,
         token: VirtualToken,
         method: Method,
     },
     /// A method of a superclass, called on an instance of this class.
     SuperMethod {
-        class: u16,
+        class: ClassWord,
         method: Method,
     },
     /// A field in the static image of the package with this number, at this offset.
@@ -44,7 +42,7 @@ pub enum Target {
     },
     /// A static method, a constructor or a private method; its class, where the entry tells it.
     StaticMethod {
-        class: Option<u16>,
+        class: Option<ClassWord>,
         method: Method,
     },
 }
