@@ -1,6 +1,7 @@
 //! Reading objects of the words of a journal.
 ghost use Rattle.std.specs.Prelude.{◌≡◌, ◌<◌, ◌≤◌, ◌+◌, ◌/◌, ◌==◌, if◌then◌else◌, None, IfSome, length, slice_index};
 ghost use Rattle.jc_words.specs.Layout.{text_start};
+ghost use Rattle.jc_heap.specs.Object.{header_size};
 ghost use Rattle.jc_heap.specs.Image.{IsLaid};
 ghost use Rattle.jc_heap.specs.Heap.{heap_of, cells, facts, IsObject, next_object};
 
@@ -17,9 +18,9 @@ use jc_words::layout::{TEXT_LENGTH, TEXT_START};
 #[inline(always)]
 fn place_word<S: WordStore>(journal: &Journal<S>, at: u16, word: u16) -> u16
     requires behind { text_start ≤ at }
-    requires there { (word / 256 ≡ 0 → ⊥) → at + 4 < length journal.now.plain }
+    requires there { (word / 256 ≡ 0 → ⊥) → at + header_size < length journal.now.plain }
     requires small { length journal.now.plain < 65536 }
-    ensures { result ≡ (if word / 256 == 0 then 0 else slice_index journal.now.plain (at + 4)) }
+    ensures { result ≡ (if word / 256 == 0 then 0 else slice_index journal.now.plain (at + header_size)) }
 {
     if word / 256 == 0 {
         return 0;
