@@ -16,7 +16,7 @@ use jc_words::layout::{TEXT_LENGTH, TEXT_START};
 
 // The word behind a transient object's header, 0 where there is none.
 #[inline(always)]
-fn place_word<S: WordStore>(journal: &Journal<S>, at: u16, word: u16) -> u16
+fn area_place<S: WordStore>(journal: &Journal<S>, at: u16, word: u16) -> u16
     requires behind { text_start ≤ at }
     requires there { (word / 256 ≡ 0 → ⊥) → at + header_size < length journal.now.plain }
     requires small { length journal.now.plain < 65536 }
@@ -39,7 +39,7 @@ pub fn facts_at<S: WordStore>(journal: &Journal<S>, object: Ref) -> Facts
 {
     let at = object.address();
     let word = journal.read(at);
-    let place = place_word(journal, at, word);
+    let place = area_place(journal, at, word);
     Facts {
         kind: Kind::of(word % 256),
         event: event_of_number(word / 256),
