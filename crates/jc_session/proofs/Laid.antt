@@ -59,12 +59,12 @@ if_laid w laid =
 
 same_answer : (v w : List ℕ) → IsLaid v ↔ IsLaid w → is_laid v ≡ is_laid w
 same_answer v w both = elim (cases_Bool (is_laid w)) [
-    | inl yes ↦ if_laid v (both.1 (laid_if w yes)) ∙ sym yes
-    | inr no ↦ elim (cases_Bool (is_laid v)) [
-        | inl yes ↦ absurd (true≢false (sym (if_laid w (both.0 (laid_if v yes))) ∙ no))
-        | inr other ↦ other ∙ sym no
-      ]
+  | inl yes ↦ if_laid v (both.1 (laid_if w yes)) ∙ sym yes
+  | inr no ↦ elim (cases_Bool (is_laid v)) [
+    | inl yes ↦ absurd (true≢false (sym (if_laid w (both.0 (laid_if v yes))) ∙ no))
+    | inr other ↦ other ∙ sym no
   ]
+]
 
 -- what a power up that found a fault leaves is laid where it was before
 pub laid_still : (fault : Fault) (old new : List ℕ) → (fault ≡ StoreDown → ⊥) → Stands fault old new → is_laid (recovered_of new) ≡ is_laid (recovered_of old)
