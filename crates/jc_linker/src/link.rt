@@ -82,15 +82,16 @@ impl Scope<'_> {
                 Some(target) => target,
                 None => return Err(LinkFault::Unresolved(index)),
             };
-            push_target(&mut targets, target)?;
+            push_item(&mut targets, target)?;
         }
         Ok(targets)
     }
 }
 
-fn push_target(targets: &mut Vec<Target>, target: Target) -> Result<(), AllocError>
-    ensures { OnOk result (targets.new.items ≡ targets.old.items ++ target ∷ []) }
+// Adds an item. It is of any type, since the prover does not yet cover a push of a value with a class in an `Option`.
+fn push_item<T: Copy>(items: &mut Vec<T>, item: T) -> Result<(), AllocError>
+    ensures { OnOk result (items.new.items ≡ items.old.items ++ item ∷ []) }
 {
-    targets.push(target)?;
+    items.push(item)?;
     Ok(())
 }
