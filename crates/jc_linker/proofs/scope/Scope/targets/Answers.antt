@@ -14,7 +14,7 @@ returns-in-None c = c.loop-index.invariant ∙ targets_fault c.args.self.now c.a
 pub loop-index-preserved : goal.loop-index-preserved
 loop-index-preserved c =
     c.loop-index.invariant ∙ targets_next c.args.self.now c.args.number c.args.pool.now c.loop-index.index c.get.result c.in-Some.target c.loop-index.targets.items c.get.ensures (sym c.in-Some.ensures)
-    ∙ ap (λ xs. onto xs (targets_from c.args.self.now c.args.number (c.loop-index.index + 1) (drop (c.loop-index.index + 1) c.args.pool.now))) (sym c.in_ok-push_target.ensures)
+    ∙ ap (λ xs. onto xs (targets_from c.args.self.now c.args.number (c.loop-index.index + 1) (drop (c.loop-index.index + 1) c.args.pool.now))) (sym c.in_ok-push_item.ensures)
 
 pub returns : goal.returns
 returns c =
