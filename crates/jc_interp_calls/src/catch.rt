@@ -37,8 +37,11 @@ fn landed(method: u16, text: &[u8], target: u16) -> Catch
 fn caught_as(thrown: ClassWord, entry: Option<Target>, caught: Catch, linked: &Linked) -> Catch
     ensures { result ≡ caught_as linked.now thrown entry caught }
 {
-    match entry {
-        Some(Target::Class(class)) => {
+    let Some(target) = entry else {
+        return Catch::Faulty;
+    };
+    match target {
+        Target::Class(class) => {
             if linked.is_below(thrown, class) {
                 caught
             } else {

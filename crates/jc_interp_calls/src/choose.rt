@@ -3,7 +3,7 @@ ghost use Rattle.std.specs.Prelude.{◌≡◌, false, true, IfSome, None};
 ghost use Rattle.std.specs.Option.{option_map};
 ghost use Rattle.jc_packages.specs.Classes.{is_below};
 ghost use Rattle.jc_world.specs.Objects.{if_so};
-ghost use Rattle.jc_interp_calls.specs.Choosing.{arguments_of, called_by_interface, called_specially, called_statically, called_virtually, call_of, chosen, chosen_statically, class_of, fits_at_null, header_of, interface_access, is_native_constructor, is_null_on, is_of_any, judged, receiver_of, receiver_on, with_header};
+ghost use Rattle.jc_interp_calls.specs.Choosing.{arguments_of, called_by_interface, called_specially, called_statically, called_virtually, call_of, chosen, chosen_statically, class_of, fits_at_null, header_of, interface_access, interface_by, is_native_constructor, is_null_on, is_of_any, judged, receiver_of, receiver_on, special_by, virtual_by, with_header};
 
 use crate::parameters::fits;
 use crate::text::text_of;
@@ -355,6 +355,77 @@ pub fn choose_static(index: u16, frames: &Frames, linked: &Linked) -> Result<Cho
     }
 }
 
+// The virtual method that an entry names.
+#[inline(always)]
+fn virtual_by<S: WordStore>(
+    entry: Option<Target>,
+    frames: &Frames,
+    memory: &Memory<S>,
+    linked: &Linked,
+) -> Result<Chosen, Stop>
+    requires up { memory.now.heap.down ≡ false }
+    ensures { result ≡ with_header linked.now (virtual_by entry linked.now frames.now.current.stack memory.now) }
+{
+    let Some(target) = entry else {
+        return Err(Stop::End(Outcome::Fault));
+    };
+    match target {
+        Target::VirtualMethod {
+            class,
+            token,
+            method,
+        } => call_virtually(class, token, method, frames, memory, linked),
+        _ => Err(Stop::End(Outcome::Fault)),
+    }
+}
+
+// The constructor, the private method or the method of a superclass that an entry names.
+#[inline(always)]
+fn special_by<S: WordStore>(
+    entry: Option<Target>,
+    frames: &Frames,
+    memory: &Memory<S>,
+    linked: &Linked,
+) -> Result<Chosen, Stop>
+    requires up { memory.now.heap.down ≡ false }
+    ensures { result ≡ with_header linked.now (special_by entry linked.now frames.now.current.stack memory.now) }
+{
+    let Some(target) = entry else {
+        return Err(Stop::End(Outcome::Fault));
+    };
+    match target {
+        Target::StaticMethod { class, method } => {
+            call_specially(class, method, frames, memory, linked)
+        }
+        Target::SuperMethod { class, method } => {
+            call_specially(Some(class), method, frames, memory, linked)
+        }
+        _ => Err(Stop::End(Outcome::Fault)),
+    }
+}
+
+// The method with a token of the interface that an entry names.
+#[inline(always)]
+fn interface_by<S: WordStore>(
+    entry: Option<Target>,
+    arguments: u8,
+    token: u8,
+    frames: &Frames,
+    memory: &Memory<S>,
+    linked: &Linked,
+) -> Result<Chosen, Stop>
+    requires up { memory.now.heap.down ≡ false }
+    ensures { result ≡ with_header linked.now (interface_by entry arguments token linked.now frames.now.current.stack memory.now) }
+{
+    let Some(target) = entry else {
+        return Err(Stop::End(Outcome::Fault));
+    };
+    match target {
+        Target::Class(class) => call_by_interface(class, arguments, token, frames, memory, linked),
+        _ => Err(Stop::End(Outcome::Fault)),
+    }
+}
+
 /// Which method a call runs, with how many arguments, and for whom; and what the method's header says.
 ///
 /// A code fault where the entry of the constant pool is another one, where the receiver is no reference
@@ -372,37 +443,26 @@ pub fn choose<S: WordStore>(
     requires up { memory.now.heap.down ≡ false }
     ensures { result ≡ with_header linked.now (chosen invoke linked.now frames.now memory.now) }
 {
-    let package_number = frames.origin().package_number;
+    let number = frames.origin().package_number;
     match invoke {
-        Invoke::Virtual(index) => match linked.target_at(package_number, index) {
-            Some(
-                Target::VirtualMethod {
-                    class,
-                    token,
-                    method,
-                },
-            ) => call_virtually(class, token, method, frames, memory, linked),
-            _ => Err(Stop::End(Outcome::Fault)),
-        },
-        Invoke::Special(index) => match linked.target_at(package_number, index) {
-            Some(Target::StaticMethod { class, method }) => {
-                call_specially(class, method, frames, memory, linked)
-            }
-            Some(Target::SuperMethod { class, method }) => {
-                call_specially(Some(class), method, frames, memory, linked)
-            }
-            _ => Err(Stop::End(Outcome::Fault)),
-        },
+        Invoke::Virtual(index) => {
+            virtual_by(linked.target_at(number, index), frames, memory, linked)
+        }
+        Invoke::Special(index) => {
+            special_by(linked.target_at(number, index), frames, memory, linked)
+        }
         Invoke::Static(index) => choose_static(index, frames, linked),
         Invoke::Interface {
             arguments,
             index,
             token,
-        } => match linked.target_at(package_number, index) {
-            Some(Target::Class(class)) => {
-                call_by_interface(class, arguments, token, frames, memory, linked)
-            }
-            _ => Err(Stop::End(Outcome::Fault)),
-        },
+        } => interface_by(
+            linked.target_at(number, index),
+            arguments,
+            token,
+            frames,
+            memory,
+            linked,
+        ),
     }
 }
