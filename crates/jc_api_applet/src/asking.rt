@@ -49,7 +49,7 @@ fn is_owned<S: WordStore>(number: OwnerWord, instance: Ref, memory: &Memory<S>) 
     ensures { result ≡ is_owned number (header_at memory.now instance) }
 {
     match memory.header(instance) {
-        Some(facts) => facts.owner == number,
+        Some(facts) => facts.owner() == number,
         None => false,
     }
 }

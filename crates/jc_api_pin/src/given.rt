@@ -98,8 +98,8 @@ pub(crate) fn own_value<S: WordStore>(pin: Ref, memory: &Memory<S>) -> Result<()
     let Some(value) = memory.header(record(memory, pin).value) else {
         return Ok(());
     };
-    let context = context_of(Owner::of(memory.facts(pin).owner), memory);
-    if context_of(Owner::of(value.owner), memory).is(context) {
+    let context = context_of(Owner::of(memory.facts(pin).owner()), memory);
+    if context_of(Owner::of(value.owner()), memory).is(context) {
         Ok(())
     } else {
         Err(Stop::Throw(Exception::SecurityException))

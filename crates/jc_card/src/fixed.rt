@@ -80,14 +80,14 @@ impl FixedObject {
     fn facts(&self, table: &Table, place: u16) -> Facts
         ensures { result ≡ facts_of_fixed table.now self.now place }
     {
-        Facts {
-            kind: self.kind,
-            event: Some(ClearEvent::Reset),
-            class: class_number(table, self.class),
-            owner: RUNTIME_ENVIRONMENT,
-            length: self.cells,
+        Facts::new(
+            self.kind,
+            Some(ClearEvent::Reset),
+            class_number(table, self.class),
+            RUNTIME_ENVIRONMENT,
+            self.cells,
             place,
-        }
+        )
     }
 }
 

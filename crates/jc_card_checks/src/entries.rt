@@ -46,7 +46,7 @@ fn is_aid_object<S: WordStore>(memory: &Memory<S>, linked: &Linked, word: u16) -
         return false;
     }
     let long = cell_of(memory, object, facts.length, 0);
-    facts.class == linked.platform().class_word(PlatformClass::Aid)
+    facts.class() == linked.platform().class_word(PlatformClass::Aid)
         && long >= LEAST_AID
         && long <= MOST_AID
 }
@@ -60,7 +60,7 @@ fn is_applet_instance<S: WordStore>(memory: &Memory<S>, linked: &Linked, word: u
         return false;
     }
     let facts = memory.heap().facts(Ref::at(word));
-    matches!(facts.kind, Kind::Instance) && is_a(linked, facts.class, PlatformClass::Applet)
+    matches!(facts.kind, Kind::Instance) && is_a(linked, facts.class(), PlatformClass::Applet)
 }
 
 // The entry at a place has an AID object, a package and an instance.

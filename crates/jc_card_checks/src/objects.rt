@@ -54,16 +54,16 @@ fn is_sound_object<S: WordStore>(memory: &Memory<S>, linked: &Linked, object: Re
     ensures { IsTrue result ↔ IsSoundObject linked.now memory.now.heap.now object }
 {
     let facts = memory.heap().facts(object);
-    if !fits_class(linked, facts.kind, facts.class, facts.length) {
+    if !fits_class(linked, facts.kind, facts.class(), facts.length) {
         return false;
     }
-    if !is_owner(memory, facts.owner) {
+    if !is_owner(memory, facts.owner()) {
         return false;
     }
     if !is_kept(facts) {
         return true;
     }
-    holds_values(memory, linked, object, facts.class, facts.length)
+    holds_values(memory, linked, object, facts.class(), facts.length)
 }
 
 // The object behind this one, or the first one of all behind null.

@@ -87,7 +87,7 @@ fn method_named<S: WordStore>(
 {
     let facts = memory.header(applet)?;
     let token = linked.platform().method_token(name);
-    linked.method_at(facts.class, 0, VirtualToken::Public(token))
+    linked.method_at(facts.class(), 0, VirtualToken::Public(token))
 }
 
 // What the platform's class Applet does itself.

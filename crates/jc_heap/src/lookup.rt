@@ -40,14 +40,14 @@ pub fn facts_at<S: WordStore>(journal: &Journal<S>, object: Ref) -> Facts
     let at = object.address();
     let word = journal.read(at);
     let place = area_place(journal, at, word);
-    Facts {
-        kind: Kind::of(word % 256),
-        event: event_of_number(word / 256),
-        class: ClassWord(journal.read(at + 1)),
-        owner: OwnerWord(journal.read(at + 2)),
-        length: journal.read(at + LENGTH),
+    Facts::new(
+        Kind::of(word % 256),
+        event_of_number(word / 256),
+        ClassWord(journal.read(at + 1)),
+        OwnerWord(journal.read(at + 2)),
+        journal.read(at + LENGTH),
         place,
-    }
+    )
 }
 
 /// The object behind another one in the order of addresses, or the first one of all behind null.

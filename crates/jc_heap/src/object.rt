@@ -71,11 +71,48 @@ pub struct Facts {
     pub kind: Kind,
     /// What clears the object's cells; none, where it is persistent.
     pub event: Option<ClearEvent>,
-    /// The class of an instance, or that of an array's elements, where they are references.
-    pub class: ClassWord,
-    pub owner: OwnerWord,
+    // The words of the class and of the owner: code sees them as `class()` and `owner()`, contracts as these words.
+    class: u16,
+    owner: u16,
     /// The number of cells.
     pub length: u16,
     /// The first cell of a transient object in its area, 0 of a persistent one.
     pub place: u16,
+}
+
+impl Facts {
+    /// What a header says of an object with this kind, event, class and owner, so many cells, and its first cell there.
+    pub const fn new(
+        kind: Kind,
+        event: Option<ClearEvent>,
+        class: ClassWord,
+        owner: OwnerWord,
+        length: u16,
+        place: u16,
+    ) -> Facts
+        ensures { result ≡ record { kind = kind; event = event; class = class; owner = owner; length = length; place = place } }
+    {
+        Facts {
+            kind,
+            event,
+            class: class.0,
+            owner: owner.0,
+            length,
+            place,
+        }
+    }
+
+    /// The class of an instance, or that of an array's elements, where they are references.
+    pub const fn class(self) -> ClassWord
+        ensures { result ≡ self.class }
+    {
+        ClassWord(self.class)
+    }
+
+    /// The owner.
+    pub const fn owner(self) -> OwnerWord
+        ensures { result ≡ self.owner }
+    {
+        OwnerWord(self.owner)
+    }
 }

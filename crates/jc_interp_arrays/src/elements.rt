@@ -92,7 +92,7 @@ pub(crate) fn with_index(facts: Facts, index: i16) -> Result<Element, Stop>
     }
     Ok(Element {
         index: index.cast_unsigned(),
-        class: facts.class,
+        class: facts.class(),
     })
 }
 

@@ -124,7 +124,7 @@ pub fn ask<S: WordStore>(
 {
     match memory.header(asked.server) {
         Some(facts) => {
-            let method = sharing_method(facts.class, linked);
+            let method = sharing_method(facts.class(), linked);
             ask_by(method, asked, place, frames, memory, linked)
         }
         None => Err(Break::End(Outcome::Fault)),

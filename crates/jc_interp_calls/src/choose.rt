@@ -194,7 +194,7 @@ fn class_of(facts: Facts, linked: &Linked) -> ClassWord
     ensures { result ≡ class_of linked.now facts }
 {
     if is_instance(facts.kind) {
-        facts.class
+        facts.class()
     } else {
         linked.platform().class_word(PlatformClass::Object)
     }
@@ -219,7 +219,7 @@ fn judged(decision: Decision, facts: Facts, method: Method, arguments: u8) -> Re
         Decision::Switch(_) => Ok(Call {
             method,
             arguments,
-            switches_to: Some(Owner::of(facts.owner)),
+            switches_to: Some(Owner::of(facts.owner())),
         }),
         Decision::Deny(_) => Err(Stop::Throw(Exception::SecurityException)),
     }

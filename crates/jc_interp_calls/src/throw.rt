@@ -78,7 +78,7 @@ fn throw_object<S: WordStore>(
     ensures { Makes (unwinding thrown place linked.now frames.old memory.old) memory.old (after_group result frames.new memory.new) }
 {
     match memory.header(thrown) {
-        Some(facts) => unwind(facts.class, thrown, place, frames, memory, linked),
+        Some(facts) => unwind(facts.class(), thrown, place, frames, memory, linked),
         None => Err(Break::End(Outcome::Fault)),
     }
 }

@@ -19,13 +19,13 @@ use jc_world::objects::object;
 #[tactic(auto, unfolding(crate::specs::Casts::tested))]
 fn tested<S: WordStore>(
     of_null: bool,
-    object_type: ObjectType,
+    object_type: &ObjectType,
     reference: Ref,
     memory: &Memory<S>,
     linked: &Linked,
 ) -> Result<bool, Stop>
     requires { memory.now.heap.down ≡ false }
-    ensures { result ≡ tested of_null object_type linked.now memory.now reference }
+    ensures { result ≡ tested of_null object_type.now linked.now memory.now reference }
 {
     if reference.is_null() {
         return Ok(of_null);
@@ -52,7 +52,7 @@ pub fn check_cast<S: WordStore>(
     let reference = frames.pop_reference()?;
     let package_number = frames.origin().package_number;
     let object_type = type_named(of_type, linked, package_number).ok_or(CodeFault)?;
-    if !tested(true, object_type, reference, memory, linked)? {
+    if !tested(true, &object_type, reference, memory, linked)? {
         return Err(Break::Throw(Exception::ClassCastException));
     }
     frames.push(Cell::Reference(reference));
@@ -74,7 +74,7 @@ pub fn instance_of<S: WordStore>(
     let reference = frames.pop_reference()?;
     let package_number = frames.origin().package_number;
     let object_type = type_named(of_type, linked, package_number).ok_or(CodeFault)?;
-    let answer = tested(false, object_type, reference, memory, linked)?;
+    let answer = tested(false, &object_type, reference, memory, linked)?;
     frames.push(Cell::Short(i16::from(answer)));
     Ok(())
 }

@@ -81,14 +81,14 @@ fn is_subtype(class: ClassWord, of: ClassWord, linked: &Linked) -> bool
 
 /// Whether an object with this header is of a type.
 #[tactic(auto, unfolding(crate::specs::Types::is_of_type))]
-pub(crate) fn is_of_type(object_type: ObjectType, linked: &Linked, facts: Facts) -> bool
-    ensures { result ≡ is_of_type object_type linked.now facts }
+pub(crate) fn is_of_type(object_type: &ObjectType, linked: &Linked, facts: Facts) -> bool
+    ensures { result ≡ is_of_type object_type.now linked.now facts }
 {
     match object_type {
-        ObjectType::Class(class) => is_a(facts, class, linked),
-        ObjectType::Primitives(elements) => is_primitives(elements, facts.kind),
+        ObjectType::Class(class) => is_a(facts, *class, linked),
+        ObjectType::Primitives(elements) => is_primitives(*elements, facts.kind),
         ObjectType::References(class) => {
-            is_references(facts.kind) && is_subtype(facts.class, class, linked)
+            is_references(facts.kind) && is_subtype(facts.class(), *class, linked)
         }
     }
 }
@@ -107,11 +107,11 @@ fn access_to_class(linked: &Linked, class: ClassWord) -> Access
 }
 
 /// What the firewall is asked about a test against a type.
-pub(crate) fn access_to(linked: &Linked, object_type: ObjectType) -> Access
-    ensures { result ≡ access_to linked.now object_type }
+pub(crate) fn access_to(linked: &Linked, object_type: &ObjectType) -> Access
+    ensures { result ≡ access_to linked.now object_type.now }
 {
     match object_type {
-        ObjectType::Class(class) => access_to_class(linked, class),
+        ObjectType::Class(class) => access_to_class(linked, *class),
         ObjectType::Primitives(_) => Access::CastToClass,
         ObjectType::References(_) => Access::CastToClass,
     }

@@ -42,7 +42,7 @@ pub fn is_a(facts: Facts, class: ClassWord, linked: &Linked) -> bool
     ensures { result ≡ is_a linked.now facts class }
 {
     if is_instance(facts.kind) {
-        facts.class == class || linked.is_below(facts.class, class)
+        facts.class() == class || linked.is_below(facts.class(), class)
     } else {
         is_object_class(class, linked)
     }

@@ -83,12 +83,12 @@ pub fn selected_context<S: WordStore>(memory: &Memory<S>) -> Context
 fn designation_of(facts: Facts, linked: &Linked) -> Designation
     ensures { result ≡ designation_of linked.now facts }
 {
-    if facts.owner != RUNTIME_ENVIRONMENT {
+    if facts.owner() != RUNTIME_ENVIRONMENT {
         return Designation::Ordinary;
     }
     match facts.kind {
         Kind::Instance => {
-            if facts.class == linked.platform().class_word(PlatformClass::Aid) {
+            if facts.class() == linked.platform().class_word(PlatformClass::Aid) {
                 Designation::PermanentEntryPoint
             } else {
                 Designation::TemporaryEntryPoint
@@ -102,7 +102,7 @@ fn shares(facts: Facts, linked: &Linked) -> bool
     ensures { result ≡ shares linked.now facts.kind facts.class }
 {
     match facts.kind {
-        Kind::Instance => linked.is_shareable(facts.class),
+        Kind::Instance => linked.is_shareable(facts.class()),
         _ => false,
     }
 }
@@ -141,7 +141,7 @@ fn subject_with<S: WordStore>(
     ensures { result ≡ record (subject_of linked.now memory.now facts) { has_shareable_interface = shared } }
 {
     Subject {
-        owner: context_of(Owner::of(facts.owner), memory),
+        owner: context_of(Owner::of(facts.owner()), memory),
         designation: designation_of(facts, linked),
         has_shareable_interface: shared,
         is_clear_on_deselect: is_for_selection(facts.event),
@@ -198,7 +198,7 @@ const fn is_shared(access: Access, facts: Facts) -> bool
     ensures { result ≡ true → (access ≡ ArrayElement) × (facts.owner ≡ 0) × (is_instance facts.kind ≡ false) }
 {
     match access {
-        Access::ArrayElement => facts.owner.0 == 0 && !is_instance(facts.kind),
+        Access::ArrayElement => facts.owner().0 == 0 && !is_instance(facts.kind),
         _ => false,
     }
 }
@@ -211,7 +211,7 @@ const fn is_free(access: Access, facts: Facts, registers: Registers) -> bool
     ensures { (p : Packages) (m : MemoryState) → m.registers ≡ registers → result ≡ true → decided access p m facts ≡ Allow }
 {
     has_time(facts, registers)
-        && (is_owner(registers.active, facts.owner) || is_shared(access, facts))
+        && (is_owner(registers.active, facts.owner()) || is_shared(access, facts))
 }
 
 // What the rules answer to an access to an object with this kind, event, class and owner.
@@ -229,14 +229,7 @@ fn judged<S: WordStore>(
     requires up { memory.now.heap.down ≡ false }
     ensures { result ≡ decided access linked.now memory.now (record { kind = kind; event = event; class = class; owner = owner; length = 0; place = 0 }) }
 {
-    let facts = Facts {
-        kind,
-        event,
-        class,
-        owner,
-        length: 0,
-        place: 0,
-    };
+    let facts = Facts::new(kind, event, class, owner, 0, 0);
     let active = context_of(memory.registers().active, memory);
     let selected = selected_context(memory);
     if !asks_sharing(access) {
@@ -269,8 +262,8 @@ pub fn decided<S: WordStore>(
         access,
         facts.kind,
         facts.event,
-        facts.class,
-        facts.owner,
+        facts.class(),
+        facts.owner(),
         memory,
         linked,
     )

@@ -49,7 +49,7 @@ pub const fn is_instance(kind: Kind) -> bool
 pub fn is_instance_of(facts: Facts, class: ClassWord, linked: &Linked) -> bool
     ensures { result ≡ is_instance_of linked.now facts class }
 {
-    is_instance(facts.kind) && (facts.class == class || linked.is_below(facts.class, class))
+    is_instance(facts.kind) && (facts.class() == class || linked.is_below(facts.class(), class))
 }
 
 /// Whether the firewall lets a reference be stored: null may be. A reference to nothing is a code fault.
