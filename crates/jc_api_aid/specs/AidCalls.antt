@@ -2,7 +2,7 @@
 use Rattle.std.specs.Prelude.{ℕ, ◌==◌, pos, false, List, length, Option, Some, None, if◌then◌else◌}
 use Rattle.jc_heap.specs.declared.object.Facts.{Facts}
 use Rattle.jc_frames.specs.declared.cell.Cell.{Cell}
-use Rattle.jc_frames.specs.declared.outcome.Exception.TheVariants.{SystemException}
+use Rattle.jc_frames.specs.Reasons.{illegal_value}
 use Rattle.jc_memory.specs.State.{MemoryState}
 use Rattle.jc_memory.specs.Doing.{Then}
 use Rattle.jc_memory.specs.Cells.{header_at, no_room_for_run, sets_run}
@@ -34,7 +34,7 @@ unfoldable pub aid_made : List Cell → Packages → MemoryState → Calling
 aid_made args p m = if_some (reference_argument args 0) (λ own. if_some (reference_argument args 1) (λ array. if_some (short_argument args 2) (λ start. if_some (short_argument args 3) (λ count.
     if_ok (bytes_argument m array) (λ argument. if_ok (instance_at m own 9) (λ f. if_ok (elements_of p m array argument start count) (λ e.
     if is_aid_length e.count then unless (no_room_for_run m own 0 (cells_of_aid (bytes_in m e))) (Then (sets_run m own 0 (cells_of_aid (bytes_in m e))) (answers Nothing))
-    else throws (SystemException (pos 1)))))))))
+    else throws illegal_value)))))))
 
 -- equals: another AID of the same bytes
 unfoldable pub aid_equals : List Cell → Packages → MemoryState → Calling

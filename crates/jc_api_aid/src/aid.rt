@@ -11,7 +11,8 @@ ghost use Rattle.jc_api_aid.specs.AidCalls.{aid_of_object, aid_made, aid_equals,
 
 use crate::cells::{cells_of_aid, is_aid_length};
 use jc_api_arguments::{Stretch, boolean, bytes_argument, elements, instance, put, short};
-use jc_frames::{Cell, Exception, Outcome};
+use jc_frames::reasons::ILLEGAL_VALUE;
+use jc_frames::{Cell, Outcome};
 use jc_heap::ChangeRefusal;
 use jc_linker::linked::Linked;
 use jc_memory::Memory;
@@ -90,7 +91,7 @@ fn make_aid<S: WordStore>(
     let _facts = instance(own, 9, memory)?;
     let e = elements(array, argument, start, count, memory, linked)?;
     if !is_aid_length(e.count) {
-        return Err(Break::Throw(Exception::SystemException(1)));
+        return Err(Break::Throw(ILLEGAL_VALUE));
     }
     set_aid(memory, own, e)?;
     Ok(Answer::Nothing)

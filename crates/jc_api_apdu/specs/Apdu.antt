@@ -3,8 +3,7 @@ use Rattle.std.specs.Prelude.{ℕ, ℤ, pos, negsuc, ◌+◌, ◌-◌, ◌==◌,
 use Rattle.std.specs.Int.{w16, cast_signed}
 use Rattle.jc_frames.specs.declared.cell.Cell.{Cell}
 use Rattle.jc_frames.specs.declared.cell.Cell.TheVariants.{Short, Reference}
-use Rattle.jc_frames.specs.declared.outcome.Exception.{Exception}
-use Rattle.jc_frames.specs.declared.outcome.Exception.TheVariants.{APDUException}
+use Rattle.jc_frames.specs.Reasons.{bad_length, buffer_bounds, illegal_use}
 use Rattle.jc_frames.specs.declared.outcome.Stop.{Stop}
 use Rattle.jc_frames.specs.declared.outcome.Stop.TheVariants.{Throw}
 use Rattle.jc_memory.specs.declared.registers.ApduPhase.{ApduPhase}
@@ -20,16 +19,6 @@ use Rattle.jc_world.specs.Calls.{Calling, answers, throws, faults, if_some, if_o
 use Rattle.jc_world.specs.Objects.{short_argument}
 use Rattle.jc_api_apdu.specs.declared.sending.Piece.{Piece}
 use Rattle.jc_api_apdu.specs.Buffer.{buffer_size, buffer_of, data_of}
-
--- ILLEGAL_USE, BUFFER_BOUNDS, BAD_LENGTH
-abbrev pub illegal_use : Exception
-illegal_use = APDUException (pos 1)
-
-abbrev pub buffer_bounds : Exception
-buffer_bounds = APDUException (pos 2)
-
-abbrev pub bad_length : Exception
-bad_length = APDUException (pos 3)
 
 abbrev pub phase_of : MemoryState → ApduPhase
 phase_of m = m.registers.apdu.phase

@@ -8,9 +8,10 @@ ghost use Rattle.jc_api_apdu.specs.Buffer.{IsBuffer};
 ghost use Rattle.jc_api_apdu.specs.Apdu.{phase_of, received, received_in, received_more};
 
 use crate::buffers::{buffer, data_of};
-use crate::phase::{ILLEGAL_USE, turn};
+use crate::phase::turn;
 use arrayvec::ArrayVec;
 use jc_frames::Cell;
+use jc_frames::reasons::ILLEGAL_USE;
 use jc_heap::ChangeRefusal;
 use jc_memory::{ApduPhase, MOST_COMMAND, Memory};
 use jc_transient::Ref;

@@ -9,7 +9,8 @@ ghost use Rattle.jc_api_apdu.specs.Buffer.{IsBuffer};
 ghost use Rattle.jc_api_apdu.specs.Apdu.{all_sent, bytes_sent, bytes_sent_in, expected_of, is_too_much, length_of, length_set, outgoing, piece_of, within};
 
 use crate::buffers::{BUFFER_SIZE, buffer};
-use crate::phase::{BAD_LENGTH, BUFFER_BOUNDS, ILLEGAL_USE, turn};
+use crate::phase::turn;
+use jc_frames::reasons::{BAD_LENGTH, BUFFER_BOUNDS, ILLEGAL_USE};
 use jc_frames::{Cell, Stop};
 use jc_memory::{ApduPhase, Memory};
 use jc_transient::Ref;

@@ -3,8 +3,7 @@ use Rattle.std.specs.Prelude.{ℕ, pos, nat_le, Bool, true, List, length, if◌t
 use Rattle.std.specs.Option.{option_map}
 use Rattle.jc_frames.specs.declared.cell.Cell.{Cell}
 use Rattle.jc_frames.specs.declared.cell.Cell.TheVariants.{Short, Reference}
-use Rattle.jc_frames.specs.declared.outcome.Exception.{Exception}
-use Rattle.jc_frames.specs.declared.outcome.Exception.TheVariants.{SystemException}
+use Rattle.jc_frames.specs.Reasons.{illegal_aid, illegal_value}
 use Rattle.jc_memory.specs.declared.registers.Installation.{Installation}
 use Rattle.jc_memory.specs.declared.registers.Installation.TheVariants.{Idle, Open, Registered}
 use Rattle.jc_memory.specs.State.{MemoryState}
@@ -17,14 +16,10 @@ use Rattle.jc_world.specs.Calls.{Calling, answers, throws, faults, if_some, if_o
 use Rattle.jc_world.specs.Objects.{short_argument, reference_argument}
 use Rattle.jc_api_arguments.specs.Arrays.{bytes_argument, bytes_in, elements_of}
 use Rattle.jc_api_aid.specs.AidCells.{is_aid_length}
-use Rattle.jc_api_applet.specs.Register.{illegal_aid, registered}
+use Rattle.jc_api_applet.specs.Register.{registered}
 
 abbrev pub returns_bool : Bool → Calling
 returns_bool b = answers (Value (Short (if b then pos 1 else pos 0)))
-
--- ILLEGAL_VALUE
-abbrev pub illegal_value : Exception
-illegal_value = SystemException (pos 1)
 
 -- the AID of the entry in the Applet component whose install runs; none outside an installation
 abbrev pub installed_aid : Packages → Installation → Option (List ℕ)

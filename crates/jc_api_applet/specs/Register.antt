@@ -1,12 +1,11 @@
 -- An applet is registered.
-use Rattle.std.specs.Prelude.{ℕ, pos, ◌+◌, ◌==◌, nat_lt, is_some, Bool, true, false, List, if◌then◌else◌, Option, Some, None, Result, Ok, Err}
+use Rattle.std.specs.Prelude.{ℕ, ◌+◌, ◌==◌, nat_lt, is_some, Bool, true, false, List, if◌then◌else◌, Option, Some, None, Result, Ok, Err}
 use Rattle.jc_words.specs.Layout.{most_applets}
 use Rattle.jc_heap.specs.declared.object.Facts.{Facts}
 use Rattle.jc_heap.specs.declared.object.Kind.TheVariants.{Instance}
 use Rattle.jc_heap.specs.declared.place.AppletEntry.{AppletEntry}
 use Rattle.jc_heap.specs.Moves.{Commit}
-use Rattle.jc_frames.specs.declared.outcome.Exception.{Exception}
-use Rattle.jc_frames.specs.declared.outcome.Exception.TheVariants.{SystemException, TransactionException}
+use Rattle.jc_frames.specs.Reasons.{buffer_full, illegal_aid, in_progress, no_resource}
 use Rattle.jc_frames.specs.declared.outcome.Stop.{Stop}
 use Rattle.jc_frames.specs.declared.outcome.Stop.TheVariants.{Throw}
 use Rattle.jc_memory.specs.declared.making.NewObject.{NewObject}
@@ -29,19 +28,6 @@ use Rattle.jc_room.specs.Room.{has_space, lacks_room, registers, sets_cells}
 use Rattle.jc_world.specs.declared.answer.Answer.TheVariants.{Nothing}
 use Rattle.jc_world.specs.Calls.{Calling, answers, if_ok}
 use Rattle.jc_api_aid.specs.AidCells.{cells_of_aid}
-
--- ILLEGAL_AID, NO_RESOURCE, IN_PROGRESS, BUFFER_FULL
-abbrev pub illegal_aid : Exception
-illegal_aid = SystemException (pos 4)
-
-abbrev pub no_resource : Exception
-no_resource = SystemException (pos 5)
-
-abbrev pub in_progress : Exception
-in_progress = TransactionException (pos 1)
-
-abbrev pub buffer_full : Exception
-buffer_full = TransactionException (pos 3)
 
 -- the package of the applet that is being installed, while its install has not registered an instance yet
 abbrev pub opened : Installation → Option PackageNumber

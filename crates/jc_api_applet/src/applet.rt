@@ -9,11 +9,11 @@ ghost use Rattle.jc_api_arguments.specs.Arrays.{bytes_in, IsInArray};
 ghost use Rattle.jc_api_applet.specs.Applet.{applet_called, given_registered, installed_aid, own_registered, registered_as};
 ghost use Rattle.jc_api_applet.specs.Register.{registered};
 
-use crate::asking::ILLEGAL_AID;
 use crate::registering::register;
 use jc_api_aid::cells::is_aid_length;
 use jc_api_arguments::{Stretch, bytes_argument, elements};
-use jc_frames::{Cell, Exception, Outcome};
+use jc_frames::reasons::{ILLEGAL_AID, ILLEGAL_VALUE};
+use jc_frames::{Cell, Outcome};
 use jc_linker::linked::Linked;
 use jc_memory::{Installation, Memory};
 use jc_platform::names::PlatformMethod;
@@ -21,9 +21,6 @@ use jc_transient::Ref;
 use jc_words::WordStore;
 use jc_world::arguments::{reference_argument, short_argument};
 use jc_world::{Answer, Break};
-
-// So many bytes are no AID (`ILLEGAL_VALUE`).
-const ILLEGAL_VALUE: Exception = Exception::SystemException(1);
 
 // How many bytes an AID has at most.
 const MOST_AID: usize = 16;

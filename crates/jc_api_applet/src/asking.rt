@@ -5,7 +5,8 @@ ghost use Rattle.jc_memory.specs.Cells.{header_at};
 ghost use Rattle.jc_room.specs.Room.{has_space, lacks_room};
 ghost use Rattle.jc_api_applet.specs.Register.{installing, is_inside, is_owned, may_be_added, opened, registrable, unless_full};
 
-use jc_frames::{Exception, Stop};
+use jc_frames::Stop;
+use jc_frames::reasons::{BUFFER_FULL, ILLEGAL_AID, IN_PROGRESS, NO_RESOURCE};
 use jc_memory::{Depth, Installation, Memory, PackageNumber};
 use jc_names::OwnerWord;
 use jc_registry::applet_with_aid;
@@ -13,18 +14,6 @@ use jc_room::{has_space, lacks_room};
 use jc_transient::Ref;
 use jc_words::WordStore;
 use jc_words::layout::MOST_APPLETS;
-
-/// An AID is in use already, or it is no time for the instance to be registered (`ILLEGAL_AID`).
-pub(crate) const ILLEGAL_AID: Exception = Exception::SystemException(4);
-
-/// There is no space in the heap (`NO_RESOURCE`).
-const NO_RESOURCE: Exception = Exception::SystemException(5);
-
-/// The applet has begun a transaction of its own (`IN_PROGRESS`).
-const IN_PROGRESS: Exception = Exception::TransactionException(1);
-
-/// The installation's transaction has no room (`BUFFER_FULL`).
-const BUFFER_FULL: Exception = Exception::TransactionException(3);
 
 /// How many cells an AID object has.
 pub(crate) const AID_CELLS: u16 = 9;

@@ -5,8 +5,8 @@ use Rattle.jc_heap.specs.declared.object.Facts.{Facts}
 use Rattle.jc_heap.specs.Heap.{facts}
 use Rattle.jc_firewall.specs.Situation.{same_context}
 use Rattle.jc_frames.specs.declared.cell.Cell.{Cell}
-use Rattle.jc_frames.specs.declared.outcome.Exception.{Exception}
-use Rattle.jc_frames.specs.declared.outcome.Exception.TheVariants.{PINException, SecurityException}
+use Rattle.jc_frames.specs.Reasons.{illegal_pin_value}
+use Rattle.jc_frames.specs.declared.outcome.Exception.TheVariants.{SecurityException}
 use Rattle.jc_frames.specs.declared.outcome.Stop.{Stop}
 use Rattle.jc_frames.specs.declared.outcome.Stop.TheVariants.{Throw}
 use Rattle.jc_memory.specs.Cells.{header_at}
@@ -20,18 +20,14 @@ use Rattle.jc_api_arguments.specs.declared.arrays.Stretch.{Stretch}
 use Rattle.jc_api_arguments.specs.Arrays.{bytes_argument, elements_of}
 use Rattle.jc_api_pin.specs.declared.given.Given.{Given}
 
--- ILLEGAL_VALUE
-abbrev pub illegal_value : Exception
-illegal_value = PINException (pos 1)
-
 -- the PIN that is called. An instance whose cells are none of a PIN is a code fault
 abbrev pub receiver : MemoryState → List Cell → Option ℕ
 receiver m args = option_and_then (λ r. if is_pin m r then Some r else None) (reference_argument args 0)
 
 -- a limit, or a maximum: none below 1
 abbrev pub at_least_1 : ℤ → Result ℕ Stop
-at_least_1 (pos n) = if nat_le 1 n then Ok n else Err (Throw illegal_value)
-at_least_1 (negsuc n) = Err (Throw illegal_value)
+at_least_1 (pos n) = if nat_le 1 n then Ok n else Err (Throw illegal_pin_value)
+at_least_1 (negsuc n) = Err (Throw illegal_pin_value)
 
 -- with what a check gave, the next
 abbrev pub and_then : {A B : Type 0} → Result A Stop → (A → Result B Stop) → Result B Stop

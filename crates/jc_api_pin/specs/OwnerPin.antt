@@ -5,7 +5,7 @@ use Rattle.jc_transient.specs.State.{flag_of}
 use Rattle.jc_frames.specs.declared.cell.Cell.{Cell}
 use Rattle.jc_frames.specs.declared.cell.Cell.TheVariants.{Short}
 use Rattle.jc_frames.specs.declared.outcome.Exception.{Exception}
-use Rattle.jc_frames.specs.declared.outcome.Exception.TheVariants.{SystemException, TransactionException}
+use Rattle.jc_frames.specs.Reasons.{buffer_full, illegal_pin_value, no_resource}
 use Rattle.jc_frames.specs.declared.outcome.Stop.{Stop}
 use Rattle.jc_memory.specs.State.{MemoryState}
 use Rattle.jc_memory.specs.Doing.{Doing, bind}
@@ -27,7 +27,7 @@ use Rattle.jc_world.specs.declared.stop.Break.TheVariants.{Throw, Down}
 use Rattle.jc_world.specs.Calls.{Calling, answers, throws, faults, if_some, if_ok}
 use Rattle.jc_world.specs.Objects.{short_argument}
 use Rattle.jc_api_arguments.specs.declared.arrays.Stretch.{Stretch}
-use Rattle.jc_api_pin.specs.Arguments.{at_least_1, given_in, illegal_value, named_by, receiver, value_owned}
+use Rattle.jc_api_pin.specs.Arguments.{at_least_1, given_in, named_by, receiver, value_owned}
 
 abbrev pub returns_bool : Bool → Calling
 returns_bool b = answers (Value (Short (if b then pos 1 else pos 0)))
@@ -37,10 +37,10 @@ bytes_in m e = bytes_at m e.array e.start e.count
 
 -- what a PIN that is not changed throws
 abbrev pub exception_of : PinRefusal → Exception
-exception_of StoreDown = SystemException (pos 5)
-exception_of CommitFull = TransactionException (pos 3)
-exception_of IllegalValue = illegal_value
-exception_of HeapFull = SystemException (pos 5)
+exception_of StoreDown = no_resource
+exception_of CommitFull = buffer_full
+exception_of IllegalValue = illegal_pin_value
+exception_of HeapFull = no_resource
 
 abbrev pub unless_refused : Result (Unit {0}) PinRefusal → Calling
 unless_refused (Ok u) = answers Nothing
@@ -55,7 +55,7 @@ abbrev pub answer_of : Result (Unit {0}) PinRefusal → Result Answer Break
 answer_of (Ok u) = Ok Nothing
 answer_of (Err StoreDown) = Err Down
 answer_of (Err CommitFull) = Err (Throw (exception_of CommitFull))
-answer_of (Err IllegalValue) = Err (Throw illegal_value)
+answer_of (Err IllegalValue) = Err (Throw illegal_pin_value)
 answer_of (Err HeapFull) = Err (Throw (exception_of HeapFull))
 
 -- `<init>`

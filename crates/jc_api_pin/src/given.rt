@@ -6,6 +6,7 @@ ghost use Rattle.jc_api_arguments.specs.Arrays.{IsBytesArgument, IsInArray};
 ghost use Rattle.jc_api_pin.specs.Arguments.{at_least_1, given_in, named_by, receiver, value_owned};
 
 use jc_api_arguments::{Stretch, bytes_argument, elements};
+use jc_frames::reasons::ILLEGAL_PIN_VALUE;
 use jc_frames::{Cell, CodeFault, Exception, Stop};
 use jc_heap::Facts;
 use jc_linker::linked::Linked;
@@ -15,9 +16,6 @@ use jc_transient::Ref;
 use jc_words::WordStore;
 use jc_world::arguments::{reference_argument, short_argument};
 use jc_world::contexts::context_of;
-
-/// A value is longer than the maximum, or a limit or maximum is below 1 (`ILLEGAL_VALUE`).
-pub(crate) const ILLEGAL_VALUE: Exception = Exception::PINException(1);
 
 /// An array of bytes with its header, none for null; an offset and a length.
 #[derive(Clone, Copy, Debug, PartialEq, Eq)]
@@ -46,7 +44,7 @@ pub(crate) fn at_least_1(number: i16) -> Result<u16, Stop>
     ensures { result ≡ at_least_1 number }
 {
     if number < 1 {
-        return Err(Stop::Throw(ILLEGAL_VALUE));
+        return Err(Stop::Throw(ILLEGAL_PIN_VALUE));
     }
     Ok(number.cast_unsigned())
 }

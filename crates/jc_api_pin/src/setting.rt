@@ -8,9 +8,10 @@ ghost use Rattle.jc_pin.specs.Updating.{after_pin, updated};
 ghost use Rattle.jc_api_arguments.specs.Arrays.{IsInArray};
 ghost use Rattle.jc_api_pin.specs.OwnerPin.{answer_of, bytes_in, constructed, settled, value_set};
 
-use crate::given::{ILLEGAL_VALUE, at_least_1, given_in, named_by, own_value, receiver};
+use crate::given::{at_least_1, given_in, named_by, own_value, receiver};
 use jc_api_arguments::Stretch;
-use jc_frames::{Cell, Exception};
+use jc_frames::Cell;
+use jc_frames::reasons::{BUFFER_FULL, ILLEGAL_PIN_VALUE, NO_RESOURCE};
 use jc_linker::linked::Linked;
 use jc_memory::Memory;
 use jc_pin::{PinRefusal, init, record, update};
@@ -29,9 +30,9 @@ fn answer_of(change: Result<(), PinRefusal>) -> Result<Answer, Break>
     match change {
         Ok(()) => Ok(Answer::Nothing),
         Err(PinRefusal::StoreDown) => Err(Break::Down),
-        Err(PinRefusal::CommitFull) => Err(Break::Throw(Exception::TransactionException(3))),
-        Err(PinRefusal::IllegalValue) => Err(Break::Throw(ILLEGAL_VALUE)),
-        Err(PinRefusal::HeapFull) => Err(Break::Throw(Exception::SystemException(5))),
+        Err(PinRefusal::CommitFull) => Err(Break::Throw(BUFFER_FULL)),
+        Err(PinRefusal::IllegalValue) => Err(Break::Throw(ILLEGAL_PIN_VALUE)),
+        Err(PinRefusal::HeapFull) => Err(Break::Throw(NO_RESOURCE)),
     }
 }
 

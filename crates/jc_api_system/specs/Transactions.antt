@@ -3,7 +3,7 @@ use Rattle.std.specs.Prelude.{ℤ, pos, ◌*◌, if◌then◌else◌}
 use Rattle.std.specs.Int.{w16, cast_signed}
 use Rattle.jc_heap.specs.Heap.{room_left}
 use Rattle.jc_heap.specs.Moves.{Begin, Commit, Abort}
-use Rattle.jc_frames.specs.declared.outcome.Exception.TheVariants.{TransactionException}
+use Rattle.jc_frames.specs.Reasons.{in_progress, not_in_progress}
 use Rattle.jc_memory.specs.declared.registers.Depth.{Depth}
 use Rattle.jc_memory.specs.declared.registers.Depth.TheVariants.{Outside, Inside}
 use Rattle.jc_memory.specs.declared.registers.Installation.{Installation}
@@ -19,7 +19,7 @@ levels m depth = Turns (record m.registers { depth = depth })
 
 -- beginTransaction: where the environment has one open for an installation, the applet's is counted only
 abbrev pub begun_at : Depth → MemoryState → Calling
-begun_at Inside m = throws (TransactionException (pos 1))
+begun_at Inside m = throws in_progress
 begun_at Outside m = if m.heap.begun then Then (levels m Inside) (answers Nothing) else Then (Changes Begin) (Then (levels m Inside) (answers Nothing))
 
 -- commitTransaction: that of an installation stays open
@@ -29,7 +29,7 @@ committed_in Idle m = if m.heap.begun then Then (Changes Commit) (Then (levels m
 committed_in (Registered home) m = if m.heap.begun then Then (Changes Commit) (Then (levels m Outside) (answers Nothing)) else Then (levels m Outside) (answers Nothing)
 
 abbrev pub committed_at : Depth → MemoryState → Calling
-committed_at Outside m = throws (TransactionException (pos 2))
+committed_at Outside m = throws not_in_progress
 committed_at Inside m = committed_in m.registers.installation m
 
 -- what follows an abort: an installation ends
@@ -40,7 +40,7 @@ after_abort (Registered home) = answers Aborted
 
 -- abortTransaction: transient references to what is gone become null
 abbrev pub aborted_at : Depth → MemoryState → Calling
-aborted_at Outside m = throws (TransactionException (pos 2))
+aborted_at Outside m = throws not_in_progress
 aborted_at Inside m =
     if m.heap.begun then Then (Changes Abort) (Then Buries (Then (levels m Outside) (after_abort m.registers.installation)))
     else Then (levels m Outside) (after_abort m.registers.installation)

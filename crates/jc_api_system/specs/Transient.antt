@@ -14,7 +14,8 @@ use Rattle.jc_firewall.specs.declared.subject.Situation.{Situation}
 use Rattle.jc_firewall.specs.Table.{decision}
 use Rattle.jc_frames.specs.declared.cell.Cell.{Cell}
 use Rattle.jc_frames.specs.declared.cell.Cell.TheVariants.{Reference}
-use Rattle.jc_frames.specs.declared.outcome.Exception.TheVariants.{NegativeArraySizeException, SystemException}
+use Rattle.jc_frames.specs.Reasons.{illegal_transient, illegal_value}
+use Rattle.jc_frames.specs.declared.outcome.Exception.TheVariants.{NegativeArraySizeException}
 use Rattle.jc_frames.specs.declared.outcome.Stop.{Stop}
 use Rattle.jc_frames.specs.declared.outcome.Stop.TheVariants.{Throw}
 use Rattle.jc_memory.specs.declared.making.NewObject.{NewObject}
@@ -38,7 +39,7 @@ length_in (Some n) = Ok n
 
 -- CLEAR_ON_RESET and CLEAR_ON_DESELECT by their numbers
 abbrev pub event_named : ℤ → Result ClearEvent Stop
-event_named v = if int_eq v (pos 1) then Ok Reset else if int_eq v (pos 2) then Ok Deselect else Err (Throw (SystemException (pos 1)))
+event_named v = if int_eq v (pos 1) then Ok Reset else if int_eq v (pos 2) then Ok Deselect else Err (Throw illegal_value)
 
 -- an array of the code that runs, cleared as its applet is deselected
 abbrev pub own_array : MemoryState → Situation
@@ -51,7 +52,7 @@ own_array m = record {
 abbrev pub if_usable : Decision → Result (Unit {0}) Stop
 if_usable Allow = Ok tt
 if_usable (Switch c) = Ok tt
-if_usable (Deny rule) = Err (Throw (SystemException (pos 3)))
+if_usable (Deny rule) = Err (Throw illegal_transient)
 
 -- the code that runs may use what it makes: an array that is cleared at a deselection only while its applet is selected
 abbrev pub makeable : ClearEvent → MemoryState → Result (Unit {0}) Stop

@@ -9,6 +9,7 @@ use jc_api_arguments::{not_negative, short};
 use jc_firewall::access::Access;
 use jc_firewall::decide::{Decision, decide};
 use jc_firewall::subject::{Designation, Subject};
+use jc_frames::reasons::{ILLEGAL_TRANSIENT, ILLEGAL_VALUE};
 use jc_frames::{Cell, Exception, Outcome, Stop};
 use jc_heap::Kind;
 use jc_linker::linked::Linked;
@@ -30,7 +31,7 @@ fn event_named(number: i16) -> Result<ClearEvent, Stop>
     } else if number == 2 {
         Ok(ClearEvent::Deselect)
     } else {
-        Err(Stop::Throw(Exception::SystemException(1)))
+        Err(Stop::Throw(ILLEGAL_VALUE))
     }
 }
 
@@ -54,7 +55,7 @@ fn allow_making<S: WordStore>(event: ClearEvent, memory: &Memory<S>) -> Result<(
     match decide(Access::ArrayElement, active, selected, own) {
         Decision::Allow => Ok(()),
         Decision::Switch(_) => Ok(()),
-        Decision::Deny(_) => Err(Stop::Throw(Exception::SystemException(3))),
+        Decision::Deny(_) => Err(Stop::Throw(ILLEGAL_TRANSIENT)),
     }
 }
 

@@ -5,7 +5,8 @@ ghost use Rattle.jc_memory.specs.Doing.{Makes};
 ghost use Rattle.jc_world.specs.Calls.{after_call};
 ghost use Rattle.jc_api_system.specs.Transactions.{begun_at, committed_at, aborted_at, levels, level_of, capacity_left};
 
-use jc_frames::{Exception, Outcome};
+use jc_frames::Outcome;
+use jc_frames::reasons::{IN_PROGRESS, NOT_IN_PROGRESS};
 use jc_memory::{Depth, Installation, Memory};
 use jc_words::WordStore;
 use jc_world::{Answer, Break};
@@ -25,7 +26,7 @@ pub(crate) fn begin<S: WordStore>(memory: &mut Memory<S>) -> Result<Answer, Brea
     ensures { Makes (begun_at memory.old.registers.depth memory.old) memory.old (after_call result memory.new) }
 {
     match memory.registers().depth {
-        Depth::Inside => return Err(Break::Throw(Exception::TransactionException(1))),
+        Depth::Inside => return Err(Break::Throw(IN_PROGRESS)),
         Depth::Outside => {}
     }
     if !memory.heap().is_open() {
@@ -41,7 +42,7 @@ pub(crate) fn commit<S: WordStore>(memory: &mut Memory<S>) -> Result<Answer, Bre
     ensures { Makes (committed_at memory.old.registers.depth memory.old) memory.old (after_call result memory.new) }
 {
     match memory.registers().depth {
-        Depth::Outside => return Err(Break::Throw(Exception::TransactionException(2))),
+        Depth::Outside => return Err(Break::Throw(NOT_IN_PROGRESS)),
         Depth::Inside => {}
     }
     match memory.registers().installation {
@@ -62,7 +63,7 @@ pub(crate) fn abort<S: WordStore>(memory: &mut Memory<S>) -> Result<Answer, Brea
     ensures { Makes (aborted_at memory.old.registers.depth memory.old) memory.old (after_call result memory.new) }
 {
     match memory.registers().depth {
-        Depth::Outside => return Err(Break::Throw(Exception::TransactionException(2))),
+        Depth::Outside => return Err(Break::Throw(NOT_IN_PROGRESS)),
         Depth::Inside => {}
     }
     if memory.heap().is_open() {

@@ -12,6 +12,7 @@ use crate::sizes::sizes_agree;
 use crate::texts::{Load, Text, Texts};
 use jc_cap_fields::fault::CapFault;
 use jc_cap_fields::formats::Format;
+use jc_cap_fields::tags;
 use std::marker::Model;
 
 fn present(tag: u8, text: Option<Text>) -> Result<Text, CapFault>
@@ -50,16 +51,16 @@ fn flags_in(format: Format, header: &Text) -> Result<(bool, bool), CapFault>
 fn required(load: Load) -> Result<Texts, CapFault>
     ensures { Gives (λ x. x) result (required load) }
 {
-    let header = present(1, load.header)?;
-    let directory = present(2, load.directory)?;
+    let header = present(tags::HEADER, load.header)?;
+    let directory = present(tags::DIRECTORY, load.directory)?;
     let (exports, has_applets) = flags_in(load.format, &header)?;
-    let applets = asked(3, has_applets, load.applets)?;
-    let imports = present(4, load.imports)?;
-    let pool = present(5, load.pool)?;
-    let classes = present(6, load.classes)?;
-    let methods = present(7, load.methods)?;
-    let statics = present(8, load.statics)?;
-    let exports = asked(10, exports, load.exports)?;
+    let applets = asked(tags::APPLET, has_applets, load.applets)?;
+    let imports = present(tags::IMPORT, load.imports)?;
+    let pool = present(tags::CONSTANT_POOL, load.pool)?;
+    let classes = present(tags::CLASS, load.classes)?;
+    let methods = present(tags::METHOD, load.methods)?;
+    let statics = present(tags::STATIC_FIELD, load.statics)?;
+    let exports = asked(tags::EXPORT, exports, load.exports)?;
     Ok(Texts {
         format: load.format,
         header,

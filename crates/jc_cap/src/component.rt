@@ -10,6 +10,7 @@ use jc_cap_code::methods::{Methods, read_method};
 use jc_cap_code::statics::{StaticFields, read_static_field};
 use jc_cap_fields::fault::CapFault;
 use jc_cap_fields::formats::Format;
+use jc_cap_fields::tags;
 use jc_cap_text::applets::{Applets, read_applets};
 use jc_cap_text::directory::{Directory, read_directory};
 use jc_cap_text::envelope::info_of;
@@ -41,15 +42,15 @@ fn of_info(format: Format, tag: u8, info: &[u8]) -> Result<Component<'_>, CapFau
     ensures { Gives content result (content_at format tag info.now) }
 {
     match tag {
-        1 => Ok(Component::Header(read_header(format, info)?)),
-        2 => Ok(Component::Directory(read_directory(format, info)?)),
-        3 => Ok(Component::Applet(read_applets(info)?)),
-        4 => Ok(Component::Import(read_imports(info)?)),
-        5 => Ok(Component::ConstantPool(read_pool(info)?)),
-        6 => Ok(Component::Class(read_class(format, info)?)),
-        7 => Ok(Component::Method(read_method(info)?)),
-        8 => Ok(Component::StaticField(read_static_field(info)?)),
-        10 => Ok(Component::Export(read_exports(info)?)),
+        tags::HEADER => Ok(Component::Header(read_header(format, info)?)),
+        tags::DIRECTORY => Ok(Component::Directory(read_directory(format, info)?)),
+        tags::APPLET => Ok(Component::Applet(read_applets(info)?)),
+        tags::IMPORT => Ok(Component::Import(read_imports(info)?)),
+        tags::CONSTANT_POOL => Ok(Component::ConstantPool(read_pool(info)?)),
+        tags::CLASS => Ok(Component::Class(read_class(format, info)?)),
+        tags::METHOD => Ok(Component::Method(read_method(info)?)),
+        tags::STATIC_FIELD => Ok(Component::StaticField(read_static_field(info)?)),
+        tags::EXPORT => Ok(Component::Export(read_exports(info)?)),
         _ => Ok(Component::Unused),
     }
 }

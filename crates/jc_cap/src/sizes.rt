@@ -6,6 +6,7 @@ ghost use Rattle.jc_cap.specs.Views.{package_contents};
 use crate::contents::Contents;
 use crate::texts::{Text, Texts};
 use jc_cap_fields::lists::U2List;
+use jc_cap_fields::tags;
 use jc_cap_text::applets::Applets;
 
 fn size_of(text: &Text) -> usize
@@ -24,18 +25,19 @@ fn size_there(text: &Option<Text>) -> usize
 }
 
 /// The size that a directory gives for the component with this tag.
-fn said_of(sizes: &U2List<'_>, tag: u16) -> usize
+fn said_of(sizes: &U2List<'_>, tag: u8) -> usize
     requires { 0 < tag }
     ensures { result ≡ said_of sizes.now tag }
 {
-    if tag > sizes.count() {
+    let number = u16::from(tag);
+    if number > sizes.count() {
         return 0;
     }
-    sizes.get(tag - 1) as usize
+    sizes.get(number - 1) as usize
 }
 
 /// Whether the size of a component that came is the one that the directory gives. An absent one is not compared.
-fn agrees_there(sizes: &U2List<'_>, tag: u16, size: Option<u16>) -> bool
+fn agrees_there(sizes: &U2List<'_>, tag: u8, size: Option<u16>) -> bool
     requires { 0 < tag }
     ensures { result ≡ agrees_there sizes.now tag size }
 {
@@ -49,23 +51,23 @@ fn agrees_there(sizes: &U2List<'_>, tag: u16, size: Option<u16>) -> bool
 fn infos_agree(texts: &Texts, sizes: &U2List<'_>) -> bool
     ensures { result ≡ infos_agree texts.now sizes.now }
 {
-    said_of(sizes, 1) == size_of(&texts.header)
-        && said_of(sizes, 2) == size_of(&texts.directory)
-        && said_of(sizes, 4) == size_of(&texts.imports)
-        && said_of(sizes, 5) == size_of(&texts.pool)
-        && said_of(sizes, 6) == size_of(&texts.classes)
-        && said_of(sizes, 7) == size_of(&texts.methods)
-        && said_of(sizes, 8) == size_of(&texts.statics)
+    said_of(sizes, tags::HEADER) == size_of(&texts.header)
+        && said_of(sizes, tags::DIRECTORY) == size_of(&texts.directory)
+        && said_of(sizes, tags::IMPORT) == size_of(&texts.imports)
+        && said_of(sizes, tags::CONSTANT_POOL) == size_of(&texts.pool)
+        && said_of(sizes, tags::CLASS) == size_of(&texts.classes)
+        && said_of(sizes, tags::METHOD) == size_of(&texts.methods)
+        && said_of(sizes, tags::STATIC_FIELD) == size_of(&texts.statics)
 }
 
 /// The sizes of the others: 0 where an Applet or an Export component is absent.
 fn came_agree(texts: &Texts, sizes: &U2List<'_>) -> bool
     ensures { result ≡ came_agree texts.now sizes.now }
 {
-    said_of(sizes, 3) == size_there(&texts.applets)
-        && said_of(sizes, 10) == size_there(&texts.exports)
-        && agrees_there(sizes, 9, texts.reference_location)
-        && agrees_there(sizes, 11, texts.descriptor)
+    said_of(sizes, tags::APPLET) == size_there(&texts.applets)
+        && said_of(sizes, tags::EXPORT) == size_there(&texts.exports)
+        && agrees_there(sizes, tags::REFERENCE_LOCATION, texts.reference_location)
+        && agrees_there(sizes, tags::DESCRIPTOR, texts.descriptor)
 }
 
 fn applet_count(applets: &Option<Applets<'_>>) -> u8

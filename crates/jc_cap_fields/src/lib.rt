@@ -10,3 +10,4 @@ pub mod laws;
 pub mod lists;
 pub mod packages;
 pub mod parts;
+pub mod tags;

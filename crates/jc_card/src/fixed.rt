@@ -3,6 +3,7 @@ ghost use Rattle.std.specs.Prelude.{◌≡◌, ◌≤◌, ◌<◌, ◌+◌, ◌*
 ghost use Rattle.jc_words.specs.Count.{raised};
 ghost use Rattle.jc_transient.specs.State.{area_size};
 ghost use Rattle.jc_transient.specs.declared.cell.ClearEvent.TheVariants.{Reset};
+ghost use Rattle.jc_heap.specs.Object.{transient_size};
 ghost use Rattle.jc_heap.specs.Heap.{IsObject, area_end};
 ghost use Rattle.jc_card.specs.Fixed.{fixed_objects, fixed_size, class_number_of, facts_of_fixed, cells_of_all, fixed_facts, fixed_of, last_fixed, next_or_null, with_objects};
 
@@ -154,7 +155,7 @@ fn make_all<S: WordStore>(
     requires up { heap.old.down ≡ false }
     requires outside { heap.old.begun ≡ false }
     requires settled { heap.old.durable ≡ heap.old.now }
-    requires space { heap.old.now.top + 5 * length objects.now ≤ heap.old.size }
+    requires space { heap.old.now.top + transient_size * length objects.now ≤ heap.old.size }
     requires area { area_end heap.old.now Reset + cells_of_all objects.now ≤ area_size }
     ensures made { OnOk result (heap.new.now ≡ with_objects table.now heap.old.now objects.now) }
     ensures size { heap.new.size ≡ heap.old.size }
@@ -181,14 +182,14 @@ fn make<S: WordStore>(
     requires up { heap.old.down ≡ false }
     requires outside { heap.old.begun ≡ false }
     requires settled { heap.old.durable ≡ heap.old.now }
-    requires space { heap.old.now.top + 5 ≤ heap.old.size }
+    requires space { heap.old.now.top + transient_size ≤ heap.old.size }
     requires area { area_end heap.old.now Reset + object.now.cells ≤ area_size }
     ensures made { OnOk result (heap.new.now ≡ with_objects table.now heap.old.now (object.now ∷ [])) }
     ensures up { OnOk result (heap.new.down ≡ false) }
     ensures outside { OnOk result (heap.new.begun ≡ false) }
     ensures settled { OnOk result (heap.new.durable ≡ heap.new.now) }
     ensures size { heap.new.size ≡ heap.old.size }
-    ensures top { OnOk result (heap.new.now.top ≡ heap.old.now.top + 5) }
+    ensures top { OnOk result (heap.new.now.top ≡ heap.old.now.top + transient_size) }
     ensures end { OnOk result (area_end heap.new.now Reset ≡ area_end heap.old.now Reset + object.now.cells) }
     ensures stopped { OnErr result (heap.new.down ≡ true) }
     ensures refused { heap.new.refused ≡ (if is_ok result then heap.old.refused else raised heap.old.refused 1) }

@@ -10,6 +10,7 @@ use jc_cap::component::read_component;
 use jc_cap::texts::{Load, Text};
 use jc_cap_fields::fault::CapFault;
 use jc_cap_fields::formats::Format;
+use jc_cap_fields::tags;
 use jc_card_packages::refusal::Refusal;
 use std::alloc::Global;
 
@@ -62,17 +63,17 @@ fn keep(texts: &mut Load, tag: u8, bytes: Vec<u8>)
     let size = size_of(bytes.as_slice());
     let text = Text::new(bytes);
     match tag {
-        1 => texts.header = Some(text),
-        2 => texts.directory = Some(text),
-        3 => texts.applets = Some(text),
-        4 => texts.imports = Some(text),
-        5 => texts.pool = Some(text),
-        6 => texts.classes = Some(text),
-        7 => texts.methods = Some(text),
-        8 => texts.statics = Some(text),
-        9 => texts.reference_location = Some(size),
-        10 => texts.exports = Some(text),
-        11 => texts.descriptor = Some(size),
+        tags::HEADER => texts.header = Some(text),
+        tags::DIRECTORY => texts.directory = Some(text),
+        tags::APPLET => texts.applets = Some(text),
+        tags::IMPORT => texts.imports = Some(text),
+        tags::CONSTANT_POOL => texts.pool = Some(text),
+        tags::CLASS => texts.classes = Some(text),
+        tags::METHOD => texts.methods = Some(text),
+        tags::STATIC_FIELD => texts.statics = Some(text),
+        tags::REFERENCE_LOCATION => texts.reference_location = Some(size),
+        tags::EXPORT => texts.exports = Some(text),
+        tags::DESCRIPTOR => texts.descriptor = Some(size),
         _ => {}
     }
 }

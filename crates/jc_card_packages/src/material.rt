@@ -10,6 +10,7 @@ use jc_cap::assembling::Package;
 use jc_cap::texts::{Text, Texts};
 use jc_cap_code::static_arrays::{ArrayInit, ArrayInits, ElementType};
 use jc_cap_code::statics::StaticFields;
+use jc_cap_fields::tags;
 use jc_heap::{Component, Kind, StaticArray};
 use std::alloc::{AllocError, Global};
 
@@ -41,18 +42,18 @@ fn components_of(alloc: Global, texts: &Texts) -> Result<Vec<Component<'_>>, All
     ensures { IfOk result (λ made. parts made.items ≡ parts_of texts.entry.now) }
 {
     let mut components = Vec::new(alloc);
-    components.push(component(1, &texts.header))?;
-    components.push(component(2, &texts.directory))?;
+    components.push(component(tags::HEADER, &texts.header))?;
+    components.push(component(tags::DIRECTORY, &texts.directory))?;
     if let Some(text) = &texts.applets {
-        components.push(component(3, text))?;
+        components.push(component(tags::APPLET, text))?;
     }
-    components.push(component(4, &texts.imports))?;
-    components.push(component(5, &texts.pool))?;
-    components.push(component(6, &texts.classes))?;
-    components.push(component(7, &texts.methods))?;
-    components.push(component(8, &texts.statics))?;
+    components.push(component(tags::IMPORT, &texts.imports))?;
+    components.push(component(tags::CONSTANT_POOL, &texts.pool))?;
+    components.push(component(tags::CLASS, &texts.classes))?;
+    components.push(component(tags::METHOD, &texts.methods))?;
+    components.push(component(tags::STATIC_FIELD, &texts.statics))?;
     if let Some(text) = &texts.exports {
-        components.push(component(10, text))?;
+        components.push(component(tags::EXPORT, text))?;
     }
     Ok(components)
 }

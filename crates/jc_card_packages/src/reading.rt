@@ -9,6 +9,7 @@ use crate::prepare::prepare;
 use crate::refusal::Refusal;
 use jc_cap::texts::{Load, Text};
 use jc_cap_fields::formats::Format;
+use jc_cap_fields::tags;
 use jc_heap::{Heap, Span};
 use jc_linker::fault::LinkFault;
 use jc_linker::linked::Linked;
@@ -83,15 +84,15 @@ fn load_of<S: WordStore>(alloc: Global, heap: &Heap<S>, at: Ref) -> Result<Load,
     requires there { 0 < length (record_of heap.now.now at) }
     ensures { IfOk result (λ load. load ≡ load_of (record_of heap.now.now at)) }
 {
-    let header = text_in(alloc, heap, at, 1)?;
-    let directory = text_in(alloc, heap, at, 2)?;
-    let applets = text_in(alloc, heap, at, 3)?;
-    let imports = text_in(alloc, heap, at, 4)?;
-    let pool = text_in(alloc, heap, at, 5)?;
-    let classes = text_in(alloc, heap, at, 6)?;
-    let methods = text_in(alloc, heap, at, 7)?;
-    let statics = text_in(alloc, heap, at, 8)?;
-    let exports = text_in(alloc, heap, at, 10)?;
+    let header = text_in(alloc, heap, at, tags::HEADER)?;
+    let directory = text_in(alloc, heap, at, tags::DIRECTORY)?;
+    let applets = text_in(alloc, heap, at, tags::APPLET)?;
+    let imports = text_in(alloc, heap, at, tags::IMPORT)?;
+    let pool = text_in(alloc, heap, at, tags::CONSTANT_POOL)?;
+    let classes = text_in(alloc, heap, at, tags::CLASS)?;
+    let methods = text_in(alloc, heap, at, tags::METHOD)?;
+    let statics = text_in(alloc, heap, at, tags::STATIC_FIELD)?;
+    let exports = text_in(alloc, heap, at, tags::EXPORT)?;
     Ok(Load {
         format: Format::V2_1,
         header,

@@ -3,3 +3,4 @@ pub mod Frames
 pub mod Layout
 pub mod Calls
 pub mod Laws
+pub mod Reasons

@@ -10,6 +10,7 @@ pub mod law;
 mod locals;
 pub mod method;
 pub mod outcome;
+pub mod reasons;
 mod stack;
 
 pub use cell::Cell;

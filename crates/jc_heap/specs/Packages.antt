@@ -5,7 +5,7 @@ use Rattle.jc_heap.specs.declared.object.Kind.{Kind}
 use Rattle.jc_heap.specs.declared.object.Kind.TheVariants.{Instance, ReferenceArray}
 use Rattle.jc_heap.specs.declared.package.Component.{Component}
 use Rattle.jc_heap.specs.declared.package.StaticArray.{StaticArray}
-use Rattle.jc_heap.specs.Object.{Object, APackage, kind_number, has_bytes}
+use Rattle.jc_heap.specs.Object.{Object, APackage, kind_number, has_bytes, object_size}
 use Rattle.jc_heap.specs.Heap.{HeapState, add_object, end_address}
 use Rattle.jc_heap.specs.Packed.{packed}
 
@@ -54,7 +54,7 @@ arrays_words owner (a ∷ xs) = array_words owner a ++ arrays_words owner xs
 
 -- how many words the object takes
 abbrev pub array_size : Kind × List ℕ → ℕ
-array_size a = 4 + length (elements a)
+array_size a = object_size (length (elements a))
 
 -- how many words the objects take
 abbrev pub arrays_size : List (Kind × List ℕ) → ℕ

@@ -1,6 +1,7 @@
 //! Reading objects of the words of a journal.
 ghost use Rattle.std.specs.Prelude.{◌≡◌, ◌<◌, ◌≤◌, ◌+◌, ◌/◌, ◌==◌, if◌then◌else◌, None, IfSome, length, slice_index};
 ghost use Rattle.jc_words.specs.Layout.{text_start};
+ghost use Rattle.jc_heap.specs.Object.{header_size};
 ghost use Rattle.jc_heap.specs.Image.{IsLaid};
 ghost use Rattle.jc_heap.specs.Heap.{heap_of, cells, facts, IsObject, next_object};
 
@@ -15,11 +16,11 @@ use jc_words::layout::{TEXT_LENGTH, TEXT_START};
 
 // The word behind a transient object's header, 0 where there is none.
 #[inline(always)]
-fn place_word<S: WordStore>(journal: &Journal<S>, at: u16, word: u16) -> u16
+fn area_place<S: WordStore>(journal: &Journal<S>, at: u16, word: u16) -> u16
     requires behind { text_start ≤ at }
-    requires there { (word / 256 ≡ 0 → ⊥) → at + 4 < length journal.now.plain }
+    requires there { (word / 256 ≡ 0 → ⊥) → at + header_size < length journal.now.plain }
     requires small { length journal.now.plain < 65536 }
-    ensures { result ≡ (if word / 256 == 0 then 0 else slice_index journal.now.plain (at + 4)) }
+    ensures { result ≡ (if word / 256 == 0 then 0 else slice_index journal.now.plain (at + header_size)) }
 {
     if word / 256 == 0 {
         return 0;
@@ -38,7 +39,7 @@ pub fn facts_at<S: WordStore>(journal: &Journal<S>, object: Ref) -> Facts
 {
     let at = object.address();
     let word = journal.read(at);
-    let place = place_word(journal, at, word);
+    let place = area_place(journal, at, word);
     Facts {
         kind: Kind::of(word % 256),
         event: event_of_number(word / 256),

@@ -2,6 +2,7 @@
 ghost use Rattle.std.specs.Prelude.{◌≡◌, ◌<◌, length};
 ghost use Rattle.jc_heap.specs.Packages.{part, parts, initial, initials, elements, component_words, components_words, arrays_size, AreComponents, AreArrays, record_size, image_size};
 
+use crate::layout::HEADER;
 use crate::object::Kind;
 use crate::packed::packed_size;
 
@@ -55,7 +56,7 @@ pub(crate) fn size_of_arrays(arrays: &[StaticArray]) -> u32
 {
     let mut size = 0;
     for array in arrays {
-        size += 4 + cell_count(array) as u32;
+        size += u32::from(HEADER) + cell_count(array) as u32;
     }
     size
 }

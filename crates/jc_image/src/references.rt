@@ -4,6 +4,8 @@ ghost use Rattle.jc_words.specs.Layout.{top_address};
 ghost use Rattle.jc_heap.specs.Image.{IsLaid, image, package_addresses, is_package};
 ghost use Rattle.jc_heap.specs.Heap.{heap_of, names, item_at};
 ghost use Rattle.jc_image.specs.Steps.{IsAt, item_from};
+ghost use Rattle.jc_heap.specs.Object.{kind_number};
+ghost use Rattle.jc_heap.specs.declared.object.Kind.TheVariants.{ReferenceArray};
 ghost use Rattle.jc_heap.specs.Whole.{IsReference, HoldsReferences};
 
 use crate::marks::ALL;
@@ -20,7 +22,7 @@ fn has_references<S: WordStore>(journal: &Journal<S>, at: u16) -> bool
     requires small { length journal.now.plain < 65536 }
     requires begins { IsAt journal.now.plain at }
     requires inside { at < slice_index journal.now.plain top_address }
-    ensures { IsTrue result ↔ ((is_package (package_addresses (image journal.now.plain)) at ≡ false) × (slice_index journal.now.plain at ≡ 5)) }
+    ensures { IsTrue result ↔ ((is_package (package_addresses (image journal.now.plain)) at ≡ false) × (slice_index journal.now.plain at ≡ kind_number ReferenceArray)) }
 {
     if begins_package(journal, at) {
         return false;

@@ -45,10 +45,7 @@ fn field_of(of_type: ValueType, target: Target) -> Option<FieldOfClass>
             is_reference,
         } => {
             if is_of(of_type, is_reference) {
-                Some(FieldOfClass {
-                    class,
-                    cell,
-                })
+                Some(FieldOfClass { class, cell })
             } else {
                 None
             }

@@ -1,8 +1,8 @@
 -- New instances: `new`.
-use Rattle.std.specs.Prelude.{ℕ, pos, ◌^◌, nat_lt, Option, Some, None, Result, Ok, Err, if◌then◌else◌}
+use Rattle.std.specs.Prelude.{ℕ, ◌^◌, nat_lt, Option, Some, None, Result, Ok, Err, if◌then◌else◌}
 use Rattle.std.specs.Option.{option_and_then}
 use Rattle.jc_heap.specs.declared.object.Kind.TheVariants.{Instance}
-use Rattle.jc_frames.specs.declared.outcome.Exception.TheVariants.{SystemException}
+use Rattle.jc_frames.specs.Reasons.{no_resource}
 use Rattle.jc_frames.specs.declared.outcome.Stop.{Stop}
 use Rattle.jc_frames.specs.declared.outcome.Stop.TheVariants.{Throw}
 use Rattle.jc_frames.specs.Frames.{Frames, Next, has_room}
@@ -24,7 +24,7 @@ made_class p package_number index = option_and_then (if_made p) (class_named p p
 
 -- how many cells an instance gets: for more than an object can have there is no space
 abbrev pub cells_for : ℕ → Result ℕ Stop
-cells_for size = if nat_lt size (2 ^ 16) then Ok size else Err (Throw (SystemException (pos 5)))
+cells_for size = if nat_lt size (2 ^ 16) then Ok size else Err (Throw no_resource)
 
 -- where the stack has room
 abbrev pub if_room : Frames → Option ℕ → Option ℕ

@@ -4,7 +4,8 @@ ghost use Rattle.jc_memory.specs.Doing.{Makes};
 ghost use Rattle.jc_world.specs.Groups.{after_group};
 ghost use Rattle.jc_interp_objects.specs.Making.{made_class, cells_for, instance_made};
 
-use jc_frames::{CodeFault, Exception, Frames, Stop};
+use jc_frames::reasons::NO_RESOURCE;
+use jc_frames::{CodeFault, Frames, Stop};
 use jc_heap::Kind;
 use jc_interp_values::making::push_new;
 use jc_interp_values::types::class_named;
@@ -34,7 +35,7 @@ fn cells_for(size: u32) -> Result<u16, Stop>
     if size < 65536 {
         Ok(size as u16)
     } else {
-        Err(Stop::Throw(Exception::SystemException(5)))
+        Err(Stop::Throw(NO_RESOURCE))
     }
 }
 

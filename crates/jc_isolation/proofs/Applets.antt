@@ -22,7 +22,8 @@ use Rattle.jc_world.specs.Objects.{reference_argument, short_argument}
 use Rattle.jc_api_arguments.specs.Arrays.{bytes_argument, bytes_in, elements_of}
 use Rattle.jc_interp.specs.jc_api_aid.specs.AidCells.{is_aid_length, cells_of_aid}
 use Rattle.jc_interp.specs.jc_api_applet.specs.Applet.{given_registered, installed_aid, own_registered, registered_as}
-use Rattle.jc_interp.specs.jc_api_applet.specs.Register.{aid_made, buffer_full, entered, illegal_aid, in_progress, installing, is_inside, is_owned, may_be_added, next_number, no_resource, opened, registered, registrable, registrable_in, unless_full}
+use Rattle.jc_frames.specs.Reasons.{buffer_full, illegal_aid, in_progress, no_resource}
+use Rattle.jc_interp.specs.jc_api_applet.specs.Register.{aid_made, entered, installing, is_inside, is_owned, may_be_added, next_number, opened, registered, registrable, registrable_in, unless_full}
 use Rattle.jc_isolation.specs.Sparing.{Spares}
 use Rattle.jc_isolation.proofs.Due.{call_ok, call_some, due_if}
 use Rattle.jc_isolation.proofs.Reaching.{err_not_ok, same_Ok}

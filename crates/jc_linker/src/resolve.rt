@@ -149,10 +149,7 @@ impl Scope<'_> {
     {
         let above = self.superclass(class)?;
         let method = self.method_at(above, (class.0 / 256) as u8, token)?;
-        Some(Target::SuperMethod {
-            class,
-            method,
-        })
+        Some(Target::SuperMethod { class, method })
     }
 
     #[tactic(auto, unfolding(jc_packages::specs::Resolves::export_of))]

@@ -5,6 +5,7 @@ ghost use Rattle.jc_listing.specs.Listing.{applet_at, applet_in, byte_in, bytes_
 
 use arrayvec::ArrayVec;
 use jc_cap_fields::formats::Format;
+use jc_cap_fields::tags;
 use jc_cap_text::header::read_header;
 use jc_words::WordStore;
 use jc_words::layout::{ADDRESSES, MOST_APPLETS, MOST_PACKAGES, REGISTRY};
@@ -19,7 +20,7 @@ const LEAST_AID: u16 = 5;
 const MOST_AID: u16 = 16;
 
 /// The tag of a Header component, which comes first in a package's record.
-const HEADER_COMPONENT: u16 = 1;
+const HEADER_COMPONENT: u16 = tags::HEADER as u16;
 
 /// Where a record's first component has its tag, the number of its bytes, and these.
 const TAG: u16 = 1;

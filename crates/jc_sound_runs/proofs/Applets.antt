@@ -40,7 +40,8 @@ use Rattle.jc_api_arguments.specs.declared.arrays.Stretch.{Stretch}
 use Rattle.jc_api_arguments.specs.Arrays.{bytes_argument, bytes_in, elements_of}
 use Rattle.jc_isolation.specs.jc_api_aid.specs.AidCells.{cells_of_aid, is_aid_length}
 use Rattle.jc_isolation.specs.jc_api_applet.specs.Applet.{given_registered, installed_aid, own_registered, registered_as}
-use Rattle.jc_isolation.specs.jc_api_applet.specs.Register.{aid_made, buffer_full, entered, illegal_aid, in_progress, installing, is_inside, is_owned, may_be_added, next_number, no_resource, opened, registered, registrable, registrable_in, unless_full, with_installation}
+use Rattle.jc_frames.specs.Reasons.{buffer_full, illegal_aid, in_progress, no_resource}
+use Rattle.jc_isolation.specs.jc_api_applet.specs.Register.{aid_made, entered, installing, is_inside, is_owned, may_be_added, next_number, opened, registered, registrable, registrable_in, unless_full, with_installation}
 use Rattle.jc_sound.specs.Classes.{HasAids, KnowsClasses}
 use Rattle.jc_sound.specs.Fit.{FitsNew, FitsObject, FitsRun, FitsTurn, IsFit, KeepsSound, OfRegistry, RegistersApplet}
 use Rattle.jc_sound.specs.State.{IsSoundMemory, IsSteady, is_home, is_open, is_owner_up_to}

@@ -1,11 +1,10 @@
 -- Why code does not go on, and what refusals become.
-use Rattle.std.specs.Prelude.{pos}
 use Rattle.jc_heap.specs.declared.refusal.ChangeRefusal.{ChangeRefusal}
 use Rattle.jc_heap.specs.declared.refusal.ChangeRefusal.TheVariants as change
 use Rattle.jc_heap.specs.declared.refusal.HeapRefusal.{HeapRefusal}
 use Rattle.jc_heap.specs.declared.refusal.HeapRefusal.TheVariants as making
 use Rattle.jc_frames.specs.declared.outcome.Exception.{Exception}
-use Rattle.jc_frames.specs.declared.outcome.Exception.TheVariants.{SystemException, TransactionException}
+use Rattle.jc_frames.specs.Reasons.{buffer_full, no_resource, no_transient_space}
 use Rattle.jc_frames.specs.declared.outcome.Stop.{Stop}
 use Rattle.jc_frames.specs.declared.outcome.Stop.TheVariants as stop
 use Rattle.jc_world.specs.declared.stop.Break.{Break}
@@ -15,10 +14,10 @@ use Rattle.jc_world.specs.declared.stop.Break.TheVariants.{Throw, End, Down}
 -- NO_RESOURCE where the heap has no space, NO_TRANSIENT_SPACE where a transient area has none. (A store that
 -- refuses a write throws nothing.)
 abbrev pub exception_of : HeapRefusal → Exception
-exception_of making.StoreDown = SystemException (pos 5)
-exception_of making.CommitFull = TransactionException (pos 3)
-exception_of making.HeapFull = SystemException (pos 5)
-exception_of making.NoTransientSpace = SystemException (pos 2)
+exception_of making.StoreDown = no_resource
+exception_of making.CommitFull = buffer_full
+exception_of making.HeapFull = no_resource
+exception_of making.NoTransientSpace = no_transient_space
 
 abbrev pub break_of_stop : Stop → Break
 break_of_stop (stop.Throw e) = Throw e

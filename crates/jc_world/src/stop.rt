@@ -1,6 +1,7 @@
 //! Why code does not go on.
 ghost use Rattle.std.specs.Prelude.{◌≡◌};
 
+use jc_frames::reasons::{BUFFER_FULL, NO_RESOURCE, NO_TRANSIENT_SPACE};
 use jc_frames::{CodeFault, Exception, Outcome, Stop};
 use jc_heap::{ChangeRefusal, HeapRefusal};
 use jc_words::StoreDown;
@@ -51,7 +52,7 @@ impl From<ChangeRefusal> for Break {
     fn from(refusal: ChangeRefusal) -> Self {
         match refusal {
             ChangeRefusal::StoreDown => Break::Down,
-            ChangeRefusal::CommitFull => Break::Throw(Exception::TransactionException(3)),
+            ChangeRefusal::CommitFull => Break::Throw(BUFFER_FULL),
         }
     }
 }
@@ -65,9 +66,9 @@ impl From<HeapRefusal> for Break {
     fn from(refusal: HeapRefusal) -> Self {
         match refusal {
             HeapRefusal::StoreDown => Break::Down,
-            HeapRefusal::CommitFull => Break::Throw(Exception::TransactionException(3)),
-            HeapRefusal::HeapFull => Break::Throw(Exception::SystemException(5)),
-            HeapRefusal::NoTransientSpace => Break::Throw(Exception::SystemException(2)),
+            HeapRefusal::CommitFull => Break::Throw(BUFFER_FULL),
+            HeapRefusal::HeapFull => Break::Throw(NO_RESOURCE),
+            HeapRefusal::NoTransientSpace => Break::Throw(NO_TRANSIENT_SPACE),
         }
     }
 }

@@ -9,13 +9,13 @@ read-word-requires g c =
     let s : Spot c.args.journal.now c.address-at.result = spot_at c.args.journal.now c.args.object c.address-at.result c.requires.laid c.requires.small c.requires.there c.address-at.ensures in
     readable (length c.args.journal.now.plain) c.address-at.result (omega (arith, s.high)) s.low
 
-pub place_word-place-requires-clause-behind : goal.place_word-place-requires-clause-behind
-place_word-place-requires-clause-behind g c =
+pub area_place-place-requires-clause-behind : goal.area_place-place-requires-clause-behind
+area_place-place-requires-clause-behind g c =
     let s : Spot c.args.journal.now c.address-at.result = spot_at c.args.journal.now c.args.object c.address-at.result c.requires.laid c.requires.small c.requires.there c.address-at.ensures in
     s.low
 
-pub place_word-place-requires-clause-there : goal.place_word-place-requires-clause-there
-place_word-place-requires-clause-there g c =
+pub area_place-place-requires-clause-there : goal.area_place-place-requires-clause-there
+area_place-place-requires-clause-there g c =
     let s : Spot c.args.journal.now c.address-at.result = spot_at c.args.journal.now c.args.object c.address-at.result c.requires.laid c.requires.small c.requires.there c.address-at.ensures in
     λ n. s.behind (λ e. n (ap (λ w. w / 256) c.read-word.ensures ∙ e))
 
@@ -52,8 +52,8 @@ overflow_add-at-3 g c =
 pub returns-clause-facts : goal.returns-clause-facts
 returns-clause-facts g c =
     let there : IsObject (heap_of c.args.journal.now.plain) c.address-at.result = subst (IsObject (heap_of c.args.journal.now.plain)) (sym c.address-at.ensures) c.requires.there in
-    facts_built c.args.journal.now.plain c.address-at.result c.requires.laid there c.read-word.result c.of.result c.event_of_number.result c.read.result c.read-2.result c.read-3.result c.place_word-place.result
-    c.read-word.ensures c.of.ensures c.event_of_number.ensures c.read.ensures c.read-2.ensures c.read-3.ensures c.place_word-place.ensures
+    facts_built c.args.journal.now.plain c.address-at.result c.requires.laid there c.read-word.result c.of.result c.event_of_number.result c.read.result c.read-2.result c.read-3.result c.area_place-place.result
+    c.read-word.ensures c.of.ensures c.event_of_number.ensures c.read.ensures c.read-2.ensures c.read-3.ensures c.area_place-place.ensures
     ∙ ap (facts (heap_of c.args.journal.now.plain)) c.address-at.ensures
 
 pub returns-clause-cells : goal.returns-clause-cells
