@@ -2,6 +2,7 @@
 use crate::bytes::{bytes_of, component_of, set_size, tag_of};
 use crate::cuts::{tell_changes, tell_cuts, tell_info_cuts};
 use crate::faults::tell_fault;
+use crate::names::tag_named;
 use crate::question::{Answer, split_word};
 use crate::reading::{ask, tell};
 use jc_cap::component::read_component;
@@ -116,22 +117,5 @@ impl Held {
                 Err(fault) => Ok(Answer::Told(tell_fault(alloc, fault)?)),
             },
         }
-    }
-}
-
-/// The tag of the component with this name.
-fn tag_named(name: &str) -> Option<u8> {
-    match name {
-        "Header" => Some(1),
-        "Directory" => Some(2),
-        "Applet" => Some(3),
-        "Import" => Some(4),
-        "ConstantPool" => Some(5),
-        "Class" => Some(6),
-        "Method" => Some(7),
-        "StaticField" => Some(8),
-        "Export" => Some(10),
-        "Debug" => Some(12),
-        _ => None,
     }
 }

@@ -13,6 +13,7 @@ mod imports;
 mod lists;
 mod loads;
 mod methods;
+mod names;
 mod package;
 mod parts;
 mod pool;

@@ -1,9 +1,11 @@
 //! Packages that are put together.
 use crate::bytes::{bytes_of, tag_of};
+use crate::names::tag_named;
 use jc_cap::assembling::Package;
 use jc_cap::component::Component;
 use jc_cap::texts::{Load, Text};
 use jc_cap_fields::formats::Format;
+use jc_cap_fields::tags;
 use std::alloc::{AllocError, Global};
 
 /// A load of which nothing has come.
@@ -52,10 +54,10 @@ pub(crate) fn change_all(
     Ok(true)
 }
 
-/// Carries out a change: `with HEX`, or `without TAG`.
+/// Carries out a change: `with HEX`, or `without NAME`.
 fn change(alloc: Global, load: &mut Load, text: &str) -> Result<bool, AllocError> {
-    if let Some(tag) = text.strip_prefix("without ") {
-        let Ok(tag) = tag.parse::<u8>() else {
+    if let Some(name) = text.strip_prefix("without ") {
+        let Some(tag) = tag_named(name) else {
             return Ok(false);
         };
         put(load, tag, None);
@@ -76,8 +78,12 @@ fn change(alloc: Global, load: &mut Load, text: &str) -> Result<bool, AllocError
 /// Puts a component to those that came. Of a ReferenceLocation and a Descriptor component the size is kept alone.
 fn add(load: &mut Load, bytes: Vec<u8>) {
     match bytes.as_slice() {
-        [9, high, low, ..] => load.reference_location = Some(u16::from_be_bytes([*high, *low])),
-        [11, high, low, ..] => load.descriptor = Some(u16::from_be_bytes([*high, *low])),
+        [tags::REFERENCE_LOCATION, high, low, ..] => load.reference_location = Some(
+            u16::from_be_bytes([*high, *low]),
+        ),
+        [tags::DESCRIPTOR, high, low, ..] => load.descriptor = Some(u16::from_be_bytes([
+            *high, *low,
+        ])),
         _ => {
             let tag = tag_of(bytes.as_slice());
             put(load, tag, Some(Text::new(bytes)));
@@ -88,15 +94,15 @@ fn add(load: &mut Load, bytes: Vec<u8>) {
 /// Puts the bytes of a component, or none, in its place.
 fn put(load: &mut Load, tag: u8, text: Option<Text>) {
     match tag {
-        1 => load.header = text,
-        2 => load.directory = text,
-        3 => load.applets = text,
-        4 => load.imports = text,
-        5 => load.pool = text,
-        6 => load.classes = text,
-        7 => load.methods = text,
-        8 => load.statics = text,
-        10 => load.exports = text,
+        tags::HEADER => load.header = text,
+        tags::DIRECTORY => load.directory = text,
+        tags::APPLET => load.applets = text,
+        tags::IMPORT => load.imports = text,
+        tags::CONSTANT_POOL => load.pool = text,
+        tags::CLASS => load.classes = text,
+        tags::METHOD => load.methods = text,
+        tags::STATIC_FIELD => load.statics = text,
+        tags::EXPORT => load.exports = text,
         _ => {}
     }
 }
@@ -105,15 +111,15 @@ fn put(load: &mut Load, tag: u8, text: Option<Text>) {
 pub(crate) fn said_by(package: &Package, tag: u8) -> Option<Component<'_>> {
     let contents = package.contents();
     match tag {
-        1 => Some(Component::Header(contents.header)),
-        2 => Some(Component::Directory(contents.directory)),
-        3 => Some(Component::Applet(contents.applets?)),
-        4 => Some(Component::Import(contents.imports)),
-        5 => Some(Component::ConstantPool(contents.pool)),
-        6 => Some(Component::Class(contents.classes)),
-        7 => Some(Component::Method(contents.methods)),
-        8 => Some(Component::StaticField(contents.statics)),
-        10 => Some(Component::Export(contents.exports?)),
+        tags::HEADER => Some(Component::Header(contents.header)),
+        tags::DIRECTORY => Some(Component::Directory(contents.directory)),
+        tags::APPLET => Some(Component::Applet(contents.applets?)),
+        tags::IMPORT => Some(Component::Import(contents.imports)),
+        tags::CONSTANT_POOL => Some(Component::ConstantPool(contents.pool)),
+        tags::CLASS => Some(Component::Class(contents.classes)),
+        tags::METHOD => Some(Component::Method(contents.methods)),
+        tags::STATIC_FIELD => Some(Component::StaticField(contents.statics)),
+        tags::EXPORT => Some(Component::Export(contents.exports?)),
         _ => None,
     }
 }
@@ -122,15 +128,15 @@ pub(crate) fn said_by(package: &Package, tag: u8) -> Option<Component<'_>> {
 pub(crate) fn kept_by(package: &Package, tag: u8) -> Option<&[u8]> {
     let texts = package.texts();
     match tag {
-        1 => Some(texts.header.bytes()),
-        2 => Some(texts.directory.bytes()),
-        3 => bytes_there(&texts.applets),
-        4 => Some(texts.imports.bytes()),
-        5 => Some(texts.pool.bytes()),
-        6 => Some(texts.classes.bytes()),
-        7 => Some(texts.methods.bytes()),
-        8 => Some(texts.statics.bytes()),
-        10 => bytes_there(&texts.exports),
+        tags::HEADER => Some(texts.header.bytes()),
+        tags::DIRECTORY => Some(texts.directory.bytes()),
+        tags::APPLET => bytes_there(&texts.applets),
+        tags::IMPORT => Some(texts.imports.bytes()),
+        tags::CONSTANT_POOL => Some(texts.pool.bytes()),
+        tags::CLASS => Some(texts.classes.bytes()),
+        tags::METHOD => Some(texts.methods.bytes()),
+        tags::STATIC_FIELD => Some(texts.statics.bytes()),
+        tags::EXPORT => bytes_there(&texts.exports),
         _ => None,
     }
 }

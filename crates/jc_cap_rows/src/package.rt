@@ -2,6 +2,7 @@
 use crate::bytes::{bytes_of, digits_of};
 use crate::faults::tell_fault;
 use crate::loads::{change_all, kept_by, load_of, said_by};
+use crate::names::tag_named;
 use crate::question::{Answer, split_word};
 use crate::reading::{ask, tell};
 use jc_cap::assembling::{Package, assemble};
@@ -66,10 +67,10 @@ impl Bench {
         }
     }
 
-    /// What the package's component with a tag says, or answers to a question: `TAG`, or `TAG QUESTION`.
+    /// What a component of the package says, or answers to a question: `NAME`, or `NAME QUESTION`.
     fn part(&self, alloc: Global, text: &str) -> Result<Answer, AllocError> {
-        let (tag, question) = split_word(text);
-        let (Some(package), Ok(tag)) = (&self.package, tag.parse::<u8>()) else {
+        let (name, question) = split_word(text);
+        let (Some(package), Some(tag)) = (&self.package, tag_named(name)) else {
             return Ok(Answer::Unknown);
         };
         match said_by(package, tag) {
@@ -79,9 +80,9 @@ impl Bench {
         }
     }
 
-    /// The bytes of the package's component with a tag.
-    fn bytes(&self, alloc: Global, text: &str) -> Result<Answer, AllocError> {
-        let (Some(package), Ok(tag)) = (&self.package, text.parse::<u8>()) else {
+    /// The bytes of a component of the package.
+    fn bytes(&self, alloc: Global, name: &str) -> Result<Answer, AllocError> {
+        let (Some(package), Some(tag)) = (&self.package, tag_named(name)) else {
             return Ok(Answer::Unknown);
         };
         match kept_by(package, tag) {
