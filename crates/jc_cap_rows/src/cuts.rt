@@ -5,6 +5,7 @@ use jc_cap::component::read_component;
 use jc_cap_fields::fault::CapFault;
 use jc_cap_fields::formats::Format;
 use std::alloc::{AllocError, Global};
+use std::mem;
 
 /// What is read at so many lengths, each time that it differs from the length before.
 #[derive(Drop)]
@@ -104,11 +105,16 @@ pub(crate) fn tell_changes(alloc: Global, tag: u8, component: &[u8]) -> Result<S
 
 /// Whether memory runs out as the component is read with another byte at a place. The byte is put back.
 fn lacks_memory(tag: u8, component: &mut [u8], place: usize, byte: u8) -> bool {
-    let Some(before) = component.get(place).copied() else {
-        return false;
-    };
-    component[place] = byte;
+    let before = replace_at(component, place, byte);
     let fault = fault_of(tag, component);
-    component[place] = before;
+    replace_at(component, place, before);
     fault == Some(CapFault::NoMemory)
+}
+
+/// Puts another byte at a place: the byte that stood there.
+fn replace_at(component: &mut [u8], place: usize, byte: u8) -> u8 {
+    match component.get_mut(place) {
+        Some(cell) => mem::replace(cell, byte),
+        None => byte,
+    }
 }

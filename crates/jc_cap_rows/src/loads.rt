@@ -75,23 +75,13 @@ fn change(alloc: Global, load: &mut Load, text: &str) -> Result<bool, AllocError
     }
 }
 
-/// Puts a component to those that came. Of a ReferenceLocation and a Descriptor component the size is kept alone.
+/// Puts a component to those that came.
 fn add(load: &mut Load, bytes: Vec<u8>) {
-    match bytes.as_slice() {
-        [tags::REFERENCE_LOCATION, high, low, ..] => load.reference_location = Some(
-            u16::from_be_bytes([*high, *low]),
-        ),
-        [tags::DESCRIPTOR, high, low, ..] => load.descriptor = Some(u16::from_be_bytes([
-            *high, *low,
-        ])),
-        _ => {
-            let tag = tag_of(bytes.as_slice());
-            put(load, tag, Some(Text::new(bytes)));
-        }
-    }
+    let tag = tag_of(bytes.as_slice());
+    put(load, tag, Some(Text::new(bytes)));
 }
 
-/// Puts the bytes of a component, or none, in its place.
+/// Puts a component, or none, in its place. Of a ReferenceLocation and a Descriptor component the size is kept alone.
 fn put(load: &mut Load, tag: u8, text: Option<Text>) {
     match tag {
         tags::HEADER => load.header = text,
@@ -102,8 +92,18 @@ fn put(load: &mut Load, tag: u8, text: Option<Text>) {
         tags::CLASS => load.classes = text,
         tags::METHOD => load.methods = text,
         tags::STATIC_FIELD => load.statics = text,
+        tags::REFERENCE_LOCATION => load.reference_location = size_in(&text),
         tags::EXPORT => load.exports = text,
+        tags::DESCRIPTOR => load.descriptor = size_in(&text),
         _ => {}
+    }
+}
+
+/// The size that a component tells of its info, where one came.
+fn size_in(text: &Option<Text>) -> Option<u16> {
+    match bytes_there(text)? {
+        [_, high, low, ..] => Some(u16::from_be_bytes([*high, *low])),
+        _ => None,
     }
 }
 
