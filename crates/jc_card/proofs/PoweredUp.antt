@@ -1,6 +1,6 @@
 -- What power up finds.
 use Rattle.std.proofs.Common.{◌≡◌, ℕ, ◌+◌, ◌/◌, ◌≤◌, ◌<◌, ◌⊎◌, inl, inr, List, [], ◌∷◌, map, take, length, get_or, lit<, refl, sym, ◌∙◌, ap, subst, arith, Ok, Err}
-use Rattle.std.specs.Prelude.{Result, IsOk, IfOk, IfErr, OnOk, Option, Some, None}
+use Rattle.std.specs.Prelude.{Result, ◌↔◌, IsOk, IfOk, IfErr, OnOk, Option, Some, None}
 use Rattle.std.proofs.lemmas.Bool.{false≢true}
 use Rattle.std.proofs.lemmas.List.{get_or-take}
 use Rattle.jc_words.specs.Image.{HasSize}
@@ -133,6 +133,13 @@ no_image_fault r f w is ok made =
 pub on_if : {A E : Type 0} (r : Result A E) (Q : A → Type 0) (P : Type 0) → ((a : A) → Q a → P) → IfOk r Q → OnOk r P
 on_if (Ok a) Q P f q = f a q
 on_if (Err e) Q P f q = tt
+
+-- recovered words are laid where those are that they are
+pub laid_as : (to new : List ℕ) → recovered_of new ≡ to → IsLaid (recovered_of new) ↔ IsLaid to
+laid_as to new same = (λ laid. subst IsLaid same laid, λ laid. subst IsLaid (sym same) laid)
+
+pub both_laid : (to new : List ℕ) → IsLaid to → IsLaid (recovered_of new) → IsLaid (recovered_of new) ↔ IsLaid to
+both_laid to new first second = (λ laid. first, λ laid. second)
 
 -- what does not fit the packages that are linked of it fits none
 pub none_fit : (t : Tokens) (h : HeapState) (p : Packages) → packages_of t h ≡ Some p → (IsSound p h (last_fixed h) → ⊥) → HasPackages t h → ⊥

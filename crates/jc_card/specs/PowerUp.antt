@@ -1,5 +1,5 @@
 -- Powering up: why words don't, and what a refusal leaves.
-use Rattle.std.specs.Prelude.{ℕ, ◌≡◌, ◌≢◌, ◌+◌, ◌/◌, ◌≤◌, List, length, slice_index, Ok, Some}
+use Rattle.std.specs.Prelude.{ℕ, ◌≡◌, ◌≢◌, ◌+◌, ◌/◌, ◌≤◌, ◌↔◌, List, length, slice_index, Ok, Some}
 use Rattle.jc_words.specs.Image.{HasSize}
 use Rattle.jc_words.specs.declared.image.ImageFault.{ImageFault}
 use Rattle.jc_words.specs.declared.image.ImageFault.TheVariants.{BadMagic as NoMagic, BadVersion as OtherVersion, BadSize as NoSize}
@@ -58,10 +58,11 @@ pub record IsRecovered (to new : List ℕ) : Type 0 where
   pub recovered : recovered_of new ≡ to
   pub closed : count_of new ≡ 0
 
--- the words stand for the heap of these recovered ones, and no entry counts
+-- the words stand for the heap of these recovered ones, are laid where those are, and no entry counts
 pub record StandsFor (to new : List ℕ) : Type 0 where
   pub plain : heap_of (plain_of new) ≡ heap_of to
   pub recovered : heap_of (recovered_of new) ≡ heap_of to
+  pub laid : IsLaid (recovered_of new) ↔ IsLaid to
   pub closed : count_of new ≡ 0
 
 -- why the packages of a heap are not linked, or it does not fit them

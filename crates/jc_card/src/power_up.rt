@@ -110,6 +110,7 @@ impl<S: WordStore> Card<S> {
 }
 
 // The card of a recovered image.
+#[tactic(auto, using(crate::proofs::PoweredUp::laid_as, crate::proofs::PoweredUp::both_laid))]
 fn start<S: WordStore>(alloc: Global, image: OpenImage<S>) -> Result<Card<S>, (PowerFault, S)>
     requires { image.down ≡ false }
     ensures ok { OnOk result ((t : Tokens) × HasTable image.plain t × HasHeap t image.plain) }

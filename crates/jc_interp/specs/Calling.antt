@@ -19,7 +19,7 @@ use Rattle.jc_interp_calls.specs.declared.choose.Call.{Call}
 use Rattle.jc_interp_calls.specs.Asking.{asking}
 use Rattle.jc_interp_calls.specs.Choosing.{chosen}
 use Rattle.jc_interp_calls.specs.Entering.{entering}
-use Rattle.jc_interp_calls.specs.Signatures.{argument_cells}
+use Rattle.jc_platform.specs.Signatures.{argument_cells}
 use Rattle.jc_natives.specs.Natives.{called}
 
 -- what a method of the platform answered, that the instruction at a place called, to frames from which its arguments were

@@ -9,7 +9,6 @@ use jc_frames::{CallKind, Frames, Outcome};
 use jc_interp_calls::ask::ask;
 use jc_interp_calls::choose::{Chosen, choose, choose_static};
 use jc_interp_calls::enter::{CallSite, Callee, enter};
-use jc_interp_calls::signatures::argument_cells;
 use jc_linker::linked::Linked;
 use jc_memory::Memory;
 use jc_natives::natives::call_native;
@@ -58,7 +57,7 @@ fn call_natively<S: WordStore>(
     requires up { memory.old.heap.down ≡ false }
     ensures { Makes (natively method count place linked.now frames.old memory.old) memory.old (after_group result frames.new memory.new) }
 {
-    if count != argument_cells(method) {
+    if count != method.argument_cells() {
         return Err(Break::End(Outcome::Fault));
     }
     let Some(arguments) = frames.arguments(count) else {

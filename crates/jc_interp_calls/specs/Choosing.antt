@@ -36,7 +36,7 @@ use Rattle.jc_world.specs.Objects.{object_at, or_fault, if_so, is_instance}
 use Rattle.jc_interp_calls.specs.declared.choose.Call.{Call}
 use Rattle.jc_interp_calls.specs.declared.choose.Chosen.{Chosen}
 use Rattle.jc_interp_calls.specs.Parameters.{fits, is_there}
-use Rattle.jc_interp_calls.specs.Signatures.{argument_cells, is_constructor}
+use Rattle.jc_platform.specs.Signatures.{argument_cells, is_constructor}
 use Rattle.jc_interp_calls.specs.Texts.{text_of}
 
 -- with what a check gave; else what it gave stays

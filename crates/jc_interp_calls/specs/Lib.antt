@@ -1,5 +1,4 @@
 pub mod Texts
-pub mod Signatures
 pub mod Parameters
 pub mod Choosing
 pub mod Entering

@@ -6,7 +6,6 @@ ghost use Rattle.jc_world.specs.Objects.{if_so};
 ghost use Rattle.jc_interp_calls.specs.Choosing.{arguments_of, called_by_interface, called_specially, called_statically, called_virtually, call_of, chosen, chosen_statically, class_of, fits_at_null, header_of, interface_access, is_native_constructor, is_null_on, is_of_any, judged, receiver_of, receiver_on, with_header};
 
 use crate::parameters::fits;
-use crate::signatures::{argument_cells, is_constructor};
 use crate::text::text_of;
 use jc_cap_text::pool::VirtualToken;
 use jc_firewall::access::Access;
@@ -95,7 +94,7 @@ fn arguments_of(method: Method, linked: &Linked) -> Option<(u8, Option<Header>)>
             let header = header_of(method, linked)?;
             Some((header.arguments, Some(header)))
         }
-        Method::Native(method) => Some((argument_cells(method), None)),
+        Method::Native(method) => Some((method.argument_cells(), None)),
     }
 }
 
@@ -292,7 +291,7 @@ fn is_native_constructor(method: Method) -> bool
 {
     match method {
         Method::Code { .. } => false,
-        Method::Native(method) => is_constructor(method),
+        Method::Native(method) => method.is_constructor(),
     }
 }
 

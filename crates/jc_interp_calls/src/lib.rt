@@ -8,6 +8,5 @@ pub mod choose;
 pub mod come_back;
 pub mod enter;
 pub mod parameters;
-pub mod signatures;
 pub mod text;
 pub mod throw;

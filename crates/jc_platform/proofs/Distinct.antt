@@ -111,7 +111,7 @@ method_free a b s fit d k l token =
     let class : same_class (class_of d) e.class ≡ true = subst (λ (c : PlatformClass). same_class c e.class ≡ true) (ap class_of fit.1 ∙ k) there.0 in
     let kind : same_kind (kind_of_method d) e.kind ≡ true = subst (λ (c : MethodKind). same_kind c e.kind ≡ true) (ap kind_of_method fit.1 ∙ l) there.1 in
     let has : is_token (a.method_token (entry_of_method (method_number d)).method) s ≡ true = ap (λ (m : PlatformMethod). is_token (a.method_token m) s) (method_at_place d) ∙ ap (λ (o : Option ℕ). is_token o s) token ∙ (Decides-eqb s s).1 refl in
-    let yes : has_method_token a e.class e.kind s ≡ true = list_any_at (λ f. same_class f.class e.class && same_kind f.kind e.kind && is_token (a.method_token f.method) s) methods (method_number d) (method_entry Object Static ObjectInit []) place (both _ _ (both _ _ class kind) has) in
+    let yes : has_method_token a e.class e.kind s ≡ true = list_any_at (λ f. same_class f.class e.class && same_kind f.kind e.kind && is_token (a.method_token f.method) s) methods (method_number d) (method_entry Object Static ObjectInit 1 []) place (both _ _ (both _ _ class kind) has) in
     false≢true (sym no ∙ yes)
 
 -- ---- all rows

@@ -94,7 +94,7 @@ told_method t distinct m =
     let class : same_class (class_of m) (class_of m) ≡ true = (Decides-eqb _ _).1 refl in
     let kind : same_kind (kind_of_method m) (kind_of_method m) ≡ true = (Decides-eqb _ _).1 refl in
     let there : passes (entry_of_method (method_number m)) ≡ true = both _ _ (both _ _ class kind) (ap (λ (n : PlatformMethod). slice_index t.method_tokens (method_number n) == token) (method_at_place m) ∙ (Decides-eqb token token).1 refl) in
-    let f : Found passes methods = found_at passes methods (method_number m) (method_entry Object Static ObjectInit []) place there in
+    let f : Found passes methods = found_at passes methods (method_number m) (method_entry Object Static ObjectInit 1 []) place there in
     let e = f.0 in
     let parts = and_true (same_class e.class (class_of m) && same_kind e.kind (kind_of_method m)) (slice_index t.method_tokens (method_number e.method) == token) f.2 in
     let places = and_true (same_class e.class (class_of m)) (same_kind e.kind (kind_of_method m)) parts.0 in

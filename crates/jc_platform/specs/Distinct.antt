@@ -18,7 +18,7 @@ entry_of_class n = slice_index_or classes n (class_entry JavaLang Object [])
 
 -- the entry of a method
 abbrev pub entry_of_method : ℕ → MethodEntry
-entry_of_method n = slice_index_or methods n (method_entry Object Static ObjectInit [])
+entry_of_method n = slice_index_or methods n (method_entry Object Static ObjectInit 1 [])
 
 -- the package that a class is in
 abbrev pub home_of : PlatformClass → PlatformPackage

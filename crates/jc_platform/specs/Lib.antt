@@ -6,5 +6,6 @@ pub mod Seen
 pub mod Table
 pub mod Tokens
 pub mod Distinct
+pub mod Signatures
 pub mod Hierarchy
 pub mod Platform

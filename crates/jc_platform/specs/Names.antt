@@ -21,11 +21,12 @@ pub record ClassEntry : Type 0 where
   pub home : PlatformPackage
   pub name : List ℕ
 
--- a method, the class that it is in, its kind and its name
+-- a method, the class that it is in, its kind, how many cells its arguments have with its receiver, and its name
 pub record MethodEntry : Type 0 where
   pub method : PlatformMethod
   pub class : PlatformClass
   pub kind : MethodKind
+  pub arguments : ℕ
   pub name : List ℕ
 
 -- the entry of a class
@@ -33,8 +34,8 @@ abbrev pub class_entry : PlatformPackage → PlatformClass → List ℕ → Clas
 class_entry p c n = record { class = c; home = p; name = n }
 
 -- the entry of a method
-abbrev pub method_entry : PlatformClass → MethodKind → PlatformMethod → List ℕ → MethodEntry
-method_entry c k m n = record { method = m; class = c; kind = k; name = n }
+abbrev pub method_entry : PlatformClass → MethodKind → PlatformMethod → ℕ → List ℕ → MethodEntry
+method_entry c k m a n = record { method = m; class = c; kind = k; arguments = a; name = n }
 
 -- every package
 unfoldable pub packages : List PackageEntry
@@ -79,87 +80,87 @@ classes =
 -- every method
 unfoldable pub methods : List MethodEntry
 methods =
-    method_entry Object Static ObjectInit (codes "<init>") ∷
-    method_entry Object Virtual ObjectEquals (codes "equals") ∷
-    method_entry Throwable Static ThrowableInit (codes "<init>") ∷
-    method_entry Exception Static ExceptionInit (codes "<init>") ∷
-    method_entry RuntimeException Static RuntimeExceptionInit (codes "<init>") ∷
-    method_entry IndexOutOfBoundsException Static IndexOutOfBoundsExceptionInit (codes "<init>") ∷
-    method_entry ArithmeticException Static ArithmeticExceptionInit (codes "<init>") ∷
-    method_entry ArrayIndexOutOfBoundsException Static ArrayIndexOutOfBoundsExceptionInit (codes "<init>") ∷
-    method_entry ArrayStoreException Static ArrayStoreExceptionInit (codes "<init>") ∷
-    method_entry ClassCastException Static ClassCastExceptionInit (codes "<init>") ∷
-    method_entry NegativeArraySizeException Static NegativeArraySizeExceptionInit (codes "<init>") ∷
-    method_entry NullPointerException Static NullPointerExceptionInit (codes "<init>") ∷
-    method_entry SecurityException Static SecurityExceptionInit (codes "<init>") ∷
-    method_entry Pin Interface PinCheck (codes "check") ∷
-    method_entry Pin Interface PinGetTriesRemaining (codes "getTriesRemaining") ∷
-    method_entry Pin Interface PinIsValidated (codes "isValidated") ∷
-    method_entry Pin Interface PinReset (codes "reset") ∷
-    method_entry Applet Static AppletInit (codes "<init>") ∷
-    method_entry Applet Virtual AppletDeselect (codes "deselect") ∷
-    method_entry Applet Virtual AppletGetShareableInterfaceObject (codes "getShareableInterfaceObject") ∷
-    method_entry Applet Virtual AppletRegister (codes "register") ∷
-    method_entry Applet Virtual AppletRegisterBytes (codes "registerBytes") ∷
-    method_entry Applet Virtual AppletSelect (codes "select") ∷
-    method_entry Applet Virtual AppletSelectingApplet (codes "selectingApplet") ∷
-    method_entry Applet Virtual AppletProcess (codes "process") ∷
-    method_entry Apdu Virtual ApduGetBuffer (codes "getBuffer") ∷
-    method_entry Apdu Virtual ApduReceiveBytes (codes "receiveBytes") ∷
-    method_entry Apdu Virtual ApduSendBytes (codes "sendBytes") ∷
-    method_entry Apdu Virtual ApduSetIncomingAndReceive (codes "setIncomingAndReceive") ∷
-    method_entry Apdu Virtual ApduSetOutgoing (codes "setOutgoing") ∷
-    method_entry Apdu Virtual ApduSetOutgoingAndSend (codes "setOutgoingAndSend") ∷
-    method_entry Apdu Virtual ApduSetOutgoingLength (codes "setOutgoingLength") ∷
-    method_entry Aid Static AidInit (codes "<init>") ∷
-    method_entry Aid Virtual AidEquals (codes "equals") ∷
-    method_entry Aid Virtual AidEqualsBytes (codes "equalsBytes") ∷
-    method_entry Aid Virtual AidGetBytes (codes "getBytes") ∷
-    method_entry JcSystem Static JcSystemAbortTransaction (codes "abortTransaction") ∷
-    method_entry JcSystem Static JcSystemBeginTransaction (codes "beginTransaction") ∷
-    method_entry JcSystem Static JcSystemCommitTransaction (codes "commitTransaction") ∷
-    method_entry JcSystem Static JcSystemGetAid (codes "getAID") ∷
-    method_entry JcSystem Static JcSystemGetAppletShareableInterfaceObject (codes "getAppletShareableInterfaceObject") ∷
-    method_entry JcSystem Static JcSystemGetMaxCommitCapacity (codes "getMaxCommitCapacity") ∷
-    method_entry JcSystem Static JcSystemGetPreviousContextAid (codes "getPreviousContextAID") ∷
-    method_entry JcSystem Static JcSystemGetTransactionDepth (codes "getTransactionDepth") ∷
-    method_entry JcSystem Static JcSystemGetUnusedCommitCapacity (codes "getUnusedCommitCapacity") ∷
-    method_entry JcSystem Static JcSystemIsTransient (codes "isTransient") ∷
-    method_entry JcSystem Static JcSystemLookupAid (codes "lookupAID") ∷
-    method_entry JcSystem Static JcSystemMakeTransientBooleanArray (codes "makeTransientBooleanArray") ∷
-    method_entry JcSystem Static JcSystemMakeTransientByteArray (codes "makeTransientByteArray") ∷
-    method_entry JcSystem Static JcSystemMakeTransientObjectArray (codes "makeTransientObjectArray") ∷
-    method_entry JcSystem Static JcSystemMakeTransientShortArray (codes "makeTransientShortArray") ∷
-    method_entry Util Static UtilArrayCompare (codes "arrayCompare") ∷
-    method_entry Util Static UtilArrayCopy (codes "arrayCopy") ∷
-    method_entry Util Static UtilGetShort (codes "getShort") ∷
-    method_entry Util Static UtilMakeShort (codes "makeShort") ∷
-    method_entry Util Static UtilSetShort (codes "setShort") ∷
-    method_entry OwnerPin Static OwnerPinInit (codes "<init>") ∷
-    method_entry OwnerPin Virtual OwnerPinCheck (codes "check") ∷
-    method_entry OwnerPin Virtual OwnerPinGetTriesRemaining (codes "getTriesRemaining") ∷
-    method_entry OwnerPin Virtual OwnerPinIsValidated (codes "isValidated") ∷
-    method_entry OwnerPin Virtual OwnerPinReset (codes "reset") ∷
-    method_entry OwnerPin Virtual OwnerPinResetAndUnblock (codes "resetAndUnblock") ∷
-    method_entry OwnerPin Virtual OwnerPinUpdate (codes "update") ∷
-    method_entry CardException Static CardExceptionInit (codes "<init>") ∷
-    method_entry CardException Static CardExceptionThrowIt (codes "throwIt") ∷
-    method_entry CardException Virtual CardExceptionGetReason (codes "getReason") ∷
-    method_entry CardException Virtual CardExceptionSetReason (codes "setReason") ∷
-    method_entry CardRuntimeException Static CardRuntimeExceptionInit (codes "<init>") ∷
-    method_entry CardRuntimeException Static CardRuntimeExceptionThrowIt (codes "throwIt") ∷
-    method_entry CardRuntimeException Virtual CardRuntimeExceptionGetReason (codes "getReason") ∷
-    method_entry CardRuntimeException Virtual CardRuntimeExceptionSetReason (codes "setReason") ∷
-    method_entry IsoException Static IsoExceptionInit (codes "<init>") ∷
-    method_entry IsoException Static IsoExceptionThrowIt (codes "throwIt") ∷
-    method_entry PinException Static PinExceptionInit (codes "<init>") ∷
-    method_entry PinException Static PinExceptionThrowIt (codes "throwIt") ∷
-    method_entry SystemException Static SystemExceptionInit (codes "<init>") ∷
-    method_entry SystemException Static SystemExceptionThrowIt (codes "throwIt") ∷
-    method_entry TransactionException Static TransactionExceptionInit (codes "<init>") ∷
-    method_entry TransactionException Static TransactionExceptionThrowIt (codes "throwIt") ∷
-    method_entry ApduException Static ApduExceptionInit (codes "<init>") ∷
-    method_entry ApduException Static ApduExceptionThrowIt (codes "throwIt") ∷
-    method_entry UserException Static UserExceptionInit (codes "<init>") ∷
-    method_entry UserException Static UserExceptionThrowIt (codes "throwIt") ∷
+    method_entry Object Static ObjectInit 1 (codes "<init>") ∷
+    method_entry Object Virtual ObjectEquals 2 (codes "equals") ∷
+    method_entry Throwable Static ThrowableInit 1 (codes "<init>") ∷
+    method_entry Exception Static ExceptionInit 1 (codes "<init>") ∷
+    method_entry RuntimeException Static RuntimeExceptionInit 1 (codes "<init>") ∷
+    method_entry IndexOutOfBoundsException Static IndexOutOfBoundsExceptionInit 1 (codes "<init>") ∷
+    method_entry ArithmeticException Static ArithmeticExceptionInit 1 (codes "<init>") ∷
+    method_entry ArrayIndexOutOfBoundsException Static ArrayIndexOutOfBoundsExceptionInit 1 (codes "<init>") ∷
+    method_entry ArrayStoreException Static ArrayStoreExceptionInit 1 (codes "<init>") ∷
+    method_entry ClassCastException Static ClassCastExceptionInit 1 (codes "<init>") ∷
+    method_entry NegativeArraySizeException Static NegativeArraySizeExceptionInit 1 (codes "<init>") ∷
+    method_entry NullPointerException Static NullPointerExceptionInit 1 (codes "<init>") ∷
+    method_entry SecurityException Static SecurityExceptionInit 1 (codes "<init>") ∷
+    method_entry Pin Interface PinCheck 4 (codes "check") ∷
+    method_entry Pin Interface PinGetTriesRemaining 1 (codes "getTriesRemaining") ∷
+    method_entry Pin Interface PinIsValidated 1 (codes "isValidated") ∷
+    method_entry Pin Interface PinReset 1 (codes "reset") ∷
+    method_entry Applet Static AppletInit 1 (codes "<init>") ∷
+    method_entry Applet Virtual AppletDeselect 1 (codes "deselect") ∷
+    method_entry Applet Virtual AppletGetShareableInterfaceObject 3 (codes "getShareableInterfaceObject") ∷
+    method_entry Applet Virtual AppletRegister 1 (codes "register") ∷
+    method_entry Applet Virtual AppletRegisterBytes 4 (codes "registerBytes") ∷
+    method_entry Applet Virtual AppletSelect 1 (codes "select") ∷
+    method_entry Applet Virtual AppletSelectingApplet 1 (codes "selectingApplet") ∷
+    method_entry Applet Virtual AppletProcess 2 (codes "process") ∷
+    method_entry Apdu Virtual ApduGetBuffer 1 (codes "getBuffer") ∷
+    method_entry Apdu Virtual ApduReceiveBytes 2 (codes "receiveBytes") ∷
+    method_entry Apdu Virtual ApduSendBytes 3 (codes "sendBytes") ∷
+    method_entry Apdu Virtual ApduSetIncomingAndReceive 1 (codes "setIncomingAndReceive") ∷
+    method_entry Apdu Virtual ApduSetOutgoing 1 (codes "setOutgoing") ∷
+    method_entry Apdu Virtual ApduSetOutgoingAndSend 3 (codes "setOutgoingAndSend") ∷
+    method_entry Apdu Virtual ApduSetOutgoingLength 2 (codes "setOutgoingLength") ∷
+    method_entry Aid Static AidInit 4 (codes "<init>") ∷
+    method_entry Aid Virtual AidEquals 2 (codes "equals") ∷
+    method_entry Aid Virtual AidEqualsBytes 4 (codes "equalsBytes") ∷
+    method_entry Aid Virtual AidGetBytes 3 (codes "getBytes") ∷
+    method_entry JcSystem Static JcSystemAbortTransaction 0 (codes "abortTransaction") ∷
+    method_entry JcSystem Static JcSystemBeginTransaction 0 (codes "beginTransaction") ∷
+    method_entry JcSystem Static JcSystemCommitTransaction 0 (codes "commitTransaction") ∷
+    method_entry JcSystem Static JcSystemGetAid 0 (codes "getAID") ∷
+    method_entry JcSystem Static JcSystemGetAppletShareableInterfaceObject 2 (codes "getAppletShareableInterfaceObject") ∷
+    method_entry JcSystem Static JcSystemGetMaxCommitCapacity 0 (codes "getMaxCommitCapacity") ∷
+    method_entry JcSystem Static JcSystemGetPreviousContextAid 0 (codes "getPreviousContextAID") ∷
+    method_entry JcSystem Static JcSystemGetTransactionDepth 0 (codes "getTransactionDepth") ∷
+    method_entry JcSystem Static JcSystemGetUnusedCommitCapacity 0 (codes "getUnusedCommitCapacity") ∷
+    method_entry JcSystem Static JcSystemIsTransient 1 (codes "isTransient") ∷
+    method_entry JcSystem Static JcSystemLookupAid 3 (codes "lookupAID") ∷
+    method_entry JcSystem Static JcSystemMakeTransientBooleanArray 2 (codes "makeTransientBooleanArray") ∷
+    method_entry JcSystem Static JcSystemMakeTransientByteArray 2 (codes "makeTransientByteArray") ∷
+    method_entry JcSystem Static JcSystemMakeTransientObjectArray 2 (codes "makeTransientObjectArray") ∷
+    method_entry JcSystem Static JcSystemMakeTransientShortArray 2 (codes "makeTransientShortArray") ∷
+    method_entry Util Static UtilArrayCompare 5 (codes "arrayCompare") ∷
+    method_entry Util Static UtilArrayCopy 5 (codes "arrayCopy") ∷
+    method_entry Util Static UtilGetShort 2 (codes "getShort") ∷
+    method_entry Util Static UtilMakeShort 2 (codes "makeShort") ∷
+    method_entry Util Static UtilSetShort 3 (codes "setShort") ∷
+    method_entry OwnerPin Static OwnerPinInit 3 (codes "<init>") ∷
+    method_entry OwnerPin Virtual OwnerPinCheck 4 (codes "check") ∷
+    method_entry OwnerPin Virtual OwnerPinGetTriesRemaining 1 (codes "getTriesRemaining") ∷
+    method_entry OwnerPin Virtual OwnerPinIsValidated 1 (codes "isValidated") ∷
+    method_entry OwnerPin Virtual OwnerPinReset 1 (codes "reset") ∷
+    method_entry OwnerPin Virtual OwnerPinResetAndUnblock 1 (codes "resetAndUnblock") ∷
+    method_entry OwnerPin Virtual OwnerPinUpdate 4 (codes "update") ∷
+    method_entry CardException Static CardExceptionInit 2 (codes "<init>") ∷
+    method_entry CardException Static CardExceptionThrowIt 1 (codes "throwIt") ∷
+    method_entry CardException Virtual CardExceptionGetReason 1 (codes "getReason") ∷
+    method_entry CardException Virtual CardExceptionSetReason 2 (codes "setReason") ∷
+    method_entry CardRuntimeException Static CardRuntimeExceptionInit 2 (codes "<init>") ∷
+    method_entry CardRuntimeException Static CardRuntimeExceptionThrowIt 1 (codes "throwIt") ∷
+    method_entry CardRuntimeException Virtual CardRuntimeExceptionGetReason 1 (codes "getReason") ∷
+    method_entry CardRuntimeException Virtual CardRuntimeExceptionSetReason 2 (codes "setReason") ∷
+    method_entry IsoException Static IsoExceptionInit 2 (codes "<init>") ∷
+    method_entry IsoException Static IsoExceptionThrowIt 1 (codes "throwIt") ∷
+    method_entry PinException Static PinExceptionInit 2 (codes "<init>") ∷
+    method_entry PinException Static PinExceptionThrowIt 1 (codes "throwIt") ∷
+    method_entry SystemException Static SystemExceptionInit 2 (codes "<init>") ∷
+    method_entry SystemException Static SystemExceptionThrowIt 1 (codes "throwIt") ∷
+    method_entry TransactionException Static TransactionExceptionInit 2 (codes "<init>") ∷
+    method_entry TransactionException Static TransactionExceptionThrowIt 1 (codes "throwIt") ∷
+    method_entry ApduException Static ApduExceptionInit 2 (codes "<init>") ∷
+    method_entry ApduException Static ApduExceptionThrowIt 1 (codes "throwIt") ∷
+    method_entry UserException Static UserExceptionInit 2 (codes "<init>") ∷
+    method_entry UserException Static UserExceptionThrowIt 1 (codes "throwIt") ∷
     []

@@ -11,4 +11,4 @@ abbrev pub seen_class : ClassName → ClassEntry
 seen_class e = record { class = e.class; home = e.home; name = e.name.now }
 
 abbrev pub seen_method : MethodName → MethodEntry
-seen_method e = record { method = e.method; class = e.class; kind = e.kind; name = e.name.now }
+seen_method e = record { method = e.method; class = e.class; kind = e.kind; arguments = e.arguments; name = e.name.now }

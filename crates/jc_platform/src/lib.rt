@@ -11,5 +11,6 @@ pub mod platform;
 pub mod read;
 mod reading;
 pub mod row;
+pub mod signatures;
 pub mod table;
 mod words;

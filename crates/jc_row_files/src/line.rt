@@ -2,21 +2,23 @@
 
 /// What a line says.
 #[derive(Drop)]
-pub(crate) enum Line<'a> {
+pub enum Line<'a> {
     /// Nothing: it is empty, or a comment.
     Nothing,
     /// A new subject begins.
     New,
-    /// The lines up to `end` stand once for each number from the first to the last.
-    For(u16, u16),
+    /// The rows of another file stand here.
+    Include(&'a str),
+    /// The lines up to `end` stand once for each number from the first to the last, which has this name.
+    For(&'a str, u16, u16),
     /// The end of those.
     End,
-    /// A command and its answer.
-    Row(&'a str, &'a str),
+    /// A command, and its answer where one stands behind it.
+    Row(&'a str, Option<&'a str>),
 }
 
 /// Reads a line. What begins with `#`, or follows a ` #`, is a comment.
-pub(crate) fn read_line(line: &str) -> Line<'_> {
+pub fn read_line(line: &str) -> Line<'_> {
     if line.starts_with('#') {
         return Line::Nothing;
     }
@@ -38,15 +40,27 @@ fn read_directive(text: &str) -> Option<Line<'_>> {
     if text == "end" {
         return Some(Line::End);
     }
-    let (first, last) = text.strip_prefix("for ")?.split_once(' ')?;
-    Some(Line::For(first.parse::<u16>().ok()?, last.parse::<u16>().ok()?))
+    if let Some(name) = text.strip_prefix("include ") {
+        return Some(Line::Include(name));
+    }
+    read_for(text.strip_prefix("for ")?)
 }
 
-/// A command and its answer, which is `ok` where none stands behind a ` = `.
+/// The numbers of a loop, with a name before them, or named `n`.
+fn read_for(words: &str) -> Option<Line<'_>> {
+    let (word, more) = words.split_once(' ')?;
+    let (name, first, last) = match more.split_once(' ') {
+        Some((first, last)) => (word, first, last),
+        None => ("n", word, more),
+    };
+    Some(Line::For(name, first.parse::<u16>().ok()?, last.parse::<u16>().ok()?))
+}
+
+/// A command and what stands behind a ` = `.
 fn read_row(text: &str) -> Line<'_> {
     match text.split_once(" = ") {
-        Some((command, answer)) => Line::Row(command.trim_end(), answer.trim_start()),
-        None => Line::Row(text, "ok"),
+        Some((command, answer)) => Line::Row(command.trim_end(), Some(answer.trim_start())),
+        None => Line::Row(text, None),
     }
 }
 

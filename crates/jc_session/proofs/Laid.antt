@@ -5,6 +5,10 @@ use Rattle.std.specs.List.{list_all}
 use Rattle.std.proofs.lemmas.Bool.{and_from, and_parts, cases_Bool, cases_lt, eq-eqb, eqb-true, le-leb, leb-true, lt-ltb, ltb-true, ne_eqb, or_from, or_parts, true≢false}
 use Rattle.jc_words.specs.Layout.{top_address}
 use Rattle.jc_heap.specs.Image.{IsLaid, base, image, is_package, missing, package_addresses}
+use Rattle.jc_commit.specs.Image.{recovered_of}
+use Rattle.jc_card.specs.PowerUp.{Stands}
+use Rattle.jc_card.specs.declared.power_up.PowerFault.{PowerFault as Fault}
+use Rattle.jc_card.specs.declared.power_up.PowerFault.TheVariants.{BadMagic, BadVersion, BadSize, BadLog, BadTable, BadPackage, NoMemory, StoreDown}
 use Rattle.jc_session.specs.Power.{is_laid}
 
 none_above : (top : ℕ) (ps : List ℕ) → list_all (λ p. nat_lt p top) ps ≡ true → (a : ℕ) → top ≤ a → is_package ps a ≡ false
@@ -52,3 +56,23 @@ if_laid w laid =
     let d = list_all (λ p. nat_lt p top) (package_addresses (image w)) in
     and_from a (b && (c && d)) (le-leb (base (image w)) top laid.based) (and_from b (c && d) (le-leb top (length w) laid.fits)
     (and_from c d (eq-eqb (missing (image w)) 0 laid.whole) (all_below top (package_addresses (image w)) laid.packages)))
+
+same_answer : (v w : List ℕ) → IsLaid v ↔ IsLaid w → is_laid v ≡ is_laid w
+same_answer v w both = elim (cases_Bool (is_laid w)) [
+  | inl yes ↦ if_laid v (both.1 (laid_if w yes)) ∙ sym yes
+  | inr no ↦ elim (cases_Bool (is_laid v)) [
+    | inl yes ↦ absurd (true≢false (sym (if_laid w (both.0 (laid_if v yes))) ∙ no))
+    | inr other ↦ other ∙ sym no
+  ]
+]
+
+-- what a power up that found a fault leaves is laid where it was before
+pub laid_still : (fault : Fault) (old new : List ℕ) → (fault ≡ StoreDown → ⊥) → Stands fault old new → is_laid (recovered_of new) ≡ is_laid (recovered_of old)
+laid_still BadMagic old new other stands = ap (λ w. is_laid (recovered_of w)) stands
+laid_still BadVersion old new other stands = ap (λ w. is_laid (recovered_of w)) stands
+laid_still BadSize old new other stands = ap (λ w. is_laid (recovered_of w)) stands
+laid_still BadLog old new other stands = ap (λ w. is_laid (recovered_of w)) stands
+laid_still BadTable old new other stands = ap is_laid stands.recovered
+laid_still BadPackage old new other stands = same_answer (recovered_of new) (recovered_of old) stands.laid
+laid_still NoMemory old new other stands = same_answer (recovered_of new) (recovered_of old) stands.laid
+laid_still StoreDown old new other stands = absurd (other refl)

@@ -6,8 +6,9 @@ use Rattle.jc_heap.specs.Heap.{heap_of}
 use Rattle.jc_card.specs.PowerUp.{Refuses, Stands}
 use Rattle.jc_card.specs.declared.power_up.PowerFault.{PowerFault as Fault}
 use Rattle.jc_card.specs.declared.power_up.PowerFault.TheVariants.{BadMagic, BadVersion, BadSize, BadLog, BadTable, BadPackage, NoMemory, StoreDown}
-use Rattle.jc_session.specs.Power.{KeptState, Power, StoreState, IsStoreOf, is_laid}
+use Rattle.jc_session.specs.Power.{KeptState, Power, StoreState, IsStoreOf}
 use Rattle.jc_session.specs.Starting.{FailsToReset, FailsToStart}
+use Rattle.jc_session.proofs.Laid.{laid_still}
 
 -- no entry counts
 closed_log : (old new : List ℕ) → IsGoodLog old → length new ≡ length old → count_of new ≡ 0 → IsGoodLog new
@@ -36,10 +37,9 @@ fails_to_reset fault s before after held cause other size stands up refused =
       held,
       cause,
       other,
-      is_laid (recovered_of after.words),
       record {
         good = left.0;
-        kept = λ i. record { durable = (left.1 ∙ ap (λ (k : KeptState). k.durable) held.kept) i; laid = is_laid (recovered_of after.words); down = up i; refused = (refused ∙ ap (λ (k : KeptState). k.refused) held.kept) i; size = (size ∙ ap (λ (k : KeptState). k.size) held.kept) i };
+        kept = λ i. record { durable = (left.1 ∙ ap (λ (k : KeptState). k.durable) held.kept) i; laid = (laid_still fault before.words after.words other stands ∙ ap (λ (k : KeptState). k.laid) held.kept) i; down = up i; refused = (refused ∙ ap (λ (k : KeptState). k.refused) held.kept) i; size = (size ∙ ap (λ (k : KeptState). k.size) held.kept) i };
       },
     )
 

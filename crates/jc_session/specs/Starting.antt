@@ -1,5 +1,5 @@
 -- Powering up: at the beginning, over whatever words a store has, and at a reset.
-use Rattle.std.specs.Prelude.{◌≡◌, Bool, false, length}
+use Rattle.std.specs.Prelude.{◌≡◌, false, length}
 use Rattle.jc_heap.specs.Heap.{resting}
 use Rattle.jc_card.specs.CardState.{CardState}
 use Rattle.jc_card.specs.Made.{IsCardHeap, IsMade}
@@ -30,7 +30,6 @@ pub record FailsToStart (fault : PowerFault) (before after : StoreState) : Type 
   pub up : after.down ≡ false
   pub refused : after.refused ≡ before.refused
 
--- a reset of a card that is so finds this fault, which the words of its store have; what was left of it stays, with the power on,
--- though perhaps laid otherwise
+-- a reset of a card that is so finds this fault, which the words of its store have; what was left of it stays, with the power on
 abbrev pub FailsToReset : PowerFault → Power → StoreState → Type 0
-FailsToReset fault s after = (before : StoreState) × IsStoreOf s before × Refuses fault before.words × (fault ≡ StoreDown → ⊥) × (laid : Bool) × IsStoreOf (Off (record (powered_on (kept s)) { laid = laid })) after
+FailsToReset fault s after = (before : StoreState) × IsStoreOf s before × Refuses fault before.words × (fault ≡ StoreDown → ⊥) × IsStoreOf (Off (powered_on (kept s))) after

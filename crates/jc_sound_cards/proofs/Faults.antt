@@ -12,11 +12,12 @@ use Rattle.jc_session.specs.declared.event.Event.{Event}
 use Rattle.jc_session.specs.declared.event.Event.TheVariants.{Command, Reset}
 use Rattle.jc_session.specs.declared.event.Answer.{Answer}
 use Rattle.jc_session.specs.declared.event.Answer.TheVariants.{Response, Ready, Down}
-use Rattle.jc_session.specs.Power.{KeptState, Power, Up, Off, StoreState, IsStoreOf, kept, kept_in}
+use Rattle.jc_session.specs.Power.{KeptState, Power, Up, Off, StoreState, IsStoreOf, kept, kept_in, powered_on}
 use Rattle.jc_session.specs.Serving.{AnswersCommand, AnswersReset, Serves, SessionRun}
-use Rattle.jc_session.specs.Starting.{FailsToStart, Starts}
+use Rattle.jc_session.specs.Starting.{FailsToReset, FailsToStart, Starts}
 use Rattle.jc_session.specs.Sessions.{IsSession, StopsAtReset}
 use Rattle.jc_session.proofs.Laid.{if_laid, laid_if}
+use Rattle.jc_session.proofs.Resets.{start_fails}
 use Rattle.jc_sound_cards.specs.Cards.{AreOfBytes, IsOwnKept, IsOwnPower, StaysOwn}
 use Rattle.jc_sound_cards.specs.Faults.{IsOwnStore, SessionsEndWell}
 use Rattle.jc_sound_cards.specs.Images.{Keeps}
@@ -97,12 +98,21 @@ no_other fault words made cause other = one (refused_made words fault made cause
     one (inl is) = is
     one (inr is) = absurd (other is)
 
-fault_is : OneTable → (t : Tokens) (before after : StoreState) (events : List Event) (fault : Fault) → AreOfBytes events → IsOwnStore t before → FailsToStart fault before after ⊎ StopsAtReset fault before events after → fault ≡ NoMemory
-fault_is g t before after events fault are own (inl start) = no_other fault before.words (made_of t before own) start.cause start.other
+-- a reset that finds a fault leaves such a store
+reset_own : (t : Tokens) (s : Power) (after : StoreState) (fault : Fault) → IsOwnPower t s → IsLaidIn s → FailsToReset fault s after → (fault ≡ NoMemory) × IsOwnStore t after
+reset_own t s after fault own laid fails =
+    let left = kept_own t s own in (
+      no_other fault fails.0.words (made_of t fails.0 (store_own t s fails.0 own laid fails.1)) fails.2 fails.3,
+      store_own t (Off (powered_on (kept s))) after (record { packages = left.packages; linked = left.linked; heap = left.heap; counted = left.counted }) laid fails.4,
+    )
+
+fault_is : OneTable → (t : Tokens) (before after : StoreState) (events : List Event) (fault : Fault) → AreOfBytes events → IsOwnStore t before → FailsToStart fault before after ⊎ StopsAtReset fault before events after → (fault ≡ NoMemory) × IsOwnStore t after
+fault_is g t before after events fault are own (inl start) =
+    reset_own t (Off (kept_in before)) after fault own.own (if_laid (recovered_of before.words) own.keeps.laid)
+    (start_fails fault (Off (kept_in before)) before after (record { good = own.keeps.good; kept = refl }) start)
 fault_is g t before after events fault are own (inr stops) =
     let last = last_own g t before own (take stops.0 events) stops.1 stops.2 (first_bytes stops.0 events are) stops.4 in
-    let fails = stops.5 in
-    no_other fault fails.0.words (made_of t fails.0 (store_own t stops.2 fails.0 last.0 last.1 fails.1)) fails.2 fails.3
+    reset_own t stops.2 after fault last.0 last.1 stops.5
 
 pub end_well : OneTable → SessionsEndWell
 end_well g = record {

@@ -20,10 +20,10 @@ pub record IsOwnStore (t : Tokens) (store : StoreState) : Type 0 where
   pub keeps : Keeps store.words (kept_in store)
   pub own : IsOwnKept t (kept_in store)
 
--- Such is the store of a new image. A session over such a store leaves such a one, which powers up again; and neither its first power
--- up nor a reset in it finds a fault but want of memory
+-- Such is the store of a new image. A session over such a store leaves such a one, which powers up again, also where it ended by a
+-- fault; and neither its first power up nor a reset in it finds a fault but want of memory
 pub record SessionsEndWell : Type 0 where
   pub new : (t : Tokens) (text : List ℕ) (store : StoreState) → IsMade store.words → Reads text (Ok t) → heap_of (recovered_of store.words) ≡ formatted (length store.words) text t → IsOwnStore t store
   pub made : (t : Tokens) (store : StoreState) → IsOwnStore t store → IsMade store.words
   pub done : (t : Tokens) (before after : StoreState) (events : List Event) (answers : List Answer) → AreOfBytes events → IsOwnStore t before → SessionEnds (Ok answers) before events after → IsOwnStore t after
-  pub fault : (t : Tokens) (before after : StoreState) (events : List Event) (fault : Fault) → AreOfBytes events → IsOwnStore t before → SessionEnds (Err (PowerFault fault)) before events after → fault ≡ NoMemory
+  pub fault : (t : Tokens) (before after : StoreState) (events : List Event) (fault : Fault) → AreOfBytes events → IsOwnStore t before → SessionEnds (Err (PowerFault fault)) before events after → (fault ≡ NoMemory) × IsOwnStore t after

@@ -35,7 +35,7 @@ use Rattle.jc_isolation.specs.jc_interp_calls.specs.declared.enter.CallSite.{Cal
 use Rattle.jc_isolation.specs.jc_interp_calls.specs.Asking.{asked_by, asked_callee, asked_entry, asking, sharing_method, takes_asked, then_stored, with_asked}
 use Rattle.jc_isolation.specs.jc_interp_calls.specs.Choosing.{chosen}
 use Rattle.jc_isolation.specs.jc_interp_calls.specs.Entering.{entering, entry_of, switched, switching, takes}
-use Rattle.jc_isolation.specs.jc_interp_calls.specs.Signatures.{argument_cells}
+use Rattle.jc_platform.specs.Signatures.{argument_cells}
 use Rattle.jc_isolation.specs.jc_interp_calls.specs.Texts.{text_of}
 use Rattle.jc_isolation.specs.jc_interp.specs.Calling.{after_native, answered, invoked, made_by, natively}
 use Rattle.jc_isolation.proofs.Due.{due_if, due_ok, due_some}

@@ -28,7 +28,7 @@ use Rattle.jc_dispatch.specs.jc_interp_calls.specs.declared.enter.Callee.{Callee
 use Rattle.jc_dispatch.specs.jc_interp_calls.specs.Choosing.{chosen}
 use Rattle.jc_dispatch.specs.jc_interp_calls.specs.Entering.{entering}
 use Rattle.jc_dispatch.specs.jc_interp_calls.specs.Returning.{returning}
-use Rattle.jc_dispatch.specs.jc_interp_calls.specs.Signatures.{argument_cells}
+use Rattle.jc_platform.specs.Signatures.{argument_cells}
 use Rattle.jc_dispatch.specs.jc_interp.specs.Calling.{answered, after_native, natively, made_by, invoked}
 use Rattle.jc_dispatch.specs.jc_interp.specs.Stepping.{at_place, caught, code_of, executed, fetched, instructed, is_plain, operated, stepped}
 use Rattle.jc_dispatch.specs.jc_interp.specs.Running.{if_goes, running_in}

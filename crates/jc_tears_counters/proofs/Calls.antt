@@ -33,7 +33,7 @@ use Rattle.jc_isolation.specs.jc_interp_calls.specs.Asking.{asked_by, asking, sh
 use Rattle.jc_isolation.specs.jc_interp_calls.specs.Choosing.{chosen}
 use Rattle.jc_isolation.specs.jc_interp_calls.specs.Entering.{entering, switching, takes}
 use Rattle.jc_isolation.specs.jc_interp_calls.specs.Returning.{come_back, returning}
-use Rattle.jc_isolation.specs.jc_interp_calls.specs.Signatures.{argument_cells}
+use Rattle.jc_platform.specs.Signatures.{argument_cells}
 use Rattle.jc_isolation.specs.jc_interp_calls.specs.Texts.{text_of}
 use Rattle.jc_isolation.specs.jc_interp.specs.Calling.{after_native, answered, invoked, made_by, natively}
 use Rattle.jc_isolation.proofs.Due.{due_if, due_ok, due_some, due_stopped}
