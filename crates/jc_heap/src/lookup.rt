@@ -9,7 +9,6 @@ use crate::layout::{HEADER, LENGTH};
 use crate::object::{Facts, Kind, event_of_number};
 use crate::walk::first_object;
 use jc_commit::Journal;
-use jc_names::{ClassWord, OwnerWord};
 use jc_transient::Ref;
 use jc_words::WordStore;
 use jc_words::layout::{TEXT_LENGTH, TEXT_START};
@@ -40,14 +39,14 @@ pub fn facts_at<S: WordStore>(journal: &Journal<S>, object: Ref) -> Facts
     let at = object.address();
     let word = journal.read(at);
     let place = area_place(journal, at, word);
-    Facts::new(
-        Kind::of(word % 256),
-        event_of_number(word / 256),
-        ClassWord(journal.read(at + 1)),
-        OwnerWord(journal.read(at + 2)),
-        journal.read(at + LENGTH),
+    Facts {
+        kind: Kind::of(word % 256),
+        event: event_of_number(word / 256),
+        class: journal.read(at + 1),
+        owner: journal.read(at + 2),
+        length: journal.read(at + LENGTH),
         place,
-    )
+    }
 }
 
 /// The object behind another one in the order of addresses, or the first one of all behind null.

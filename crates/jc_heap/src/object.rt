@@ -72,8 +72,8 @@ pub struct Facts {
     /// What clears the object's cells; none, where it is persistent.
     pub event: Option<ClearEvent>,
     // The words of the class and of the owner: code sees them as `class()` and `owner()`, contracts as these words.
-    class: u16,
-    owner: u16,
+    pub(crate) class: u16,
+    pub(crate) owner: u16,
     /// The number of cells.
     pub length: u16,
     /// The first cell of a transient object in its area, 0 of a persistent one.
