@@ -1,5 +1,6 @@
 //! The fields that entries of a constant pool name.
 ghost use Rattle.std.specs.Prelude.{◌≡◌};
+ghost use Rattle.std.specs.Option.{option_and_then};
 ghost use Rattle.jc_interp_fields.specs.Named.{is_of, has_field, field_named, static_named, field_of, static_of};
 
 use jc_linker::linked::Linked;
@@ -33,19 +34,24 @@ fn is_of(of_type: ValueType, is_reference: bool) -> bool
     }
 }
 
-// The field of instances that a target is, if it holds values of this type.
+// The field of instances that an entry names, if it names one that holds values of this type.
 #[inline(always)]
-fn field_of(of_type: ValueType, target: Target) -> Option<FieldOfClass>
-    ensures { result ≡ field_of of_type target }
+fn field_of(of_type: ValueType, entry: &Option<Target>) -> Option<FieldOfClass>
+    ensures { result ≡ option_and_then (field_of of_type) entry.now }
 {
-    match target {
-        Target::InstanceField {
-            class,
-            cell,
-            is_reference,
-        } => {
-            if is_of(of_type, is_reference) {
-                Some(FieldOfClass { class, cell })
+    match entry {
+        Some(
+            Target::InstanceField {
+                class,
+                cell,
+                is_reference,
+            },
+        ) => {
+            if is_of(of_type, *is_reference) {
+                Some(FieldOfClass {
+                    class: *class,
+                    cell: *cell,
+                })
             } else {
                 None
             }
@@ -65,7 +71,7 @@ pub(crate) fn field_named(
 ) -> Option<FieldOfClass>
     ensures { result ≡ field_named of_type linked.now package_number index }
 {
-    field_of(of_type, linked.target_at(package_number, index)?)
+    field_of(of_type, &linked.target_at(package_number, index))
 }
 
 // Whether an image of so many bytes that begins with so many references has a field of this type at an offset.
@@ -80,20 +86,22 @@ fn has_field(of_type: ValueType, size: u16, references: u16, offset: u16) -> boo
     }
 }
 
-// The static field that a target is, if it holds values of this type.
-fn static_of(of_type: ValueType, linked: &Linked, target: Target) -> Option<FieldOfImage>
-    ensures { result ≡ static_of of_type linked.now target }
+// The static field that an entry names, if it names one that holds values of this type.
+fn static_of(of_type: ValueType, linked: &Linked, entry: &Option<Target>) -> Option<FieldOfImage>
+    ensures { result ≡ option_and_then (static_of of_type linked.now) entry.now }
 {
-    match target {
-        Target::StaticField {
-            package_number,
-            offset,
-        } => {
-            let (size, references) = linked.statics_at(package_number);
-            if has_field(of_type, size, references, offset) {
+    match entry {
+        Some(
+            Target::StaticField {
+                package_number,
+                offset,
+            },
+        ) => {
+            let (size, references) = linked.statics_at(*package_number);
+            if has_field(of_type, size, references, *offset) {
                 Some(FieldOfImage {
-                    package_number,
-                    offset,
+                    package_number: *package_number,
+                    offset: *offset,
                 })
             } else {
                 None
@@ -113,5 +121,5 @@ pub(crate) fn static_named(
 ) -> Option<FieldOfImage>
     ensures { result ≡ static_named of_type linked.now package_number index }
 {
-    static_of(of_type, linked, linked.target_at(package_number, index)?)
+    static_of(of_type, linked, &linked.target_at(package_number, index))
 }
