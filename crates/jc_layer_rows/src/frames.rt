@@ -1,5 +1,5 @@
 //! Rows about frames.
-use crate::told::{NoAnswer, Told, done, found, value};
+use crate::told::{NoAnswer, Told, done, found, none, value};
 use crate::words::Words;
 use jc_frames::{
     CallKind, Cell, CodeFault, Entry, Frames, MOST_CELLS, MOST_FRAMES, Origin, Resume,
@@ -145,7 +145,7 @@ fn cell(alloc: Global, told: Option<Cell>) -> Told {
         Some(Cell::Short(short)) => value(alloc, short),
         Some(Cell::Reference(name)) => Ok(format!(in alloc; "ref{}", name.address())?),
         Some(Cell::ReturnAddress(place)) => Ok(format!(in alloc; "ret{place}")?),
-        None => Ok(String::from_str(alloc, "none")?),
+        None => none(alloc),
     }
 }
 

@@ -54,21 +54,15 @@ impl Infos {
 
     /// What the infos say.
     pub(crate) fn components(&self) -> Result<Components<'_>, NoAnswer> {
-        let statics = read_static_field(self.statics.as_slice())
-            .ok()
-            .ok_or(NoAnswer::Unknown)?;
+        let statics = read_static_field(self.statics.as_slice())?;
         Ok(Components {
             name: PackageInfo {
                 minor_version: 0,
                 major_version: 1,
                 aid: self.aid.as_slice(),
             },
-            imports: read_imports(self.imports.as_slice())
-                .ok()
-                .ok_or(NoAnswer::Unknown)?,
-            pool: read_pool(self.pool.as_slice())
-                .ok()
-                .ok_or(NoAnswer::Unknown)?,
+            imports: read_imports(self.imports.as_slice())?,
+            pool: read_pool(self.pool.as_slice())?,
             classes: classes(self.classes.as_slice())?,
             methods: &[],
             image_size: statics.image_size,
@@ -83,19 +77,19 @@ fn classes(info: &[u8]) -> Result<Classes<'_>, NoAnswer> {
     if info.len() >= 65536 {
         return Err(NoAnswer::Unknown);
     }
-    read_class(Format::V2_1, info).ok().ok_or(NoAnswer::Unknown)
+    Ok(read_class(Format::V2_1, info)?)
 }
 
 fn exports(info: &[u8]) -> Result<Option<Exports<'_>>, NoAnswer> {
     if info.is_empty() {
         return Ok(None);
     }
-    Ok(Some(read_exports(info).ok().ok_or(NoAnswer::Unknown)?))
+    Ok(Some(read_exports(info)?))
 }
 
 fn applets(info: &[u8]) -> Result<Option<Applets<'_>>, NoAnswer> {
     if info.is_empty() {
         return Ok(None);
     }
-    Ok(Some(read_applets(info).ok().ok_or(NoAnswer::Unknown)?))
+    Ok(Some(read_applets(info)?))
 }

@@ -1,5 +1,5 @@
 //! Rows about the platform's table.
-use crate::told::{NoAnswer, Told, done, found};
+use crate::told::{NoAnswer, Told, done, found, none};
 use crate::words::Words;
 use jc_names::ClassWord;
 use jc_platform::example::EXAMPLE;
@@ -137,7 +137,7 @@ fn method_of(
 /// A package, its version and its number.
 fn package(alloc: Global, table: &Table, told: Option<PlatformPackage>) -> Told {
     let Some(package) = told else {
-        return Ok(String::from_str(alloc, "none")?);
+        return none(alloc);
     };
     let version = table.version(package);
     let number = table.package_number(package);
@@ -150,7 +150,7 @@ fn package(alloc: Global, table: &Table, told: Option<PlatformPackage>) -> Told 
 /// A class, its package, token, word and superclass, and how many cells its instances have.
 fn class(alloc: Global, table: &Table, told: Option<PlatformClass>) -> Told {
     let Some(class) = told else {
-        return Ok(String::from_str(alloc, "none")?);
+        return none(alloc);
     };
     let home = class.home();
     let token = table.class_token(class);
@@ -166,6 +166,6 @@ fn class(alloc: Global, table: &Table, told: Option<PlatformClass>) -> Told {
 fn method(alloc: Global, table: &Table, told: Option<PlatformMethod>) -> Told {
     match told {
         Some(method) => Ok(format!(in alloc; "{method:?}, token {}", table.method_token(method))?),
-        None => Ok(String::from_str(alloc, "none")?),
+        None => none(alloc),
     }
 }

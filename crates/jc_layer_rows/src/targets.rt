@@ -1,5 +1,5 @@
 //! What entries of constant pools resolve to, as rows write it.
-use crate::told::Told;
+use crate::told::{Told, none};
 use jc_names::ClassWord;
 use jc_packages::target::{Method, Target};
 use std::alloc::Global;
@@ -8,7 +8,7 @@ use std::alloc::Global;
 pub(crate) fn class(alloc: Global, told: Option<ClassWord>) -> Told {
     match told {
         Some(class) => Ok(format!(in alloc; "{:04X}", class.0)?),
-        None => Ok(String::from_str(alloc, "none")?),
+        None => none(alloc),
     }
 }
 
@@ -22,7 +22,7 @@ pub(crate) fn method(alloc: Global, told: Option<Method>) -> Told {
             },
         ) => Ok(format!(in alloc; "code {package_number}:{offset}")?),
         Some(Method::Native(method)) => Ok(format!(in alloc; "{method:?}")?),
-        None => Ok(String::from_str(alloc, "none")?),
+        None => none(alloc),
     }
 }
 
@@ -66,7 +66,7 @@ pub(crate) fn target(alloc: Global, told: Option<Target>) -> Told {
         Some(Target::StaticMethod { class, method }) => {
             of_class(alloc, String::from_str(alloc, "static")?, class, method)
         }
-        None => Ok(String::from_str(alloc, "none")?),
+        None => none(alloc),
     }
 }
 

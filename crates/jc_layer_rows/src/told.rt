@@ -1,4 +1,5 @@
 //! What rows are answered.
+use jc_cap_fields::fault::CapFault;
 use std::alloc::{AllocError, AllocFailed, Global};
 use std::fmt::Debug;
 
@@ -7,7 +8,7 @@ use std::fmt::Debug;
 pub(crate) enum NoAnswer {
     /// Memory was refused.
     NoMemory,
-    /// The layer has no such command.
+    /// The layer has no such command, or not with these words.
     Unknown,
 }
 
@@ -20,6 +21,12 @@ impl From<AllocError> for NoAnswer {
 impl<T: Drop> From<AllocFailed<T>> for NoAnswer {
     fn from(_refused: AllocFailed<T>) -> Self {
         NoAnswer::NoMemory
+    }
+}
+
+impl From<CapFault> for NoAnswer {
+    fn from(_fault: CapFault) -> Self {
+        NoAnswer::Unknown
     }
 }
 
@@ -36,11 +43,16 @@ pub(crate) fn value<T: Debug + Drop>(alloc: Global, told: T) -> Told {
     Ok(format!(in alloc; "{told:?}")?)
 }
 
+/// That there is none.
+pub(crate) fn none(alloc: Global) -> Told {
+    Ok(String::from_str(alloc, "none")?)
+}
+
 /// The value as Rust writes it, or `none`.
 pub(crate) fn found<T: Debug + Drop>(alloc: Global, told: Option<T>) -> Told {
     match told {
         Some(told) => value(alloc, told),
-        None => Ok(String::from_str(alloc, "none")?),
+        None => none(alloc),
     }
 }
 
