@@ -119,7 +119,7 @@ impl Running {
 
     fn pop(&mut self, alloc: Global) -> Told {
         match self.frames.pop() {
-            Ok(popped) => cell(alloc, Some(popped)),
+            Ok(popped) => written(alloc, popped),
             Err(fault) => after(alloc, Err(fault)),
         }
     }
@@ -139,13 +139,20 @@ fn after(alloc: Global, came: Result<(), CodeFault>) -> Told {
     }
 }
 
-/// A cell, as rows write it.
+/// A cell, as rows write it, or `none`.
 fn cell(alloc: Global, told: Option<Cell>) -> Told {
     match told {
-        Some(Cell::Short(short)) => value(alloc, short),
-        Some(Cell::Reference(name)) => Ok(format!(in alloc; "ref{}", name.address())?),
-        Some(Cell::ReturnAddress(place)) => Ok(format!(in alloc; "ret{place}")?),
+        Some(cell) => written(alloc, cell),
         None => none(alloc),
+    }
+}
+
+/// A cell, as rows write it.
+fn written(alloc: Global, cell: Cell) -> Told {
+    match cell {
+        Cell::Short(short) => value(alloc, short),
+        Cell::Reference(name) => Ok(format!(in alloc; "ref{}", name.address())?),
+        Cell::ReturnAddress(place) => Ok(format!(in alloc; "ret{place}")?),
     }
 }
 

@@ -29,33 +29,35 @@ pub(crate) fn method(alloc: Global, told: Option<Method>) -> Told {
 /// What an entry resolves to, or `none`.
 pub(crate) fn target(alloc: Global, told: Option<Target>) -> Told {
     match told {
-        Some(Target::Class(class)) => Ok(format!(in alloc; "class {:04X}", class.0)?),
-        Some(
-            Target::InstanceField {
-                class,
-                cell,
-                is_reference,
-            },
-        ) => field(alloc, class, cell, is_reference),
-        Some(
-            Target::StaticField {
-                package_number,
-                offset,
-            },
-        ) => Ok(format!(in alloc; "static field {package_number}:{offset}")?),
-        Some(
-            Target::VirtualMethod {
-                class,
-                token,
-                method,
-            },
-        ) => of_class(
+        Some(target) => resolved(alloc, target),
+        None => none(alloc),
+    }
+}
+
+/// What an entry resolves to.
+fn resolved(alloc: Global, target: Target) -> Told {
+    match target {
+        Target::Class(class) => Ok(format!(in alloc; "class {:04X}", class.0)?),
+        Target::InstanceField {
+            class,
+            cell,
+            is_reference,
+        } => field(alloc, class, cell, is_reference),
+        Target::StaticField {
+            package_number,
+            offset,
+        } => Ok(format!(in alloc; "static field {package_number}:{offset}")?),
+        Target::VirtualMethod {
+            class,
+            token,
+            method,
+        } => of_class(
             alloc,
             format!(in alloc; "virtual {token:?}")?,
             Some(class),
             method,
         ),
-        Some(Target::SuperMethod { class, method }) => {
+        Target::SuperMethod { class, method } => {
             of_class(
                 alloc,
                 String::from_str(alloc, "super")?,
@@ -63,10 +65,9 @@ pub(crate) fn target(alloc: Global, told: Option<Target>) -> Told {
                 method,
             )
         }
-        Some(Target::StaticMethod { class, method }) => {
+        Target::StaticMethod { class, method } => {
             of_class(alloc, String::from_str(alloc, "static")?, class, method)
         }
-        None => none(alloc),
     }
 }
 
