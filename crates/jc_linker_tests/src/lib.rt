@@ -1,12 +1,5 @@
-//! Tests of the linker: packages linked against the platform and each other, look-ups, refusals; what the platform's
-//! tokens stand for.
+//! Tests of the linker with memory that is refused. What it answers otherwise stands in row files. It has no code of its own.
 #![tactic(auto)]
 
 #[cfg(test)]
-mod linking;
-#[cfg(test)]
-mod packages;
-#[cfg(test)]
-mod platform;
-#[cfg(test)]
-mod refusals;
+mod memory;
