@@ -1,168 +1,95 @@
-//! Cards with their rows, and what they answer.
-use crate::difference::first_difference;
-use crate::random::random_lines;
-use crate::sessions::run_session;
-use jc_platform::example::EXAMPLE;
-use jc_session::card::formatting::format;
-use jc_words::{FuseStore, MemStore, WordStore};
-use jcard_script::mem_text::MemText;
-use jcard_script::script::run_script;
+//! A card with rows that are run.
+use crate::image::Image;
+use crate::order::{Order, read_order};
+use crate::piece::Piece;
+use crate::words::no_store;
+use jc_row_files::file::Numbered;
+use jc_row_files::line::{Line, read_line};
+use jc_row_files::report::Wrong;
 use std::alloc::{AllocError, Global};
-use std::fmt;
+use std::mem;
 
-/// The most bytes that a card's answers have.
-const ROOM: usize = 1_048_576;
-
-/// A new card of so many words, a script, the answers to its first lines that are wanted, and the number of the line in
-/// the file of each of its lines.
+/// An image, the lines of a script for its card that are not run yet, and how many rows were.
 #[derive(Drop)]
 pub(crate) struct Card {
-    words: u16,
-    script: String,
-    wanted: String,
-    numbers: Vec<usize>,
-}
-
-/// A row that is not answered as it says.
-#[derive(Drop)]
-pub(crate) struct Wrong {
-    number: usize,
-    command: String,
-    wanted: String,
-    printed: String,
-}
-
-impl fmt::Display for Wrong {
-    fn fmt<W: fmt::Write>(&self, f: &mut fmt::Formatter<W>) -> fmt::Result {
-        let number = self.number;
-        let command = self.command.as_str();
-        let wanted = self.wanted.as_str();
-        let printed = self.printed.as_str();
-        write!(f, "line {number}: {command} = {wanted}, but is {printed}")
-    }
+    image: Image,
+    piece: Piece,
+    rows: usize,
 }
 
 impl Card {
-    /// A card without rows.
-    pub(crate) fn new(alloc: Global, words: u16) -> Card {
-        Card {
-            words,
-            script: String::new(alloc),
-            wanted: String::new(alloc),
-            numbers: Vec::new(alloc),
-        }
+    /// A new card of so many words.
+    pub(crate) fn new(alloc: Global, words: u16) -> Result<Card, AllocError> {
+        Ok(Card {
+            image: Image::formatted(alloc, words)?,
+            piece: Piece::new(alloc),
+            rows: 0,
+        })
     }
 
-    /// How many rows it has.
+    /// How many rows were run.
     pub(crate) fn rows(&self) -> usize {
-        self.numbers.len()
+        self.rows
     }
 
-    /// Adds a row of the line with this number.
-    pub(crate) fn add(
+    /// The next line of a file: a row that is not answered as it says, where one is found. A directive without its form is
+    /// a line of a script, which no card answers.
+    pub(crate) fn take_line(
         &mut self,
-        number: usize,
-        command: &str,
-        answer: &str,
-    ) -> Result<(), AllocError> {
-        self.script.push_str(command)?;
-        self.script.push('\n')?;
-        self.wanted.push_str(answer)?;
-        self.wanted.push('\n')?;
-        self.numbers.push(number)?;
-        Ok(())
+        alloc: Global,
+        line: &Numbered,
+    ) -> Result<Option<Wrong>, AllocError> {
+        let Line::Row(command, answer) = read_line(line.text.as_str()) else {
+            return Ok(None);
+        };
+        let order = read_order(command);
+        if let Order::Script = order {
+            self.piece
+                .add(line.number, command, answer.unwrap_or("9000"))?;
+            return Ok(None);
+        }
+        if let Some(wrong) = self.run_piece(alloc)? {
+            return Ok(Some(wrong));
+        }
+        let Some(told) = self.carry_out(alloc, line.number, order)? else {
+            return Ok(None);
+        };
+        self.rows = self.rows.saturating_add(1);
+        let wanted = answer.unwrap_or("ok");
+        if told.as_str() == wanted {
+            return Ok(None);
+        }
+        let wrong = Wrong::new(alloc, line.number, command, wanted, told.as_str())?;
+        Ok(Some(wrong))
     }
 
-    /// Adds so many random commands of the line with this number, for which no answer is wanted but that a script and a
-    /// session answer alike. Rows do not follow them.
-    pub(crate) fn add_random(
+    /// Carries an order out: what came of it, where that is to be told.
+    fn carry_out(
         &mut self,
         alloc: Global,
         number: usize,
-        seed: u32,
-        count: u16,
-    ) -> Result<(), AllocError> {
-        self.script
-            .push_str(random_lines(alloc, seed, count)?.as_str())?;
-        for _ in 0..count {
-            self.numbers.push(number)?;
+        order: Order,
+    ) -> Result<Option<String>, AllocError> {
+        match order {
+            Order::Card(words) => self.image = Image::formatted(alloc, words)?,
+            Order::Zeros(words) => self.image = Image::zeros(alloc, words)?,
+            Order::Random(seed, count) => self.piece.add_random(alloc, number, seed, count)?,
+            Order::Image(order) => return Ok(Some(self.image.answer(alloc, order)?)),
+            Order::Script => {}
         }
-        Ok(())
+        Ok(None)
     }
-}
 
-/// A new card's store.
-fn new_store(alloc: Global, words: u16) -> Result<FuseStore<MemStore>, AllocError> {
-    let (store, _) = format(MemStore::new(alloc, words)?, EXAMPLE.as_bytes());
-    Ok(FuseStore::new(store))
-}
-
-/// Runs a card's rows: the first that is not answered as it says, or not alike by a session of the same commands and
-/// resets.
-pub(crate) fn first_wrong(alloc: Global, card: &Card) -> Result<Option<Wrong>, AllocError> {
-    let mut reader = MemText::new(alloc, card.script.as_bytes(), 0)?;
-    let mut writer = MemText::new(alloc, &[], ROOM)?;
-    let store = new_store(alloc, card.words)?;
-    let (left, _ended) = run_script(alloc, store, &mut reader, &mut writer);
-    let printed = String::from_utf8_lossy(alloc, writer.written())?;
-    let printed = printed.as_str();
-    let told = printed.get(..card.wanted.len()).unwrap_or(printed);
-    match first_difference(told.as_bytes(), card.wanted.as_bytes()) {
-        Some(row) => differs(alloc, card, row, card.wanted.as_str(), printed),
-        None => first_unlike(alloc, card, printed, &left),
-    }
-}
-
-/// Where a session of a card's commands and resets does not answer as a script did or leaves other words; nowhere where
-/// other lines are among them.
-fn first_unlike(
-    alloc: Global,
-    card: &Card,
-    printed: &str,
-    left: &FuseStore<MemStore>,
-) -> Result<Option<Wrong>, AllocError> {
-    let store = new_store(alloc, card.words)?;
-    let (served, told) = run_session(alloc, store, card.script.as_str())?;
-    let Some(told) = told else {
-        return Ok(None);
-    };
-    match first_difference(told.as_bytes(), printed.as_bytes()) {
-        Some(row) => differs(alloc, card, row, printed, told.as_str()),
-        None if has_same_words(left, &served) => Ok(None),
-        None => differs(alloc, card, 0, "the words of a script", "other words"),
-    }
-}
-
-/// A row of a card that is not answered as wanted.
-fn differs(
-    alloc: Global,
-    card: &Card,
-    row: usize,
-    wanted: &str,
-    printed: &str,
-) -> Result<Option<Wrong>, AllocError> {
-    Ok(Some(Wrong {
-        number: card.numbers.get(row).copied().unwrap_or(0),
-        command: line_of(alloc, card.script.as_str(), row)?,
-        wanted: line_of(alloc, wanted, row)?,
-        printed: line_of(alloc, printed, row)?,
-    }))
-}
-
-/// Whether two stores have the same words.
-fn has_same_words(one: &FuseStore<MemStore>, other: &FuseStore<MemStore>) -> bool {
-    if one.size() != other.size() {
-        return false;
-    }
-    for i in 0..one.size() {
-        if one.read(i) != other.read(i) {
-            return false;
+    /// Runs the lines that were not run yet: the first that is not answered as it says.
+    pub(crate) fn run_piece(&mut self, alloc: Global) -> Result<Option<Wrong>, AllocError> {
+        if self.piece.rows() == 0 {
+            return Ok(None);
         }
+        let piece = mem::replace(&mut self.piece, Piece::new(alloc));
+        let store = mem::replace(&mut self.image.store, no_store(alloc));
+        let (store, wrong) = piece.run(alloc, store)?;
+        self.image.store = store;
+        self.rows = self.rows.saturating_add(piece.rows());
+        Ok(wrong)
     }
-    true
-}
-
-/// A line of a text; nothing where it has none with this number.
-fn line_of(alloc: Global, text: &str, row: usize) -> Result<String, AllocError> {
-    String::from_str(alloc, text.lines().nth(row).unwrap_or(""))
 }

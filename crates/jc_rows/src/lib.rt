@@ -3,8 +3,10 @@
 
 mod card;
 pub mod difference;
-mod file;
-mod line;
+mod image;
+mod order;
+mod piece;
 mod random;
 pub mod report;
-mod sessions;
+pub mod sessions;
+mod words;

@@ -1,9 +1,10 @@
 //! What is told of row files.
 ghost use Rattle.std.specs.Prelude.{◌<◌, IfOk};
 
-use crate::card::{Card, Wrong, first_wrong};
-use crate::file::read_cards;
-use std::alloc::{AllocError, Global};
+use crate::card::Card;
+use jc_row_files::file::Numbered;
+use jc_row_files::report::{Outcome, run_files_by};
+use std::alloc::Global;
 use std::io;
 use std::rt::Files;
 
@@ -13,28 +14,20 @@ use std::rt::Files;
 pub fn run_files(rt: &(impl Files + AllocGlobal + Print), names: &[String]) -> io::Result<u8>
     ensures { IfOk result (λ status. status < 2) }
 {
-    let mut is_wrong = false;
-    for name in names {
-        let cards = read_cards(rt, name.as_str())?;
-        match count_rows(rt.alloc(), cards.as_slice())? {
-            Ok(rows) => println!(rt; "{name} {rows}")?,
-            Err(wrong) => {
-                is_wrong = true;
-                println!(rt; "{name} {wrong}")?;
-            }
-        }
-    }
-    if is_wrong { Ok(1) } else { Ok(0) }
+    run_files_by(rt, names, |lines| count_rows(rt.alloc(), lines))
 }
 
-/// How many rows the cards of a file have, or the first that is not answered as it says.
-fn count_rows(alloc: Global, cards: &[Card]) -> Result<Result<usize, Wrong>, AllocError> {
-    let mut rows = 0usize;
-    for card in cards {
-        if let Some(wrong) = first_wrong(alloc, card)? {
+/// How many rows the lines of a file have, or the first that is not answered as it says. A file begins with a card of 8192
+/// words.
+fn count_rows(alloc: Global, lines: &[Numbered]) -> Outcome {
+    let mut card = Card::new(alloc, 8192)?;
+    for line in lines {
+        if let Some(wrong) = card.take_line(alloc, line)? {
             return Ok(Err(wrong));
         }
-        rows = rows.saturating_add(card.rows());
     }
-    Ok(Ok(rows))
+    match card.run_piece(alloc)? {
+        Some(wrong) => Ok(Err(wrong)),
+        None => Ok(Ok(card.rows())),
+    }
 }

@@ -1,12 +1,12 @@
 //! Rows as the events of a session.
 use jc_session::event::{Answer, Event};
-use jc_session::session::session;
+use jc_session::session::{SessionFault, session};
 use jc_words::WordStore;
 use std::alloc::{AllocError, Global};
 
 /// The store and the lines that a session over a store leaves, as a script with these lines would print them; no lines
 /// where one of the script's is neither a command nor a reset, and then the session is not begun.
-pub(crate) fn run_session<S: WordStore + Drop>(
+pub fn run_session<S: WordStore + Drop>(
     alloc: Global,
     store: S,
     script: &str,
@@ -17,6 +17,7 @@ pub(crate) fn run_session<S: WordStore + Drop>(
     let (store, answers) = session(alloc, store, events.as_slice());
     let text = match answers {
         Ok(answers) => text_of(alloc, answers.as_slice())?,
+        Err(SessionFault::PowerFault(fault)) => format!(in alloc; "{fault:?}\n")?,
         Err(fault) => format!(in alloc; "{fault}\n")?,
     };
     Ok((store, Some(text)))

@@ -1,9 +1,7 @@
-//! Tests of sessions: what they answer, and what they leave where memory is refused. It has no code of its own.
+//! Tests of sessions and power ups where memory is refused: what they tell, and what they leave. It has no code of its own.
 #![tactic(auto)]
 
 #[cfg(test)]
-mod loads;
+mod served;
 #[cfg(test)]
-mod rows;
-#[cfg(test)]
-mod sessions;
+mod tests;
