@@ -1,0 +1,174 @@
+//! A heap by itself.
+ghost use Rattle.std.specs.Prelude.{◌≡◌, ◌∷◌, [], false, OnOk};
+ghost use Rattle.jc_heap.specs.Moves.{Begin, Commit, Makes, after_step};
+
+use crate::answer::{Answer, number_or_nothing};
+use crate::state::Store;
+use crate::words::{first_word, kind_of, numbers};
+use jc_heap::{ChangeRefusal, Heap, HeapRefusal, Kind, Place};
+use jc_names::{NO_CLASS, RUNTIME_ENVIRONMENT};
+use jc_transient::Ref;
+use jc_words::{StoreDown, WordStore};
+
+/// Carries out a command to a heap.
+pub(crate) fn act_on_heap(heap: &mut Heap<Store>, command: &str) -> Result<Answer, StoreDown>
+    requires up { heap.old.down ≡ false }
+    ensures up { OnOk result (heap.new.down ≡ false) }
+{
+    let (word, rest) = first_word(command);
+    match word {
+        "make" => make(heap, rest),
+        "begin" => begin(heap, rest),
+        "abort" => abort(heap),
+        "write" => write(heap, rest),
+        "keep" => keep(heap, rest),
+        _ => Ok(ask_heap(heap, command)),
+    }
+}
+
+/// Makes a persistent object of no class that the runtime environment owns.
+fn make(heap: &mut Heap<Store>, rest: &str) -> Result<Answer, StoreDown>
+    requires up { heap.old.down ≡ false }
+    ensures up { OnOk result (heap.new.down ≡ false) }
+{
+    let (kind, length) = first_word(rest);
+    let (Some(kind), Some([length])) = (kind_of(kind), numbers::<1>(length)) else {
+        return Ok(Answer::Told("of what kind and length?"));
+    };
+    match heap.new_persistent(kind, NO_CLASS, RUNTIME_ENVIRONMENT, length) {
+        Ok(object) => Ok(Answer::Number(object.address())),
+        Err(HeapRefusal::StoreDown) => Err(StoreDown),
+        Err(refusal) => Ok(Answer::Refused(refusal)),
+    }
+}
+
+/// Begins a transaction; with `and commit` ends it, too.
+fn begin(heap: &mut Heap<Store>, rest: &str) -> Result<Answer, StoreDown>
+    requires up { heap.old.down ≡ false }
+    ensures up { OnOk result (heap.new.down ≡ false) }
+{
+    if heap.is_open() {
+        return Ok(Answer::Told("one is open"));
+    }
+    if rest == "and commit" {
+        begin_and_commit(heap)?;
+    } else {
+        heap.begin();
+    }
+    Ok(Answer::Done)
+}
+
+/// Two calls, one after the other: their moves are those of both.
+fn begin_and_commit<S: WordStore>(heap: &mut Heap<S>) -> Result<(), StoreDown>
+    requires up { heap.old.down ≡ false }
+    requires outside { heap.old.begun ≡ false }
+    ensures { Makes heap.old (after_step result heap.new) (Begin ∷ Commit ∷ []) tt }
+{
+    heap.begin();
+    heap.commit()
+}
+
+/// Takes the transaction back.
+fn abort(heap: &mut Heap<Store>) -> Result<Answer, StoreDown>
+    requires up { heap.old.down ≡ false }
+    ensures up { OnOk result (heap.new.down ≡ false) }
+{
+    if !heap.is_open() {
+        return Ok(Answer::Told("none is open"));
+    }
+    heap.abort()?;
+    Ok(Answer::Done)
+}
+
+/// Writes a word of the registry, for as long as its transaction stands.
+fn write(heap: &mut Heap<Store>, rest: &str) -> Result<Answer, StoreDown>
+    requires up { heap.old.down ≡ false }
+    ensures up { OnOk result (heap.new.down ≡ false) }
+{
+    let Some([i, v]) = registry_word(rest) else {
+        return Ok(Answer::Told("which word of the registry?"));
+    };
+    if i >= 192 {
+        return Ok(Answer::Told("no such word"));
+    }
+    match heap.write(Place::Registry(i), v) {
+        Ok(()) => Ok(Answer::Done),
+        Err(ChangeRefusal::StoreDown) => Err(StoreDown),
+        Err(ChangeRefusal::CommitFull) => Ok(Answer::Refused(HeapRefusal::CommitFull)),
+    }
+}
+
+/// The index and the value that stand behind the word `registry`.
+fn registry_word(rest: &str) -> Option<[u16; 2]> {
+    numbers::<2>(rest.strip_prefix("registry ")?)
+}
+
+/// Writes a word of the registry, or a cell of a persistent array of shorts, for good.
+fn keep(heap: &mut Heap<Store>, rest: &str) -> Result<Answer, StoreDown>
+    requires up { heap.old.down ≡ false }
+    ensures up { OnOk result (heap.new.down ≡ false) }
+{
+    if let Some([i, v]) = registry_word(rest) {
+        return keep_registry(heap, i, v);
+    }
+    match numbers::<3>(rest) {
+        Some([object, i, v]) => keep_cell(heap, object, i, v),
+        None => Ok(Answer::Told("which word?")),
+    }
+}
+
+fn keep_registry(heap: &mut Heap<Store>, i: u16, v: u16) -> Result<Answer, StoreDown>
+    requires up { heap.old.down ≡ false }
+    ensures up { OnOk result (heap.new.down ≡ false) }
+{
+    if i >= 192 {
+        return Ok(Answer::Told("no such word"));
+    }
+    heap.write_both(Place::Registry(i), v)?;
+    Ok(Answer::Done)
+}
+
+fn keep_cell(heap: &mut Heap<Store>, object: u16, i: u16, v: u16) -> Result<Answer, StoreDown>
+    requires up { heap.old.down ≡ false }
+    ensures up { OnOk result (heap.new.down ≡ false) }
+{
+    if !heap.is_object(object) {
+        return Ok(Answer::Told("no such object"));
+    }
+    let object = Ref::at(object);
+    let facts = heap.facts(object);
+    if facts.event.is_some() || facts.kind != Kind::ShortArray || i >= facts.length {
+        return Ok(Answer::Told("no such cell"));
+    }
+    heap.write_both(Place::Cell(object, i), v)?;
+    Ok(Answer::Done)
+}
+
+/// What a heap answers.
+fn ask_heap(heap: &Heap<Store>, question: &str) -> Answer
+    requires up { heap.now.down ≡ false }
+{
+    let (word, rest) = first_word(question);
+    match (word, numbers::<1>(rest)) {
+        ("room", None) => Answer::Number(heap.room()),
+        ("registry", Some([i])) if i < 192 => Answer::Number(heap.registry(i)),
+        ("cell", None) => number_or_nothing(cell(heap, rest)),
+        _ => Answer::Told("no such question"),
+    }
+}
+
+/// The word of a cell of a persistent object, where there is one.
+fn cell(heap: &Heap<Store>, rest: &str) -> Option<u16>
+    requires up { heap.now.down ≡ false }
+{
+    let [object, i] = numbers::<2>(rest)?;
+    if !heap.is_object(object) {
+        return None;
+    }
+    let object = Ref::at(object);
+    let facts = heap.facts(object);
+    if facts.event.is_some() || i >= facts.length {
+        return None;
+    }
+    Some(heap.get(object, i))
+}

@@ -1,0 +1,59 @@
+//! Words of the registry, and several places as one change.
+ghost use Rattle.std.specs.Prelude.{◌≡◌, false, OnOk};
+
+use crate::action::Three;
+use crate::answer::Answer;
+use crate::state::Store;
+use jc_heap::{ChangeRefusal, HeapRefusal, Kind, Place};
+use jc_memory::Memory;
+use jc_words::StoreDown;
+
+/// How many words the registry has.
+pub(crate) const REGISTRY_WORDS: u16 = 192;
+
+/// Writes a word of the registry.
+pub(crate) fn write_registry(
+    memory: &mut Memory<Store>,
+    i: u16,
+    v: u16,
+) -> Result<Answer, StoreDown>
+    requires up { memory.old.heap.down ≡ false }
+    ensures up { OnOk result (memory.new.heap.down ≡ false) }
+{
+    if i >= REGISTRY_WORDS {
+        return Ok(Answer::Told("no such word"));
+    }
+    match memory.write(Place::Registry(i), v) {
+        Ok(()) => Ok(Answer::Done),
+        Err(ChangeRefusal::StoreDown) => Err(StoreDown),
+        Err(ChangeRefusal::CommitFull) => Ok(Answer::Refused(HeapRefusal::CommitFull)),
+    }
+}
+
+/// Sets two cells of a persistent array of shorts and a word of the registry, as one change.
+pub(crate) fn write_three(memory: &mut Memory<Store>, three: Three) -> Result<Answer, StoreDown>
+    requires up { memory.old.heap.down ≡ false }
+    ensures up { OnOk result (memory.new.heap.down ≡ false) }
+{
+    let array = three.array;
+    let ((i, v), (j, w), (k, x)) = (three.first, three.registry, three.last);
+    let Some(facts) = memory.header(array) else {
+        return Ok(Answer::Told("no such object"));
+    };
+    if facts.event.is_some() || facts.kind != Kind::ShortArray {
+        return Ok(Answer::Told("another kind of object"));
+    }
+    if i >= facts.length || k >= facts.length || i == k || j >= REGISTRY_WORDS {
+        return Ok(Answer::Told("no such places"));
+    }
+    let changes = [
+        (Place::Cell(array, i), v),
+        (Place::Registry(j), w),
+        (Place::Cell(array, k), x),
+    ];
+    match memory.write_all(&changes) {
+        Ok(()) => Ok(Answer::Done),
+        Err(ChangeRefusal::StoreDown) => Err(StoreDown),
+        Err(ChangeRefusal::CommitFull) => Ok(Answer::Refused(HeapRefusal::CommitFull)),
+    }
+}
