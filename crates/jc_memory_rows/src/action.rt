@@ -74,13 +74,24 @@ fn read_change(word: &str, rest: &str) -> Option<Action> {
             let [object] = numbers::<1>(rest)?;
             Some(Action::Raise(Ref::at(object)))
         }
-        "registry" => {
-            let [i, v] = numbers::<2>(rest)?;
-            Some(Action::WriteRegistry(i, v))
-        }
+        "write" => read_write(rest),
         "three" => read_three(rest),
         _ => read_cell(word, rest),
     }
+}
+
+/// A place that is written: a word of the registry, or a cell.
+fn read_write(rest: &str) -> Option<Action> {
+    let (place, rest) = first_word(rest);
+    if place == "registry" {
+        let [i, v] = numbers::<2>(rest)?;
+        return Some(Action::WriteRegistry(i, v));
+    }
+    if place == "cell" {
+        let [array, i, v] = numbers::<3>(rest)?;
+        return Some(Action::WriteCell(Ref::at(array), i, v));
+    }
+    None
 }
 
 /// A change by three numbers.
@@ -88,7 +99,6 @@ fn read_cell(word: &str, rest: &str) -> Option<Action> {
     let [first, i, v] = numbers::<3>(rest)?;
     match word {
         "set" => Some(Action::Set(Ref::at(first), i, v)),
-        "write" => Some(Action::WriteCell(Ref::at(first), i, v)),
         "refer" => Some(Action::Refer(Ref::at(first), i, Ref::at(v))),
         "count" => Some(Action::Count(Ref::at(first), i, v)),
         "static" => Some(Action::WriteStatic(first, i, v)),

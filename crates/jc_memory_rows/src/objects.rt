@@ -1,5 +1,6 @@
 //! New objects, and their cells.
-ghost use Rattle.std.specs.Prelude.{◌≡◌, false, OnOk};
+ghost use Rattle.std.specs.Prelude.{◌≡◌, ◌≤◌, false, IsTrue, OnOk};
+ghost use Rattle.jc_heap.specs.Heap.{IsObject, facts};
 
 use crate::answer::Answer;
 use crate::state::Store;
@@ -8,14 +9,8 @@ use jc_memory::{Memory, NewObject};
 use jc_transient::{CellValue, Ref};
 use jc_words::StoreDown;
 
-/// Where an object is not there.
-const NO_OBJECT: Answer = Answer::Told("no such object");
-
-/// Where it has no cell with this index.
-const NO_CELL: Answer = Answer::Told("no such cell");
-
-/// Where it is of a kind that an action is not for.
-const ANOTHER_KIND: Answer = Answer::Told("another kind of object");
+/// Where no object of such a kind stands there, or has too few cells.
+pub(crate) const NO_CELLS: Answer = Answer::Told("no such cells");
 
 /// Makes an object.
 pub(crate) fn make(memory: &mut Memory<Store>, object: NewObject) -> Result<Answer, StoreDown>
@@ -29,6 +24,19 @@ pub(crate) fn make(memory: &mut Memory<Store>, object: NewObject) -> Result<Answ
     }
 }
 
+/// Whether an object of a kind stands at an address and has so many cells.
+pub(crate) fn has_cells(memory: &Memory<Store>, object: Ref, kind: Kind, count: usize) -> bool
+    requires up { memory.now.heap.down ≡ false }
+    ensures there { IsTrue result → IsObject memory.now.heap.now object }
+    ensures kind { IsTrue result → (facts memory.now.heap.now object).kind ≡ kind }
+    ensures cells { IsTrue result → count ≤ (facts memory.now.heap.now object).length }
+{
+    match memory.header(object) {
+        Some(facts) => facts.kind == kind && count <= usize::from(facts.length),
+        None => false,
+    }
+}
+
 /// Sets a cell of an array of shorts.
 pub(crate) fn set(
     memory: &mut Memory<Store>,
@@ -39,14 +47,8 @@ pub(crate) fn set(
     requires up { memory.old.heap.down ≡ false }
     ensures up { OnOk result (memory.new.heap.down ≡ false) }
 {
-    let Some(facts) = memory.header(array) else {
-        return Ok(NO_OBJECT);
-    };
-    if i >= facts.length {
-        return Ok(NO_CELL);
-    }
-    if facts.kind != Kind::ShortArray {
-        return Ok(ANOTHER_KIND);
+    if !has_cells(memory, array, Kind::ShortArray, usize::from(i) + 1) {
+        return Ok(NO_CELLS);
     }
     match memory.set(array, i, CellValue::Short(v.cast_signed())) {
         Ok(()) => Ok(Answer::Done),
@@ -65,14 +67,11 @@ pub(crate) fn write_cell(
     requires up { memory.old.heap.down ≡ false }
     ensures up { OnOk result (memory.new.heap.down ≡ false) }
 {
-    let Some(facts) = memory.header(array) else {
-        return Ok(NO_OBJECT);
-    };
-    if facts.event.is_some() || i >= facts.length {
-        return Ok(NO_CELL);
+    if !has_cells(memory, array, Kind::ShortArray, usize::from(i) + 1) {
+        return Ok(NO_CELLS);
     }
-    if facts.kind != Kind::ShortArray {
-        return Ok(ANOTHER_KIND);
+    if memory.facts(array).event.is_some() {
+        return Ok(NO_CELLS);
     }
     match memory.write(Place::Cell(array, i), v) {
         Ok(()) => Ok(Answer::Done),
@@ -91,17 +90,11 @@ pub(crate) fn refer(
     requires up { memory.old.heap.down ≡ false }
     ensures up { OnOk result (memory.new.heap.down ≡ false) }
 {
-    let Some(facts) = memory.header(array) else {
-        return Ok(NO_OBJECT);
-    };
-    if i >= facts.length {
-        return Ok(NO_CELL);
-    }
-    if facts.kind != Kind::ReferenceArray {
-        return Ok(ANOTHER_KIND);
+    if !has_cells(memory, array, Kind::ReferenceArray, usize::from(i) + 1) {
+        return Ok(NO_CELLS);
     }
     if memory.header(object).is_none() {
-        return Ok(NO_OBJECT);
+        return Ok(Answer::Told("no such object"));
     }
     match memory.set(array, i, CellValue::Reference(object)) {
         Ok(()) => Ok(Answer::Done),
@@ -119,14 +112,8 @@ pub(crate) fn run(
     requires up { memory.old.heap.down ≡ false }
     ensures up { OnOk result (memory.new.heap.down ≡ false) }
 {
-    let Some(facts) = memory.header(array) else {
-        return Ok(NO_OBJECT);
-    };
-    if words.len() > usize::from(facts.length) {
-        return Ok(NO_CELL);
-    }
-    if facts.kind != Kind::ShortArray {
-        return Ok(ANOTHER_KIND);
+    if !has_cells(memory, array, Kind::ShortArray, words.len()) {
+        return Ok(NO_CELLS);
     }
     match memory.set_run(array, 0, words) {
         Ok(()) => Ok(Answer::Done),
@@ -145,14 +132,11 @@ pub(crate) fn count(
     requires up { memory.old.heap.down ≡ false }
     ensures up { OnOk result (memory.new.heap.down ≡ false) }
 {
-    let Some(facts) = memory.header(object) else {
-        return Ok(NO_OBJECT);
-    };
-    if facts.event.is_some() || i >= facts.length {
-        return Ok(NO_CELL);
+    if !has_cells(memory, object, Kind::Instance, usize::from(i) + 1) {
+        return Ok(NO_CELLS);
     }
-    if facts.kind != Kind::Instance {
-        return Ok(ANOTHER_KIND);
+    if memory.facts(object).event.is_some() {
+        return Ok(NO_CELLS);
     }
     memory.count(object, i, v)?;
     Ok(Answer::Done)

@@ -3,6 +3,7 @@ ghost use Rattle.std.specs.Prelude.{◌≡◌, false, OnOk};
 
 use crate::action::Three;
 use crate::answer::Answer;
+use crate::objects::{NO_CELLS, has_cells};
 use crate::state::Store;
 use jc_heap::{ChangeRefusal, HeapRefusal, Kind, Place};
 use jc_memory::Memory;
@@ -37,13 +38,13 @@ pub(crate) fn write_three(memory: &mut Memory<Store>, three: Three) -> Result<An
 {
     let array = three.array;
     let ((i, v), (j, w), (k, x)) = (three.first, three.registry, three.last);
-    let Some(facts) = memory.header(array) else {
-        return Ok(Answer::Told("no such object"));
-    };
-    if facts.event.is_some() || facts.kind != Kind::ShortArray {
-        return Ok(Answer::Told("another kind of object"));
+    if !has_cells(memory, array, Kind::ShortArray, usize::from(i.max(k)) + 1) {
+        return Ok(NO_CELLS);
     }
-    if i >= facts.length || k >= facts.length || i == k || j >= REGISTRY_WORDS {
+    if memory.facts(array).event.is_some() {
+        return Ok(NO_CELLS);
+    }
+    if i == k || j >= REGISTRY_WORDS {
         return Ok(Answer::Told("no such places"));
     }
     let changes = [

@@ -61,7 +61,7 @@ fn ask_one(memory: &Memory<Store>, word: &str, number: u16) -> Option<Answer>
         "facts" => Some(facts(memory, number)),
         "next" => Some(next(memory, number)),
         "flag" => Some(Answer::Truth(memory.flag(Ref::at(number)))),
-        "word" if number < REGISTRY_WORDS => Some(Answer::Number(heap.registry(number))),
+        "registry" if number < REGISTRY_WORDS => Some(Answer::Number(heap.registry(number))),
         "where" => Some(number_or_nothing(address(package(heap, number)))),
         _ => None,
     }
