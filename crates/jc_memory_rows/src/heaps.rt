@@ -52,9 +52,9 @@ fn begin(heap: &mut Heap<Store>, rest: &str) -> Result<Answer, StoreDown>
     }
     if rest == "and commit" {
         begin_and_commit(heap)?;
-    } else {
-        heap.begin();
+        return Ok(Answer::Done);
     }
+    heap.begin();
     Ok(Answer::Done)
 }
 

@@ -1,5 +1,6 @@
 //! New objects, and their cells.
-ghost use Rattle.std.specs.Prelude.{◌≡◌, ◌≤◌, false, IsTrue, OnOk};
+ghost use Rattle.std.specs.Prelude.{◌≡◌, ◌≤◌, false, OnOk};
+ghost use Rattle.std.specs.Bool.{OnTrue};
 ghost use Rattle.jc_heap.specs.Heap.{IsObject, facts};
 
 use crate::answer::Answer;
@@ -27,9 +28,9 @@ pub(crate) fn make(memory: &mut Memory<Store>, object: NewObject) -> Result<Answ
 /// Whether an object of a kind stands at an address and has so many cells.
 pub(crate) fn has_cells(memory: &Memory<Store>, object: Ref, kind: Kind, count: usize) -> bool
     requires up { memory.now.heap.down ≡ false }
-    ensures there { IsTrue result → IsObject memory.now.heap.now object }
-    ensures kind { IsTrue result → (facts memory.now.heap.now object).kind ≡ kind }
-    ensures cells { IsTrue result → count ≤ (facts memory.now.heap.now object).length }
+    ensures there { OnTrue result (IsObject memory.now.heap.now object) }
+    ensures kind { OnTrue result ((facts memory.now.heap.now object).kind ≡ kind) }
+    ensures cells { OnTrue result (count ≤ (facts memory.now.heap.now object).length) }
 {
     match memory.header(object) {
         Some(facts) => facts.kind == kind && count <= usize::from(facts.length),
