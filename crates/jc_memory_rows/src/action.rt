@@ -1,6 +1,6 @@
 //! What a memory is told to do.
 use crate::lists::read_list;
-use crate::words::{event_of, first_word, kind_of, numbers};
+use crate::words::{event_of, first_word, kind_of, number, numbers, pair, triple};
 use jc_heap::AppletEntry;
 use jc_memory::{AppletNumber, NewObject, Owner};
 use jc_names::{ClassWord, NO_CLASS};
@@ -71,7 +71,7 @@ pub(crate) fn read_action(alloc: Global, command: &str) -> Result<Option<Action>
 fn read_change(word: &str, rest: &str) -> Option<Action> {
     match word {
         "raise" => {
-            let [object] = numbers::<1>(rest)?;
+            let object = number(rest)?;
             Some(Action::Raise(Ref::at(object)))
         }
         "write" => read_write(rest),
@@ -84,11 +84,11 @@ fn read_change(word: &str, rest: &str) -> Option<Action> {
 fn read_write(rest: &str) -> Option<Action> {
     let (place, rest) = first_word(rest);
     if place == "registry" {
-        let [i, v] = numbers::<2>(rest)?;
+        let (i, v) = pair(rest)?;
         return Some(Action::WriteRegistry(i, v));
     }
     if place == "cell" {
-        let [array, i, v] = numbers::<3>(rest)?;
+        let (array, i, v) = triple(rest)?;
         return Some(Action::WriteCell(Ref::at(array), i, v));
     }
     None
@@ -96,7 +96,7 @@ fn read_write(rest: &str) -> Option<Action> {
 
 /// A change by three numbers.
 fn read_cell(word: &str, rest: &str) -> Option<Action> {
-    let [first, i, v] = numbers::<3>(rest)?;
+    let (first, i, v) = triple(rest)?;
     match word {
         "set" => Some(Action::Set(Ref::at(first), i, v)),
         "refer" => Some(Action::Refer(Ref::at(first), i, Ref::at(v))),
@@ -128,7 +128,7 @@ fn read_make(rest: &str) -> Option<Action> {
     let (event, rest) = event_of(rest);
     let (kind, rest) = first_word(rest);
     let kind = kind_of(kind)?;
-    if let Some([length]) = numbers::<1>(rest) {
+    if let Some(length) = number(rest) {
         return Some(Action::Make(NewObject {
             kind,
             event,
@@ -137,7 +137,7 @@ fn read_make(rest: &str) -> Option<Action> {
             length,
         }));
     }
-    let [length, class, applet] = numbers::<3>(rest)?;
+    let (length, class, applet) = triple(rest)?;
     Some(Action::Make(NewObject {
         kind,
         event,

@@ -5,6 +5,52 @@ use jc_transient::ClearEvent;
 use std::alloc::{AllocError, Global};
 use std::fmt;
 
+/// What a command lacks, or what else is told.
+#[derive(Clone, Copy)]
+pub(crate) enum Told {
+    NoCommand,
+    NoWord,
+    NoObject,
+    NoCells,
+    NoPackage,
+    NoStatics,
+    /// All places for packages or applets are taken.
+    NoPlace,
+    TooSmall,
+    TooLong,
+    /// A transaction is open.
+    IsOpen,
+    NoneIsOpen,
+    /// The words are no image.
+    NotOpened,
+    IsHeap,
+    NoHeap,
+    /// The store refused a write.
+    Down,
+}
+
+impl fmt::Display for Told {
+    fn fmt<W: fmt::Write>(&self, f: &mut fmt::Formatter<W>) -> fmt::Result {
+        match *self {
+            Told::NoCommand => write!(f, "no such command"),
+            Told::NoWord => write!(f, "no such word"),
+            Told::NoObject => write!(f, "no such object"),
+            Told::NoCells => write!(f, "no such cells"),
+            Told::NoPackage => write!(f, "no such package"),
+            Told::NoStatics => write!(f, "no static image"),
+            Told::NoPlace => write!(f, "no place"),
+            Told::TooSmall => write!(f, "too small"),
+            Told::TooLong => write!(f, "too long"),
+            Told::IsOpen => write!(f, "one is open"),
+            Told::NoneIsOpen => write!(f, "none is open"),
+            Told::NotOpened => write!(f, "not opened"),
+            Told::IsHeap => write!(f, "a heap"),
+            Told::NoHeap => write!(f, "no heap"),
+            Told::Down => write!(f, "the store is down"),
+        }
+    }
+}
+
 /// The answer to a command.
 #[derive(Clone, Copy)]
 pub(crate) enum Answer {
@@ -23,8 +69,8 @@ pub(crate) enum Answer {
     At(Span),
     /// It was not done.
     Refused(HeapRefusal),
-    /// Something else that is told, as what a command lacks.
-    Told(&'static str),
+    /// Something else that is told.
+    Told(Told),
 }
 
 impl Answer {

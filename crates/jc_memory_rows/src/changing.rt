@@ -2,7 +2,7 @@
 ghost use Rattle.std.specs.Prelude.{◌≡◌, false, OnOk};
 
 use crate::action::Action;
-use crate::answer::Answer;
+use crate::answer::{Answer, Told};
 use crate::objects::{count, make, refer, run, set, write_cell};
 use crate::packages::{add_applet, add_package, write_static};
 use crate::places::{write_registry, write_three};
@@ -43,7 +43,7 @@ fn begin(memory: &mut Memory<Store>) -> Result<Answer, StoreDown>
     ensures up { OnOk result (memory.new.heap.down ≡ false) }
 {
     if memory.heap().is_open() {
-        return Ok(Answer::Told("one is open"));
+        return Ok(Answer::Told(Told::IsOpen));
     }
     memory.begin();
     Ok(Answer::Done)
@@ -55,7 +55,7 @@ fn commit(memory: &mut Memory<Store>) -> Result<Answer, StoreDown>
     ensures up { OnOk result (memory.new.heap.down ≡ false) }
 {
     if !memory.heap().is_open() {
-        return Ok(Answer::Told("none is open"));
+        return Ok(Answer::Told(Told::NoneIsOpen));
     }
     memory.commit()?;
     Ok(Answer::Done)
@@ -67,7 +67,7 @@ fn abort(memory: &mut Memory<Store>) -> Result<Answer, StoreDown>
     ensures up { OnOk result (memory.new.heap.down ≡ false) }
 {
     if !memory.heap().is_open() {
-        return Ok(Answer::Told("none is open"));
+        return Ok(Answer::Told(Told::NoneIsOpen));
     }
     memory.abort()?;
     Ok(Answer::Done)

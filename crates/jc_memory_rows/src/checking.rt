@@ -1,7 +1,7 @@
 //! Whether words are a heap.
 ghost use Rattle.std.specs.Prelude.{◌<◌, ◌^◌, IfOk, vec_len};
 
-use crate::answer::Answer;
+use crate::answer::{Answer, Told};
 use crate::state::Store;
 use jc_image::OpenImage;
 use jc_words::layout::TEXT_START;
@@ -14,14 +14,14 @@ pub(crate) fn check(alloc: Global, store: &Store, pairs: &[u16]) -> Result<Answe
     put_pairs(&mut words, pairs);
     let copy = MemStore::of(words);
     if u32::from(copy.size()) < TEXT_START {
-        return Ok(Answer::Told("too small"));
+        return Ok(Answer::Told(Told::TooSmall));
     }
     let Ok(image) = OpenImage::open(copy) else {
-        return Ok(Answer::Told("not opened"));
+        return Ok(Answer::Told(Told::NotOpened));
     };
     match image.check(&[]) {
-        Ok(_heap) => Ok(Answer::Told("a heap")),
-        Err(_store) => Ok(Answer::Told("no heap")),
+        Ok(_heap) => Ok(Answer::Told(Told::IsHeap)),
+        Err(_store) => Ok(Answer::Told(Told::NoHeap)),
     }
 }
 

@@ -2,9 +2,9 @@
 ghost use Rattle.std.specs.Prelude.{◌≡◌, ◌∷◌, [], false, OnOk};
 ghost use Rattle.jc_heap.specs.Moves.{Begin, Commit, Makes, after_step};
 
-use crate::answer::{Answer, number_or_nothing};
+use crate::answer::{Answer, Told, number_or_nothing};
 use crate::state::Store;
-use crate::words::{first_word, kind_of, numbers};
+use crate::words::{first_word, kind_of, number, pair, triple};
 use jc_heap::{ChangeRefusal, Heap, HeapRefusal, Kind, Place};
 use jc_names::{NO_CLASS, RUNTIME_ENVIRONMENT};
 use jc_transient::Ref;
@@ -32,8 +32,8 @@ fn make(heap: &mut Heap<Store>, rest: &str) -> Result<Answer, StoreDown>
     ensures up { OnOk result (heap.new.down ≡ false) }
 {
     let (kind, length) = first_word(rest);
-    let (Some(kind), Some([length])) = (kind_of(kind), numbers::<1>(length)) else {
-        return Ok(Answer::Told("of what kind and length?"));
+    let (Some(kind), Some(length)) = (kind_of(kind), number(length)) else {
+        return Ok(Answer::Told(Told::NoCommand));
     };
     match heap.new_persistent(kind, NO_CLASS, RUNTIME_ENVIRONMENT, length) {
         Ok(object) => Ok(Answer::Number(object.address())),
@@ -48,7 +48,7 @@ fn begin(heap: &mut Heap<Store>, rest: &str) -> Result<Answer, StoreDown>
     ensures up { OnOk result (heap.new.down ≡ false) }
 {
     if heap.is_open() {
-        return Ok(Answer::Told("one is open"));
+        return Ok(Answer::Told(Told::IsOpen));
     }
     if rest == "and commit" {
         begin_and_commit(heap)?;
@@ -74,7 +74,7 @@ fn abort(heap: &mut Heap<Store>) -> Result<Answer, StoreDown>
     ensures up { OnOk result (heap.new.down ≡ false) }
 {
     if !heap.is_open() {
-        return Ok(Answer::Told("none is open"));
+        return Ok(Answer::Told(Told::NoneIsOpen));
     }
     heap.abort()?;
     Ok(Answer::Done)
@@ -85,11 +85,11 @@ fn write(heap: &mut Heap<Store>, rest: &str) -> Result<Answer, StoreDown>
     requires up { heap.old.down ≡ false }
     ensures up { OnOk result (heap.new.down ≡ false) }
 {
-    let Some([i, v]) = registry_word(rest) else {
-        return Ok(Answer::Told("which word of the registry?"));
+    let Some((i, v)) = registry_word(rest) else {
+        return Ok(Answer::Told(Told::NoCommand));
     };
     if i >= 192 {
-        return Ok(Answer::Told("no such word"));
+        return Ok(Answer::Told(Told::NoWord));
     }
     match heap.write(Place::Registry(i), v) {
         Ok(()) => Ok(Answer::Done),
@@ -99,13 +99,13 @@ fn write(heap: &mut Heap<Store>, rest: &str) -> Result<Answer, StoreDown>
 }
 
 /// The index and the value that stand behind the word `registry`.
-fn registry_word(rest: &str) -> Option<[u16; 2]> {
-    numbers::<2>(rest.strip_prefix("registry ")?)
+fn registry_word(rest: &str) -> Option<(u16, u16)> {
+    pair(rest.strip_prefix("registry ")?)
 }
 
 /// The object, the index and the value that stand behind the word `cell`.
-fn cell_word(rest: &str) -> Option<[u16; 3]> {
-    numbers::<3>(rest.strip_prefix("cell ")?)
+fn cell_word(rest: &str) -> Option<(u16, u16, u16)> {
+    triple(rest.strip_prefix("cell ")?)
 }
 
 /// Writes a word of the registry, or a cell of a persistent array of shorts, for good.
@@ -113,12 +113,12 @@ fn keep(heap: &mut Heap<Store>, rest: &str) -> Result<Answer, StoreDown>
     requires up { heap.old.down ≡ false }
     ensures up { OnOk result (heap.new.down ≡ false) }
 {
-    if let Some([i, v]) = registry_word(rest) {
+    if let Some((i, v)) = registry_word(rest) {
         return keep_registry(heap, i, v);
     }
     match cell_word(rest) {
-        Some([object, i, v]) => keep_cell(heap, object, i, v),
-        None => Ok(Answer::Told("which word?")),
+        Some((object, i, v)) => keep_cell(heap, object, i, v),
+        None => Ok(Answer::Told(Told::NoCommand)),
     }
 }
 
@@ -127,7 +127,7 @@ fn keep_registry(heap: &mut Heap<Store>, i: u16, v: u16) -> Result<Answer, Store
     ensures up { OnOk result (heap.new.down ≡ false) }
 {
     if i >= 192 {
-        return Ok(Answer::Told("no such word"));
+        return Ok(Answer::Told(Told::NoWord));
     }
     heap.write_both(Place::Registry(i), v)?;
     Ok(Answer::Done)
@@ -138,12 +138,12 @@ fn keep_cell(heap: &mut Heap<Store>, object: u16, i: u16, v: u16) -> Result<Answ
     ensures up { OnOk result (heap.new.down ≡ false) }
 {
     if !heap.is_object(object) {
-        return Ok(Answer::Told("no such object"));
+        return Ok(Answer::Told(Told::NoObject));
     }
     let object = Ref::at(object);
     let facts = heap.facts(object);
     if facts.event.is_some() || facts.kind != Kind::ShortArray || i >= facts.length {
-        return Ok(Answer::Told("no such cell"));
+        return Ok(Answer::Told(Told::NoCells));
     }
     heap.write_both(Place::Cell(object, i), v)?;
     Ok(Answer::Done)
@@ -154,11 +154,11 @@ fn ask_heap(heap: &Heap<Store>, question: &str) -> Answer
     requires up { heap.now.down ≡ false }
 {
     let (word, rest) = first_word(question);
-    match (word, numbers::<1>(rest)) {
+    match (word, number(rest)) {
         ("room", None) => Answer::Number(heap.room()),
-        ("registry", Some([i])) if i < 192 => Answer::Number(heap.registry(i)),
+        ("registry", Some(i)) if i < 192 => Answer::Number(heap.registry(i)),
         ("cell", None) => number_or_nothing(cell(heap, rest)),
-        _ => Answer::Told("no such question"),
+        _ => Answer::Told(Told::NoCommand),
     }
 }
 
@@ -166,7 +166,7 @@ fn ask_heap(heap: &Heap<Store>, question: &str) -> Answer
 fn cell(heap: &Heap<Store>, rest: &str) -> Option<u16>
     requires up { heap.now.down ≡ false }
 {
-    let [object, i] = numbers::<2>(rest)?;
+    let (object, i) = pair(rest)?;
     if !heap.is_object(object) {
         return None;
     }

@@ -1,9 +1,9 @@
 //! Images that are made: blank ones, and such as are laid and sealed.
 
-use crate::answer::Answer;
+use crate::answer::{Answer, Told};
 use crate::heaps::act_on_heap;
 use crate::state::{After, Laying, State, answered, unknown};
-use crate::words::{first_word, numbers};
+use crate::words::{first_word, number};
 use jc_image::{first_free, lay, seal};
 use jc_words::layout::TEXT_START;
 use jc_words::{FuseStore, MemStore, WordStore, blank};
@@ -23,7 +23,7 @@ pub(crate) fn command_without(alloc: Global, command: &str) -> After {
 
 /// A store of so many words, each zero.
 fn new_zeros(alloc: Global, rest: &str) -> After {
-    let Some([size]) = numbers::<1>(rest) else {
+    let Some(size) = number(rest) else {
         return unknown(alloc, State::Empty);
     };
     let store = FuseStore::new(MemStore::new(alloc, size)?);
@@ -32,16 +32,16 @@ fn new_zeros(alloc: Global, rest: &str) -> After {
 
 /// The store of a blank image of so many words, whose heap begins where the text of others does.
 fn new_blank(alloc: Global, rest: &str) -> After {
-    let Some([size]) = numbers::<1>(rest) else {
+    let Some(size) = number(rest) else {
         return unknown(alloc, State::Empty);
     };
     if u32::from(size) < TEXT_START {
-        return answered(alloc, State::Empty, Answer::Told("too small"));
+        return answered(alloc, State::Empty, Answer::Told(Told::TooSmall));
     }
     let mut store = MemStore::new(alloc, size)?;
     let answer = match blank(&mut store, TEXT_START as u16) {
         Ok(()) => Answer::Done,
-        Err(_) => Answer::Told("not blank"),
+        Err(_) => Answer::Told(Told::TooSmall),
     };
     answered(alloc, State::Off(FuseStore::new(store)), answer)
 }
@@ -53,19 +53,19 @@ fn new_laid(alloc: Global, rest: &str) -> After {
         return unknown(alloc, State::Empty);
     };
     if text.len() >= 65536 || first_free(text.len() as u16) > u32::from(size) {
-        return answered(alloc, State::Empty, Answer::Told("too small"));
+        return answered(alloc, State::Empty, Answer::Told(Told::TooSmall));
     }
     let store = FuseStore::new(MemStore::new(alloc, size)?);
     match lay(store, text.as_bytes()) {
         Ok(heap) => answered(alloc, State::Laying(Laying { heap }), Answer::Done),
-        Err(store) => answered(alloc, State::Off(store), Answer::Told("the store is down")),
+        Err(store) => answered(alloc, State::Off(store), Answer::Told(Told::Down)),
     }
 }
 
 /// The first word behind a text of so many bytes.
 fn tell_first_free(alloc: Global, rest: &str) -> After {
-    match numbers::<1>(rest) {
-        Some([bytes]) => answered(
+    match number(rest) {
+        Some(bytes) => answered(
             alloc,
             State::Empty,
             Answer::Number(first_free(bytes) as u16),
@@ -80,14 +80,14 @@ pub(crate) fn command_laying(alloc: Global, laying: Laying, command: &str) -> Af
     if command == "seal" && !heap.is_open() {
         return match seal(heap) {
             Ok(store) => answered(alloc, State::Off(store), Answer::Done),
-            Err(store) => answered(alloc, State::Off(store), Answer::Told("the store is down")),
+            Err(store) => answered(alloc, State::Off(store), Answer::Told(Told::Down)),
         };
     }
     match act_on_heap(&mut heap, command) {
         Ok(answer) => answered(alloc, State::Laying(Laying { heap }), answer),
         Err(_) => {
             let store = heap.into_store();
-            answered(alloc, State::Off(store), Answer::Told("the store is down"))
+            answered(alloc, State::Off(store), Answer::Told(Told::Down))
         }
     }
 }

@@ -3,7 +3,7 @@ ghost use Rattle.std.specs.Prelude.{◌≡◌, ◌≤◌, false, OnOk};
 ghost use Rattle.std.specs.Bool.{OnTrue};
 ghost use Rattle.jc_heap.specs.Heap.{IsObject, facts};
 
-use crate::answer::Answer;
+use crate::answer::{Answer, Told};
 use crate::state::Store;
 use jc_heap::{ChangeRefusal, HeapRefusal, Kind, Place};
 use jc_memory::{Memory, NewObject};
@@ -11,7 +11,7 @@ use jc_transient::{CellValue, Ref};
 use jc_words::StoreDown;
 
 /// Where no object of such a kind stands there, or has too few cells.
-pub(crate) const NO_CELLS: Answer = Answer::Told("no such cells");
+pub(crate) const NO_CELLS: Answer = Answer::Told(Told::NoCells);
 
 /// Makes an object.
 pub(crate) fn make(memory: &mut Memory<Store>, object: NewObject) -> Result<Answer, StoreDown>
@@ -95,7 +95,7 @@ pub(crate) fn refer(
         return Ok(NO_CELLS);
     }
     if memory.header(object).is_none() {
-        return Ok(Answer::Told("no such object"));
+        return Ok(Answer::Told(Told::NoObject));
     }
     match memory.set(array, i, CellValue::Reference(object)) {
         Ok(()) => Ok(Answer::Done),

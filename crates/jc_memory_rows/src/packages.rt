@@ -3,7 +3,7 @@ ghost use Rattle.std.specs.Prelude.{◌≡◌, ◌<◌, false, length, OnOk, IfS
 ghost use Rattle.jc_heap.specs.Components.{record_of};
 
 use crate::action::NewPackage;
-use crate::answer::Answer;
+use crate::answer::{Answer, Told};
 use crate::state::Store;
 use jc_heap::{AppletEntry, ChangeRefusal, Component, Heap, HeapRefusal, Kind, Place, StaticArray};
 use jc_memory::Memory;
@@ -27,7 +27,7 @@ pub(crate) fn add_package(
     let values = package.values.as_slice();
     let image = package.image.as_slice();
     if info.len() >= 65536 || values.len() >= 65536 || image.len() >= 65000 {
-        return Ok(Answer::Told("too long"));
+        return Ok(Answer::Told(Told::TooLong));
     }
     add_parts(memory, info, values, image)
 }
@@ -46,7 +46,7 @@ fn add_parts(
     ensures up { OnOk result (memory.new.heap.down ≡ false) }
 {
     if memory.heap().packages() >= MOST_PACKAGES {
-        return Ok(Answer::Told("no place"));
+        return Ok(Answer::Told(Told::NoPlace));
     }
     let components = [Component { tag: TAG, info }];
     let arrays = [StaticArray {
@@ -69,7 +69,7 @@ pub(crate) fn add_applet(
     ensures up { OnOk result (memory.new.heap.down ≡ false) }
 {
     if memory.heap().applets() >= MOST_APPLETS {
-        return Ok(Answer::Told("no place"));
+        return Ok(Answer::Told(Told::NoPlace));
     }
     match memory.add_applet(entry) {
         Ok(number) => Ok(Answer::Number(number)),
@@ -100,13 +100,13 @@ pub(crate) fn write_static(
     ensures up { OnOk result (memory.new.heap.down ≡ false) }
 {
     let Some(at) = package(memory.heap(), number) else {
-        return Ok(Answer::Told("no such package"));
+        return Ok(Answer::Told(Told::NoPackage));
     };
     let Some(begin) = memory.heap().statics(at) else {
-        return Ok(Answer::Told("no static image"));
+        return Ok(Answer::Told(Told::NoStatics));
     };
     if k >= memory.heap().record_length(at) - begin {
-        return Ok(Answer::Told("no such word"));
+        return Ok(Answer::Told(Told::NoWord));
     }
     match memory.write(Place::Static(at, begin + k), v) {
         Ok(()) => Ok(Answer::Done),
@@ -120,7 +120,7 @@ pub(crate) fn component(heap: &Heap<Store>, number: u16, tag: u16) -> Answer
     requires up { heap.now.down ≡ false }
 {
     let Some(at) = package(heap, number) else {
-        return Answer::Told("no such package");
+        return Answer::Told(Told::NoPackage);
     };
     if tag == 0 || tag >= 256 {
         return Answer::Nothing;

@@ -2,7 +2,7 @@
 ghost use Rattle.std.specs.Prelude.{◌≡◌, false, OnOk};
 
 use crate::action::Three;
-use crate::answer::Answer;
+use crate::answer::{Answer, Told};
 use crate::objects::{NO_CELLS, has_cells};
 use crate::state::Store;
 use jc_heap::{ChangeRefusal, HeapRefusal, Kind, Place};
@@ -22,7 +22,7 @@ pub(crate) fn write_registry(
     ensures up { OnOk result (memory.new.heap.down ≡ false) }
 {
     if i >= REGISTRY_WORDS {
-        return Ok(Answer::Told("no such word"));
+        return Ok(Answer::Told(Told::NoWord));
     }
     match memory.write(Place::Registry(i), v) {
         Ok(()) => Ok(Answer::Done),
@@ -45,7 +45,7 @@ pub(crate) fn write_three(memory: &mut Memory<Store>, three: Three) -> Result<An
         return Ok(NO_CELLS);
     }
     if i == k || j >= REGISTRY_WORDS {
-        return Ok(Answer::Told("no such places"));
+        return Ok(Answer::Told(Told::NoWord));
     }
     let changes = [
         (Place::Cell(array, i), v),

@@ -2,7 +2,7 @@
 ghost use Rattle.std.specs.Prelude.{◌≡◌, false, IfOk};
 ghost use Rattle.jc_heap.specs.Whole.{IsWhole};
 
-use crate::answer::Answer;
+use crate::answer::{Answer, Told};
 use crate::state::{After, Running, State, Store, answered, unknown};
 use crate::words::kind_of;
 use jc_heap::{Facts, Heap, Kind};
@@ -38,15 +38,15 @@ fn opened(mut store: Store, first: &[Facts]) -> Result<Heap<Store>, (Store, Answ
 {
     store.power_on();
     if u32::from(store.size()) < TEXT_START {
-        return Err((store, Answer::Told("too small")));
+        return Err((store, Answer::Told(Told::TooSmall)));
     }
     let image = match OpenImage::open(store) {
         Ok(image) => image,
-        Err((_, store)) => return Err((store, Answer::Told("not opened"))),
+        Err((_, store)) => return Err((store, Answer::Told(Told::NotOpened))),
     };
     match image.check(first) {
         Ok(heap) => Ok(heap),
-        Err(store) => Err((store, Answer::Told("no heap"))),
+        Err(store) => Err((store, Answer::Told(Told::NoHeap))),
     }
 }
 

@@ -1,12 +1,12 @@
 //! What a memory is asked.
 ghost use Rattle.std.specs.Prelude.{◌≡◌, false};
 
-use crate::answer::{Answer, number_or_nothing};
+use crate::answer::{Answer, Told, number_or_nothing};
 use crate::lists::{Form, join};
 use crate::packages::{component, info, package, record};
 use crate::places::REGISTRY_WORDS;
 use crate::state::Store;
-use crate::words::{first_word, numbers};
+use crate::words::{first_word, number, pair};
 use jc_heap::Place;
 use jc_memory::Memory;
 use jc_transient::Ref;
@@ -24,10 +24,10 @@ pub(crate) fn ask(
         return Ok(Some(text));
     }
     let (word, rest) = first_word(command);
-    let answer = match (numbers::<0>(rest), numbers::<1>(rest), numbers::<2>(rest)) {
-        (Some(_), _, _) => ask_plain(memory, word),
-        (_, Some([number]), _) => ask_one(memory, word, number),
-        (_, _, Some([first, second])) => ask_two(memory, word, first, second),
+    let answer = match (rest.is_empty(), number(rest), pair(rest)) {
+        (true, _, _) => ask_plain(memory, word),
+        (_, Some(number), _) => ask_one(memory, word, number),
+        (_, _, Some((first, second))) => ask_two(memory, word, first, second),
         _ => None,
     };
     match answer {
@@ -88,7 +88,7 @@ fn next(memory: &Memory<Store>, at: u16) -> Answer
 {
     let heap = memory.heap();
     if at != 0 && !heap.is_object(at) {
-        return Answer::Told("no such object");
+        return Answer::Told(Told::NoObject);
     }
     number_or_nothing(address(heap.next(Ref::at(at))))
 }
@@ -114,7 +114,7 @@ fn short(memory: &Memory<Store>, object: Ref, i: u16) -> Answer
 {
     match memory.header(object) {
         Some(facts) if i < facts.length => Answer::Short(memory.short(object, i)),
-        _ => Answer::Told("no such cell"),
+        _ => Answer::Told(Told::NoCells),
     }
 }
 
@@ -124,7 +124,7 @@ fn reference(memory: &Memory<Store>, object: Ref, i: u16) -> Answer
 {
     match memory.header(object) {
         Some(facts) if i < facts.length => Answer::Number(memory.reference(object, i).address()),
-        _ => Answer::Told("no such cell"),
+        _ => Answer::Told(Told::NoCells),
     }
 }
 
@@ -141,13 +141,13 @@ fn ask_list(
         None => (command, Form::Decimal),
     };
     let (word, rest) = first_word(command);
-    let Some([number]) = numbers::<1>(rest) else {
+    let Some(at) = number(rest) else {
         return Ok(None);
     };
     let words = match word {
-        "cells" => cells(alloc, memory, Ref::at(number))?,
-        "record" => record(alloc, memory.heap(), number)?,
-        "info" => return ask_info(alloc, memory, number),
+        "cells" => cells(alloc, memory, Ref::at(at))?,
+        "record" => record(alloc, memory.heap(), at)?,
+        "info" => return ask_info(alloc, memory, at),
         _ => None,
     };
     match words {

@@ -1,6 +1,6 @@
 //! The memory of a card that runs.
 use crate::action::read_action;
-use crate::answer::Answer;
+use crate::answer::{Answer, Told};
 use crate::changing::act;
 use crate::question::ask;
 use crate::state::{After, Running, State, answered, unknown};
@@ -23,7 +23,7 @@ pub(crate) fn command_running(alloc: Global, running: Running, command: &str) ->
         Ok(answer) => answered(alloc, State::On(Running { memory }), answer),
         Err(_) => {
             let (store, _volatile) = memory.into_store();
-            answered(alloc, State::Off(store), Answer::Told("the store is down"))
+            answered(alloc, State::Off(store), Answer::Told(Told::Down))
         }
     }
 }

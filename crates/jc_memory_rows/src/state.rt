@@ -1,7 +1,7 @@
 //! What is done with an image.
 ghost use Rattle.std.specs.Prelude.{◌≡◌, false};
 
-use crate::answer::Answer;
+use crate::answer::{Answer, Told};
 use jc_heap::Heap;
 use jc_memory::Memory;
 use jc_words::{FuseStore, MemStore};
@@ -47,5 +47,5 @@ pub(crate) fn answered(alloc: Global, state: State, answer: Answer) -> After {
 
 /// A state in which a command has no meaning.
 pub(crate) fn unknown(alloc: Global, state: State) -> After {
-    answered(alloc, state, Answer::Told("no such command"))
+    answered(alloc, state, Answer::Told(Told::NoCommand))
 }

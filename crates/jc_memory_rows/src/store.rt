@@ -1,11 +1,11 @@
 //! A store without power: its words, how many writes it has let through, and a fuse.
-use crate::answer::Answer;
+use crate::answer::{Answer, Told};
 use crate::checking::check;
 use crate::lists::{Form, join, read_list};
 use crate::power::power_up;
 use crate::state::{After, State, Store, answered, unknown};
 use crate::text::command_image;
-use crate::words::{first_word, numbers};
+use crate::words::{first_word, number, pair};
 use jc_words::WordStore;
 use std::alloc::{AllocError, Global};
 
@@ -51,8 +51,8 @@ fn command_store(alloc: Global, mut store: Store, command: &str) -> After {
 
 /// Lets so many writes pass, and no more.
 fn arm(store: &mut Store, rest: &str) -> Answer {
-    let Some([writes]) = numbers::<1>(rest) else {
-        return Answer::Told("how many writes?");
+    let Some(writes) = number(rest) else {
+        return Answer::Told(Told::NoCommand);
     };
     store.arm(u64::from(writes));
     Answer::Done
@@ -62,11 +62,11 @@ fn arm(store: &mut Store, rest: &str) -> Answer {
 fn put(alloc: Global, store: &mut Store, rest: &str) -> Result<Answer, AllocError> {
     let (at, rest) = first_word(rest);
     let Ok(at) = at.parse::<u16>() else {
-        return Ok(Answer::Told("where?"));
+        return Ok(Answer::Told(Told::NoCommand));
     };
     match read_list(alloc, rest)? {
         Some(words) => Ok(put_words(store, at, words.as_slice())),
-        None => Ok(Answer::Told("which words?")),
+        None => Ok(Answer::Told(Told::NoCommand)),
     }
 }
 
@@ -74,10 +74,10 @@ fn put_words(store: &mut Store, at: u16, words: &[u16]) -> Answer {
     let mut at = at;
     for word in words {
         if at >= store.size() {
-            return Answer::Told("no such word");
+            return Answer::Told(Told::NoWord);
         }
         if store.write(at, *word).is_err() {
-            return Answer::Told("the store is down");
+            return Answer::Told(Told::Down);
         }
         at = at.saturating_add(1);
     }
@@ -86,7 +86,7 @@ fn put_words(store: &mut Store, at: u16, words: &[u16]) -> Answer {
 
 /// Tells so many words, from an address on.
 fn tell_words(alloc: Global, store: Store, rest: &str, form: Form) -> After {
-    let Some([at, count]) = numbers::<2>(rest) else {
+    let Some((at, count)) = pair(rest) else {
         return unknown(alloc, State::Off(store));
     };
     let words = words_from(alloc, &store, at, count)?;
@@ -108,6 +108,6 @@ fn words_from(alloc: Global, store: &Store, at: u16, count: u16) -> Result<Vec<u
 fn check_with(alloc: Global, store: &Store, rest: &str) -> Result<Answer, AllocError> {
     match read_list(alloc, rest)? {
         Some(pairs) => check(alloc, store, pairs.as_slice()),
-        None => Ok(Answer::Told("which words?")),
+        None => Ok(Answer::Told(Told::NoCommand)),
     }
 }

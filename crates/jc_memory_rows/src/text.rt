@@ -1,7 +1,7 @@
 //! The table text of an image.
-use crate::answer::Answer;
+use crate::answer::{Answer, Told};
 use crate::state::{After, State, Store, answered};
-use crate::words::numbers;
+use crate::words::number;
 use jc_image::OpenImage;
 use jc_words::WordStore;
 use jc_words::layout::TEXT_START;
@@ -10,14 +10,14 @@ use std::alloc::{AllocError, Global};
 /// Opens an image, answers a question about it, and gives its store back.
 pub(crate) fn command_image(alloc: Global, store: Store, question: &str) -> After {
     if u32::from(store.size()) < TEXT_START {
-        return answered(alloc, State::Off(store), Answer::Told("too small"));
+        return answered(alloc, State::Off(store), Answer::Told(Told::TooSmall));
     }
     match OpenImage::open(store) {
         Ok(image) => {
             let text = ask_image(alloc, &image, question)?;
             Ok((State::Off(image.into_store()), text))
         }
-        Err((_, store)) => answered(alloc, State::Off(store), Answer::Told("not opened")),
+        Err((_, store)) => answered(alloc, State::Off(store), Answer::Told(Told::NotOpened)),
     }
 }
 
@@ -48,10 +48,10 @@ fn text_of(alloc: Global, image: &OpenImage<Store>) -> Result<String, AllocError
 /// The byte of the text that a question `text byte INDEX` asks for.
 fn text_byte(image: &OpenImage<Store>, question: &str) -> Answer {
     let Some(index) = question.strip_prefix("text byte ") else {
-        return Answer::Told("no such question");
+        return Answer::Told(Told::NoCommand);
     };
-    match numbers::<1>(index) {
-        Some([i]) if image.has_text() && i < image.text_length() => {
+    match number(index) {
+        Some(i) if image.has_text() && i < image.text_length() => {
             Answer::Number(u16::from(image.text_byte(i)))
         }
         _ => Answer::Nothing,

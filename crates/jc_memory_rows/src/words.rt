@@ -24,6 +24,24 @@ pub(crate) fn numbers<const N: usize>(text: &str) -> Option<[u16; N]> {
     if count == N { Some(found) } else { None }
 }
 
+/// The number of a text that has one and nothing else.
+pub(crate) fn number(text: &str) -> Option<u16> {
+    let [found] = numbers::<1>(text)?;
+    Some(found)
+}
+
+/// The numbers of a text that has two and nothing else.
+pub(crate) fn pair(text: &str) -> Option<(u16, u16)> {
+    let [first, second] = numbers::<2>(text)?;
+    Some((first, second))
+}
+
+/// The numbers of a text that has three and nothing else.
+pub(crate) fn triple(text: &str) -> Option<(u16, u16, u16)> {
+    let [first, second, third] = numbers::<3>(text)?;
+    Some((first, second, third))
+}
+
 /// The kind that a word names.
 pub(crate) fn kind_of(word: &str) -> Option<Kind> {
     match word {
