@@ -1,5 +1,5 @@
-use Rattle.jc_heap_tests.proofs.OnePackage.{one_component, one_array}
-use Rattle.jc_heap_tests.proofs.heap_calls.add_package.Goals as goal
+use Rattle.jc_memory_rows.proofs.OnePackage.{one_component, one_array}
+use Rattle.jc_memory_rows.proofs.packages.add_parts.Goals as goal
 
 pub add_package-requires-clause-components : goal.add_package-requires-clause-components
 add_package-requires-clause-components c = one_component c.args.info.now c.requires.info
