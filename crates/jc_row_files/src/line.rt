@@ -7,8 +7,9 @@ pub(crate) enum Line<'a> {
     Nothing,
     /// A new subject begins.
     New,
-    /// The lines up to `end` stand once for each number from the first to the last.
-    For(u16, u16),
+    /// The lines up to the `end` of this loop stand once for each number from the first to the last, by the name that they
+    /// call it.
+    For(&'a str, u16, u16),
     /// The end of those.
     End,
     /// A command and its answer.
@@ -38,8 +39,14 @@ fn read_directive(text: &str) -> Option<Line<'_>> {
     if text == "end" {
         return Some(Line::End);
     }
-    let (first, last) = text.strip_prefix("for ")?.split_once(' ')?;
-    Some(Line::For(first.parse::<u16>().ok()?, last.parse::<u16>().ok()?))
+    read_for(text.strip_prefix("for ")?)
+}
+
+/// A loop: its name, `n` where none stands there, and its first and last numbers.
+fn read_for(text: &str) -> Option<Line<'_>> {
+    let (front, last) = text.rsplit_once(' ')?;
+    let (name, first) = front.split_once(' ').unwrap_or(("n", front));
+    Some(Line::For(name, first.parse::<u16>().ok()?, last.parse::<u16>().ok()?))
 }
 
 /// A command and its answer, which is `ok` where none stands behind a ` = `.
