@@ -1,11 +1,7 @@
-//! Tests of stores, files, transactions and memory.
+//! Tests of stores over files of the operating system, and of makers without memory.
 #![tactic(auto)]
 
 #[cfg(test)]
 mod files;
 #[cfg(test)]
-mod journal;
-#[cfg(test)]
-mod memory;
-#[cfg(test)]
-mod stores;
+mod makers;
