@@ -109,7 +109,7 @@ impl fmt::Display for Answer {
 fn write_facts<W: fmt::Write>(f: &mut fmt::Formatter<W>, facts: Facts) -> fmt::Result {
     let kind = kind_word(facts.kind);
     let (length, place) = (facts.length, facts.place);
-    let (class, owner) = (facts.class.0, facts.owner.0);
+    let (class, owner) = (facts.class().0, facts.owner().0);
     match facts.event {
         None => write!(f, "{kind} {length}, class {class}, owner {owner}"),
         Some(ClearEvent::Reset) => {

@@ -72,12 +72,5 @@ fn read_headers(alloc: Global, text: &str) -> Result<Option<Vec<Facts>>, AllocEr
 
 /// The header of a persistent object of no class that the runtime environment owns.
 fn header(kind: Kind, length: u16) -> Facts {
-    Facts {
-        kind,
-        event: None,
-        class: NO_CLASS,
-        owner: RUNTIME_ENVIRONMENT,
-        length,
-        place: 0,
-    }
+    Facts::new(kind, None, NO_CLASS, RUNTIME_ENVIRONMENT, length, 0)
 }
