@@ -59,9 +59,9 @@ if_laid w laid =
 
 same_answer : (v w : List ℕ) → IsLaid v ↔ IsLaid w → is_laid v ≡ is_laid w
 same_answer v w both = elim (cases_Bool (is_laid w)) [
-  | inl yes ↦ if_laid v (both.1 (laid_if w yes)) ∙ sym yes
-  | inr no ↦ elim (cases_Bool (is_laid v)) [
-    | inl yes ↦ absurd (true≢false (sym (if_laid w (both.0 (laid_if v yes))) ∙ no))
+  | inl is ↦ if_laid v (both.1 (laid_if w is)) ∙ sym is
+  | inr isnt ↦ elim (cases_Bool (is_laid v)) [
+    | inl is ↦ absurd (true≢false (sym (if_laid w (both.0 (laid_if v is))) ∙ isnt))
     | inr other ↦ other ∙ sym no
   ]
 ]
