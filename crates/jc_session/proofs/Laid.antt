@@ -62,7 +62,7 @@ same_answer v w both = elim (cases_Bool (is_laid w)) [
   | inl is ↦ if_laid v (both.1 (laid_if w is)) ∙ sym is
   | inr isnt ↦ elim (cases_Bool (is_laid v)) [
     | inl is ↦ absurd (true≢false (sym (if_laid w (both.0 (laid_if v is))) ∙ isnt))
-    | inr other ↦ other ∙ sym no
+    | inr other ↦ other ∙ sym isnt
   ]
 ]
 
