@@ -26,7 +26,10 @@ impl Runs {
 
     /// Adds what is read at the next length.
     fn add(&mut self, alloc: Global, tag: u8, bytes: &[u8]) -> Result<(), AllocError> {
-        let read = tell_whether(alloc, fault_of(tag, bytes))?;
+        let read = match fault_of(tag, bytes) {
+            Some(fault) => tell_fault(alloc, fault)?,
+            None => String::from_str(alloc, "read")?,
+        };
         if read.as_str() != self.last.as_str() {
             let length = self.count;
             self.told
@@ -50,13 +53,6 @@ fn fault_of(tag: u8, bytes: &[u8]) -> Option<CapFault> {
     match read_component(Format::V2_1, tag, bytes) {
         Ok(_) => None,
         Err(fault) => Some(fault),
-    }
-}
-
-fn tell_whether(alloc: Global, fault: Option<CapFault>) -> Result<String, AllocError> {
-    match fault {
-        Some(fault) => tell_fault(alloc, fault),
-        None => String::from_str(alloc, "read"),
     }
 }
 

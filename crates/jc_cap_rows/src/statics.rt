@@ -12,18 +12,13 @@ pub(crate) fn tell_statics(
 ) -> Result<String, AllocError> {
     let image = statics.image_size;
     let references = statics.reference_count;
-    let arrays = tell_arrays(alloc, &statics.arrays)?;
+    let arrays = statics.arrays.count();
+    let size = statics.arrays.values_size();
     let zeros = statics.default_value_count;
     let values = tell_bytes(alloc, statics.non_default_values)?;
     format!(in alloc;
-        "image {image}, references {references}, {arrays}, zeros {zeros}, values {values}"
+        "image {image}, references {references}, arrays {arrays} of {size} bytes, zeros {zeros}, values {values}"
     )
-}
-
-fn tell_arrays(alloc: Global, arrays: &ArrayInits<'_>) -> Result<String, AllocError> {
-    let count = arrays.count();
-    let size = arrays.values_size();
-    format!(in alloc; "arrays {count} of {size} bytes")
 }
 
 /// `array PLACE`: an initialised array, and how many follow it.

@@ -98,7 +98,10 @@ impl fmt::Display for Answer {
             Answer::Truth(false) => write!(f, "no"),
             Answer::Nothing => write!(f, "none"),
             Answer::Header(facts) => write_facts(f, facts),
-            Answer::At(span) => write_span(f, span),
+            Answer::At(span) => {
+                let (at, size) = (span.at, span.size);
+                write!(f, "{size} bytes from word {at} on")
+            }
             Answer::Refused(refusal) => write!(f, "{refusal}"),
             Answer::Told(text) => write!(f, "{text}"),
         }
@@ -125,10 +128,4 @@ fn write_facts<W: fmt::Write>(f: &mut fmt::Formatter<W>, facts: Facts) -> fmt::R
             )
         }
     }
-}
-
-/// Writes where a component's info stands.
-fn write_span<W: fmt::Write>(f: &mut fmt::Formatter<W>, span: Span) -> fmt::Result {
-    let (at, size) = (span.at, span.size);
-    write!(f, "{size} bytes from word {at} on")
 }

@@ -103,11 +103,6 @@ fn registry_word(rest: &str) -> Option<(u16, u16)> {
     pair(rest.strip_prefix("registry ")?)
 }
 
-/// The object, the index and the value that stand behind the word `cell`.
-fn cell_word(rest: &str) -> Option<(u16, u16, u16)> {
-    triple(rest.strip_prefix("cell ")?)
-}
-
 /// Writes a word of the registry, or a cell of a persistent array of shorts, for good.
 fn keep(heap: &mut Heap<Store>, rest: &str) -> Result<Answer, StoreDown>
     requires up { heap.old.down ≡ false }
@@ -116,7 +111,7 @@ fn keep(heap: &mut Heap<Store>, rest: &str) -> Result<Answer, StoreDown>
     if let Some((i, v)) = registry_word(rest) {
         return keep_registry(heap, i, v);
     }
-    match cell_word(rest) {
+    match triple(rest.strip_prefix("cell ").unwrap_or("")) {
         Some((object, i, v)) => keep_cell(heap, object, i, v),
         None => Ok(Answer::Told(Told::NoCommand)),
     }

@@ -16,7 +16,10 @@ pub(crate) fn command_off(alloc: Global, store: Store, command: &str) -> After {
         "on" => power_up(alloc, store, rest),
         "image" => command_image(alloc, store, rest),
         "check" => {
-            let answer = check_with(alloc, &store, rest)?;
+            let answer = match read_list(alloc, rest)? {
+                Some(pairs) => check(alloc, &store, pairs.as_slice())?,
+                None => Answer::Told(Told::NoCommand),
+            };
             answered(alloc, State::Off(store), answer)
         }
         "words" => tell_words(alloc, store, rest, Form::Decimal),
@@ -102,12 +105,4 @@ fn words_from(alloc: Global, store: &Store, at: u16, count: u16) -> Result<Vec<u
         }
     }
     Ok(words)
-}
-
-/// Whether the image is a heap, where these words are others: pairs of an address and a word.
-fn check_with(alloc: Global, store: &Store, rest: &str) -> Result<Answer, AllocError> {
-    match read_list(alloc, rest)? {
-        Some(pairs) => check(alloc, store, pairs.as_slice()),
-        None => Ok(Answer::Told(Told::NoCommand)),
-    }
 }
