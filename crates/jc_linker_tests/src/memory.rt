@@ -1,11 +1,12 @@
-//! Packages that are linked, and one that is not. Each row is answered as it says, or ends the test since memory was refused.
+//! Packages that are linked, and some that are not. Each row is answered as it says, or ends the test since memory was refused.
 use jc_layer_rows::layers::Layers;
 use jc_row_files::subject::Subject;
 use std::test::Fail;
 
 /// A server with an interface and a class, both exported; a client whose class is below the server's; and the client with
-/// an entry that names a class which the server does not export. Each is linked in the order of the lines.
-const ROWS: [(&str, &str); 19] = [
+/// an entry that names a class which the server does not export, with a superclass that it does not export, and with a
+/// newer version of the server and with a package that is not there among its imports.
+const ROWS: [(&str, &str); 26] = [
     ("package F000000003", "ok"),
     (
         "imports 02 0001 07A0000000620101 0001 07A0000000620001",
@@ -30,6 +31,13 @@ const ROWS: [(&str, &str); 19] = [
     ("target_at 2 2", "super of 0200: code 1:32"),
     ("pool 0002 01800100 01800200", "ok"),
     ("link", "Unresolved(1)"),
+    ("pool 0000", "ok"),
+    ("classes 00 8002 01 00 01 02 00 00 00", "ok"),
+    ("link", "Unresolved(65535)"),
+    ("imports 01 0101 05F000000003", "ok"),
+    ("link", "ImportVersion"),
+    ("imports 01 0001 05F000000009", "ok"),
+    ("link", "ImportMissing"),
     ("target_at 3 0", "none"),
 ];
 
