@@ -285,7 +285,7 @@ fn call_specially<S: WordStore>(
     Ok(Chosen { call, header })
 }
 
-#[inline(always)]
+#[inline(never)]
 fn is_native_constructor(method: Method) -> bool
     ensures { result ≡ is_native_constructor method }
 {
@@ -380,7 +380,7 @@ fn virtual_by<S: WordStore>(
 }
 
 // The constructor, the private method or the method of a superclass that an entry names.
-#[inline(always)]
+#[inline(never)]
 fn special_by<S: WordStore>(
     entry: Option<Target>,
     frames: &Frames,
@@ -405,7 +405,7 @@ fn special_by<S: WordStore>(
 }
 
 // The method with a token of the interface that an entry names.
-#[inline(always)]
+#[inline(never)]
 fn interface_by<S: WordStore>(
     entry: Option<Target>,
     arguments: u8,
