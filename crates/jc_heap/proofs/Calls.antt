@@ -69,12 +69,12 @@ has_some_space v size places fits =
     ap (λ b. if b then Some HeapFull else full_at v places) (le-ltb v.size (v.now.top + size) le)
 
 pub has_no_cells : (v : HeapView) (event : ClearEvent) (n : ℕ) → LacksCells v.now event n → no_transient v event n ≡ Some NoTransientSpace
-has_no_cells v event n lacks = ap (λ b. if b then Some NoTransientSpace else no_object v 5 (end_address ∷ area_end_address event ∷ [])) (lt-ltb area_size (area_end v.now event + n) lacks)
+has_no_cells v event n lacks = ap (λ b. if b then Some NoTransientSpace else no_object v transient_size (end_address ∷ area_end_address event ∷ [])) (lt-ltb area_size (area_end v.now event + n) lacks)
 
-pub has_some_cells : (v : HeapView) (event : ClearEvent) (n : ℕ) → (LacksCells v.now event n → ⊥) → no_transient v event n ≡ no_object v 5 (end_address ∷ area_end_address event ∷ [])
+pub has_some_cells : (v : HeapView) (event : ClearEvent) (n : ℕ) → (LacksCells v.now event n → ⊥) → no_transient v event n ≡ no_object v transient_size (end_address ∷ area_end_address event ∷ [])
 has_some_cells v event n fits =
     let le : area_end v.now event + n ≤ area_size = omega (arith, fits) in
-    ap (λ b. if b then Some NoTransientSpace else no_object v 5 (end_address ∷ area_end_address event ∷ [])) (le-ltb area_size (area_end v.now event + n) le)
+    ap (λ b. if b then Some NoTransientSpace else no_object v transient_size (end_address ∷ area_end_address event ∷ [])) (le-ltb area_size (area_end v.now event + n) le)
 
 -- the journal's room for a new object's change
 pub end_room : (j : State) (v : HeapView) (n : ℕ) → heap_view j n ≡ v → has_room_for v (end_address ∷ []) ≡ journal_room j.in_transaction j.touched (top_address ∷ [])

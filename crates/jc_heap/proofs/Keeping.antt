@@ -9,7 +9,7 @@ use Rattle.jc_transient.specs.State.{area_size}
 use Rattle.jc_heap.specs.declared.object.Kind.{Kind}
 use Rattle.jc_heap.specs.declared.object.Kind.TheVariants.{ReferenceArray}
 use Rattle.jc_heap.specs.Table.{at_or, put}
-use Rattle.jc_heap.specs.Object.{Object, Item, AnObject, APackage, facts_of, cells_of, is_object, with_cell, bare, new_transient, event_number}
+use Rattle.jc_heap.specs.Object.{Object, Item, AnObject, APackage, facts_of, cells_of, is_object, with_cell, bare, new_transient, transient_size, event_number}
 use Rattle.jc_heap.specs.Heap.{HeapState, item_at, names, cells, facts, area_end, with_area_end, set_cell, set_cells, add_object, add_transient, LacksCells}
 use Rattle.jc_heap.specs.Components.{words_of, record_of}
 use Rattle.jc_heap.specs.Whole.{lies_in, cells_in, FitsAt, IsFilled, IsReference, HoldsReferences, AreMet, AreRecords, AreDistinct, IsWhole}
@@ -161,8 +161,8 @@ unfolding add_transient
 transient_whole h kind event class owner long none room w =
     let fits : area_end h event + long ≤ area_size = omega (arith, room) in
     whole_of (add_transient h kind event class owner long)
-    (referring-end (add_object h (new_transient kind event class owner long (area_end h event)) 5) event (area_end h event + long)
-    (referring-add h (new_transient kind event class owner long (area_end h event)) 5 none (λ k i lt. absurd (omega arith)) (referring_of h w)))
+    (referring-end (add_object h (new_transient kind event class owner long (area_end h event)) transient_size) event (area_end h event + long)
+    (referring-add h (new_transient kind event class owner long (area_end h event)) transient_size none (λ k i lt. absurd (omega arith)) (referring_of h w)))
     (filled-transient h kind event class owner long fits w.areas)
 
 -- another value of a cell

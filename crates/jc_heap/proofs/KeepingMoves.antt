@@ -91,8 +91,8 @@ end-area h Deselect cells end = end
 end-transient : (h : HeapState) (kind : Kind) (event : ClearEvent) (class owner long : ℕ) → HasEnd h → HasEnd (add_transient h kind event class owner long)
 unfolding add_transient
 end-transient h kind event class owner long end =
-    end-area (add_object h (new_transient kind event class owner long (area_end h event)) 5) event (area_end h event + long)
-    (end-add h (new_transient kind event class owner long (area_end h event)) 5 (omega arith) end)
+    end-area (add_object h (new_transient kind event class owner long (area_end h event)) transient_size) event (area_end h event + long)
+    (end-add h (new_transient kind event class owner long (area_end h event)) transient_size (omega arith) end)
 
 top-run : (h : HeapState) (r i : ℕ) (vs : List ℕ) → (set_cells h r i vs).top ≡ h.top
 top-run h r i [] = refl

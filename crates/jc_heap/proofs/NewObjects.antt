@@ -14,7 +14,7 @@ use Rattle.jc_heap.specs.declared.object.Kind.{Kind}
 use Rattle.jc_heap.specs.declared.object.Kind.TheVariants.{Instance, BooleanArray, ByteArray, ShortArray, ReferenceArray}
 use Rattle.jc_transient.specs.declared.cell.ClearEvent.{ClearEvent}
 use Rattle.jc_transient.specs.declared.cell.ClearEvent.TheVariants.{Reset, Deselect}
-use Rattle.jc_heap.specs.Object.{Object, AnObject, header_word, new_transient, kind_number, object_of, new_object, payload}
+use Rattle.jc_heap.specs.Object.{Object, AnObject, header_word, new_transient, kind_number, transient_size, object_of, new_object, payload}
 use Rattle.jc_heap.specs.Image.{IsLaid}
 use Rattle.jc_heap.specs.Fresh.{IsFree, KeepsBelow, Fills, StopsFresh}
 use Rattle.jc_heap.specs.Heap.{HeapState, HeapView, heap_view, read_image, heap_of, add_object, end_address, changed, IsSound, IsStopped, LacksSpace, SameShape, names, item_at, add_transient, area_end_address, area_end, with_area_end}
@@ -172,8 +172,8 @@ made_object v o size fresh places free = item_at-add_object v.now o size free
 
 transient_there : (h : HeapState) (kind : Kind) (event : ClearEvent) (class owner long : ℕ) → names h h.top ≡ false → item_at (add_transient h kind event class owner long) h.top ≡ AnObject (new_transient kind event class owner long (area_end h event))
 unfolding add_transient item_at
-transient_there h kind Reset class owner long free = item_at-add_object h (new_transient kind Reset class owner long (area_end h Reset)) 5 free
-transient_there h kind Deselect class owner long free = item_at-add_object h (new_transient kind Deselect class owner long (area_end h Deselect)) 5 free
+transient_there h kind Reset class owner long free = item_at-add_object h (new_transient kind Reset class owner long (area_end h Reset)) transient_size free
+transient_there h kind Deselect class owner long free = item_at-add_object h (new_transient kind Deselect class owner long (area_end h Deselect)) transient_size free
 
 -- the same of a new transient object
 pub made_transient : (v w : HeapView) (r fresh : ℕ) (places : List ℕ) (kind : Kind) (event : ClearEvent) (class owner long : ℕ) → r ≡ v.now.top → w ≡ changed v (add_transient v.now kind event class owner long) places fresh → names v.now v.now.top ≡ false →
@@ -196,7 +196,7 @@ object_of-transient ShortArray Deselect class owner long place = refl
 object_of-transient ReferenceArray Reset class owner long place = refl
 object_of-transient ReferenceArray Deselect class owner long place = refl
 
-own-transient : (kind : Kind) (event : ClearEvent) (class owner long place : ℕ) → 3 + payload (header_word kind (Some event)) long + 1 ≡ 5
+own-transient : (kind : Kind) (event : ClearEvent) (class owner long place : ℕ) → 3 + payload (header_word kind (Some event)) long + 1 ≡ transient_size
 own-transient Instance Reset class owner long place = refl
 own-transient Instance Deselect class owner long place = refl
 own-transient BooleanArray Reset class owner long place = refl
@@ -210,22 +210,22 @@ own-transient ReferenceArray Deselect class owner long place = refl
 
 -- a new transient object: the top and its area's end move together
 module _ (j k m : State) (n : ℕ) (kind : Kind) (event : ClearEvent) (class owner long place end : ℕ) (s : IsSound j n) (up : j.down ≡ false) (b : KeepsBelow (get_or j.plain top_address 0) j k)
-    (f : Fills (get_or j.plain top_address 0) (transient_record kind event class owner long place) j k) (at : place ≡ get_or j.plain (area_end_address event) 0) (e : end ≡ get_or j.plain top_address 0 + 5) (fits : end ≤ n)
+    (f : Fills (get_or j.plain top_address 0) (transient_record kind event class owner long place) j k) (at : place ≡ get_or j.plain (area_end_address event) 0) (e : end ≡ get_or j.plain top_address 0 + transient_size) (fits : end ≤ n)
     (c : Changes ((top_address, end) ∷ (area_end_address event, place + long) ∷ []) k m) where
-  own_fits : get_or j.plain top_address 0 + 5 ≤ n
+  own_fits : get_or j.plain top_address 0 + transient_size ≤ n
   own_fits = omega (arith, e, fits)
 
   abbrev first : List ℕ
-  first = set k.plain top_address (get_or j.plain top_address 0 + 5)
+  first = set k.plain top_address (get_or j.plain top_address 0 + transient_size)
 
   laid_first : IsLaid first
   laid_first = laid_now j k n s up b (transient_record kind event class owner long place) f (own-transient kind event class owner long place) own_fits
 
-  heap_first : heap_of first ≡ add_object (heap_of j.plain) (new_transient kind event class owner long place) 5
+  heap_first : heap_of first ≡ add_object (heap_of j.plain) (new_transient kind event class owner long place) transient_size
   heap_first = heap_now j k n s up b (transient_record kind event class owner long place) f (own-transient kind event class owner long place) own_fits
-      ∙ ap (λ o. add_object (heap_of j.plain) o 5) (object_of-transient kind event class owner long place)
+      ∙ ap (λ o. add_object (heap_of j.plain) o transient_size) (object_of-transient kind event class owner long place)
 
-  there : Changes ((top_address, get_or j.plain top_address 0 + 5) ∷ (area_end_address event, place + long) ∷ []) k m
+  there : Changes ((top_address, get_or j.plain top_address 0 + transient_size) ∷ (area_end_address event, place + long) ∷ []) k m
   there = subst (λ t. Changes ((top_address, t) ∷ (area_end_address event, place + long) ∷ []) k m) e c
 
   heap_both : heap_of (set first (area_end_address event) (place + long)) ≡ add_transient (heap_of j.plain) kind event class owner long
@@ -234,7 +234,7 @@ module _ (j k m : State) (n : ℕ) (kind : Kind) (event : ClearEvent) (class own
       let end_is : place ≡ area_end (heap_of j.plain) event = at ∙ sym (area_read j.plain event (s.now up)) in
       with_area_end-heap_of first event (place + long) laid_first
       ∙ ap (λ h. with_area_end h event (place + long)) heap_first
-      ∙ ap (λ p. with_area_end (add_object (heap_of j.plain) (new_transient kind event class owner long p) 5) event (p + long)) end_is
+      ∙ ap (λ p. with_area_end (add_object (heap_of j.plain) (new_transient kind event class owner long p) transient_size) event (p + long)) end_is
 
   shape_both : SameShape (heap_of j.recovered) (add_transient (heap_of j.plain) kind event class owner long)
   shape_both = subst (SameShape (heap_of j.recovered)) (sym (with_area_end-heap_of first event (place + long) laid_first) ∙ heap_both)
@@ -243,14 +243,14 @@ module _ (j k m : State) (n : ℕ) (kind : Kind) (event : ClearEvent) (class own
       (shape_now j k n s up b (transient_record kind event class owner long place) f (own-transient kind event class owner long place) own_fits)))
 
   pub transient_sound : IsSound m n
-  transient_sound = sound_then j k n s up b (transient_record kind event class owner long place) f ((top_address, get_or j.plain top_address 0 + 5) ∷ (area_end_address event, place + long) ∷ [])
+  transient_sound = sound_then j k n s up b (transient_record kind event class owner long place) f ((top_address, get_or j.plain top_address 0 + transient_size) ∷ (area_end_address event, place + long) ∷ [])
       (add_transient (heap_of j.plain) kind event class owner long) m there heap_both (IsLaid-end first event (place + long) laid_first)
       (omega (arith, top-end first event (place + long), top_now j k n s up b (transient_record kind event class owner long place) f (own-transient kind event class owner long place) own_fits)) shape_both
 
-  pub transient_view : (v : HeapView) → heap_view j n ≡ v → heap_view m n ≡ changed v (add_transient v.now kind event class owner long) (end_address ∷ area_end_address event ∷ []) 5
+  pub transient_view : (v : HeapView) → heap_view j n ≡ v → heap_view m n ≡ changed v (add_transient v.now kind event class owner long) (end_address ∷ area_end_address event ∷ []) transient_size
   unfolding end_address
-  transient_view v is = subst (λ u. heap_view m n ≡ changed u (add_transient (u.now) kind event class owner long) (top_address ∷ area_end_address event ∷ []) 5) is
-      (view_then j k n s up b (transient_record kind event class owner long place) f ((top_address, get_or j.plain top_address 0 + 5) ∷ (area_end_address event, place + long) ∷ []) (add_transient (heap_of j.plain) kind event class owner long) m there heap_both)
+  transient_view v is = subst (λ u. heap_view m n ≡ changed u (add_transient (u.now) kind event class owner long) (top_address ∷ area_end_address event ∷ []) transient_size) is
+      (view_then j k n s up b (transient_record kind event class owner long place) f ((top_address, get_or j.plain top_address 0 + transient_size) ∷ (area_end_address event, place + long) ∷ []) (add_transient (heap_of j.plain) kind event class owner long) m there heap_both)
 
 -- fresh words leave the journal's room as it is
 room_kept : (at : ℕ) (j k : State) → KeepsBelow at j k → (places : List ℕ) → journal_room k.in_transaction k.touched places ≡ journal_room j.in_transaction j.touched places

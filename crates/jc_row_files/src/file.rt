@@ -20,13 +20,16 @@ struct Loop {
     lines: Vec<Numbered>,
 }
 
-/// Reads the lines of a file.
+/// Reads the lines of a file. The files that it names stand in the same folder.
 pub(crate) fn read_lines(rt: &(impl Files + AllocGlobal), name: &str) -> io::Result<Vec<Numbered>> {
     let text = fs::read_to_string(rt, name)?;
     let mut lines = Vec::new(rt.alloc());
     for line in unroll(rt.alloc(), text.as_str())? {
         match read_line(line.text.as_str()) {
-            Line::Include(file) => include(rt, line.number, file, &mut lines)?,
+            Line::Include(file) => {
+                let path = beside(rt.alloc(), name, file)?;
+                include(rt, line.number, path.as_str(), &mut lines)?;
+            }
             _ => lines.push(line)?,
         }
     }
@@ -48,6 +51,14 @@ fn include(
         })?;
     }
     Ok(())
+}
+
+/// The path of a file that a file of this path names: both stand in one folder.
+fn beside(alloc: Global, path: &str, name: &str) -> Result<String, AllocError> {
+    match path.split_once('/') {
+        Some((folder, _)) => format!(in alloc; "{folder}/{name}"),
+        None => String::from_str(alloc, name),
+    }
 }
 
 /// The lines of a text, where those between `for` and `end` stand once for each number. In them `{n}`, or the name of the
