@@ -1,31 +1,34 @@
--- Applet: an applet of the package that is being installed is registered, with an AID object that is made for it.
-use Rattle.std.proofs.Common.{◌≡◌, ℕ, ◌<◌, Bool, true, false, inr, List, length, Option, Some, None, Ok, Err, refl, sym, ◌∙◌, ap, subst, if◌then◌else◌}
+-- Applet: an applet of the package that is being installed is registered, with an AID object that is made for it, for whatever is to hold
+-- of each effect.
+use Rattle.std.proofs.Common.{◌≡◌, ℕ, ◌<◌, Bool, true, false, List, Option, Some, None, Ok, Err, refl, sym, ◌∙◌, ap, subst, if◌then◌else◌}
 use Rattle.std.proofs.lemmas.Bool.{ltb-true, true≢false}
 use Rattle.std.proofs.lemmas.Option.{none-some, same_Some}
-use Rattle.std.specs.Prelude.{nat_le, nat_lt, is_some}
+use Rattle.std.specs.Prelude.{nat_lt, is_some}
 use Rattle.jc_words.specs.Layout.{most_applets}
-use Rattle.jc_heap.specs.Heap.{IsObject, names}
-use Rattle.jc_heap.proofs.Laws.{object_named}
-use Rattle.jc_frames.specs.declared.cell.Cell.{Cell}
+use Rattle.jc_heap.specs.declared.object.Kind.TheVariants.{Instance}
+use Rattle.jc_heap.specs.declared.place.AppletEntry.{AppletEntry}
+use Rattle.jc_heap.specs.Moves.{SetPlaces, SetCells, Commit, new_move}
+use Rattle.jc_heap.specs.Places.{applet_changes}
 use Rattle.jc_frames.specs.declared.outcome.Stop.TheVariants.{Throw}
+use Rattle.jc_frames.specs.Reasons.{buffer_full, illegal_aid, in_progress, no_resource}
 use Rattle.jc_memory.specs.declared.registers.Installation.{Installation}
 use Rattle.jc_memory.specs.declared.registers.Installation.TheVariants.{Idle, Open, Registered}
 use Rattle.jc_memory.specs.declared.registers.PackageNumber.{PackageNumber}
-use Rattle.jc_memory.specs.State.{MemoryState}
+use Rattle.jc_memory.specs.declared.registers.Registers.{Registers}
+use Rattle.jc_memory.specs.State.{MemoryState, Effect, Changes, Flags, Turns, IsNew}
 use Rattle.jc_memory.specs.Cells.{header_at}
+use Rattle.jc_memory.specs.Doing.{Gives, Then}
 use Rattle.jc_memory.specs.Reading.{AllDue, Each}
 use Rattle.jc_memory.proofs.Doings.{due_bind, each_more}
 use Rattle.jc_packages.specs.Values.{Packages}
+use Rattle.jc_platform.specs.declared.names.PlatformClass.TheVariants.{Aid}
+use Rattle.jc_platform.specs.Distinct.{class_word}
 use Rattle.jc_registry.specs.Registry.{applet_with_aid}
 use Rattle.jc_world.specs.Contexts.{installed_package}
-use Rattle.jc_world.specs.Objects.{reference_argument, short_argument}
-use Rattle.jc_api_arguments.specs.Arrays.{bytes_argument, bytes_in, elements_of}
-use Rattle.jc_interp.specs.jc_api_aid.specs.AidCells.{is_aid_length, cells_of_aid}
-use Rattle.jc_interp.specs.jc_api_applet.specs.Applet.{given_registered, installed_aid, own_registered, registered_as}
-use Rattle.jc_frames.specs.Reasons.{buffer_full, illegal_aid, in_progress, no_resource}
+use Rattle.jc_interp.specs.jc_api_aid.specs.AidCells.{cells_of_aid}
 use Rattle.jc_interp.specs.jc_api_applet.specs.Register.{aid_made, entered, installing, is_inside, is_owned, may_be_added, next_number, opened, registered, registrable, registrable_in, unless_full}
-use Rattle.jc_isolation.specs.Sparing.{Spares}
-use Rattle.jc_isolation.proofs.Due.{call_ok, call_some, due_if}
+use Rattle.jc_isolation.specs.Sparing.{IsRegistration}
+use Rattle.jc_isolation.proofs.Due.{call_ok}
 use Rattle.jc_isolation.proofs.Reaching.{err_not_ok, same_Ok}
 use Rattle.jc_isolation.proofs.Standing.{applets-add_object, applets-set_cells}
 
@@ -71,46 +74,33 @@ module _ (m : MemoryState) (aid : List ℕ) (instance : ℕ) (k : PackageNumber)
   unfolding registrable
   registrable_is e = registrable_by (installing m) refl e
 
-module _ (p : Packages) (m : MemoryState) (q : ℕ) (there : IsObject m.heap.now q) where
-  new_other : (r : ℕ) → names m.heap.now r ≡ false → r ≡ q → ⊥
-  new_other r free same = true≢false (sym (object_named m.heap.now q there) ∙ (ap (names m.heap.now) (sym same) ∙ free))
+-- the registry and the installation are as they were
+SameHome : MemoryState → ℕ → MemoryState → Type 0
+SameHome m r v = (v.heap.now.counts.1 ≡ m.heap.now.counts.1) × (v.registers ≡ m.registers)
 
-  aid_due : (aid : List ℕ) → AllDue (Spares q) (aid_made p aid m) m
-  unfolding aid_made
-  aid_due aid = λ r new. ((refl, subst (λ t. names m.heap.now t ≡ false) new.chosen new.free), (tt, (new_other r new.free, tt)))
-
-  -- the registry and the installation are as they were
-  SameHome : ℕ → MemoryState → Type 0
-  SameHome r v = (v.heap.now.counts.1 ≡ m.heap.now.counts.1) × (v.registers ≡ m.registers)
-
-  aid_keeps : (aid : List ℕ) → Each (aid_made p aid m) m SameHome
+-- an applet is registered, where registers may be set, a transaction may end, an AID object may be made, and the registry's words be set
+module _ (P : Effect → MemoryState → Type 0) (turns : (g : Registers) (v : MemoryState) → P (Turns g) v) (commits : (v : MemoryState) → P (Changes Commit) v) (p : Packages) (m : MemoryState)
+    (makes : (r : ℕ) (words : List ℕ) → IsNew m.heap.now r → AllDue P (Then (Changes (new_move Instance (class_word p.platform Aid) 0 9)) (Then (Flags r false) (Then (Changes (SetCells r 0 words)) (Gives r)))) m)
+    (enters : (entry : AppletEntry) (v : MemoryState) → IsRegistration (applet_changes v.heap.now entry) v → P (Changes (SetPlaces (applet_changes v.heap.now entry))) v) where
+  aid_keeps : (aid : List ℕ) → Each (aid_made p aid m) m (SameHome m)
   unfolding aid_made SameHome
   aid_keeps aid = λ r new. ((applets-set_cells (cells_of_aid aid) _ r 0).0 ∙ (applets-add_object m.heap.now _ _).0, refl)
 
-  registered_due : (aid : List ℕ) (instance : ℕ) → AllDue (Spares q) (registered aid instance p m) m
+  aid_due : (aid : List ℕ) → AllDue P (aid_made p aid m) m
+  unfolding aid_made
+  aid_due aid = λ r new. makes r (cells_of_aid aid) new
+
+  pub registered_due : (aid : List ℕ) (instance : ℕ) → AllDue P (registered aid instance p m) m
   unfolding registered entered SameHome
-  registered_due aid instance = call_ok (Spares q) m (registrable m aid instance) _ (λ k fine.
+  registered_due aid instance = call_ok P m (registrable m aid instance) _ (λ k fine.
       let may = registrable_is m aid instance k fine in
-      due_bind (Spares q) _ (aid_made p aid m) m (aid_due aid) (each_more SameHome _ (λ r v same. (
-        inr (record {
-          entry = record { aid = r; «package» = k.0; instance = instance };
+      due_bind P _ (aid_made p aid m) m (aid_due aid) (each_more (SameHome m) _ (λ r v same.
+      let entry : AppletEntry = record { aid = r; «package» = k.0; instance = instance } in (
+        enters entry v (record {
+          entry = entry;
           is = refl;
           few = subst (λ n. n < most_applets) (sym same.0) may.few;
           home = may.home ∙ ap (λ x. installed_package x.installation) (sym same.1);
         }),
-        (tt, (tt, tt)),
+        (commits _, (turns _ _, tt)),
       )) (aid_made p aid m) m (aid_keeps aid)))
-
-  as_due : (instance : ℕ) (aid : Option (List ℕ)) → AllDue (Spares q) (registered_as instance p m aid) m
-  as_due instance None = tt
-  as_due instance (Some aid) = due_if (Spares q) m (nat_le (length aid) 16) _ _ (λ on. registered_due aid instance) (λ off. tt)
-
-  pub own_registered_due : (args : List Cell) → AllDue (Spares q) (own_registered args p m) m
-  unfolding own_registered
-  own_registered_due args = call_some (Spares q) m (reference_argument args 0) _ (λ instance is. as_due instance (installed_aid p m.registers.installation))
-
-  pub given_registered_due : (args : List Cell) → AllDue (Spares q) (given_registered args p m) m
-  unfolding given_registered
-  given_registered_due args = call_some (Spares q) m (reference_argument args 0) _ (λ instance is. call_some (Spares q) m (reference_argument args 1) _ (λ array a. call_some (Spares q) m (short_argument args 2) _ (λ start s. call_some (Spares q) m (short_argument args 3) _ (λ count c.
-      call_ok (Spares q) m (bytes_argument m array) _ (λ header h. call_ok (Spares q) m (elements_of p m array header start count) _ (λ e fine.
-      due_if (Spares q) m (is_aid_length e.count) _ _ (λ on. registered_due (bytes_in m e) instance) (λ off. tt)))))))

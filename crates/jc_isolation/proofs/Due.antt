@@ -4,9 +4,9 @@ use Rattle.jc_heap.specs.declared.refusal.HeapRefusal.{HeapRefusal}
 use Rattle.jc_frames.specs.declared.outcome.Stop.{Stop}
 use Rattle.jc_frames.specs.declared.outcome.Stop.TheVariants as stop
 use Rattle.jc_frames.specs.Frames.{Frames, Next}
-use Rattle.jc_memory.specs.State.{MemoryState, Effect}
-use Rattle.jc_memory.specs.Doing.{Doing}
-use Rattle.jc_memory.specs.Reading.{AllDue}
+use Rattle.jc_memory.specs.State.{MemoryState, Effect, effected}
+use Rattle.jc_memory.specs.Doing.{Doing, Gives, Then, Picks, Or}
+use Rattle.jc_memory.specs.Reading.{AllDue, Each}
 use Rattle.jc_world.specs.Groups.{stopped}
 use Rattle.jc_world.specs.Groups as groups
 use Rattle.jc_world.specs.Calls.{Calling}
@@ -43,6 +43,14 @@ module _ (P : Effect → MemoryState → Type 0) (m : MemoryState) where
   call_ok (Ok a) go k = k a refl
   call_ok (Err e) go k = tt
 
-  pub call_unless : (o : Option HeapRefusal) (d : Calling) → AllDue P d m → AllDue P (calls.unless o d) m
-  call_unless None d k = k
+  pub call_unless : (o : Option HeapRefusal) (d : Calling) → (o ≡ None → AllDue P d m) → AllDue P (calls.unless o d) m
+  call_unless None d k = k refl
   call_unless (Some reason) d k = tt
+
+-- what effects that are due keep of a memory is so behind all of them
+module _ (P : Effect → MemoryState → Type 0) (Q : MemoryState → Type 0) (keeps : (e : Effect) (m : MemoryState) → P e m → Q m → Q (effected e m)) where
+  pub kept_each : {A : Type 0} (d : Doing A) (m : MemoryState) → AllDue P d m → Q m → Each d m (λ a v. Q v)
+  kept_each (Gives a) m due so = so
+  kept_each (Then e rest) m due so = kept_each rest (effected e m) due.1 (keeps e m due.0 so)
+  kept_each (Picks choose) m due so = λ r new. kept_each (choose r) m (due r new) so
+  kept_each (Or x y) m due so = (kept_each x m due.0 so, kept_each y m due.1 so)

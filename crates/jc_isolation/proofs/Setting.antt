@@ -47,6 +47,10 @@ new_facts h o event free =
     ap (λ f. f.length) (facts-with_end (add_object h (new_transient o.kind event o.class (owner_number o.owner) o.length (area_end h event)) 5) event (area_end h event + o.length) h.top)
     ∙ ap (λ t. (facts_of t).length) (item_at-add_object h (new_transient o.kind event o.class (owner_number o.owner) o.length (area_end h event)) 5 free)
 
+-- a new object is another one
+pub new_other : (m : MemoryState) (q r : ℕ) → IsObject m.heap.now q → IsNew m.heap.now r → r ≡ q → ⊥
+new_other m q r there new same = true≢false (sym (object_named m.heap.now q there) ∙ (ap (names m.heap.now) (sym same) ∙ new.free))
+
 module _ {A : Type 0} (q : ℕ) (o : NewObject) (rest : ℕ → Doing A) where
   -- what follows is due wherever the new object is another one
   abbrev pub Follows : Type 0
@@ -63,4 +67,4 @@ module _ {A : Type 0} (q : ℕ) (o : NewObject) (rest : ℕ → Doing A) where
 
   -- a new object is made
   pub new_spares : (m : MemoryState) → IsObject m.heap.now q → Follows → AllDue (Spares q) (makes_new o rest) m
-  new_spares m there follows = λ r new. made_in o.event m r new (λ same. true≢false (sym (object_named m.heap.now q there) ∙ (ap (names m.heap.now) (sym same) ∙ new.free))) follows
+  new_spares m there follows = λ r new. made_in o.event m r new (new_other m q r there new) follows

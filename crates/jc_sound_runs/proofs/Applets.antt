@@ -15,7 +15,6 @@ use Rattle.jc_heap.specs.Moves.{Commit, SetCells, SetPlaces, new_move}
 use Rattle.jc_heap.specs.Object.{AnObject, Object, bare, cells_of, facts_of, is_object, new_object, object_size}
 use Rattle.jc_heap.specs.Places.{applet_changes}
 use Rattle.jc_heap.proofs.Laws.{item_at-add_object, item_at-add_other, object_named, same_facts}
-use Rattle.jc_frames.specs.declared.cell.Cell.{Cell}
 use Rattle.jc_frames.specs.declared.outcome.Stop.TheVariants.{Throw}
 use Rattle.jc_memory.specs.declared.registers.Installation.{Installation}
 use Rattle.jc_memory.specs.declared.registers.Installation.TheVariants.{Idle, Open, Registered}
@@ -35,22 +34,21 @@ use Rattle.jc_platform.specs.Hierarchy as platform
 use Rattle.jc_registry.specs.Registry.{applet_with_aid}
 use Rattle.jc_card_checks.specs.Objects.{is_a, is_instance, stands}
 use Rattle.jc_card_checks.specs.Sound.{aid_in, aid_of_entry, entry_word, holds_aid}
-use Rattle.jc_world.specs.Objects.{reference_argument, short_argument}
 use Rattle.jc_api_arguments.specs.declared.arrays.Stretch.{Stretch}
-use Rattle.jc_api_arguments.specs.Arrays.{bytes_argument, bytes_in, elements_of}
+use Rattle.jc_api_arguments.specs.Arrays.{bytes_in}
 use Rattle.jc_isolation.specs.jc_api_aid.specs.AidCells.{cells_of_aid, is_aid_length}
-use Rattle.jc_isolation.specs.jc_api_applet.specs.Applet.{given_registered, installed_aid, own_registered, registered_as}
+use Rattle.jc_isolation.specs.jc_api_applet.specs.Applet.{installed_aid}
 use Rattle.jc_frames.specs.Reasons.{buffer_full, illegal_aid, in_progress, no_resource}
 use Rattle.jc_isolation.specs.jc_api_applet.specs.Register.{aid_made, entered, installing, is_inside, is_owned, may_be_added, next_number, opened, registered, registrable, registrable_in, unless_full, with_installation}
 use Rattle.jc_sound.specs.Classes.{HasAids, KnowsClasses}
 use Rattle.jc_sound.specs.Fit.{FitsNew, FitsObject, FitsRun, FitsTurn, IsFit, KeepsSound, OfRegistry, RegistersApplet}
 use Rattle.jc_sound.specs.State.{IsSoundMemory, IsSteady, is_home, is_open, is_owner_up_to}
-use Rattle.jc_isolation.proofs.Due.{call_ok, call_some, due_if}
+use Rattle.jc_isolation.proofs.Arguments.{length_bytes}
+use Rattle.jc_isolation.proofs.Due.{call_ok}
 use Rattle.jc_isolation.proofs.Reaching.{err_not_ok, header_is, same_Ok}
 use Rattle.jc_isolation.proofs.Standing.{applets-add_object, applets-set_cells}
 use Rattle.jc_sound_runs.proofs.Below.{aid_no_pin}
 use Rattle.jc_sound_runs.proofs.Cells.{aid_put, all_set, bare-set_cells, item-set_cells, nine}
-use Rattle.jc_sound_runs.proofs.NativeArrays.{length_bytes}
 use Rattle.jc_sound_runs.proofs.Pins.{bare_object}
 use Rattle.jc_sound_runs.proofs.Registry.{unlike}
 
@@ -317,45 +315,30 @@ module _ (keeps : KeepsSound) (p : Packages) (m : MemoryState) (known : KnowsCla
       all_fit : IsFit p (Changes (SetPlaces (applet_changes third.heap.now entry))) third × (IsFit p (Changes Commit) fourth × FitsTurn fifth (with_installation fourth (Registered k)))
       all_fit = (OfRegistry registers_fit, (λ on. one_more, turn_registered))
 
-  registered_due : (aid : List ℕ) (instance : ℕ) → is_aid_length (length aid) ≡ true → ((i : ℕ) → i < length aid → slice_index aid i < 256) → is_instance (facts m.heap.now instance).kind ≡ true → is_a p (facts m.heap.now instance).class Applet ≡ true → AllDue (IsFit p) (registered aid instance p m) m
+  pub registered_due : (aid : List ℕ) (instance : ℕ) → is_aid_length (length aid) ≡ true → ((i : ℕ) → i < length aid → slice_index aid i < 256) → is_instance (facts m.heap.now instance).kind ≡ true → is_a p (facts m.heap.now instance).class Applet ≡ true → AllDue (IsFit p) (registered aid instance p m) m
   unfolding registered aid_made entered
   registered_due aid instance long bytes is class = call_ok (IsFit p) m (registrable m aid instance) _ (λ k fine. λ r new.
       let may = registrable_is m aid instance k fine in
       let rest = all_fit r new aid instance k may long bytes is class in
       (record { kind = Instance; class = aid_class; owner = 0; long = 9; is = refl; fits = made_fits }, (tt, (cells_fit r new aid long, (rest.0, ((rest.1).0, ((rest.1).1, tt)))))))
 
-  module _ (aids : HasAids p) (args : List Cell) (is : (r : ℕ) → reference_argument args 0 ≡ Some r → is_instance (facts m.heap.now r).kind ≡ true) (class : (r : ℕ) → reference_argument args 0 ≡ Some r → is_a p (facts m.heap.now r).class Applet ≡ true) where
-    -- the AID of an entry
-    named_by : (number entry : ℕ) (aid : List ℕ) → option_map (λ a. a.aid) (applet_entry p number entry) ≡ Some aid → (is_aid_length (length aid) ≡ true) × ((i : ℕ) → i < length aid → slice_index aid i < 256)
-    named_by number entry aid e = found (applet_entry p number entry) refl e
-      where
-        found : (o : _) → applet_entry p number entry ≡ o → option_map (λ a. a.aid) o ≡ Some aid → (is_aid_length (length aid) ≡ true) × ((i : ℕ) → i < length aid → slice_index aid i < 256)
-        found None is e = absurd (none-some aid e)
-        found (Some a) is e = subst (λ x. (is_aid_length (length x) ≡ true) × ((i : ℕ) → i < length x → slice_index x i < 256)) (same_Some a.aid aid e) (aids.long number entry a is, λ i lt. aids.bytes number entry i a is lt)
+-- the AID of an entry, and one whose bytes are those of an array
+module _ (p : Packages) (aids : HasAids p) where
+  -- an AID, of bytes
+  abbrev pub IsAid : List ℕ → Type 0
+  IsAid aid = (is_aid_length (length aid) ≡ true) × ((i : ℕ) → i < length aid → slice_index aid i < 256)
 
-    entry_named : (i : Installation) (aid : List ℕ) → installed_aid p i ≡ Some aid → (is_aid_length (length aid) ≡ true) × ((i : ℕ) → i < length aid → slice_index aid i < 256)
-    entry_named Idle aid e = absurd (none-some aid e)
-    entry_named (Open home entry) aid e = named_by home.0 entry aid e
-    entry_named (Registered home) aid e = absurd (none-some aid e)
+  found : (number k : ℕ) (o : _) → applet_entry p number k ≡ o → (aid : List ℕ) → option_map (λ a. a.aid) o ≡ Some aid → IsAid aid
+  found number k None is aid e = absurd (none-some aid e)
+  found number k (Some a) is aid e = subst IsAid (same_Some a.aid aid e) (aids.long number k a is, λ i lt. aids.bytes number k i a is lt)
 
-    as_due : (instance : ℕ) → reference_argument args 0 ≡ Some instance → (aid : Option (List ℕ)) → installed_aid p m.registers.installation ≡ aid → AllDue (IsFit p) (registered_as instance p m aid) m
-    as_due instance own None there = tt
-    as_due instance own (Some aid) there =
-        let named = entry_named m.registers.installation aid there in
-        due_if (IsFit p) m (nat_le (length aid) 16) _ _ (λ on. registered_due aid instance named.0 named.1 (is instance own) (class instance own)) (λ off. tt)
+  pub entry_named : (i : Installation) (aid : List ℕ) → installed_aid p i ≡ Some aid → IsAid aid
+  entry_named Idle aid e = absurd (none-some aid e)
+  entry_named (Open home k) aid e = found home.0 k (applet_entry p home.0 k) refl aid e
+  entry_named (Registered home) aid e = absurd (none-some aid e)
 
-    pub own_registered_due : AllDue (IsFit p) (own_registered args p m) m
-    unfolding own_registered
-    own_registered_due = call_some (IsFit p) m (reference_argument args 0) _ (λ instance own. as_due instance own (installed_aid p m.registers.installation) refl)
-
-    bytes_small : (e : Stretch) (i : ℕ) → i < length (bytes_in m e) → slice_index (bytes_in m e) i < 256
-    bytes_small e i lt =
-        let long = length_bytes m e in
-        let same : slice_index (bytes_in m e) i ≡ byte_at m e.array (e.start + i) = get_or-map-range_with_len (byte_at m e.array) e.start e.count i (e.start + i) 0 (omega (arith, lt, long)) refl in
-        omega (arith, same)
-
-    pub given_registered_due : AllDue (IsFit p) (given_registered args p m) m
-    unfolding given_registered
-    given_registered_due = call_some (IsFit p) m (reference_argument args 0) _ (λ instance own. call_some (IsFit p) m (reference_argument args 1) _ (λ array a. call_some (IsFit p) m (short_argument args 2) _ (λ start s. call_some (IsFit p) m (short_argument args 3) _ (λ count c.
-        call_ok (IsFit p) m (bytes_argument m array) _ (λ header h. call_ok (IsFit p) m (elements_of p m array header start count) _ (λ e fine.
-        due_if (IsFit p) m (is_aid_length e.count) _ _ (λ on. registered_due (bytes_in m e) instance (ap is_aid_length (length_bytes m e) ∙ on) (bytes_small e) (is instance own) (class instance own)) (λ off. tt)))))))
+pub bytes_small : (m : MemoryState) (e : Stretch) (i : ℕ) → i < length (bytes_in m e) → slice_index (bytes_in m e) i < 256
+bytes_small m e i lt =
+    let long = length_bytes m e in
+    let same : slice_index (bytes_in m e) i ≡ byte_at m e.array (e.start + i) = get_or-map-range_with_len (byte_at m e.array) e.start e.count i (e.start + i) 0 (omega (arith, lt, long)) refl in
+    omega (arith, same)

@@ -5,7 +5,7 @@ use Rattle.std.specs.Prelude.{◌==◌}
 use Rattle.jc_memory.specs.State.{MemoryState}
 use Rattle.jc_memory.specs.Reading.{AllDue}
 use Rattle.jc_packages.specs.Values.{Packages}
-use Rattle.jc_opcodes.specs.declared.instr.Instr.TheVariants.{Nop, Push, Access, Arrange, Compute, Jump, Leave, Reach, Index, Operate, Call}
+use Rattle.jc_opcodes.specs.declared.instr.Instr.TheVariants.{Leave, Reach, Index, Operate, Call}
 use Rattle.jc_opcodes.specs.declared.instr.Object.{Object}
 use Rattle.jc_opcodes.specs.declared.instr.Object.TheVariants.{New, Throw, CheckCast, InstanceOf}
 use Rattle.jc_frames.specs.Frames.{Frames}
@@ -28,14 +28,9 @@ operated_due (InstanceOf type) place p s m known methods machine home = objects_
 
 pub instructions_are_fit : InstructionsFit
 unfolding executed
-instructions_are_fit Nop code place p s m known methods machine no_call plain = tt
-instructions_are_fit (Push constant) code place p s m known methods machine no_call plain = tt
-instructions_are_fit (Access local) code place p s m known methods machine no_call plain = tt
-instructions_are_fit (Arrange stack) code place p s m known methods machine no_call plain = tt
-instructions_are_fit (Compute arithmetic) code place p s m known methods machine no_call plain = tt
-instructions_are_fit (Jump branch) code place p s m known methods machine no_call plain = tt
 instructions_are_fit (Leave how) code place p s m known methods machine no_call plain = leaves_are_fit.returns how p s m methods machine.sound machine.callers
 instructions_are_fit (Reach field) code place p s m known methods machine no_call plain = fields_are_fit field p s m known machine.sound
 instructions_are_fit (Index operation) code place p s m known methods machine no_call plain = arrays_are_fit operation p s m known machine.sound machine.steady
 instructions_are_fit (Operate operation) code place p s m known methods machine no_call plain = operated_due operation place p s m known methods machine (not-true (s.current.origin.package_number == 0) plain)
 instructions_are_fit (Call method) code place p s m known methods machine no_call plain = absurd (true≢false no_call)
+instructions_are_fit _ code place p s m known methods machine no_call plain = tt

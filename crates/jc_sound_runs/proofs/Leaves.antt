@@ -3,7 +3,6 @@ use Rattle.std.proofs.Common.{◌≡◌, ℕ, true, List, [], ◌∷◌, Option,
 use Rattle.std.specs.Prelude.{ℤ, slice_index}
 use Rattle.jc_transient.specs.declared.cell.CellValue.TheVariants.{Short}
 use Rattle.jc_memory.specs.State.{MemoryState, Fills, Turns, effected}
-use Rattle.jc_memory.specs.Doing.{Doing}
 use Rattle.jc_memory.specs.Cells.{header_at}
 use Rattle.jc_memory.specs.Reading.{AllDue}
 use Rattle.jc_packages.specs.Values.{Packages}
@@ -12,22 +11,19 @@ use Rattle.jc_platform.specs.Distinct.{class_word}
 use Rattle.jc_firewall.specs.declared.access.Access.TheVariants.{Throw}
 use Rattle.jc_opcodes.specs.declared.instr.Return.{Return}
 use Rattle.jc_frames.specs.declared.cell.Cell.{Cell}
-use Rattle.jc_frames.specs.declared.method.CallKind.{CallKind}
-use Rattle.jc_frames.specs.declared.method.CallKind.TheVariants.{Plain, Sharing}
 use Rattle.jc_frames.specs.declared.method.Resume.{Resume}
 use Rattle.jc_frames.specs.declared.outcome.Exception.{Exception}
 use Rattle.jc_frames.specs.Calls.{left_to}
 use Rattle.jc_frames.specs.Cells.{reference_on}
-use Rattle.jc_frames.specs.Frames.{Caller, Frames, Next, with_stack}
+use Rattle.jc_frames.specs.Frames.{Caller, Frames, with_stack}
 use Rattle.jc_world.specs.Contexts.{allowed}
 use Rattle.jc_world.specs.Objects.{if_so, is_instance_of, object_at}
 use Rattle.jc_isolation.specs.jc_interp_plain.specs.Returns.{handed}
-use Rattle.jc_isolation.specs.jc_interp_calls.specs.declared.catch.Catch.{Catch}
-use Rattle.jc_isolation.specs.jc_interp_calls.specs.declared.catch.Catch.TheVariants.{Here, Above, Faulty}
 use Rattle.jc_isolation.specs.jc_interp_calls.specs.Catching.{caught_in}
 use Rattle.jc_isolation.specs.jc_interp_calls.specs.Returning.{back_to, come_back, returning}
-use Rattle.jc_isolation.specs.jc_interp_calls.specs.Throwing.{carries, if_caught, if_passed, number_of, passed_on, reason_of, thrown, throwing, unwinding, unwound, with_reason}
+use Rattle.jc_isolation.specs.jc_interp_calls.specs.Throwing.{carries, number_of, passed_on, reason_of, thrown, throwing, unwinding, unwound, with_reason}
 use Rattle.jc_isolation.proofs.Due.{due_if, due_ok, due_some}
+use Rattle.jc_isolation.proofs.Walk.{caught_due, passed_in}
 use Rattle.jc_sound.specs.Fit.{FitsTurn, IsFit}
 use Rattle.jc_sound.specs.State.{IsSoundMemory, is_owner_up_to, most_owner}
 use Rattle.jc_sound.proofs.Effects.{keeps_sound}
@@ -48,15 +44,6 @@ module _ (p : Packages) (methods : KnowsMethods p) where
   unfolding returning
   returning_due how s m sound known = due_some (IsFit p) m (handed how s.current.stack) _ (λ value there. come_back_due value s.callers m sound known)
 
-  caught_due : (m : MemoryState) (c : Catch) (go : ℕ → Doing (Next Frames)) (above : Doing (Next Frames)) → ((t : ℕ) → AllDue (IsFit p) (go t) m) → AllDue (IsFit p) above m → AllDue (IsFit p) (if_caught c go above) m
-  caught_due m (Here target) go above on off = on target
-  caught_due m Above go above on off = off
-  caught_due m Faulty go above on off = tt
-
-  passed_in : (m : MemoryState) (kind : CallKind) (s : Frames) (more : Doing (Next Frames)) → AllDue (IsFit p) more m → AllDue (IsFit p) (if_passed kind s more) m
-  passed_in m Plain s more due = due
-  passed_in m Sharing s more due = tt
-
   -- an owner that is known stays so as the registers turn back
   still_known : (resume : Resume) (callers : List Caller) (m : MemoryState) → KnowOwners callers m → KnowOwners callers (effected (Turns (back_to resume m.registers)) m)
   still_known resume [] m known = tt
@@ -67,13 +54,13 @@ module _ (p : Packages) (methods : KnowsMethods p) where
   passed_due class r (c ∷ callers) m sound known =
       let fits : FitsTurn m (back_to c.resume m.registers) = back_fits c.resume m sound known.0 in (
         fits,
-        passed_in _ c.resume.call _ _ (caught_due _ (caught_in p class c.frame.origin c.resume.place) _ _ (λ target. tt)
+        passed_in (IsFit p) _ c.resume.call _ _ (caught_due (IsFit p) _ (caught_in p class c.frame.origin c.resume.place) _ _ (λ target. tt)
             (passed_due class r callers _ (keeps_sound p (Turns (back_to c.resume m.registers)) m fits sound) (still_known c.resume callers m known.2))),
       )
 
   unwound_due : (class r place : ℕ) (s : Frames) (m : MemoryState) → IsSoundMemory p m → KnowOwners s.callers m → AllDue (IsFit p) (unwound p class r place s m) m
   unfolding unwound
-  unwound_due class r place s m sound known = caught_due m (caught_in p class s.current.origin place) _ _ (λ target. tt) (passed_due class r s.callers m sound known)
+  unwound_due class r place s m sound known = caught_due (IsFit p) m (caught_in p class s.current.origin place) _ _ (λ target. tt) (passed_due class r s.callers m sound known)
 
   unwinding_due : (r place : ℕ) (s : Frames) (m : MemoryState) → IsSoundMemory p m → KnowOwners s.callers m → AllDue (IsFit p) (unwinding r place p s m) m
   unfolding unwinding

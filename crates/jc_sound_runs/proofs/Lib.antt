@@ -5,7 +5,6 @@ pub mod Statics
 pub mod Arrays
 pub mod Making
 pub mod Below
-pub mod NativeArguments
 pub mod Turning
 pub mod Small
 pub mod NativeArrays

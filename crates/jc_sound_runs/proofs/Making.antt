@@ -1,18 +1,12 @@
 -- Making and testing objects.
 use Rattle.std.proofs.Common.{◌≡◌, ℕ, ◌<◌, Bool, true, false, Option, Some, None, Ok, Err, refl, sym, subst, if◌then◌else◌}
 use Rattle.std.proofs.lemmas.Bool.{and_from, eq-eqb, ltb-true, not-true, not_from_false}
-use Rattle.std.proofs.lemmas.Option.{cond_some, none-some, option_and_then_some}
+use Rattle.std.proofs.lemmas.Option.{cond_some, option_and_then_some}
 use Rattle.std.specs.Prelude.{◌^◌, ◌||◌, nat_lt, not, is_some}
 use Rattle.jc_heap.specs.declared.object.Kind.TheVariants.{Instance}
-use Rattle.jc_opcodes.specs.declared.instr.TestedType.{TestedType}
-use Rattle.jc_frames.specs.declared.outcome.Exception.TheVariants.{ClassCastException}
 use Rattle.jc_frames.specs.declared.outcome.Stop.{Stop}
-use Rattle.jc_frames.specs.declared.outcome.Stop.TheVariants.{Throw}
-use Rattle.jc_frames.specs.Cells.{reference_on}
-use Rattle.jc_frames.specs.Frames.{Frames, has_room}
 use Rattle.jc_memory.specs.Owners.{owner_number}
 use Rattle.jc_memory.specs.State.{MemoryState}
-use Rattle.jc_memory.specs.Reading.{AllDue}
 use Rattle.jc_platform.specs.declared.names.PlatformClass.{PlatformClass}
 use Rattle.jc_platform.specs.declared.names.PlatformClass.TheVariants as classes
 use Rattle.jc_platform.specs.Hierarchy.{is_instantiable, is_interface}
@@ -22,12 +16,12 @@ use Rattle.jc_packages.specs.Resolves.{interface_by, names_interface}
 use Rattle.jc_packages.specs.Values.{ClassValue, Packages}
 use Rattle.jc_card_checks.specs.Objects.{fits_class}
 use Rattle.jc_interp_values.specs.Types.{class_named}
-use Rattle.jc_isolation.specs.jc_interp_objects.specs.Casts.{checked, examined, own_type, tested}
-use Rattle.jc_isolation.specs.jc_interp_objects.specs.Making.{cells_for, if_made, if_room, instance_made, made_class}
+use Rattle.jc_isolation.specs.jc_interp_objects.specs.Making.{if_made, made_class}
 use Rattle.jc_sound.specs.Fit.{IsFit}
 use Rattle.jc_sound.specs.Classes.{KnowsClasses}
 use Rattle.jc_sound.specs.State.{IsSoundMemory, IsSteady}
-use Rattle.jc_isolation.proofs.Due.{due_if, due_ok, due_some, due_stopped}
+use Rattle.jc_isolation.proofs.Instructions.{checked_due, examined_due, made_due}
+use Rattle.jc_isolation.proofs.Passing.{InstancesPass}
 use Rattle.jc_isolation.proofs.Reaching.{err_not_ok, same_Ok}
 use Rattle.jc_sound_runs.specs.Groups.{ObjectsFit}
 use Rattle.jc_sound_runs.proofs.Arrays.{new_due}
@@ -53,10 +47,6 @@ class_made : (p : Packages) (number index class : ℕ) → made_class p number i
 unfolding made_class
 class_made p number index class e = option_and_then_some (if_made p) (class_named p number index) class e (λ c named made. let so = cond_some (is_made p c) c class made in subst (λ x. is_made p x ≡ true) so.1 so.0)
 
-room_for : (b : Bool) (o : Option ℕ) (class : ℕ) → (if b then o else None) ≡ Some class → o ≡ Some class
-room_for true o class e = e
-room_for false o class e = absurd (none-some class e)
-
 cells_in : (size n : ℕ) (b : Bool) → nat_lt size (2 ^ 16) ≡ b → (stop : Stop) → (if b then Ok size else Err stop) ≡ Ok n → (size ≡ n) × (size < 65536)
 cells_in size n true few stop e = (same_Ok size n e, ltb-true size 65536 few)
 cells_in size n false few stop e = absurd (err_not_ok e)
@@ -65,21 +55,15 @@ module _ (p : Packages) (m : MemoryState) (known : KnowsClasses p) (sound : IsSo
   fits_made : (class n : ℕ) → is_made p class ≡ true → size_of p class ≡ n → fits_class p Instance class n ≡ true
   fits_made class n made size = let is = made_is p class made in and_from (is_class p class) _ is.0 (and_from (not (names_interface p class)) _ (not_from_false (names_interface p class) is.1) (eq-eqb n (size_of p class) (sym size)))
 
-  made_due : (index : ℕ) (s : Frames) → (owner_number m.registers.active ≡ 0 → ⊥) → AllDue (IsFit p) (instance_made index p s m) m
-  unfolding instance_made
-  made_due index s other = due_some (IsFit p) m (if_room s (made_class p s.current.origin.package_number index)) _ (λ class is. due_ok (IsFit p) m s (cells_for (size_of p class)) _ (λ n few.
-      let made = class_made p s.current.origin.package_number index class (room_for (has_room s.current) (made_class p s.current.origin.package_number index) class is) in
+  instances_pass : (owner_number m.registers.active ≡ 0 → ⊥) → InstancesPass (IsFit p) p m
+  instances_pass other number index class n s is few =
+      let made = class_made p number index class is in
       let size = cells_in (size_of p class) n (nat_lt (size_of p class) 65536) refl _ few in
-      new_due p m _ s refl (record { there = fits_made class n made size.0; known = active_known p m sound steady; small = λ instance. subst (λ x. x < 65536) size.0 size.1; environments = λ instance zero. absurd (other zero) })))
-
-checked_due : (type : TestedType) (p : Packages) (s : Frames) (m : MemoryState) → AllDue (IsFit p) (checked type p s m) m
-unfolding checked
-checked_due type p s m = due_some (IsFit p) m (reference_on s.current.stack) _ (λ top taken. due_some (IsFit p) m (own_type type p s) _ (λ t named. due_ok (IsFit p) m s (tested true t p m top.0) _ (λ passes is.
-    due_if (IsFit p) m passes _ _ (λ on. tt) (λ off. due_stopped (IsFit p) m s (Throw ClassCastException)))))
-
-examined_due : (type : TestedType) (p : Packages) (s : Frames) (m : MemoryState) → AllDue (IsFit p) (examined type p s m) m
-unfolding examined
-examined_due type p s m = due_some (IsFit p) m (reference_on s.current.stack) _ (λ top taken. due_some (IsFit p) m (own_type type p s) _ (λ t named. due_ok (IsFit p) m s (tested false t p m top.0) _ (λ answer is. tt)))
+      new_due p m _ s refl (record { there = fits_made class n made size.0; known = active_known p m sound steady; small = λ instance. subst (λ x. x < 65536) size.0 size.1; environments = λ instance zero. absurd (other zero) })
 
 pub objects_are_fit : ObjectsFit
-objects_are_fit = record { made = λ index p s m known sound steady other. made_due p m known sound steady index s other; checked = checked_due; examined = examined_due }
+objects_are_fit = record {
+  made = λ index p s m known sound steady other. made_due (IsFit p) p m (instances_pass p m known sound steady other) index s;
+  checked = λ type p s m. checked_due (IsFit p) p m type s;
+  examined = λ type p s m. examined_due (IsFit p) p m type s;
+}

@@ -8,7 +8,7 @@ use Rattle.jc_platform.specs.declared.names.PlatformMethod.TheVariants.{AppletRe
 use Rattle.jc_platform.specs.Distinct.{class_of, kind_of_method}
 use Rattle.jc_platform.specs.Names.{methods}
 use Rattle.jc_platform.specs.Signatures.{is_constructor}
-use Rattle.jc_isolation.proofs.Calls.{virtual_not_static}
+use Rattle.jc_isolation.proofs.Steps.{virtual_not_static}
 use Rattle.jc_isolation.specs.Natives.{sets_receiver}
 use Rattle.jc_sound_runs.specs.Natives.{minds_receiver}
 

@@ -1,22 +1,19 @@
 -- What the runtime environment does with an applet leaves a memory sound.
-use Rattle.std.proofs.Common.{◌≡◌, ℕ, ◌+◌, ◌<◌, ◌≤◌, ◌-◌, ◌==◌, ◌⊎◌, ◌&&◌, ◌||◌, nat_lt, nat_le, Bool, true, false, inl, inr, List, [], ◌∷◌, length, Option, Some, None, refl, sym, ◌∙◌, ap, subst, arith, if◌then◌else◌}
+use Rattle.std.proofs.Common.{◌≡◌, ℕ, ◌-◌, ◌⊎◌, ◌&&◌, Bool, true, false, inl, inr, List, [], Option, Some, None, refl, sym, ap, subst, if◌then◌else◌}
 use Rattle.std.specs.Prelude.{is_some}
-use Rattle.std.proofs.lemmas.Bool.{and_parts, both_ways, false≢true, le-leb, leb-true, ltb-true, or_left, or_right}
-use Rattle.std.proofs.lemmas.Option.{cond_some, none-some, option_and_then_some}
+use Rattle.std.proofs.lemmas.Bool.{and_parts, both_ways, false≢true}
+use Rattle.std.proofs.lemmas.Option.{cond_some, option_and_then_some}
 use Rattle.jc_transient.specs.declared.cell.ClearEvent.{ClearEvent}
 use Rattle.jc_heap.specs.declared.object.Facts.{Facts}
-use Rattle.jc_heap.specs.Heap.{HeapState, facts}
+use Rattle.jc_heap.specs.Heap.{facts}
 use Rattle.jc_heap.specs.Moves.{Abort}
 use Rattle.jc_frames.specs.declared.cell.Cell.{Cell}
 use Rattle.jc_frames.specs.declared.method.Origin.{Origin}
-use Rattle.jc_frames.specs.declared.outcome.Outcome.{Outcome}
 use Rattle.jc_frames.specs.Frames.{Frames}
-use Rattle.jc_memory.specs.declared.registers.AppletNumber.{AppletNumber}
-use Rattle.jc_memory.specs.declared.registers.Depth.TheVariants.{Outside}
 use Rattle.jc_memory.specs.declared.registers.Owner.{Owner}
-use Rattle.jc_memory.specs.declared.registers.Owner.TheVariants.{Applet, Runtime}
+use Rattle.jc_memory.specs.declared.registers.Owner.TheVariants.{Runtime}
 use Rattle.jc_memory.specs.Owners.{owner_number}
-use Rattle.jc_memory.specs.State.{MemoryState, Effect, Changes, Fills, Turns, Buries, effected}
+use Rattle.jc_memory.specs.State.{MemoryState, Effect, Changes, Turns, Buries, effected}
 use Rattle.jc_memory.specs.Doing.{Doing, Gives, Then, bind}
 use Rattle.jc_memory.specs.Cells.{header_at, sets_run, sets_run_in}
 use Rattle.jc_memory.specs.Reading.{AllDue, Each}
@@ -29,13 +26,11 @@ use Rattle.jc_platform.specs.declared.names.PlatformMethod.{PlatformMethod}
 use Rattle.jc_isolation.specs.jc_interp_calls.specs.Entering.{begun, begun_by, first_frames}
 use Rattle.jc_isolation.specs.jc_interp.specs.Running.{running}
 use Rattle.jc_dispatch.specs.Buffer.{apdu_buffer, filled, fills_in, is_buffer, is_of_bytes, padded}
-use Rattle.jc_dispatch.specs.Phases.{after, called, closed, closing, method_named, resting, run_for, run_from, run_method, running_for}
+use Rattle.jc_dispatch.specs.Phases.{after, called, closed, closing, method_named, resting, run_for, run_from, run_method, running_for, released}
 use Rattle.jc_isolation.proofs.Reaching.{header_is}
 use Rattle.jc_sound.specs.Environment.{HasEnvironment}
 use Rattle.jc_sound.specs.Fit.{FitsTurn, IsFit}
-use Rattle.jc_sound.specs.State.{IsSoundMemory, IsSteady, is_applet, is_open, is_owner_up_to, most_owner}
-use Rattle.jc_sound.proofs.Effects.{keeps_sound}
-use Rattle.jc_sound.proofs.Environment.{keeps_environment}
+use Rattle.jc_sound.specs.State.{IsSoundMemory, IsSteady, is_open, is_owner_up_to, most_owner}
 use Rattle.jc_sound_runs.specs.Machines.{IsSoundMachine, KnowOwners}
 use Rattle.jc_sound_runs.specs.Soundness.{AreKnown, RunsAreSound}
 use Rattle.jc_sound_runs.specs.Commands.{IsServed}
@@ -155,13 +150,13 @@ pub record IsClosed (p : Packages) (m n : MemoryState) : Type 0 where
   pub active : n.registers.active ≡ m.registers.active
 
 module _ (p : Packages) where
-  outside : (m : MemoryState) → IsSoundMemory p m → FitsTurn m (record m.registers { depth = Outside })
-  outside m s = same_fits p m s (record m.registers { depth = Outside }) refl refl refl
+  outside : (m : MemoryState) → IsSoundMemory p m → FitsTurn m (released m.registers)
+  outside m s = same_fits p m s (released m.registers) refl refl refl
 
   closing_good : (b : Bool) (m : MemoryState) → m.heap.begun ≡ b → IsSoundMemory p m → HasEnvironment p m →
-      Good p (closing b (λ v. after (Turns (record v.registers { depth = Outside })) v (λ w. Gives (tt {0}))) m) m (λ u n. IsClosed p m n)
-  closing_good false m is s h = good_then p _ (Turns (record m.registers { depth = Outside })) _ m (inl (outside m s)) (good_gives p _ _ _ (record {
-    behind = behind_one p m (Turns (record m.registers { depth = Outside })) (outside m s) s h;
+      Good p (closing b (λ v. after (Turns (released v.registers)) v (λ w. Gives (tt {0}))) m) m (λ u n. IsClosed p m n)
+  closing_good false m is s h = good_then p _ (Turns (released m.registers)) _ m (inl (outside m s)) (good_gives p _ _ _ (record {
+    behind = behind_one p m (Turns (released m.registers)) (outside m s) s h;
     closed = is;
     active = refl;
   }))
@@ -170,8 +165,8 @@ module _ (p : Packages) where
       let first = behind_one p m (Changes Abort) tt s h in
       let second = behind_both p m v (effected Buries v) first (behind_one p v Buries tt first.sound first.environment) in
       let w = effected Buries v in
-      good_then p _ (Changes Abort) _ m tt (good_then p _ Buries _ v tt (good_then p _ (Turns (record w.registers { depth = Outside })) _ w (inl (outside w second.sound)) (good_gives p _ _ _ (record {
-        behind = behind_both p m w _ second (behind_one p w (Turns (record w.registers { depth = Outside })) (outside w second.sound) second.sound second.environment);
+      good_then p _ (Changes Abort) _ m tt (good_then p _ Buries _ v tt (good_then p _ (Turns (released w.registers)) _ w (inl (outside w second.sound)) (good_gives p _ _ _ (record {
+        behind = behind_both p m w _ second (behind_one p w (Turns (released w.registers)) (outside w second.sound) second.sound second.environment);
         closed = refl;
         active = refl;
       }))))

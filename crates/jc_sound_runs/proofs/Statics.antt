@@ -12,7 +12,7 @@ use Rattle.jc_heap.specs.Places.{places_of}
 use Rattle.jc_heap.specs.Statics.{statics_of}
 use Rattle.jc_opcodes.specs.declared.instr.ValueType.{ValueType}
 use Rattle.jc_opcodes.specs.declared.instr.ValueType.TheVariants as types
-use Rattle.jc_frames.specs.Frames.{Frames, with_stack}
+use Rattle.jc_frames.specs.Frames.{Frames}
 use Rattle.jc_memory.specs.State.{MemoryState}
 use Rattle.jc_memory.specs.Reading.{AllDue}
 use Rattle.jc_memory.specs.Cells.{word_of}
@@ -21,20 +21,20 @@ use Rattle.jc_packages.specs.declared.target.Target.TheVariants as targets
 use Rattle.jc_packages.specs.Lookups.{statics_at, target_at}
 use Rattle.jc_packages.specs.Values.{Packages}
 use Rattle.jc_card_checks.specs.Objects.{is_reference}
-use Rattle.jc_interp_values.specs.Values.{keepable, value_on}
+use Rattle.jc_interp_values.specs.Values.{keepable}
 use Rattle.jc_isolation.specs.jc_interp_fields.specs.declared.images.ImageWord.{ImageWord}
 use Rattle.jc_isolation.specs.jc_interp_fields.specs.declared.named.FieldOfImage.{FieldOfImage}
 use Rattle.jc_isolation.specs.jc_interp_fields.specs.Images.{if_named, image_word, next_word, place_of, record_at, word_behind, word_in}
 use Rattle.jc_isolation.specs.jc_interp_fields.specs.Named.{has_field, static_named, static_of}
-use Rattle.jc_isolation.specs.jc_interp_fields.specs.Statics.{got_static, halves, if_room, own_static, pair_set, put_static, set_in, static_set, static_value, word_set, words_set}
+use Rattle.jc_isolation.specs.jc_interp_fields.specs.Statics.{halves, pair_set, set_in, static_set, word_set, words_set}
 use Rattle.jc_sound.specs.Fit.{FitsStatic, IsFit, OfStatics}
 use Rattle.jc_sound.specs.State.{IsSoundMemory}
-use Rattle.jc_isolation.proofs.Due.{due_if, due_ok, due_some, due_unless}
-use Rattle.jc_sound_runs.proofs.Values.{HasType, has_type, keepable_is}
+use Rattle.jc_isolation.proofs.Due.{due_if, due_some, due_unless}
+use Rattle.jc_sound_runs.proofs.Values.{HasType, keepable_is}
 
 -- an entry names a static field, and the image has it
 module _ (p : Packages) (of_type : ValueType) (field : FieldOfImage) where
-  abbrev HasStatic : Type 0
+  abbrev pub HasStatic : Type 0
   HasStatic = has_field of_type (statics_at p field.package_number).0 (statics_at p field.package_number).1 field.offset ≡ true
 
   static_in : (o : Option Target) → option_and_then (static_of of_type p) o ≡ Some field → HasStatic
@@ -44,7 +44,7 @@ module _ (p : Packages) (of_type : ValueType) (field : FieldOfImage) where
       subst (λ f. has_field of_type (statics_at p f.package_number).0 (statics_at p f.package_number).1 f.offset ≡ true) so.1 so.0
   static_in (Some t) e = absurd (none-some field e)
 
-  static_is : (number index : ℕ) → static_named of_type p number index ≡ Some field → HasStatic
+  pub static_is : (number index : ℕ) → static_named of_type p number index ≡ Some field → HasStatic
   unfolding static_named
   static_is number index e = static_in (target_at p number index) e
 
@@ -146,16 +146,7 @@ module _ (p : Packages) (m : MemoryState) (sound : IsSoundMemory p m) where
       let le = leb-true (2 * (statics_at p field.package_number).1) field.offset parts.0 in
       pair_due types.Short field.package_number (field.offset / 2) field.offset (word_of v) w s is (inr (omega (arith, le)))
 
-  static_due : (of_type : ValueType) (field : FieldOfImage) (value v : CellValue) (s : Frames) → HasStatic p of_type field → HasType of_type value → keepable p m value ≡ Ok v → AllDue (IsFit p) (static_set of_type field (word_of v) s m) m
+  pub static_due : (of_type : ValueType) (field : FieldOfImage) (value v : CellValue) (s : Frames) → HasStatic p of_type field → HasType of_type value → keepable p m value ≡ Ok v → AllDue (IsFit p) (static_set of_type field (word_of v) s m) m
   unfolding static_set
   static_due of_type field value v s has of kept = due_some (IsFit p) m (image_word m.heap.now field.package_number (field.offset / 2)) _ (λ w there.
       static_in_due of_type field value v w s has of kept (word_is m.heap.now field.package_number (field.offset / 2) w there))
-
-  pub put_static_due : (of_type : ValueType) (index : ℕ) (s : Frames) → AllDue (IsFit p) (put_static of_type index p s m) m
-  unfolding put_static
-  put_static_due of_type index s = due_some (IsFit p) m (value_on of_type s.current.stack) _ (λ v taken. due_some (IsFit p) m (own_static of_type index p s) _ (λ field named.
-      due_ok (IsFit p) m s (keepable p m v.0) _ (λ value kept. static_due of_type field v.0 value (with_stack s v.1) (static_is p of_type field s.current.origin.package_number index named) (has_type of_type s.current.stack v taken) kept)))
-
-  pub got_static_due : (of_type : ValueType) (index : ℕ) (s : Frames) → AllDue (IsFit p) (got_static of_type index p s m) m
-  unfolding got_static
-  got_static_due of_type index s = due_some (IsFit p) m (own_static of_type index p s) _ (λ field named. due_some (IsFit p) m (if_room s (static_value of_type m.heap.now field)) _ (λ value there. tt))

@@ -62,17 +62,8 @@ module _ (g : Given) (p : Packages) (known : AreKnown p) where
 
     executed_due : (i : Instr) (code : List ℕ) (place : ℕ) → (is_plain i ≡ false → s.current.origin.package_number == 0 ≡ false) → AllDue (IsFit p) (executed i code place p s m) m
     unfolding executed
-    executed_due Nop code place home = alone_due Nop code place home refl
-    executed_due (Push constant) code place home = alone_due (Push constant) code place home refl
-    executed_due (Access local) code place home = alone_due (Access local) code place home refl
-    executed_due (Arrange stack) code place home = alone_due (Arrange stack) code place home refl
-    executed_due (Compute arithmetic) code place home = alone_due (Compute arithmetic) code place home refl
-    executed_due (Jump branch) code place home = alone_due (Jump branch) code place home refl
-    executed_due (Leave how) code place home = alone_due (Leave how) code place home refl
-    executed_due (Reach field) code place home = alone_due (Reach field) code place home refl
-    executed_due (Index operation) code place home = alone_due (Index operation) code place home refl
-    executed_due (Operate operation) code place home = alone_due (Operate operation) code place home refl
     executed_due (Call method) code place home = invoked_due g p known method place s m machine (home refl)
+    executed_due i code place home = alone_due i code place home refl
 
     executed_led : (i : Instr) (code : List ℕ) (place : ℕ) → (is_plain i ≡ false → s.current.origin.package_number == 0 ≡ false) → IsLed p (executed i code place p s m) m
     unfolding executed

@@ -1,25 +1,18 @@
--- Effects one after the other: where each fits, each memory is sound.
-use Rattle.std.proofs.Common.{◌≡◌, ℕ, ◌+◌, true, List, Option, Some, None, refl, sym, ◌∙◌, ap, subst, if◌then◌else◌}
+-- Effects of methods of the platform that set no cells.
+use Rattle.std.proofs.Common.{◌≡◌, ◌+◌, true, None, sym, ◌∙◌, ap, subst, if◌then◌else◌}
 use Rattle.std.proofs.lemmas.Bool.{both_ways}
-use Rattle.jc_transient.specs.declared.cell.ClearEvent.{ClearEvent}
+use Rattle.std.proofs.lemmas.Option.{none-some}
 use Rattle.jc_memory.specs.declared.registers.Installation.{Installation}
+use Rattle.jc_memory.specs.declared.registers.Installation.TheVariants.{Idle, Open, Registered}
 use Rattle.jc_memory.specs.declared.registers.Registers.{Registers}
 use Rattle.jc_memory.specs.Owners.{owner_number}
-use Rattle.jc_memory.specs.State.{MemoryState, effected}
-use Rattle.jc_memory.specs.Cells.{sets_run_in}
-use Rattle.jc_memory.specs.Doing.{Doing, Gives, Then, Picks, Or}
-use Rattle.jc_memory.specs.Reading.{AllDue, Each}
+use Rattle.jc_memory.specs.State.{MemoryState}
 use Rattle.jc_packages.specs.Values.{Packages}
-use Rattle.jc_sound.specs.Fit.{FitsTurn, IsFit, KeepsSound}
+use Rattle.jc_isolation.specs.jc_api_applet.specs.Register.{opened}
+use Rattle.jc_isolation.proofs.Passing.{Bears}
+use Rattle.jc_sound.specs.Fit.{FitsTurn, IsFit}
 use Rattle.jc_sound.specs.State.{IsSoundMemory, is_home, is_open, is_owner_up_to}
-
-module _ (keeps : KeepsSound) (p : Packages) where
-  -- what is done leaves a sound memory
-  pub sound_each : {A : Type 0} (d : Doing A) (m : MemoryState) → AllDue (IsFit p) d m → IsSoundMemory p m → Each d m (λ a v. IsSoundMemory p v)
-  sound_each (Gives a) m due sound = sound
-  sound_each (Then e rest) m due sound = sound_each rest (effected e m) due.1 (keeps p e m due.0 sound)
-  sound_each (Picks choose) m due sound = λ r new. sound_each (choose r) m (due r new) sound
-  sound_each (Or x y) m due sound = (sound_each x m due.0 sound, sound_each y m due.1 sound)
+use Rattle.jc_sound.proofs.Effects.{keeps_sound}
 
 -- registers that tell of the same owner, the same installation and the same selected applet
 module _ (p : Packages) (m : MemoryState) (sound : IsSoundMemory p m) (g : Registers) (active : g.active ≡ m.registers.active) (installation : g.installation ≡ m.registers.installation) (selected : g.selected ≡ m.registers.selected) where
@@ -36,7 +29,20 @@ module _ (p : Packages) (m : MemoryState) (sound : IsSoundMemory p m) (g : Regis
     opens = λ on. ap is_open (sym installation) ∙ on;
   }
 
--- a run of cells that is set leaves the registers
-pub same_registers : (event : Option ClearEvent) (r i : ℕ) (words : List ℕ) (m : MemoryState) → (effected (sets_run_in event r i words) m).registers ≡ m.registers
-same_registers None r i words m = refl
-same_registers (Some event) r i words m = refl
+not_opened : (i : Installation) → opened i ≡ None → is_open i ≡ true → ⊥
+not_opened Idle none on = absurd cc
+not_opened (Open home entry) none on = none-some home (sym none)
+not_opened (Registered home) none on = absurd cc
+
+-- effects of methods that set no cells fit a sound memory, and each that fits leaves it sound
+pub bears : (p : Packages) → Bears (IsFit p) (IsSoundMemory p)
+bears p = record {
+  keeps = keeps_sound p;
+  turns = λ g m sound active installation selected. turn_fits p m sound g active installation selected;
+  begins = λ m sound off. off;
+  commits = λ m sound none on. absurd (not_opened m.registers.installation none on);
+  aborts = λ m. tt;
+  buries = λ m. tt;
+  flags = λ r flag m. tt;
+  sends = λ bytes m. tt;
+}

@@ -1,12 +1,6 @@
 pub mod Setting
-pub mod Small
-pub mod Arrays
+pub mod Groups
 pub mod Pins
-pub mod Applets
 pub mod Natives
-pub mod Elements
-pub mod Fields
-pub mod Throws
-pub mod Calls
 pub mod Steps
 pub mod Staying

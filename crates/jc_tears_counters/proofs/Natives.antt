@@ -1,156 +1,65 @@
--- Methods of the platform, part by part.
-use Rattle.std.proofs.Common.{◌≡◌, ℕ, List, refl}
+-- Methods of the platform leave the counter.
+use Rattle.std.proofs.Common.{◌≡◌, ℕ, false, inl, List, sym, ◌∙◌, subst, arith}
+use Rattle.jc_transient.specs.declared.cell.CellValue.TheVariants.{Short}
+use Rattle.jc_heap.specs.declared.place.AppletEntry.{AppletEntry}
+use Rattle.jc_heap.specs.declared.place.Place.{Place}
+use Rattle.jc_heap.specs.declared.place.Place.TheVariants.{Cell as CellPlace, Registry, AppletCount}
+use Rattle.jc_heap.specs.Heap.{HeapState, names}
+use Rattle.jc_heap.specs.Places.{applet_changes}
 use Rattle.jc_frames.specs.declared.cell.Cell.{Cell}
-use Rattle.jc_frames.specs.declared.outcome.Exception.TheVariants as exception
 use Rattle.jc_memory.specs.State.{MemoryState}
 use Rattle.jc_memory.specs.Reading.{AllDue}
 use Rattle.jc_packages.specs.Values.{Packages}
-use Rattle.jc_heap.specs.declared.object.Kind.TheVariants.{BooleanArray, ByteArray, ShortArray, ReferenceArray}
 use Rattle.jc_platform.specs.declared.names.PlatformMethod.{PlatformMethod}
-use Rattle.jc_platform.specs.declared.names.PlatformMethod.TheVariants.{AidEquals, AidEqualsBytes, AidGetBytes, AidInit, ApduExceptionInit, ApduExceptionThrowIt, ApduGetBuffer, ApduReceiveBytes, ApduSendBytes, ApduSetIncomingAndReceive, ApduSetOutgoing, ApduSetOutgoingAndSend, ApduSetOutgoingLength, AppletDeselect, AppletGetShareableInterfaceObject, AppletInit, AppletRegister, AppletRegisterBytes, AppletSelect, AppletSelectingApplet, ArithmeticExceptionInit, ArrayIndexOutOfBoundsExceptionInit, ArrayStoreExceptionInit, CardExceptionGetReason, CardExceptionInit, CardExceptionSetReason, CardExceptionThrowIt, CardRuntimeExceptionGetReason, CardRuntimeExceptionInit, CardRuntimeExceptionSetReason, CardRuntimeExceptionThrowIt, ClassCastExceptionInit, ExceptionInit, IndexOutOfBoundsExceptionInit, IsoExceptionInit, IsoExceptionThrowIt, JcSystemAbortTransaction, JcSystemBeginTransaction, JcSystemCommitTransaction, JcSystemGetAid, JcSystemGetAppletShareableInterfaceObject, JcSystemGetMaxCommitCapacity, JcSystemGetPreviousContextAid, JcSystemGetTransactionDepth, JcSystemGetUnusedCommitCapacity, JcSystemIsTransient, JcSystemLookupAid, JcSystemMakeTransientBooleanArray, JcSystemMakeTransientByteArray, JcSystemMakeTransientObjectArray, JcSystemMakeTransientShortArray, NegativeArraySizeExceptionInit, NullPointerExceptionInit, ObjectEquals, ObjectInit, OwnerPinCheck, OwnerPinGetTriesRemaining, OwnerPinInit, OwnerPinIsValidated, OwnerPinReset, OwnerPinResetAndUnblock, OwnerPinUpdate, PinExceptionInit, PinExceptionThrowIt, RuntimeExceptionInit, SecurityExceptionInit, SystemExceptionInit, SystemExceptionThrowIt, ThrowableInit, TransactionExceptionInit, TransactionExceptionThrowIt, UserExceptionInit, UserExceptionThrowIt, UtilArrayCompare, UtilArrayCopy, UtilGetShort, UtilMakeShort, UtilSetShort}
-use Rattle.jc_world.specs.Objects.{short_argument}
-use Rattle.jc_isolation.specs.jc_natives.specs.declared.parts.Part.{Part}
-use Rattle.jc_isolation.specs.jc_natives.specs.declared.parts.Part.TheVariants.{Objects, CardExceptions, Utilities, System, Aids, Pins, Applets, Apdus}
-use Rattle.jc_isolation.specs.jc_natives.specs.Natives.{called, called_in}
-use Rattle.jc_isolation.specs.jc_natives.specs.Parts.{part_of}
-use Rattle.jc_isolation.specs.jc_api_aid.specs.AidCalls.{aid_called}
-use Rattle.jc_isolation.specs.jc_api_apdu.specs.Apdu.{apdu_called, phase_of}
-use Rattle.jc_isolation.specs.jc_api_applet.specs.Applet.{applet_called}
-use Rattle.jc_isolation.specs.jc_api_pin.specs.OwnerPin.{pin_called}
-use Rattle.jc_isolation.specs.jc_api_system.specs.System.{system_called}
-use Rattle.jc_isolation.specs.jc_api_util.specs.Exceptions.{exception_called}
-use Rattle.jc_isolation.specs.jc_api_util.specs.Objects.{object_called}
-use Rattle.jc_isolation.specs.jc_api_util.specs.Util.{util_called}
-use Rattle.jc_isolation.proofs.Due.{call_some}
+use Rattle.jc_platform.specs.declared.names.PlatformMethod.TheVariants.{AidInit}
+use Rattle.jc_pin.specs.Starting.{value_array}
+use Rattle.jc_api_arguments.specs.Arrays.{bytes_in}
+use Rattle.jc_isolation.specs.jc_api_aid.specs.AidCells.{cells_of_aid}
+use Rattle.jc_isolation.specs.jc_api_apdu.specs.Buffer.{data_of}
+use Rattle.jc_isolation.specs.jc_api_applet.specs.Register.{registered}
 use Rattle.jc_isolation.specs.Natives.{IsNotCalled}
+use Rattle.jc_isolation.proofs.Applets.{registered_due}
+use Rattle.jc_isolation.proofs.Methods.{method_due}
+use Rattle.jc_isolation.proofs.Passing.{Bears, MethodPasses, recorded}
+use Rattle.jc_isolation.proofs.Setting.{new_other}
 use Rattle.jc_tears_counters.specs.Laws.{CallsLeave}
-use Rattle.jc_tears_counters.specs.Leaving.{IsInstance, Leaves}
-use Rattle.jc_tears_counters.proofs.Small.{aborted_due, begun_due, committed_due, event_due, got_due, looked_up_due, reason_due, same_due, server_due, thrown_due, transient_due}
-use Rattle.jc_tears_counters.proofs.Arrays.{aid_equals_bytes_due, aid_equals_due, aid_got_due, aid_made_due, all_sent_due, buffer_got_due, compared_due, copied_due, length_due, outgoing_due, received_due, received_more_due, sent_due, short_got_due, short_made_due, short_set_due}
-use Rattle.jc_tears_counters.proofs.Pins.{constructed_due, pin_checked_due, tries_due, validated_due, value_set_due, was_reset_due, was_unblocked_due}
-use Rattle.jc_tears_counters.proofs.Applets.{given_registered_due, own_registered_due}
+use Rattle.jc_tears_counters.specs.Leaving.{AreBeside, IsBeside, IsInstance, Leaves}
+use Rattle.jc_tears_counters.proofs.Pins.{first_leaves, update_leaves}
+use Rattle.jc_tears_counters.proofs.Setting.{bytes_other, new_leaves, run_leaves, set_leaves}
 
-module _ (args : List Cell) (p : Packages) (m : MemoryState) (q : ℕ) (own : IsInstance m q) where
-  objects_due : (method : PlatformMethod) → AllDue (Leaves q) (object_called method args) m
-  unfolding object_called
-  objects_due ObjectInit = tt
-  objects_due ObjectEquals = same_due p m q args
-  objects_due ThrowableInit = tt
-  objects_due ExceptionInit = tt
-  objects_due RuntimeExceptionInit = tt
-  objects_due IndexOutOfBoundsExceptionInit = tt
-  objects_due ArithmeticExceptionInit = tt
-  objects_due ArrayIndexOutOfBoundsExceptionInit = tt
-  objects_due ArrayStoreExceptionInit = tt
-  objects_due ClassCastExceptionInit = tt
-  objects_due NegativeArraySizeExceptionInit = tt
-  objects_due NullPointerExceptionInit = tt
-  objects_due SecurityExceptionInit = tt
-  objects_due AppletInit = tt
-  objects_due _ = tt
+-- effects that set no cells leave each counter
+bears : (q : ℕ) → Bears (Leaves q) (λ m. Unit {0})
+bears q = record { keeps = λ e m due so. tt; turns = λ g m so active installation selected. tt; begins = λ m so off. tt; commits = λ m so none. tt; aborts = λ m. tt; buries = λ m. tt; flags = λ r flag m. tt; sends = λ bytes m. tt }
 
-  util_due : (method : PlatformMethod) → AllDue (Leaves q) (util_called method args p m) m
-  unfolding util_called
-  util_due UtilArrayCompare = compared_due p m q own args
-  util_due UtilArrayCopy = copied_due p m q own args
-  util_due UtilGetShort = short_got_due p m q own args
-  util_due UtilMakeShort = short_made_due p m q own args
-  util_due UtilSetShort = short_set_due p m q own args
-  util_due _ = tt
+-- the places of the registry are no cells
+abbrev IsOther : Place → Type 0
+IsOther (CellPlace r i) = ⊥
+IsOther _ = Unit {0}
 
-  system_due : (method : PlatformMethod) → AllDue (Leaves q) (system_called method args p m) m
-  unfolding system_called
-  system_due JcSystemAbortTransaction = aborted_due p m q m.registers.depth
-  system_due JcSystemBeginTransaction = begun_due p m q m.registers.depth
-  system_due JcSystemCommitTransaction = committed_due p m q m.registers.depth
-  system_due JcSystemGetAid = tt
-  system_due JcSystemGetAppletShareableInterfaceObject = server_due p m q args
-  system_due JcSystemGetMaxCommitCapacity = tt
-  system_due JcSystemGetPreviousContextAid = tt
-  system_due JcSystemGetTransactionDepth = tt
-  system_due JcSystemGetUnusedCommitCapacity = tt
-  system_due JcSystemIsTransient = event_due p m q args
-  system_due JcSystemLookupAid = looked_up_due p m q args
-  system_due JcSystemMakeTransientBooleanArray = transient_due p m q BooleanArray args
-  system_due JcSystemMakeTransientByteArray = transient_due p m q ByteArray args
-  system_due JcSystemMakeTransientObjectArray = transient_due p m q ReferenceArray args
-  system_due JcSystemMakeTransientShortArray = transient_due p m q ShortArray args
-  system_due _ = tt
+registry_beside : (q : ℕ) (h : HeapState) (entry : AppletEntry) → AreBeside q (applet_changes h entry)
+registry_beside q h entry = (no_cell (Registry _) tt, (no_cell (Registry _) tt, (no_cell (Registry _) tt, (no_cell AppletCount tt, tt))))
+  where
+    no_cell : (place : Place) → IsOther place → IsBeside q place
+    no_cell place other e = subst IsOther e other
 
-  applet_due : (method : PlatformMethod) → AllDue (Leaves q) (applet_called method args p m) m
-  unfolding applet_called
-  applet_due AppletSelect = tt
-  applet_due AppletDeselect = tt
-  applet_due AppletGetShareableInterfaceObject = tt
-  applet_due AppletSelectingApplet = tt
-  applet_due AppletRegister = own_registered_due p m q own.there args
-  applet_due AppletRegisterBytes = given_registered_due p m q own.there args
-  applet_due _ = tt
+module _ (method : PlatformMethod) (args : List Cell) (p : Packages) (m : MemoryState) (q : ℕ) (own : IsInstance m q) (other : method ≡ AidInit → IsNotCalled q args) where
+  registers : (aid : List ℕ) (instance : ℕ) → AllDue (Leaves q) (registered aid instance p m) m
+  registers = registered_due (Leaves q) (λ g v. tt) (λ v. tt) p m (λ r words new. (subst (λ t. names m.heap.now t ≡ false) new.chosen new.free, (tt, (new_other m q r own.there new, tt)))) (λ entry v is. inl (registry_beside q v.heap.now entry))
 
-  apdu_due : (method : PlatformMethod) → AllDue (Leaves q) (apdu_called method args m) m
-  unfolding apdu_called
-  apdu_due ApduGetBuffer = buffer_got_due q m
-  apdu_due ApduReceiveBytes = call_some (Leaves q) m (short_argument args 1) _ (λ start is. received_more_due q m (phase_of m))
-  apdu_due ApduSendBytes = call_some (Leaves q) m (short_argument args 1) _ (λ start is. call_some (Leaves q) m (short_argument args 2) _ (λ count there. sent_due q m start count))
-  apdu_due ApduSetIncomingAndReceive = received_due p m q own
-  apdu_due ApduSetOutgoing = outgoing_due q m
-  apdu_due ApduSetOutgoingAndSend = call_some (Leaves q) m (short_argument args 1) _ (λ start is. call_some (Leaves q) m (short_argument args 2) _ (λ count there. all_sent_due q m start count))
-  apdu_due ApduSetOutgoingLength = call_some (Leaves q) m (short_argument args 1) _ (λ count is. length_due q m count)
-  apdu_due _ = tt
-
-  exceptions_due : (method : PlatformMethod) → AllDue (Leaves q) (exception_called method args m) m
-  unfolding exception_called
-  exceptions_due CardExceptionInit = reason_due p m q args
-  exceptions_due CardExceptionThrowIt = thrown_due p m q exception.CardException args
-  exceptions_due CardExceptionGetReason = got_due p m q args
-  exceptions_due CardExceptionSetReason = reason_due p m q args
-  exceptions_due CardRuntimeExceptionInit = reason_due p m q args
-  exceptions_due CardRuntimeExceptionThrowIt = thrown_due p m q exception.CardRuntimeException args
-  exceptions_due CardRuntimeExceptionGetReason = got_due p m q args
-  exceptions_due CardRuntimeExceptionSetReason = reason_due p m q args
-  exceptions_due IsoExceptionInit = reason_due p m q args
-  exceptions_due IsoExceptionThrowIt = thrown_due p m q exception.ISOException args
-  exceptions_due PinExceptionInit = reason_due p m q args
-  exceptions_due PinExceptionThrowIt = thrown_due p m q exception.PINException args
-  exceptions_due SystemExceptionInit = reason_due p m q args
-  exceptions_due SystemExceptionThrowIt = thrown_due p m q exception.SystemException args
-  exceptions_due TransactionExceptionInit = reason_due p m q args
-  exceptions_due TransactionExceptionThrowIt = thrown_due p m q exception.TransactionException args
-  exceptions_due ApduExceptionInit = reason_due p m q args
-  exceptions_due ApduExceptionThrowIt = thrown_due p m q exception.APDUException args
-  exceptions_due UserExceptionInit = reason_due p m q args
-  exceptions_due UserExceptionThrowIt = thrown_due p m q exception.UserException args
-  exceptions_due _ = tt
-
-  aids_due : (method : PlatformMethod) → (method ≡ AidInit → IsNotCalled q args) → AllDue (Leaves q) (aid_called method args p m) m
-  unfolding aid_called
-  aids_due AidInit other = aid_made_due p m q own args (other refl)
-  aids_due AidEquals other = aid_equals_due p m q own args
-  aids_due AidEqualsBytes other = aid_equals_bytes_due p m q own args
-  aids_due AidGetBytes other = aid_got_due p m q own args
-  aids_due _ other = tt
-
-  pins_due : (method : PlatformMethod) → AllDue (Leaves q) (pin_called method args p m) m
-  unfolding pin_called
-  pins_due OwnerPinInit = constructed_due q p m args
-  pins_due OwnerPinCheck = pin_checked_due q p m args
-  pins_due OwnerPinGetTriesRemaining = tries_due q p m args
-  pins_due OwnerPinIsValidated = validated_due q p m args
-  pins_due OwnerPinReset = was_reset_due q p m args
-  pins_due OwnerPinResetAndUnblock = was_unblocked_due q p m args
-  pins_due OwnerPinUpdate = value_set_due q p m args own
-  pins_due _ = tt
-
-  part_due : (part : Part) (method : PlatformMethod) → (method ≡ AidInit → IsNotCalled q args) → AllDue (Leaves q) (called_in part method args p m) m
-  part_due Objects method other = objects_due method
-  part_due CardExceptions method other = exceptions_due method
-  part_due Utilities method other = util_due method
-  part_due System method other = system_due method
-  part_due Aids method other = aids_due method other
-  part_due Pins method other = pins_due method
-  part_due Applets method other = applet_due method
-  part_due Apdus method other = apdu_due method
+  passes : MethodPasses (Leaves q) method args p m
+  passes = record {
+    reason = λ part sets r v is long. set_leaves q m r 0 (Short v) (λ same zero. absurd (omega (arith, zero)));
+    stretch = λ r count e words is long. run_leaves q m e.array e.start words (λ same. bytes_other m q r own is.kind (sym is.array ∙ same));
+    aid = λ init r bytes is long fine. run_leaves q m r 0 (cells_of_aid bytes) (other init r is);
+    buffer = λ r is. run_leaves q m r 5 (data_of m.command) (λ same. own.others (16, sym same ∙ is.is));
+    transient = λ kind count event o none fine room. new_leaves q o _ m (λ r v. tt);
+    starts = λ pin is limit maximum. new_leaves q (value_array m maximum) (recorded pin limit maximum) m (λ value v. (first_leaves q pin limit maximum value v, (tt, tt)));
+    counts = λ pin is n. tt;
+    refills = λ pin is n limit. tt;
+    updates = λ pin is bytes owned short. update_leaves q m pin bytes own is.is short;
+    own_registers = λ is aid instance own there. registers aid instance;
+    given_registers = λ is e instance own fine. registers (bytes_in m e) instance;
+  }
 
 pub calls_leave : CallsLeave
-unfolding called
-calls_leave method args p m q own other = part_due args p m q own (part_of method) method other
+calls_leave method args p m q own other = method_due (Leaves q) (λ m. Unit {0}) (bears q) args p m tt method (passes method args p m q own other)

@@ -1,4 +1,4 @@
-use Rattle.jc_isolation.proofs.Arrays.{arrays_spare}
+use Rattle.jc_isolation.proofs.Groups.{arrays_spare}
 use Rattle.jc_isolation.proofs.law.arrays_spare_what_is_outside.Goals as goal
 
 pub returns : goal.returns
