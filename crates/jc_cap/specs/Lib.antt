@@ -1,3 +1,4 @@
+pub mod Texts
 pub mod Contents
 pub mod Components
 pub mod Views

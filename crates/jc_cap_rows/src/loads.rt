@@ -4,31 +4,12 @@ use crate::names::tag_named;
 use jc_cap::assembling::Package;
 use jc_cap::component::Component;
 use jc_cap::texts::{Load, Text};
-use jc_cap_fields::formats::Format;
 use jc_cap_fields::tags;
 use std::alloc::{AllocError, Global};
 
-/// A load of which nothing has come.
-fn nothing() -> Load {
-    Load {
-        format: Format::V2_1,
-        header: None,
-        directory: None,
-        applets: None,
-        imports: None,
-        pool: None,
-        classes: None,
-        methods: None,
-        statics: None,
-        exports: None,
-        reference_location: None,
-        descriptor: None,
-    }
-}
-
 /// What came of these components, the later ones in place of the earlier ones.
 pub(crate) fn load_of(alloc: Global, components: &[Vec<u8>]) -> Result<Load, AllocError> {
-    let mut load = nothing();
+    let mut load = Load::new();
     for component in components {
         let mut bytes = Vec::new(alloc);
         bytes.extend_from_slice(component.as_slice())?;

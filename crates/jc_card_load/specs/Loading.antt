@@ -4,6 +4,7 @@ use Rattle.jc_cap_fields.specs.declared.fault.CapFault.{CapFault}
 use Rattle.jc_cap_fields.specs.declared.fault.CapFault.TheVariants.{Trailing, Repeated, NoMemory}
 use Rattle.jc_cap_fields.specs.declared.formats.Format.TheVariants.{V2_1}
 use Rattle.jc_cap.specs.declared.texts.Load.{Load}
+use Rattle.jc_cap.specs.Texts.{no_texts, with_text}
 use Rattle.jc_cap.specs.Contents.{Content}
 use Rattle.jc_cap.specs.Components.{component_at}
 use Rattle.jc_card_packages.specs.declared.refusal.Refusal.TheVariants.{Component}
@@ -37,9 +38,6 @@ grown more c = if nat_lt 65538 (length c.bytes + length more) then (Err (NotIn (
 -- ---- an open load
 
 -- no component has come yet
-abbrev pub no_texts : Load
-no_texts = record { format = V2_1; header = None; directory = None; applets = None; imports = None; pool = None; classes = None; methods = None; statics = None; exports = None; reference_location = None; descriptor = None }
-
 unfoldable pub begun_load : OpenLoad
 begun_load = record { texts = no_texts; came = replicate 256 false; coming = None }
 
@@ -66,23 +64,6 @@ more_of more load (Some c) = with_coming load (grown more c)
 
 abbrev pub component_grown : List ℕ → OpenLoad → Ended × OpenLoad
 component_grown more load = more_of more load load.coming
-
--- the bytes of a component that came are kept with those of the others; of ReferenceLocation and Descriptor their
--- infos' sizes, and of other components nothing
-unfoldable pub with_text : Load → ℕ → List ℕ → Load
-with_text texts tag bytes =
-    if tag == 1 then record texts { header = Some bytes } else
-    if tag == 2 then record texts { directory = Some bytes } else
-    if tag == 3 then record texts { applets = Some bytes } else
-    if tag == 4 then record texts { imports = Some bytes } else
-    if tag == 5 then record texts { pool = Some bytes } else
-    if tag == 6 then record texts { classes = Some bytes } else
-    if tag == 7 then record texts { methods = Some bytes } else
-    if tag == 8 then record texts { statics = Some bytes } else
-    if tag == 9 then record texts { reference_location = Some (length bytes - 3) } else
-    if tag == 10 then record texts { exports = Some bytes } else
-    if tag == 11 then record texts { descriptor = Some (length bytes - 3) } else
-    texts
 
 -- a component that was read is kept; one that cannot be read is dropped
 abbrev pub kept_if : OpenLoad → Came → Result Content CapFault → Ended × OpenLoad

@@ -73,9 +73,13 @@ abbrev pub closing : {A : Type 0} → Bool → (MemoryState → Doing A) → Mem
 closing false more m = more m
 closing true more m = after (Changes Abort) m (λ v. after Buries v more)
 
+-- no transaction is nested, and the command that selected an applet is no longer answered
+abbrev pub released : Registers → Registers
+released g = record g { depth = Outside; selecting = false }
+
 -- back in the runtime environment: what is still open ends, and the applet's nesting with it
 unfoldable pub closed : MemoryState → Doing (Unit {0})
-closed m = closing m.heap.begun (λ v. after (Turns (record v.registers { depth = Outside })) v (λ w. Gives tt)) m
+closed m = closing m.heap.begun (λ v. after (Turns (released v.registers)) v (λ w. Gives tt)) m
 
 -- the applet with a number: its instance, and for whom its code runs
 abbrev pub instance_of : MemoryState → ℕ → ℕ

@@ -6,8 +6,8 @@ ghost use Rattle.jc_dispatch.specs.Phases.{closed};
 use jc_memory::{Depth, Memory, Registers};
 use jc_words::{StoreDown, WordStore};
 
-/// Ends what an applet left open: a transaction is taken back, and references to what was made in it
-/// become null.
+/// Ends what an applet left open: a transaction is taken back, references to what was made in it become
+/// null, and no applet is being selected.
 #[tactic(auto, unfolding(crate::specs::Phases::closed))]
 pub(crate) fn close<S: WordStore>(memory: &mut Memory<S>) -> Result<(), StoreDown>
     requires up { memory.old.heap.down ≡ false }
@@ -20,6 +20,7 @@ pub(crate) fn close<S: WordStore>(memory: &mut Memory<S>) -> Result<(), StoreDow
     let registers = memory.registers();
     memory.turn(Registers {
         depth: Depth::Outside,
+        selecting: false,
         ..registers
     });
     Ok(())

@@ -62,7 +62,7 @@ impl Frames {
     {
         let mut cells = ArrayVec::new();
         push_all(&mut cells, arguments);
-        push_zeros(&mut cells, locals);
+        push_zeros(&mut cells, u16::from(locals));
         let bottom = cells.len();
         Frames {
             cells,
@@ -115,7 +115,7 @@ fn push_all(cells: &mut ArrayVec<Cell, MOST_CELLS>, more: &[Cell])
 
 // Puts cells that are short 0 behind the others.
 #[inline(always)]
-pub(crate) fn push_zeros(cells: &mut ArrayVec<Cell, MOST_CELLS>, count: u8)
+pub(crate) fn push_zeros(cells: &mut ArrayVec<Cell, MOST_CELLS>, count: u16)
     requires { length cells.old.items + count ≤ 512 }
     ensures { cells.new.items ≡ cells.old.items ++ replicate count (Short (pos 0)) }
 {

@@ -42,7 +42,7 @@ pub struct Entry {
     /// How many cells its arguments have, which lie on the caller's stack.
     pub arguments: u8,
     /// How many locals it has besides its arguments.
-    pub locals: u8,
+    pub locals: u16,
     /// How many cells its stack holds at most.
     pub limit: u8,
     /// The place of its first instruction.

@@ -1,5 +1,5 @@
 -- The runtime environment asks a server for its shareable interface object.
-use Rattle.std.specs.Prelude.{ℕ, ◌+◌, ◌&&◌, nat_le, Bool, slice_index, Option, Some, None, if◌then◌else◌}
+use Rattle.std.specs.Prelude.{ℕ, ◌+◌, Bool, slice_index, Option, Some, None, if◌then◌else◌}
 use Rattle.jc_memory.specs.declared.registers.Owner.TheVariants.{Applet}
 use Rattle.jc_memory.specs.declared.registers.Registers.{Registers}
 use Rattle.jc_memory.specs.State.{MemoryState}
@@ -41,9 +41,9 @@ then_stored n cell (Ends o) = Ends o
 abbrev pub with_asked : Asked → Next Frames → Next Frames
 with_asked asked next = then_stored 2 (Short asked.parameter) (then_stored 1 (Reference asked.client) (then_stored 0 (Reference asked.server) next))
 
--- a method that takes three cells, and has room for them among its locals
+-- a method that takes three cells
 abbrev pub takes_asked : Header → Bool
-takes_asked h = takes 3 h && nat_le h.locals 252
+takes_asked h = takes 3 h
 
 abbrev pub asked_callee : ℕ → ℕ → Asked → Callee
 asked_callee number offset asked = record { package_number = number; offset = offset; arguments = 3; switches_to = Some (Applet asked.owner) }

@@ -1,5 +1,5 @@
 //! The runtime environment asks a server for its shareable interface object.
-ghost use Rattle.std.specs.Prelude.{◌≡◌, ◌≤◌, false};
+ghost use Rattle.std.specs.Prelude.{◌≡◌, false};
 ghost use Rattle.jc_frames.specs.Calls.{entered};
 ghost use Rattle.jc_frames.specs.Frames.{unless_fault};
 ghost use Rattle.jc_memory.specs.Doing.{Makes};
@@ -30,15 +30,14 @@ fn sharing_method(class: ClassWord, linked: &Linked) -> Option<Method>
     linked.method_at(class, 0, VirtualToken::Public(token))
 }
 
-// A method that takes three cells, and has room for them among its locals.
+// A method that takes three cells.
 const fn takes_asked(header: Header) -> bool
     ensures { result ≡ takes_asked header }
 {
-    takes(3, header) && header.locals <= 252
+    takes(3, header)
 }
 
 fn asked_entry(header: Header, callee: Callee, place: u16, registers: Registers) -> Entry
-    requires { header.locals ≤ 252 }
     ensures { result ≡ asked_entry header callee place registers }
 {
     let site = CallSite {
@@ -48,7 +47,7 @@ fn asked_entry(header: Header, callee: Callee, place: u16, registers: Registers)
     let entry = entry_of(header, callee, site, registers);
     Entry {
         arguments: 0,
-        locals: header.locals + 3,
+        locals: u16::from(header.locals) + 3,
         ..entry
     }
 }

@@ -1,5 +1,5 @@
 //! Which handler of a method catches what is thrown.
-ghost use Rattle.std.specs.Prelude.{◌≡◌, ◌<◌, ◌^◌, Some, length};
+ghost use Rattle.std.specs.Prelude.{◌≡◌, ◌<◌, ◌^◌, Some, length, option_copied};
 ghost use Rattle.jc_interp_calls.specs.Catching.{caught_among, caught_as, caught_by, caught_in, landed, tried};
 ghost use Rattle.jc_methods.specs.Handlers.{handler_in};
 
@@ -34,15 +34,12 @@ fn landed(method: u16, text: &[u8], target: u16) -> Catch
 }
 
 // A handler of the class that an entry of the constant pool names.
-fn caught_as(thrown: ClassWord, entry: Option<Target>, caught: Catch, linked: &Linked) -> Catch
-    ensures { result ≡ caught_as linked.now thrown entry caught }
+fn caught_as(thrown: ClassWord, entry: Option<&Target>, caught: Catch, linked: &Linked) -> Catch
+    ensures { result ≡ caught_as linked.now thrown (option_copied entry.entry) caught }
 {
-    let Some(target) = entry else {
-        return Catch::Faulty;
-    };
-    match target {
-        Target::Class(class) => {
-            if linked.is_below(thrown, class) {
+    match entry {
+        Some(Target::Class(class)) => {
+            if linked.is_below(thrown, *class) {
                 caught
             } else {
                 Catch::Above

@@ -1,5 +1,5 @@
 //! Which method a call runs, and for whom.
-ghost use Rattle.std.specs.Prelude.{◌≡◌, false, true, IfSome, None};
+ghost use Rattle.std.specs.Prelude.{◌≡◌, false, true, IfSome, None, option_copied};
 ghost use Rattle.std.specs.Option.{option_map};
 ghost use Rattle.jc_packages.specs.Classes.{is_below};
 ghost use Rattle.jc_world.specs.Objects.{if_so};
@@ -350,7 +350,7 @@ pub fn choose_static(index: u16, frames: &Frames, linked: &Linked) -> Result<Cho
     ensures { result ≡ with_header linked.now (chosen_statically index linked.now frames.now) }
 {
     match linked.target_at(frames.origin().package_number, index) {
-        Some(Target::StaticMethod { class: _, method }) => call_statically(method, linked),
+        Some(Target::StaticMethod { class: _, method }) => call_statically(*method, linked),
         _ => Err(Stop::End(Outcome::Fault)),
     }
 }
@@ -358,23 +358,22 @@ pub fn choose_static(index: u16, frames: &Frames, linked: &Linked) -> Result<Cho
 // The virtual method that an entry names.
 #[inline(always)]
 fn virtual_by<S: WordStore>(
-    entry: Option<Target>,
+    entry: Option<&Target>,
     frames: &Frames,
     memory: &Memory<S>,
     linked: &Linked,
 ) -> Result<Chosen, Stop>
     requires up { memory.now.heap.down ≡ false }
-    ensures { result ≡ with_header linked.now (virtual_by entry linked.now frames.now.current.stack memory.now) }
+    ensures { result ≡ with_header linked.now (virtual_by (option_copied entry.entry) linked.now frames.now.current.stack memory.now) }
 {
-    let Some(target) = entry else {
-        return Err(Stop::End(Outcome::Fault));
-    };
-    match target {
-        Target::VirtualMethod {
-            class,
-            token,
-            method,
-        } => call_virtually(class, token, method, frames, memory, linked),
+    match entry {
+        Some(
+            Target::VirtualMethod {
+                class,
+                token,
+                method,
+            },
+        ) => call_virtually(*class, *token, *method, frames, memory, linked),
         _ => Err(Stop::End(Outcome::Fault)),
     }
 }
@@ -382,23 +381,20 @@ fn virtual_by<S: WordStore>(
 // The constructor, the private method or the method of a superclass that an entry names.
 #[inline(never)]
 fn special_by<S: WordStore>(
-    entry: Option<Target>,
+    entry: Option<&Target>,
     frames: &Frames,
     memory: &Memory<S>,
     linked: &Linked,
 ) -> Result<Chosen, Stop>
     requires up { memory.now.heap.down ≡ false }
-    ensures { result ≡ with_header linked.now (special_by entry linked.now frames.now.current.stack memory.now) }
+    ensures { result ≡ with_header linked.now (special_by (option_copied entry.entry) linked.now frames.now.current.stack memory.now) }
 {
-    let Some(target) = entry else {
-        return Err(Stop::End(Outcome::Fault));
-    };
-    match target {
-        Target::StaticMethod { class, method } => {
-            call_specially(class, method, frames, memory, linked)
+    match entry {
+        Some(Target::StaticMethod { class, method }) => {
+            call_specially(*class, *method, frames, memory, linked)
         }
-        Target::SuperMethod { class, method } => {
-            call_specially(Some(class), method, frames, memory, linked)
+        Some(Target::SuperMethod { class, method }) => {
+            call_specially(Some(*class), *method, frames, memory, linked)
         }
         _ => Err(Stop::End(Outcome::Fault)),
     }
@@ -407,7 +403,7 @@ fn special_by<S: WordStore>(
 // The method with a token of the interface that an entry names.
 #[inline(never)]
 fn interface_by<S: WordStore>(
-    entry: Option<Target>,
+    entry: Option<&Target>,
     arguments: u8,
     token: u8,
     frames: &Frames,
@@ -415,13 +411,12 @@ fn interface_by<S: WordStore>(
     linked: &Linked,
 ) -> Result<Chosen, Stop>
     requires up { memory.now.heap.down ≡ false }
-    ensures { result ≡ with_header linked.now (interface_by entry arguments token linked.now frames.now.current.stack memory.now) }
+    ensures { result ≡ with_header linked.now (interface_by (option_copied entry.entry) arguments token linked.now frames.now.current.stack memory.now) }
 {
-    let Some(target) = entry else {
-        return Err(Stop::End(Outcome::Fault));
-    };
-    match target {
-        Target::Class(class) => call_by_interface(class, arguments, token, frames, memory, linked),
+    match entry {
+        Some(Target::Class(class)) => {
+            call_by_interface(*class, arguments, token, frames, memory, linked)
+        }
         _ => Err(Stop::End(Outcome::Fault)),
     }
 }

@@ -79,7 +79,7 @@ pub(crate) fn entry_of(
 {
     Entry {
         arguments: header.arguments,
-        locals: header.locals,
+        locals: u16::from(header.locals),
         limit: header.limit,
         place: header.place,
         origin: origin_of(callee, registers),

@@ -1,5 +1,5 @@
 //! The fields that entries of a constant pool name.
-ghost use Rattle.std.specs.Prelude.{◌≡◌};
+ghost use Rattle.std.specs.Prelude.{◌≡◌, option_copied};
 ghost use Rattle.std.specs.Option.{option_and_then};
 ghost use Rattle.jc_interp_fields.specs.Named.{is_of, has_field, field_named, static_named, field_of, static_of};
 
@@ -36,8 +36,8 @@ fn is_of(of_type: ValueType, is_reference: bool) -> bool
 
 // The field of instances that an entry names, if it names one that holds values of this type.
 #[inline(always)]
-fn field_of(of_type: ValueType, entry: &Option<Target>) -> Option<FieldOfClass>
-    ensures { result ≡ option_and_then (field_of of_type) entry.now }
+fn field_of(of_type: ValueType, entry: Option<&Target>) -> Option<FieldOfClass>
+    ensures { result ≡ option_and_then (field_of of_type) (option_copied entry.entry) }
 {
     match entry {
         Some(
@@ -71,7 +71,7 @@ pub(crate) fn field_named(
 ) -> Option<FieldOfClass>
     ensures { result ≡ field_named of_type linked.now package_number index }
 {
-    field_of(of_type, &linked.target_at(package_number, index))
+    field_of(of_type, linked.target_at(package_number, index))
 }
 
 // Whether an image of so many bytes that begins with so many references has a field of this type at an offset.
@@ -87,8 +87,8 @@ fn has_field(of_type: ValueType, size: u16, references: u16, offset: u16) -> boo
 }
 
 // The static field that an entry names, if it names one that holds values of this type.
-fn static_of(of_type: ValueType, linked: &Linked, entry: &Option<Target>) -> Option<FieldOfImage>
-    ensures { result ≡ option_and_then (static_of of_type linked.now) entry.now }
+fn static_of(of_type: ValueType, linked: &Linked, entry: Option<&Target>) -> Option<FieldOfImage>
+    ensures { result ≡ option_and_then (static_of of_type linked.now) (option_copied entry.entry) }
 {
     match entry {
         Some(
@@ -121,5 +121,5 @@ pub(crate) fn static_named(
 ) -> Option<FieldOfImage>
     ensures { result ≡ static_named of_type linked.now package_number index }
 {
-    static_of(of_type, linked, &linked.target_at(package_number, index))
+    static_of(of_type, linked, linked.target_at(package_number, index))
 }

@@ -10,11 +10,11 @@ use jc_platform::names::PlatformClass;
 use jc_world::objects::is_instance;
 
 // The class or interface that a target is, if it is one.
-fn class_of(target: Target) -> Option<ClassWord>
-    ensures { result ≡ class_of target }
+fn class_of(target: &Target) -> Option<ClassWord>
+    ensures { result ≡ class_of target.now }
 {
     match target {
-        Target::Class(class) => Some(class),
+        Target::Class(class) => Some(*class),
         _ => None,
     }
 }

@@ -108,7 +108,7 @@ impl Running {
     fn enter(&mut self, alloc: Global, mut words: Words<'_>) -> Told {
         let entry = Entry {
             arguments: words.small()?,
-            locals: words.small()?,
+            locals: words.number()?,
             limit: words.small()?,
             place: 7,
             origin: CALLED,

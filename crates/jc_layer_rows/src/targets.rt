@@ -27,9 +27,9 @@ pub(crate) fn method(alloc: Global, told: Option<Method>) -> Told {
 }
 
 /// What an entry resolves to, or `none`.
-pub(crate) fn target(alloc: Global, told: Option<Target>) -> Told {
+pub(crate) fn target(alloc: Global, told: Option<&Target>) -> Told {
     match told {
-        Some(target) => resolved(alloc, target),
+        Some(target) => resolved(alloc, *target),
         None => none(alloc),
     }
 }

@@ -8,10 +8,9 @@ use Rattle.jc_platform.specs.Distinct.{class_word}
 use Rattle.jc_platform.specs.Platform.{class_by_word}
 use Rattle.jc_cap_text.specs.declared.pool.VirtualToken.{VirtualToken}
 use Rattle.jc_cap_text.specs.declared.pool.VirtualToken.TheVariants.{Public, PackageVisible}
-use Rattle.jc_packages.specs.declared.search.CarriedOut.{CarriedOut}
-use Rattle.jc_packages.specs.declared.search.CarriedOut.TheVariants.{Virtually, Natively}
 use Rattle.jc_packages.specs.Classes.{any_is, any_reference, class_in, implements, interfaces_by, interfaces_in, is_below, is_class, is_listed, is_made, is_made_by, is_shareable, lineage, lineage_from, most_classes, own_reference, reference_cell, size_by, size_of, superclass_by, superclass_in}
-use Rattle.jc_packages.specs.Methods.{carried_by, carried_in, carrying, interface_method_at, looked_up_in, method_at, method_in, said_by, searched}
+use Rattle.jc_packages.specs.declared.target.Method.{Method}
+use Rattle.jc_packages.specs.Methods.{carried_by, carried_in, interface_method_at, looked_up_in, method_at, method_in, said_by, searched}
 use Rattle.jc_packages.specs.Resolves.{interface_by, names_interface}
 use Rattle.jc_packages.specs.Values.{PackageValue, Packages}
 use Rattle.jc_linked_laws.specs.Staying.{ClassStays}
@@ -127,20 +126,19 @@ module _ (p : Packages) (loaded : List PackageValue) (Good : ℕ → Type 0) (al
   unfolding carried_in
   carried_alike of token w good = ap (λ c. carried_by p of token c (class_by_word p.platform w)) (alike.class w good)
 
-  carrying_alike : (w : ℕ) → Good w → (by : CarriedOut) → carrying new w by ≡ carrying p w by
-  carrying_alike w good (Virtually token) = method_alike w 0 (Public token) good
-  carrying_alike w good (Natively m) = refl
-
   interface_method_alike : (w of token : ℕ) → Good w → interface_method_at new w of token ≡ interface_method_at p w of token
   unfolding interface_method_at
   interface_method_alike w of token good =
-      ap (λ l. option_and_then (carrying new w) (searched (carried_in new of token) l)) (lineage_alike w good)
-      ∙ ap (option_and_then (carrying new w)) (searched_alike Good (carried_in new of token) (carried_in p of token) (lineage p w) (lineage_good w good) (λ c each. carried_alike of token c each))
-      ∙ then_alike (λ by. Unit {0}) (carrying new w) (carrying p w) (searched (carried_in p of token) (lineage p w)) (anything (searched (carried_in p of token) (lineage p w))) (λ by none. carrying_alike w good by)
+      ap (λ l. option_and_then (virtual new) (searched (carried_in new of token) l)) (lineage_alike w good)
+      ∙ ap (option_and_then (virtual new)) (searched_alike Good (carried_in new of token) (carried_in p of token) (lineage p w) (lineage_good w good) (λ c each. carried_alike of token c each))
+      ∙ then_alike (λ own. Unit {0}) (virtual new) (virtual p) (searched (carried_in p of token) (lineage p w)) (anything (searched (carried_in p of token) (lineage p w))) (λ own none. method_alike w 0 (Public own) good)
     where
-      anything : (o : Option CarriedOut) → IfThere (λ by. Unit {0}) o
+      virtual : Packages → ℕ → Option Method
+      virtual q own = method_at q w 0 (Public own)
+
+      anything : (o : Option ℕ) → IfThere (λ own. Unit {0}) o
       anything None = tt
-      anything (Some by) = tt
+      anything (Some own) = tt
 
   pub class_stays : (w : ℕ) → Good w → ClassStays p new w
   class_stays w good = record {

@@ -36,8 +36,8 @@ impl Linking<'_> {
     {
         let mut done = Vec::new(alloc);
         for number in 0..classes.count() {
-            let record = classes.get(number);
-            let class = self.class(alloc, &done, classes.offset(number), record)?;
+            let told = classes.get(number);
+            let class = self.class(alloc, &done, classes.offset(number), told)?;
             done.push(class)?;
         }
         Ok(done)
@@ -48,11 +48,11 @@ impl Linking<'_> {
         alloc: Global,
         done: &[LinkedClass],
         offset: u16,
-        record: ClassRecord<'_>,
+        told: ClassRecord<'_>,
     ) -> Result<LinkedClass, AllocError>
-        ensures { IfOk result (λ class. class ≡ class_by_record self.now.loaded.now self.now.names.now self.now.number done.now offset record.entry) }
+        ensures { IfOk result (λ class. class ≡ class_by_record self.now.loaded.now self.now.names.now self.now.number done.now offset told.entry) }
     {
-        match record {
+        match told {
             ClassRecord::Class(info) => self.class_of(alloc, done, offset, info),
             ClassRecord::Interface(info) => {
                 let mut class = outline(alloc, offset);

@@ -12,13 +12,10 @@ use jc_platform::names::PlatformPackage;
 impl Linked {
     /// What an entry of a package's constant pool resolves to, in constant time; none only past the pool's end.
     #[tactic(auto, unfolding(jc_packages::specs::Lookups::target_at))]
-    pub fn target_at(&self, package_number: u8, index: u16) -> Option<Target>
-        ensures { result ≡ target_at self.now package_number index }
+    pub fn target_at(&self, package_number: u8, index: u16) -> Option<&Target>
+        ensures { option_copied result ≡ target_at self.entry.now package_number index }
     {
-        self.package(package_number)?
-            .targets
-            .get(index as usize)
-            .copied()
+        self.package(package_number)?.targets.get(index as usize)
     }
 
     /// The bytes of a package's Method component from an offset on.

@@ -7,7 +7,7 @@ ghost use Rattle.jc_platform.specs.Platform.{method_by_token};
 use crate::scope::Scope;
 use jc_cap_text::pool::VirtualToken;
 use jc_names::ClassWord;
-use jc_packages::search::{CarriedOut, Search};
+use jc_packages::search::Search;
 use jc_packages::target::Method;
 use jc_platform::names::{MethodKind, PlatformClass};
 
@@ -112,20 +112,17 @@ impl Scope<'_> {
     ) -> Option<Method>
         ensures { result ≡ interface_method_at self.now class interface token }
     {
-        match self.carried_out(class, interface, token)? {
-            CarriedOut::Virtually(own) => self.public_method(class, own),
-            CarriedOut::Natively(method) => Some(Method::Native(method)),
-        }
+        self.public_method(class, self.carried_out(class, interface, token)?)
     }
 
     #[tactic(auto, unfolding(jc_packages::specs::Methods::searched))]
-    fn carried_out(&self, class: ClassWord, interface: ClassWord, token: u8) -> Option<CarriedOut>
+    fn carried_out(&self, class: ClassWord, interface: ClassWord, token: u8) -> Option<u8>
         ensures { result ≡ searched (carried_in self.now interface token) (lineage self.now class) }
     {
         let mut walk = self.lineage(class);
         while let Some(above) = walk.pop() {
             match self.carried_in(interface, token, above) {
-                Search::Found(how) => return Some(how),
+                Search::Found(own) => return Some(own),
                 Search::Above => {}
                 Search::Nowhere => return None,
             }
@@ -133,9 +130,9 @@ impl Scope<'_> {
         None
     }
 
-    // How a class carries out a method of an interface.
+    // The token of the virtual method by which a class carries out a method of an interface.
     #[tactic(auto, unfolding(jc_packages::specs::Methods::carried_in))]
-    fn carried_in(&self, interface: ClassWord, token: u8, class: ClassWord) -> Search<CarriedOut>
+    fn carried_in(&self, interface: ClassWord, token: u8, class: ClassWord) -> Search<u8>
         ensures { result ≡ carried_in self.now interface token class }
     {
         if let Some(loaded) = self.loaded_class(class) {
@@ -152,7 +149,7 @@ impl Scope<'_> {
         interface: ClassWord,
         token: u8,
         implemented: Option<PlatformClass>,
-    ) -> Search<CarriedOut>
+    ) -> Search<u8>
         ensures { result ≡ natively self.now interface token implemented }
     {
         let Some(named) = implemented else {
@@ -168,7 +165,7 @@ impl Scope<'_> {
             return Search::Nowhere;
         };
         match method.implementation() {
-            Some(own) => Search::Found(CarriedOut::Natively(own)),
+            Some(own) => Search::Found(self.platform.method_token(own)),
             None => Search::Nowhere,
         }
     }

@@ -4,7 +4,7 @@ ghost use Rattle.jc_packages.specs.Classes.{declares_reference, is_listed};
 ghost use Rattle.jc_packages.specs.Methods.{in_list, in_table};
 
 use jc_names::ClassWord;
-use jc_packages::search::{CarriedOut, Search};
+use jc_packages::search::Search;
 use jc_packages::target::Method;
 use std::marker::Model;
 
@@ -112,8 +112,8 @@ impl LinkedClass {
             .any(|listed| listed.interface == interface)
     }
 
-    /// How it carries out the method of an interface with this token.
-    pub fn carries(&self, interface: ClassWord, token: u8) -> Search<CarriedOut>
+    /// The token of the virtual method that carries out the method of an interface with this token.
+    pub fn carries(&self, interface: ClassWord, token: u8) -> Search<u8>
         ensures { result ≡ in_list token (find (λ i. i.interface == interface) self.now.interfaces) }
     {
         let Some(listed) = self.listed(interface) else {
@@ -121,7 +121,7 @@ impl LinkedClass {
         };
         match listed.tokens.get(token as usize).copied() {
             None => Search::Nowhere,
-            Some(own) => Search::Found(CarriedOut::Virtually(own)),
+            Some(own) => Search::Found(own),
         }
     }
 

@@ -12,14 +12,12 @@ use Rattle.jc_platform.specs.Hierarchy.{interface_of, superclass_of}
 use Rattle.jc_platform.specs.Platform.{TellNames, class_by_word, method_by_token}
 use Rattle.jc_cap_text.specs.declared.pool.VirtualToken.{VirtualToken}
 use Rattle.jc_cap_text.specs.declared.pool.VirtualToken.TheVariants.{PackageVisible, Public}
-use Rattle.jc_packages.specs.declared.search.CarriedOut.{CarriedOut}
-use Rattle.jc_packages.specs.declared.search.CarriedOut.TheVariants.{Natively, Virtually}
 use Rattle.jc_packages.specs.declared.search.Search.{Search}
 use Rattle.jc_packages.specs.declared.search.Search.TheVariants.{Found}
 use Rattle.jc_packages.specs.declared.target.Method.{Method}
-use Rattle.jc_packages.specs.declared.target.Method.TheVariants.{Code, Native}
+use Rattle.jc_packages.specs.declared.target.Method.TheVariants.{Code}
 use Rattle.jc_packages.specs.Classes.{any_is, class_in, implements, interfaces_by, interfaces_in, is_below, is_listed, lineage, lineage_from, most_classes, superclass_in}
-use Rattle.jc_packages.specs.Methods.{carried_in, carrying, if_native, interface_method_at, looked_up_in, method_at, method_in, said_by, searched}
+use Rattle.jc_packages.specs.Methods.{carried_in, if_native, interface_method_at, looked_up_in, method_at, method_in, said_by, searched}
 use Rattle.jc_packages.specs.Values.{ClassValue, Packages}
 use Rattle.jc_card_checks.specs.Objects.{is_a}
 use Rattle.jc_linked_laws.proofs.Fields.{IsHigh, lineage_high, no_class}
@@ -65,17 +63,10 @@ module _ (p : Packages) (few : length p.loaded ≤ 32) where
       one_and_all (λ c. method_in p token c ≡ code home offset) IsHigh ⊥ cs (found_in (method_in p token) (Code home offset) cs is) (looked_up_high token number (lineage p (class_word p.platform of)) (lineage_of of))
       (λ c found high. method_no_code token c home offset found high)
 
-  carrying_no_code : (of : PlatformClass) (x : CarriedOut) (home offset : ℕ) → carrying p (class_word p.platform of) x ≡ Some (Code home offset) → ⊥
-  carrying_no_code of (Virtually token) home offset is = virtual_no_code of 0 (Public token) home offset is
-  carrying_no_code of (Natively m) home offset is = other (same_Some (Native m) (Code home offset) is)
-    where
-      other : Native m ≡ Code home offset → ⊥
-      other e = absurd cc
-
   interface_no_code : (of : PlatformClass) (interface token home offset : ℕ) → interface_method_at p (class_word p.platform of) interface token ≡ Some (Code home offset) → ⊥
   unfolding interface_method_at
-  interface_no_code of interface token home offset is = option_and_then_some (carrying p (class_word p.platform of)) (searched (carried_in p interface token) (lineage p (class_word p.platform of))) (Code home offset) is
-      (λ x at more. carrying_no_code of x home offset more)
+  interface_no_code of interface token home offset is = option_and_then_some (λ own. method_at p (class_word p.platform of) 0 (Public own)) (searched (carried_in p interface token) (lineage p (class_word p.platform of))) (Code home offset) is
+      (λ own at more. virtual_no_code of 0 (Public own) home offset more)
 
   pub keeps_platform : KeepsPlatform p
   keeps_platform = record { virtually = virtual_no_code; by_interface = interface_no_code }

@@ -1,11 +1,12 @@
 -- Methods by class and token.
-use Rattle.std.specs.Prelude.{ℕ, ◌-◌, ◌/◌, ◌==◌, nat_lt, List, [], ◌∷◌, Option, Some, None, if◌then◌else◌, slice_get, filter, find}
-use Rattle.std.specs.Option.{option_and_then}
+use Rattle.std.specs.Prelude.{ℕ, ◌-◌, ◌/◌, ◌==◌, nat_lt, List, [], ◌∷◌, Option, Some, None, if◌then◌else◌, slice_get, slice_index, filter, find}
+use Rattle.std.specs.Option.{option_and_then, option_map}
 use Rattle.jc_platform.specs.declared.names.PlatformClass.{PlatformClass}
 use Rattle.jc_platform.specs.declared.names.MethodKind.TheVariants as kinds
 use Rattle.jc_platform.specs.declared.names.PlatformMethod.{PlatformMethod}
 use Rattle.jc_platform.specs.Distinct.{class_word}
 use Rattle.jc_platform.specs.Hierarchy.{implementation_of, interface_of}
+use Rattle.jc_platform.specs.Numbers.{method_number}
 use Rattle.jc_platform.specs.Platform.{class_by_word, method_by_token}
 use Rattle.jc_packages.specs.declared.target.Method.{Method}
 use Rattle.jc_packages.specs.declared.target.Method.TheVariants.{Code, Native}
@@ -13,8 +14,6 @@ use Rattle.jc_cap_text.specs.declared.pool.VirtualToken.{VirtualToken}
 use Rattle.jc_cap_text.specs.declared.pool.VirtualToken.TheVariants.{Public, PackageVisible}
 use Rattle.jc_packages.specs.declared.search.Search.{Search}
 use Rattle.jc_packages.specs.declared.search.Search.TheVariants.{Found, Above, Nowhere}
-use Rattle.jc_packages.specs.declared.search.CarriedOut.{CarriedOut}
-use Rattle.jc_packages.specs.declared.search.CarriedOut.TheVariants.{Virtually, Natively}
 use Rattle.jc_packages.specs.Classes.{class_in, lineage}
 use Rattle.jc_packages.specs.Values.{ClassValue, Implementation, MethodTable, Packages}
 
@@ -64,39 +63,35 @@ looked_up_in (PackageVisible token) package_number classes = filter (λ c. c / 2
 unfoldable pub method_at : Packages → ℕ → ℕ → VirtualToken → Option Method
 method_at p class package_number token = searched (method_in p token) (looked_up_in token package_number (lineage p class))
 
--- ---- methods of interfaces
+-- ---- methods of interfaces: which virtual method carries one out, by its token
 
-abbrev pub by_token : Option ℕ → Search CarriedOut
+abbrev pub by_token : Option ℕ → Search ℕ
 by_token None = Nowhere
-by_token (Some token) = Found (Virtually token)
+by_token (Some token) = Found token
 
 -- what the class's list says of the interface
-abbrev pub in_list : ℕ → Option Implementation → Search CarriedOut
+abbrev pub in_list : ℕ → Option Implementation → Search ℕ
 in_list token None = Above
 in_list token (Some i) = by_token (slice_get i.tokens token)
 
-abbrev pub by_native : Option PlatformMethod → Search CarriedOut
-by_native None = Nowhere
-by_native (Some m) = Found (Natively m)
+-- the token of a method of the platform
+abbrev pub token_of : Packages → PlatformMethod → ℕ
+token_of p m = slice_index p.platform.method_tokens (method_number m)
 
 -- the method of the platform's interface with this token, by the platform's class that implements it
-abbrev pub natively : Packages → ℕ → ℕ → Option PlatformClass → Search CarriedOut
+abbrev pub natively : Packages → ℕ → ℕ → Option PlatformClass → Search ℕ
 natively p interface token None = Above
-natively p interface token (Some i) = if class_word p.platform i == interface then by_native (option_and_then implementation_of (method_by_token p.platform i kinds.Interface token)) else Above
+natively p interface token (Some i) = if class_word p.platform i == interface then by_token (option_map (token_of p) (option_and_then implementation_of (method_by_token p.platform i kinds.Interface token))) else Above
 
-abbrev pub carried_by : Packages → ℕ → ℕ → Option ClassValue → Option PlatformClass → Search CarriedOut
+abbrev pub carried_by : Packages → ℕ → ℕ → Option ClassValue → Option PlatformClass → Search ℕ
 carried_by p interface token (Some c) other = in_list token (find (λ i. i.interface == interface) c.interfaces)
 carried_by p interface token None None = Nowhere
 carried_by p interface token None (Some c) = natively p interface token (interface_of c)
 
-unfoldable pub carried_in : Packages → ℕ → ℕ → ℕ → Search CarriedOut
+unfoldable pub carried_in : Packages → ℕ → ℕ → ℕ → Search ℕ
 carried_in p interface token word = carried_by p interface token (class_in p word) (class_by_word p.platform word)
 
--- the method itself
-abbrev pub carrying : Packages → ℕ → CarriedOut → Option Method
-carrying p class (Virtually token) = method_at p class 0 (Public token)
-carrying p class (Natively m) = Some (Native m)
-
--- the method that a call of an interface's method by token on an instance of a class runs
+-- the method that a call of an interface's method by token on an instance of a class runs: the virtual method, as the
+-- instance's own class has it
 unfoldable pub interface_method_at : Packages → ℕ → ℕ → ℕ → Option Method
-interface_method_at p class interface token = option_and_then (carrying p class) (searched (carried_in p interface token) (lineage p class))
+interface_method_at p class interface token = option_and_then (λ own. method_at p class 0 (Public own)) (searched (carried_in p interface token) (lineage p class))

@@ -9,7 +9,8 @@ use Rattle.jc_cap.specs.Components.{component_at}
 use Rattle.jc_cap.specs.Contents.{Content}
 use Rattle.jc_card_load.specs.declared.load.OpenLoad.{OpenLoad}
 use Rattle.jc_card_load.specs.Coming.{Came}
-use Rattle.jc_card_load.specs.Loading.{Ended, begun_load, component_begun, is_tag, kept_if, more_of, read_of, with_text}
+use Rattle.jc_cap.specs.Texts.{with_text}
+use Rattle.jc_card_load.specs.Loading.{Ended, begun_load, component_begun, is_tag, kept_if, more_of, read_of}
 use Rattle.jc_sound.proofs.Memories.{choose}
 use Rattle.jc_reading_laws.specs.Loaded.{AreBytes, IsReadable}
 use Rattle.jc_reading_laws.specs.Loads.{IsOpenReadable, LoadsAreReadable}

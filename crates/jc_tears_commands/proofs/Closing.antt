@@ -2,11 +2,10 @@
 use Rattle.std.proofs.Common.{◌≡◌, Bool, true, false, List, [], ◌∷◌, refl, sym, subst, ap, ◌∙◌}
 use Rattle.std.specs.Prelude.{ℕ}
 use Rattle.jc_frames.specs.declared.outcome.Outcome.{Outcome}
-use Rattle.jc_memory.specs.declared.registers.Depth.TheVariants.{Outside}
 use Rattle.jc_memory.specs.State.{MemoryState, Effect, Turns, effected, effected_all}
 use Rattle.jc_memory.specs.Doing.{Did, Gives}
 use Rattle.jc_memory.proofs.Doings.{did_bind}
-use Rattle.jc_dispatch.specs.Phases.{after, closed, closing, run_for}
+use Rattle.jc_dispatch.specs.Phases.{after, closed, closing, run_for, released}
 use Rattle.jc_tears.specs.Tears.{IsSettled, IsTorn, LeftBehind}
 use Rattle.jc_tears.proofs.Torn.{settled_effect, torn}
 use Rattle.jc_tears_commands.specs.Commands.{TakesBack}
@@ -22,7 +21,7 @@ settled_now : (m : MemoryState) → IsSettled m → m.heap.begun ≡ false → m
 settled_now m settled none = sym (settled none)
 
 closing_back : (stands : Bool) (m new : MemoryState) → m.heap.begun ≡ stands → IsSettled m →
-    Did (closing stands (λ v. after (Turns (record v.registers { depth = Outside })) v (λ w. Gives (tt {0}))) m) m tt new → IsTakenBack m new
+    Did (closing stands (λ v. after (Turns (released v.registers)) v (λ w. Gives (tt {0}))) m) m tt new → IsTakenBack m new
 closing_back false m new e settled did = record {
   shut = ap (λ v. v.heap.begun) did.1 ∙ e;
   durable = ap (λ v. v.heap.durable) did.1;

@@ -9,7 +9,6 @@ use Rattle.jc_frames.specs.declared.cell.Cell.TheVariants.{Short, Reference}
 use Rattle.jc_frames.specs.Frames.{Frames}
 use Rattle.jc_heap.specs.Moves.{Begin}
 use Rattle.jc_memory.specs.declared.registers.AppletNumber.{AppletNumber}
-use Rattle.jc_memory.specs.declared.registers.Depth.TheVariants.{Outside}
 use Rattle.jc_memory.specs.declared.registers.Installation.TheVariants.{Open}
 use Rattle.jc_memory.specs.declared.registers.Owner.{Owner}
 use Rattle.jc_memory.specs.declared.registers.Owner.TheVariants.{Applet}
@@ -29,7 +28,7 @@ use Rattle.jc_dispatch.specs.jc_interp_calls.specs.Entering.{begun}
 use Rattle.jc_dispatch.specs.jc_interp.specs.Running.{running}
 use Rattle.jc_dispatch.specs.Buffer.{apdu_buffer, apdu_object, filled, fills_in, is_buffer}
 use Rattle.jc_dispatch.specs.Endings.{is_accepted}
-use Rattle.jc_dispatch.specs.Phases.{after, called, closed, closing, instance_of, method_named, resting, run_for, run_from, run_method, running_for}
+use Rattle.jc_dispatch.specs.Phases.{after, called, closed, closing, instance_of, method_named, resting, run_for, run_from, run_method, running_for, released}
 use Rattle.jc_dispatch.specs.Selecting.{accepted, header_of, left, managed, processed, selected, with_command, with_selected}
 use Rattle.jc_dispatch.specs.Installing.{installed, next_applet, with_installation}
 use Rattle.jc_dispatch.specs.Creating.{applet_named, created, created_by, created_of, creation_of, installing}
@@ -58,7 +57,7 @@ called_orderly : (budget : ℕ) (p : Packages) (name : PlatformMethod) (applet :
 unfolding called
 called_orderly budget p name applet arguments owner m = method_orderly budget p (method_named p m applet name) arguments owner m
 
-closing_orderly : (stands : Bool) (m : MemoryState) → m.heap.begun ≡ stands → AllDue IsOrderly (closing stands (λ v. after (Turns (record v.registers { depth = Outside })) v (λ w. Gives (tt {0}))) m) m
+closing_orderly : (stands : Bool) (m : MemoryState) → m.heap.begun ≡ stands → AllDue IsOrderly (closing stands (λ v. after (Turns (released v.registers)) v (λ w. Gives (tt {0}))) m) m
 closing_orderly false m e = (tt, tt)
 closing_orderly true m e = (e, (tt, (tt, tt)))
 

@@ -5,13 +5,16 @@
 
 use jc_cap::assembling::assemble;
 use jc_cap::component::{Component, read_component};
-use jc_cap::texts::{Load, Text};
+use jc_cap::texts::Load;
 use jc_cap_fields::fault::CapFault;
 use jc_cap_fields::formats::Format;
 use std::alloc::{AllocError, Global};
 use std::process::ExitCode;
 use std::rt::Files;
 use std::{env, fs, io};
+
+/// The bytes of the longest component, with its tag and its size.
+const LONGEST: usize = 65_538;
 
 fn main(rt: HostRuntime) -> io::Result<ExitCode> {
     let words = env::args(&rt)?.collect::<Vec<String>>(rt.alloc())?;
@@ -79,47 +82,17 @@ fn put_together(
     alloc: Global,
     components: &Vec<Vec<u8>>,
 ) -> Result<Result<u64, CapFault>, AllocError> {
-    let mut load = Load {
-        format: Format::V2_1,
-        header: None,
-        directory: None,
-        applets: None,
-        imports: None,
-        pool: None,
-        classes: None,
-        methods: None,
-        statics: None,
-        exports: None,
-        reference_location: None,
-        descriptor: None,
-    };
+    let mut load = Load::new();
     for bytes in components.as_slice() {
+        if bytes.len() > LONGEST {
+            return Ok(Err(CapFault::Trailing));
+        }
         let mut copy = Vec::new(alloc);
         copy.extend_from_slice(bytes.as_slice())?;
-        add(
-            &mut load,
-            bytes.first().copied().unwrap_or(0),
-            Text::new(copy),
-        );
+        load.keep(bytes.first().copied().unwrap_or(0), copy);
     }
     match assemble(load) {
         Ok(package) => Ok(Ok(u64::from(package.contents().pool.count()))),
         Err(fault) => Ok(Err(fault)),
-    }
-}
-
-/// Puts a component to the others by its tag.
-fn add(load: &mut Load, tag: u8, text: Text) {
-    match tag {
-        1 => load.header = Some(text),
-        2 => load.directory = Some(text),
-        3 => load.applets = Some(text),
-        4 => load.imports = Some(text),
-        5 => load.pool = Some(text),
-        6 => load.classes = Some(text),
-        7 => load.methods = Some(text),
-        8 => load.statics = Some(text),
-        10 => load.exports = Some(text),
-        _ => {}
     }
 }

@@ -1,50 +1,42 @@
 -- No transaction is open behind a command.
 use Rattle.std.proofs.Common.{◌≡◌, Bool, true, false, List, [], ◌∷◌, refl}
-use Rattle.std.specs.Prelude.{ℕ, length, pos, nat_le, nat_lt, ◌==◌, if◌then◌else◌, is_none, is_some, Option, Some, None, Result, Ok, Err}
+use Rattle.std.specs.Prelude.{ℕ, length, pos, nat_le, nat_lt, ◌==◌, if◌then◌else◌, is_none, Option, Some, None, Result, Ok, Err}
 use Rattle.std.specs.Option.{option_map}
 use Rattle.std.specs.Str.{bytes_eq}
 use Rattle.jc_words.specs.Layout.{most_applets}
-use Rattle.jc_transient.specs.declared.cell.ClearEvent.TheVariants.{Deselect}
 use Rattle.jc_heap.specs.declared.refusal.HeapRefusal.{HeapRefusal}
-use Rattle.jc_heap.specs.Moves.{AddPackage, Begin, Answer, Done, Refused, no_package}
-use Rattle.jc_frames.specs.declared.outcome.Outcome.{Outcome}
+use Rattle.jc_heap.specs.Moves.{Begin, Answer, Done, Refused, no_package}
 use Rattle.jc_frames.specs.declared.cell.Cell.TheVariants.{Short, Reference}
 use Rattle.jc_memory.specs.declared.registers.AppletNumber.{AppletNumber}
-use Rattle.jc_memory.specs.declared.registers.Depth.TheVariants.{Outside}
 use Rattle.jc_memory.specs.declared.registers.Installation.TheVariants.{Open}
 use Rattle.jc_memory.specs.declared.registers.Owner.TheVariants.{Applet}
 use Rattle.jc_memory.specs.declared.registers.PackageNumber.{PackageNumber}
-use Rattle.jc_memory.specs.State.{MemoryState, Effect, Changes, Turns, Clears, Starts, effected}
-use Rattle.jc_memory.specs.Doing.{Doing, Gives, Then, Picks, Or, bind, unless_refused}
+use Rattle.jc_memory.specs.State.{MemoryState, Effect, Changes, Turns, Starts, effected}
+use Rattle.jc_memory.specs.Doing.{Doing, Gives, Then, bind, unless_refused}
 use Rattle.jc_memory.specs.Reading.{Each}
 use Rattle.jc_memory.specs.Changing.{package_added}
 use Rattle.jc_memory.proofs.Doings.{each_always, each_bind, each_more}
 use Rattle.jc_platform.specs.declared.names.PlatformMethod.TheVariants.{AppletSelect, AppletDeselect, AppletProcess}
 use Rattle.jc_packages.specs.Lookups.{applet_entry}
 use Rattle.jc_packages.specs.Values.{Packages}
-use Rattle.jc_linker.specs.declared.fault.LinkFault.TheVariants as link
 use Rattle.jc_registry.specs.Registry.{applet_with_aid}
-use Rattle.jc_session.specs.jc_interp.specs.Running.{running_lent}
-use Rattle.jc_session.specs.jc_dispatch.specs.declared.ending.Ending.{Ending}
 use Rattle.jc_session.specs.jc_dispatch.specs.Buffer.{apdu_buffer, apdu_object, filled}
 use Rattle.jc_session.specs.jc_dispatch.specs.Creating.{applet_named, created, created_by, created_of, creation_of, installing}
 use Rattle.jc_session.specs.jc_dispatch.specs.Endings.{is_accepted}
 use Rattle.jc_session.specs.jc_dispatch.specs.Installing.{installed, next_applet, with_installation}
 use Rattle.jc_session.specs.jc_dispatch.specs.LentCode.{code_run}
-use Rattle.jc_session.specs.jc_dispatch.specs.Phases.{after, called, closed, closing, instance_of, run_for}
+use Rattle.jc_session.specs.jc_dispatch.specs.Phases.{after, called, closed, closing, instance_of, run_for, released}
 use Rattle.jc_session.specs.jc_dispatch.specs.Selecting.{accepted, header_of, left, managed, processed, selected, with_command, with_selected}
 use Rattle.jc_card_packages.specs.Prepared.{PreparedPackage, prepared}
 use Rattle.jc_card_packages.specs.Material.{arrays_of, image_of, parts_of, statics_of}
 use Rattle.jc_card_packages.specs.declared.refusal.Refusal.{Refusal}
-use Rattle.jc_card_packages.specs.declared.refusal.Refusal.TheVariants.{Full, Unlinked}
 use Rattle.jc_card_load.specs.declared.load.OpenLoad.{OpenLoad}
-use Rattle.jc_card_load.specs.declared.refusal.LoadRefusal.TheVariants.{NotIn}
-use Rattle.jc_card_load.specs.Ending.{Left, added, comes_in, drops, if_added, if_prepared, package_ended}
-use Rattle.jc_session.specs.jc_card.specs.Answers.{commanded, exchanging, exchanging_apdu, is_dispatched, managed as managed_commands, runs_code, short_bytes}
+use Rattle.jc_card_load.specs.Ending.{added, comes_in, if_added, if_prepared, package_ended}
+use Rattle.jc_session.specs.jc_card.specs.Answers.{commanded, exchanging, exchanging_apdu, is_dispatched, runs_code}
 use Rattle.jc_session.specs.jc_card.specs.Apdu.{Apdu, apdu_of}
 use Rattle.jc_session.specs.jc_card.specs.CardState.{CardState}
 use Rattle.jc_session.specs.jc_card.specs.Dispatching.{creates, dispatched, expected_by, is_select, manager_aid, most_instructions, routed, to_named, to_selected}
-use Rattle.jc_session.specs.jc_card.specs.Loads.{Answered, component_begins, component_ends, component_grows, load_begins, load_ends}
+use Rattle.jc_session.specs.jc_card.specs.Loads.{component_begins, component_ends, component_grows, load_ends}
 
 -- no transaction is open
 abbrev pub IsShut : {A : Type 0} → A → MemoryState → Type 0
@@ -76,7 +68,7 @@ behind e d s shut = stays_shut shut.each
 
 -- ---- the runtime environment takes over
 
-closing_shut : (stands : Bool) (m : MemoryState) → m.heap.begun ≡ stands → EndsShut (closing stands (λ v. after (Turns (record v.registers { depth = Outside })) v (λ w. Gives (tt {0}))) m) m
+closing_shut : (stands : Bool) (m : MemoryState) → m.heap.begun ≡ stands → EndsShut (closing stands (λ v. after (Turns (released v.registers)) v (λ w. Gives (tt {0}))) m) m
 closing_shut false m e = stays_shut e
 closing_shut true m e = stays_shut refl
 
