@@ -1,6 +1,6 @@
 //! A plain Rust card of the same design as the proved one, with as much of the platform as its benchmarks ask for: words
 //! with a journal, headers of objects, the firewall's answer to each access, frames of tagged cells, methods of loaded
-//! packages. It takes what `jcard_bench_card` takes and prints the same.
+//! packages. It takes what `bench_card` takes and prints the same.
 //! Usage: card_twin SETUP COMMANDS TIMES memory|FILE
 mod code;
 mod memory;

@@ -1,25 +1,25 @@
 -- Which offsets name records and methods.
 use Rattle.std.specs.Prelude.{ℕ, Bool, true, ◌&&◌, List, Option, Some, None}
-use Rattle.jc_cap_fields.specs.declared.class_refs.ClassRef.{ClassRef}
-use Rattle.jc_cap_fields.specs.declared.class_refs.ClassRef.TheVariants as classes
-use Rattle.jc_cap_text.specs.Applets.{AppletNamed}
-use Rattle.jc_cap_text.specs.declared.exports.ExportedClass.{ExportedClass}
-use Rattle.jc_cap_text.specs.declared.pool.StaticRef.{StaticRef}
-use Rattle.jc_cap_text.specs.declared.pool.StaticRef.TheVariants as statics
-use Rattle.jc_cap_text.specs.declared.pool.Entry.{Entry}
-use Rattle.jc_cap_text.specs.declared.pool.Entry.TheVariants as entries
-use Rattle.jc_cap_code.specs.ClassValues.{Placed, offsets_of}
+use Rattle.jc_cap_linkage.specs.declared.class_refs.ClassRef.{ClassRef}
+use Rattle.jc_cap_linkage.specs.declared.class_refs.ClassRef.TheVariants as classes
+use Rattle.jc_cap_linkage.specs.Applets.{AppletNamed}
+use Rattle.jc_cap_linkage.specs.declared.exports.ExportedClass.{ExportedClass}
+use Rattle.jc_cap_linkage.specs.declared.pool.StaticRef.{StaticRef}
+use Rattle.jc_cap_linkage.specs.declared.pool.StaticRef.TheVariants as statics
+use Rattle.jc_cap_linkage.specs.declared.pool.Entry.{Entry}
+use Rattle.jc_cap_linkage.specs.declared.pool.Entry.TheVariants as entries
+use Rattle.jc_cap_code.specs.ClassValues.{RecordAt, offsets_of}
 use Rattle.jc_cap_code.specs.ClassReading.{is_among}
 use Rattle.jc_cap_code.specs.MethodValues.{MethodParts}
 use Rattle.jc_cap_code.specs.MethodReading.{has_room}
-use Rattle.jc_cap_code.specs.Tables.{every, tables_fit}
+use Rattle.jc_cap_code.specs.Tables.{all_of_list, tables_fit}
 use Rattle.jc_cap.specs.Contents.{PackageContents}
 
 -- a record of the Class component begins there
-abbrev pub is_class : List Placed → ℕ → Bool
+abbrev pub is_class : List RecordAt → ℕ → Bool
 is_class placed offset = is_among offset (offsets_of placed)
 
-abbrev pub class_fits : List Placed → ClassRef → Bool
+abbrev pub class_fits : List RecordAt → ClassRef → Bool
 class_fits placed (classes.Internal offset) = is_class placed offset
 class_fits placed (classes.External package_token class_token) = true
 
@@ -27,7 +27,7 @@ abbrev pub method_fits : MethodParts → StaticRef → Bool
 method_fits methods (statics.Internal offset) = has_room methods offset
 method_fits methods (statics.External package_token class_token token) = true
 
-abbrev pub entry_fits : List Placed → MethodParts → Entry → Bool
+abbrev pub entry_fits : List RecordAt → MethodParts → Entry → Bool
 entry_fits placed methods (entries.Class c) = class_fits placed c
 entry_fits placed methods (entries.InstanceField c token) = class_fits placed c
 entry_fits placed methods (entries.VirtualMethod c token) = class_fits placed c
@@ -38,17 +38,17 @@ entry_fits placed methods (entries.StaticMethod s) = method_fits methods s
 abbrev pub applet_fits : MethodParts → AppletNamed → Bool
 applet_fits methods a = has_room methods a.install_method_offset
 
-abbrev pub export_fits : List Placed → MethodParts → ExportedClass → Bool
-export_fits placed methods e = is_class placed e.class_offset && every (has_room methods) e.static_method_offsets
+abbrev pub export_fits : List RecordAt → MethodParts → ExportedClass → Bool
+export_fits placed methods e = is_class placed e.class_offset && all_of_list (has_room methods) e.static_method_offsets
 
 -- each of them, where there are any
-abbrev pub every_there : {A : Type 0} → (A → Bool) → Option (List A) → Bool
-every_there p (Some xs) = every p xs
-every_there p None = true
+abbrev pub all_if_present : {A : Type 0} → (A → Bool) → Option (List A) → Bool
+all_if_present p (Some xs) = all_of_list p xs
+all_if_present p None = true
 
 -- each Class offset names a record, each Method offset leaves room for a header behind the handlers
 abbrev pub offsets_fit : PackageContents → Bool
-offsets_fit c = every_there (applet_fits c.methods) c.applets
-    && (every (entry_fits c.classes c.methods) c.pool
+offsets_fit c = all_if_present (applet_fits c.methods) c.applets
+    && (all_of_list (entry_fits c.classes c.methods) c.pool
     && (tables_fit c.methods c.classes
-    && every_there (export_fits c.classes c.methods) c.exports))
+    && all_if_present (export_fits c.classes c.methods) c.exports))

@@ -4,7 +4,7 @@ use Rattle.jc_cap.specs.declared.component.Component.TheVariants as components
 use Rattle.jc_cap.specs.declared.contents.Contents.{Contents}
 use Rattle.jc_cap.specs.Contents.{Content, PackageContents}
 use Rattle.jc_cap.specs.Contents as contents
-use Rattle.jc_cap_text.specs.Views.{head}
+use Rattle.jc_cap_linkage.specs.ComponentViews.{head}
 use Rattle.jc_cap_code.specs.MethodViews.{method_parts}
 use Rattle.jc_cap_code.specs.StaticViews.{static_parts}
 
@@ -21,4 +21,14 @@ content (components.Export xs) = contents.exports xs
 content components.Unused = contents.unused
 
 abbrev pub package_contents : Contents → PackageContents
-package_contents c = record { header = head c.header; directory = c.directory; applets = c.applets; imports = c.imports; pool = c.pool; classes = c.classes; methods = method_parts c.methods; statics = static_parts c.statics; exports = c.exports }
+package_contents c = record {
+  header = head c.header;
+  directory = c.directory;
+  applets = c.applets;
+  imports = c.imports;
+  pool = c.pool;
+  classes = c.classes;
+  methods = method_parts c.methods;
+  statics = static_parts c.statics;
+  exports = c.exports;
+}

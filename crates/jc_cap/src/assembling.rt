@@ -1,7 +1,7 @@
 //! A package is put together of the components that came.
 ghost use Rattle.std.specs.Prelude.{◌≡◌, Ok, IfOk};
-ghost use Rattle.jc_cap_fields.specs.Reading.{Gives};
-ghost use Rattle.jc_cap.specs.Assembling.{present, asked, flags_in, required, checked, assembled};
+ghost use Rattle.jc_cap_linkage.specs.Reading.{ParsesAs};
+ghost use Rattle.jc_cap.specs.Assembling.{required_component, flagged_component, flags_in, required_components, checked_package, assembly_of};
 ghost use Rattle.jc_cap.specs.Packages.{IsPackage};
 ghost use Rattle.jc_cap.specs.Reading.{contents_of};
 ghost use Rattle.jc_cap.specs.Views.{package_contents};
@@ -9,14 +9,14 @@ ghost use Rattle.jc_cap.specs.Views.{package_contents};
 use crate::contents::{Contents, header_in, read_contents};
 use crate::fitting::offsets_fit;
 use crate::sizes::sizes_agree;
-use crate::texts::{Load, Text, Texts};
-use jc_cap_fields::fault::CapFault;
-use jc_cap_fields::formats::Format;
-use jc_cap_fields::tags;
+use crate::texts::{ComponentBytes, LoadedComponents, PackageBytes};
+use jc_cap_linkage::fault::CapFault;
+use jc_cap_linkage::formats::Format;
+use jc_cap_linkage::tags;
 use std::marker::Model;
 
-fn present(tag: u8, text: Option<Text>) -> Result<Text, CapFault>
-    ensures { Gives (λ x. x) result (present tag text) }
+fn required_component(tag: u8, text: Option<ComponentBytes>) -> Result<ComponentBytes, CapFault>
+    ensures { ParsesAs (λ x. x) result (required_component tag text) }
 {
     match text {
         Some(text) => Ok(text),
@@ -24,8 +24,12 @@ fn present(tag: u8, text: Option<Text>) -> Result<Text, CapFault>
     }
 }
 
-fn asked(tag: u8, flag: bool, text: Option<Text>) -> Result<Option<Text>, CapFault>
-    ensures { Gives (λ x. x) result (asked tag flag text) }
+fn flagged_component(
+    tag: u8,
+    flag: bool,
+    text: Option<ComponentBytes>,
+) -> Result<Option<ComponentBytes>, CapFault>
+    ensures { ParsesAs (λ x. x) result (flagged_component tag flag text) }
 {
     match text {
         Some(text) => Ok(Some(text)),
@@ -39,29 +43,29 @@ fn asked(tag: u8, flag: bool, text: Option<Text>) -> Result<Option<Text>, CapFau
 }
 
 /// Which components the header asks for: Export, and Applet.
-fn flags_in(format: Format, header: &Text) -> Result<(bool, bool), CapFault>
-    ensures { Gives (λ x. x) result (flags_in format header.now) }
+fn flags_in(format: Format, header: &ComponentBytes) -> Result<(bool, bool), CapFault>
+    ensures { ParsesAs (λ x. x) result (flags_in format header.now) }
 {
     let header = header_in(format, header.bytes())?;
     Ok((header.exports, header.has_applets))
 }
 
 /// All that a package needs, or the lowest tag that is missing.
-#[tactic(auto, unfolding(crate::specs::Assembling::required))]
-fn required(load: Load) -> Result<Texts, CapFault>
-    ensures { Gives (λ x. x) result (required load) }
+#[tactic(auto, unfolding(crate::specs::Assembling::required_components))]
+fn required_components(load: LoadedComponents) -> Result<PackageBytes, CapFault>
+    ensures { ParsesAs (λ x. x) result (required_components load) }
 {
-    let header = present(tags::HEADER, load.header)?;
-    let directory = present(tags::DIRECTORY, load.directory)?;
+    let header = required_component(tags::HEADER, load.header)?;
+    let directory = required_component(tags::DIRECTORY, load.directory)?;
     let (exports, has_applets) = flags_in(load.format, &header)?;
-    let applets = asked(tags::APPLET, has_applets, load.applets)?;
-    let imports = present(tags::IMPORT, load.imports)?;
-    let pool = present(tags::CONSTANT_POOL, load.pool)?;
-    let classes = present(tags::CLASS, load.classes)?;
-    let methods = present(tags::METHOD, load.methods)?;
-    let statics = present(tags::STATIC_FIELD, load.statics)?;
-    let exports = asked(tags::EXPORT, exports, load.exports)?;
-    Ok(Texts {
+    let applets = flagged_component(tags::APPLET, has_applets, load.applets)?;
+    let imports = required_component(tags::IMPORT, load.imports)?;
+    let pool = required_component(tags::CONSTANT_POOL, load.pool)?;
+    let classes = required_component(tags::CLASS, load.classes)?;
+    let methods = required_component(tags::METHOD, load.methods)?;
+    let statics = required_component(tags::STATIC_FIELD, load.statics)?;
+    let exports = flagged_component(tags::EXPORT, exports, load.exports)?;
+    Ok(PackageBytes {
         format: load.format,
         header,
         directory,
@@ -78,9 +82,9 @@ fn required(load: Load) -> Result<Texts, CapFault>
 }
 
 /// Whether the components of a package agree with each other.
-#[tactic(auto, unfolding(crate::specs::Assembling::checked))]
-fn check(texts: &Texts) -> Result<(), CapFault>
-    ensures { Gives (λ x. x) result (checked texts.now) }
+#[tactic(auto, unfolding(crate::specs::Assembling::checked_package))]
+fn check(texts: &PackageBytes) -> Result<(), CapFault>
+    ensures { ParsesAs (λ x. x) result (checked_package texts.now) }
 {
     let contents = read_contents(texts)?;
     if !sizes_agree(texts, &contents) {
@@ -95,26 +99,26 @@ fn check(texts: &Texts) -> Result<(), CapFault>
 /// The components of a package, which agree with each other.
 #[derive(Drop)]
 pub struct Package {
-    texts: Texts,
+    texts: PackageBytes,
 }
 
 impl Model for Package {
     ghost use Rattle.std.specs.Prelude.{◌≡◌, Ok};
-    ghost use Rattle.jc_cap.specs.declared.texts.Texts.{Texts};
-    ghost use Rattle.jc_cap.specs.Assembling.{checked};
+    ghost use Rattle.jc_cap.specs.declared.texts.PackageBytes.{PackageBytes};
+    ghost use Rattle.jc_cap.specs.Assembling.{checked_package};
 
-    ghost Value = { Texts };
+    ghost Value = { PackageBytes };
 
     ghost view = { λ a. a.texts };
 
-    ghost invariant = { λ a. checked a.texts ≡ Ok tt };
+    ghost invariant = { λ a. checked_package a.texts ≡ Ok tt };
 }
 
-#[tactic(auto, unfolding(crate::specs::Assembling::assembled))]
-fn put_together(load: Load) -> Result<Package, CapFault>
-    ensures { Gives (λ x. x) result (assembled load) }
+#[tactic(auto, unfolding(crate::specs::Assembling::assembly_of))]
+fn put_together(load: LoadedComponents) -> Result<Package, CapFault>
+    ensures { ParsesAs (λ x. x) result (assembly_of load) }
 {
-    let texts = required(load)?;
+    let texts = required_components(load)?;
     check(&texts)?;
     Ok(Package { texts })
 }
@@ -124,11 +128,11 @@ fn put_together(load: Load) -> Result<Package, CapFault>
 /// The first of these is answered: Missing with the lowest tag of a component that every package needs, or that the
 /// header's flags ask for; the fault of a component that cannot be read (none, where `read_component` read them all);
 /// SizesDisagree where the directory does not agree with them; BadOffset where an offset names no record or no method.
-pub fn assemble(load: Load) -> Result<Package, CapFault>
+pub fn assemble(load: LoadedComponents) -> Result<Package, CapFault>
     // What is put together is a package, of the components that came.
     ensures found { IfOk result (λ p. IsPackage p) }
     // Otherwise the fault is the first one, in the order above.
-    ensures exact { Gives (λ x. x) result (assembled load) }
+    ensures exact { ParsesAs (λ x. x) result (assembly_of load) }
 {
     put_together(load)
 }
@@ -146,7 +150,7 @@ impl Package {
     }
 
     /// The components' bytes.
-    pub fn texts(&self) -> &Texts
+    pub fn texts(&self) -> &PackageBytes
         ensures { result.now ≡ self.now }
     {
         &self.texts

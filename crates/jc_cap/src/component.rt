@@ -1,6 +1,6 @@
 //! One component of any tag.
 ghost use Rattle.std.specs.Prelude.{◌≡◌, ◌<◌, ◌^◌, length, Ok, IfOk};
-ghost use Rattle.jc_cap_fields.specs.Reading.{Gives};
+ghost use Rattle.jc_cap_linkage.specs.Reading.{ParsesAs};
 ghost use Rattle.jc_cap.specs.Contents.{Content};
 ghost use Rattle.jc_cap.specs.Components.{content_at, component_at, IsComponent};
 ghost use Rattle.jc_cap.specs.Views.{content};
@@ -8,16 +8,16 @@ ghost use Rattle.jc_cap.specs.Views.{content};
 use jc_cap_code::classes::{Classes, read_class};
 use jc_cap_code::methods::{Methods, read_method};
 use jc_cap_code::statics::{StaticFields, read_static_field};
-use jc_cap_fields::fault::CapFault;
-use jc_cap_fields::formats::Format;
-use jc_cap_fields::tags;
-use jc_cap_text::applets::{Applets, read_applets};
-use jc_cap_text::directory::{Directory, read_directory};
-use jc_cap_text::envelope::info_of;
-use jc_cap_text::exports::{Exports, read_exports};
-use jc_cap_text::header::{Header, read_header};
-use jc_cap_text::imports::{Imports, read_imports};
-use jc_cap_text::pool::{ConstantPool, read_pool};
+use jc_cap_linkage::applets::{Applets, read_applets};
+use jc_cap_linkage::directory::{Directory, read_directory};
+use jc_cap_linkage::envelope::info_of;
+use jc_cap_linkage::exports::{Exports, read_exports};
+use jc_cap_linkage::fault::CapFault;
+use jc_cap_linkage::formats::Format;
+use jc_cap_linkage::header::{Header, read_header};
+use jc_cap_linkage::imports::{Imports, read_imports};
+use jc_cap_linkage::pool::{ConstantPool, read_pool};
+use jc_cap_linkage::tags;
 
 /// What a component says. It is lent from the component's bytes.
 #[derive(Drop)]
@@ -39,7 +39,7 @@ pub enum Component<'a> {
 #[tactic(auto, unfolding(crate::specs::Components::content_at))]
 fn of_info(format: Format, tag: u8, info: &[u8]) -> Result<Component<'_>, CapFault>
     requires { length info.now < 2 ^ 16 }
-    ensures { Gives content result (content_at format tag info.now) }
+    ensures { ParsesAs content result (content_at format tag info.now) }
 {
     match tag {
         tags::HEADER => Ok(Component::Header(read_header(format, info)?)),
@@ -57,7 +57,7 @@ fn of_info(format: Format, tag: u8, info: &[u8]) -> Result<Component<'_>, CapFau
 
 #[tactic(auto, unfolding(crate::specs::Components::component_at))]
 fn of_bytes(format: Format, tag: u8, bytes: &[u8]) -> Result<Component<'_>, CapFault>
-    ensures { Gives content result (component_at format tag bytes.now) }
+    ensures { ParsesAs content result (component_at format tag bytes.now) }
 {
     let info = info_of(tag, bytes)?;
     of_info(format, tag, info)
@@ -70,9 +70,10 @@ pub fn read_component(format: Format, tag: u8, bytes: &[u8]) -> Result<Component
     // What is read stands in the bytes.
     ensures found { IfOk result (λ c. IsComponent format tag (content c) bytes.now) }
     // A component that the bytes are is read.
-    ensures only { (x : Content) → IsComponent format tag x bytes.now → Gives content result (Ok x) }
+    ensures only { (x : Content) → IsComponent format tag x bytes.now
+        → ParsesAs content result (Ok x) }
     // Otherwise the fault is the first one from the left.
-    ensures exact { Gives content result (component_at format tag bytes.now) }
+    ensures exact { ParsesAs content result (component_at format tag bytes.now) }
 {
     of_bytes(format, tag, bytes)
 }

@@ -1,26 +1,27 @@
 //! What the components of a package say.
 ghost use Rattle.std.specs.Prelude.{◌≡◌};
-ghost use Rattle.jc_cap_fields.specs.Reading.{Gives};
+ghost use Rattle.jc_cap_linkage.specs.Reading.{ParsesAs};
 ghost use Rattle.jc_cap.specs.Contents.{PackageContents};
 ghost use Rattle.jc_cap.specs.Reading.{header_in, directory_in, applets_in, imports_in, pool_in, classes_in, methods_in, statics_in, exports_in, contents_of};
 ghost use Rattle.jc_cap.specs.Views.{package_contents};
-ghost use Rattle.jc_cap_text.specs.Views.{head};
+ghost use Rattle.jc_cap_linkage.specs.ComponentViews.{head};
 ghost use Rattle.jc_cap_code.specs.MethodViews.{method_parts};
 ghost use Rattle.jc_cap_code.specs.StaticViews.{static_parts};
 
-use crate::texts::{Text, Texts};
+use crate::texts::{ComponentBytes, PackageBytes};
 use jc_cap_code::classes::{Classes, read_class};
 use jc_cap_code::methods::{Methods, read_method};
 use jc_cap_code::statics::{StaticFields, read_static_field};
-use jc_cap_fields::fault::CapFault;
-use jc_cap_fields::formats::Format;
-use jc_cap_text::applets::{Applets, read_applets};
-use jc_cap_text::directory::{Directory, read_directory};
-use jc_cap_text::envelope::info_of;
-use jc_cap_text::exports::{Exports, read_exports};
-use jc_cap_text::header::{Header, read_header};
-use jc_cap_text::imports::{Imports, read_imports};
-use jc_cap_text::pool::{ConstantPool, read_pool};
+use jc_cap_linkage::applets::{Applets, read_applets};
+use jc_cap_linkage::directory::{Directory, read_directory};
+use jc_cap_linkage::envelope::info_of;
+use jc_cap_linkage::exports::{Exports, read_exports};
+use jc_cap_linkage::fault::CapFault;
+use jc_cap_linkage::formats::Format;
+use jc_cap_linkage::header::{Header, read_header};
+use jc_cap_linkage::imports::{Imports, read_imports};
+use jc_cap_linkage::pool::{ConstantPool, read_pool};
+use jc_cap_linkage::tags;
 
 /// What the components of a package say. It is lent from their bytes.
 #[derive(Drop)]
@@ -37,26 +38,26 @@ pub struct Contents<'a> {
 }
 
 pub(crate) fn header_in(format: Format, bytes: &[u8]) -> Result<Header<'_>, CapFault>
-    ensures { Gives head result (header_in format bytes.now) }
+    ensures { ParsesAs head result (header_in format bytes.now) }
 {
-    let info = info_of(1, bytes)?;
+    let info = info_of(tags::HEADER, bytes)?;
     read_header(format, info)
 }
 
 fn directory_in(format: Format, bytes: &[u8]) -> Result<Directory<'_>, CapFault>
-    ensures { Gives (λ x. x) result (directory_in format bytes.now) }
+    ensures { ParsesAs (λ x. x) result (directory_in format bytes.now) }
 {
-    let info = info_of(2, bytes)?;
+    let info = info_of(tags::DIRECTORY, bytes)?;
     read_directory(format, info)
 }
 
-fn applets_in(text: &Option<Text>) -> Result<Option<Applets<'_>>, CapFault>
-    ensures { Gives (λ x. x) result (applets_in text.now) }
+fn applets_in(text: &Option<ComponentBytes>) -> Result<Option<Applets<'_>>, CapFault>
+    ensures { ParsesAs (λ x. x) result (applets_in text.now) }
 {
     match text {
         None => Ok(None),
         Some(text) => {
-            let info = info_of(3, text.bytes())?;
+            let info = info_of(tags::APPLET, text.bytes())?;
             let applets = read_applets(info)?;
             Ok(Some(applets))
         }
@@ -64,47 +65,47 @@ fn applets_in(text: &Option<Text>) -> Result<Option<Applets<'_>>, CapFault>
 }
 
 fn imports_in(bytes: &[u8]) -> Result<Imports<'_>, CapFault>
-    ensures { Gives (λ x. x) result (imports_in bytes.now) }
+    ensures { ParsesAs (λ x. x) result (imports_in bytes.now) }
 {
-    let info = info_of(4, bytes)?;
+    let info = info_of(tags::IMPORT, bytes)?;
     read_imports(info)
 }
 
 fn pool_in(bytes: &[u8]) -> Result<ConstantPool<'_>, CapFault>
-    ensures { Gives (λ x. x) result (pool_in bytes.now) }
+    ensures { ParsesAs (λ x. x) result (pool_in bytes.now) }
 {
-    let info = info_of(5, bytes)?;
+    let info = info_of(tags::CONSTANT_POOL, bytes)?;
     read_pool(info)
 }
 
 fn classes_in(format: Format, bytes: &[u8]) -> Result<Classes<'_>, CapFault>
-    ensures { Gives (λ x. x) result (classes_in format bytes.now) }
+    ensures { ParsesAs (λ x. x) result (classes_in format bytes.now) }
 {
-    let info = info_of(6, bytes)?;
+    let info = info_of(tags::CLASS, bytes)?;
     read_class(format, info)
 }
 
 fn methods_in(bytes: &[u8]) -> Result<Methods<'_>, CapFault>
-    ensures { Gives method_parts result (methods_in bytes.now) }
+    ensures { ParsesAs method_parts result (methods_in bytes.now) }
 {
-    let info = info_of(7, bytes)?;
+    let info = info_of(tags::METHOD, bytes)?;
     read_method(info)
 }
 
 fn statics_in(bytes: &[u8]) -> Result<StaticFields<'_>, CapFault>
-    ensures { Gives static_parts result (statics_in bytes.now) }
+    ensures { ParsesAs static_parts result (statics_in bytes.now) }
 {
-    let info = info_of(8, bytes)?;
+    let info = info_of(tags::STATIC_FIELD, bytes)?;
     read_static_field(info)
 }
 
-fn exports_in(text: &Option<Text>) -> Result<Option<Exports<'_>>, CapFault>
-    ensures { Gives (λ x. x) result (exports_in text.now) }
+fn exports_in(text: &Option<ComponentBytes>) -> Result<Option<Exports<'_>>, CapFault>
+    ensures { ParsesAs (λ x. x) result (exports_in text.now) }
 {
     match text {
         None => Ok(None),
         Some(text) => {
-            let info = info_of(10, text.bytes())?;
+            let info = info_of(tags::EXPORT, text.bytes())?;
             let exports = read_exports(info)?;
             Ok(Some(exports))
         }
@@ -113,8 +114,8 @@ fn exports_in(text: &Option<Text>) -> Result<Option<Exports<'_>>, CapFault>
 
 /// What the components say, or the fault of the first that cannot be read, the one with the lowest tag.
 #[tactic(auto, unfolding(crate::specs::Reading::contents_of))]
-pub fn read_contents(texts: &Texts) -> Result<Contents<'_>, CapFault>
-    ensures { Gives package_contents result (contents_of texts.now) }
+pub fn read_contents(texts: &PackageBytes) -> Result<Contents<'_>, CapFault>
+    ensures { ParsesAs package_contents result (contents_of texts.now) }
 {
     let header = header_in(texts.format, texts.header.bytes())?;
     let directory = directory_in(texts.format, texts.directory.bytes())?;

@@ -1,23 +1,23 @@
 //! Whether the offsets of a package's components name records and methods.
 ghost use Rattle.std.specs.Prelude.{◌≡◌};
-ghost use Rattle.jc_cap.specs.Fitting.{every_there, class_fits, method_fits, entry_fits, applet_fits, export_fits, offsets_fit};
+ghost use Rattle.jc_cap.specs.Fitting.{all_if_present, class_fits, method_fits, entry_fits, applet_fits, export_fits, offsets_fit};
 ghost use Rattle.jc_cap.specs.Views.{package_contents};
 ghost use Rattle.jc_cap_code.specs.MethodReading.{has_room};
-ghost use Rattle.jc_cap_code.specs.Tables.{every};
+ghost use Rattle.jc_cap_code.specs.Tables.{all_of_list};
 ghost use Rattle.jc_cap_code.specs.MethodViews.{method_parts};
 
 use crate::contents::Contents;
 use jc_cap_code::classes::Classes;
 use jc_cap_code::methods::Methods;
 use jc_cap_code::tables::tables_fit;
-use jc_cap_fields::class_refs::ClassRef;
-use jc_cap_fields::lists::U2List;
-use jc_cap_text::applets::Applets;
-use jc_cap_text::exports::{ExportedClass, Exports};
-use jc_cap_text::pool::{ConstantPool, Entry, StaticRef};
+use jc_cap_linkage::applets::Applets;
+use jc_cap_linkage::class_refs::ClassRef;
+use jc_cap_linkage::exports::{ExportedClass, Exports};
+use jc_cap_linkage::lists::U2List;
+use jc_cap_linkage::pool::{ConstantPool, Entry, StaticRef};
 
 fn all_methods(methods: &Methods<'_>, offsets: &U2List<'_>) -> bool
-    ensures { result ≡ every (has_room (method_parts methods.now)) offsets.now }
+    ensures { result ≡ all_of_list (has_room (method_parts methods.now)) offsets.now }
 {
     for i in 0..offsets.count() {
         let offset = offsets.get(i);
@@ -60,7 +60,7 @@ fn entry_fits(classes: &Classes<'_>, methods: &Methods<'_>, entry: Entry) -> boo
 }
 
 fn pool_fits(pool: &ConstantPool<'_>, classes: &Classes<'_>, methods: &Methods<'_>) -> bool
-    ensures { result ≡ every (entry_fits classes.now (method_parts methods.now)) pool.now }
+    ensures { result ≡ all_of_list (entry_fits classes.now (method_parts methods.now)) pool.now }
 {
     for i in 0..pool.count() {
         let entry = pool.get(i);
@@ -72,7 +72,7 @@ fn pool_fits(pool: &ConstantPool<'_>, classes: &Classes<'_>, methods: &Methods<'
 }
 
 fn applets_fit(applets: &Applets<'_>, methods: &Methods<'_>) -> bool
-    ensures { result ≡ every (applet_fits (method_parts methods.now)) applets.now }
+    ensures { result ≡ all_of_list (applet_fits (method_parts methods.now)) applets.now }
 {
     match applets.split_first() {
         None => true,
@@ -90,7 +90,8 @@ fn export_fits(exported: &ExportedClass<'_>, classes: &Classes<'_>, methods: &Me
 }
 
 fn exports_fit(exports: &Exports<'_>, classes: &Classes<'_>, methods: &Methods<'_>) -> bool
-    ensures { result ≡ every (export_fits classes.now (method_parts methods.now)) exports.now }
+    ensures { result ≡ all_of_list (export_fits classes.now (method_parts methods.now))
+        exports.now }
 {
     match exports.split_first() {
         None => true,
@@ -101,7 +102,7 @@ fn exports_fit(exports: &Exports<'_>, classes: &Classes<'_>, methods: &Methods<'
 }
 
 fn applets_there_fit(applets: &Option<Applets<'_>>, methods: &Methods<'_>) -> bool
-    ensures { result ≡ every_there (applet_fits (method_parts methods.now)) applets.now }
+    ensures { result ≡ all_if_present (applet_fits (method_parts methods.now)) applets.now }
 {
     match applets {
         Some(applets) => applets_fit(applets, methods),
@@ -114,7 +115,8 @@ fn exports_there_fit(
     classes: &Classes<'_>,
     methods: &Methods<'_>,
 ) -> bool
-    ensures { result ≡ every_there (export_fits classes.now (method_parts methods.now)) exports.now }
+    ensures { result ≡ all_if_present (export_fits classes.now (method_parts methods.now))
+        exports.now }
 {
     match exports {
         Some(exports) => exports_fit(exports, classes, methods),

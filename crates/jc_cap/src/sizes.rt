@@ -1,22 +1,23 @@
 //! Whether a package's Directory component agrees with the components that came.
 ghost use Rattle.std.specs.Prelude.{◌≡◌, ◌<◌};
-ghost use Rattle.jc_cap.specs.Sizes.{size_of, size_there, said_of, agrees_there, came_agree, infos_agree, counts_agree, count_there, sizes_agree};
+ghost use Rattle.jc_cap.specs.Sizes.{size_of, size_if_present, directory_size_of, agrees_if_present, optional_sizes_agree, required_sizes_agree, counts_agree};
+ghost use Rattle.jc_cap.specs.Sizes.{count_if_present, sizes_agree};
 ghost use Rattle.jc_cap.specs.Views.{package_contents};
 
 use crate::contents::Contents;
-use crate::texts::{Text, Texts};
-use jc_cap_fields::lists::U2List;
-use jc_cap_fields::tags;
-use jc_cap_text::applets::Applets;
+use crate::texts::{ComponentBytes, PackageBytes};
+use jc_cap_linkage::applets::Applets;
+use jc_cap_linkage::lists::U2List;
+use jc_cap_linkage::tags;
 
-fn size_of(text: &Text) -> usize
+fn size_of(text: &ComponentBytes) -> usize
     ensures { result ≡ size_of text.now }
 {
     text.bytes().len().saturating_sub(3)
 }
 
-fn size_there(text: &Option<Text>) -> usize
-    ensures { result ≡ size_there text.now }
+fn size_if_present(text: &Option<ComponentBytes>) -> usize
+    ensures { result ≡ size_if_present text.now }
 {
     match text {
         Some(text) => size_of(text),
@@ -25,9 +26,9 @@ fn size_there(text: &Option<Text>) -> usize
 }
 
 /// The size that a directory gives for the component with this tag.
-fn said_of(sizes: &U2List<'_>, tag: u8) -> usize
+fn directory_size_of(sizes: &U2List<'_>, tag: u8) -> usize
     requires { 0 < tag }
-    ensures { result ≡ said_of sizes.now tag }
+    ensures { result ≡ directory_size_of sizes.now tag }
 {
     let number = u16::from(tag);
     if number > sizes.count() {
@@ -37,41 +38,41 @@ fn said_of(sizes: &U2List<'_>, tag: u8) -> usize
 }
 
 /// Whether the size of a component that came is the one that the directory gives. An absent one is not compared.
-fn agrees_there(sizes: &U2List<'_>, tag: u8, size: Option<u16>) -> bool
+fn agrees_if_present(sizes: &U2List<'_>, tag: u8, size: Option<u16>) -> bool
     requires { 0 < tag }
-    ensures { result ≡ agrees_there sizes.now tag size }
+    ensures { result ≡ agrees_if_present sizes.now tag size }
 {
     match size {
-        Some(size) => said_of(sizes, tag) == size as usize,
+        Some(size) => directory_size_of(sizes, tag) == size as usize,
         None => true,
     }
 }
 
 /// The sizes of the components that every package has.
-fn infos_agree(texts: &Texts, sizes: &U2List<'_>) -> bool
-    ensures { result ≡ infos_agree texts.now sizes.now }
+fn required_sizes_agree(texts: &PackageBytes, sizes: &U2List<'_>) -> bool
+    ensures { result ≡ required_sizes_agree texts.now sizes.now }
 {
-    said_of(sizes, tags::HEADER) == size_of(&texts.header)
-        && said_of(sizes, tags::DIRECTORY) == size_of(&texts.directory)
-        && said_of(sizes, tags::IMPORT) == size_of(&texts.imports)
-        && said_of(sizes, tags::CONSTANT_POOL) == size_of(&texts.pool)
-        && said_of(sizes, tags::CLASS) == size_of(&texts.classes)
-        && said_of(sizes, tags::METHOD) == size_of(&texts.methods)
-        && said_of(sizes, tags::STATIC_FIELD) == size_of(&texts.statics)
+    directory_size_of(sizes, tags::HEADER) == size_of(&texts.header)
+        && directory_size_of(sizes, tags::DIRECTORY) == size_of(&texts.directory)
+        && directory_size_of(sizes, tags::IMPORT) == size_of(&texts.imports)
+        && directory_size_of(sizes, tags::CONSTANT_POOL) == size_of(&texts.pool)
+        && directory_size_of(sizes, tags::CLASS) == size_of(&texts.classes)
+        && directory_size_of(sizes, tags::METHOD) == size_of(&texts.methods)
+        && directory_size_of(sizes, tags::STATIC_FIELD) == size_of(&texts.statics)
 }
 
 /// The sizes of the others: 0 where an Applet or an Export component is absent.
-fn came_agree(texts: &Texts, sizes: &U2List<'_>) -> bool
-    ensures { result ≡ came_agree texts.now sizes.now }
+fn optional_sizes_agree(texts: &PackageBytes, sizes: &U2List<'_>) -> bool
+    ensures { result ≡ optional_sizes_agree texts.now sizes.now }
 {
-    said_of(sizes, tags::APPLET) == size_there(&texts.applets)
-        && said_of(sizes, tags::EXPORT) == size_there(&texts.exports)
-        && agrees_there(sizes, tags::REFERENCE_LOCATION, texts.reference_location)
-        && agrees_there(sizes, tags::DESCRIPTOR, texts.descriptor)
+    directory_size_of(sizes, tags::APPLET) == size_if_present(&texts.applets)
+        && directory_size_of(sizes, tags::EXPORT) == size_if_present(&texts.exports)
+        && agrees_if_present(sizes, tags::REFERENCE_LOCATION, texts.reference_location)
+        && agrees_if_present(sizes, tags::DESCRIPTOR, texts.descriptor)
 }
 
 fn applet_count(applets: &Option<Applets<'_>>) -> u8
-    ensures { result ≡ count_there applets.now }
+    ensures { result ≡ count_if_present applets.now }
 {
     match applets {
         Some(applets) => applets.count(),
@@ -93,10 +94,10 @@ fn counts_agree(contents: &Contents<'_>) -> bool
 }
 
 /// Whether what the directory says agrees with the components.
-pub(crate) fn sizes_agree(texts: &Texts, contents: &Contents<'_>) -> bool
+pub(crate) fn sizes_agree(texts: &PackageBytes, contents: &Contents<'_>) -> bool
     ensures { result ≡ sizes_agree texts.now (package_contents contents.now) }
 {
-    infos_agree(texts, &contents.directory.component_sizes)
-        && came_agree(texts, &contents.directory.component_sizes)
+    required_sizes_agree(texts, &contents.directory.component_sizes)
+        && optional_sizes_agree(texts, &contents.directory.component_sizes)
         && counts_agree(contents)
 }

@@ -1,18 +1,18 @@
 //! The components of a package as they came.
 ghost use Rattle.std.specs.Prelude.{◌≡◌, ◌<◌, ◌-◌, length};
-ghost use Rattle.jc_cap.specs.Texts.{no_texts, with_text};
+ghost use Rattle.jc_cap.specs.Texts.{no_components, with_component};
 
-use jc_cap_fields::formats::Format;
-use jc_cap_fields::tags;
+use jc_cap_linkage::formats::Format;
+use jc_cap_linkage::tags;
 use std::marker::Model;
 
 /// The bytes of a component that came, with its tag and its size.
 #[derive(Drop)]
-pub struct Text {
+pub struct ComponentBytes {
     bytes: Vec<u8>,
 }
 
-impl Model for Text {
+impl Model for ComponentBytes {
     ghost use Rattle.std.specs.Prelude.{ℕ, List};
 
     ghost Value = { List ℕ };
@@ -20,12 +20,12 @@ impl Model for Text {
     ghost view = { λ a. a.bytes.items };
 }
 
-impl Text {
+impl ComponentBytes {
     /// Keeps these bytes. They are moved, and no memory is taken.
-    pub fn new(bytes: Vec<u8>) -> Text
+    pub fn new(bytes: Vec<u8>) -> ComponentBytes
         ensures { result ≡ bytes.items }
     {
-        Text { bytes }
+        ComponentBytes { bytes }
     }
 
     /// The bytes.
@@ -38,29 +38,29 @@ impl Text {
 
 /// The components of a package that have come, those that are used.
 #[derive(Drop)]
-pub struct Load {
+pub struct LoadedComponents {
     pub format: Format,
-    pub header: Option<Text>,
-    pub directory: Option<Text>,
-    pub applets: Option<Text>,
-    pub imports: Option<Text>,
-    pub pool: Option<Text>,
-    pub classes: Option<Text>,
-    pub methods: Option<Text>,
-    pub statics: Option<Text>,
-    pub exports: Option<Text>,
+    pub header: Option<ComponentBytes>,
+    pub directory: Option<ComponentBytes>,
+    pub applets: Option<ComponentBytes>,
+    pub imports: Option<ComponentBytes>,
+    pub pool: Option<ComponentBytes>,
+    pub classes: Option<ComponentBytes>,
+    pub methods: Option<ComponentBytes>,
+    pub statics: Option<ComponentBytes>,
+    pub exports: Option<ComponentBytes>,
     /// The size of the ReferenceLocation component's info, if that came.
     pub reference_location: Option<u16>,
     /// The size of the Descriptor component's info, if that came.
     pub descriptor: Option<u16>,
 }
 
-impl Load {
+impl LoadedComponents {
     /// No component has come yet.
-    pub fn new() -> Load
-        ensures { result ≡ no_texts }
+    pub fn new() -> LoadedComponents
+        ensures { result ≡ no_components }
     {
-        Load {
+        LoadedComponents {
             format: Format::V2_1,
             header: None,
             directory: None,
@@ -78,13 +78,13 @@ impl Load {
 
     /// Keeps the component with this tag, in place of an earlier one. Its bytes are moved, and no memory is taken. Of
     /// ReferenceLocation and Descriptor the size of the info is kept, and of other components nothing.
-    #[tactic(auto, unfolding(crate::specs::Texts::with_text))]
+    #[tactic(auto, unfolding(crate::specs::Texts::with_component))]
     pub fn keep(&mut self, tag: u8, bytes: Vec<u8>)
         requires { length bytes.items < 65539 }
-        ensures { self.new ≡ with_text self.old tag bytes.items }
+        ensures { self.new ≡ with_component self.old tag bytes.items }
     {
         let size = size_of(bytes.as_slice());
-        let text = Text::new(bytes);
+        let text = ComponentBytes::new(bytes);
         match tag {
             tags::HEADER => self.header = Some(text),
             tags::DIRECTORY => self.directory = Some(text),
@@ -112,17 +112,17 @@ fn size_of(bytes: &[u8]) -> u16
 
 /// The components of a package, all that it needs.
 #[derive(Drop)]
-pub struct Texts {
+pub struct PackageBytes {
     pub format: Format,
-    pub header: Text,
-    pub directory: Text,
-    pub applets: Option<Text>,
-    pub imports: Text,
-    pub pool: Text,
-    pub classes: Text,
-    pub methods: Text,
-    pub statics: Text,
-    pub exports: Option<Text>,
+    pub header: ComponentBytes,
+    pub directory: ComponentBytes,
+    pub applets: Option<ComponentBytes>,
+    pub imports: ComponentBytes,
+    pub pool: ComponentBytes,
+    pub classes: ComponentBytes,
+    pub methods: ComponentBytes,
+    pub statics: ComponentBytes,
+    pub exports: Option<ComponentBytes>,
     /// The size of the ReferenceLocation component's info, if that came.
     pub reference_location: Option<u16>,
     /// The size of the Descriptor component's info, if that came.

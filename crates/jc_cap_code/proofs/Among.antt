@@ -3,8 +3,8 @@ use Rattle.std.proofs.Common.{◌≡◌, ℕ, zero, suc, ◌<◌, Bool, true, fa
 use Rattle.std.specs.Prelude.{Contains}
 use Rattle.std.specs.List.{list_any}
 use Rattle.std.proofs.lemmas.Bool.{eqb-true, eq-eqb}
-use Rattle.jc_cap_fields.specs.declared.class_refs.ClassRef.{ClassRef}
-use Rattle.jc_cap_fields.specs.declared.class_refs.ClassRef.TheVariants.{Internal, External}
+use Rattle.jc_cap_linkage.specs.declared.class_refs.ClassRef.{ClassRef}
+use Rattle.jc_cap_linkage.specs.declared.class_refs.ClassRef.TheVariants.{Internal, External}
 use Rattle.jc_cap_code.specs.declared.class_records.ClassRecord.{ClassRecord}
 use Rattle.jc_cap_code.specs.declared.class_records.ClassRecord.TheVariants as records
 use Rattle.jc_cap_code.specs.ClassReading.{is_among, is_earlier, any_class}

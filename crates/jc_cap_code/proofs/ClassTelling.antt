@@ -1,15 +1,16 @@
 -- One record of the Class component: what is read stands in the bytes, and what stands there is read.
-use Rattle.std.proofs.Common.{◌≡◌, ℕ, ◌+◌, ◌*◌, ◌/◌, ◌%◌, ◌<◌, Bool, true, false, cond, ltb, eqb, List, [], ◌∷◌, ◌++◌, length, Result, Ok, Err, refl, sym, ap, subst, ◌∙◌, append_assoc, arith, inl, inr}
+use Rattle.std.proofs.Common.{◌≡◌, ℕ, ◌+◌, ◌*◌, ◌/◌, ◌%◌, ◌<◌, Bool, true, false, cond, ltb, eqb, List, [], ◌∷◌, ◌++◌, length, Result, Ok, Err, refl, sym, ap}
+use Rattle.std.proofs.Common.{subst, ◌∙◌, append_assoc, arith, inl, inr}
 use Rattle.std.proofs.lemmas.Bool.{ltb-false, le-ltb, eqb-true, eq-eqb}
-use Rattle.jc_cap_fields.specs.declared.fault.CapFault.{CapFault}
-use Rattle.jc_cap_fields.specs.declared.fault.CapFault.TheVariants.{BadOffset, Remote}
-use Rattle.jc_cap_fields.specs.declared.class_refs.ClassRef.{ClassRef}
-use Rattle.jc_cap_fields.specs.Reading.{◌>>=◌, Field, u1_at, u2_at, run_at, many_at}
-use Rattle.jc_cap_fields.specs.ClassRefs.{class_ref_at}
-use Rattle.jc_cap_fields.specs.Grammar.{AreListed, IsU2, IsClassRef}
-use Rattle.jc_cap_fields.specs.Telling.{Taken, Tells}
-use Rattle.jc_cap_fields.proofs.Many.{bind_ok, ok_is}
-use Rattle.jc_cap_fields.proofs.Telling.{guard_ok, chosen, u1_takes, u2_tells, run_takes, run_again, class_ref_tells, many_takes, many_again}
+use Rattle.jc_cap_linkage.specs.declared.fault.CapFault.{CapFault}
+use Rattle.jc_cap_linkage.specs.declared.fault.CapFault.TheVariants.{BadOffset, Remote}
+use Rattle.jc_cap_linkage.specs.declared.class_refs.ClassRef.{ClassRef}
+use Rattle.jc_cap_linkage.specs.Reading.{◌>>=◌, Field, u1_at, u2_at, run_at, many_at}
+use Rattle.jc_cap_linkage.specs.ClassRefs.{class_ref_at}
+use Rattle.jc_cap_linkage.specs.Grammar.{AreEncodedInTurn, IsU2, IsClassRef}
+use Rattle.jc_cap_linkage.specs.Telling.{IsPrefixEncoding, ReadsEncodings}
+use Rattle.jc_cap_linkage.proofs.Many.{bind_ok, ok_is}
+use Rattle.jc_cap_linkage.proofs.Telling.{guard_ok, chosen, u1_takes, u2_tells, run_takes, run_again, class_ref_tells, many_takes, many_again}
 use Rattle.jc_cap_code.specs.Implemented.{Implemented, implemented_at}
 use Rattle.jc_cap_code.specs.declared.class_records.RecordFlags.{RecordFlags}
 use Rattle.jc_cap_code.specs.declared.class_records.ReferenceFields.{ReferenceFields}
@@ -27,7 +28,7 @@ use Rattle.jc_cap_code.proofs.Among.{AllKnown, Knows, knows_any}
 
 -- ---- implemented interfaces
 
-implemented_takes : (bytes : List ℕ) (i : Implemented) (rest : List ℕ) → implemented_at bytes ≡ Ok (i, rest) → Taken IsImplemented bytes i rest
+implemented_takes : (bytes : List ℕ) (i : Implemented) (rest : List ℕ) → implemented_at bytes ≡ Ok (i, rest) → IsPrefixEncoding IsImplemented bytes i rest
 unfolding implemented_at
 implemented_takes bytes i rest e =
     let interface = bind_ok (class_ref_at bytes) _ (i, rest) e in
@@ -37,16 +38,26 @@ implemented_takes bytes i rest e =
     let c = class_ref_tells.takes bytes interface.0.0 interface.0.1 interface.1 in
     let run = run_takes count.0.0 count.0.1 tokens.0.0 tokens.0.1 tokens.1 in
     let back : interface.0.1 ≡ (length tokens.0.0 ∷ tokens.0.0) ++ tokens.0.1 =
-    headed interface.0.1 (length tokens.0.0) count.0.1 tokens.0.0 tokens.0.1 (u1_takes interface.0.1 count.0.0 count.0.1 count.1 ∙ ap (λ (k : ℕ). k ∷ count.0.1) (sym run.1)) run.0 in
-    subst (λ (y : Implemented × List ℕ). Taken IsImplemented bytes y.0 y.1) (ok_is made (i, rest) tokens.2)
-    (record { text = c.text ++ length tokens.0.0 ∷ tokens.0.0; is = (c.text, c.is, refl); parts = joined bytes c.text interface.0.1 (length tokens.0.0 ∷ tokens.0.0) tokens.0.1 c.parts back })
+    headed interface.0.1 (length tokens.0.0) count.0.1 tokens.0.0 tokens.0.1 (u1_takes interface.0.1 count.0.0 count.0.1 count.1
+    ∙ ap (λ (k : ℕ). k ∷ count.0.1) (sym run.1)) run.0 in
+    subst (λ (y : Implemented × List ℕ). IsPrefixEncoding IsImplemented bytes y.0 y.1) (ok_is made (i, rest) tokens.2)
+    (record {
+      text = c.text ++ length tokens.0.0 ∷ tokens.0.0;
+      is = (c.text, c.is, refl);
+      parts = joined bytes c.text interface.0.1 (length tokens.0.0 ∷ tokens.0.0) tokens.0.1 c.parts back;
+    })
 
 implemented_again : (i : Implemented) (text rest : List ℕ) → IsImplemented i text → implemented_at (text ++ rest) ≡ Ok (i, rest)
 unfolding implemented_at
 implemented_again i text rest is =
-    rw (is.2, append_assoc is.0 (length i.tokens ∷ i.tokens) rest, class_ref_tells.again i.interface is.0 (length i.tokens ∷ (i.tokens ++ rest)) is.1, run_again i.tokens rest) refl
+    rw (
+      is.2,
+      append_assoc is.0 (length i.tokens ∷ i.tokens) rest,
+      class_ref_tells.again i.interface is.0 (length i.tokens ∷ (i.tokens ++ rest)) is.1,
+      run_again i.tokens rest,
+    ) refl
 
-pub implemented_tells : Tells implemented_at IsImplemented
+pub implemented_tells : ReadsEncodings implemented_at IsImplemented
 implemented_tells = record { takes = implemented_takes; again = implemented_again }
 
 -- ---- the fields that hold references
@@ -55,12 +66,14 @@ same_either : {A : Type 0} (b : Bool) (x : A) → cond b x x ≡ x
 same_either true x = refl
 same_either false x = refl
 
-references_take : (size : ℕ) (bytes : List ℕ) (r : ReferenceFields) (rest : List ℕ) → references_at size bytes ≡ Ok (r, rest) → (bytes ≡ r.first_token ∷ r.count ∷ rest) × FitsIn size r
+references_take : (size : ℕ) (bytes : List ℕ) (r : ReferenceFields) (rest : List ℕ) → references_at size bytes ≡ Ok (r, rest)
+    → (bytes ≡ r.first_token ∷ r.count ∷ rest) × FitsIn size r
 unfolding references_at
 references_take size bytes r rest e =
     let first = bind_ok (u1_at bytes) _ (r, rest) e in
     let count = bind_ok (u1_at first.0.1) _ (r, rest) first.2 in
-    let parts : bytes ≡ first.0.0 ∷ count.0.0 ∷ count.0.1 = u1_takes bytes first.0.0 first.0.1 first.1 ∙ ap (λ (t : List ℕ). first.0.0 ∷ t) (u1_takes first.0.1 count.0.0 count.0.1 count.1) in
+    let parts : bytes ≡ first.0.0 ∷ count.0.0 ∷ count.0.1 = u1_takes bytes first.0.0 first.0.1 first.1
+    ∙ ap (λ (t : List ℕ). first.0.0 ∷ t) (u1_takes first.0.1 count.0.0 count.0.1 count.1) in
     let made : ReferenceFields × List ℕ = (record { first_token = first.0.0; count = count.0.0 }, count.0.1) in
     let Goal : ReferenceFields × List ℕ → Type 0 = λ y. (bytes ≡ y.0.first_token ∷ y.0.count ∷ y.1) × FitsIn size y.0 in
     elim (chosen (eqb count.0.0 0) _ _ _ count.2) [
@@ -82,7 +95,8 @@ references_again size r rest (inr fits) =
 abbrev IsKnown : (ClassRef → Bool) → ClassRef → List ℕ → Type 0
 IsKnown known c text = IsClassRef c text × (known c ≡ true)
 
-super_takes : (known : ClassRef → Bool) (bytes : List ℕ) (c : ClassRef) (rest : List ℕ) → super_at known bytes ≡ Ok (c, rest) → Taken (IsKnown known) bytes c rest
+super_takes : (known : ClassRef → Bool) (bytes : List ℕ) (c : ClassRef) (rest : List ℕ) → super_at known bytes ≡ Ok (c, rest)
+    → IsPrefixEncoding (IsKnown known) bytes c rest
 super_takes known bytes c rest e =
     let s = super_is known bytes c rest e in
     let t = class_ref_tells.takes bytes c rest s.0 in
@@ -92,16 +106,18 @@ super_again : (known : ClassRef → Bool) (c : ClassRef) (text rest : List ℕ) 
 unfolding super_at
 super_again known c text rest is = rw (class_ref_tells.again c text rest is.0, is.1) refl
 
-super_tells : (known : ClassRef → Bool) → Tells (super_at known) (IsKnown known)
+super_tells : (known : ClassRef → Bool) → ReadsEncodings (super_at known) (IsKnown known)
 super_tells known = record { takes = super_takes known; again = super_again known }
 
-known_apart : (known : ClassRef → Bool) (cs : List ClassRef) (text : List ℕ) → AreListed (IsKnown known) cs text → AreListed IsClassRef cs text × AllKnown known cs
+known_apart : (known : ClassRef → Bool) (cs : List ClassRef) (text : List ℕ) → AreEncodedInTurn (IsKnown known) cs text
+    → AreEncodedInTurn IsClassRef cs text × AllKnown known cs
 known_apart known [] text is = (is, tt)
 known_apart known (c ∷ cs) text is =
     let others = known_apart known cs is.1 is.4 in
     ((is.0, is.1, is.2.0, is.3, others.0), (is.2.1, others.1))
 
-known_together : (known : ClassRef → Bool) (cs : List ClassRef) (text : List ℕ) → AreListed IsClassRef cs text → AllKnown known cs → AreListed (IsKnown known) cs text
+known_together : (known : ClassRef → Bool) (cs : List ClassRef) (text : List ℕ) → AreEncodedInTurn IsClassRef cs text → AllKnown known cs
+    → AreEncodedInTurn (IsKnown known) cs text
 known_together known [] text is k = is
 known_together known (c ∷ cs) text is k = (is.0, is.1, (is.2, k.0), is.3, known_together known cs is.1 is.4 k.1)
 
@@ -113,19 +129,22 @@ record InterfaceText (known : ClassRef → Bool) (shareable : Bool) (count : ℕ
   shareable_is : i.shareable ≡ shareable
   count_is : length i.superinterfaces ≡ count
 
-interface_takes : (known : ClassRef → Bool) (shareable : Bool) (count : ℕ) (bytes : List ℕ) (i : InterfaceInfo) (rest : List ℕ) → interface_at known shareable count bytes ≡ Ok (i, rest) → Taken (InterfaceText known shareable count) bytes i rest
+interface_takes : (known : ClassRef → Bool) (shareable : Bool) (count : ℕ) (bytes : List ℕ) (i : InterfaceInfo) (rest : List ℕ)
+    → interface_at known shareable count bytes ≡ Ok (i, rest) → IsPrefixEncoding (InterfaceText known shareable count) bytes i rest
 unfolding interface_at
 interface_takes known shareable count bytes i rest e =
     let supers = bind_ok (many_at (super_at known) count bytes) _ (i, rest) e in
     let made : InterfaceInfo × List ℕ = (record { shareable = shareable; superinterfaces = supers.0.0 }, supers.0.1) in
     let t = many_takes (super_at known) (IsKnown known) (super_tells known) count bytes supers.0.0 supers.0.1 supers.1 in
     let a = known_apart known supers.0.0 t.0.text t.0.is in
-    subst (λ (y : InterfaceInfo × List ℕ). Taken (InterfaceText known shareable count) bytes y.0 y.1) (ok_is made (i, rest) supers.2)
+    subst (λ (y : InterfaceInfo × List ℕ). IsPrefixEncoding (InterfaceText known shareable count) bytes y.0 y.1) (ok_is made (i, rest) supers.2)
     (record { text = t.0.text; is = record { is = a.0; all_known = a.1; shareable_is = refl; count_is = t.1 }; parts = t.0.parts })
 
-interface_again : (known : ClassRef → Bool) (i : InterfaceInfo) (text rest : List ℕ) → IsInterface i text → AllKnown known i.superinterfaces → interface_at known i.shareable (length i.superinterfaces) (text ++ rest) ≡ Ok (i, rest)
+interface_again : (known : ClassRef → Bool) (i : InterfaceInfo) (text rest : List ℕ) → IsInterface i text → AllKnown known i.superinterfaces
+    → interface_at known i.shareable (length i.superinterfaces) (text ++ rest) ≡ Ok (i, rest)
 unfolding interface_at
-interface_again known i text rest is k = rw (many_again (super_at known) (IsKnown known) (super_tells known) i.superinterfaces text rest (known_together known i.superinterfaces text is k)) refl
+interface_again known i text rest is k = rw (many_again (super_at known) (IsKnown known) (super_tells known) i.superinterfaces text rest
+    (known_together known i.superinterfaces text is k)) refl
 
 -- ---- method tables
 
@@ -144,32 +163,58 @@ sizes_take bytes s rest e =
     let public_count = bind_ok (u1_at public_base.0.1) _ (s, rest) public_base.2 in
     let package_base = bind_ok (u1_at public_count.0.1) _ (s, rest) public_count.2 in
     let package_count = bind_ok (u1_at package_base.0.1) _ (s, rest) package_base.2 in
-    let made : TableSizes × List ℕ = (record { public_base = public_base.0.0; public_count = public_count.0.0; package_base = package_base.0.0 % 128; package_count = package_count.0.0 }, package_count.0.1) in
+    let made : TableSizes × List ℕ = (
+      record {
+        public_base = public_base.0.0;
+        public_count = public_count.0.0;
+        package_base = package_base.0.0 % 128;
+        package_count = package_count.0.0;
+      },
+      package_count.0.1,
+    ) in
     subst (λ (y : TableSizes × List ℕ). SizesText y.0 bytes y.1) (ok_is made (s, rest) package_count.2)
-    (record { package_base = package_base.0.0; masked = refl; parts = four bytes public_base.0.1 public_count.0.1 package_base.0.1 package_count.0.1 public_base.0.0 public_count.0.0 package_base.0.0 package_count.0.0 (u1_takes bytes public_base.0.0 public_base.0.1 public_base.1) (u1_takes public_base.0.1 public_count.0.0 public_count.0.1 public_count.1) (u1_takes public_count.0.1 package_base.0.0 package_base.0.1 package_base.1) (u1_takes package_base.0.1 package_count.0.0 package_count.0.1 package_count.1) })
+    (record {
+      package_base = package_base.0.0;
+      masked = refl;
+      parts = four bytes public_base.0.1 public_count.0.1 package_base.0.1 package_count.0.1 public_base.0.0 public_count.0.0 package_base.0.0
+          package_count.0.0 (u1_takes bytes public_base.0.0 public_base.0.1 public_base.1)
+          (u1_takes public_base.0.1 public_count.0.0 public_count.0.1 public_count.1)
+          (u1_takes public_count.0.1 package_base.0.0 package_base.0.1 package_base.1)
+          (u1_takes package_base.0.1 package_count.0.0 package_count.0.1 package_count.1);
+    })
 
 counts_so : (bytes b r : List ℕ) (p q w x y z : ℕ) → bytes ≡ p ∷ w ∷ y ∷ x ∷ b → w ≡ q → x ≡ z → b ≡ r → bytes ≡ p ∷ q ∷ y ∷ z ∷ r
 counts_so bytes b r p q w x y z e f g h = cc
 
-tables_take : (bytes : List ℕ) (t : MethodTables) (rest : List ℕ) → tables_at bytes ≡ Ok (t, rest) → Taken AreTables bytes t rest
+tables_take : (bytes : List ℕ) (t : MethodTables) (rest : List ℕ) → tables_at bytes ≡ Ok (t, rest) → IsPrefixEncoding AreTables bytes t rest
 unfolding tables_at
 tables_take bytes t rest e =
     let sizes = bind_ok (table_sizes_at bytes) _ (t, rest) e in
     let publics = bind_ok (many_at u2_at sizes.0.0.public_count sizes.0.1) _ (t, rest) sizes.2 in
     let packages = bind_ok (many_at u2_at sizes.0.0.package_count publics.0.1) _ (t, rest) publics.2 in
-    let made : MethodTables × List ℕ = (record { public_base = sizes.0.0.public_base; public_methods = publics.0.0; package_base = sizes.0.0.package_base; package_methods = packages.0.0 }, packages.0.1) in
+    let made : MethodTables × List ℕ = (
+      record {
+        public_base = sizes.0.0.public_base;
+        public_methods = publics.0.0;
+        package_base = sizes.0.0.package_base;
+        package_methods = packages.0.0;
+      },
+      packages.0.1,
+    ) in
     let s = sizes_take bytes sizes.0.0 sizes.0.1 sizes.1 in
     let p = many_takes u2_at IsU2 u2_tells sizes.0.0.public_count sizes.0.1 publics.0.0 publics.0.1 publics.1 in
     let q = many_takes u2_at IsU2 u2_tells sizes.0.0.package_count publics.0.1 packages.0.0 packages.0.1 packages.1 in
     let both : sizes.0.1 ≡ (p.0.text ++ q.0.text) ++ packages.0.1 = joined sizes.0.1 p.0.text publics.0.1 q.0.text packages.0.1 p.0.parts q.0.parts in
-    subst (λ (y : MethodTables × List ℕ). Taken AreTables bytes y.0 y.1) (ok_is made (t, rest) packages.2)
+    subst (λ (y : MethodTables × List ℕ). IsPrefixEncoding AreTables bytes y.0 y.1) (ok_is made (t, rest) packages.2)
     (record {
       text = sizes.0.0.public_base ∷ length publics.0.0 ∷ s.package_base ∷ length packages.0.0 ∷ (p.0.text ++ q.0.text);
       is = (s.package_base, p.0.text, q.0.text, s.masked, p.0.is, q.0.is, refl);
-      parts = counts_so bytes sizes.0.1 ((p.0.text ++ q.0.text) ++ packages.0.1) sizes.0.0.public_base (length publics.0.0) sizes.0.0.public_count sizes.0.0.package_count s.package_base (length packages.0.0) s.parts (sym p.1) (sym q.1) both;
+      parts = counts_so bytes sizes.0.1 ((p.0.text ++ q.0.text) ++ packages.0.1) sizes.0.0.public_base
+          (length publics.0.0) sizes.0.0.public_count sizes.0.0.package_count s.package_base (length packages.0.0) s.parts (sym p.1) (sym q.1) both;
     })
 
-sizes_again : (a b c d : ℕ) (rest : List ℕ) → table_sizes_at (a ∷ b ∷ c ∷ d ∷ rest) ≡ Ok (record { public_base = a; public_count = b; package_base = c % 128; package_count = d }, rest)
+sizes_again : (a b c d : ℕ) (rest : List ℕ) → table_sizes_at (a ∷ b ∷ c ∷ d ∷ rest)
+    ≡ Ok (record { public_base = a; public_count = b; package_base = c % 128; package_count = d }, rest)
 unfolding table_sizes_at
 sizes_again a b c d rest = refl
 
@@ -185,9 +230,6 @@ tables_again t text rest is =
       is.3,
     ) refl
 
-tables_tells : Tells tables_at AreTables
-tables_tells = record { takes = tables_take; again = tables_again }
-
 -- ---- classes
 
 record ClassText (known : ClassRef → Bool) (shareable : Bool) (count : ℕ) (c : ClassInfo) (text : List ℕ) : Type 0 where
@@ -196,10 +238,12 @@ record ClassText (known : ClassRef → Bool) (shareable : Bool) (count : ℕ) (c
   shareable_is : c.shareable ≡ shareable
   count_is : length c.interfaces ≡ count
 
-fixed_parts : (bytes next tables lists rest : List ℕ) (a b c : ℕ) → bytes ≡ a ∷ next → next ≡ b ∷ c ∷ tables → tables ≡ lists ++ rest → bytes ≡ (a ∷ b ∷ c ∷ lists) ++ rest
+fixed_parts : (bytes next tables lists rest : List ℕ) (a b c : ℕ) → bytes ≡ a ∷ next → next ≡ b ∷ c ∷ tables → tables ≡ lists ++ rest
+    → bytes ≡ (a ∷ b ∷ c ∷ lists) ++ rest
 fixed_parts bytes next tables lists rest a b c e f g = e ∙ ap (λ (t : List ℕ). a ∷ t) (f ∙ ap (λ (t : List ℕ). b ∷ c ∷ t) g)
 
-class_takes : (known : ClassRef → Bool) (shareable : Bool) (interfaces : ℕ) (bytes : List ℕ) (c : ClassInfo) (rest : List ℕ) → class_at known shareable interfaces bytes ≡ Ok (c, rest) → Taken (ClassText known shareable interfaces) bytes c rest
+class_takes : (known : ClassRef → Bool) (shareable : Bool) (interfaces : ℕ) (bytes : List ℕ) (c : ClassInfo) (rest : List ℕ)
+    → class_at known shareable interfaces bytes ≡ Ok (c, rest) → IsPrefixEncoding (ClassText known shareable interfaces) bytes c rest
 unfolding class_at
 class_takes known shareable interfaces bytes c rest e =
     let super = bind_ok (super_at known bytes) _ (c, rest) e in
@@ -207,26 +251,45 @@ class_takes known shareable interfaces bytes c rest e =
     let references = bind_ok (references_at size.0.0 size.0.1) _ (c, rest) size.2 in
     let tables = bind_ok (tables_at references.0.1) _ (c, rest) references.2 in
     let implemented = bind_ok (many_at implemented_at interfaces tables.0.1) _ (c, rest) tables.2 in
-    let made : ClassInfo × List ℕ = (record { shareable = shareable; superclass = super.0.0; declared_instance_size = size.0.0; references = references.0.0; tables = tables.0.0; interfaces = implemented.0.0 }, implemented.0.1) in
+    let made : ClassInfo × List ℕ = (
+      record {
+        shareable = shareable;
+        superclass = super.0.0;
+        declared_instance_size = size.0.0;
+        references = references.0.0;
+        tables = tables.0.0;
+        interfaces = implemented.0.0;
+      },
+      implemented.0.1,
+    ) in
     let s = super_takes known bytes super.0.0 super.0.1 super.1 in
     let r = references_take size.0.0 size.0.1 references.0.0 references.0.1 references.1 in
     let t = tables_take references.0.1 tables.0.0 tables.0.1 tables.1 in
     let m = many_takes implemented_at IsImplemented implemented_tells interfaces tables.0.1 implemented.0.0 implemented.0.1 implemented.1 in
     let lists : references.0.1 ≡ (t.text ++ m.0.text) ++ implemented.0.1 = joined references.0.1 t.text tables.0.1 m.0.text implemented.0.1 t.parts m.0.parts in
     let behind : super.0.1 ≡ (size.0.0 ∷ references.0.0.first_token ∷ references.0.0.count ∷ (t.text ++ m.0.text)) ++ implemented.0.1 =
-    fixed_parts super.0.1 size.0.1 references.0.1 (t.text ++ m.0.text) implemented.0.1 size.0.0 references.0.0.first_token references.0.0.count (u1_takes super.0.1 size.0.0 size.0.1 size.1) r.0 lists in
-    let is : IsClass made.0 (s.text ++ size.0.0 ∷ references.0.0.first_token ∷ references.0.0.count ∷ (t.text ++ m.0.text)) = (s.text, t.text, m.0.text, s.is.0, r.1, t.is, m.0.is, refl) in
-    subst (λ (y : ClassInfo × List ℕ). Taken (ClassText known shareable interfaces) bytes y.0 y.1) (ok_is made (c, rest) implemented.2)
+    fixed_parts super.0.1 size.0.1 references.0.1 (t.text ++ m.0.text) implemented.0.1 size.0.0 references.0.0.first_token references.0.0.count
+    (u1_takes super.0.1 size.0.0 size.0.1 size.1) r.0 lists in
+    let is : IsClass made.0 (s.text ++ size.0.0 ∷ references.0.0.first_token ∷ references.0.0.count ∷ (t.text ++ m.0.text)) =
+    (s.text, t.text, m.0.text, s.is.0, r.1, t.is, m.0.is, refl) in
+    subst (λ (y : ClassInfo × List ℕ). IsPrefixEncoding (ClassText known shareable interfaces) bytes y.0 y.1) (ok_is made (c, rest) implemented.2)
     (record {
       text = s.text ++ size.0.0 ∷ references.0.0.first_token ∷ references.0.0.count ∷ (t.text ++ m.0.text);
       is = record { is = is; is_known = s.is.1; shareable_is = refl; count_is = m.1 };
-      parts = joined bytes s.text super.0.1 (size.0.0 ∷ references.0.0.first_token ∷ references.0.0.count ∷ (t.text ++ m.0.text)) implemented.0.1 s.parts behind;
+      parts = joined bytes s.text super.0.1 (size.0.0 ∷ references.0.0.first_token ∷ references.0.0.count ∷ (t.text ++ m.0.text)) implemented.0.1 s.parts
+          behind;
     })
 
-class_split : (text super tables interfaces rest : List ℕ) (a b c : ℕ) → text ≡ super ++ a ∷ b ∷ c ∷ (tables ++ interfaces) → text ++ rest ≡ super ++ a ∷ b ∷ c ∷ (tables ++ (interfaces ++ rest))
-class_split text super tables interfaces rest a b c is = rw (is, append_assoc super (a ∷ b ∷ c ∷ (tables ++ interfaces)) rest, append_assoc tables interfaces rest) refl
+class_split : (text super tables interfaces rest : List ℕ) (a b c : ℕ) → text ≡ super ++ a ∷ b ∷ c ∷ (tables ++ interfaces)
+    → text ++ rest ≡ super ++ a ∷ b ∷ c ∷ (tables ++ (interfaces ++ rest))
+class_split text super tables interfaces rest a b c is = rw (
+  is,
+  append_assoc super (a ∷ b ∷ c ∷ (tables ++ interfaces)) rest,
+  append_assoc tables interfaces rest,
+) refl
 
-class_again : (known : ClassRef → Bool) (c : ClassInfo) (text rest : List ℕ) → IsClass c text → known c.superclass ≡ true → class_at known c.shareable (length c.interfaces) (text ++ rest) ≡ Ok (c, rest)
+class_again : (known : ClassRef → Bool) (c : ClassInfo) (text rest : List ℕ) → IsClass c text → known c.superclass ≡ true
+    → class_at known c.shareable (length c.interfaces) (text ++ rest) ≡ Ok (c, rest)
 unfolding class_at
 class_again known c text rest is k =
     let fixed : List ℕ = c.declared_instance_size ∷ c.references.first_token ∷ c.references.count ∷ (is.1 ++ (is.2 ++ rest)) in
@@ -290,42 +353,55 @@ flagged known first bytes flags =
     cond flags.interface (interface_at known flags.shareable (first % 16) bytes >>= λ i. Ok (records.Interface i.0, i.1))
     (class_at known flags.shareable (first % 16) bytes >>= λ c. Ok (records.Class c.0, c.1))
 
-flagged_takes : (known : ClassRef → Bool) (interface shareable : Bool) (first : ℕ) (bytes : List ℕ) (r : ClassRecord) (rest : List ℕ) → first ≡ high_bits interface shareable * 16 + first % 16
-    → flagged known first bytes (record { interface = interface; shareable = shareable }) ≡ Ok (r, rest) → Taken (RecordText known) (first ∷ bytes) r rest
+flagged_takes : (known : ClassRef → Bool) (interface shareable : Bool) (first : ℕ) (bytes : List ℕ) (r : ClassRecord) (rest : List ℕ)
+    → first ≡ high_bits interface shareable * 16 + first % 16
+    → flagged known first bytes (record { interface = interface; shareable = shareable }) ≡ Ok (r, rest)
+    → IsPrefixEncoding (RecordText known) (first ∷ bytes) r rest
 flagged_takes known true shareable first bytes r rest byte e =
     let i = bind_ok (interface_at known shareable (first % 16) bytes) _ (r, rest) e in
     let t = interface_takes known shareable (first % 16) bytes i.0.0 i.0.1 i.1 in
     let made : ClassRecord × List ℕ = (records.Interface i.0.0, i.0.1) in
     let few : length i.0.0.superinterfaces < 16 = omega (arith, t.is.count_is, low_nibble first) in
     let byte-is : first ≡ first_byte true i.0.0.shareable (length i.0.0.superinterfaces) = byte ∙ rw (t.is.shareable_is, t.is.count_is) refl in
-    subst (λ (y : ClassRecord × List ℕ). Taken (RecordText known) (first ∷ bytes) y.0 y.1) (ok_is made (r, rest) i.2)
-    (record { text = first ∷ t.text; is = record { is = (t.text, few, t.is.is, ap (λ (b : ℕ). b ∷ t.text) byte-is); is_known = t.is.all_known }; parts = ap (λ (s : List ℕ). first ∷ s) t.parts })
+    subst (λ (y : ClassRecord × List ℕ). IsPrefixEncoding (RecordText known) (first ∷ bytes) y.0 y.1) (ok_is made (r, rest) i.2)
+    (record {
+      text = first ∷ t.text;
+      is = record { is = (t.text, few, t.is.is, ap (λ (b : ℕ). b ∷ t.text) byte-is); is_known = t.is.all_known };
+      parts = ap (λ (s : List ℕ). first ∷ s) t.parts;
+    })
 flagged_takes known false shareable first bytes r rest byte e =
     let c = bind_ok (class_at known shareable (first % 16) bytes) _ (r, rest) e in
     let t = class_takes known shareable (first % 16) bytes c.0.0 c.0.1 c.1 in
     let made : ClassRecord × List ℕ = (records.Class c.0.0, c.0.1) in
     let few : length c.0.0.interfaces < 16 = omega (arith, t.is.count_is, low_nibble first) in
     let byte-is : first ≡ first_byte false c.0.0.shareable (length c.0.0.interfaces) = byte ∙ rw (t.is.shareable_is, t.is.count_is) refl in
-    subst (λ (y : ClassRecord × List ℕ). Taken (RecordText known) (first ∷ bytes) y.0 y.1) (ok_is made (r, rest) c.2)
-    (record { text = first ∷ t.text; is = record { is = (t.text, few, t.is.is, ap (λ (b : ℕ). b ∷ t.text) byte-is); is_known = t.is.is_known }; parts = ap (λ (s : List ℕ). first ∷ s) t.parts })
+    subst (λ (y : ClassRecord × List ℕ). IsPrefixEncoding (RecordText known) (first ∷ bytes) y.0 y.1) (ok_is made (r, rest) c.2)
+    (record {
+      text = first ∷ t.text;
+      is = record { is = (t.text, few, t.is.is, ap (λ (b : ℕ). b ∷ t.text) byte-is); is_known = t.is.is_known };
+      parts = ap (λ (s : List ℕ). first ∷ s) t.parts;
+    })
 
 first_is : (first n : ℕ) → first / 16 ≡ n → first ≡ n * 16 + first % 16
 first_is first n e = together first ∙ ap (λ (k : ℕ). k * 16 + first % 16) e
 
 -- a record that is read, and what it says of others
 pub record Found (known : ClassRef → Bool) (bytes : List ℕ) (r : ClassRecord) (rest : List ℕ) : Type 0 where
-  pub taken : Taken IsRecord bytes r rest
+  pub taken : IsPrefixEncoding IsRecord bytes r rest
   pub is_known : Knows known r
 
-pub record_takes : (known : ClassRef → Bool) (bytes : List ℕ) (r : ClassRecord) (rest : List ℕ) → record_at known bytes ≡ Ok (r, rest) → Found known bytes r rest
+pub record_takes : (known : ClassRef → Bool) (bytes : List ℕ) (r : ClassRecord) (rest : List ℕ) → record_at known bytes ≡ Ok (r, rest)
+    → Found known bytes r rest
 unfolding record_at
 record_takes known bytes r rest e =
     let first = bind_ok (u1_at bytes) _ (r, rest) e in
     let flags = bind_ok (flags_of (first.0.0 / 16)) _ (r, rest) first.2 in
-    let t = flagged_takes known flags.0.interface flags.0.shareable first.0.0 first.0.1 r rest (first_is first.0.0 (high_bits flags.0.interface flags.0.shareable) (flags_take (first.0.0 / 16) flags.0 flags.1)) flags.2 in
+    let t = flagged_takes known flags.0.interface flags.0.shareable first.0.0 first.0.1 r rest
+    (first_is first.0.0 (high_bits flags.0.interface flags.0.shareable) (flags_take (first.0.0 / 16) flags.0 flags.1)) flags.2 in
     record { taken = record { text = t.text; is = t.is.is; parts = u1_takes bytes first.0.0 first.0.1 first.1 ∙ t.parts }; is_known = t.is.is_known }
 
-pub record_again : (known : ClassRef → Bool) (r : ClassRecord) (text rest : List ℕ) → IsRecord r text → Knows known r → record_at known (text ++ rest) ≡ Ok (r, rest)
+pub record_again : (known : ClassRef → Bool) (r : ClassRecord) (text rest : List ℕ) → IsRecord r text → Knows known r
+    → record_at known (text ++ rest) ≡ Ok (r, rest)
 unfolding record_at
 record_again known (records.Interface i) text rest is k =
     let n = nibbles (high_bits true i.shareable) (length i.superinterfaces) is.1 in
@@ -340,7 +416,8 @@ record_long (records.Interface i) text is = omega (arith, ap length is.3)
 record_long (records.Class c) text is = omega (arith, ap length is.3)
 
 -- what was read as known is read again without that
-pub record_reread : (known : ClassRef → Bool) (bytes : List ℕ) (r : ClassRecord) (rest : List ℕ) → record_at known bytes ≡ Ok (r, rest) → record_at any_class bytes ≡ Ok (r, rest)
+pub record_reread : (known : ClassRef → Bool) (bytes : List ℕ) (r : ClassRecord) (rest : List ℕ) → record_at known bytes ≡ Ok (r, rest)
+    → record_at any_class bytes ≡ Ok (r, rest)
 record_reread known bytes r rest e =
     let t = record_takes known bytes r rest e in
     ap (record_at any_class) t.taken.parts ∙ record_again any_class r t.taken.text rest t.taken.is (knows_any r)

@@ -1,21 +1,23 @@
 -- Superclasses and superinterfaces of this package are earlier records.
-use Rattle.std.proofs.Common.{◌≡◌, ℕ, zero, suc, ◌+◌, ◌<◌, ◌≤◌, Bool, true, false, ◌||◌, eqb, inl, inr, ◌⊎◌, List, [], ◌∷◌, ◌++◌, length, take, Option, Some, Ok, refl, sym, ap, subst, ◌∙◌, append_assoc, arith}
+use Rattle.std.proofs.Common.{◌≡◌, ℕ, zero, suc, ◌+◌, Bool, true, false, ◌||◌, eqb, List, [], ◌∷◌, ◌++◌, length, take, Option, Some, Ok, refl, sym, ap, subst}
+use Rattle.std.proofs.Common.{◌∙◌, append_assoc, arith}
 use Rattle.std.specs.Prelude.{slice_get}
 use Rattle.std.proofs.lemmas.List.{append-nil}
-use Rattle.std.proofs.lemmas.Bool.{cases_lt, ne_eqb, true≢false}
-use Rattle.jc_cap_fields.specs.declared.formats.Format.{Format}
-use Rattle.jc_cap_fields.specs.declared.formats.Format.TheVariants.{V2_1}
+use Rattle.std.proofs.lemmas.Bool.{ne_eqb}
+use Rattle.jc_cap_linkage.specs.declared.formats.Format.{Format}
+use Rattle.jc_cap_linkage.specs.declared.formats.Format.TheVariants.{V2_1}
 use Rattle.jc_cap_code.specs.declared.class_records.ClassRecord.{ClassRecord}
-use Rattle.jc_cap_code.specs.ClassValues.{Placed, offsets_of, contents_of}
+use Rattle.jc_cap_code.specs.ClassValues.{RecordAt, offsets_of, contents_of}
 use Rattle.jc_cap_code.specs.ClassReading.{is_among, classes_of}
-use Rattle.jc_cap_code.specs.ClassGrammar.{LooksBack, AreRecords, AreClasses}
+use Rattle.jc_cap_code.specs.ClassGrammar.{LooksBack, AreRecords}
 use Rattle.jc_cap_code.proofs.RecordWalk.{classes_take}
 
 some_is : (x y : ClassRecord) → ◌≡◌ {A = Option ClassRecord} (Some x) (Some y) → x ≡ y
 some_is x y e = cc
 
 -- each record looks back to those before it
-back_from : (at : ℕ) (before : List ℕ) (rs : List Placed) (text : List ℕ) (i : ℕ) (r : ClassRecord) → AreRecords at before rs text → slice_get (contents_of rs) i ≡ Some r → LooksBack (before ++ take i (offsets_of rs)) r
+back_from : (at : ℕ) (before : List ℕ) (rs : List RecordAt) (text : List ℕ) (i : ℕ) (r : ClassRecord) → AreRecords at before rs text
+    → slice_get (contents_of rs) i ≡ Some r → LooksBack (before ++ take i (offsets_of rs)) r
 back_from at before [] text i r are e = absurd cc
 back_from at before (x ∷ rs) text zero r are e =
     subst (λ (b : List ℕ). LooksBack b r) (sym (append-nil before)) (subst (λ (y : ClassRecord). LooksBack before y) (some_is x.contents r e) are.4)
@@ -25,7 +27,8 @@ back_from at before (x ∷ rs) text (suc i) r are e =
     append_assoc before (at ∷ []) (take i (offsets_of rs)) ∙ ap (λ (k : ℕ). before ++ k ∷ take i (offsets_of rs)) (sym are.2) in
     subst (λ (b : List ℕ). LooksBack b r) here there
 
-pub looks_back_to : (format : Format) (info : List ℕ) (rs value : List Placed) (i : ℕ) (r : ClassRecord) → classes_of format info ≡ Ok rs → rs ≡ value → slice_get (contents_of value) i ≡ Some r → LooksBack (take i (offsets_of value)) r
+pub looks_back_to : (format : Format) (info : List ℕ) (rs value : List RecordAt) (i : ℕ) (r : ClassRecord) → classes_of format info ≡ Ok rs → rs ≡ value
+    → slice_get (contents_of value) i ≡ Some r → LooksBack (take i (offsets_of value)) r
 looks_back_to V2_1 info rs value i r e same there =
     let are = classes_take V2_1 info value (e ∙ ap Ok same) in
     back_from 0 [] value info i r are.1 there
@@ -49,20 +52,3 @@ not_among n (y ∷ xs) (suc i) x e other before =
 pub none_before : (n : ℕ) (xs : List ℕ) (i x : ℕ) → slice_get xs i ≡ Some x → ¬ (x ≡ n) → is_among n (take i xs) ≡ false → is_among n (take (i + 1) xs) ≡ false
 none_before n xs i x e other before =
     ap (λ (k : ℕ). is_among n (take k xs)) (let z : i + 1 ≡ suc i = omega arith in z) ∙ not_among n xs i x e (ne_eqb n x (λ h. other (sym h))) before
-
-first_or_later : (a b c : Bool) → (b ≡ true → c ≡ true) → (a || b) ≡ true → (a || c) ≡ true
-first_or_later true b c f e = refl
-first_or_later false b c f e = f e
-
-among_longer : (n : ℕ) (xs : List ℕ) (i j : ℕ) → i ≤ j → is_among n (take i xs) ≡ true → is_among n (take j xs) ≡ true
-among_longer n xs zero j le e = absurd cc
-among_longer n [] (suc i) j le e = absurd cc
-among_longer n (x ∷ xs) (suc i) zero le e = absurd (omega (arith, le))
-among_longer n (x ∷ xs) (suc i) (suc j) le e = first_or_later (eqb n x) (is_among n (take i xs)) (is_among n (take j xs)) (among_longer n xs i j (omega (arith, le))) e
-
--- An offset of an earlier record has its first place among those.
-pub place_before : (offset : ℕ) (offsets : List ℕ) (number place : ℕ) → is_among offset (take number offsets) ≡ true → is_among offset (take place offsets) ≡ false → place < number
-place_before offset offsets number place here none = elim (cases_lt place number) [
-  | inl lt ↦ lt
-  | inr le ↦ absurd (true≢false (sym (among_longer offset offsets number place le here) ∙ none))
-]

@@ -1,12 +1,12 @@
 -- Parts of one size.
 use Rattle.std.proofs.Common.{◌≡◌, ℕ, ◌≤◌, Bool, true, false, List, ◌++◌, length, drop, refl, ap, ◌∙◌, arith}
 use Rattle.std.proofs.lemmas.List.{drop_at, length-append}
-use Rattle.jc_cap_fields.specs.declared.class_refs.ClassRef.{ClassRef}
-use Rattle.jc_cap_fields.specs.declared.class_refs.ClassRef.TheVariants.{Internal, External}
-use Rattle.jc_cap_fields.specs.ClassRefs.{class_ref_at}
-use Rattle.jc_cap_fields.specs.Grammar.{IsU2, IsClassRef}
-use Rattle.jc_cap_fields.proofs.Telling.{class_ref_tells}
-use Rattle.jc_cap_fields.proofs.Walk.{HasSize}
+use Rattle.jc_cap_linkage.specs.declared.class_refs.ClassRef.{ClassRef}
+use Rattle.jc_cap_linkage.specs.declared.class_refs.ClassRef.TheVariants.{Internal, External}
+use Rattle.jc_cap_linkage.specs.ClassRefs.{class_ref_at}
+use Rattle.jc_cap_linkage.specs.Grammar.{IsU2, IsClassRef}
+use Rattle.jc_cap_linkage.proofs.Telling.{class_ref_tells}
+use Rattle.jc_cap_linkage.proofs.Walk.{HasSize}
 use Rattle.jc_cap_code.specs.declared.handlers.Handler.{Handler}
 use Rattle.jc_cap_code.specs.MethodReading.{handler_at}
 use Rattle.jc_cap_code.specs.MethodGrammar.{IsActiveLength, IsHandler}
@@ -25,7 +25,16 @@ active_length true n text is = rw is.3 refl
 
 handler_length : (h : Handler) (text : List ℕ) → IsHandler h text → length text ≡ 8
 handler_length h text is =
-    ap length is.8 ∙ omega (arith, length-append is.0 (is.1 ++ (is.2 ++ is.3)), length-append is.1 (is.2 ++ is.3), length-append is.2 is.3, u2_length _ is.0 is.4, active_length _ _ is.1 is.5, u2_length _ is.2 is.6, u2_length _ is.3 is.7)
+    ap length is.8 ∙ omega (
+      arith,
+      length-append is.0 (is.1 ++ (is.2 ++ is.3)),
+      length-append is.1 (is.2 ++ is.3),
+      length-append is.2 is.3,
+      u2_length _ is.0 is.4,
+      active_length _ _ is.1 is.5,
+      u2_length _ is.2 is.6,
+      u2_length _ is.3 is.7,
+    )
 
 pub handler_size : HasSize handler_at 8
 handler_size bytes h rest e =

@@ -1,16 +1,17 @@
 -- Superclasses and superinterfaces are class references.
 use Rattle.std.proofs.Common.{◌≡◌, ℕ, zero, suc, Bool, true, List, Ok, sym, ap, ◌∙◌}
-use Rattle.jc_cap_fields.specs.declared.fault.CapFault.TheVariants.{BadOffset}
-use Rattle.jc_cap_fields.specs.declared.class_refs.ClassRef.{ClassRef}
-use Rattle.jc_cap_fields.specs.Reading.{Field, many_at, after, listed}
-use Rattle.jc_cap_fields.specs.ClassRefs.{class_ref_at}
-use Rattle.jc_cap_fields.specs.Places.{IsList}
-use Rattle.jc_cap_fields.proofs.Many.{bind_ok, ok_is, is_read, listed_as}
-use Rattle.jc_cap_fields.proofs.Telling.{wanted_ok}
+use Rattle.jc_cap_linkage.specs.declared.fault.CapFault.TheVariants.{BadOffset}
+use Rattle.jc_cap_linkage.specs.declared.class_refs.ClassRef.{ClassRef}
+use Rattle.jc_cap_linkage.specs.Reading.{Field, many_at, rest_after, list_or_empty}
+use Rattle.jc_cap_linkage.specs.ClassRefs.{class_ref_at}
+use Rattle.jc_cap_linkage.specs.Places.{IsList}
+use Rattle.jc_cap_linkage.proofs.Many.{bind_ok, ok_is, is_read, listed_as}
+use Rattle.jc_cap_linkage.proofs.Telling.{wanted_ok}
 use Rattle.jc_cap_code.specs.ClassReading.{super_at}
 
 -- what is read as known is read, and is known
-pub super_is : (known : ClassRef → Bool) (bytes : List ℕ) (x : ClassRef) (rest : List ℕ) → super_at known bytes ≡ Ok (x, rest) → (class_ref_at bytes ≡ Ok (x, rest)) × (known x ≡ true)
+pub super_is : (known : ClassRef → Bool) (bytes : List ℕ) (x : ClassRef) (rest : List ℕ) → super_at known bytes ≡ Ok (x, rest)
+    → (class_ref_at bytes ≡ Ok (x, rest)) × (known x ≡ true)
 unfolding super_at
 super_is known bytes x rest e =
     let class = bind_ok (class_ref_at bytes) _ (x, rest) e in
@@ -28,17 +29,20 @@ many_so read other so (suc n) bytes xs rest e =
     let b = bind_ok (many_at read n a.0.1) _ (xs, rest) a.2 in
     rw (so bytes a.0.0 a.0.1 a.1, many_so read other so n a.0.1 b.0.0 b.0.1 b.1) b.2
 
-pub supers_are : (known : ClassRef → Bool) (n : ℕ) (bytes : List ℕ) (xs : List ClassRef) (rest : List ℕ) → many_at (super_at known) n bytes ≡ Ok (xs, rest) → many_at class_ref_at n bytes ≡ Ok (xs, rest)
+pub supers_are : (known : ClassRef → Bool) (n : ℕ) (bytes : List ℕ) (xs : List ClassRef) (rest : List ℕ) → many_at (super_at known) n bytes ≡ Ok (xs, rest)
+    → many_at class_ref_at n bytes ≡ Ok (xs, rest)
 supers_are known n bytes xs rest e = many_so (super_at known) class_ref_at (λ b x r h. (super_is known b x r h).0) n bytes xs rest e
 
 -- where their end was found, they are a list, and the same one
-pub supers_list : (known : ClassRef → Bool) (n : ℕ) (bytes rest : List ℕ) → after (many_at (super_at known) n bytes) ≡ Ok rest → IsList class_ref_at n bytes
+pub supers_list : (known : ClassRef → Bool) (n : ℕ) (bytes rest : List ℕ) → rest_after (many_at (super_at known) n bytes) ≡ Ok rest
+    → IsList class_ref_at n bytes
 supers_list known n bytes rest e =
-    let h = supers_are known n bytes (listed (many_at (super_at known) n bytes)) rest (is_read (many_at (super_at known) n bytes) rest e) in
-    (rest, rw (listed_as (many_at class_ref_at n bytes) (listed (many_at (super_at known) n bytes)) rest h) h)
+    let h = supers_are known n bytes (list_or_empty (many_at (super_at known) n bytes)) rest (is_read (many_at (super_at known) n bytes) rest e) in
+    (rest, rw (listed_as (many_at class_ref_at n bytes) (list_or_empty (many_at (super_at known) n bytes)) rest h) h)
 
-pub supers_read : (known : ClassRef → Bool) (n : ℕ) (bytes rest : List ℕ) → after (many_at (super_at known) n bytes) ≡ Ok rest → many_at (super_at known) n bytes ≡ Ok (listed (many_at class_ref_at n bytes), rest)
+pub supers_read : (known : ClassRef → Bool) (n : ℕ) (bytes rest : List ℕ) → rest_after (many_at (super_at known) n bytes) ≡ Ok rest
+    → many_at (super_at known) n bytes ≡ Ok (list_or_empty (many_at class_ref_at n bytes), rest)
 supers_read known n bytes rest e =
     let read = is_read (many_at (super_at known) n bytes) rest e in
-    let h = supers_are known n bytes (listed (many_at (super_at known) n bytes)) rest read in
-    read ∙ ap (λ (xs : List ClassRef). Ok (xs, rest)) (sym (listed_as (many_at class_ref_at n bytes) (listed (many_at (super_at known) n bytes)) rest h))
+    let h = supers_are known n bytes (list_or_empty (many_at (super_at known) n bytes)) rest read in
+    read ∙ ap (λ (xs : List ClassRef). Ok (xs, rest)) (sym (listed_as (many_at class_ref_at n bytes) (list_or_empty (many_at (super_at known) n bytes)) rest h))

@@ -1,10 +1,10 @@
 -- Which bytes are a Class component.
 use Rattle.std.specs.Prelude.{◌≡◌, ℕ, ◌+◌, ◌*◌, ◌%◌, ◌<◌, ◌≤◌, ◌⊎◌, Bool, true, false, List, [], ◌∷◌, ◌++◌, length, Contains, if◌then◌else◌}
-use Rattle.jc_cap_fields.specs.declared.formats.Format.{Format}
-use Rattle.jc_cap_fields.specs.declared.formats.Format.TheVariants.{V2_1}
-use Rattle.jc_cap_fields.specs.declared.class_refs.ClassRef.{ClassRef}
-use Rattle.jc_cap_fields.specs.declared.class_refs.ClassRef.TheVariants.{Internal, External}
-use Rattle.jc_cap_fields.specs.Grammar.{AreListed, IsU2, IsClassRef}
+use Rattle.jc_cap_linkage.specs.declared.formats.Format.{Format}
+use Rattle.jc_cap_linkage.specs.declared.formats.Format.TheVariants.{V2_1}
+use Rattle.jc_cap_linkage.specs.declared.class_refs.ClassRef.{ClassRef}
+use Rattle.jc_cap_linkage.specs.declared.class_refs.ClassRef.TheVariants.{Internal, External}
+use Rattle.jc_cap_linkage.specs.Grammar.{AreEncodedInTurn, IsU2, IsClassRef}
 use Rattle.jc_cap_code.specs.declared.class_records.ReferenceFields.{ReferenceFields}
 use Rattle.jc_cap_code.specs.declared.class_records.MethodTables.{MethodTables}
 use Rattle.jc_cap_code.specs.declared.class_records.InterfaceInfo.{InterfaceInfo}
@@ -12,7 +12,7 @@ use Rattle.jc_cap_code.specs.declared.class_records.ClassInfo.{ClassInfo}
 use Rattle.jc_cap_code.specs.declared.class_records.ClassRecord.{ClassRecord}
 use Rattle.jc_cap_code.specs.declared.class_records.ClassRecord.TheVariants as records
 use Rattle.jc_cap_code.specs.Implemented.{Implemented}
-use Rattle.jc_cap_code.specs.ClassValues.{Placed}
+use Rattle.jc_cap_code.specs.ClassValues.{RecordAt}
 
 -- the interface, the number of its methods, and a token for each
 abbrev pub IsImplemented : Implemented → List ℕ → Type 0
@@ -27,18 +27,19 @@ abbrev pub first_byte : Bool → Bool → ℕ → ℕ
 first_byte interface shareable count = ((if interface then 8 else 0) + (if shareable then 4 else 0)) * 16 + count
 
 abbrev pub IsInterface : InterfaceInfo → List ℕ → Type 0
-IsInterface i text = AreListed IsClassRef i.superinterfaces text
+IsInterface i text = AreEncodedInTurn IsClassRef i.superinterfaces text
 
 -- the bases and the lengths of the public and the package table, and then the tables; the base of the package table may
 -- have its high bit set
 abbrev pub AreTables : MethodTables → List ℕ → Type 0
 AreTables t text = (package_base : ℕ) × (publics : List ℕ) × (packages : List ℕ) × (package_base % 128 ≡ t.package_base)
-    × AreListed IsU2 t.public_methods publics × AreListed IsU2 t.package_methods packages
+    × AreEncodedInTurn IsU2 t.public_methods publics × AreEncodedInTurn IsU2 t.package_methods packages
     × (text ≡ t.public_base ∷ length t.public_methods ∷ package_base ∷ length t.package_methods ∷ (publics ++ packages))
 
 abbrev pub IsClass : ClassInfo → List ℕ → Type 0
 IsClass c text = (super : List ℕ) × (tables : List ℕ) × (interfaces : List ℕ)
-    × IsClassRef c.superclass super × FitsIn c.declared_instance_size c.references × AreTables c.tables tables × AreListed IsImplemented c.interfaces interfaces
+    × IsClassRef c.superclass super × FitsIn c.declared_instance_size c.references × AreTables c.tables tables
+    × AreEncodedInTurn IsImplemented c.interfaces interfaces
     × (text ≡ super ++ c.declared_instance_size ∷ c.references.first_token ∷ c.references.count ∷ (tables ++ interfaces))
 
 abbrev pub IsRecord : ClassRecord → List ℕ → Type 0
@@ -62,12 +63,12 @@ LooksBack before (records.Interface i) = AreEarlier before i.superinterfaces
 LooksBack before (records.Class c) = IsEarlier before c.superclass
 
 -- the records from an offset on, one behind the other, where others stand before them
-abbrev pub AreRecords : ℕ → List ℕ → List Placed → List ℕ → Type 0
+abbrev pub AreRecords : ℕ → List ℕ → List RecordAt → List ℕ → Type 0
 AreRecords at before [] text = text ≡ []
 AreRecords at before (r ∷ rs) text = (front : List ℕ) × (back : List ℕ)
     × (r.offset ≡ at) × IsRecord r.contents front × LooksBack before r.contents
     × (text ≡ front ++ back) × AreRecords (at + length front) (before ++ at ∷ []) rs back
 
 -- in format 2.1 the info is the records, 256 at most
-abbrev pub AreClasses : Format → List Placed → List ℕ → Type 0
+abbrev pub AreClasses : Format → List RecordAt → List ℕ → Type 0
 AreClasses V2_1 rs info = (length rs ≤ 256) × AreRecords 0 [] rs info

@@ -1,13 +1,14 @@
 -- Reading the Class component: records to the end of the info.
-use Rattle.std.specs.Prelude.{ℕ, zero, suc, ◌+◌, ◌/◌, ◌%◌, ◌-◌, Bool, true, false, ◌||◌, List, [], ◌∷◌, ◌++◌, length, Result, Ok, Err, nat_lt, ◌==◌, if◌then◌else◌}
-use Rattle.jc_cap_fields.specs.declared.fault.CapFault.{CapFault}
-use Rattle.jc_cap_fields.specs.declared.fault.CapFault.TheVariants.{BadOffset, Remote}
-use Rattle.jc_cap_fields.specs.declared.formats.Format.{Format}
-use Rattle.jc_cap_fields.specs.declared.formats.Format.TheVariants.{V2_1}
-use Rattle.jc_cap_fields.specs.declared.class_refs.ClassRef.{ClassRef}
-use Rattle.jc_cap_fields.specs.declared.class_refs.ClassRef.TheVariants.{Internal, External}
-use Rattle.jc_cap_fields.specs.Reading.{◌>>=◌, Field, u1_at, u2_at, many_at}
-use Rattle.jc_cap_fields.specs.ClassRefs.{class_ref_at}
+use Rattle.std.specs.Prelude.{ℕ, zero, suc, ◌+◌, ◌/◌, ◌%◌, ◌-◌, Bool, true, false, ◌||◌, List, [], ◌∷◌, ◌++◌, length, Result, Ok, Err, nat_lt, ◌==◌}
+use Rattle.std.specs.Prelude.{if◌then◌else◌}
+use Rattle.jc_cap_linkage.specs.declared.fault.CapFault.{CapFault}
+use Rattle.jc_cap_linkage.specs.declared.fault.CapFault.TheVariants.{BadOffset, Remote}
+use Rattle.jc_cap_linkage.specs.declared.formats.Format.{Format}
+use Rattle.jc_cap_linkage.specs.declared.formats.Format.TheVariants.{V2_1}
+use Rattle.jc_cap_linkage.specs.declared.class_refs.ClassRef.{ClassRef}
+use Rattle.jc_cap_linkage.specs.declared.class_refs.ClassRef.TheVariants.{Internal, External}
+use Rattle.jc_cap_linkage.specs.Reading.{◌>>=◌, Field, u1_at, u2_at, many_at}
+use Rattle.jc_cap_linkage.specs.ClassRefs.{class_ref_at}
 use Rattle.jc_cap_code.specs.declared.class_records.RecordFlags.{RecordFlags}
 use Rattle.jc_cap_code.specs.declared.class_records.ReferenceFields.{ReferenceFields}
 use Rattle.jc_cap_code.specs.declared.class_reading.TableSizes.{TableSizes}
@@ -17,7 +18,7 @@ use Rattle.jc_cap_code.specs.declared.class_records.ClassInfo.{ClassInfo}
 use Rattle.jc_cap_code.specs.declared.class_records.ClassRecord.{ClassRecord}
 use Rattle.jc_cap_code.specs.declared.class_records.ClassRecord.TheVariants as records
 use Rattle.jc_cap_code.specs.Implemented.{implemented_at}
-use Rattle.jc_cap_code.specs.ClassValues.{Placed, offsets_of}
+use Rattle.jc_cap_code.specs.ClassValues.{RecordAt, offsets_of}
 
 abbrev pub is_among : ℕ → List ℕ → Bool
 is_among n [] = false
@@ -53,7 +54,10 @@ table_sizes_at bytes = do
   public_count ← u1_at public_base.1
   package_base ← u1_at public_count.1
   package_count ← u1_at package_base.1
-  Ok (record { public_base = public_base.0; public_count = public_count.0; package_base = package_base.0 % 128; package_count = package_count.0 }, package_count.1)
+  Ok (
+    record { public_base = public_base.0; public_count = public_count.0; package_base = package_base.0 % 128; package_count = package_count.0 },
+    package_count.1,
+  )
 
 -- both tables; the high bit of the package table's base is masked off
 unfoldable pub tables_at : List ℕ → Field MethodTables
@@ -70,7 +74,17 @@ class_at known shareable interfaces bytes = do
   references ← references_at size.0 size.1
   tables ← tables_at references.1
   implemented ← many_at implemented_at interfaces tables.1
-  Ok (record { shareable = shareable; superclass = super.0; declared_instance_size = size.0; references = references.0; tables = tables.0; interfaces = implemented.0 }, implemented.1)
+  Ok (
+    record {
+      shareable = shareable;
+      superclass = super.0;
+      declared_instance_size = size.0;
+      references = references.0;
+      tables = tables.0;
+      interfaces = implemented.0;
+    },
+    implemented.1,
+  )
 
 unfoldable pub interface_at : (ClassRef → Bool) → Bool → ℕ → List ℕ → Field InterfaceInfo
 interface_at known shareable interfaces bytes = do
@@ -101,7 +115,7 @@ record_at known bytes = do
 
 -- The records to the end of an info of this length, behind those at these offsets. No more are allowed than the first
 -- number says.
-unfoldable pub records_at : ℕ → ℕ → List ℕ → List ℕ → Result (List Placed) CapFault
+unfoldable pub records_at : ℕ → ℕ → List ℕ → List ℕ → Result (List RecordAt) CapFault
 records_at most total before [] = Ok []
 records_at zero total before (b ∷ bytes) = Err BadOffset
 records_at (suc most) total before (b ∷ bytes) = do
@@ -114,16 +128,16 @@ unfoldable pub records_start : Format → List ℕ → Result (List ℕ) CapFaul
 records_start V2_1 info = Ok info
 
 -- a class's number is its place among the records, which are 256 at most
-unfoldable pub classes_of : Format → List ℕ → Result (List Placed) CapFault
+unfoldable pub classes_of : Format → List ℕ → Result (List RecordAt) CapFault
 classes_of format info = do
   start ← records_start format info
   records_at 256 (length info) [] start
 
 -- the records that were read, none at a fault, and their offsets
-abbrev pub placed : Result (List Placed) CapFault → List Placed
-placed (Ok rs) = rs
-placed (Err f) = []
+abbrev pub records_or_none : Result (List RecordAt) CapFault → List RecordAt
+records_or_none (Ok rs) = rs
+records_or_none (Err f) = []
 
-abbrev pub placed_offsets : Result (List Placed) CapFault → Result (List ℕ) CapFault
-placed_offsets (Ok rs) = Ok (offsets_of rs)
-placed_offsets (Err f) = Err f
+abbrev pub record_offsets_or_none : Result (List RecordAt) CapFault → Result (List ℕ) CapFault
+record_offsets_or_none (Ok rs) = Ok (offsets_of rs)
+record_offsets_or_none (Err f) = Err f

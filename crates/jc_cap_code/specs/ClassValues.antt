@@ -3,14 +3,14 @@ use Rattle.std.specs.Prelude.{ℕ, List, [], ◌∷◌}
 use Rattle.jc_cap_code.specs.declared.class_records.ClassRecord.{ClassRecord}
 
 -- a record, and its offset in the info
-pub record Placed : Type 0 where
+pub record RecordAt : Type 0 where
   pub offset : ℕ
   pub contents : ClassRecord
 
-abbrev pub offsets_of : List Placed → List ℕ
+abbrev pub offsets_of : List RecordAt → List ℕ
 offsets_of [] = []
 offsets_of (r ∷ rs) = r.offset ∷ offsets_of rs
 
-abbrev pub contents_of : List Placed → List ClassRecord
+abbrev pub contents_of : List RecordAt → List ClassRecord
 contents_of [] = []
 contents_of (r ∷ rs) = r.contents ∷ contents_of rs

@@ -1,8 +1,8 @@
 -- The interfaces that a class implements.
 use Rattle.std.specs.Prelude.{ℕ, List, Ok}
-use Rattle.jc_cap_fields.specs.declared.class_refs.ClassRef.{ClassRef}
-use Rattle.jc_cap_fields.specs.Reading.{◌>>=◌, Field, u1_at, run_at}
-use Rattle.jc_cap_fields.specs.ClassRefs.{class_ref_at}
+use Rattle.jc_cap_linkage.specs.declared.class_refs.ClassRef.{ClassRef}
+use Rattle.jc_cap_linkage.specs.Reading.{◌>>=◌, Field, u1_at, run_at}
+use Rattle.jc_cap_linkage.specs.ClassRefs.{class_ref_at}
 
 -- an interface that a class implements, and for each of its methods the token of the class's virtual method
 pub record Implemented : Type 0 where

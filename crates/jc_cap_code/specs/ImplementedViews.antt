@@ -2,5 +2,5 @@
 use Rattle.jc_cap_code.specs.declared.class_lists.ImplementedInterface.{ImplementedInterface}
 use Rattle.jc_cap_code.specs.Implemented.{Implemented}
 
-abbrev pub implemented : ImplementedInterface → Implemented
-implemented i = record { interface = i.interface; tokens = i.tokens.now }
+abbrev pub implemented_value : ImplementedInterface → Implemented
+implemented_value i = record { interface = i.interface; tokens = i.tokens.now }

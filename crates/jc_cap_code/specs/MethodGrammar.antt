@@ -2,7 +2,7 @@
 use Rattle.std.specs.Prelude.{◌≡◌, ℕ, ◌+◌, ◌*◌, ◌<◌, Bool, true, false, List, [], ◌∷◌, ◌++◌, length}
 use Rattle.jc_cap_code.specs.declared.handlers.Handler.{Handler}
 use Rattle.jc_cap_code.specs.MethodValues.{MethodParts}
-use Rattle.jc_cap_fields.specs.Grammar.{AreListed, IsU2}
+use Rattle.jc_cap_linkage.specs.Grammar.{AreEncodedInTurn, IsU2}
 
 -- two bytes: the stop bit, and a length in the other 15 bits
 abbrev pub IsActiveLength : Bool → ℕ → List ℕ → Type 0
@@ -16,4 +16,4 @@ IsHandler h text = (start : List ℕ) × (active : List ℕ) × (target : List �
 
 -- a byte of count, the handlers, and the methods to the end of the info
 abbrev pub AreMethods : MethodParts → List ℕ → Type 0
-AreMethods m info = (handlers : List ℕ) × AreListed IsHandler m.handlers handlers × (info ≡ length m.handlers ∷ (handlers ++ m.code))
+AreMethods m info = (handlers : List ℕ) × AreEncodedInTurn IsHandler m.handlers handlers × (info ≡ length m.handlers ∷ (handlers ++ m.code))

@@ -1,10 +1,11 @@
 -- Reading the Method component.
-use Rattle.std.specs.Prelude.{ℕ, ◌+◌, ◌*◌, ◌/◌, ◌%◌, ◌-◌, Bool, true, false, List, [], ◌∷◌, length, drop, Option, Some, None, is_some, Result, Ok, nat_lt, ◌==◌, if◌then◌else◌}
-use Rattle.jc_cap_fields.specs.declared.fault.CapFault.{CapFault}
+use Rattle.std.specs.Prelude.{ℕ, ◌+◌, ◌*◌, ◌/◌, ◌%◌, ◌-◌, Bool, true, false, List, [], ◌∷◌, length, drop, Option, Some, None, is_some, Result, Ok, nat_lt, ◌==◌}
+use Rattle.std.specs.Prelude.{if◌then◌else◌}
+use Rattle.jc_cap_linkage.specs.declared.fault.CapFault.{CapFault}
 use Rattle.jc_cap_code.specs.declared.handlers.Handler.{Handler}
 use Rattle.jc_cap_code.specs.declared.methods.MethodHeader.{MethodHeader}
 use Rattle.jc_cap_code.specs.MethodValues.{MethodParts, MethodText}
-use Rattle.jc_cap_fields.specs.Reading.{◌>>=◌, Field, u1_at, u2_at, many_at}
+use Rattle.jc_cap_linkage.specs.Reading.{◌>>=◌, Field, u1_at, u2_at, many_at}
 
 -- two bytes: the stop bit, and a length in the other 15 bits
 unfoldable pub active_at : List ℕ → Field (Bool × ℕ)
@@ -20,7 +21,10 @@ handler_at bytes = do
   active ← active_at start.1
   target ← u2_at active.1
   catch_type ← u2_at target.1
-  Ok (record { start_offset = start.0; stop = active.0.0; active_length = active.0.1; handler_offset = target.0; catch_type_index = catch_type.0 }, catch_type.1)
+  Ok (
+    record { start_offset = start.0; stop = active.0.0; active_length = active.0.1; handler_offset = target.0; catch_type_index = catch_type.0 },
+    catch_type.1,
+  )
 
 -- the handlers behind their count, and all that is left
 unfoldable pub methods_of : List ℕ → Result MethodParts CapFault
@@ -36,14 +40,26 @@ methods_start m = 1 + 8 * length m.handlers
 -- the flags (8 extended, 4 abstract) and the stack; the arguments and the locals
 abbrev pub short_header : ℕ → List ℕ → Option MethodHeader
 short_header first [] = None
-short_header first (second ∷ rest) = Some (record { extended = false; is_abstract = first / 64 % 2 == 1; max_stack = first % 16; nargs = second / 16; max_locals = second % 16 })
+short_header first (second ∷ rest) = Some (record {
+  extended = false;
+  is_abstract = first / 64 % 2 == 1;
+  max_stack = first % 16;
+  nargs = second / 16;
+  max_locals = second % 16;
+})
 
 -- the flags; the stack, the arguments and the locals have a byte each
 abbrev pub extended_header : ℕ → List ℕ → Option MethodHeader
 extended_header first [] = None
 extended_header first (a ∷ []) = None
 extended_header first (a ∷ b ∷ []) = None
-extended_header first (stack ∷ arguments ∷ locals ∷ rest) = Some (record { extended = true; is_abstract = first / 64 % 2 == 1; max_stack = stack; nargs = arguments; max_locals = locals })
+extended_header first (stack ∷ arguments ∷ locals ∷ rest) = Some (record {
+  extended = true;
+  is_abstract = first / 64 % 2 == 1;
+  max_stack = stack;
+  nargs = arguments;
+  max_locals = locals;
+})
 
 -- the header that the bytes begin with, if there is room for one
 unfoldable pub header_of : List ℕ → Option MethodHeader

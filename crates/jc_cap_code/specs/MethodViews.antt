@@ -10,6 +10,6 @@ method_parts m = record { handlers = m.handlers; code = m.code.now }
 abbrev pub method_text : Method → MethodText
 method_text m = record { header = m.header; bytes = m.bytes.now }
 
-abbrev pub found_method : Option Method → Option MethodText
-found_method (Some m) = Some (method_text m)
-found_method None = None
+abbrev pub method_value : Option Method → Option MethodText
+method_value (Some m) = Some (method_text m)
+method_value None = None

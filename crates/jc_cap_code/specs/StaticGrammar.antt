@@ -1,6 +1,6 @@
 -- Which bytes are a StaticField component.
 use Rattle.std.specs.Prelude.{◌≡◌, ℕ, ◌+◌, ◌*◌, ◌%◌, ◌≤◌, List, ◌∷◌, ◌++◌, length}
-use Rattle.jc_cap_fields.specs.Grammar.{AreListed, IsU2}
+use Rattle.jc_cap_linkage.specs.Grammar.{AreEncodedInTurn, IsU2}
 use Rattle.jc_cap_code.specs.declared.static_arrays.ElementType.{ElementType}
 use Rattle.jc_cap_code.specs.declared.static_arrays.ElementType.TheVariants.{Boolean, Byte, Short}
 use Rattle.jc_cap_code.specs.StaticValues.{StaticArray, StaticParts}
@@ -20,7 +20,7 @@ IsStaticArray a text = (count : List ℕ) × IsU2 (length a.values) count × (le
 -- the number of the arrays, at most one for each reference, and the arrays
 abbrev pub AreStaticArrays : ℕ → List StaticArray → List ℕ → Type 0
 AreStaticArrays references arrays text = (count : List ℕ) × (listed : List ℕ) × (length arrays ≤ references)
-    × IsU2 (length arrays) count × AreListed IsStaticArray arrays listed × (text ≡ count ++ listed)
+    × IsU2 (length arrays) count × AreEncodedInTurn IsStaticArray arrays listed × (text ≡ count ++ listed)
 
 -- the image has the references first, then the zeros, then the other values
 abbrev pub AreStatics : StaticParts → List ℕ → Type 0

@@ -1,7 +1,7 @@
 -- Reading the StaticField component.
 use Rattle.std.specs.Prelude.{ℕ, ◌+◌, ◌*◌, ◌%◌, List, [], ◌∷◌, length, Ok, Err, nat_lt, ◌==◌, if◌then◌else◌}
-use Rattle.jc_cap_fields.specs.declared.fault.CapFault.TheVariants.{BadOffset, SizesDisagree}
-use Rattle.jc_cap_fields.specs.Reading.{◌>>=◌, Field, u1_at, u2_at, run_at, many_at}
+use Rattle.jc_cap_linkage.specs.declared.fault.CapFault.TheVariants.{BadOffset, SizesDisagree}
+use Rattle.jc_cap_linkage.specs.Reading.{◌>>=◌, Field, u1_at, u2_at, run_at, many_at}
 use Rattle.jc_cap_code.specs.declared.static_arrays.ElementType.{ElementType}
 use Rattle.jc_cap_code.specs.declared.static_arrays.ElementType.TheVariants.{Boolean, Byte, Short}
 use Rattle.jc_cap_code.specs.StaticValues.{StaticArray, StaticParts}
@@ -51,7 +51,10 @@ statics_at bytes = do
   arrays ← static_arrays_at references.0 references.1
   counts ← value_counts_at image_size.0 references.0 arrays.1
   values ← run_at counts.0.1 counts.1
-  Ok (record { image_size = image_size.0; reference_count = references.0; arrays = arrays.0; default_value_count = counts.0.0; non_default_values = values.0 }, values.1)
+  Ok (
+    record { image_size = image_size.0; reference_count = references.0; arrays = arrays.0; default_value_count = counts.0.0; non_default_values = values.0 },
+    values.1,
+  )
 
 -- the number of bytes that all arrays have together
 abbrev pub values_size : List StaticArray → ℕ

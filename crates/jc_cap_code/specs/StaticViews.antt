@@ -7,4 +7,10 @@ abbrev pub static_array : ArrayInit → StaticArray
 static_array a = record { element_type = a.element_type; values = a.values.now }
 
 abbrev pub static_parts : StaticFields → StaticParts
-static_parts s = record { image_size = s.image_size; reference_count = s.reference_count; arrays = s.arrays; default_value_count = s.default_value_count; non_default_values = s.non_default_values.now }
+static_parts s = record {
+  image_size = s.image_size;
+  reference_count = s.reference_count;
+  arrays = s.arrays;
+  default_value_count = s.default_value_count;
+  non_default_values = s.non_default_values.now;
+}

@@ -1,15 +1,15 @@
 //! The lists of a class record: superinterfaces and implemented interfaces.
 ghost use Rattle.std.specs.Prelude.{◌≡◌, ◌∷◌, [], ◌<◌, length, Some, None, Ok, MatchOption, slice_get};
-ghost use Rattle.jc_cap_fields.specs.Reading.{Gives, many_at, listed, after};
-ghost use Rattle.jc_cap_fields.specs.Places.{IsList};
-ghost use Rattle.jc_cap_fields.specs.ClassRefs.{class_ref_at};
+ghost use Rattle.jc_cap_linkage.specs.Reading.{ParsesAs, many_at, list_or_empty, rest_after};
+ghost use Rattle.jc_cap_linkage.specs.Places.{IsList};
+ghost use Rattle.jc_cap_linkage.specs.ClassRefs.{class_ref_at};
 ghost use Rattle.jc_cap_code.specs.Implemented.{implemented_at};
-ghost use Rattle.jc_cap_code.specs.ImplementedViews.{implemented};
+ghost use Rattle.jc_cap_code.specs.ImplementedViews.{implemented_value};
 
-use jc_cap_fields::class_refs::{ClassRef, class_ref};
-use jc_cap_fields::counted::{Part, skip_many};
-use jc_cap_fields::fault::CapFault;
-use jc_cap_fields::fields::{run, u1};
+use jc_cap_linkage::class_refs::{ClassRef, class_ref};
+use jc_cap_linkage::counted::{Part, skip_many};
+use jc_cap_linkage::fault::CapFault;
+use jc_cap_linkage::fields::{run, u1};
 use std::marker::Model;
 
 /// The superinterfaces of an interface. They are lent from the component.
@@ -21,14 +21,14 @@ pub struct ClassRefs<'a> {
 
 impl<'a> Model for ClassRefs<'a> {
     ghost use Rattle.std.specs.Prelude.{List};
-    ghost use Rattle.jc_cap_fields.specs.declared.class_refs.ClassRef.{ClassRef};
-    ghost use Rattle.jc_cap_fields.specs.ClassRefs.{class_ref_at};
-    ghost use Rattle.jc_cap_fields.specs.Reading.{many_at, listed};
-    ghost use Rattle.jc_cap_fields.specs.Places.{IsList};
+    ghost use Rattle.jc_cap_linkage.specs.declared.class_refs.ClassRef.{ClassRef};
+    ghost use Rattle.jc_cap_linkage.specs.ClassRefs.{class_ref_at};
+    ghost use Rattle.jc_cap_linkage.specs.Reading.{many_at, list_or_empty};
+    ghost use Rattle.jc_cap_linkage.specs.Places.{IsList};
 
     ghost Value = { List ClassRef };
 
-    ghost view = { λ a. listed (many_at class_ref_at a.count a.bytes.now) };
+    ghost view = { λ a. list_or_empty (many_at class_ref_at a.count a.bytes.now) };
 
     ghost invariant = { λ a. IsList class_ref_at a.count a.bytes.now };
 }
@@ -37,7 +37,7 @@ impl<'a> ClassRefs<'a> {
     /// The list that the bytes begin with.
     pub(crate) fn of(count: u8, bytes: &'a [u8]) -> ClassRefs<'a>
         requires { IsList class_ref_at count bytes.now }
-        ensures { result ≡ listed (many_at class_ref_at count bytes.now) }
+        ensures { result ≡ list_or_empty (many_at class_ref_at count bytes.now) }
     {
         ClassRefs { count, bytes }
     }
@@ -49,7 +49,7 @@ impl<'a> ClassRefs<'a> {
         self.count
     }
 
-    /// The reference with this index, in constant time.
+    /// The reference with this index.
     pub fn get(&self, index: u8) -> ClassRef
         requires { index < length self.now }
         ensures { slice_get self.now index ≡ Some result }
@@ -72,7 +72,7 @@ pub struct ImplementedInterface<'a> {
 
 #[tactic(auto, unfolding(crate::specs::Implemented::implemented_at))]
 fn read_implemented(bytes: &[u8]) -> Result<(ImplementedInterface<'_>, &[u8]), CapFault>
-    ensures { Gives (λ x. (implemented x.0, x.1.now)) result (implemented_at bytes.now) }
+    ensures { ParsesAs (λ x. (implemented_value x.0, x.1.now)) result (implemented_at bytes.now) }
 {
     let (interface, rest) = class_ref(bytes)?;
     let (count, rest) = u1(rest)?;
@@ -105,12 +105,12 @@ pub struct ImplementedInterfaces<'a> {
 impl<'a> Model for ImplementedInterfaces<'a> {
     ghost use Rattle.std.specs.Prelude.{List};
     ghost use Rattle.jc_cap_code.specs.Implemented.{Implemented, implemented_at};
-    ghost use Rattle.jc_cap_fields.specs.Reading.{many_at, listed};
-    ghost use Rattle.jc_cap_fields.specs.Places.{IsList};
+    ghost use Rattle.jc_cap_linkage.specs.Reading.{many_at, list_or_empty};
+    ghost use Rattle.jc_cap_linkage.specs.Places.{IsList};
 
     ghost Value = { List Implemented };
 
-    ghost view = { λ a. listed (many_at implemented_at a.count a.bytes.now) };
+    ghost view = { λ a. list_or_empty (many_at implemented_at a.count a.bytes.now) };
 
     ghost invariant = { λ a. IsList implemented_at a.count a.bytes.now };
 }
@@ -119,7 +119,7 @@ pub(crate) fn read_interfaces(
     count: u8,
     bytes: &[u8],
 ) -> Result<(ImplementedInterfaces<'_>, &[u8]), CapFault>
-    ensures { Gives (λ x. (x.0, x.1.now)) result (many_at implemented_at count bytes.now) }
+    ensures { ParsesAs (λ x. (x.0, x.1.now)) result (many_at implemented_at count bytes.now) }
 {
     let rest = skip_many::<ImplementedPart>(count as u16, bytes)?;
     Ok((ImplementedInterfaces { count, bytes }, rest))
@@ -135,7 +135,7 @@ impl<'a> ImplementedInterfaces<'a> {
 
     /// The first interface, and the others.
     pub fn split_first(&self) -> Option<(ImplementedInterface<'a>, ImplementedInterfaces<'a>)>
-        ensures { MatchOption result (self.now ≡ []) (λ x. self.now ≡ implemented x.0 ∷ x.1) }
+        ensures { MatchOption result (self.now ≡ []) (λ x. self.now ≡ implemented_value x.0 ∷ x.1) }
     {
         if self.count == 0 {
             return None;

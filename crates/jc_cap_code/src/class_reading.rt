@@ -1,17 +1,18 @@
 //! Reading one record of the Class component.
 ghost use Rattle.std.specs.Prelude.{◌≡◌};
-ghost use Rattle.jc_cap_fields.specs.Reading.{Gives, after, many_at};
-ghost use Rattle.jc_cap_code.specs.ClassReading.{is_among, is_earlier, super_at, references_at, table_sizes_at, tables_at, class_at, interface_at, flags_of, record_at};
-ghost use Rattle.jc_cap_code.specs.Known.{knows};
+ghost use Rattle.jc_cap_linkage.specs.Reading.{ParsesAs, rest_after, many_at};
+ghost use Rattle.jc_cap_code.specs.ClassReading.{is_among, is_earlier, super_at, references_at, table_sizes_at, tables_at, class_at, interface_at, flags_of};
+ghost use Rattle.jc_cap_code.specs.ClassReading.{record_at};
+ghost use Rattle.jc_cap_code.specs.Known.{is_known_class};
 
 use crate::class_lists::{ClassRefs, read_interfaces};
 use crate::class_records::{
     ClassInfo, ClassRecord, InterfaceInfo, MethodTables, RecordFlags, ReferenceFields,
 };
-use jc_cap_fields::class_refs::{ClassRef, class_ref};
-use jc_cap_fields::fault::CapFault;
-use jc_cap_fields::fields::u1;
-use jc_cap_fields::lists::u2_list;
+use jc_cap_linkage::class_refs::{ClassRef, class_ref};
+use jc_cap_linkage::fault::CapFault;
+use jc_cap_linkage::fields::u1;
+use jc_cap_linkage::lists::u2_list;
 
 /// The bases and the lengths of a class's method tables.
 #[derive(Clone, Copy, Debug, Drop)]
@@ -47,8 +48,8 @@ fn is_earlier(before: &[u16], class: ClassRef) -> bool
     }
 }
 
-fn knows(known: Known<'_>, class: ClassRef) -> bool
-    ensures { result ≡ knows known.entry class }
+fn is_known_class(known: Known<'_>, class: ClassRef) -> bool
+    ensures { result ≡ is_known_class known.entry class }
 {
     match known {
         Known::Earlier(before) => is_earlier(before, class),
@@ -58,10 +59,11 @@ fn knows(known: Known<'_>, class: ClassRef) -> bool
 
 #[tactic(auto, unfolding(crate::specs::ClassReading::super_at))]
 fn read_super<'a>(known: Known<'_>, bytes: &'a [u8]) -> Result<(ClassRef, &'a [u8]), CapFault>
-    ensures { Gives (λ x. (x.0, x.1.now)) result (super_at (knows known.entry) bytes.now) }
+    ensures { ParsesAs (λ x. (x.0, x.1.now)) result (super_at
+        (is_known_class known.entry) bytes.now) }
 {
     let (class, rest) = class_ref(bytes)?;
-    if !knows(known, class) {
+    if !is_known_class(known, class) {
         return Err(CapFault::BadOffset);
     }
     Ok((class, rest))
@@ -69,7 +71,7 @@ fn read_super<'a>(known: Known<'_>, bytes: &'a [u8]) -> Result<(ClassRef, &'a [u
 
 #[tactic(auto, unfolding(crate::specs::ClassReading::references_at))]
 fn read_references(size: u8, bytes: &[u8]) -> Result<(ReferenceFields, &[u8]), CapFault>
-    ensures { Gives (λ x. (x.0, x.1.now)) result (references_at size bytes.now) }
+    ensures { ParsesAs (λ x. (x.0, x.1.now)) result (references_at size bytes.now) }
 {
     let (first_token, rest) = u1(bytes)?;
     let (count, rest) = u1(rest)?;
@@ -83,7 +85,8 @@ fn read_references(size: u8, bytes: &[u8]) -> Result<(ReferenceFields, &[u8]), C
 }
 
 fn after_supers<'a>(known: Known<'_>, count: u8, bytes: &'a [u8]) -> Result<&'a [u8], CapFault>
-    ensures { Gives (λ x. x.now) result (after (many_at (super_at (knows known.entry)) count bytes.now)) }
+    ensures { ParsesAs (λ x. x.now) result (rest_after
+        (many_at (super_at (is_known_class known.entry)) count bytes.now)) }
 {
     let mut rest = bytes;
     for _ in 0..count {
@@ -95,7 +98,7 @@ fn after_supers<'a>(known: Known<'_>, count: u8, bytes: &'a [u8]) -> Result<&'a 
 
 #[tactic(auto, unfolding(crate::specs::ClassReading::flags_of))]
 fn read_flags(bits: u8) -> Result<RecordFlags, CapFault>
-    ensures { Gives (λ x. x) result (flags_of bits) }
+    ensures { ParsesAs (λ x. x) result (flags_of bits) }
 {
     match bits {
         0 => Ok(RecordFlags {
@@ -128,7 +131,8 @@ fn read_supers<'a>(
     count: u8,
     bytes: &'a [u8],
 ) -> Result<(ClassRefs<'a>, &'a [u8]), CapFault>
-    ensures { Gives (λ x. (x.0, x.1.now)) result (many_at (super_at (knows known.entry)) count bytes.now) }
+    ensures { ParsesAs (λ x. (x.0, x.1.now)) result (many_at
+        (super_at (is_known_class known.entry)) count bytes.now) }
 {
     let rest = after_supers(known, count, bytes)?;
     Ok((ClassRefs::of(count, bytes), rest))
@@ -141,7 +145,8 @@ fn read_interface<'a>(
     count: u8,
     bytes: &'a [u8],
 ) -> Result<(InterfaceInfo<'a>, &'a [u8]), CapFault>
-    ensures { Gives (λ x. (x.0, x.1.now)) result (interface_at (knows known.entry) shareable count bytes.now) }
+    ensures { ParsesAs (λ x. (x.0, x.1.now)) result (interface_at
+        (is_known_class known.entry) shareable count bytes.now) }
 {
     let (superinterfaces, rest) = read_supers(known, count, bytes)?;
     let interface = InterfaceInfo {
@@ -153,7 +158,7 @@ fn read_interface<'a>(
 
 #[tactic(auto, unfolding(crate::specs::ClassReading::table_sizes_at))]
 fn read_table_sizes(bytes: &[u8]) -> Result<(TableSizes, &[u8]), CapFault>
-    ensures { Gives (λ x. (x.0, x.1.now)) result (table_sizes_at bytes.now) }
+    ensures { ParsesAs (λ x. (x.0, x.1.now)) result (table_sizes_at bytes.now) }
 {
     let (public_base, rest) = u1(bytes)?;
     let (public_count, rest) = u1(rest)?;
@@ -170,7 +175,7 @@ fn read_table_sizes(bytes: &[u8]) -> Result<(TableSizes, &[u8]), CapFault>
 
 #[tactic(auto, unfolding(crate::specs::ClassReading::tables_at))]
 fn read_tables(bytes: &[u8]) -> Result<(MethodTables<'_>, &[u8]), CapFault>
-    ensures { Gives (λ x. (x.0, x.1.now)) result (tables_at bytes.now) }
+    ensures { ParsesAs (λ x. (x.0, x.1.now)) result (tables_at bytes.now) }
 {
     let (sizes, rest) = read_table_sizes(bytes)?;
     let (public_methods, rest) = u2_list(sizes.public_count as u16, rest)?;
@@ -191,7 +196,8 @@ fn read_class_info<'a>(
     count: u8,
     bytes: &'a [u8],
 ) -> Result<(ClassInfo<'a>, &'a [u8]), CapFault>
-    ensures { Gives (λ x. (x.0, x.1.now)) result (class_at (knows known.entry) shareable count bytes.now) }
+    ensures { ParsesAs (λ x. (x.0, x.1.now)) result (class_at
+        (is_known_class known.entry) shareable count bytes.now) }
 {
     let (superclass, rest) = read_super(known, bytes)?;
     let (declared_instance_size, rest) = u1(rest)?;
@@ -215,7 +221,8 @@ pub(crate) fn read_record<'a>(
     known: Known<'_>,
     bytes: &'a [u8],
 ) -> Result<(ClassRecord<'a>, &'a [u8]), CapFault>
-    ensures { Gives (λ x. (x.0, x.1.now)) result (record_at (knows known.entry) bytes.now) }
+    ensures { ParsesAs (λ x. (x.0, x.1.now)) result (record_at
+        (is_known_class known.entry) bytes.now) }
 {
     let (first, rest) = u1(bytes)?;
     let flags = read_flags(first / 16)?;

@@ -1,8 +1,8 @@
 //! The records of the Class component.
 
 use crate::class_lists::{ClassRefs, ImplementedInterfaces};
-use jc_cap_fields::class_refs::ClassRef;
-use jc_cap_fields::lists::U2List;
+use jc_cap_linkage::class_refs::ClassRef;
+use jc_cap_linkage::lists::U2List;
 
 /// The flags of a record. A remote interface (ACC_REMOTE) has no record here, since it is refused.
 #[derive(Clone, Copy, Debug, Drop, PartialEq, Eq)]

@@ -1,20 +1,20 @@
 //! The Class component.
-ghost use Rattle.std.specs.Prelude.{◌≡◌, ◌<◌, ◌^◌, List, length, false, Some, Ok, IsOk, IfOk, MatchOption, slice_get, take};
-ghost use Rattle.jc_cap_fields.specs.Reading.{Gives};
-ghost use Rattle.jc_cap_code.specs.ClassValues.{Placed, offsets_of, contents_of};
-ghost use Rattle.jc_cap_code.specs.ClassReading.{is_among, records_start, classes_of, placed_offsets};
+ghost use Rattle.std.specs.Prelude.{◌≡◌, ◌<◌, ◌^◌, List, length, false, Some, Ok, IfOk, MatchOption, slice_get, take};
+ghost use Rattle.jc_cap_linkage.specs.Reading.{ParsesAs};
+ghost use Rattle.jc_cap_code.specs.ClassValues.{RecordAt, offsets_of, contents_of};
+ghost use Rattle.jc_cap_code.specs.ClassReading.{is_among, records_start, classes_of, record_offsets_or_none};
 ghost use Rattle.jc_cap_code.specs.ClassGrammar.{LooksBack, AreClasses};
 
 use crate::class_reading::{Known, is_among, read_record};
 use crate::class_records::ClassRecord;
 use arrayvec::ArrayVec;
-use jc_cap_fields::fault::CapFault;
-use jc_cap_fields::formats::Format;
+use jc_cap_linkage::fault::CapFault;
+use jc_cap_linkage::formats::Format;
 use std::marker::Model;
 
 /// What stands behind the things in front of the records.
 fn records_start(format: Format, info: &[u8]) -> Result<&[u8], CapFault>
-    ensures { Gives (λ x. x.now) result (records_start format info.now) }
+    ensures { ParsesAs (λ x. x.now) result (records_start format info.now) }
 {
     match format {
         Format::V2_1 => Ok(info),
@@ -24,7 +24,7 @@ fn records_start(format: Format, info: &[u8]) -> Result<&[u8], CapFault>
 /// The offsets of all records.
 fn record_offsets(format: Format, info: &[u8]) -> Result<ArrayVec<u16, 256>, CapFault>
     requires { length info.now < 2 ^ 16 }
-    ensures { Gives (λ o. o.items) result (placed_offsets (classes_of format info.now)) }
+    ensures { ParsesAs (λ o. o.items) result (record_offsets_or_none (classes_of format info.now)) }
 {
     let mut before: ArrayVec<u16, 256> = ArrayVec::new();
     let mut rest = records_start(format, info)?;
@@ -48,7 +48,9 @@ fn offset_at(offsets: &[u16], number: usize) -> u16
 
 /// The first place of the offset in the list.
 fn index_of(offset: u16, offsets: &[u16]) -> Option<usize>
-    ensures { MatchOption result (is_among offset offsets.now ≡ false) (λ i. (slice_get offsets.now i ≡ Some offset) × (is_among offset (take i offsets.now) ≡ false)) }
+    ensures { MatchOption result (is_among offset offsets.now ≡ false)
+        (λ i. (slice_get offsets.now i ≡ Some offset) ×
+        (is_among offset (take i offsets.now) ≡ false)) }
 {
     for i in 0..offsets.len() {
         let here = offset_at(offsets, i);
@@ -71,20 +73,21 @@ pub struct Classes<'a> {
 
 impl<'a> Model for Classes<'a> {
     ghost use Rattle.std.specs.Prelude.{◌≡◌, List, Ok};
-    ghost use Rattle.jc_cap_code.specs.ClassValues.{Placed, offsets_of};
-    ghost use Rattle.jc_cap_code.specs.ClassReading.{classes_of, placed};
+    ghost use Rattle.jc_cap_code.specs.ClassValues.{RecordAt, offsets_of};
+    ghost use Rattle.jc_cap_code.specs.ClassReading.{classes_of, records_or_none};
 
-    ghost Value = { List Placed };
+    ghost Value = { List RecordAt };
 
-    ghost view = { λ a. placed (classes_of a.format a.info.now) };
+    ghost view = { λ a. records_or_none (classes_of a.format a.info.now) };
 
-    ghost invariant = { λ a. (classes_of a.format a.info.now ≡ Ok (placed (classes_of a.format a.info.now)))
-        × (a.offsets.items ≡ offsets_of (placed (classes_of a.format a.info.now))) };
+    ghost invariant = { λ a. (classes_of a.format a.info.now
+        ≡ Ok (records_or_none (classes_of a.format a.info.now)))
+        × (a.offsets.items ≡ offsets_of (records_or_none (classes_of a.format a.info.now))) };
 }
 
 fn read_classes(format: Format, info: &[u8]) -> Result<Classes<'_>, CapFault>
     requires { length info.now < 2 ^ 16 }
-    ensures { Gives (λ x. x) result (classes_of format info.now) }
+    ensures { ParsesAs (λ x. x) result (classes_of format info.now) }
 {
     let offsets = record_offsets(format, info)?;
     let classes = Classes {
@@ -105,23 +108,12 @@ pub fn read_class(format: Format, info: &[u8]) -> Result<Classes<'_>, CapFault>
     // What is read stands in the info.
     ensures found { IfOk result (λ x. AreClasses format x info.now) }
     // An info that is a Class component is read.
-    ensures only { (rs : List Placed) → AreClasses format rs info.now → Gives (λ x. x) result (Ok rs) }
+    ensures only { (rs : List RecordAt) → AreClasses format rs info.now
+        → ParsesAs (λ x. x) result (Ok rs) }
     // Otherwise the fault is the first one from the left.
-    ensures exact { Gives (λ x. x) result (classes_of format info.now) }
+    ensures exact { ParsesAs (λ x. x) result (classes_of format info.now) }
 {
     read_classes(format, info)
-}
-
-/// The same, of an info that was read before.
-pub fn reopen_class(format: Format, info: &[u8]) -> Classes<'_>
-    requires fits { length info.now < 2 ^ 16 }
-    requires was_read { IsOk (classes_of format info.now) }
-    ensures { classes_of format info.now ≡ Ok result }
-{
-    match read_classes(format, info) {
-        Ok(classes) => classes,
-        Err(_) => unreachable!(),
-    }
 }
 
 impl<'a> Classes<'a> {
@@ -149,7 +141,9 @@ impl<'a> Classes<'a> {
 
     /// The number of the record that begins at this offset, if one does.
     pub fn number_of(&self, offset: u16) -> Option<usize>
-        ensures { MatchOption result (is_among offset (offsets_of self.now) ≡ false) (λ i. (slice_get (offsets_of self.now) i ≡ Some offset) × (is_among offset (take i (offsets_of self.now)) ≡ false)) }
+        ensures { MatchOption result (is_among offset (offsets_of self.now) ≡ false)
+            (λ i. (slice_get (offsets_of self.now) i ≡ Some offset)
+            × (is_among offset (take i (offsets_of self.now)) ≡ false)) }
     {
         index_of(offset, self.offsets.as_slice())
     }

@@ -1,11 +1,11 @@
 //! The exception handlers of a Method component.
 ghost use Rattle.std.specs.Prelude.{◌≡◌, ◌<◌, length, Some, Ok, slice_get};
-ghost use Rattle.jc_cap_fields.specs.Reading.{Gives, many_at, after};
+ghost use Rattle.jc_cap_linkage.specs.Reading.{ParsesAs, many_at, rest_after};
 ghost use Rattle.jc_cap_code.specs.MethodReading.{active_at, handler_at};
 
-use jc_cap_fields::counted::{Part, skip_many};
-use jc_cap_fields::fault::CapFault;
-use jc_cap_fields::fields::{u1, u2};
+use jc_cap_linkage::counted::{Part, skip_many};
+use jc_cap_linkage::fault::CapFault;
+use jc_cap_linkage::fields::{u1, u2};
 use std::marker::Model;
 
 /// An exception handler (`exception_handler_info` of the Java Card CAP format).
@@ -26,7 +26,7 @@ pub struct Handler {
 /// The stop bit, and the length.
 #[tactic(auto, unfolding(crate::specs::MethodReading::active_at))]
 fn read_active_length(bytes: &[u8]) -> Result<((bool, u16), &[u8]), CapFault>
-    ensures { Gives (λ x. (x.0, x.1.now)) result (active_at bytes.now) }
+    ensures { ParsesAs (λ x. (x.0, x.1.now)) result (active_at bytes.now) }
 {
     let (high, rest) = u1(bytes)?;
     let (low, rest) = u1(rest)?;
@@ -38,7 +38,7 @@ fn read_active_length(bytes: &[u8]) -> Result<((bool, u16), &[u8]), CapFault>
 
 #[tactic(auto, unfolding(crate::specs::MethodReading::handler_at))]
 fn read_handler(bytes: &[u8]) -> Result<(Handler, &[u8]), CapFault>
-    ensures { Gives (λ x. (x.0, x.1.now)) result (handler_at bytes.now) }
+    ensures { ParsesAs (λ x. (x.0, x.1.now)) result (handler_at bytes.now) }
 {
     let (start_offset, rest) = u2(bytes)?;
     let ((stop, active_length), rest) = read_active_length(rest)?;
@@ -81,18 +81,18 @@ impl<'a> Model for Handlers<'a> {
     ghost use Rattle.std.specs.Prelude.{List};
     ghost use Rattle.jc_cap_code.specs.declared.handlers.Handler.{Handler};
     ghost use Rattle.jc_cap_code.specs.MethodReading.{handler_at};
-    ghost use Rattle.jc_cap_fields.specs.Reading.{many_at, listed};
-    ghost use Rattle.jc_cap_fields.specs.Places.{IsList};
+    ghost use Rattle.jc_cap_linkage.specs.Reading.{many_at, list_or_empty};
+    ghost use Rattle.jc_cap_linkage.specs.Places.{IsList};
 
     ghost Value = { List Handler };
 
-    ghost view = { λ a. listed (many_at handler_at a.count a.bytes.now) };
+    ghost view = { λ a. list_or_empty (many_at handler_at a.count a.bytes.now) };
 
     ghost invariant = { λ a. IsList handler_at a.count a.bytes.now };
 }
 
 pub(crate) fn read_handlers(count: u8, bytes: &[u8]) -> Result<(Handlers<'_>, &[u8]), CapFault>
-    ensures { Gives (λ x. (x.0, x.1.now)) result (many_at handler_at count bytes.now) }
+    ensures { ParsesAs (λ x. (x.0, x.1.now)) result (many_at handler_at count bytes.now) }
 {
     let rest = skip_many::<HandlerPart>(count as u16, bytes)?;
     Ok((Handlers { count, bytes }, rest))
@@ -106,7 +106,7 @@ impl<'a> Handlers<'a> {
         self.count
     }
 
-    /// The handler with this index, in constant time.
+    /// The handler with this index.
     pub fn get(&self, index: u8) -> Handler
         requires { index < length self.now }
         ensures { slice_get self.now index ≡ Some result }

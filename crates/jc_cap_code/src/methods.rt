@@ -1,14 +1,14 @@
 //! The Method component.
 ghost use Rattle.std.specs.Prelude.{◌≡◌, Ok, IfOk};
-ghost use Rattle.jc_cap_fields.specs.Reading.{Gives};
+ghost use Rattle.jc_cap_linkage.specs.Reading.{ParsesAs};
 ghost use Rattle.jc_cap_code.specs.MethodValues.{MethodParts};
 ghost use Rattle.jc_cap_code.specs.MethodReading.{methods_of, methods_start, short_header, extended_header, header_of, method_at, has_room};
 ghost use Rattle.jc_cap_code.specs.MethodGrammar.{AreMethods};
-ghost use Rattle.jc_cap_code.specs.MethodViews.{method_parts, found_method};
+ghost use Rattle.jc_cap_code.specs.MethodViews.{method_parts, method_value};
 
 use crate::handlers::{Handlers, read_handlers};
-use jc_cap_fields::fault::CapFault;
-use jc_cap_fields::fields::u1;
+use jc_cap_linkage::fault::CapFault;
+use jc_cap_linkage::fields::u1;
 
 /// The header of a method (`method_header_info` and `extended_method_header_info` of the Java Card CAP format).
 #[derive(Clone, Copy, Debug, Drop, PartialEq, Eq)]
@@ -42,7 +42,7 @@ pub struct Methods<'a> {
 
 #[tactic(auto, unfolding(crate::specs::MethodReading::methods_of))]
 fn read_parts(info: &[u8]) -> Result<Methods<'_>, CapFault>
-    ensures { Gives method_parts result (methods_of info.now) }
+    ensures { ParsesAs method_parts result (methods_of info.now) }
 {
     let (count, rest) = u1(info)?;
     let (handlers, code) = read_handlers(count, rest)?;
@@ -56,9 +56,9 @@ pub fn read_method(info: &[u8]) -> Result<Methods<'_>, CapFault>
     // What is read stands in the info.
     ensures found { IfOk result (λ m. AreMethods (method_parts m) info.now) }
     // An info that is a Method component is read.
-    ensures only { (m : MethodParts) → AreMethods m info.now → Gives method_parts result (Ok m) }
+    ensures only { (m : MethodParts) → AreMethods m info.now → ParsesAs method_parts result (Ok m) }
     // Otherwise the fault is the first one from the left.
-    ensures exact { Gives method_parts result (methods_of info.now) }
+    ensures exact { ParsesAs method_parts result (methods_of info.now) }
 {
     read_parts(info)
 }
@@ -121,7 +121,7 @@ impl<'a> Methods<'a> {
     /// None where the offset lies in front of the methods, or leaves no room for the header.
     #[tactic(auto, unfolding(crate::specs::MethodReading::method_at))]
     pub fn method(&self, offset: u16) -> Option<Method<'a>>
-        ensures { found_method result ≡ method_at (method_parts self.now) offset }
+        ensures { method_value result ≡ method_at (method_parts self.now) offset }
     {
         let start = self.start();
         if offset < start {

@@ -1,13 +1,13 @@
 //! The initialised arrays of a StaticField component.
 ghost use Rattle.std.specs.Prelude.{◌≡◌, ◌∷◌, [], ◌<◌, length, Some, None, Ok, MatchOption, slice_get};
-ghost use Rattle.jc_cap_fields.specs.Reading.{Gives, many_at, after, listed};
-ghost use Rattle.jc_cap_fields.specs.Places.{IsList};
+ghost use Rattle.jc_cap_linkage.specs.Reading.{ParsesAs, many_at, rest_after, list_or_empty};
+ghost use Rattle.jc_cap_linkage.specs.Places.{IsList};
 ghost use Rattle.jc_cap_code.specs.StaticReading.{element_type_at, element_size, static_array_at, static_arrays_at, values_size};
 ghost use Rattle.jc_cap_code.specs.StaticViews.{static_array};
 
-use jc_cap_fields::counted::{Part, skip_many};
-use jc_cap_fields::fault::CapFault;
-use jc_cap_fields::fields::{run, u1, u2};
+use jc_cap_linkage::counted::{Part, skip_many};
+use jc_cap_linkage::fault::CapFault;
+use jc_cap_linkage::fields::{run, u1, u2};
 use std::marker::Model;
 
 /// What an initialised array holds.
@@ -41,7 +41,7 @@ pub struct ArrayInit<'a> {
 
 #[tactic(auto, unfolding(crate::specs::StaticReading::element_type_at))]
 fn read_element_type(bytes: &[u8]) -> Result<(ElementType, &[u8]), CapFault>
-    ensures { Gives (λ x. (x.0, x.1.now)) result (element_type_at bytes.now) }
+    ensures { ParsesAs (λ x. (x.0, x.1.now)) result (element_type_at bytes.now) }
 {
     let (number, rest) = u1(bytes)?;
     match number {
@@ -54,7 +54,7 @@ fn read_element_type(bytes: &[u8]) -> Result<(ElementType, &[u8]), CapFault>
 
 #[tactic(auto, unfolding(crate::specs::StaticReading::static_array_at))]
 fn read_array(bytes: &[u8]) -> Result<(ArrayInit<'_>, &[u8]), CapFault>
-    ensures { Gives (λ x. (static_array x.0, x.1.now)) result (static_array_at bytes.now) }
+    ensures { ParsesAs (λ x. (static_array x.0, x.1.now)) result (static_array_at bytes.now) }
 {
     let (element_type, rest) = read_element_type(bytes)?;
     let (count, rest) = u2(rest)?;
@@ -98,12 +98,12 @@ impl<'a> Model for ArrayInits<'a> {
     ghost use Rattle.std.specs.Prelude.{List};
     ghost use Rattle.jc_cap_code.specs.StaticValues.{StaticArray};
     ghost use Rattle.jc_cap_code.specs.StaticReading.{static_array_at};
-    ghost use Rattle.jc_cap_fields.specs.Reading.{many_at, listed};
-    ghost use Rattle.jc_cap_fields.specs.Places.{IsList};
+    ghost use Rattle.jc_cap_linkage.specs.Reading.{many_at, list_or_empty};
+    ghost use Rattle.jc_cap_linkage.specs.Places.{IsList};
 
     ghost Value = { List StaticArray };
 
-    ghost view = { λ a. listed (many_at static_array_at a.count a.bytes.now) };
+    ghost view = { λ a. list_or_empty (many_at static_array_at a.count a.bytes.now) };
 
     ghost invariant = { λ a. IsList static_array_at a.count a.bytes.now };
 }
@@ -113,7 +113,7 @@ pub(crate) fn read_arrays(
     references: u16,
     bytes: &[u8],
 ) -> Result<(ArrayInits<'_>, &[u8]), CapFault>
-    ensures { Gives (λ x. (x.0, x.1.now)) result (static_arrays_at references bytes.now) }
+    ensures { ParsesAs (λ x. (x.0, x.1.now)) result (static_arrays_at references bytes.now) }
 {
     let (count, bytes) = u2(bytes)?;
     if references < count {
@@ -126,7 +126,7 @@ pub(crate) fn read_arrays(
 /// The number of bytes that the arrays have together.
 fn size_of_all(count: u16, bytes: &[u8]) -> usize
     requires { IsList static_array_at count bytes.now }
-    ensures { result ≡ values_size (listed (many_at static_array_at count bytes.now)) }
+    ensures { result ≡ values_size (list_or_empty (many_at static_array_at count bytes.now)) }
 {
     let mut rest = bytes;
     let mut size = 0;

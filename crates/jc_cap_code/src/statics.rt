@@ -1,14 +1,14 @@
 //! The StaticField component.
 ghost use Rattle.std.specs.Prelude.{◌≡◌, Ok, IfOk};
-ghost use Rattle.jc_cap_fields.specs.Reading.{Gives, whole};
+ghost use Rattle.jc_cap_linkage.specs.Reading.{ParsesAs, value_of_whole};
 ghost use Rattle.jc_cap_code.specs.StaticValues.{StaticParts};
 ghost use Rattle.jc_cap_code.specs.StaticReading.{value_counts_at, statics_at};
 ghost use Rattle.jc_cap_code.specs.StaticGrammar.{AreStatics};
 ghost use Rattle.jc_cap_code.specs.StaticViews.{static_parts};
 
 use crate::static_arrays::{ArrayInits, read_arrays};
-use jc_cap_fields::fault::CapFault;
-use jc_cap_fields::fields::{run, u2};
+use jc_cap_linkage::fault::CapFault;
+use jc_cap_linkage::fields::{run, u2};
 
 /// The static fields of a package. They are lent from the component.
 ///
@@ -31,7 +31,8 @@ fn read_value_counts(
     references: u16,
     bytes: &[u8],
 ) -> Result<((u16, u16), &[u8]), CapFault>
-    ensures { Gives (λ x. (x.0, x.1.now)) result (value_counts_at image_size references bytes.now) }
+    ensures { ParsesAs (λ x. (x.0, x.1.now)) result (value_counts_at image_size references
+        bytes.now) }
 {
     let (zeros, rest) = u2(bytes)?;
     let (others, rest) = u2(rest)?;
@@ -43,7 +44,7 @@ fn read_value_counts(
 
 #[tactic(auto, unfolding(crate::specs::StaticReading::statics_at))]
 fn read_static_fields(bytes: &[u8]) -> Result<(StaticFields<'_>, &[u8]), CapFault>
-    ensures { Gives (λ x. (static_parts x.0, x.1.now)) result (statics_at bytes.now) }
+    ensures { ParsesAs (λ x. (static_parts x.0, x.1.now)) result (statics_at bytes.now) }
 {
     let (image_size, rest) = u2(bytes)?;
     let (reference_count, rest) = u2(rest)?;
@@ -65,7 +66,7 @@ fn read_static_fields(bytes: &[u8]) -> Result<(StaticFields<'_>, &[u8]), CapFaul
 }
 
 fn read_whole(info: &[u8]) -> Result<StaticFields<'_>, CapFault>
-    ensures { Gives static_parts result (whole (statics_at info.now)) }
+    ensures { ParsesAs static_parts result (value_of_whole (statics_at info.now)) }
 {
     let (fields, rest) = read_static_fields(info)?;
     if !rest.is_empty() {
@@ -83,9 +84,9 @@ pub fn read_static_field(info: &[u8]) -> Result<StaticFields<'_>, CapFault>
     // What is read stands in the info.
     ensures found { IfOk result (λ s. AreStatics (static_parts s) info.now) }
     // An info that is a StaticField component is read.
-    ensures only { (s : StaticParts) → AreStatics s info.now → Gives static_parts result (Ok s) }
+    ensures only { (s : StaticParts) → AreStatics s info.now → ParsesAs static_parts result (Ok s) }
     // Otherwise the fault is the first one from the left.
-    ensures exact { Gives static_parts result (whole (statics_at info.now)) }
+    ensures exact { ParsesAs static_parts result (value_of_whole (statics_at info.now)) }
 {
     read_whole(info)
 }

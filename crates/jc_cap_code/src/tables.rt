@@ -2,12 +2,12 @@
 ghost use Rattle.std.specs.Prelude.{◌≡◌};
 ghost use Rattle.jc_cap_code.specs.ClassValues.{contents_of};
 ghost use Rattle.jc_cap_code.specs.MethodViews.{method_parts};
-ghost use Rattle.jc_cap_code.specs.Tables.{every, entry_fits, table_fits, record_fits, tables_fit};
+ghost use Rattle.jc_cap_code.specs.Tables.{all_of_list, entry_fits, table_fits, record_fits, tables_fit};
 
 use crate::class_records::ClassRecord;
 use crate::classes::Classes;
 use crate::methods::Methods;
-use jc_cap_fields::lists::U2List;
+use jc_cap_linkage::lists::U2List;
 
 /// Whether an entry is the offset of a method, or says that the method is inherited from another package.
 fn entry_fits(methods: &Methods<'_>, inherits: bool, offset: u16) -> bool

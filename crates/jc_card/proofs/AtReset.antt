@@ -2,12 +2,12 @@
 use Rattle.std.proofs.Common.{◌≡◌, ◌∙◌, ◌+◌, ℕ, List, [], Ok, Err, Some, None, sym, ap, subst}
 use Rattle.std.specs.Prelude.{Result, IfOk}
 use Rattle.jc_heap.specs.Heap.{HeapState, HeapView, facts, heap_of}
-use Rattle.jc_heap.specs.Image.{IsLaid, table_text}
+use Rattle.jc_heap.specs.Image.{IsWellFormed, table_text}
 use Rattle.jc_heap.proofs.RawWords.{text_is}
-use Rattle.jc_transient.specs.State.{IsBlank, RamState}
+use Rattle.jc_transient.specs.State.{IsCleared, RamState}
 use Rattle.jc_platform.specs.Tokens.{Tokens}
 use Rattle.jc_platform.specs.Table.{Reads}
-use Rattle.jc_card_packages.specs.Reading.{packages_of}
+use Rattle.jc_card_load.specs.Reading.{packages_of}
 use Rattle.jc_memory.specs.Cells.{word_in, word_of}
 use Rattle.jc_memory.specs.Owners.{at_reset}
 use Rattle.jc_memory.specs.State.{MemoryState}
@@ -15,21 +15,27 @@ use Rattle.jc_card.specs.CardState.{CardState}
 use Rattle.jc_card.specs.Fixed.{fixed_of}
 use Rattle.jc_card.specs.Reset.{IsAtReset, ReadsAsZero}
 
-zero_blank : (s : MemoryState) → IsBlank s.ram → ReadsAsZero s
+zero_blank : (s : MemoryState) → IsCleared s.ram → ReadsAsZero s
 zero_blank s blank r i event e = ap (λ o. word_in o s r i) e ∙ ap word_of (blank.cells event ((facts s.heap.now r).place + i))
 
-pub is_at_reset : {E : Type 0} (w : List ℕ) (t u : Tokens) (heap : HeapView) (ram : RamState) (r : Result CardState E) → u ≡ t → heap.now ≡ heap_of w → IsLaid w → Reads (table_text w) (Ok t) → IsBlank ram →
+pub is_at_reset : {E : Type 0} (w : List ℕ) (t u : Tokens) (heap : HeapView) (ram : RamState) (r : Result CardState E) → u ≡ t → heap.now ≡ heap_of w
+    → IsWellFormed w → Reads (table_text w) (Ok t) → IsCleared ram →
     IfOk r (λ card. packages_of u heap.now ≡ Some card.packages) →
     IfOk r (λ card. card.memory ≡ record { heap = heap; ram = ram; fixed = fixed_of heap.now; registers = at_reset; command = []; sent = [] }) →
     IfOk r (λ card. card.load ≡ None) → IfOk r (λ card. IsAtReset (heap_of w) card)
 is_at_reset w t u heap ram (Err e) same now laid reads blank linked memory load = tt
 is_at_reset w t u heap ram (Ok card) same now laid reads blank linked memory load = record {
-  ram = subst IsBlank (sym (ap (λ (m : MemoryState). m.ram) memory)) blank;
-  cells = zero_blank card.memory (subst IsBlank (sym (ap (λ (m : MemoryState). m.ram) memory)) blank);
+  ram = subst IsCleared (sym (ap (λ (m : MemoryState). m.ram) memory)) blank;
+  cells = zero_blank card.memory (subst IsCleared (sym (ap (λ (m : MemoryState). m.ram) memory)) blank);
   fixed = ap (λ (m : MemoryState). m.fixed) memory ∙ ap fixed_of now;
   registers = ap (λ (m : MemoryState). m.registers) memory;
   command = ap (λ (m : MemoryState). m.command) memory;
   sent = ap (λ (m : MemoryState). m.sent) memory;
-  packages = (t, subst (λ l. Reads l (Ok t)) (sym (text_is w laid)) reads, ap (λ x. packages_of x (heap_of w)) (sym same) ∙ (ap (packages_of u) (sym now) ∙ linked));
+  packages = (
+    t,
+    subst (λ l. Reads l (Ok t)) (sym (text_is w laid)) reads,
+    ap (λ x. packages_of x (heap_of w)) (sym same)
+        ∙ (ap (packages_of u) (sym now) ∙ linked),
+  );
   load = load;
 }

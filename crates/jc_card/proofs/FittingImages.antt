@@ -6,23 +6,26 @@ use Rattle.std.proofs.lemmas.List.{append_assoc}
 use Rattle.jc_transient.specs.declared.cell.ClearEvent.TheVariants.{Reset}
 use Rattle.jc_heap.specs.Components.{record_of}
 use Rattle.jc_heap.specs.Object.{AnObject, Item, new_transient}
-use Rattle.jc_heap.specs.Table.{has}
-use Rattle.jc_heap.specs.Heap.{HeapState, IsObject, add_object, add_transient, area_end, first_above, item_at, names, next_object}
+use Rattle.jc_heap.specs.Table.{has_entry}
+use Rattle.jc_heap.specs.Heap.{HeapState, IsObject, add_object, add_transient, area_end, first_above, heap_item_at, is_allocated, next_object}
 use Rattle.jc_heap.proofs.Laws.{object_named}
-use Rattle.jc_image.specs.Laying.{laid_heap, sealed}
+use Rattle.jc_image.specs.Laying.{unsealed_heap, sealed_heap}
 use Rattle.jc_platform.specs.Tokens.{Tokens}
-use Rattle.jc_card_packages.specs.Reading.{packages_of, with_records}
+use Rattle.jc_card_load.specs.Reading.{packages_of, with_records}
 use Rattle.jc_card.specs.declared.fixed.FixedObject.{FixedObject}
 use Rattle.jc_card.specs.Fixed.{class_number_of, fixed_objects, last_fixed, next_or_null, object_number, with_objects}
-use Rattle.jc_card.specs.Made.{formatted}
+use Rattle.jc_card.specs.Made.{new_card_heap}
 use Rattle.jc_card.specs.PowerUp.{HasPackages}
-use Rattle.jc_card.proofs.FixedObjects.{IsBelow, below-one, found-first, has-push, items-all, items-one, next_is, next_sealed, none-push, top-add, with_one}
+use Rattle.jc_card.proofs.FixedObjects.{IsBelow, below-one, found-first, has_entry-push, items-all, items-one, next_is, next_sealed, none-push, top-add}
+use Rattle.jc_card.proofs.FixedObjects.{with_one}
 
 -- above the object that was made last nothing stands
 above-one : (t : Tokens) (h : HeapState) (o : FixedObject) → IsBelow h → (x : ℕ) → h.top < x → IsObject (with_one t h o) x → ⊥
-unfolding names
+unfolding is_allocated
 above-one t h o b x above object =
-    let absent : has ((with_one t h o).items) x ≡ false = ap (λ l. has l x) (items-one t h o) ∙ has-push h.items (h.top, AnObject (new_transient o.kind Reset (class_number_of t o.class) 0 o.cells (area_end h Reset))) x (b.absent x (omega arith)) (λ e. omega (arith, e)) in
+    let absent : has_entry ((with_one t h o).items) x ≡ false = ap (λ l. has_entry l x) (items-one t h o)
+    ∙ has_entry-push h.items (h.top, AnObject (new_transient o.kind Reset (class_number_of t o.class) 0 o.cells (area_end h Reset))) x
+    (b.absent x (omega arith)) (λ e. omega (arith, e)) in
     false≢true (sym absent ∙ object_named (with_one t h o) x object)
 
 pub number_suc : (h : HeapState) (k : ℕ) → object_number h (suc k) ≡ next_or_null h (object_number h k)
@@ -30,15 +33,18 @@ unfolding object_number
 number_suc h k = refl
 
 -- the object behind the one with a number
-next_made : (t : Tokens) (h : HeapState) (j : ℕ) (o : FixedObject) (os : List FixedObject) → IsBelow h → first_above h.items (object_number (with_objects t h (o ∷ os)) j) ≡ None →
+next_made : (t : Tokens) (h : HeapState) (j : ℕ) (o : FixedObject) (os : List FixedObject) → IsBelow h
+    → first_above h.items (object_number (with_objects t h (o ∷ os)) j) ≡ None →
     object_number (with_objects t h (o ∷ os)) j < h.top → object_number (with_objects t h (o ∷ os)) (suc j) ≡ h.top
 next_made t h j o os b none below =
     let all : HeapState = with_objects t h (o ∷ os) in
     let one = AnObject (new_transient o.kind Reset (class_number_of t o.class) 0 o.cells (area_end h Reset)) in
     let rest : (rest : List (ℕ × Item)) × (all.items ≡ (with_one t h o).items ++ rest) = items-all t (with_one t h o) os in
-    let items : all.items ≡ h.items ++ (h.top, one) ∷ rest.0 = rest.1 ∙ ap (λ l. l ++ rest.0) (items-one t h o) ∙ append_assoc h.items ((h.top, one) ∷ []) rest.0 in
+    let items : all.items ≡ h.items ++ (h.top, one) ∷ rest.0 = rest.1 ∙ ap (λ l. l ++ rest.0) (items-one t h o)
+    ∙ append_assoc h.items ((h.top, one) ∷ []) rest.0 in
     let next : next_object all (object_number all j) ≡ Some h.top =
-    next_is all (object_number all j) ∙ ap (λ l. first_above l (object_number all j)) items ∙ found-first h.items (h.top, one) rest.0 (object_number all j) none below refl in
+    next_is all (object_number all j) ∙ ap (λ l. first_above l (object_number all j)) items
+    ∙ found-first h.items (h.top, one) rest.0 (object_number all j) none below refl in
     number_suc all j ∙ ap (λ q. unwrap_or q 0) next
 
 -- nothing stands above the last one
@@ -58,13 +64,13 @@ last_made t h j k o (p ∷ os) e b none below x above object =
     (omega (arith, there, top-add h o.kind (class_number_of t o.class) 0 o.cells)) x above object
 
 -- a seal changes no object
-pub number_sealed : (h : HeapState) (k : ℕ) → object_number (sealed h) k ≡ object_number h k
+pub number_sealed : (h : HeapState) (k : ℕ) → object_number (sealed_heap h) k ≡ object_number h k
 unfolding object_number
 number_sealed h zero = refl
-number_sealed h (suc k) = ap (next_or_null (sealed h)) (number_sealed h k) ∙ ap (λ q. unwrap_or q 0) (next_sealed h (object_number h k))
+number_sealed h (suc k) = ap (next_or_null (sealed_heap h)) (number_sealed h k) ∙ ap (λ q. unwrap_or q 0) (next_sealed h (object_number h k))
 
-object_sealed : (h : HeapState) (x : ℕ) → IsObject (sealed h) x → IsObject h x
-unfolding item_at
+object_sealed : (h : HeapState) (x : ℕ) → IsObject (sealed_heap h) x → IsObject h x
+unfolding heap_item_at
 object_sealed h x object = object
 
 number_zero : (h : HeapState) → object_number h 0 ≡ 0
@@ -82,10 +88,10 @@ fixed_count : 17 ≡ length fixed_objects
 unfolding fixed_objects
 fixed_count = refl
 
-pub alone : (n : ℕ) (text : List ℕ) (t : Tokens) (x : ℕ) → last_fixed (formatted n text t) < x → IsObject (formatted n text t) x → ⊥
+pub alone : (n : ℕ) (text : List ℕ) (t : Tokens) (x : ℕ) → last_fixed (new_card_heap n text t) < x → IsObject (new_card_heap n text t) x → ⊥
 alone n text t x above object =
-    let h : HeapState = with_objects t (laid_heap n text) fixed_objects in
-    last_all t (laid_heap n text) fixed_objects 17 fixed_count (omega arith) (record { absent = λ q le. refl; none = λ q le. refl }) refl (omega arith)
+    let h : HeapState = with_objects t (unsealed_heap n text) fixed_objects in
+    last_all t (unsealed_heap n text) fixed_objects 17 fixed_count (omega arith) (record { absent = λ q le. refl; none = λ q le. refl }) refl (omega arith)
     x (omega (arith, number_sealed h 17, above)) (object_sealed h x object)
 
 pub packages_add : (t : Tokens) (h : HeapState) (os : List FixedObject) → (with_objects t h os).packages ≡ h.packages
@@ -103,12 +109,12 @@ pub no_packages : (t : Tokens) (h : HeapState) → h.packages ≡ [] → package
 unfolding packages_of
 no_packages t h none = ap (λ ps. with_records (record { platform = t; loaded = [] }) (map (record_of h) ps)) none
 
-pub fits-formatted : (n : ℕ) (text : List ℕ) (t u : Tokens) → HasPackages u (formatted n text t)
-fits-formatted n text t u =
-    let none : (formatted n text t).packages ≡ [] = packages_add t (laid_heap n text) fixed_objects in
-    let counts : (formatted n text t).counts ≡ (0, 0) = counts_add t (laid_heap n text) fixed_objects in (
+pub fits-new_card_heap : (n : ℕ) (text : List ℕ) (t u : Tokens) → HasPackages u (new_card_heap n text t)
+fits-new_card_heap n text t u =
+    let none : (new_card_heap n text t).packages ≡ [] = packages_add t (unsealed_heap n text) fixed_objects in
+    let counts : (new_card_heap n text t).counts ≡ (0, 0) = counts_add t (unsealed_heap n text) fixed_objects in (
       record { platform = u; loaded = [] },
-      no_packages u (formatted n text t) none,
+      no_packages u (new_card_heap n text t) none,
       record {
         objects = λ r above object. absurd (alone n text t r above object);
         statics = λ k below. absurd (omega (arith, ap length none));

@@ -5,20 +5,21 @@ use Rattle.std.specs.Prelude.{Result, Ok, Err, is_none}
 use Rattle.jc_words.specs.declared.store.StoreDown.{StoreDown}
 use Rattle.jc_heap.specs.declared.refusal.HeapRefusal.{HeapRefusal}
 use Rattle.jc_heap.specs.declared.object.Kind.{Kind}
-use Rattle.jc_heap.specs.Moves.{Done, AddPackage, no_package}
-use Rattle.jc_packages.specs.Values.{Packages}
-use Rattle.jc_memory.specs.State.{MemoryState, Changes}
-use Rattle.jc_memory.specs.Doing.{Doing, Gives, Then, Picks, Did, Makes, Made, bind, unless_refused}
-use Rattle.jc_memory.proofs.Doings.{bind_did, bind_cut}
-use Rattle.jc_cap.specs.declared.texts.Load.{Load}
-use Rattle.jc_card_packages.specs.Prepared.{PreparedPackage, prepared}
-use Rattle.jc_card_packages.specs.Material.{arrays_of, image_of, parts_of, statics_of}
-use Rattle.jc_card_packages.specs.declared.refusal.Refusal.{Refusal}
-use Rattle.jc_card_load.specs.declared.end.EndFault.{EndFault}
-use Rattle.jc_card_load.specs.declared.end.EndFault.TheVariants.{Refused, Down}
+use Rattle.jc_heap.specs.Moves.{AddPackage, refusal_of_package}
+use Rattle.jc_heap.specs.Completions.{Done, Completed}
+use Rattle.jc_linker.specs.Values.{Packages}
+use Rattle.jc_memory.specs.State.{MemoryState, HeapMove}
+use Rattle.jc_memory.specs.Programs.{Program, Finish, Perform, Choose, Completes, Executes, bind, unless_refused}
+use Rattle.jc_memory.proofs.ProgramLemmas.{bind_did, bind_cut}
+use Rattle.jc_cap.specs.declared.texts.LoadedComponents.{LoadedComponents}
+use Rattle.jc_card_load.specs.PendingPackages.{PendingPackageValue, linked_components}
+use Rattle.jc_card_load.specs.RecordContents.{arrays_of, image_of, parts_of, statics_of}
+use Rattle.jc_card_load.specs.declared.package_refusal.PackageRefusal.{PackageRefusal}
+use Rattle.jc_card_load.specs.declared.load_end.EndFault.{EndFault}
+use Rattle.jc_card_load.specs.declared.load_end.EndFault.TheVariants.{Refused, Down}
 use Rattle.jc_card_load.specs.declared.load.OpenLoad.{OpenLoad}
-use Rattle.jc_card_load.specs.Ending.{Left, after_end, comes_in, if_added, if_prepared, package_ended}
-use Rattle.jc_card.specs.Loads.{answer_of_left, said_of}
+use Rattle.jc_card_load.specs.Ending.{LoadResult, after_end, assembly_result, after_addition, after_preparation, end_of_load}
+use Rattle.jc_card.specs.Loads.{answer_of_left, response_of_end}
 use Rattle.jc_card.specs.Answers.{after_exchange}
 
 -- no transaction began or ended, and the store is as it was
@@ -28,46 +29,58 @@ Rests s new = (new.heap.begun ≡ s.heap.begun) × (new.heap.down ≡ s.heap.dow
 same : (s new : MemoryState) → new ≡ s → Rests s new
 same s new e = (ap (λ m. m.heap.begun) e, ap (λ m. m.heap.down) e)
 
-choose : (b : Bool) (x y : Doing Left) (s new : MemoryState) (left : Left) → (Did x s left new → Rests s new) → (Did y s left new → Rests s new) → Did (if b then x else y) s left new → Rests s new
+choose : (b : Bool) (x y : Program LoadResult) (s new : MemoryState) (left : LoadResult) → (Completes x s left new → Rests s new)
+    → (Completes y s left new → Rests s new) → Completes (if b then x else y) s left new → Rests s new
 choose true x y s new left fx fy d = fx d
 choose false x y s new left fx fy d = fy d
 
-add : (reason : Option HeapRefusal) (cs : List (ℕ × List ℕ)) (xs : List (Kind × List ℕ)) (image : List ℕ) (p : Packages) (q : PreparedPackage) (s new : MemoryState) (left : Left) →
-    Did (bind (unless_refused reason (Picks (λ r. Then (Changes (AddPackage cs xs image)) (Gives (Done r))))) s (λ answer after. if_added p q answer)) s left new → Rests s new
+add : (reason : Option HeapRefusal) (cs : List (ℕ × List ℕ)) (xs : List (Kind × List ℕ)) (image : List ℕ) (p : Packages) (q : PendingPackageValue)
+    (s new : MemoryState) (left : LoadResult) →
+    Completes (bind (unless_refused reason (Choose (λ r. Perform (HeapMove (AddPackage cs xs image)) (Finish (Done r))))) s
+    (λ answer after. after_addition p q answer)) s left new → Rests s new
 add None cs xs image p q s new left d = (ap (λ m. m.heap.begun) d.2.1, ap (λ m. m.heap.down) d.2.1)
 add (Some reason) cs xs image p q s new left d = same s new d.1
 
-prepared_rests : (p : Packages) (s new : MemoryState) (left : Left) (r : Result PreparedPackage Refusal) → Did (if_prepared p s r) s left new → Rests s new
+prepared_rests : (p : Packages) (s new : MemoryState) (left : LoadResult) (r : Result PendingPackageValue PackageRefusal)
+    → Completes (after_preparation p s r) s left new → Rests s new
 prepared_rests p s new left (Err refusal) d = same s new d.1
 prepared_rests p s new left (Ok q) d =
     choose (nat_le 32 (length s.heap.now.packages)) _ _ s new left (λ e. same s new e.1)
-    (add (no_package s.heap (parts_of q.texts) (arrays_of (statics_of q.texts)) (image_of (statics_of q.texts))) (parts_of q.texts) (arrays_of (statics_of q.texts)) (image_of (statics_of q.texts)) p q s new left) d
+    (add (refusal_of_package s.heap (parts_of q.texts) (arrays_of (statics_of q.texts)) (image_of (statics_of q.texts))) (parts_of q.texts)
+    (arrays_of (statics_of q.texts)) (image_of (statics_of q.texts)) p q s new left) d
 
-comes_rests : (p : Packages) (s new : MemoryState) (left : Left) (texts : Load) → Did (comes_in p s texts) s left new → Rests s new
-unfolding comes_in
-comes_rests p s new left texts (inl d) = prepared_rests p s new left (prepared p texts) d
+comes_rests : (p : Packages) (s new : MemoryState) (left : LoadResult) (texts : LoadedComponents) → Completes (assembly_result p s texts) s left new
+    → Rests s new
+unfolding assembly_result
+comes_rests p s new left texts (inl d) = prepared_rests p s new left (linked_components p texts) d
 comes_rests p s new left texts (inr d) = same s new d.1
 
-ended_rests : (p : Packages) (s new : MemoryState) (left : Left) (load : Option OpenLoad) → Did (package_ended p s load) s left new → Rests s new
+ended_rests : (p : Packages) (s new : MemoryState) (left : LoadResult) (load : Option OpenLoad) → Completes (end_of_load p s load) s left new → Rests s new
 ended_rests p s new left None d = same s new d.1
-ended_rests p s new left (Some load) d = choose (is_none load.coming) (comes_in p s load.texts) _ s new left (comes_rests p s new left load.texts) (λ e. same s new e.1) d
+ended_rests p s new left (Some load) d = choose (is_none load.coming) (assembly_result p s load.texts) _ s new left (comes_rests p s new left load.texts)
+    (λ e. same s new e.1) d
 
 -- the end of a load leaves no transaction open, unless the store has refused a write
-pub ends_outside : (p q : Packages) (s new : MemoryState) (load kept : Option OpenLoad) (r : Result (Unit {0}) EndFault) → s.heap.begun ≡ false → Makes (package_ended p s load) s (after_end r q kept new) → new.heap.down ≡ false → new.heap.begun ≡ false
+pub ends_outside : (p q : Packages) (s new : MemoryState) (load kept : Option OpenLoad) (r : Result (Unit {0}) EndFault) → s.heap.begun ≡ false
+    → Executes (end_of_load p s load) s (after_end r q kept new) → new.heap.down ≡ false → new.heap.begun ≡ false
 ends_outside p q s new load kept (Ok done) rests made up = (ended_rests p s new _ load made).0 ∙ rests
 ends_outside p q s new load kept (Err (Refused refusal)) rests made up = (ended_rests p s new _ load made).0 ∙ rests
 ends_outside p q s new load kept (Err Down) rests cut up = absurd (true≢false (sym cut.1 ∙ up))
 
 -- the response to the end of a load
-pub ends_so : (d : Doing Left) (s new : MemoryState) (r : Result (Unit {0}) EndFault) (q : Packages) (kept : Option OpenLoad) (said : Result (List ℕ) StoreDown) → said ≡ said_of r → Makes d s (after_end r q kept new) →
-    Makes (bind d s (λ left v. Gives (answer_of_left left))) s (after_exchange said (record { memory = new; packages = q; load = kept }))
+pub ends_so : (d : Program LoadResult) (s new : MemoryState) (r : Result (Unit {0}) EndFault) (q : Packages) (kept : Option OpenLoad)
+    (said : Result (List ℕ) StoreDown) → said ≡ response_of_end r → Executes d s (after_end r q kept new) →
+    Executes (bind d s (λ left v. Finish (answer_of_left left))) s (after_exchange said (record { memory = new; packages = q; load = kept }))
 ends_so d s new r q kept said is made =
-    subst (λ x. Makes (bind d s (λ left v. Gives (answer_of_left left))) s (after_exchange x (record { memory = new; packages = q; load = kept }))) (sym is) (by_end r made)
+    subst (λ x. Executes (bind d s (λ left v. Finish (answer_of_left left))) s (after_exchange x (record { memory = new; packages = q; load = kept }))) (sym is)
+    (by_end r made)
   where
-    done : (left : Left) → Did d s left new → Makes (bind d s (λ l v. Gives (answer_of_left l))) s (Made (answer_of_left left) new)
-    done left did = bind_did (λ l v. Gives (answer_of_left l)) d s new new left (answer_of_left left) did (refl, refl)
+    done : (left : LoadResult) → Completes d s left new → Executes (bind d s (λ l v. Finish (answer_of_left l))) s (Completed (answer_of_left left) new)
+    done left did = bind_did (λ l v. Finish (answer_of_left l)) d s new new left (answer_of_left left) did (refl, refl)
 
-    by_end : (r : Result (Unit {0}) EndFault) → Makes d s (after_end r q kept new) → Makes (bind d s (λ left v. Gives (answer_of_left left))) s (after_exchange (said_of r) (record { memory = new; packages = q; load = kept }))
+    by_end : (r : Result (Unit {0}) EndFault) → Executes d s (after_end r q kept new)
+        → Executes (bind d s (λ left v. Finish (answer_of_left left))) s (after_exchange (response_of_end r)
+        (record { memory = new; packages = q; load = kept }))
     by_end (Ok tt) m = done (record { ended = Ok tt; packages = q; load = kept }) m
     by_end (Err (Refused refusal)) m = done (record { ended = Err refusal; packages = q; load = kept }) m
-    by_end (Err Down) m = bind_cut (λ left v. Gives (answer_of_left left)) d s new m
+    by_end (Err Down) m = bind_cut (λ left v. Finish (answer_of_left left)) d s new m

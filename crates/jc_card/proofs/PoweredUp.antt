@@ -1,38 +1,35 @@
 -- What power up finds.
-use Rattle.std.proofs.Common.{◌≡◌, ℕ, ◌+◌, ◌/◌, ◌≤◌, ◌<◌, ◌⊎◌, inl, inr, List, [], ◌∷◌, map, take, length, get_or, lit<, refl, sym, ◌∙◌, ap, subst, arith, Ok, Err}
-use Rattle.std.specs.Prelude.{Result, ◌↔◌, IsOk, IfOk, IfErr, OnOk, Option, Some, None}
+use Rattle.std.proofs.Common.{◌≡◌, ℕ, ◌+◌, ◌/◌, ◌≤◌, ◌<◌, ◌⊎◌, inl, inr, List, [], ◌∷◌, take, length, get_or, lit<, refl, sym, ◌∙◌, ap, subst, arith, Ok, Err}
+use Rattle.std.specs.Prelude.{Result, ◌↔◌, IsOk, IfOk, IfErr, OnOk, Some}
 use Rattle.std.proofs.lemmas.Bool.{false≢true}
 use Rattle.std.proofs.lemmas.List.{get_or-take}
 use Rattle.jc_words.specs.Image.{HasSize}
 use Rattle.jc_words.specs.declared.image.ImageFault.{ImageFault}
 use Rattle.jc_words.specs.Layout.{magic_address, version_address, size_address, text_length_address, text_start, magic, version}
 use Rattle.jc_commit.specs.Image.{IsGoodLog, recovered_of}
-use Rattle.jc_heap.specs.Image.{IsLaid, base, image}
+use Rattle.jc_heap.specs.Image.{IsWellFormed, base, image}
 use Rattle.jc_heap.specs.Heap.{HeapState, heap_of}
 use Rattle.jc_card_checks.specs.Sound.{IsSound}
-use Rattle.jc_card_packages.specs.Reading.{packages_of}
-use Rattle.jc_image.specs.Beginning.{BeginsWith}
+use Rattle.jc_card_load.specs.Reading.{packages_of}
 use Rattle.jc_heap.proofs.RawWords.{recovered-front, head_is, text_is}
 use Rattle.jc_heap.proofs.Following.{base_is}
-use Rattle.jc_transient.specs.declared.cell.ClearEvent.TheVariants.{Reset}
 use Rattle.jc_image.proofs.TextBytes.{length-table_text}
-use Rattle.jc_packages.specs.Values.{Packages}
+use Rattle.jc_linker.specs.Values.{Packages}
 use Rattle.jc_platform.specs.Tokens.{Tokens}
 use Rattle.jc_platform.specs.Table.{Reads}
-use Rattle.jc_platform.specs.Distinct.{class_word}
-use Rattle.jc_platform.specs.declared.names.PlatformClass.{PlatformClass}
 use Rattle.jc_platform.proofs.OneAnswer.{one_table}
-use Rattle.jc_card.specs.declared.fixed.FixedObject.{FixedObject}
-use Rattle.jc_card.specs.Fixed.{class_number_of, fixed_facts, fixed_objects, last_fixed}
+use Rattle.jc_card.specs.Fixed.{last_fixed}
 use Rattle.jc_card.specs.Made.{IsMade}
-use Rattle.jc_card.specs.PowerUp.{HasHead, HasTable, HasHeap, Refuses, Fails, Stands, StandsBy, HasPackages}
+use Rattle.jc_card.specs.PowerUp.{HasHead, HasTable, HasHeap, PowerUpRefuses, RecoveredWordsFail, HasPackages}
 use Rattle.jc_card.specs.declared.power_up.PowerFault.{PowerFault}
 use Rattle.jc_card.specs.declared.power_up.PowerFault.TheVariants.{BadMagic, BadVersion, BadSize, BadLog, BadTable, BadPackage, NoMemory, StoreDown}
 
 -- the first words were asked for
 pub head_found : (r : Result Unit ImageFault) (w : List ℕ) → ((f : ImageFault) → r ≡ Err f → ⊥) →
     (IsOk r → (get_or w magic_address 0 ≡ magic) × (get_or w version_address 0 ≡ version) × HasSize w) → HasHead w
-head_found (Ok u) w n f = let h : (get_or w magic_address 0 ≡ magic) × (get_or w version_address 0 ≡ version) × HasSize w = f refl in record { magic = h.0; version = h.1; size = h.2 }
+head_found (Ok u) w n f =
+    let h : (get_or w magic_address 0 ≡ magic) × (get_or w version_address 0 ≡ version) × HasSize w = f refl in
+    record { magic = h.0; version = h.1; size = h.2 }
 head_found (Err e) w n f = absurd (n e refl)
 
 three : (w : List ℕ) → 3 ≤ length w → take 3 w ≡ get_or w magic_address 0 ∷ get_or w version_address 0 ∷ get_or w size_address 0 ∷ []
@@ -64,19 +61,20 @@ head_made w made = sym (recovered-front w made.log) ∙ sym (head_is (recovered_
 
 pub has_head : (w : List ℕ) → IsMade w → HasHead w
 has_head w made =
-    let word : (k : ℕ) → k < 3 → get_or w k 0 ≡ get_or (magic ∷ version ∷ length w ∷ []) k 0 = λ k h. sym (get_or-take 3 w k 0 h) ∙ ap (λ l. get_or l k 0) (head_made w made) in
+    let word : (k : ℕ) → k < 3 → get_or w k 0 ≡ get_or (magic ∷ version ∷ length w ∷ []) k 0 = λ k h. sym (get_or-take 3 w k 0 h)
+    ∙ ap (λ l. get_or l k 0) (head_made w made) in
     record { magic = word 0 (lit< tt); version = word 1 (lit< tt); size = record { told = word 2 (lit< tt); enough = made.heap.enough } }
 
-text_fits : (w : List ℕ) → IsLaid w → text_start + (get_or w text_length_address 0 + 1) / 2 ≤ length w
+text_fits : (w : List ℕ) → IsWellFormed w → text_start + (get_or w text_length_address 0 + 1) / 2 ≤ length w
 text_fits w laid =
     let b : base (image w) ≡ text_start + (get_or w text_length_address 0 + 1) / 2 = base_is w laid in
     omega (arith, laid.based, laid.fits, b)
 
-has_table : (w : List ℕ) (t : Tokens) → IsLaid w → Reads (heap_of w).text (Ok t) → HasTable w t
+has_table : (w : List ℕ) (t : Tokens) → IsWellFormed w → Reads (heap_of w).text (Ok t) → HasTable w t
 has_table w t laid reads = (text_fits w laid, subst (λ l. Reads l (Ok t)) (text_is w laid) reads)
 
 -- what the product made is refused for want of memory alone, or by the store
-pub refused_made : (w : List ℕ) (f : PowerFault) → IsMade w → Refuses f w → (f ≡ NoMemory) ⊎ (f ≡ StoreDown)
+pub refused_made : (w : List ℕ) (f : PowerFault) → IsMade w → PowerUpRefuses f w → (f ≡ NoMemory) ⊎ (f ≡ StoreDown)
 refused_made w BadMagic made r = absurd (r (has_head w made).magic)
 refused_made w BadVersion made r = absurd (r.1 (has_head w made).version)
 refused_made w BadSize made r = absurd (r.2 (has_head w made).size)
@@ -90,12 +88,13 @@ refused_made w BadPackage made r =
 refused_made w NoMemory made r = inl refl
 refused_made w StoreDown made r = inr refl
 
-pub refused_if : {A E : Type 0} (r : Result A E) (fault : E → PowerFault) (w : List ℕ) → IsMade w → IfErr r (λ e. Refuses (fault e) w) → IfErr r (λ e. (fault e ≡ NoMemory) ⊎ (fault e ≡ StoreDown))
+pub refused_if : {A E : Type 0} (r : Result A E) (fault : E → PowerFault) (w : List ℕ) → IsMade w → IfErr r (λ e. PowerUpRefuses (fault e) w)
+    → IfErr r (λ e. (fault e ≡ NoMemory) ⊎ (fault e ≡ StoreDown))
 refused_if (Ok a) fault w made f = tt
 refused_if (Err e) fault w made f = refused_made w (fault e) made f
 
 -- the same for the parts of a recovered image
-pub refuses_from : (w : List ℕ) (f : PowerFault) → HasHead w → IsGoodLog w → Fails f (recovered_of w) → Refuses f w
+pub refuses_from : (w : List ℕ) (f : PowerFault) → HasHead w → IsGoodLog w → RecoveredWordsFail f (recovered_of w) → PowerUpRefuses f w
 refuses_from w BadMagic head log r = absurd r
 refuses_from w BadVersion head log r = absurd r
 refuses_from w BadSize head log r = absurd r
@@ -104,16 +103,6 @@ refuses_from w BadTable head log r = (head, log, r)
 refuses_from w BadPackage head log r = (head, log, r)
 refuses_from w NoMemory head log r = (head, log)
 refuses_from w StoreDown head log r = absurd r
-
-pub stands_from : (w new : List ℕ) (f : PowerFault) → Fails f (recovered_of w) → StandsBy f (recovered_of w) new → Stands f w new
-stands_from w new BadMagic r s = absurd r
-stands_from w new BadVersion r s = absurd r
-stands_from w new BadSize r s = absurd r
-stands_from w new BadLog r s = absurd r
-stands_from w new BadTable r s = s
-stands_from w new BadPackage r s = s
-stands_from w new NoMemory r s = s
-stands_from w new StoreDown r s = absurd r
 
 pub mapped_err : {A E : Type 0} (r : Result A E) (P Q : E → Type 0) → ((e : E) → P e → Q e) → IfErr r P → IfErr r Q
 mapped_err (Ok a) P Q f p = tt
@@ -124,7 +113,8 @@ mapped_on (Ok a) P Q f p = f p
 mapped_on (Err e) P Q f p = tt
 
 -- no fault of the first words where they are an image's
-pub no_image_fault : (r : Result Unit ImageFault) (f : ImageFault) (w : List ℕ) → r ≡ Err f → ((get_or w magic_address 0 ≡ magic) × (get_or w version_address 0 ≡ version) × HasSize w → IsOk r) → IsMade w → ⊥
+pub no_image_fault : (r : Result Unit ImageFault) (f : ImageFault) (w : List ℕ) → r ≡ Err f
+    → ((get_or w magic_address 0 ≡ magic) × (get_or w version_address 0 ≡ version) × HasSize w → IsOk r) → IsMade w → ⊥
 no_image_fault r f w is ok made =
     let h : HasHead w = has_head w made in
     false≢true (subst IsOk is (ok (h.magic, h.version, h.size)))
@@ -135,10 +125,10 @@ on_if (Ok a) Q P f q = f a q
 on_if (Err e) Q P f q = tt
 
 -- recovered words are laid where those are that they are
-pub laid_as : (to new : List ℕ) → recovered_of new ≡ to → IsLaid (recovered_of new) ↔ IsLaid to
-laid_as to new same = (λ laid. subst IsLaid same laid, λ laid. subst IsLaid (sym same) laid)
+pub laid_as : (to new : List ℕ) → recovered_of new ≡ to → IsWellFormed (recovered_of new) ↔ IsWellFormed to
+laid_as to new same = (λ laid. subst IsWellFormed same laid, λ laid. subst IsWellFormed (sym same) laid)
 
-pub both_laid : (to new : List ℕ) → IsLaid to → IsLaid (recovered_of new) → IsLaid (recovered_of new) ↔ IsLaid to
+pub both_laid : (to new : List ℕ) → IsWellFormed to → IsWellFormed (recovered_of new) → IsWellFormed (recovered_of new) ↔ IsWellFormed to
 both_laid to new first second = (λ laid. first, λ laid. second)
 
 -- what does not fit the packages that are linked of it fits none

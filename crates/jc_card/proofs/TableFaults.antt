@@ -32,7 +32,8 @@ module _ (n : ℕ) (text : List ℕ) where
     )
 
     -- the line of a fault
-    pub tells_line : (line_of : TableFault → ℕ) → ((k : ℕ) → line_of (table.BadTable k) ≡ k) → (fault : TableFault) → Reads text (Err fault) → TellsLines n text (Err (BadTable (line_of fault)))
+    pub tells_line : (line_of : TableFault → ℕ) → ((k : ℕ) → line_of (table.BadTable k) ≡ k) → (fault : TableFault) → Reads text (Err fault)
+        → TellsLines n text (Err (BadTable (line_of fault)))
     tells_line line_of is (table.BadTable k) refused = subst (λ m. TellsLines n text (Err (BadTable m))) (sym (is k)) (line_told k refused)
 
   pub room_untold : (found : ℕ) (fault : TableFault) → Reads text (Err fault) → TellsRoom n text (Err (BadTable found))

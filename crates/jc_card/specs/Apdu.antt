@@ -24,8 +24,9 @@ data_of c =
 
 -- the command of these bytes
 abbrev pub apdu_of : List ℕ → Option Apdu
-apdu_of c = option_map (λ d. record { class = slice_index c 0; instruction = slice_index c 1; p1 = slice_index c 2; p2 = slice_index c 3; content = d }) (data_of c)
+apdu_of c = option_map (λ d. record { class = slice_index c 0; instruction = slice_index c 1; p1 = slice_index c 2; p2 = slice_index c 3; content = d })
+    (data_of c)
 
 -- the bytes that a slice lends
-abbrev pub bytes_seen : Bor (List ℕ) → List ℕ
-bytes_seen s = s.now
+abbrev pub slice_bytes : Bor (List ℕ) → List ℕ
+slice_bytes s = s.now

@@ -1,7 +1,7 @@
 -- The state of a card.
 use Rattle.std.specs.Prelude.{◌≡◌, false, Option}
 use Rattle.jc_heap.specs.Heap.{HeapView}
-use Rattle.jc_packages.specs.Values.{Packages}
+use Rattle.jc_linker.specs.Values.{Packages}
 use Rattle.jc_memory.specs.State.{MemoryState}
 use Rattle.jc_memory.specs.Power.{VolatileState}
 use Rattle.jc_card_load.specs.declared.load.OpenLoad.{OpenLoad}

@@ -6,12 +6,15 @@ use Rattle.jc_transient.specs.State.{buffer_size}
 use Rattle.jc_transient.specs.declared.cell.ClearEvent.TheVariants.{Reset}
 use Rattle.jc_heap.specs.declared.object.Kind.TheVariants.{Instance, ByteArray}
 use Rattle.jc_heap.specs.declared.object.Facts.{Facts}
-use Rattle.jc_image.specs.Beginning.{BeginsWith}
+use Rattle.jc_image.specs.Beginning.{HeapBeginsWith}
 use Rattle.jc_heap.specs.Heap.{HeapState, add_transient, next_object}
 use Rattle.jc_platform.specs.Tokens.{Tokens}
 use Rattle.jc_platform.specs.Distinct.{class_word}
 use Rattle.jc_platform.specs.declared.names.PlatformClass.{PlatformClass}
-use Rattle.jc_platform.specs.declared.names.PlatformClass.TheVariants.{ArithmeticException, ArrayIndexOutOfBoundsException, ArrayStoreException, ClassCastException, NegativeArraySizeException, NullPointerException, SecurityException, CardException, CardRuntimeException, IsoException, PinException, SystemException, TransactionException, ApduException, UserException, Apdu}
+use Rattle.jc_platform.specs.declared.names.PlatformClass.TheVariants.{ArithmeticException, ArrayIndexOutOfBoundsException, ArrayStoreException}
+use Rattle.jc_platform.specs.declared.names.PlatformClass.TheVariants.{ClassCastException, NegativeArraySizeException, NullPointerException, SecurityException}
+use Rattle.jc_platform.specs.declared.names.PlatformClass.TheVariants.{CardException, CardRuntimeException, IsoException, PinException, SystemException}
+use Rattle.jc_platform.specs.declared.names.PlatformClass.TheVariants.{TransactionException, ApduException, UserException, Apdu}
 use Rattle.jc_card.specs.declared.fixed.FixedObject.{FixedObject}
 
 -- an instance of a class with so many cells
@@ -65,7 +68,7 @@ fixed_facts t place (o ∷ more) = facts_of_fixed t o place ∷ fixed_facts t (p
 
 -- the heap begins with the objects of the runtime environment
 abbrev pub BeginsWithFixed : Tokens → HeapState → Type 0
-BeginsWithFixed t h = BeginsWith h (fixed_facts t 0 fixed_objects)
+BeginsWithFixed t h = HeapBeginsWith h (fixed_facts t 0 fixed_objects)
 
 -- the heap with these objects behind the others
 abbrev pub with_objects : Tokens → HeapState → List FixedObject → HeapState

@@ -1,25 +1,25 @@
 -- The manager's commands that bring a package in.
 use Rattle.std.specs.Prelude.{ℕ, ◌+◌, List, [], ◌∷◌, Option, Some, None, Result, Ok, Err}
-use Rattle.jc_cap_fields.specs.Numbers.{number}
-use Rattle.jc_packages.specs.Values.{Packages}
+use Rattle.jc_cap_linkage.specs.Numbers.{number}
+use Rattle.jc_linker.specs.Values.{Packages}
 use Rattle.jc_linker.specs.declared.fault.LinkFault.{LinkFault}
 use Rattle.jc_linker.specs.declared.fault.LinkFault.TheVariants as link
-use Rattle.jc_memory.specs.Doing.{Doing, Gives, Or, bind}
-use Rattle.jc_card_packages.specs.declared.refusal.Refusal.{Refusal}
-use Rattle.jc_card_packages.specs.declared.refusal.Refusal.TheVariants.{Component, AidTaken, Full, Unlinked}
+use Rattle.jc_memory.specs.Programs.{Program, Finish, Either, bind}
+use Rattle.jc_card_load.specs.declared.package_refusal.PackageRefusal.{PackageRefusal}
+use Rattle.jc_card_load.specs.declared.package_refusal.PackageRefusal.TheVariants.{BadComponents, AidTaken, Full, LinkFailed}
 use Rattle.jc_words.specs.declared.store.StoreDown.{StoreDown}
-use Rattle.jc_card_load.specs.declared.end.EndFault.{EndFault}
-use Rattle.jc_card_load.specs.declared.end.EndFault.TheVariants as ends
+use Rattle.jc_card_load.specs.declared.load_end.EndFault.{EndFault}
+use Rattle.jc_card_load.specs.declared.load_end.EndFault.TheVariants as ends
 use Rattle.jc_card_load.specs.declared.load.OpenLoad.{OpenLoad}
-use Rattle.jc_card_load.specs.declared.refusal.LoadRefusal.{LoadRefusal}
-use Rattle.jc_card_load.specs.declared.refusal.LoadRefusal.TheVariants.{OutOfTurn, NoTag, NotIn, HeapFull}
-use Rattle.jc_card_load.specs.Loading.{Ended, begun_load, component_begun, component_ended, component_grown, no_memory}
-use Rattle.jc_card_load.specs.Ending.{Left, package_ended}
+use Rattle.jc_card_load.specs.declared.load_refusal.LoadRefusal.{LoadRefusal}
+use Rattle.jc_card_load.specs.declared.load_refusal.LoadRefusal.TheVariants.{OutOfSequence, UnknownTag, Refused, HeapFull}
+use Rattle.jc_card_load.specs.Loading.{CommandResult, empty_load, component_begin, component_end, component_append, no_memory}
+use Rattle.jc_card_load.specs.Ending.{LoadResult, end_of_load}
 use Rattle.jc_card.specs.CardState.{CardState}
 use Rattle.jc_card.specs.StatusWord.{status_bytes, no_error, wrong_length, conditions_not_satisfied, wrong_data, no_space, aid_taken, full}
 
 -- the response to a command, the packages and the load that it leaves
-pub record Answered : Type 0 where
+pub record LoadResponse : Type 0 where
   pub response : List ℕ
   pub packages : Packages
   pub load : Option OpenLoad
@@ -32,59 +32,61 @@ link_number (link.Unresolved index) = 3
 link_number link.NoMemory = 4
 
 -- the status words of the refusals of a package: 64nn
-abbrev pub status_of_refusal : Refusal → ℕ
-status_of_refusal (Component fault) = 0x6400 + number fault
+abbrev pub status_of_refusal : PackageRefusal → ℕ
+status_of_refusal (BadComponents fault) = 0x6400 + number fault
 status_of_refusal AidTaken = aid_taken
 status_of_refusal Full = full
-status_of_refusal (Unlinked fault) = 0x6420 + link_number fault
+status_of_refusal (LinkFailed fault) = 0x6420 + link_number fault
 
 -- the status word of a refusal
 abbrev pub status_of : LoadRefusal → ℕ
-status_of OutOfTurn = conditions_not_satisfied
-status_of NoTag = wrong_data
-status_of (NotIn refusal) = status_of_refusal refusal
+status_of OutOfSequence = conditions_not_satisfied
+status_of UnknownTag = wrong_data
+status_of (Refused refusal) = status_of_refusal refusal
 status_of HeapFull = no_space
 
 -- the response to a command of a load
-abbrev pub response_to : Ended → List ℕ
+abbrev pub response_to : CommandResult → List ℕ
 response_to (Ok done) = status_bytes no_error
 response_to (Err refusal) = status_bytes (status_of refusal)
 
 -- a command that changes nothing but the load
-abbrev pub loads : CardState → Ended → Option OpenLoad → Doing Answered
-loads card ended load = Gives (record { response = response_to ended; packages = card.packages; load = load })
+abbrev pub load_command : CardState → CommandResult → Option OpenLoad → Program LoadResponse
+load_command card ended load = Finish (record { response = response_to ended; packages = card.packages; load = load })
 
 -- one for which a load must be open
-abbrev pub on_load : CardState → (OpenLoad → Ended × OpenLoad) → Option OpenLoad → Doing Answered
-on_load card change None = loads card (Err OutOfTurn) None
-on_load card change (Some load) = loads card (change load).0 (Some (change load).1)
+abbrev pub on_load : CardState → (OpenLoad → CommandResult × OpenLoad) → Option OpenLoad → Program LoadResponse
+on_load card change None = load_command card (Err OutOfSequence) None
+on_load card change (Some load) = load_command card (change load).0 (Some (change load).1)
 
--- a load begins; one that was open is dropped
-abbrev pub load_begins : CardState → Doing Answered
-load_begins card = loads card (Ok tt) (Some begun_load)
+-- Command 80 B0 begin load: a load begins; one that was open is dropped
+abbrev pub begin_load : CardState → Program LoadResponse
+begin_load card = load_command card (Ok tt) (Some empty_load)
 
--- a component begins
-abbrev pub component_begins : ℕ → CardState → Doing Answered
-component_begins tag card = on_load card (component_begun tag) card.load
+-- Command 80 B2 begin component: a component begins
+abbrev pub begin_component : ℕ → CardState → Program LoadResponse
+begin_component tag card = on_load card (component_begin tag) card.load
 
--- more of it comes: without data the length is wrong, and memory may be refused
-abbrev pub component_grows : List ℕ → CardState → Doing Answered
-component_grows [] card = Gives (record { response = status_bytes wrong_length; packages = card.packages; load = card.load })
-component_grows (b ∷ more) card = Or (on_load card (component_grown (b ∷ more)) card.load) (loads card (Err no_memory) card.load)
+-- Command 80 B4 append: more bytes of the open component; without data the length is wrong, and memory may be
+-- refused
+abbrev pub append_component : List ℕ → CardState → Program LoadResponse
+append_component [] card = Finish (record { response = status_bytes wrong_length; packages = card.packages; load = card.load })
+append_component (b ∷ more) card = Either (on_load card (component_append (b ∷ more)) card.load) (load_command card (Err no_memory) card.load)
 
--- it ends
-abbrev pub component_ends : CardState → Doing Answered
-component_ends card = on_load card component_ended card.load
+-- Command 80 BC end component: the open component is read and kept, or dropped
+abbrev pub end_component : CardState → Program LoadResponse
+end_component card = on_load card component_end card.load
 
 -- the load ends
-abbrev pub answer_of_left : Left → Answered
+abbrev pub answer_of_left : LoadResult → LoadResponse
 answer_of_left left = record { response = response_to left.ended; packages = left.packages; load = left.load }
 
-abbrev pub load_ends : CardState → Doing Answered
-load_ends card = bind (package_ended card.packages card.memory card.load) card.memory (λ left s. Gives (answer_of_left left))
+-- Command 80 BA end load: the package is linked and added, or refused
+abbrev pub end_load : CardState → Program LoadResponse
+end_load card = bind (end_of_load card.packages card.memory card.load) card.memory (λ left s. Finish (answer_of_left left))
 
 -- what is said of how it ended: the response, or that the store is down
-abbrev pub said_of : Result (Unit {0}) EndFault → Result (List ℕ) StoreDown
-said_of (Ok done) = Ok (response_to (Ok tt))
-said_of (Err (ends.Refused refusal)) = Ok (response_to (Err refusal))
-said_of (Err ends.Down) = Err (record {})
+abbrev pub response_of_end : Result (Unit {0}) EndFault → Result (List ℕ) StoreDown
+response_of_end (Ok done) = Ok (response_to (Ok tt))
+response_of_end (Err (ends.Refused refusal)) = Ok (response_to (Err refusal))
+response_of_end (Err ends.Down) = Err (record {})

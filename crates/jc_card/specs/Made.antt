@@ -2,10 +2,10 @@
 use Rattle.std.specs.Prelude.{ℕ, ◌≡◌, ◌≤◌, List, [], ◌∷◌, length, Ok}
 use Rattle.jc_words.specs.Layout.{magic, version, least_size}
 use Rattle.jc_commit.specs.Image.{IsGoodLog, recovered_of}
-use Rattle.jc_heap.specs.Image.{IsLaid}
+use Rattle.jc_heap.specs.Image.{IsWellFormed}
 use Rattle.jc_heap.specs.Heap.{HeapState, heap_of}
-use Rattle.jc_heap.specs.Whole.{IsWhole}
-use Rattle.jc_image.specs.Laying.{laid_heap, sealed}
+use Rattle.jc_heap.specs.Whole.{IsConsistent}
+use Rattle.jc_image.specs.Laying.{unsealed_heap, sealed_heap}
 use Rattle.jc_platform.specs.Tokens.{Tokens}
 use Rattle.jc_platform.specs.Table.{Reads}
 use Rattle.jc_card.specs.Fixed.{fixed_objects, BeginsWithFixed, with_objects}
@@ -20,14 +20,14 @@ pub record IsCardHeap (n : ℕ) (h : HeapState) : Type 0 where
   pub head : h.head ≡ magic ∷ version ∷ n ∷ []
   pub enough : least_size ≤ n
   pub platform : HasPlatform h
-  pub whole : IsWhole h
+  pub whole : IsConsistent h
 
 -- words that the product makes: a recovery leaves the heap of a card
 pub record IsMade (w : List ℕ) : Type 0 where
   pub log : IsGoodLog w
-  pub laid : IsLaid (recovered_of w)
+  pub laid : IsWellFormed (recovered_of w)
   pub heap : IsCardHeap (length w) (heap_of (recovered_of w))
 
 -- the heap of a new image
-abbrev pub formatted : ℕ → List ℕ → Tokens → HeapState
-formatted n text t = sealed (with_objects t (laid_heap n text) fixed_objects)
+abbrev pub new_card_heap : ℕ → List ℕ → Tokens → HeapState
+new_card_heap n text t = sealed_heap (with_objects t (unsealed_heap n text) fixed_objects)

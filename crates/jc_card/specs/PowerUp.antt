@@ -5,13 +5,13 @@ use Rattle.jc_words.specs.declared.image.ImageFault.{ImageFault}
 use Rattle.jc_words.specs.declared.image.ImageFault.TheVariants.{BadMagic as NoMagic, BadVersion as OtherVersion, BadSize as NoSize}
 use Rattle.jc_words.specs.Layout.{magic_address, version_address, text_length_address, text_start, magic, version}
 use Rattle.jc_commit.specs.Image.{IsGoodLog, StillRecovers, plain_of, recovered_of, count_of}
-use Rattle.jc_heap.specs.Image.{IsLaid, table_text}
+use Rattle.jc_heap.specs.Image.{IsWellFormed, table_text}
 use Rattle.jc_heap.specs.Heap.{HeapState, heap_of}
-use Rattle.jc_heap.specs.Whole.{IsWhole}
+use Rattle.jc_heap.specs.Whole.{IsConsistent}
 use Rattle.jc_platform.specs.Tokens.{Tokens}
 use Rattle.jc_platform.specs.Table.{Reads}
-use Rattle.jc_packages.specs.Values.{Packages}
-use Rattle.jc_card_packages.specs.Reading.{packages_of}
+use Rattle.jc_linker.specs.Values.{Packages}
+use Rattle.jc_card_load.specs.Reading.{packages_of}
 use Rattle.jc_card_checks.specs.Sound.{IsSound}
 use Rattle.jc_card.specs.Fixed.{BeginsWithFixed, last_fixed}
 use Rattle.jc_card.specs.declared.power_up.PowerFault.{PowerFault}
@@ -39,18 +39,18 @@ HasPackages t h = (p : Packages) × (packages_of t h ≡ Some p) × IsSound p h 
 
 -- a whole heap that begins with the objects of the runtime environment, and that fits its packages
 abbrev pub HasHeap : Tokens → List ℕ → Type 0
-HasHeap t w = IsLaid w × IsWhole (heap_of w) × BeginsWithFixed t (heap_of w) × HasPackages t (heap_of w)
+HasHeap t w = IsWellFormed w × IsConsistent (heap_of w) × BeginsWithFixed t (heap_of w) × HasPackages t (heap_of w)
 
 -- why recovered words don't power up: their table first, then their heap; or memory was refused
-abbrev pub Fails : PowerFault → List ℕ → Type 0
-Fails BadMagic w = ⊥
-Fails BadVersion w = ⊥
-Fails BadSize w = ⊥
-Fails BadLog w = ⊥
-Fails BadTable w = (t : Tokens) → HasTable w t → ⊥
-Fails BadPackage w = (t : Tokens) × HasTable w t × (HasHeap t w → ⊥)
-Fails NoMemory w = Unit {0}
-Fails StoreDown w = ⊥
+abbrev pub RecoveredWordsFail : PowerFault → List ℕ → Type 0
+RecoveredWordsFail BadMagic w = ⊥
+RecoveredWordsFail BadVersion w = ⊥
+RecoveredWordsFail BadSize w = ⊥
+RecoveredWordsFail BadLog w = ⊥
+RecoveredWordsFail BadTable w = (t : Tokens) → HasTable w t → ⊥
+RecoveredWordsFail BadPackage w = (t : Tokens) × HasTable w t × (HasHeap t w → ⊥)
+RecoveredWordsFail NoMemory w = Unit {0}
+RecoveredWordsFail StoreDown w = ⊥
 
 -- the words are these recovered ones, and no entry counts
 pub record IsRecovered (to new : List ℕ) : Type 0 where
@@ -62,7 +62,7 @@ pub record IsRecovered (to new : List ℕ) : Type 0 where
 pub record StandsFor (to new : List ℕ) : Type 0 where
   pub plain : heap_of (plain_of new) ≡ heap_of to
   pub recovered : heap_of (recovered_of new) ≡ heap_of to
-  pub laid : IsLaid (recovered_of new) ↔ IsLaid to
+  pub laid : IsWellFormed (recovered_of new) ↔ IsWellFormed to
   pub closed : count_of new ≡ 0
 
 -- why the packages of a heap are not linked, or it does not fit them
@@ -72,33 +72,33 @@ FailsToLink NoMemory t h = Unit {0}
 FailsToLink _ t h = ⊥
 
 -- what a fault that is found after the recovery leaves of the words: where it is found last, the heap is known
-abbrev pub StandsBy : PowerFault → List ℕ → List ℕ → Type 0
-StandsBy BadTable to new = IsRecovered to new
-StandsBy BadPackage to new = StandsFor to new
-StandsBy NoMemory to new = StandsFor to new
-StandsBy _ to new = ⊥
+abbrev pub LateFaultLeaves : PowerFault → List ℕ → List ℕ → Type 0
+LateFaultLeaves BadTable to new = IsRecovered to new
+LateFaultLeaves BadPackage to new = StandsFor to new
+LateFaultLeaves NoMemory to new = StandsFor to new
+LateFaultLeaves _ to new = ⊥
 
 -- why words don't power up, each cause before the next
-abbrev pub Refuses : PowerFault → List ℕ → Type 0
-Refuses BadMagic w = slice_index w magic_address ≢ magic
-Refuses BadVersion w = (slice_index w magic_address ≡ magic) × (slice_index w version_address ≢ version)
-Refuses BadSize w = (slice_index w magic_address ≡ magic) × (slice_index w version_address ≡ version) × (HasSize w → ⊥)
-Refuses BadLog w = HasHead w × (IsGoodLog w → ⊥)
-Refuses BadTable w = HasHead w × IsGoodLog w × Fails BadTable (recovered_of w)
-Refuses BadPackage w = HasHead w × IsGoodLog w × Fails BadPackage (recovered_of w)
-Refuses NoMemory w = HasHead w × IsGoodLog w
-Refuses StoreDown w = HasHead w × IsGoodLog w
+abbrev pub PowerUpRefuses : PowerFault → List ℕ → Type 0
+PowerUpRefuses BadMagic w = slice_index w magic_address ≢ magic
+PowerUpRefuses BadVersion w = (slice_index w magic_address ≡ magic) × (slice_index w version_address ≢ version)
+PowerUpRefuses BadSize w = (slice_index w magic_address ≡ magic) × (slice_index w version_address ≡ version) × (HasSize w → ⊥)
+PowerUpRefuses BadLog w = HasHead w × (IsGoodLog w → ⊥)
+PowerUpRefuses BadTable w = HasHead w × IsGoodLog w × RecoveredWordsFail BadTable (recovered_of w)
+PowerUpRefuses BadPackage w = HasHead w × IsGoodLog w × RecoveredWordsFail BadPackage (recovered_of w)
+PowerUpRefuses NoMemory w = HasHead w × IsGoodLog w
+PowerUpRefuses StoreDown w = HasHead w × IsGoodLog w
 
 -- what a refusal leaves of the words
-abbrev pub Stands : PowerFault → List ℕ → List ℕ → Type 0
-Stands BadMagic old new = new ≡ old
-Stands BadVersion old new = new ≡ old
-Stands BadSize old new = new ≡ old
-Stands BadLog old new = new ≡ old
-Stands BadTable old new = IsRecovered (recovered_of old) new
-Stands BadPackage old new = StandsFor (recovered_of old) new
-Stands NoMemory old new = StandsFor (recovered_of old) new
-Stands StoreDown old new = StillRecovers old new
+abbrev pub RefusalLeaves : PowerFault → List ℕ → List ℕ → Type 0
+RefusalLeaves BadMagic old new = new ≡ old
+RefusalLeaves BadVersion old new = new ≡ old
+RefusalLeaves BadSize old new = new ≡ old
+RefusalLeaves BadLog old new = new ≡ old
+RefusalLeaves BadTable old new = IsRecovered (recovered_of old) new
+RefusalLeaves BadPackage old new = StandsFor (recovered_of old) new
+RefusalLeaves NoMemory old new = StandsFor (recovered_of old) new
+RefusalLeaves StoreDown old new = StillRecovers old new
 
 -- the faults that are found before a recovery, by reading alone
 abbrev pub IsFoundFirst : PowerFault → Type 0

@@ -1,11 +1,11 @@
 -- What a reset makes of a card.
 use Rattle.std.specs.Prelude.{ℕ, ◌≡◌, [], Ok, Some, None}
 use Rattle.jc_transient.specs.declared.cell.ClearEvent.{ClearEvent}
-use Rattle.jc_transient.specs.State.{IsBlank}
+use Rattle.jc_transient.specs.State.{IsCleared}
 use Rattle.jc_heap.specs.Heap.{HeapState, facts}
 use Rattle.jc_platform.specs.Tokens.{Tokens}
 use Rattle.jc_platform.specs.Table.{Reads}
-use Rattle.jc_card_packages.specs.Reading.{packages_of}
+use Rattle.jc_card_load.specs.Reading.{packages_of}
 use Rattle.jc_memory.specs.Cells.{word_at}
 use Rattle.jc_memory.specs.Owners.{at_reset}
 use Rattle.jc_memory.specs.State.{MemoryState}
@@ -19,7 +19,7 @@ ReadsAsZero s = (r i : ℕ) (event : ClearEvent) → (facts s.heap.now r).event 
 -- a card after a reset over this heap: blank transient contents, nothing selected, no command begun and none answered, the
 -- packages of the heap's records linked by the heap's own table, no open load
 pub record IsAtReset (h : HeapState) (card : CardState) : Type 0 where
-  pub ram : IsBlank card.memory.ram
+  pub ram : IsCleared card.memory.ram
   pub cells : ReadsAsZero card.memory
   pub fixed : card.memory.fixed ≡ fixed_of h
   pub registers : card.memory.registers ≡ at_reset

@@ -1,8 +1,8 @@
 //! Commands.
 ghost use Rattle.std.specs.Prelude.{◌≡◌, ◌<◌, ◌≤◌, IfSome, length};
 ghost use Rattle.std.specs.Option.{option_map};
-ghost use Rattle.jc_card.specs.Apdu.{apdu_of, data_of, bytes_seen};
-ghost use Rattle.jc_card.specs.Commands.{apdu_seen};
+ghost use Rattle.jc_card.specs.Apdu.{apdu_of, data_of, slice_bytes};
+ghost use Rattle.jc_card.specs.Commands.{apdu_value};
 
 /// A command APDU in its short form (ISO/IEC 7816-4).
 #[derive(Clone, Copy, Debug)]
@@ -20,7 +20,7 @@ impl<'a> Command<'a> {
     /// or the length of the data (1 to 255), the data and perhaps the expected length. `None` for
     /// bytes of any other length.
     pub fn parse(bytes: &'a [u8]) -> Option<Self>
-        ensures value { option_map apdu_seen result ≡ apdu_of bytes.entry.now }
+        ensures value { option_map apdu_value result ≡ apdu_of bytes.entry.now }
         ensures short { IfSome result (λ command. length command.data.now < 256) }
         ensures long { IfSome result (λ command. length bytes.entry.now ≤ 261) }
     {
@@ -37,8 +37,9 @@ impl<'a> Command<'a> {
 
 // The data of a command, if its length is right.
 fn data_in(bytes: &[u8]) -> Option<&[u8]>
-    ensures value { option_map bytes_seen result ≡ data_of bytes.now }
-    ensures long { IfSome result (λ found. (length found.now < 256) × ((3 < length bytes.now) × (length bytes.now ≤ 261))) }
+    ensures value { option_map slice_bytes result ≡ data_of bytes.now }
+    ensures long { IfSome result (λ found. (length found.now < 256)
+        × ((3 < length bytes.now) × (length bytes.now ≤ 261))) }
 {
     if bytes.len() < 4 {
         return None;

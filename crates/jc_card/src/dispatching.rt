@@ -1,16 +1,17 @@
 //! Commands that applets answer, and "create applet".
 ghost use Rattle.std.specs.Prelude.{◌≡◌, ◌≤◌, false, length, OnOk};
-ghost use Rattle.jc_memory.specs.Doing.{Makes, after_step};
+ghost use Rattle.jc_memory.specs.Programs.{Executes};
+ghost use Rattle.jc_heap.specs.Completions.{after_step};
 ghost use Rattle.jc_card.specs.Answers.{after_exchange};
-ghost use Rattle.jc_card.specs.Commands.{apdu_seen};
-ghost use Rattle.jc_card.specs.Dispatching.{creates, dispatched, expected_by, is_select, routed, status_of_ending, to_named, to_selected};
+ghost use Rattle.jc_card.specs.Commands.{apdu_value};
+ghost use Rattle.jc_card.specs.Dispatching.{create_applet, dispatch, expected_by, is_select, route, status_of_ending, to_named, to_selected};
 
 use crate::card::Card;
 use crate::command::Command;
 use crate::response::Response;
 use crate::status::StatusWord;
+use jc_dispatch::applet_result::AppletResult;
 use jc_dispatch::create::create;
-use jc_dispatch::ending::Ending;
 use jc_dispatch::process::process;
 use jc_dispatch::select::{select, select_manager};
 use jc_linker::linked::Linked;
@@ -31,7 +32,7 @@ const BY_AID: u8 = 4;
 
 // Whether a command is SELECT by an AID.
 pub(crate) fn is_select(command: Command<'_>) -> bool
-    ensures { result ≡ is_select (apdu_seen command.entry) }
+    ensures { result ≡ is_select (apdu_value command.entry) }
 {
     command.class == 0
         && command.instruction == SELECT
@@ -55,18 +56,18 @@ fn expected_by(bytes: &[u8]) -> u16
 }
 
 // The status word of a command that an applet answered, or by which one was made.
-fn status_of(ending: Ending) -> StatusWord
+fn status_of(ending: AppletResult) -> StatusWord
     ensures { result.0 ≡ status_of_ending ending }
 {
     match ending {
-        Ending::Done => StatusWord::NO_ERROR,
-        Ending::Reason(reason) => StatusWord(reason.cast_unsigned()),
-        Ending::Unknown => StatusWord::UNKNOWN,
-        Ending::NotSelected => StatusWord::NOT_SELECTED,
-        Ending::NotRegistered => StatusWord::CONDITIONS_NOT_SATISFIED,
-        Ending::Malformed => StatusWord::WRONG_DATA,
-        Ending::NoApplet => StatusWord::NO_APPLET,
-        Ending::RegistryFull => StatusWord::FULL,
+        AppletResult::Done => StatusWord::NO_ERROR,
+        AppletResult::Reason(reason) => StatusWord(reason.cast_unsigned()),
+        AppletResult::Unknown => StatusWord::UNKNOWN,
+        AppletResult::NotSelected => StatusWord::NOT_SELECTED,
+        AppletResult::NotRegistered => StatusWord::CONDITIONS_NOT_SATISFIED,
+        AppletResult::Malformed => StatusWord::WRONG_DATA,
+        AppletResult::NoApplet => StatusWord::NO_APPLET,
+        AppletResult::RegistryFull => StatusWord::FULL,
     }
 }
 
@@ -75,29 +76,31 @@ fn to_selected<S: WordStore>(
     expected: u16,
     memory: &mut Memory<S>,
     linked: &Linked,
-) -> Result<Ending, StoreDown>
+) -> Result<AppletResult, StoreDown>
     requires up { memory.old.heap.down ≡ false }
     requires outside { memory.old.heap.begun ≡ false }
-    ensures does { Makes (to_selected memory.old.registers.selected expected linked.now memory.old) memory.old (after_step result memory.new) }
+    ensures does { Executes (to_selected memory.old.registers.selected expected linked.now
+        memory.old) memory.old (after_step result memory.new) }
     ensures outside { OnOk result (memory.new.heap.begun ≡ false) }
 {
     match memory.registers().selected {
         Some(applet) => process(MOST_INSTRUCTIONS, applet, false, expected, memory, linked),
-        None => Ok(Ending::NotSelected),
+        None => Ok(AppletResult::NotSelected),
     }
 }
 
-// SELECT of the manager or of an applet; another command goes to the selected applet.
-#[tactic(auto, unfolding(crate::specs::Dispatching::routed))]
+// SELECT (00 A4 04 00) of the manager or of an applet; another command goes to the selected applet.
+#[tactic(auto, unfolding(crate::specs::Dispatching::route))]
 fn route<S: WordStore>(
     command: Command<'_>,
     expected: u16,
     memory: &mut Memory<S>,
     linked: &Linked,
-) -> Result<Ending, StoreDown>
+) -> Result<AppletResult, StoreDown>
     requires up { memory.old.heap.down ≡ false }
     requires outside { memory.old.heap.begun ≡ false }
-    ensures does { Makes (routed (apdu_seen command.entry) expected linked.now memory.old) memory.old (after_step result memory.new) }
+    ensures does { Executes (route (apdu_value command.entry) expected linked.now memory.old)
+        memory.old (after_step result memory.new) }
     ensures outside { OnOk result (memory.new.heap.begun ≡ false) }
 {
     if !is_select(command) {
@@ -114,7 +117,7 @@ fn route<S: WordStore>(
 
 impl<S: WordStore> Card<S> {
     // The response of an applet, or to the command that selects one or the manager.
-    #[tactic(auto, unfolding(crate::specs::Dispatching::dispatched), using(jc_memory::proofs::Doings::bind_did, jc_memory::proofs::Doings::left_before, jc_memory::proofs::Doings::left_after, jc_memory::proofs::Doings::refused_did, jc_memory::proofs::Doings::size_did, jc_memory::proofs::Doings::down_did))]
+    #[tactic(auto, unfolding(crate::specs::Dispatching::dispatch), using(jc_memory::proofs::ProgramLemmas::in_two_steps))]
     pub(crate) fn dispatch(
         &mut self,
         bytes: &[u8],
@@ -122,7 +125,8 @@ impl<S: WordStore> Card<S> {
     ) -> Result<Response, StoreDown>
         requires up { self.old.memory.heap.down ≡ false }
         requires long { length bytes.now ≤ 261 }
-        ensures { Makes (dispatched bytes.now (apdu_seen command.entry) self.old) self.old.memory (after_exchange result self.new) }
+        ensures { Executes (dispatch bytes.now (apdu_value command.entry) self.old) self.old.memory
+            (after_exchange result self.new) }
     {
         self.memory.start(bytes);
         let expected = expected_by(bytes);
@@ -130,11 +134,12 @@ impl<S: WordStore> Card<S> {
         Ok(Response::new(self.memory.sent(), status_of(ending)))
     }
 
-    // "Create applet".
-    #[tactic(auto, unfolding(crate::specs::Dispatching::creates), using(jc_memory::proofs::Doings::bind_did, jc_memory::proofs::Doings::left_before, jc_memory::proofs::Doings::left_after, jc_memory::proofs::Doings::refused_did, jc_memory::proofs::Doings::size_did, jc_memory::proofs::Doings::down_did))]
+    /// Command 80 B8 create applet: installs an applet.
+    #[tactic(auto, unfolding(crate::specs::Dispatching::create_applet), using(jc_memory::proofs::ProgramLemmas::in_two_steps))]
     pub(crate) fn create(&mut self, bytes: &[u8]) -> Result<Response, StoreDown>
         requires up { self.old.memory.heap.down ≡ false }
-        ensures { Makes (creates bytes.now self.old) self.old.memory (after_exchange result self.new) }
+        ensures { Executes (create_applet bytes.now self.old) self.old.memory
+            (after_exchange result self.new) }
     {
         if bytes.is_empty() {
             return Ok(Response::of_status(StatusWord::WRONG_LENGTH));

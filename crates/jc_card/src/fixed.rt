@@ -1,18 +1,18 @@
 //! The objects that the runtime environment owns from an image's making on.
 ghost use Rattle.std.specs.Prelude.{◌≡◌, ◌≤◌, ◌<◌, ◌+◌, ◌*◌, false, true, OnOk, OnErr, is_ok, if◌then◌else◌, length, slice_index, [], ◌∷◌, ◌++◌};
-ghost use Rattle.jc_words.specs.Count.{raised};
+ghost use Rattle.jc_words.specs.Count.{saturating_count};
 ghost use Rattle.jc_transient.specs.State.{area_size};
 ghost use Rattle.jc_transient.specs.declared.cell.ClearEvent.TheVariants.{Reset};
 ghost use Rattle.jc_heap.specs.Object.{transient_size};
 ghost use Rattle.jc_heap.specs.Heap.{IsObject, area_end};
-ghost use Rattle.jc_card.specs.Fixed.{fixed_objects, fixed_size, class_number_of, facts_of_fixed, cells_of_all, fixed_facts, fixed_of, last_fixed, next_or_null, with_objects};
+ghost use Rattle.jc_card.specs.Fixed.{fixed_objects, fixed_size, class_number_of, facts_of_fixed, cells_of_all, fixed_facts, fixed_of, last_fixed};
+ghost use Rattle.jc_card.specs.Fixed.{next_or_null, with_objects};
 
 use arrayvec::ArrayVec;
 use jc_heap::{Facts, Heap, Kind};
-use jc_names::{ClassWord, NO_CLASS, RUNTIME_ENVIRONMENT};
 use jc_platform::names::PlatformClass;
 use jc_platform::table::Table;
-use jc_transient::{BUFFER_CELLS, ClearEvent, Ref};
+use jc_transient::{BUFFER_CELLS, ClassWord, ClearEvent, NO_CLASS, RUNTIME_ENVIRONMENT, Ref};
 use jc_words::{StoreDown, WordStore};
 
 /// How many objects the runtime environment owns from the beginning.
@@ -140,7 +140,8 @@ pub(crate) fn make_fixed<S: WordStore>(heap: &mut Heap<S>, table: &Table) -> Res
     ensures outside { OnOk result (heap.new.begun ≡ false) }
     ensures settled { OnOk result (heap.new.durable ≡ heap.new.now) }
     ensures stopped { OnErr result (heap.new.down ≡ true) }
-    ensures refused { heap.new.refused ≡ (if is_ok result then heap.old.refused else raised heap.old.refused 1) }
+    ensures refused { heap.new.refused ≡ (if is_ok result then heap.old.refused else
+        saturating_count heap.old.refused 1) }
     ensures head { heap.new.durable.head ≡ heap.old.durable.head }
 {
     make_all(heap, table, all_fixed())
@@ -163,7 +164,8 @@ fn make_all<S: WordStore>(
     ensures outside { OnOk result (heap.new.begun ≡ false) }
     ensures settled { OnOk result (heap.new.durable ≡ heap.new.now) }
     ensures stopped { OnErr result (heap.new.down ≡ true) }
-    ensures refused { heap.new.refused ≡ (if is_ok result then heap.old.refused else raised heap.old.refused 1) }
+    ensures refused { heap.new.refused ≡ (if is_ok result then heap.old.refused else
+        saturating_count heap.old.refused 1) }
     ensures head { heap.new.durable.head ≡ heap.old.durable.head }
 {
     let Some((first, more)) = objects.split_first() else {
@@ -184,15 +186,18 @@ fn make<S: WordStore>(
     requires settled { heap.old.durable ≡ heap.old.now }
     requires space { heap.old.now.top + transient_size ≤ heap.old.size }
     requires area { area_end heap.old.now Reset + object.now.cells ≤ area_size }
-    ensures made { OnOk result (heap.new.now ≡ with_objects table.now heap.old.now (object.now ∷ [])) }
+    ensures made { OnOk result (heap.new.now ≡ with_objects table.now heap.old.now
+        (object.now ∷ [])) }
     ensures up { OnOk result (heap.new.down ≡ false) }
     ensures outside { OnOk result (heap.new.begun ≡ false) }
     ensures settled { OnOk result (heap.new.durable ≡ heap.new.now) }
     ensures size { heap.new.size ≡ heap.old.size }
     ensures top { OnOk result (heap.new.now.top ≡ heap.old.now.top + transient_size) }
-    ensures end { OnOk result (area_end heap.new.now Reset ≡ area_end heap.old.now Reset + object.now.cells) }
+    ensures end { OnOk result (area_end heap.new.now Reset ≡ area_end heap.old.now Reset
+        + object.now.cells) }
     ensures stopped { OnErr result (heap.new.down ≡ true) }
-    ensures refused { heap.new.refused ≡ (if is_ok result then heap.old.refused else raised heap.old.refused 1) }
+    ensures refused { heap.new.refused ≡ (if is_ok result then heap.old.refused else
+        saturating_count heap.old.refused 1) }
     ensures head { heap.new.durable.head ≡ heap.old.durable.head }
 {
     let class = class_number(table, object.class);
@@ -214,7 +219,8 @@ pub(crate) fn fixed_of<S: WordStore>(heap: &Heap<S>) -> [Ref; FIXED_COUNT]
     requires { heap.now.down ≡ false }
     ensures all { result ≡ fixed_of heap.now.now }
     ensures last { slice_index result 16 ≡ last_fixed heap.now.now }
-    ensures object { (slice_index result 16 ≡ 0 → ⊥) → IsObject heap.now.now (slice_index result 16) }
+    ensures object { (slice_index result 16 ≡ 0 → ⊥)
+        → IsObject heap.now.now (slice_index result 16) }
 {
     let mut fixed = [Ref::null(); FIXED_COUNT];
     let mut at = Ref::null();

@@ -1,6 +1,6 @@
 //! Making an image.
 ghost use Rattle.std.specs.Prelude.{ℕ, ◌≡◌, ◌≢◌, ◌<◌, ◌≤◌, ◌+◌, ◌⊎◌, ◌↔◌, true, false, length, slice_index, Ok, Err, IfOk, IfErr, OnOk, OnErr, IsErrOf, Result};
-ghost use Rattle.jc_words.specs.Count.{raised};
+ghost use Rattle.jc_words.specs.Count.{saturating_count};
 ghost use Rattle.jc_words.specs.Layout.{magic_address, magic, least_size};
 ghost use Rattle.jc_image.specs.Laying.{first_free};
 ghost use Rattle.jc_heap.specs.Heap.{heap_of};
@@ -8,7 +8,7 @@ ghost use Rattle.jc_commit.specs.Image.{recovered_of};
 ghost use Rattle.jc_platform.specs.Tokens.{Tokens};
 ghost use Rattle.jc_platform.specs.Table.{Reads};
 ghost use Rattle.jc_card.specs.Fixed.{fixed_size};
-ghost use Rattle.jc_card.specs.Made.{IsMade, formatted};
+ghost use Rattle.jc_card.specs.Made.{IsMade, new_card_heap};
 
 use crate::fixed::make_fixed;
 use jc_heap::Heap;
@@ -44,15 +44,25 @@ pub enum FormatFault {
 /// environment, and last the magic word. So an image that was not made to its end has none.
 pub fn format<S: WordStore>(store: S, text: &[u8]) -> (S, Result<(), FormatFault>)
     ensures made { OnOk result.1 (IsMade (S.words result.0)) }
-    ensures heap { OnOk result.1 ((t : Tokens) × Reads text.now (Ok t) × (heap_of (recovered_of (S.words result.0)) ≡ formatted (length (S.words store)) text.now t)) }
+    ensures heap { OnOk result.1 ((t : Tokens) × Reads text.now (Ok t)
+        × (heap_of (recovered_of (S.words result.0)) ≡ new_card_heap
+        (length (S.words store)) text.now t)) }
     ensures size { length (S.words result.0) ≡ length (S.words store) }
     ensures up { OnOk result.1 (S.down result.0 ≡ false) }
     ensures none_refused { OnOk result.1 (S.refused result.0 ≡ S.refused store) }
-    ensures bad_size { (result.1 ≡ Err FormatFault.BadSize) ↔ (length (S.words store) < least_size) }
-    ensures bad_table { (line : ℕ) → (result.1 ≡ Err (FormatFault.BadTable line)) ↔ ((least_size ≤ length (S.words store)) × Reads text.now (Err (TableFault.BadTable line))) }
-    ensures too_small { (result.1 ≡ Err FormatFault.TooSmall) ↔ ((least_size ≤ length (S.words store)) × (length (S.words store) < first_free (length text.now) + fixed_size) × ((t : Tokens) × Reads text.now (Ok t))) }
+    ensures bad_size { (result.1 ≡ Err FormatFault.BadSize)
+        ↔ (length (S.words store) < least_size) }
+    ensures bad_table { (line : ℕ) → (result.1 ≡ Err (FormatFault.BadTable line))
+        ↔ ((least_size ≤ length (S.words store)) × Reads text.now
+        (Err (TableFault.BadTable line))) }
+    ensures too_small { (result.1 ≡ Err FormatFault.TooSmall)
+        ↔ ((least_size ≤ length (S.words store)) × (length (S.words store)
+        < first_free (length text.now) + fixed_size) × ((t : Tokens) × Reads text.now (Ok t))) }
     ensures kept { OnErr result.1 ((result.1 ≡ Err FormatFault.StoreDown → ⊥) → result.0 ≡ store) }
-    ensures stopped { result.1 ≡ Err FormatFault.StoreDown → (S.down result.0 ≡ true) × (S.refused result.0 ≡ raised (S.refused store) 1) × ((S.words result.0 ≡ S.words store) ⊎ (slice_index (S.words result.0) magic_address ≢ magic)) }
+    ensures stopped { result.1 ≡ Err FormatFault.StoreDown
+        → (S.down result.0 ≡ true) × (S.refused result.0 ≡ saturating_count (S.refused store) 1)
+        × ((S.words result.0 ≡ S.words store) ⊎ (slice_index
+        (S.words result.0) magic_address ≢ magic)) }
 {
     let size = store.size();
     if size < LEAST_SIZE {
@@ -77,14 +87,16 @@ fn make_image<S: WordStore>(store: S, text: &[u8], table: &Table) -> Result<S, S
     requires fits { first_free (length text.now) + fixed_size ≤ length (S.words store) }
     requires reads { Reads text.now (Ok table.now) }
     ensures made { IfOk result (λ s. IsMade (S.words s)) }
-    ensures heap { IfOk result (λ s. heap_of (recovered_of (S.words s)) ≡ formatted (length (S.words store)) text.now table.now) }
+    ensures heap { IfOk result (λ s. heap_of (recovered_of (S.words s))
+        ≡ new_card_heap (length (S.words store)) text.now table.now) }
     ensures size { IfOk result (λ s. length (S.words s) ≡ length (S.words store)) }
     ensures up { IfOk result (λ s. S.down s ≡ false) }
     ensures none_refused { IfOk result (λ s. S.refused s ≡ S.refused store) }
     ensures size_kept { IfErr result (λ s. length (S.words s) ≡ length (S.words store)) }
-    ensures refused { IfErr result (λ s. S.refused s ≡ raised (S.refused store) 1) }
+    ensures refused { IfErr result (λ s. S.refused s ≡ saturating_count (S.refused store) 1) }
     ensures down { IfErr result (λ s. S.down s ≡ true) }
-    ensures unmarked { IfErr result (λ s. (S.words s ≡ S.words store) ⊎ (slice_index (S.words s) magic_address ≢ magic)) }
+    ensures unmarked { IfErr result (λ s. (S.words s ≡ S.words store)
+        ⊎ (slice_index (S.words s) magic_address ≢ magic)) }
 {
     let mut heap = lay(store, text)?;
     let Ok(()) = make_fixed(&mut heap, table) else {

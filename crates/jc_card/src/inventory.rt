@@ -1,7 +1,7 @@
 //! What the first words of an image say of it.
 ghost use Rattle.std.specs.Prelude.{◌≡◌, MatchResult};
 ghost use Rattle.jc_card.specs.Inventory.{inventory_of};
-ghost use Rattle.jc_card.specs.PowerUp.{HasHead, Refuses, fault_of};
+ghost use Rattle.jc_card.specs.PowerUp.{HasHead, PowerUpRefuses, fault_of};
 
 use jc_words::layout::{APPLETS, COUNT, PACKAGES};
 use jc_words::{ImageFault, WordStore, check_image};
@@ -24,7 +24,7 @@ impl Inventory {
     pub fn of<S: WordStore>(store: &S) -> Result<Inventory, ImageFault>
         ensures { MatchResult result
             (λ found. HasHead (S.words store.now) × (found ≡ inventory_of (S.words store.now)))
-            (λ fault. Refuses (fault_of fault) (S.words store.now)) }
+            (λ fault. PowerUpRefuses (fault_of fault) (S.words store.now)) }
     {
         check_image(store)?;
         Ok(Inventory {

@@ -1,14 +1,15 @@
 //! The manager's commands that bring a package in.
 ghost use Rattle.std.specs.Prelude.{◌≡◌, false};
-ghost use Rattle.jc_memory.specs.Doing.{Makes};
+ghost use Rattle.jc_memory.specs.Programs.{Executes};
 ghost use Rattle.jc_card.specs.Answers.{after_exchange, after_response};
-ghost use Rattle.jc_card.specs.Loads.{component_begins, component_ends, component_grows, link_number, load_begins, load_ends, response_to, said_of, status_of, status_of_refusal};
+ghost use Rattle.jc_card.specs.Loads.{begin_component, end_component, append_component, link_number, begin_load, end_load, response_to, response_of_end};
+ghost use Rattle.jc_card.specs.Loads.{status_of, status_of_refusal};
 
 use crate::card::Card;
 use crate::response::Response;
 use crate::status::StatusWord;
+use jc_card_load::package_refusal::PackageRefusal;
 use jc_card_load::{EndFault, LoadRefusal, OpenLoad, end_package};
-use jc_card_packages::refusal::Refusal;
 use jc_linker::fault::LinkFault;
 use jc_words::{StoreDown, WordStore};
 
@@ -17,7 +18,7 @@ const CAP_FAULT: u16 = 0x6400;
 
 const LINK_FAULT: u16 = 0x6420;
 
-// The number of a fault of linking.
+// The last digit of the status word 642n for a fault of linking.
 fn link_number(fault: LinkFault) -> u8
     ensures { result ≡ link_number fault }
 {
@@ -30,14 +31,14 @@ fn link_number(fault: LinkFault) -> u8
 }
 
 // The status word of a refusal of a package.
-fn status_of_refusal(refusal: Refusal) -> StatusWord
+fn status_of_refusal(refusal: PackageRefusal) -> StatusWord
     ensures { result.0 ≡ status_of_refusal refusal }
 {
     match refusal {
-        Refusal::Component(fault) => StatusWord(CAP_FAULT + u16::from(fault.number())),
-        Refusal::Unlinked(fault) => StatusWord(LINK_FAULT + u16::from(link_number(fault))),
-        Refusal::AidTaken => StatusWord::AID_TAKEN,
-        Refusal::Full => StatusWord::FULL,
+        PackageRefusal::BadComponents(fault) => StatusWord(CAP_FAULT + u16::from(fault.number())),
+        PackageRefusal::LinkFailed(fault) => StatusWord(LINK_FAULT + u16::from(link_number(fault))),
+        PackageRefusal::AidTaken => StatusWord::AID_TAKEN,
+        PackageRefusal::Full => StatusWord::FULL,
     }
 }
 
@@ -46,9 +47,9 @@ fn status_of(refusal: LoadRefusal) -> StatusWord
     ensures { result.0 ≡ status_of refusal }
 {
     match refusal {
-        LoadRefusal::OutOfTurn => StatusWord::CONDITIONS_NOT_SATISFIED,
-        LoadRefusal::NoTag => StatusWord::WRONG_DATA,
-        LoadRefusal::NotIn(refusal) => status_of_refusal(refusal),
+        LoadRefusal::OutOfSequence => StatusWord::CONDITIONS_NOT_SATISFIED,
+        LoadRefusal::UnknownTag => StatusWord::WRONG_DATA,
+        LoadRefusal::Refused(refusal) => status_of_refusal(refusal),
         LoadRefusal::HeapFull => StatusWord::NO_SPACE,
     }
 }
@@ -64,8 +65,8 @@ fn response_to(ended: Result<(), LoadRefusal>) -> Response
 }
 
 // What is said of how a load ended.
-fn said_of(ended: Result<(), EndFault>) -> Result<Response, StoreDown>
-    ensures { result ≡ said_of ended }
+fn response_of_end(ended: Result<(), EndFault>) -> Result<Response, StoreDown>
+    ensures { result ≡ response_of_end ended }
 {
     match ended {
         Ok(()) => Ok(response_to(Ok(()))),
@@ -75,55 +76,58 @@ fn said_of(ended: Result<(), EndFault>) -> Result<Response, StoreDown>
 }
 
 impl<S: WordStore> Card<S> {
-    // Opens a load. One that was open is dropped.
+    /// Command 80 B0 begin load: opens a load; one that was open is dropped.
     pub(crate) fn begin_load(&mut self) -> Response
         requires up { self.old.memory.heap.down ≡ false }
-        ensures { Makes (load_begins self.old) self.old.memory (after_response result self.new) }
+        ensures { Executes (begin_load self.old) self.old.memory (after_response result self.new) }
     {
         self.load = Some(OpenLoad::new());
         response_to(Ok(()))
     }
 
-    // Begins a component.
+    /// Command 80 B2 begin component: begins a component.
     pub(crate) fn begin_component(&mut self, tag: u8) -> Response
         requires up { self.old.memory.heap.down ≡ false }
-        ensures { Makes (component_begins tag self.old) self.old.memory (after_response result self.new) }
+        ensures { Executes (begin_component tag self.old) self.old.memory
+            (after_response result self.new) }
     {
         match &mut self.load {
             Some(load) => response_to(load.begin_component(self.alloc, tag)),
-            None => response_to(Err(LoadRefusal::OutOfTurn)),
+            None => response_to(Err(LoadRefusal::OutOfSequence)),
         }
     }
 
-    // Takes more bytes of the component that is open.
+    /// Command 80 B4 append: takes more bytes of the open component.
     pub(crate) fn append(&mut self, more: &[u8]) -> Response
         requires up { self.old.memory.heap.down ≡ false }
-        ensures { Makes (component_grows more.now self.old) self.old.memory (after_response result self.new) }
+        ensures { Executes (append_component more.now self.old) self.old.memory
+            (after_response result self.new) }
     {
         if more.is_empty() {
             return Response::of_status(StatusWord::WRONG_LENGTH);
         }
         match &mut self.load {
             Some(load) => response_to(load.append(more)),
-            None => response_to(Err(LoadRefusal::OutOfTurn)),
+            None => response_to(Err(LoadRefusal::OutOfSequence)),
         }
     }
 
-    // Ends the component that is open.
+    /// Command 80 BC end component: reads and keeps the open component, or drops it.
     pub(crate) fn end_component(&mut self) -> Response
         requires up { self.old.memory.heap.down ≡ false }
-        ensures { Makes (component_ends self.old) self.old.memory (after_response result self.new) }
+        ensures { Executes (end_component self.old) self.old.memory
+            (after_response result self.new) }
     {
         match &mut self.load {
             Some(load) => response_to(load.end_component()),
-            None => response_to(Err(LoadRefusal::OutOfTurn)),
+            None => response_to(Err(LoadRefusal::OutOfSequence)),
         }
     }
 
-    // Ends the load: the package comes in.
+    /// Command 80 BA end load: links the package and adds it, or refuses it.
     pub(crate) fn end_load(&mut self) -> Result<Response, StoreDown>
         requires up { self.old.memory.heap.down ≡ false }
-        ensures { Makes (load_ends self.old) self.old.memory (after_exchange result self.new) }
+        ensures { Executes (end_load self.old) self.old.memory (after_exchange result self.new) }
     {
         let ended = end_package(
             self.alloc,
@@ -131,6 +135,6 @@ impl<S: WordStore> Card<S> {
             &mut self.linked,
             &mut self.load,
         );
-        said_of(ended)
+        response_of_end(ended)
     }
 }

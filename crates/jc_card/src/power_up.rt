@@ -1,30 +1,31 @@
 //! Powering a card up over the words of its image.
 ghost use Rattle.std.specs.Prelude.{ℕ, List, ◌≡◌, ◌⊎◌, ◌+◌, ◌/◌, ◌≤◌, [], length, slice_index, None, Some, IfOk, IfErr, OnOk, false, true, MatchResult};
-ghost use Rattle.jc_words.specs.Count.{raised};
+ghost use Rattle.jc_words.specs.Count.{saturating_count};
 ghost use Rattle.jc_words.specs.Layout.{text_length_address, text_start, magic, version};
 ghost use Rattle.jc_commit.specs.Replay.{IsPartOfReplay};
-ghost use Rattle.jc_commit.specs.State.{opened};
+ghost use Rattle.jc_commit.specs.State.{recovered_journal};
 ghost use Rattle.jc_heap.specs.Heap.{heap_view};
 ghost use Rattle.jc_heap.specs.Image.{table_text};
-ghost use Rattle.jc_transient.specs.State.{IsBlank};
+ghost use Rattle.jc_transient.specs.State.{IsCleared};
 ghost use Rattle.jc_platform.specs.Tokens.{Tokens};
 ghost use Rattle.jc_card.specs.Made.{IsMade};
-ghost use Rattle.jc_heap.specs.Whole.{IsWhole};
+ghost use Rattle.jc_heap.specs.Whole.{IsConsistent};
 ghost use Rattle.jc_heap.specs.Heap.{heap_of};
 ghost use Rattle.jc_heap.specs.Stored.{HoldsHeap};
 ghost use Rattle.jc_commit.specs.Image.{IsGoodLog, recovered_of};
 ghost use Rattle.jc_transient.specs.State.{HasSizes};
 ghost use Rattle.jc_memory.specs.Owners.{at_reset};
-ghost use Rattle.jc_card_packages.specs.Reading.{packages_of};
+ghost use Rattle.jc_card_load.specs.Reading.{packages_of};
 ghost use Rattle.jc_card_checks.specs.Sound.{IsSound};
 ghost use Rattle.jc_card.specs.Fixed.{fixed_of, last_fixed};
 ghost use Rattle.jc_card.specs.Reset.{IsAtReset};
-ghost use Rattle.jc_card.specs.PowerUp.{Refuses, Fails, FailsToLink, Stands, StandsBy, IsFoundFirst, IsFoundAfter, HasTable, HasHeap, fault_of};
+ghost use Rattle.jc_card.specs.PowerUp.{PowerUpRefuses, RecoveredWordsFail, FailsToLink, RefusalLeaves, LateFaultLeaves, IsFoundFirst, IsFoundAfter, HasTable};
+ghost use Rattle.jc_card.specs.PowerUp.{HasHeap, fault_of};
 
 use crate::card::Card;
 use crate::fixed::{LAST_FIXED, fixed_headers, fixed_of};
 use jc_card_checks::sound::is_sound;
-use jc_card_packages::reading::{ReadFault, read_packages};
+use jc_card_load::reading::{RecordFault, read_packages};
 use jc_commit::OpenRefusal;
 use jc_heap::Heap;
 use jc_image::OpenImage;
@@ -79,24 +80,32 @@ impl<S: WordStore> Card<S> {
     /// asks for memory. Where it refuses, it gives the store back.
     pub fn power_up(alloc: Global, store: S) -> Result<Card<S>, (PowerFault, S)>
         ensures made { OnOk result (IsMade (S.words store)) }
-        ensures heap { IfOk result (λ card. card.memory.heap ≡ heap_view (opened (S.words store) (S.passed store) (S.refused store)) (length (S.words store))) }
-        ensures blank { IfOk result (λ card. IsBlank card.memory.ram) }
+        ensures heap { IfOk result (λ card. card.memory.heap
+            ≡ heap_view (recovered_journal (S.words store) (S.passed store) (S.refused store))
+            (length (S.words store))) }
+        ensures blank { IfOk result (λ card. IsCleared card.memory.ram) }
         ensures load { IfOk result (λ card. card.load ≡ None) }
-        ensures reset { IfOk result (λ card. IsAtReset (heap_of (recovered_of (S.words store))) card) }
-        ensures cause { IfErr result (λ e. Refuses e.0 (S.words store)) }
-        ensures stands { IfErr result (λ e. Stands e.0 (S.words store) (S.words e.1)) }
+        ensures reset { IfOk result (λ card. IsAtReset
+            (heap_of (recovered_of (S.words store))) card) }
+        ensures cause { IfErr result (λ e. PowerUpRefuses e.0 (S.words store)) }
+        ensures stands { IfErr result (λ e. RefusalLeaves e.0 (S.words store) (S.words e.1)) }
         // Over an image that the product made it refuses for want of memory alone, or by the store.
-        ensures of_made { IsMade (S.words store) → IfErr result (λ e. (e.0 ≡ PowerFault.NoMemory) ⊎ (e.0 ≡ PowerFault.StoreDown)) }
+        ensures of_made { IsMade (S.words store) → IfErr result
+            (λ e. (e.0 ≡ PowerFault.NoMemory) ⊎ (e.0 ≡ PowerFault.StoreDown)) }
         ensures was_up { OnOk result (S.down store ≡ false) }
         ensures down { IfErr result (λ e. e.0 ≡ PowerFault.StoreDown → S.down e.1 ≡ true) }
         ensures was_down { IfErr result (λ e. S.down store ≡ true → e.1 ≡ store) }
         // Before a recovery the store is given back as it came; after it, as the recovery left it.
         ensures untouched { IfErr result (λ e. IsFoundFirst e.0 → e.1 ≡ store) }
-        ensures after { IfErr result (λ e. IsFoundAfter e.0 → (S.down e.1 ≡ false) × (S.passed e.1 ≡ (opened (S.words store) (S.passed store) (S.refused store)).passed) × (S.refused e.1 ≡ S.refused store)) }
+        ensures after { IfErr result (λ e. IsFoundAfter e.0
+            → (S.down e.1 ≡ false) × (S.passed e.1 ≡ (recovered_journal (S.words store)
+            (S.passed store) (S.refused store)).passed) × (S.refused e.1 ≡ S.refused store)) }
         ensures good { IfErr result (λ e. IsFoundAfter e.0 → IsGoodLog (S.words e.1)) }
         ensures size { IfErr result (λ e. length (S.words e.1) ≡ length (S.words store)) }
-        ensures part { IfErr result (λ e. e.0 ≡ PowerFault.StoreDown → IsPartOfReplay (S.words store) (S.words e.1) (S.passed store) (S.passed e.1)) }
-        ensures refused { IfErr result (λ e. e.0 ≡ PowerFault.StoreDown → S.down store ≡ false → S.refused e.1 ≡ raised (S.refused store) 1) }
+        ensures part { IfErr result (λ e. e.0 ≡ PowerFault.StoreDown
+            → IsPartOfReplay (S.words store) (S.words e.1) (S.passed store) (S.passed e.1)) }
+        ensures refused { IfErr result (λ e. e.0 ≡ PowerFault.StoreDown → S.down store ≡ false
+            → S.refused e.1 ≡ saturating_count (S.refused store) 1) }
     {
         if let Err(fault) = check_image(&store) {
             return Err((PowerFault::from(fault), store));
@@ -115,15 +124,16 @@ fn start<S: WordStore>(alloc: Global, image: OpenImage<S>) -> Result<Card<S>, (P
     requires { image.down ≡ false }
     ensures ok { OnOk result ((t : Tokens) × HasTable image.plain t × HasHeap t image.plain) }
     ensures heap { IfOk result (λ card. card.memory.heap ≡ heap_view image (length image.plain)) }
-    ensures blank { IfOk result (λ card. IsBlank card.memory.ram) }
+    ensures blank { IfOk result (λ card. IsCleared card.memory.ram) }
     ensures load { IfOk result (λ card. card.load ≡ None) }
     ensures reset { IfOk result (λ card. IsAtReset (heap_of image.plain) card) }
-    ensures cause { IfErr result (λ e. Fails e.0 image.plain) }
+    ensures cause { IfErr result (λ e. RecoveredWordsFail e.0 image.plain) }
     ensures good { IfErr result (λ e. IsGoodLog (S.words e.1)) }
     ensures size { IfErr result (λ e. length (S.words e.1) ≡ length image.plain) }
-    ensures stands { IfErr result (λ e. StandsBy e.0 image.plain (S.words e.1)) }
+    ensures stands { IfErr result (λ e. LateFaultLeaves e.0 image.plain (S.words e.1)) }
     ensures up { IfErr result (λ e. S.down e.1 ≡ false) }
-    ensures counts { IfErr result (λ e. (S.passed e.1 ≡ image.passed) × (S.refused e.1 ≡ image.refused)) }
+    ensures counts { IfErr result (λ e. (S.passed e.1 ≡ image.passed)
+        × (S.refused e.1 ≡ image.refused)) }
     ensures found { IfErr result (λ e. IsFoundAfter e.0) }
 {
     let table = match platform_of(alloc, &image) {
@@ -149,14 +159,24 @@ fn link_packages<S: WordStore>(
 ) -> Result<Card<S>, (PowerFault, S)>
     requires up { heap.down ≡ false }
     requires rests { heap.begun ≡ false }
-    requires whole { IsWhole heap.now }
+    requires whole { IsConsistent heap.now }
     requires words { (w : List ℕ) × (heap.now ≡ heap_of w) }
     requires sizes { HasSizes ram }
-    ensures packages { IfOk result (λ card. (packages_of platform heap.now ≡ Some card.packages) × IsSound card.packages heap.now (last_fixed heap.now)) }
-    ensures memory { IfOk result (λ card. card.memory ≡ record { heap = heap; ram = ram; fixed = fixed_of heap.now; registers = at_reset; command = []; sent = [] }) }
+    ensures packages { IfOk result (λ card. (packages_of platform heap.now ≡ Some card.packages)
+        × IsSound card.packages heap.now (last_fixed heap.now)) }
+    ensures memory { IfOk result (λ card. card.memory
+        ≡ record {
+          heap = heap;
+          ram = ram;
+          fixed = fixed_of heap.now;
+          registers = at_reset;
+          command = [];
+          sent = [];
+        }) }
     ensures load { IfOk result (λ card. card.load ≡ None) }
     ensures cause { IfErr result (λ e. FailsToLink e.0 platform heap.now) }
-    ensures store { IfErr result (λ e. HoldsHeap (S.words e.1) (S.down e.1) (S.passed e.1) (S.refused e.1) heap) }
+    ensures store { IfErr result (λ e. HoldsHeap (S.words e.1) (S.down e.1) (S.passed e.1)
+        (S.refused e.1) heap) }
 {
     let Ok(marks) = Marks::new(alloc) else {
         return Err((PowerFault::NoMemory, heap.into_store()));
@@ -181,19 +201,20 @@ fn link_packages<S: WordStore>(
 }
 
 // The fault of packages that are not read.
-fn fault_of(fault: ReadFault) -> PowerFault
-    ensures damaged { result ≡ PowerFault.BadPackage → fault ≡ ReadFault.Damaged }
+fn fault_of(fault: RecordFault) -> PowerFault
+    ensures damaged { result ≡ PowerFault.BadPackage → fault ≡ RecordFault.Damaged }
     ensures one { (result ≡ PowerFault.BadPackage) ⊎ (result ≡ PowerFault.NoMemory) }
 {
     match fault {
-        ReadFault::Damaged => PowerFault::BadPackage,
-        ReadFault::NoMemory => PowerFault::NoMemory,
+        RecordFault::Damaged => PowerFault::BadPackage,
+        RecordFault::NoMemory => PowerFault::NoMemory,
     }
 }
 
 // The platform that the table text of an image tells.
 fn platform_of<S: WordStore>(alloc: Global, image: &OpenImage<S>) -> Result<Table, PowerFault>
-    ensures { MatchResult result (λ t. HasTable image.now.plain t) (λ fault. Fails fault image.now.plain) }
+    ensures { MatchResult result (λ t. HasTable image.now.plain t)
+        (λ fault. RecoveredWordsFail fault image.now.plain) }
 {
     let long = usize::from(image.text_length());
     if long > LARGEST_TEXT {
@@ -213,7 +234,8 @@ fn platform_of<S: WordStore>(alloc: Global, image: &OpenImage<S>) -> Result<Tabl
 
 // The table text of an image that has its words.
 fn text_of<S: WordStore>(alloc: Global, image: &OpenImage<S>) -> Result<Vec<u8>, AllocError>
-    requires { text_start + (slice_index image.now.plain text_length_address + 1) / 2 ≤ length image.now.plain }
+    requires { text_start + (slice_index image.now.plain text_length_address + 1) / 2
+        ≤ length image.now.plain }
     ensures { IfOk result (λ text. text.items ≡ table_text image.now.plain) }
 {
     let mut text = zeros(alloc, usize::from(image.text_length()))?;

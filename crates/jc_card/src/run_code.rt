@@ -1,14 +1,14 @@
 //! The manager's command "run code" (80 10): P1 is the stack's limit, P2 the number of locals, and the
 //! data are the code of a method without arguments.
 ghost use Rattle.std.specs.Prelude.{◌≡◌, ◌<◌, false, length};
-ghost use Rattle.jc_memory.specs.Doing.{Makes};
-ghost use Rattle.jc_card.specs.Answers.{after_exchange, answer_of, runs_code};
+ghost use Rattle.jc_memory.specs.Programs.{Executes};
+ghost use Rattle.jc_card.specs.Answers.{after_exchange, answer_of, run_code};
 
 use crate::card::Card;
 use crate::dispatching::MOST_INSTRUCTIONS;
 use crate::response::Response;
 use crate::status::StatusWord;
-use jc_dispatch::lent_code;
+use jc_dispatch::ad_hoc_code;
 use jc_frames::Outcome;
 use jc_words::{StoreDown, WordStore};
 
@@ -18,14 +18,14 @@ fn answer_of(outcome: Outcome) -> Response
 {
     match outcome {
         Outcome::Short(value) => Response::new(&value.to_be_bytes(), StatusWord::NO_ERROR),
-        Outcome::Return => Response::of_status(StatusWord::NO_ERROR),
+        Outcome::Void => Response::of_status(StatusWord::NO_ERROR),
         _ => Response::of_status(StatusWord::UNKNOWN),
     }
 }
 
 impl<S: WordStore> Card<S> {
-    // "Run code".
-    #[tactic(auto, unfolding(crate::specs::Answers::runs_code), using(jc_memory::proofs::Doings::bind_did, jc_memory::proofs::Doings::left_before, jc_memory::proofs::Doings::left_after, jc_memory::proofs::Doings::refused_did, jc_memory::proofs::Doings::size_did, jc_memory::proofs::Doings::down_did))]
+    /// Command 80 10 run code: runs the data as code, with P1 cells of stack and P2 locals.
+    #[tactic(auto, unfolding(crate::specs::Answers::run_code), using(jc_memory::proofs::ProgramLemmas::in_two_steps))]
     pub(crate) fn run_code(
         &mut self,
         max_stack: u8,
@@ -34,12 +34,13 @@ impl<S: WordStore> Card<S> {
     ) -> Result<Response, StoreDown>
         requires up { self.old.memory.heap.down ≡ false }
         requires short { length code.now < 256 }
-        ensures { Makes (runs_code max_stack locals code.now self.old) self.old.memory (after_exchange result self.new) }
+        ensures { Executes (run_code max_stack locals code.now self.old) self.old.memory
+            (after_exchange result self.new) }
     {
         if code.is_empty() {
             return Ok(Response::of_status(StatusWord::WRONG_LENGTH));
         }
-        let outcome = lent_code::run_code(
+        let outcome = ad_hoc_code::run_command_code(
             MOST_INSTRUCTIONS,
             max_stack,
             locals,

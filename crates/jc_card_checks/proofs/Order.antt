@@ -1,17 +1,18 @@
 -- Walks over a heap's objects leave none out.
-use Rattle.std.proofs.Common.{◌≡◌, ℕ, Bool, zero, suc, ◌<◌, ◌≤◌, ◌&&◌, ◌==◌, nat_lt, true, false, inl, inr, List, [], ◌∷◌, take, drop, map, refl, sym, ◌∙◌, ap, subst, arith, Option, Some, None, if◌then◌else◌, lt-ltb, ltb-true, ⊎_elim}
+use Rattle.std.proofs.Common.{◌≡◌, ℕ, Bool, zero, suc, ◌<◌, ◌≤◌, ◌&&◌, ◌==◌, nat_lt, true, false, inl, inr, List, [], ◌∷◌, take, drop, map, refl, sym, ◌∙◌, ap}
+use Rattle.std.proofs.Common.{subst, arith, Option, Some, None, if◌then◌else◌, lt-ltb, ltb-true, ⊎_elim}
 use Rattle.std.specs.Prelude.{unwrap_or}
 use Rattle.std.proofs.lemmas.Option.{none-some}
 use Rattle.std.proofs.lemmas.Bool.{cases_Bool, cases_eq, cases_lt, ne_eqb, eq-eqb, false≢true}
-use Rattle.jc_heap.specs.Cut.{Sizes, cut}
-use Rattle.jc_heap.specs.Table.{at_or}
+use Rattle.jc_heap.specs.Cut.{Sizes, records_from}
+use Rattle.jc_heap.specs.Table.{entry_or}
 use Rattle.jc_heap.specs.Object.{APackage, is_object}
 use Rattle.jc_heap.specs.Image.{item, item_entry, image, package_addresses, sizes, base}
-use Rattle.jc_heap.specs.Heap.{first_above, next_object, heap_of, read_image, item_at, IsObject, HeapState}
+use Rattle.jc_heap.specs.Heap.{first_above, next_object, heap_of, read_image, heap_item_at, IsObject, HeapState}
 
 -- what stands at an address among the records from another one on
 abbrev among : List ℕ → Sizes → ℕ → ℕ → List ℕ → ℕ → Bool
-among ps more s at ws x = is_object (at_or (APackage []) (map (item_entry ps) (cut more s at ws)) x)
+among ps more s at ws x = is_object (entry_or (APackage []) (map (item_entry ps) (records_from more s at ws)) x)
 
 -- nothing below the first
 nothing_below : (ps : List ℕ) (more : Sizes) (s at : ℕ) (ws : List ℕ) (x : ℕ) → x < at → among ps more s at ws x ≡ true → ⊥
@@ -22,7 +23,8 @@ nothing_below ps more zero at (w ∷ ws) x lt e =
     nothing_below ps more (more at (w ∷ ws)) (suc at) ws x (omega arith) (rw (ne_eqb at x n) at e)
 
 -- the next object is the first one behind
-found_least : (ps : List ℕ) (more : Sizes) (s at : ℕ) (ws : List ℕ) (r q x : ℕ) → first_above (map (item_entry ps) (cut more s at ws)) r ≡ Some q → r < x → x < q →
+found_least : (ps : List ℕ) (more : Sizes) (s at : ℕ) (ws : List ℕ) (r q x : ℕ) → first_above (map (item_entry ps) (records_from more s at ws)) r ≡ Some q
+    → r < x → x < q →
     among ps more s at ws x ≡ true → ⊥
 found_least ps more s at [] r q x e rx xq o = absurd (none-some q e)
 found_least ps more (suc s) at (w ∷ ws) r q x e rx xq o = found_least ps more s (suc at) ws r q x e rx xq o
@@ -32,7 +34,7 @@ found_least ps more zero at (w ∷ ws) r q x e rx xq o = elim (cases_Bool (nat_l
       let same : at ≡ q = ap (λ o. unwrap_or o 0) is in
       nothing_below ps more zero at (w ∷ ws) x (omega (arith, same)) o
   | inr f ↦
-      let is : first_above (map (item_entry ps) (cut more (more at (w ∷ ws)) (suc at) ws)) r ≡ Some q = rw f at e in
+      let is : first_above (map (item_entry ps) (records_from more (more at (w ∷ ws)) (suc at) ws)) r ≡ Some q = rw f at e in
       elim (cases_eq at x) [
         | inl here ↦
             let there : is_object (item ps at (w ∷ take (more at (w ∷ ws)) ws)) ≡ true = rw (eq-eqb at x here) at o in
@@ -42,14 +44,14 @@ found_least ps more zero at (w ∷ ws) r q x e rx xq o = elim (cases_Bool (nat_l
 ]
 
 -- where there is no next one, no object stands behind
-found_none : (ps : List ℕ) (more : Sizes) (s at : ℕ) (ws : List ℕ) (r x : ℕ) → first_above (map (item_entry ps) (cut more s at ws)) r ≡ None → r < x →
+found_none : (ps : List ℕ) (more : Sizes) (s at : ℕ) (ws : List ℕ) (r x : ℕ) → first_above (map (item_entry ps) (records_from more s at ws)) r ≡ None → r < x →
     among ps more s at ws x ≡ true → ⊥
 found_none ps more s at [] r x e rx o = cc
 found_none ps more (suc s) at (w ∷ ws) r x e rx o = found_none ps more s (suc at) ws r x e rx o
 found_none ps more zero at (w ∷ ws) r x e rx o = elim (cases_Bool (nat_lt r at && is_object (item ps at (w ∷ take (more at (w ∷ ws)) ws)))) [
   | inl t ↦ let is : Some at ≡ None = rw t at e in absurd (none-some at (sym is))
   | inr f ↦
-      let is : first_above (map (item_entry ps) (cut more (more at (w ∷ ws)) (suc at) ws)) r ≡ None = rw f at e in
+      let is : first_above (map (item_entry ps) (records_from more (more at (w ∷ ws)) (suc at) ws)) r ≡ None = rw f at e in
       elim (cases_eq at x) [
         | inl here ↦
             let there : is_object (item ps at (w ∷ take (more at (w ∷ ws)) ws)) ≡ true = rw (eq-eqb at x here) at o in
@@ -59,7 +61,7 @@ found_none ps more zero at (w ∷ ws) r x e rx o = elim (cases_Bool (nat_lt r at
 ]
 
 -- the next object lies behind
-found_above : (ps : List ℕ) (more : Sizes) (s at : ℕ) (ws : List ℕ) (r q : ℕ) → first_above (map (item_entry ps) (cut more s at ws)) r ≡ Some q → r < q
+found_above : (ps : List ℕ) (more : Sizes) (s at : ℕ) (ws : List ℕ) (r q : ℕ) → first_above (map (item_entry ps) (records_from more s at ws)) r ≡ Some q → r < q
 found_above ps more s at [] r q e = absurd (none-some q e)
 found_above ps more (suc s) at (w ∷ ws) r q e = found_above ps more s (suc at) ws r q e
 found_above ps more zero at (w ∷ ws) r q e = elim (cases_Bool (nat_lt r at && is_object (item ps at (w ∷ take (more at (w ∷ ws)) ws)))) [
@@ -71,7 +73,7 @@ found_above ps more zero at (w ∷ ws) r q e = elim (cases_Bool (nat_lt r at && 
         | inr not ↦ absurd (false≢true (rw not at t))
       ]
   | inr f ↦
-      let is : first_above (map (item_entry ps) (cut more (more at (w ∷ ws)) (suc at) ws)) r ≡ Some q = rw f at e in
+      let is : first_above (map (item_entry ps) (records_from more (more at (w ∷ ws)) (suc at) ws)) r ≡ Some q = rw f at e in
       found_above ps more (more at (w ∷ ws)) (suc at) ws r q is
 ]
 
@@ -82,7 +84,7 @@ pub record Walks (h : HeapState) : Type 0 where
   pub last : (r x : ℕ) → next_object h r ≡ None → r < x → IsObject h x → ⊥
 
 pub walks : (ws : List ℕ) → Walks (heap_of ws)
-unfolding read_image next_object item_at
+unfolding read_image next_object heap_item_at
 walks ws =
     let ps = package_addresses (image ws) in
     let rest = drop (base (image ws)) (image ws) in
@@ -93,7 +95,8 @@ walks ws =
     }
 
 -- what is so of all objects so far and of the next one
-pub one_more : (h : HeapState) → Walks h → (S : ℕ → Type 0) (own at q : ℕ) → next_object h at ≡ Some q → ((r : ℕ) → own < r → r ≤ at → IsObject h r → S r) → S q →
+pub one_more : (h : HeapState) → Walks h → (S : ℕ → Type 0) (own at q : ℕ) → next_object h at ≡ Some q
+    → ((r : ℕ) → own < r → r ≤ at → IsObject h r → S r) → S q →
     (r : ℕ) → own < r → r ≤ q → IsObject h r → S r
 one_more h w S own at q next far here r above le o =
     ⊎_elim (λ before. ⊎_elim (λ within. absurd (w.least at q r next within before o)) (λ below. far r above below o) (cases_lt at r))

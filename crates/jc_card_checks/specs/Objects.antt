@@ -7,18 +7,18 @@ use Rattle.jc_heap.specs.declared.object.Facts.{Facts}
 use Rattle.jc_heap.specs.declared.object.Kind.{Kind}
 use Rattle.jc_heap.specs.declared.object.Kind.TheVariants.{Instance, ByteArray, ReferenceArray}
 use Rattle.jc_heap.specs.Object.{is_object}
-use Rattle.jc_heap.specs.Heap.{HeapState, item_at, facts, cells}
-use Rattle.jc_packages.specs.Values.{Packages}
-use Rattle.jc_packages.specs.Classes.{is_below, is_class, reference_cell, size_of}
-use Rattle.jc_packages.specs.Resolves.{names_interface}
+use Rattle.jc_heap.specs.Heap.{HeapState, heap_item_at, facts, cells}
+use Rattle.jc_linker.specs.Values.{Packages}
+use Rattle.jc_linker.specs.Classes.{is_below, is_class, reference_cell, size_of}
+use Rattle.jc_linker.specs.Resolves.{names_interface}
 
 -- an object stands at this address
-abbrev pub stands : HeapState → ℕ → Bool
-stands h r = is_object (item_at h r)
+abbrev pub is_object_address : HeapState → ℕ → Bool
+is_object_address h r = is_object (heap_item_at h r)
 
 -- null or an object
 abbrev pub is_reference : HeapState → ℕ → Bool
-is_reference h v = v == 0 || stands h v
+is_reference h v = v == 0 || is_object_address h v
 
 -- an instance has a class, no interface, and as many cells as it says; an array of references has a class or an interface
 abbrev pub fits_class : Packages → Kind → ℕ → ℕ → Bool
@@ -54,7 +54,8 @@ fits_aid p class held = not (is_a p class Aid) || nat_le (slice_index held 0) 16
 
 -- an OwnerPIN's fifth cell is null where its second, the maximum, is 0, or else an array of so many bytes
 abbrev pub has_value : HeapState → List ℕ → Bool
-has_value h held = if slice_index held 4 == 0 then slice_index held 1 == 0 else stands h (slice_index held 4) && is_byte_array (facts h (slice_index held 4)) (slice_index held 1)
+has_value h held = if slice_index held 4 == 0 then slice_index held 1 == 0 else is_object_address h (slice_index held 4) && is_byte_array
+    (facts h (slice_index held 4)) (slice_index held 1)
 
 -- and its fourth, the length, is not above the maximum
 abbrev pub fits_pin : Packages → HeapState → ℕ → List ℕ → Bool
@@ -71,11 +72,11 @@ pub record HoldsValues (p : Packages) (h : HeapState) (r : ℕ) : Type 0 where
   pub pin : fits_pin p h (facts h r).class (cells h r) ≡ true
 
 -- a persistent instance
-abbrev pub is_kept : Facts → Bool
-is_kept f = is_instance f.kind && is_none f.event
+abbrev pub is_persistent_instance : Facts → Bool
+is_persistent_instance f = is_instance f.kind && is_none f.event
 
 -- an object's class, its owner and what it holds are there
 pub record IsSoundObject (p : Packages) (h : HeapState) (r : ℕ) : Type 0 where
   pub class : fits_class p (facts h r).kind (facts h r).class (facts h r).length ≡ true
   pub owner : is_owner h (facts h r).owner ≡ true
-  pub values : is_kept (facts h r) ≡ true → HoldsValues p h r
+  pub values : is_persistent_instance (facts h r) ≡ true → HoldsValues p h r

@@ -1,15 +1,16 @@
 -- A heap that fits the packages that are linked of it.
 use Rattle.std.specs.Prelude.{ℕ, ◌≡◌, ◌<◌, ◌+◌, ◌*◌, ◌==◌, ◌&&◌, nat_lt, nat_le, Bool, true, List, drop, length, slice_index, Some}
+use Rattle.jc_heap.specs.RegistryLayout.{entry_start, entry_aid, entry_package, entry_instance}
 use Rattle.jc_platform.specs.declared.names.PlatformClass.TheVariants.{Aid, Applet}
 use Rattle.jc_platform.specs.Distinct.{class_word}
 use Rattle.jc_heap.specs.declared.object.Facts.{Facts}
 use Rattle.jc_heap.specs.Components.{record_of, words_for}
 use Rattle.jc_heap.specs.Heap.{HeapState, facts, cells, IsObject}
-use Rattle.jc_heap.specs.Image.{unpacked}
+use Rattle.jc_heap.specs.Image.{bytes_of_packed}
 use Rattle.jc_heap.specs.Statics.{statics_of}
-use Rattle.jc_packages.specs.Lookups.{statics_at}
-use Rattle.jc_packages.specs.Values.{Packages}
-use Rattle.jc_card_checks.specs.Objects.{IsSoundObject, is_a, is_instance, is_kept, is_reference, stands}
+use Rattle.jc_linker.specs.Lookups.{statics_at}
+use Rattle.jc_linker.specs.Values.{Packages}
+use Rattle.jc_card_checks.specs.Objects.{IsSoundObject, is_a, is_instance, is_persistent_instance, is_reference, is_object_address}
 
 -- a record ends with its static image of so many bytes, whose first words are so many references
 pub record HoldsStatics (h : HeapState) (words : List ℕ) (s : ℕ × ℕ) : Type 0 where
@@ -24,24 +25,25 @@ package_record_at h k = record_of h (slice_index h.packages k)
 
 -- a word of the registry's entry at a place, the first at 0: its AID object, the number of its package, its instance
 abbrev pub entry_word : HeapState → ℕ → ℕ → ℕ
-entry_word h a j = slice_index h.applets (3 * a + j)
+entry_word h a j = slice_index h.applets (entry_start a + j)
 
 -- a persistent instance of AID, with an AID of 5 to 16 bytes
 abbrev pub holds_aid : Packages → Facts → List ℕ → Bool
-holds_aid p f held = is_kept f && (f.class == class_word p.platform Aid && (nat_le 5 (slice_index held 0) && nat_le (slice_index held 0) 16))
+holds_aid p f held = is_persistent_instance f && (f.class == class_word p.platform Aid && (nat_le 5 (slice_index held 0) && nat_le (slice_index held 0) 16))
 
 -- an AID object, a package, and an instance of a class below Applet
 pub record IsRegistered (p : Packages) (h : HeapState) (a : ℕ) : Type 0 where
-  pub aid : (stands h (entry_word h a 0) && holds_aid p (facts h (entry_word h a 0)) (cells h (entry_word h a 0))) ≡ true
-  pub number : (nat_lt 0 (entry_word h a 1) && nat_le (entry_word h a 1) (length h.packages)) ≡ true
-  pub instance : (stands h (entry_word h a 2) && (is_instance (facts h (entry_word h a 2)).kind && is_a p (facts h (entry_word h a 2)).class Applet)) ≡ true
+  pub aid : (is_object_address h (entry_word h a entry_aid) && holds_aid p (facts h (entry_word h a entry_aid)) (cells h (entry_word h a entry_aid))) ≡ true
+  pub number : (nat_lt 0 (entry_word h a entry_package) && nat_le (entry_word h a entry_package) (length h.packages)) ≡ true
+  pub instance : (is_object_address h (entry_word h a entry_instance) && (is_instance (facts h (entry_word h a entry_instance)).kind && is_a p
+      (facts h (entry_word h a entry_instance)).class Applet)) ≡ true
 
 -- the AID of a registry's entry: behind the length its bytes stand two a cell, the first of two high
 abbrev pub aid_in : List ℕ → List ℕ
-aid_in held = unpacked (slice_index held 0) (drop 1 held)
+aid_in held = bytes_of_packed (slice_index held 0) (drop 1 held)
 
 abbrev pub aid_of_entry : HeapState → ℕ → List ℕ
-aid_of_entry h a = aid_in (cells h (entry_word h a 0))
+aid_of_entry h a = aid_in (cells h (entry_word h a entry_aid))
 
 -- no applet before this one has its AID
 abbrev pub HasOwnAid : HeapState → ℕ → Type 0

@@ -1,48 +1,49 @@
 //! Whether each entry of the registry is that of an applet, and no AID stands there twice.
 ghost use Rattle.std.specs.Prelude.{ℕ, ◌≡◌, ◌<◌, ◌≤◌, ◌↔◌, IsTrue, ◌&&◌, false, true, drop, length, slice_index, nat_lt};
 ghost use Rattle.jc_words.specs.Layout.{most_applets};
+ghost use Rattle.jc_heap.specs.RegistryLayout.{entry_length};
 ghost use Rattle.jc_heap.specs.Heap.{cells, facts};
 ghost use Rattle.jc_heap.specs.Image.{packed_byte};
-ghost use Rattle.jc_heap.specs.Whole.{IsWhole};
-ghost use Rattle.jc_card_checks.specs.Objects.{is_a, is_instance, stands};
+ghost use Rattle.jc_heap.specs.Whole.{IsConsistent};
+ghost use Rattle.jc_card_checks.specs.Objects.{is_a, is_instance, is_object_address};
 ghost use Rattle.jc_card_checks.specs.Sound.{HasOwnAid, IsRegistered, aid_in, aid_of_entry, entry_word, holds_aid};
 
-use crate::objects::is_kept;
-use crate::values::{cell_of, is_a, stands};
+use crate::objects::is_persistent_instance;
+use crate::values::{MOST_AID, cell_of, is_a, is_object_address};
 use arrayvec::ArrayVec;
 use jc_heap::Kind;
+use jc_heap::registry_layout::{ENTRY_AID, ENTRY_INSTANCE, ENTRY_PACKAGE, entry_start};
 use jc_linker::linked::Linked;
 use jc_memory::Memory;
 use jc_platform::names::PlatformClass;
 use jc_transient::Ref;
 use jc_words::WordStore;
 
-/// How many bytes an AID has at least and at most.
+/// How many bytes an AID has at least.
 const LEAST_AID: u16 = 5;
-
-const MOST_AID: u16 = 16;
 
 // A word of the registry's entry at a place.
 fn entry_word<S: WordStore>(memory: &Memory<S>, a: u16, j: u16) -> u16
     requires up { memory.now.heap.down ≡ false }
     requires few { a < most_applets }
-    requires part { j < 3 }
+    requires part { j < entry_length }
     ensures { result ≡ entry_word memory.now.heap.now a j }
 {
-    memory.heap().registry(3 * a + j)
+    memory.heap().registry(entry_start(a) + j)
 }
 
 // A persistent instance of AID stands there, with an AID of 5 to 16 bytes.
 fn is_aid_object<S: WordStore>(memory: &Memory<S>, linked: &Linked, word: u16) -> bool
     requires up { memory.now.heap.down ≡ false }
-    ensures { IsTrue result ↔ ((stands memory.now.heap.now word && holds_aid linked.now (facts memory.now.heap.now word) (cells memory.now.heap.now word)) ≡ true) }
+    ensures { IsTrue result ↔ ((is_object_address memory.now.heap.now word && holds_aid linked.now
+        (facts memory.now.heap.now word) (cells memory.now.heap.now word)) ≡ true) }
 {
-    if !stands(memory, word) {
+    if !is_object_address(memory, word) {
         return false;
     }
     let object = Ref::at(word);
     let facts = memory.heap().facts(object);
-    if !is_kept(facts) {
+    if !is_persistent_instance(facts) {
         return false;
     }
     let long = cell_of(memory, object, facts.length, 0);
@@ -54,9 +55,11 @@ fn is_aid_object<S: WordStore>(memory: &Memory<S>, linked: &Linked, word: u16) -
 // An instance of a class below Applet stands there.
 fn is_applet_instance<S: WordStore>(memory: &Memory<S>, linked: &Linked, word: u16) -> bool
     requires up { memory.now.heap.down ≡ false }
-    ensures { result ≡ (stands memory.now.heap.now word && (is_instance (facts memory.now.heap.now word).kind && is_a linked.now (facts memory.now.heap.now word).class PlatformClass.Applet)) }
+    ensures { result ≡ (is_object_address memory.now.heap.now word &&
+        (is_instance (facts memory.now.heap.now word).kind && is_a linked.now
+        (facts memory.now.heap.now word).class PlatformClass.Applet)) }
 {
-    if !stands(memory, word) {
+    if !is_object_address(memory, word) {
         return false;
     }
     let facts = memory.heap().facts(Ref::at(word));
@@ -69,18 +72,19 @@ fn is_registered<S: WordStore>(memory: &Memory<S>, linked: &Linked, a: u16) -> b
     requires few { a < most_applets }
     ensures { IsTrue result ↔ IsRegistered linked.now memory.now.heap.now a }
 {
-    let package = entry_word(memory, a, 1);
-    is_aid_object(memory, linked, entry_word(memory, a, 0))
+    let package = entry_word(memory, a, ENTRY_PACKAGE);
+    is_aid_object(memory, linked, entry_word(memory, a, ENTRY_AID))
         && package > 0
         && package <= memory.heap().packages()
-        && is_applet_instance(memory, linked, entry_word(memory, a, 2))
+        && is_applet_instance(memory, linked, entry_word(memory, a, ENTRY_INSTANCE))
 }
 
 /// Each entry of the registry has an AID object, a package and an instance.
 pub(crate) fn are_registered<S: WordStore>(memory: &Memory<S>, linked: &Linked) -> bool
     requires up { memory.now.heap.down ≡ false }
-    requires whole { IsWhole memory.now.heap.now }
-    ensures { IsTrue result ↔ ((a : ℕ) → a < memory.now.heap.now.counts.1 → IsRegistered linked.now memory.now.heap.now a) }
+    requires whole { IsConsistent memory.now.heap.now }
+    ensures { IsTrue result ↔ ((a : ℕ) → a < memory.now.heap.now.counts.1
+        → IsRegistered linked.now memory.now.heap.now a) }
 {
     for a in 0..memory.heap().applets() {
         if !is_registered(memory, linked, a) {
@@ -106,7 +110,7 @@ fn aid_byte<S: WordStore>(memory: &Memory<S>, object: Ref, long: u16, i: u16) ->
 }
 
 // The AID that an AID object's cells tell.
-#[tactic(auto, unfolding(jc_heap::specs::Image::unpacked))]
+#[tactic(auto, unfolding(jc_heap::specs::Image::bytes_of_packed))]
 fn aid_in<S: WordStore>(memory: &Memory<S>, object: Ref, long: u16) -> ArrayVec<u8, 16>
     requires up { memory.now.heap.down ≡ false }
     requires long { length (cells memory.now.heap.now object) ≡ long }
@@ -127,7 +131,7 @@ fn aid_of_entry<S: WordStore>(memory: &Memory<S>, linked: &Linked, a: u16) -> Ar
     requires registered { IsRegistered linked.now memory.now.heap.now a }
     ensures { result.items ≡ aid_of_entry memory.now.heap.now a }
 {
-    let object = Ref::at(entry_word(memory, a, 0));
+    let object = Ref::at(entry_word(memory, a, ENTRY_AID));
     let facts = memory.heap().facts(object);
     aid_in(memory, object, facts.length)
 }
@@ -152,9 +156,11 @@ fn has_own_aid<S: WordStore>(memory: &Memory<S>, linked: &Linked, b: u16) -> boo
 /// No two applets have one AID.
 pub(crate) fn are_distinct<S: WordStore>(memory: &Memory<S>, linked: &Linked) -> bool
     requires up { memory.now.heap.down ≡ false }
-    requires whole { IsWhole memory.now.heap.now }
-    requires registered { (a : ℕ) → a < memory.now.heap.now.counts.1 → IsRegistered linked.now memory.now.heap.now a }
-    ensures { IsTrue result ↔ ((b : ℕ) → b < memory.now.heap.now.counts.1 → HasOwnAid memory.now.heap.now b) }
+    requires whole { IsConsistent memory.now.heap.now }
+    requires registered { (a : ℕ) → a < memory.now.heap.now.counts.1
+        → IsRegistered linked.now memory.now.heap.now a }
+    ensures { IsTrue result ↔ ((b : ℕ) → b < memory.now.heap.now.counts.1
+        → HasOwnAid memory.now.heap.now b) }
 {
     for b in 0..memory.heap().applets() {
         if !has_own_aid(memory, linked, b) {

@@ -1,14 +1,13 @@
 //! Whether each object's class, owner and cells are there.
 ghost use Rattle.std.specs.Prelude.{ℕ, List, ◌≡◌, ◌<◌, ◌↔◌, IfSome, IsTrue, false};
 ghost use Rattle.jc_heap.specs.Heap.{heap_of, next_object, IsObject};
-ghost use Rattle.jc_card_checks.specs.Objects.{IsSoundObject, fits_class, is_kept, is_owner};
+ghost use Rattle.jc_card_checks.specs.Objects.{IsSoundObject, fits_class, is_persistent_instance, is_owner};
 
 use crate::values::holds_values;
 use jc_heap::{Facts, Kind};
 use jc_linker::linked::Linked;
 use jc_memory::Memory;
-use jc_names::{ClassWord, OwnerWord};
-use jc_transient::Ref;
+use jc_transient::{ClassWord, OwnerWord, Ref};
 use jc_words::WordStore;
 
 /// The number that the owner of the first package has, less one.
@@ -41,8 +40,8 @@ fn is_owner<S: WordStore>(memory: &Memory<S>, owner: OwnerWord) -> bool
 }
 
 /// The header says that it is a persistent instance.
-pub(crate) fn is_kept(facts: Facts) -> bool
-    ensures { result ≡ is_kept facts }
+pub(crate) fn is_persistent_instance(facts: Facts) -> bool
+    ensures { result ≡ is_persistent_instance facts }
 {
     matches!(facts.kind, Kind::Instance) && facts.event.is_none()
 }
@@ -60,7 +59,7 @@ fn is_sound_object<S: WordStore>(memory: &Memory<S>, linked: &Linked, object: Re
     if !is_owner(memory, facts.owner()) {
         return false;
     }
-    if !is_kept(facts) {
+    if !is_persistent_instance(facts) {
         return true;
     }
     holds_values(memory, linked, object, facts.class(), facts.length)
@@ -81,7 +80,8 @@ pub(crate) fn are_sound<S: WordStore>(memory: &Memory<S>, linked: &Linked, own: 
     requires up { memory.now.heap.down ≡ false }
     requires words { (w : List ℕ) × (memory.now.heap.now ≡ heap_of w) }
     requires own { (own ≡ 0 → ⊥) → IsObject memory.now.heap.now own }
-    ensures { IsTrue result ↔ ((r : ℕ) → own < r → IsObject memory.now.heap.now r → IsSoundObject linked.now memory.now.heap.now r) }
+    ensures { IsTrue result ↔ ((r : ℕ) → own < r → IsObject memory.now.heap.now r
+        → IsSoundObject linked.now memory.now.heap.now r) }
 {
     let mut at = own;
     while let Some(object) = next_of(memory, at) {

@@ -1,8 +1,8 @@
 //! Whether each package's record ends with its static image, whose references are null or objects.
 ghost use Rattle.std.specs.Prelude.{ℕ, ◌≡◌, ◌<◌, ◌+◌, ◌↔◌, IsTrue, true, false, length, slice_index};
 ghost use Rattle.jc_heap.specs.Components.{record_of};
-ghost use Rattle.jc_heap.specs.Whole.{IsWhole};
-ghost use Rattle.jc_packages.specs.Lookups.{statics_at};
+ghost use Rattle.jc_heap.specs.Whole.{IsConsistent};
+ghost use Rattle.jc_linker.specs.Lookups.{statics_at};
 ghost use Rattle.jc_card_checks.specs.Objects.{is_reference};
 ghost use Rattle.jc_card_checks.specs.Sound.{HoldsStatics, package_record_at};
 
@@ -29,7 +29,8 @@ fn word_of<S: WordStore>(memory: &Memory<S>, at: Ref, long: u16, j: u32) -> u16
 fn are_references<S: WordStore>(memory: &Memory<S>, at: Ref, begin: u16, count: u16) -> bool
     requires up { memory.now.heap.down ≡ false }
     requires there { 0 < length (record_of memory.now.heap.now at) }
-    ensures { IsTrue result ↔ ((i : ℕ) → i < count → is_reference memory.now.heap.now (slice_index (record_of memory.now.heap.now at) (begin + i)) ≡ true) }
+    ensures { IsTrue result ↔ ((i : ℕ) → i < count → is_reference memory.now.heap.now
+        (slice_index (record_of memory.now.heap.now at) (begin + i)) ≡ true) }
 {
     let long = memory.heap().record_length(at);
     for i in 0..count {
@@ -47,7 +48,8 @@ fn are_references<S: WordStore>(memory: &Memory<S>, at: Ref, begin: u16, count: 
 fn holds_statics<S: WordStore>(memory: &Memory<S>, at: Ref, size: u16, references: u16) -> bool
     requires up { memory.now.heap.down ≡ false }
     requires there { 0 < length (record_of memory.now.heap.now at) }
-    ensures { IsTrue result ↔ HoldsStatics memory.now.heap.now (record_of memory.now.heap.now at) (size, references) }
+    ensures { IsTrue result ↔ HoldsStatics memory.now.heap.now (record_of memory.now.heap.now at)
+        (size, references) }
 {
     let Some(begin) = memory.heap().statics(at) else {
         return false;
@@ -62,10 +64,11 @@ fn holds_statics<S: WordStore>(memory: &Memory<S>, at: Ref, size: u16, reference
 // The record of the package at a place of the registry holds its static image.
 fn holds_statics_at<S: WordStore>(memory: &Memory<S>, linked: &Linked, k: u8) -> bool
     requires up { memory.now.heap.down ≡ false }
-    requires whole { IsWhole memory.now.heap.now }
+    requires whole { IsConsistent memory.now.heap.now }
     requires below { k < length memory.now.heap.now.packages }
     requires few { k < 32 }
-    ensures { IsTrue result ↔ HoldsStatics memory.now.heap.now (package_record_at memory.now.heap.now k) (statics_at linked.now (k + 1)) }
+    ensures { IsTrue result ↔ HoldsStatics memory.now.heap.now
+        (package_record_at memory.now.heap.now k) (statics_at linked.now (k + 1)) }
 {
     let Some(at) = memory.heap().package(u16::from(k)) else {
         unreachable!();
@@ -75,11 +78,13 @@ fn holds_statics_at<S: WordStore>(memory: &Memory<S>, linked: &Linked, k: u8) ->
 }
 
 /// The record of each package holds its static image.
-pub(crate) fn are_held<S: WordStore>(memory: &Memory<S>, linked: &Linked) -> bool
+pub(crate) fn hold_statics<S: WordStore>(memory: &Memory<S>, linked: &Linked) -> bool
     requires up { memory.now.heap.down ≡ false }
-    requires whole { IsWhole memory.now.heap.now }
+    requires whole { IsConsistent memory.now.heap.now }
     requires linked { length linked.now.loaded ≡ length memory.now.heap.now.packages }
-    ensures { IsTrue result ↔ ((k : ℕ) → k < length memory.now.heap.now.packages → HoldsStatics memory.now.heap.now (package_record_at memory.now.heap.now k) (statics_at linked.now (k + 1))) }
+    ensures { IsTrue result ↔ ((k : ℕ) → k < length memory.now.heap.now.packages
+        → HoldsStatics memory.now.heap.now (package_record_at memory.now.heap.now k)
+        (statics_at linked.now (k + 1))) }
 {
     for k in 0..linked.last() {
         if !holds_statics_at(memory, linked, k) {

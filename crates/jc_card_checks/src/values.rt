@@ -1,19 +1,19 @@
 //! Whether what a persistent instance holds fits its class.
 ghost use Rattle.std.specs.Prelude.{◌≡◌, ◌<◌, ◌↔◌, IsTrue, false, length, slice_index, None};
 ghost use Rattle.jc_heap.specs.Heap.{cells, facts, IsObject};
-ghost use Rattle.jc_heap.specs.Whole.{IsWhole};
-ghost use Rattle.jc_card_checks.specs.Objects.{HoldsReferences, HoldsValues, fits_aid, fits_pin, has_value, is_a, is_byte_array, is_reference, stands};
+ghost use Rattle.jc_heap.specs.Whole.{IsConsistent};
+ghost use Rattle.jc_card_checks.specs.Objects.{HoldsReferences, HoldsValues, fits_aid, fits_pin, has_value, is_a, is_byte_array, is_reference};
+ghost use Rattle.jc_card_checks.specs.Objects.{is_object_address};
 
 use jc_heap::{Facts, Kind};
 use jc_linker::linked::Linked;
 use jc_memory::Memory;
-use jc_names::ClassWord;
 use jc_platform::names::PlatformClass;
-use jc_transient::Ref;
+use jc_transient::{ClassWord, Ref};
 use jc_words::WordStore;
 
 /// How many bytes an AID has at most.
-const MOST_AID: u16 = 16;
+pub(crate) const MOST_AID: u16 = 16;
 
 /// The class is one of the platform, or below it.
 pub(crate) fn is_a(linked: &Linked, class: ClassWord, of: PlatformClass) -> bool
@@ -23,9 +23,9 @@ pub(crate) fn is_a(linked: &Linked, class: ClassWord, of: PlatformClass) -> bool
 }
 
 /// An object stands at this address.
-pub(crate) fn stands<S: WordStore>(memory: &Memory<S>, word: u16) -> bool
+pub(crate) fn is_object_address<S: WordStore>(memory: &Memory<S>, word: u16) -> bool
     requires up { memory.now.heap.down ≡ false }
-    ensures { result ≡ stands memory.now.heap.now word }
+    ensures { result ≡ is_object_address memory.now.heap.now word }
 {
     memory.header(Ref::at(word)).is_some()
 }
@@ -35,7 +35,7 @@ pub(crate) fn is_reference<S: WordStore>(memory: &Memory<S>, word: u16) -> bool
     requires up { memory.now.heap.down ≡ false }
     ensures { result ≡ is_reference memory.now.heap.now word }
 {
-    word == 0 || stands(memory, word)
+    word == 0 || is_object_address(memory, word)
 }
 
 /// A cell of a persistent object with so many cells; 0 behind the last one.
@@ -69,7 +69,7 @@ fn has_value<S: WordStore>(memory: &Memory<S>, pin: Ref, long: u16) -> bool
     if value == 0 {
         return maximum == 0;
     }
-    if !stands(memory, value) {
+    if !is_object_address(memory, value) {
         return false;
     }
     is_byte_array(memory.heap().facts(Ref::at(value)), maximum)
@@ -85,7 +85,8 @@ fn fits_pin<S: WordStore>(
 ) -> bool
     requires up { memory.now.heap.down ≡ false }
     requires long { length (cells memory.now.heap.now object) ≡ long }
-    ensures { result ≡ fits_pin linked.now memory.now.heap.now class (cells memory.now.heap.now object) }
+    ensures { result ≡ fits_pin linked.now memory.now.heap.now class
+        (cells memory.now.heap.now object) }
 {
     if !is_a(linked, class, PlatformClass::OwnerPin) {
         return true;

@@ -1,12 +1,19 @@
+//! Packages between their components, the linker and the heap: put together and linked, as parts of a record,
+//! and read from a record again.
 //! Loading: the manager's commands that bring a package in, component by component.
 #![tactic(auto)]
 
-mod coming;
-mod end;
+mod incoming;
+mod linker_view;
 mod load;
-mod refusal;
+mod load_end;
+mod load_refusal;
+pub mod package_refusal;
+pub mod pending_package;
+pub mod reading;
+pub mod record_contents;
 
-pub use coming::Coming;
-pub use end::{EndFault, end_package};
+pub use incoming::IncomingComponent;
 pub use load::OpenLoad;
-pub use refusal::LoadRefusal;
+pub use load_end::{EndFault, end_package};
+pub use load_refusal::LoadRefusal;

@@ -1,16 +1,16 @@
 //! An open load.
 ghost use Rattle.std.specs.Prelude.{◌≡◌, ◌⊎◌, Err};
 ghost use Rattle.jc_cap.specs.Components.{component_at};
-ghost use Rattle.jc_cap_fields.specs.declared.formats.Format.TheVariants.{V2_1};
-ghost use Rattle.jc_card_load.specs.Loading.{begun_load, component_begun, component_ended, component_grown, no_memory, with_left, Checks};
+ghost use Rattle.jc_cap_linkage.specs.declared.formats.Format.TheVariants.{V2_1};
+ghost use Rattle.jc_card_load.specs.Loading.{empty_load, component_begin, component_end, component_append, no_memory, command_result, Checks};
 
-use crate::coming::Coming;
-use crate::refusal::LoadRefusal;
+use crate::incoming::IncomingComponent;
+use crate::load_refusal::LoadRefusal;
+use crate::package_refusal::PackageRefusal;
 use jc_cap::component::read_component;
-use jc_cap::texts::Load;
-use jc_cap_fields::fault::CapFault;
-use jc_cap_fields::formats::Format;
-use jc_card_packages::refusal::Refusal;
+use jc_cap::texts::LoadedComponents;
+use jc_cap_linkage::fault::CapFault;
+use jc_cap_linkage::formats::Format;
 use std::alloc::Global;
 
 /// How many tags there are.
@@ -20,19 +20,19 @@ const ALL_TAGS: usize = 256;
 /// component that is coming.
 #[derive(Drop)]
 pub struct OpenLoad {
-    pub texts: Load,
+    pub texts: LoadedComponents,
     pub came: [bool; ALL_TAGS],
-    pub coming: Option<Coming>,
+    pub coming: Option<IncomingComponent>,
 }
 
 impl OpenLoad {
     /// No component has come yet.
-    #[tactic(auto, unfolding(crate::specs::Loading::begun_load))]
+    #[tactic(auto, unfolding(crate::specs::Loading::empty_load))]
     pub fn new() -> OpenLoad
-        ensures { result ≡ begun_load }
+        ensures { result ≡ empty_load }
     {
         OpenLoad {
-            texts: Load::new(),
+            texts: LoadedComponents::new(),
             came: [false; ALL_TAGS],
             coming: None,
         }
@@ -40,37 +40,40 @@ impl OpenLoad {
 
     /// A component begins.
     pub fn begin_component(&mut self, alloc: Global, tag: u8) -> Result<(), LoadRefusal>
-        ensures { with_left result self.new ≡ component_begun tag self.old }
+        ensures { command_result result self.new ≡ component_begin tag self.old }
     {
         if self.coming.is_some() {
-            return Err(LoadRefusal::OutOfTurn);
+            return Err(LoadRefusal::OutOfSequence);
         }
         if tag == 0 || tag > 12 && tag < 128 {
-            return Err(LoadRefusal::NoTag);
+            return Err(LoadRefusal::UnknownTag);
         }
         if self.came[tag as usize] {
-            return Err(LoadRefusal::NotIn(Refusal::Component(CapFault::Repeated(tag))));
+            return Err(LoadRefusal::Refused(PackageRefusal::BadComponents(CapFault::Repeated(
+                tag,
+            ))));
         }
-        self.coming = Some(Coming::new(alloc, tag));
+        self.coming = Some(IncomingComponent::new(alloc, tag));
         Ok(())
     }
 
     /// More bytes of the component that is open. Where memory is refused, none are taken.
     pub fn append(&mut self, more: &[u8]) -> Result<(), LoadRefusal>
-        ensures { (with_left result self.new ≡ component_grown more.now self.old) ⊎ (with_left result self.new ≡ with_left (Err no_memory) self.old) }
+        ensures { (command_result result self.new ≡ component_append more.now self.old)
+            ⊎ (command_result result self.new ≡ command_result (Err no_memory) self.old) }
     {
         match &mut self.coming {
             Some(coming) => coming.append(more),
-            None => Err(LoadRefusal::OutOfTurn),
+            None => Err(LoadRefusal::OutOfSequence),
         }
     }
 
     /// The component that is open ends: it is read and kept, or dropped.
     pub fn end_component(&mut self) -> Result<(), LoadRefusal>
-        ensures { with_left result self.new ≡ component_ended self.old }
+        ensures { command_result result self.new ≡ component_end self.old }
     {
         let Some(coming) = self.coming.take() else {
-            return Err(LoadRefusal::OutOfTurn);
+            return Err(LoadRefusal::OutOfSequence);
         };
         let tag = coming.tag();
         match check(&coming) {
@@ -79,13 +82,13 @@ impl OpenLoad {
                 self.texts.keep(tag, coming.into_bytes());
                 Ok(())
             }
-            Err(fault) => Err(LoadRefusal::NotIn(Refusal::Component(fault))),
+            Err(fault) => Err(LoadRefusal::Refused(PackageRefusal::BadComponents(fault))),
         }
     }
 }
 
 // Whether a component can be read.
-fn check(coming: &Coming) -> Result<(), CapFault>
+fn check(coming: &IncomingComponent) -> Result<(), CapFault>
     ensures { Checks (component_at V2_1 coming.now.tag coming.now.bytes) result }
 {
     let _ = read_component(Format::V2_1, coming.tag(), coming.bytes())?;

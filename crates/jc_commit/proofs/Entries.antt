@@ -1,16 +1,19 @@
 -- Entries that are written, and then counted.
-use Rattle.std.proofs.Common.{◌≡◌, ℕ, ◌+◌, ◌*◌, ◌<◌, ◌≤◌, List, length, get_or, set, take, slice_index, sym, ◌∙◌, ap, subst, arith, ⊎_elim, get_or-set_other, get_or-set_same}
+use Rattle.std.proofs.Common.{◌≡◌, ℕ, ◌+◌, ◌*◌, ◌<◌, ◌≤◌, List, length, get_or, set, take, slice_index, sym, ◌∙◌, ap, subst, arith, ⊎_elim, get_or-set_other}
+use Rattle.std.proofs.Common.{get_or-set_same}
 use Rattle.std.proofs.lemmas.List.{length-set, length-take, get_or-take}
 use Rattle.std.proofs.lemmas.Bool.{cases_lt}
 use Rattle.jc_commit.specs.Image.{capacity, IsPlace, address_at, old_at}
 use Rattle.jc_words.specs.Layout.{log_start, log_end}
 use Rattle.jc_commit.specs.Entries.{ArePlaces, SameBefore, HasEntries}
 
-pub same_after : (old w v : List ℕ) (first slot x y : ℕ) → log_start + 2 * first ≤ slot → slot + 1 < log_end → v ≡ set (set w slot x) (slot + 1) y → SameBefore first old w → SameBefore first old v
+pub same_after : (old w v : List ℕ) (first slot x y : ℕ) → log_start + 2 * first ≤ slot → slot + 1 < log_end → v ≡ set (set w slot x) (slot + 1) y
+    → SameBefore first old w → SameBefore first old v
 same_after old w v first slot x y above below is same =
     let after : SameBefore first old (set (set w slot x) (slot + 1) y) = (
       length-set (set w slot x) (slot + 1) y ∙ length-set w slot x ∙ same.0,
-      λ a free. get_or-set_other (set w slot x) (slot + 1) a y 0 (λ e. absurd (omega arith)) ∙ get_or-set_other w slot a x 0 (λ e. absurd (omega arith)) ∙ same.1 a free,
+      λ a free. get_or-set_other (set w slot x) (slot + 1) a y 0 (λ e. absurd (omega arith)) ∙ get_or-set_other w slot a x 0 (λ e. absurd (omega arith))
+          ∙ same.1 a free,
     ) in
     subst (λ (u : List ℕ). SameBefore first old u) (sym is) after
 
@@ -21,7 +24,10 @@ target changes k = (get_or changes k (0, 0)).0
 target-take : (changes : List (ℕ × ℕ)) (n k : ℕ) → k < n → target (take n changes) k ≡ target changes k
 target-take changes n k below = ap (λ (c : ℕ × ℕ). c.0) (get_or-take n changes k (0, 0) below)
 
-entries_after_at : (old w : List ℕ) (changes : List (ℕ × ℕ)) (first i slot value : ℕ) → i < length changes → first + length changes ≤ capacity → log_end ≤ length old → slot ≡ log_start + 2 * (first + i) → IsPlace (length old) (target changes i) → value ≡ slice_index w (target changes i) → SameBefore first old w → HasEntries first (take i changes) old w → HasEntries first (take (i + 1) changes) old (set (set w slot (target changes i)) (slot + 1) value)
+entries_after_at : (old w : List ℕ) (changes : List (ℕ × ℕ)) (first i slot value : ℕ) → i < length changes → first + length changes ≤ capacity
+    → log_end ≤ length old → slot ≡ log_start + 2 * (first + i) → IsPlace (length old) (target changes i) → value ≡ slice_index w (target changes i)
+    → SameBefore first old w → HasEntries first (take i changes) old w → HasEntries first (take (i + 1) changes) old
+    (set (set w slot (target changes i)) (slot + 1) value)
 entries_after_at old w changes first i slot value inside room size is_slot place is_value same has k below =
     ⊎_elim earlier here (cases_lt k i)
   where
@@ -34,11 +40,13 @@ entries_after_at old w changes first i slot value inside room size is_slot place
     earlier : k < i → (address_at v (first + k) ≡ target (take (i + 1) changes) k) × (old_at v (first + k) ≡ slice_index old (target (take (i + 1) changes) k))
     earlier before =
         let was = has k (omega (arith, length-take i changes)) in
-        let name : target (take i changes) k ≡ target (take (i + 1) changes) k = target-take changes i k before ∙ sym (target-take changes (i + 1) k within) in (
+        let name : target (take i changes) k ≡ target (take (i + 1) changes) k
+        = target-take changes i k before ∙ sym (target-take changes (i + 1) k within) in (
           get_or-set_other (set w slot (target changes i)) (slot + 1) (log_start + 2 * (first + k)) value 0 (λ e. absurd (omega arith))
               ∙ get_or-set_other w slot (log_start + 2 * (first + k)) (target changes i) 0 (λ e. absurd (omega arith)) ∙ was.0 ∙ name,
           get_or-set_other (set w slot (target changes i)) (slot + 1) (log_start + 2 * (first + k) + 1) value 0 (λ e. absurd (omega arith))
-              ∙ get_or-set_other w slot (log_start + 2 * (first + k) + 1) (target changes i) 0 (λ e. absurd (omega arith)) ∙ was.1 ∙ ap (λ (a : ℕ). slice_index old a) name,
+              ∙ get_or-set_other w slot (log_start + 2 * (first + k) + 1) (target changes i) 0 (λ e. absurd (omega arith)) ∙ was.1
+              ∙ ap (λ (a : ℕ). slice_index old a) name,
         )
 
     here : i ≤ k → (address_at v (first + k) ≡ target (take (i + 1) changes) k) × (old_at v (first + k) ≡ slice_index old (target (take (i + 1) changes) k))
@@ -49,10 +57,15 @@ entries_after_at old w changes first i slot value inside room size is_slot place
         let beside = place.beside in (
           ap (λ (j : ℕ). get_or v j 0) (omega arith) ∙ get_or-set_other (set w slot (target changes i)) (slot + 1) slot value 0 (λ e. absurd (omega arith))
               ∙ get_or-set_same w slot (target changes i) 0 (omega arith) ∙ name,
-          ap (λ (j : ℕ). get_or v j 0) (omega arith) ∙ get_or-set_same (set w slot (target changes i)) (slot + 1) value 0 (omega (arith, length-set w slot (target changes i)))
+          ap (λ (j : ℕ). get_or v j 0) (omega arith) ∙ get_or-set_same (set w slot (target changes i)) (slot + 1) value 0
+              (omega (arith, length-set w slot (target changes i)))
               ∙ is_value ∙ same.1 (target changes i) (λ h. omega arith) ∙ ap (λ (a : ℕ). slice_index old a) name,
         )
 
-pub entries_after : (old w v : List ℕ) (changes : List (ℕ × ℕ)) (first i slot value : ℕ) → i < length changes → first + length changes ≤ capacity → log_end ≤ length old → slot ≡ log_start + 2 * (first + i) → ArePlaces (length old) changes → value ≡ slice_index w (target changes i) → v ≡ set (set w slot (target changes i)) (slot + 1) value → SameBefore first old w → HasEntries first (take i changes) old w → HasEntries first (take (i + 1) changes) old v
+pub entries_after : (old w v : List ℕ) (changes : List (ℕ × ℕ)) (first i slot value : ℕ) → i < length changes → first + length changes ≤ capacity
+    → log_end ≤ length old → slot ≡ log_start + 2 * (first + i) → ArePlaces (length old) changes → value ≡ slice_index w (target changes i)
+    → v ≡ set (set w slot (target changes i)) (slot + 1) value → SameBefore first old w → HasEntries first (take i changes) old w
+    → HasEntries first (take (i + 1) changes) old v
 entries_after old w v changes first i slot value inside room size is_slot places is_value is same has =
-    subst (λ (u : List ℕ). HasEntries first (take (i + 1) changes) old u) (sym is) (entries_after_at old w changes first i slot value inside room size is_slot (places i inside) is_value same has)
+    subst (λ (u : List ℕ). HasEntries first (take (i + 1) changes) old u) (sym is)
+    (entries_after_at old w changes first i slot value inside room size is_slot (places i inside) is_value same has)

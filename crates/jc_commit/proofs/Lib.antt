@@ -6,5 +6,5 @@ pub mod Views
 pub mod InPlace
 pub mod Refusals
 pub mod Outside
-pub mod Stops
+pub mod TornWrites
 pub mod Parts

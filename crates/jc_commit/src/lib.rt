@@ -4,11 +4,11 @@
 mod check;
 mod entry;
 mod journal;
-mod law;
 mod log;
+mod recovery_law;
 mod refusal;
 mod undo;
 
 pub use journal::Journal;
-pub use law::recovery_may_be_interrupted;
+pub use recovery_law::recovery_may_be_interrupted;
 pub use refusal::{OpenRefusal, WriteRefusal};

@@ -1,11 +1,12 @@
 -- The APDU buffer as the runtime environment fills it.
-use Rattle.std.specs.Prelude.{ℕ, ◌-◌, ◌==◌, ◌&&◌, nat_le, Bool, true, false, List, ◌++◌, length, take, replicate, is_some, slice_index, Option, Some, None, if◌then◌else◌}
+use Rattle.std.specs.Prelude.{ℕ, ◌-◌, ◌==◌, ◌&&◌, nat_le, Bool, true, false, List, ◌++◌, length, take, replicate, is_some, slice_index, Option, Some, None}
+use Rattle.std.specs.Prelude.{if◌then◌else◌}
 use Rattle.jc_heap.specs.declared.object.Facts.{Facts}
 use Rattle.jc_heap.specs.declared.object.Kind.{Kind}
 use Rattle.jc_heap.specs.declared.object.Kind.TheVariants.{Instance, BooleanArray, ByteArray, ShortArray, ReferenceArray}
-use Rattle.jc_memory.specs.State.{MemoryState, Effect, effected}
-use Rattle.jc_memory.specs.Doing.{Doing, Then, Gives}
-use Rattle.jc_memory.specs.Cells.{header_at, sets_run}
+use Rattle.jc_memory.specs.State.{MemoryState, Effect, apply_effect}
+use Rattle.jc_memory.specs.Programs.{Program, Perform, Finish}
+use Rattle.jc_memory.specs.Cells.{header_at, cells_effect}
 
 -- the bytes that the buffer has room for
 abbrev pub buffer_length : ℕ
@@ -19,8 +20,8 @@ abbrev pub apdu_buffer : MemoryState → ℕ
 apdu_buffer m = slice_index m.fixed 16
 
 -- these bytes, and zeros behind them
-abbrev pub padded : List ℕ → List ℕ
-padded bytes = bytes ++ replicate (buffer_length - length bytes) 0
+abbrev pub padded_bytes : List ℕ → List ℕ
+padded_bytes bytes = bytes ++ replicate (buffer_length - length bytes) 0
 
 abbrev pub is_of_bytes : Kind → Bool
 is_of_bytes Instance = false
@@ -34,10 +35,10 @@ abbrev pub is_buffer : Facts → Bool
 is_buffer f = is_of_bytes f.kind && is_some f.event && nat_le buffer_length f.length
 
 -- the buffer is filled, as every image has it
-abbrev pub fills_in : MemoryState → Option Facts → List ℕ → Doing (Unit {0})
-fills_in m None bytes = Gives tt
-fills_in m (Some f) bytes = if is_buffer f then Then (sets_run m (apdu_buffer m) 0 bytes) (Gives tt) else Gives tt
+abbrev pub buffer_fill_in : MemoryState → Option Facts → List ℕ → Program (Unit {0})
+buffer_fill_in m None bytes = Finish tt
+buffer_fill_in m (Some f) bytes = if is_buffer f then Perform (cells_effect m (apdu_buffer m) 0 bytes) (Finish tt) else Finish tt
 
 -- the buffer holds these bytes and zeros behind them
-unfoldable pub filled : MemoryState → List ℕ → Doing (Unit {0})
-filled m bytes = fills_in m (header_at m (apdu_buffer m)) (padded bytes)
+unfoldable pub buffer_fill : MemoryState → List ℕ → Program (Unit {0})
+buffer_fill m bytes = buffer_fill_in m (header_at m (apdu_buffer m)) (padded_bytes bytes)

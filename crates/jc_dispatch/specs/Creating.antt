@@ -4,12 +4,12 @@ use Rattle.std.specs.List.{range_with_len}
 use Rattle.std.specs.Option.{option_map, option_and_then}
 use Rattle.jc_words.specs.Layout.{most_applets}
 use Rattle.jc_memory.specs.State.{MemoryState}
-use Rattle.jc_memory.specs.Doing.{Doing, Gives}
-use Rattle.jc_packages.specs.Lookups.{applet_entry, entry_with_aid}
-use Rattle.jc_packages.specs.Values.{Packages}
-use Rattle.jc_dispatch.specs.declared.ending.Ending.{Ending}
-use Rattle.jc_dispatch.specs.declared.ending.Ending.TheVariants.{Malformed, NoApplet, RegistryFull}
-use Rattle.jc_dispatch.specs.Installing.{installed}
+use Rattle.jc_memory.specs.Programs.{Program, Finish}
+use Rattle.jc_linker.specs.Lookups.{applet_entry, entry_with_aid}
+use Rattle.jc_linker.specs.Values.{Packages}
+use Rattle.jc_dispatch.specs.declared.applet_result.AppletResult.{AppletResult}
+use Rattle.jc_dispatch.specs.declared.applet_result.AppletResult.TheVariants.{Malformed, NoApplet, RegistryFull}
+use Rattle.jc_dispatch.specs.Installing.{applet_installation}
 
 -- a field behind its length, and what follows it
 abbrev pub field_of : List ℕ → Option (List ℕ × List ℕ)
@@ -40,11 +40,11 @@ abbrev pub are_parameters : List ℕ → Bool
 are_parameters bytes = nat_le (length bytes) 127 && instance_named bytes && ends_with_data bytes
 
 -- the AID of the applet in its package, and the parameters; none where the data are malformed
-abbrev pub if_well_formed : List ℕ × List ℕ → Option (List ℕ × List ℕ)
-if_well_formed c = if has_aid_length c.0 && are_parameters c.1 then Some c else None
+abbrev pub parameters_or_none : List ℕ × List ℕ → Option (List ℕ × List ℕ)
+parameters_or_none c = if has_aid_length c.0 && are_parameters c.1 then Some c else None
 
 unfoldable pub creation_of : List ℕ → Option (List ℕ × List ℕ)
-creation_of bytes = option_and_then if_well_formed (field_of bytes)
+creation_of bytes = option_and_then parameters_or_none (field_of bytes)
 
 -- the first package, of so many from a number on, with an applet of this AID
 abbrev pub first_with_entry : Packages → List ℕ → ℕ → ℕ → Option ℕ
@@ -55,20 +55,21 @@ unfoldable pub applet_named : Packages → List ℕ → Option (ℕ × ℕ)
 applet_named p aid = option_and_then (λ q. option_map (λ entry. (q, entry)) (entry_with_aid p q aid)) (first_with_entry p aid 1 (length p.loaded))
 
 -- its install runs
-abbrev pub installing : ℕ → Packages → ℕ × ℕ → Option ℕ → List ℕ → MemoryState → Doing Ending
-installing budget p e None parameters m = Gives NoApplet
-installing budget p e (Some offset) parameters m = installed budget p (record { 0 = e.0 }) e.1 offset parameters m
+abbrev pub creation_by_entry : ℕ → Packages → ℕ × ℕ → Option ℕ → List ℕ → MemoryState → Program AppletResult
+creation_by_entry budget p e None parameters m = Finish NoApplet
+creation_by_entry budget p e (Some offset) parameters m = applet_installation budget p (record { 0 = e.0 }) e.1 offset parameters m
 
 -- where the registry has a place for it
-abbrev pub created_by : ℕ → Packages → Option (ℕ × ℕ) → List ℕ → MemoryState → Doing Ending
-created_by budget p None parameters m = Gives NoApplet
-created_by budget p (Some e) parameters m =
-    if nat_lt m.heap.now.counts.1 most_applets then installing budget p e (option_map (λ a. a.install_offset) (applet_entry p e.0 e.1)) parameters m else Gives RegistryFull
+abbrev pub creation_in_registry : ℕ → Packages → Option (ℕ × ℕ) → List ℕ → MemoryState → Program AppletResult
+creation_in_registry budget p None parameters m = Finish NoApplet
+creation_in_registry budget p (Some e) parameters m =
+    if nat_lt m.heap.now.counts.1 most_applets then creation_by_entry budget p e (option_map (λ a. a.install_offset) (applet_entry p e.0 e.1)) parameters m else
+    Finish RegistryFull
 
-abbrev pub created_of : ℕ → Packages → Option (List ℕ × List ℕ) → MemoryState → Doing Ending
-created_of budget p None m = Gives Malformed
-created_of budget p (Some c) m = created_by budget p (applet_named p c.0) c.1 m
+abbrev pub creation_by_data : ℕ → Packages → Option (List ℕ × List ℕ) → MemoryState → Program AppletResult
+creation_by_data budget p None m = Finish Malformed
+creation_by_data budget p (Some c) m = creation_in_registry budget p (applet_named p c.0) c.1 m
 
 -- malformed data first, then an AID that no package has, then a registry without a place
-unfoldable pub created : ℕ → Packages → List ℕ → MemoryState → Doing Ending
-created budget p bytes m = created_of budget p (creation_of bytes) m
+unfoldable pub applet_creation : ℕ → Packages → List ℕ → MemoryState → Program AppletResult
+applet_creation budget p bytes m = creation_by_data budget p (creation_of bytes) m

@@ -13,14 +13,14 @@ use Rattle.jc_memory.specs.declared.registers.Installation.TheVariants.{Idle, Op
 use Rattle.jc_memory.specs.declared.registers.Owner.TheVariants.{Applet}
 use Rattle.jc_memory.specs.declared.registers.PackageNumber.{PackageNumber}
 use Rattle.jc_memory.specs.declared.registers.Registers.{Registers}
-use Rattle.jc_memory.specs.State.{MemoryState, Changes, Turns, Clears}
-use Rattle.jc_memory.specs.Doing.{Doing, Gives, bind}
-use Rattle.jc_packages.specs.Values.{Packages}
-use Rattle.jc_dispatch.specs.declared.ending.Ending.{Ending}
-use Rattle.jc_dispatch.specs.declared.ending.Ending.TheVariants.{Done, NotRegistered}
-use Rattle.jc_dispatch.specs.Buffer.{apdu_buffer, filled}
-use Rattle.jc_dispatch.specs.Endings.{ending_of}
-use Rattle.jc_dispatch.specs.Phases.{after, closed, run_for}
+use Rattle.jc_memory.specs.State.{MemoryState, HeapMove, SetRegisters, ClearTransient}
+use Rattle.jc_memory.specs.Programs.{Program, Finish, bind}
+use Rattle.jc_linker.specs.Values.{Packages}
+use Rattle.jc_dispatch.specs.declared.applet_result.AppletResult.{AppletResult}
+use Rattle.jc_dispatch.specs.declared.applet_result.AppletResult.TheVariants.{Done, NotRegistered}
+use Rattle.jc_dispatch.specs.Buffer.{apdu_buffer, buffer_fill}
+use Rattle.jc_dispatch.specs.AppletResults.{result_of_run}
+use Rattle.jc_dispatch.specs.Phases.{then_with, close, method_run}
 
 -- an applet of a package is being installed, by the entry of its Applet component with this number
 abbrev pub with_installation : Installation → Registers → Registers
@@ -32,20 +32,21 @@ next_applet m = record { 0 = m.heap.now.counts.1 + 1 }
 
 -- how an installation ended: it succeeded as the instance was registered, whatever came then; a return without that is
 -- a failure
-abbrev pub installed_by : Packages → MemoryState → Installation → Outcome → Ending
-installed_by p m (Registered q) end = Done
-installed_by p m (Open q entry) outcome.Return = NotRegistered
-installed_by p m (Open q entry) end = ending_of p m end
-installed_by p m Idle end = ending_of p m end
+abbrev pub installation_end : Packages → MemoryState → Installation → Outcome → AppletResult
+installation_end p m (Registered q) end = Done
+installation_end p m (Open q entry) outcome.Void = NotRegistered
+installation_end p m (Open q entry) end = result_of_run p m end
+installation_end p m Idle end = result_of_run p m end
 
 -- an applet is installed: in a transaction, with its parameters in the buffer from its first byte on, its install runs as
 -- the next applet. What is still open then ends, and what is cleared at a deselection is
-unfoldable pub installed : ℕ → Packages → PackageNumber → ℕ → ℕ → List ℕ → MemoryState → Doing Ending
-installed budget p q entry offset parameters m =
-    after (Changes Begin) m (λ v.
-    after (Turns (with_installation (Open q entry) v.registers)) v (λ w.
-    bind (filled w parameters) w (λ u x.
-    bind (run_for budget p q.0 offset (Reference (apdu_buffer x) ∷ Short (pos 0) ∷ Short (pos (length parameters)) ∷ []) (Applet (next_applet m)) x) x (λ end y.
-    bind (closed y) y (λ u z.
-    after (Clears Deselect) z (λ t.
-    after (Turns (with_installation Idle t.registers)) t (λ last. Gives (installed_by p y y.registers.installation end.1))))))))
+unfoldable pub applet_installation : ℕ → Packages → PackageNumber → ℕ → ℕ → List ℕ → MemoryState → Program AppletResult
+applet_installation budget p q entry offset parameters m =
+    then_with (HeapMove Begin) m (λ v.
+    then_with (SetRegisters (with_installation (Open q entry) v.registers)) v (λ w.
+    bind (buffer_fill w parameters) w (λ u x.
+    bind (method_run budget p q.0 offset (Reference (apdu_buffer x) ∷ Short (pos 0) ∷ Short (pos (length parameters)) ∷ []) (Applet (next_applet m)) x) x
+    (λ end y.
+    bind (close y) y (λ u z.
+    then_with (ClearTransient Deselect) z (λ t.
+    then_with (SetRegisters (with_installation Idle t.registers)) t (λ last. Finish (installation_end p y y.registers.installation end.1))))))))

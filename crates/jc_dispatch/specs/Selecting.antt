@@ -8,19 +8,19 @@ use Rattle.jc_memory.specs.declared.registers.AppletNumber.{AppletNumber}
 use Rattle.jc_memory.specs.declared.registers.Depth.TheVariants.{Outside}
 use Rattle.jc_memory.specs.declared.registers.Owner.TheVariants.{Applet}
 use Rattle.jc_memory.specs.declared.registers.Registers.{Registers}
-use Rattle.jc_memory.specs.State.{MemoryState, Turns, Clears}
-use Rattle.jc_memory.specs.Doing.{Doing, Gives, bind}
-use Rattle.jc_packages.specs.Values.{Packages}
+use Rattle.jc_memory.specs.State.{MemoryState, SetRegisters, ClearTransient}
+use Rattle.jc_memory.specs.Programs.{Program, Finish, bind}
+use Rattle.jc_linker.specs.Values.{Packages}
 use Rattle.jc_platform.specs.declared.names.PlatformMethod.TheVariants.{AppletSelect, AppletDeselect, AppletProcess}
-use Rattle.jc_dispatch.specs.declared.ending.Ending.{Ending}
-use Rattle.jc_dispatch.specs.declared.ending.Ending.TheVariants.{Done, NotSelected}
-use Rattle.jc_dispatch.specs.Buffer.{apdu_object, filled}
-use Rattle.jc_dispatch.specs.Endings.{ending_of, is_accepted}
-use Rattle.jc_dispatch.specs.Phases.{after, called, closed, instance_of}
+use Rattle.jc_dispatch.specs.declared.applet_result.AppletResult.{AppletResult}
+use Rattle.jc_dispatch.specs.declared.applet_result.AppletResult.TheVariants.{Done, NotSelected}
+use Rattle.jc_dispatch.specs.Buffer.{apdu_object, buffer_fill}
+use Rattle.jc_dispatch.specs.AppletResults.{result_of_run, is_select_accepted}
+use Rattle.jc_dispatch.specs.Phases.{then_with, applet_method_call, close, instance_of}
 
 -- the applet is selected, or none
 abbrev pub with_selected : Option AppletNumber → Registers → Registers
-with_selected selected g = record g { selected = selected }
+with_selected applet_selection g = record g { selected = applet_selection }
 
 -- a command that expects so many bytes comes to the selected applet; it may be the one that selected it
 abbrev pub with_command : ℕ → Bool → Registers → Registers
@@ -31,35 +31,38 @@ abbrev pub header_of : List ℕ → List ℕ
 header_of bytes = take 5 bytes
 
 -- the selected applet is left: its deselect runs, however it ends, and then what is cleared at a deselection is
-unfoldable pub left : ℕ → Packages → Option AppletNumber → MemoryState → Doing ℕ
-left budget p None m = after (Clears Deselect) m (λ v. Gives budget)
-left budget p (Some a) m =
-    bind (called budget p AppletDeselect (instance_of m a.0) (Reference (instance_of m a.0) ∷ []) (Applet a) m) m (λ end v.
-    bind (closed v) v (λ u w.
-    after (Clears Deselect) w (λ x. Gives end.0)))
+unfoldable pub deselection : ℕ → Packages → Option AppletNumber → MemoryState → Program ℕ
+deselection budget p None m = then_with (ClearTransient Deselect) m (λ v. Finish budget)
+deselection budget p (Some a) m =
+    bind (applet_method_call budget p AppletDeselect (instance_of m a.0) (Reference (instance_of m a.0) ∷ []) (Applet a) m) m (λ end v.
+    bind (close v) v (λ u w.
+    then_with (ClearTransient Deselect) w (λ x. Finish end.0)))
 
 -- an applet answers a command: the header lies in the buffer, process runs, and what it leaves open ends. Its status is
 -- read before
-unfoldable pub processed : ℕ → Packages → AppletNumber → Bool → ℕ → MemoryState → Doing Ending
-processed budget p a selecting expected m =
-    after (Turns (with_command expected selecting m.registers)) m (λ v.
-    bind (filled v (header_of v.command)) v (λ u w.
-    bind (called budget p AppletProcess (instance_of w a.0) (Reference (instance_of w a.0) ∷ Reference (apdu_object w) ∷ []) (Applet a) w) w (λ end x.
-    bind (closed x) x (λ u y. Gives (ending_of p x end.1)))))
+unfoldable pub process_command : ℕ → Packages → AppletNumber → Bool → ℕ → MemoryState → Program AppletResult
+process_command budget p a selecting expected m =
+    then_with (SetRegisters (with_command expected selecting m.registers)) m (λ v.
+    bind (buffer_fill v (header_of v.command)) v (λ u w.
+    bind (applet_method_call budget p AppletProcess (instance_of w a.0) (Reference (instance_of w a.0) ∷ Reference (apdu_object w) ∷ []) (Applet a) w) w
+    (λ end x.
+    bind (close x) x (λ u y. Finish (result_of_run p x end.1)))))
 
 -- an applet that was asked whether it may be selected answers the command that selected it, or is not selected
-abbrev pub accepted : Bool → ℕ → Packages → AppletNumber → ℕ → MemoryState → Doing Ending
-accepted true budget p a expected m = processed budget p a true expected m
-accepted false budget p a expected m = after (Turns (with_selected None m.registers)) m (λ v. Gives NotSelected)
+abbrev pub after_select : Bool → ℕ → Packages → AppletNumber → ℕ → MemoryState → Program AppletResult
+after_select true budget p a expected m = process_command budget p a true expected m
+after_select false budget p a expected m = then_with (SetRegisters (with_selected None m.registers)) m (λ v. Finish NotSelected)
 
--- an applet is selected: the one that was is left, its own select runs, and then it answers the command
-unfoldable pub selected : ℕ → Packages → AppletNumber → ℕ → MemoryState → Doing Ending
-selected budget p a expected m =
-    bind (left budget p m.registers.selected m) m (λ rest v.
-    after (Turns (with_selected (Some a) v.registers)) v (λ w.
-    bind (called rest p AppletSelect (instance_of w a.0) (Reference (instance_of w a.0) ∷ []) (Applet a) w) w (λ end x.
-    bind (closed x) x (λ u y. accepted (is_accepted end.1) end.0 p a expected y))))
+-- SELECT of an applet: the one that was selected is deselected, its own select runs, and then it answers the
+-- command
+unfoldable pub applet_selection : ℕ → Packages → AppletNumber → ℕ → MemoryState → Program AppletResult
+applet_selection budget p a expected m =
+    bind (deselection budget p m.registers.selected m) m (λ rest v.
+    then_with (SetRegisters (with_selected (Some a) v.registers)) v (λ w.
+    bind (applet_method_call rest p AppletSelect (instance_of w a.0) (Reference (instance_of w a.0) ∷ []) (Applet a) w) w (λ end x.
+    bind (close x) x (λ u y. after_select (is_select_accepted end.1) end.0 p a expected y))))
 
 -- the manager is selected: the applet that was is left, and none is
-unfoldable pub managed : ℕ → Packages → MemoryState → Doing Ending
-managed budget p m = bind (left budget p m.registers.selected m) m (λ rest v. after (Turns (with_selected None v.registers)) v (λ w. Gives Done))
+unfoldable pub manager_selection : ℕ → Packages → MemoryState → Program AppletResult
+manager_selection budget p m = bind (deselection budget p m.registers.selected m) m
+    (λ rest v. then_with (SetRegisters (with_selected None v.registers)) v (λ w. Finish Done))

@@ -1,7 +1,8 @@
 //! The APDU buffer as the runtime environment fills it.
 ghost use Rattle.std.specs.Prelude.{◌≡◌, ◌≤◌, false, length};
-ghost use Rattle.jc_memory.specs.Doing.{Made, Makes};
-ghost use Rattle.jc_dispatch.specs.Buffer.{apdu_buffer, apdu_object, filled, is_buffer};
+ghost use Rattle.jc_memory.specs.Programs.{Executes};
+ghost use Rattle.jc_heap.specs.Completions.{Completed};
+ghost use Rattle.jc_dispatch.specs.Buffer.{apdu_buffer, apdu_object, buffer_fill, is_buffer};
 
 use jc_heap::{Facts, Kind};
 use jc_memory::{MOST_COMMAND, Memory};
@@ -32,11 +33,11 @@ fn is_buffer(facts: Facts) -> bool
 }
 
 /// The buffer holds these bytes, at most 261, and zeros behind them.
-#[tactic(auto, unfolding(crate::specs::Buffer::filled))]
+#[tactic(auto, unfolding(crate::specs::Buffer::buffer_fill))]
 pub(crate) fn fill<S: WordStore>(bytes: &[u8], memory: &mut Memory<S>)
     requires up { memory.old.heap.down ≡ false }
     requires few { length bytes.now ≤ MOST_COMMAND }
-    ensures { Makes (filled memory.old bytes.now) memory.old (Made tt memory.new) }
+    ensures { Executes (buffer_fill memory.old bytes.now) memory.old (Completed tt memory.new) }
 {
     let buffer = apdu_buffer(memory);
     let Some(facts) = memory.header(buffer) else {

@@ -1,11 +1,13 @@
 //! "Create applet": which applet is to be installed, by which parameters.
 ghost use Rattle.std.specs.Prelude.{OnOk, ◌≡◌, ◌≤◌, ◌<◌, false, length, IfSome, Some};
 ghost use Rattle.std.specs.Option.{option_map};
-ghost use Rattle.jc_memory.specs.Doing.{Makes, after_step};
-ghost use Rattle.jc_dispatch.specs.Creating.{applet_named, are_parameters, created, creation_of, ends_with_data, field_of, first_with_entry, has_aid_length, instance_named, third_field};
-ghost use Rattle.jc_dispatch.specs.Seen.{both_seen, seen};
+ghost use Rattle.jc_memory.specs.Programs.{Executes};
+ghost use Rattle.jc_heap.specs.Completions.{after_step};
+ghost use Rattle.jc_dispatch.specs.Creating.{applet_named, are_parameters, applet_creation, creation_of, ends_with_data, field_of, first_with_entry};
+ghost use Rattle.jc_dispatch.specs.Creating.{has_aid_length, instance_named, third_field};
+ghost use Rattle.jc_dispatch.specs.Slices.{slice_pair_bytes, slice_bytes};
 
-use crate::ending::Ending;
+use crate::applet_result::AppletResult;
 use crate::install::install;
 use jc_linker::linked::Linked;
 use jc_memory::{Memory, PackageNumber};
@@ -17,7 +19,7 @@ const MOST_PARAMETERS: usize = 127;
 
 // A field behind its length, and what follows it.
 fn field_of(bytes: &[u8]) -> Option<(&[u8], &[u8])>
-    ensures { option_map both_seen result ≡ field_of bytes.entry.now }
+    ensures { option_map slice_pair_bytes result ≡ field_of bytes.entry.now }
 {
     let (count, rest) = bytes.split_first()?;
     let count = usize::from(*count);
@@ -45,7 +47,7 @@ fn instance_named(bytes: &[u8]) -> bool
 
 // What follows the third field.
 fn behind_data(bytes: &[u8]) -> Option<&[u8]>
-    ensures { option_map seen result ≡ option_map (λ d. d.1) (third_field bytes.entry.now) }
+    ensures { option_map slice_bytes result ≡ option_map (λ d. d.1) (third_field bytes.entry.now) }
 {
     let (_, rest) = field_of(bytes)?;
     let (_, rest) = field_of(rest)?;
@@ -71,7 +73,7 @@ fn are_parameters(bytes: &[u8]) -> bool
 // The AID of the applet in its package, and the parameters.
 #[tactic(auto, unfolding(crate::specs::Creating::creation_of))]
 fn creation_of(bytes: &[u8]) -> Option<(&[u8], &[u8])>
-    ensures parts { option_map both_seen result ≡ creation_of bytes.entry.now }
+    ensures parts { option_map slice_pair_bytes result ≡ creation_of bytes.entry.now }
     ensures short { IfSome result (λ parts. length parts.1.now ≤ 127) }
 {
     let (aid, parameters) = field_of(bytes)?;
@@ -105,29 +107,30 @@ fn applet_named(aid: &[u8], linked: &Linked) -> Option<(u8, u8)>
 
 /// Makes an applet of these data: the AID of the applet in its package; then the parameters: the
 /// instance's AID, the control information and the applet's data. Each stands behind its length.
-#[tactic(auto, unfolding(crate::specs::Creating::created))]
+#[tactic(auto, unfolding(crate::specs::Creating::applet_creation))]
 pub fn create<S: WordStore>(
     budget: u32,
     bytes: &[u8],
     memory: &mut Memory<S>,
     linked: &Linked,
-) -> Result<Ending, StoreDown>
+) -> Result<AppletResult, StoreDown>
     requires up { memory.old.heap.down ≡ false }
     requires outside { memory.old.heap.begun ≡ false }
-    ensures does { Makes (created budget linked.now bytes.now memory.old) memory.old (after_step result memory.new) }
+    ensures does { Executes (applet_creation budget linked.now bytes.now memory.old) memory.old
+        (after_step result memory.new) }
     ensures outside { OnOk result (memory.new.heap.begun ≡ false) }
 {
     let Some((aid, parameters)) = creation_of(bytes) else {
-        return Ok(Ending::Malformed);
+        return Ok(AppletResult::Malformed);
     };
     let Some((number, entry)) = applet_named(aid, linked) else {
-        return Ok(Ending::NoApplet);
+        return Ok(AppletResult::NoApplet);
     };
     if memory.heap().applets() >= MOST_APPLETS {
-        return Ok(Ending::RegistryFull);
+        return Ok(AppletResult::RegistryFull);
     }
     let Some(offset) = linked.install_at(number, entry) else {
-        return Ok(Ending::NoApplet);
+        return Ok(AppletResult::NoApplet);
     };
     let home = PackageNumber(number);
     install(budget, home, entry, offset, parameters, memory, linked)

@@ -1,12 +1,13 @@
 //! Installing an applet.
 ghost use Rattle.std.specs.Prelude.{OnOk, ◌≡◌, ◌≤◌, ◌<◌, false, length};
 ghost use Rattle.jc_words.specs.Layout.{most_applets};
-ghost use Rattle.jc_memory.specs.Doing.{Makes, after_step};
-ghost use Rattle.jc_dispatch.specs.Installing.{installed, installed_by, next_applet, with_installation};
+ghost use Rattle.jc_memory.specs.Programs.{Executes};
+ghost use Rattle.jc_heap.specs.Completions.{after_step};
+ghost use Rattle.jc_dispatch.specs.Installing.{applet_installation, installation_end, next_applet, with_installation};
 
+use crate::applet_result::{AppletResult, result_of_run};
 use crate::buffer::{apdu_buffer, fill};
 use crate::closing::close;
-use crate::ending::{Ending, ending_of};
 use crate::phase::run_for;
 use jc_frames::{Cell, Outcome};
 use jc_linker::linked::Linked;
@@ -47,23 +48,23 @@ fn installed_by<S: WordStore>(
     outcome: Outcome,
     memory: &Memory<S>,
     linked: &Linked,
-) -> Ending
+) -> AppletResult
     requires up { memory.now.heap.down ≡ false }
-    ensures { result ≡ installed_by linked.now memory.now installation outcome }
+    ensures { result ≡ installation_end linked.now memory.now installation outcome }
 {
     match installation {
-        Installation::Registered(_) => Ending::Done,
+        Installation::Registered(_) => AppletResult::Done,
         Installation::Open(_, _) => match outcome {
-            Outcome::Return => Ending::NotRegistered,
-            other => ending_of(other, memory, linked),
+            Outcome::Void => AppletResult::NotRegistered,
+            other => result_of_run(other, memory, linked),
         },
-        Installation::Idle => ending_of(outcome, memory, linked),
+        Installation::Idle => result_of_run(outcome, memory, linked),
     }
 }
 
 /// Installs an applet of a package, by the entry of its Applet component with this number and the
 /// place of its `install` method. The parameters lie in the buffer from its first byte on.
-#[tactic(auto, unfolding(crate::specs::Installing::installed), using(jc_memory::proofs::Doings::bind_did, jc_memory::proofs::Doings::left_before, jc_memory::proofs::Doings::left_after, jc_memory::proofs::Doings::refused_did, jc_memory::proofs::Doings::size_did, jc_memory::proofs::Doings::down_did))]
+#[tactic(auto, unfolding(crate::specs::Installing::applet_installation), using(jc_memory::proofs::ProgramLemmas::in_two_steps))]
 pub fn install<S: WordStore>(
     budget: u32,
     home: PackageNumber,
@@ -72,18 +73,19 @@ pub fn install<S: WordStore>(
     parameters: &[u8],
     memory: &mut Memory<S>,
     linked: &Linked,
-) -> Result<Ending, StoreDown>
+) -> Result<AppletResult, StoreDown>
     requires up { memory.old.heap.down ≡ false }
     requires outside { memory.old.heap.begun ≡ false }
     requires few { memory.old.heap.now.counts.1 < most_applets }
     requires short { length parameters.now ≤ 127 }
-    ensures does { Makes (installed budget linked.now home entry offset parameters.now memory.old) memory.old (after_step result memory.new) }
+    ensures does { Executes (applet_installation budget linked.now home entry offset parameters.now
+        memory.old) memory.old (after_step result memory.new) }
     ensures outside { OnOk result (memory.new.heap.begun ≡ false) }
 {
     let owner = Owner::Applet(next_applet(memory));
     memory.begin();
     let registers = memory.registers();
-    memory.turn(with_installation(Installation::Open(home, entry), registers));
+    memory.set_registers(with_installation(Installation::Open(home, entry), registers));
     fill(parameters, memory);
     let arguments = [
         Cell::Reference(apdu_buffer(memory)),
@@ -96,6 +98,6 @@ pub fn install<S: WordStore>(
     close(memory)?;
     memory.clear(ClearEvent::Deselect);
     let registers = memory.registers();
-    memory.turn(with_installation(Installation::Idle, registers));
+    memory.set_registers(with_installation(Installation::Idle, registers));
     Ok(ending)
 }

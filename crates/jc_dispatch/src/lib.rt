@@ -1,12 +1,12 @@
 //! The dispatcher: selecting and installing applets, and the commands that they answer.
 #![tactic(auto)]
 
+pub mod ad_hoc_code;
+pub mod applet_result;
 mod buffer;
 mod closing;
 pub mod create;
-pub mod ending;
 pub mod install;
-pub mod lent_code;
 mod phase;
 pub mod process;
 pub mod select;

@@ -1,23 +1,24 @@
 //! A method of an applet runs at the runtime environment's call.
 ghost use Rattle.std.specs.Prelude.{◌≡◌, false};
-ghost use Rattle.jc_memory.specs.Doing.{Makes, after_step};
-ghost use Rattle.jc_dispatch.specs.Phases.{called, default_of, instance_of, method_named, resting, run_for, running_for};
+ghost use Rattle.jc_memory.specs.Programs.{Executes};
+ghost use Rattle.jc_heap.specs.Completions.{after_step};
+ghost use Rattle.jc_dispatch.specs.Phases.{applet_method_call, default_of, instance_of, method_named, registers_idle, method_run, registers_for};
 
-use jc_cap_text::pool::VirtualToken;
+use jc_cap_linkage::pool::VirtualToken;
 use jc_frames::{Cell, Outcome};
 use jc_interp::begin;
-use jc_interp::run::run;
+use jc_interp::run::run_methods;
 use jc_linker::linked::Linked;
+use jc_linker::target::Method;
 use jc_memory::{AppletNumber, Memory, Owner, Registers};
-use jc_packages::target::Method;
 use jc_platform::names::PlatformMethod;
 use jc_registry::instance_of_applet;
 use jc_transient::Ref;
 use jc_words::{StoreDown, WordStore};
 
 // Code runs for an owner, at the runtime environment's call.
-fn running_for(owner: Owner, registers: Registers) -> Registers
-    ensures { result ≡ running_for owner registers }
+fn registers_for(owner: Owner, registers: Registers) -> Registers
+    ensures { result ≡ registers_for owner registers }
 {
     Registers {
         active: owner,
@@ -27,8 +28,8 @@ fn running_for(owner: Owner, registers: Registers) -> Registers
 }
 
 // No code runs.
-fn resting(registers: Registers) -> Registers
-    ensures { result ≡ resting registers }
+fn registers_idle(registers: Registers) -> Registers
+    ensures { result ≡ registers_idle registers }
 {
     Registers {
         active: Owner::Runtime,
@@ -39,7 +40,7 @@ fn resting(registers: Registers) -> Registers
 
 /// Runs a method for an owner. The answer is what is left of the command's instructions, and how the
 /// method ended.
-#[tactic(auto, unfolding(crate::specs::Phases::run_for), using(jc_memory::proofs::Doings::bind_did, jc_memory::proofs::Doings::left_before, jc_memory::proofs::Doings::left_after, jc_memory::proofs::Doings::refused_did, jc_memory::proofs::Doings::size_did, jc_memory::proofs::Doings::down_did))]
+#[tactic(auto, unfolding(crate::specs::Phases::method_run), using(jc_memory::proofs::ProgramLemmas::in_two_steps))]
 pub(crate) fn run_for<S: WordStore>(
     budget: u32,
     package_number: u8,
@@ -50,16 +51,17 @@ pub(crate) fn run_for<S: WordStore>(
     linked: &Linked,
 ) -> Result<(u32, Outcome), StoreDown>
     requires up { memory.old.heap.down ≡ false }
-    ensures { Makes (run_for budget linked.now package_number offset arguments.now owner memory.old) memory.old (after_step result memory.new) }
+    ensures { Executes (method_run budget linked.now package_number offset arguments.now owner
+        memory.old) memory.old (after_step result memory.new) }
 {
     let Some(mut frames) = begin(linked, package_number, offset, arguments, owner.number()) else {
         return Ok((budget, Outcome::Fault));
     };
     let registers = memory.registers();
-    memory.turn(running_for(owner, registers));
-    let end = run(budget, &mut frames, memory, linked)?;
+    memory.set_registers(registers_for(owner, registers));
+    let end = run_methods(budget, &mut frames, memory, linked)?;
     let registers = memory.registers();
-    memory.turn(resting(registers));
+    memory.set_registers(registers_idle(registers));
     Ok(end)
 }
 
@@ -96,14 +98,14 @@ fn default_of(name: PlatformMethod) -> Outcome
 {
     match name {
         PlatformMethod::AppletSelect => Outcome::Short(1),
-        PlatformMethod::AppletDeselect => Outcome::Return,
+        PlatformMethod::AppletDeselect => Outcome::Void,
         _ => Outcome::Fault,
     }
 }
 
 /// Calls a method of an applet by its name.
-#[tactic(auto, unfolding(crate::specs::Phases::called))]
-pub(crate) fn call<S: WordStore>(
+#[tactic(auto, unfolding(crate::specs::Phases::applet_method_call))]
+pub(crate) fn call_applet_method<S: WordStore>(
     budget: u32,
     name: PlatformMethod,
     applet: Ref,
@@ -113,7 +115,8 @@ pub(crate) fn call<S: WordStore>(
     linked: &Linked,
 ) -> Result<(u32, Outcome), StoreDown>
     requires up { memory.old.heap.down ≡ false }
-    ensures { Makes (called budget linked.now name applet arguments.now owner memory.old) memory.old (after_step result memory.new) }
+    ensures { Executes (applet_method_call budget linked.now name applet arguments.now owner
+        memory.old) memory.old (after_step result memory.new) }
 {
     match method_named(name, applet, memory, linked) {
         None => Ok((budget, Outcome::Fault)),

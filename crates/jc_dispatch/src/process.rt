@@ -1,12 +1,13 @@
 //! The commands that an applet answers.
 ghost use Rattle.std.specs.Prelude.{OnOk, ◌≡◌, ◌≤◌, false, length};
-ghost use Rattle.jc_memory.specs.Doing.{Makes, after_step};
-ghost use Rattle.jc_dispatch.specs.Selecting.{header_of, processed, with_command};
+ghost use Rattle.jc_memory.specs.Programs.{Executes};
+ghost use Rattle.jc_heap.specs.Completions.{after_step};
+ghost use Rattle.jc_dispatch.specs.Selecting.{header_of, process_command, with_command};
 
+use crate::applet_result::{AppletResult, result_of_run};
 use crate::buffer::{apdu_object, fill};
 use crate::closing::close;
-use crate::ending::{Ending, ending_of};
-use crate::phase::{call, instance_of};
+use crate::phase::{call_applet_method, instance_of};
 use arrayvec::ArrayVec;
 use jc_frames::Cell;
 use jc_linker::linked::Linked;
@@ -39,7 +40,7 @@ fn header_of(bytes: &[u8]) -> ArrayVec<u8, 5>
 
 /// An applet answers the command that was begun, which expects so many bytes. It may be the command
 /// that selected it.
-#[tactic(auto, unfolding(crate::specs::Selecting::processed), using(jc_memory::proofs::Doings::bind_did, jc_memory::proofs::Doings::left_before, jc_memory::proofs::Doings::left_after, jc_memory::proofs::Doings::refused_did, jc_memory::proofs::Doings::size_did, jc_memory::proofs::Doings::down_did))]
+#[tactic(auto, unfolding(crate::specs::Selecting::process_command), using(jc_memory::proofs::ProgramLemmas::in_two_steps))]
 pub fn process<S: WordStore>(
     budget: u32,
     applet: AppletNumber,
@@ -47,13 +48,14 @@ pub fn process<S: WordStore>(
     expected: u16,
     memory: &mut Memory<S>,
     linked: &Linked,
-) -> Result<Ending, StoreDown>
+) -> Result<AppletResult, StoreDown>
     requires up { memory.old.heap.down ≡ false }
-    ensures does { Makes (processed budget linked.now applet selecting expected memory.old) memory.old (after_step result memory.new) }
+    ensures does { Executes (process_command budget linked.now applet selecting expected memory.old)
+        memory.old (after_step result memory.new) }
     ensures outside { OnOk result (memory.new.heap.begun ≡ false) }
 {
     let registers = memory.registers();
-    memory.turn(with_command(expected, selecting, registers));
+    memory.set_registers(with_command(expected, selecting, registers));
     let header = header_of(memory.command());
     fill(&header, memory);
     let instance = instance_of(applet, memory);
@@ -63,8 +65,10 @@ pub fn process<S: WordStore>(
     ];
     let name = PlatformMethod::AppletProcess;
     let owner = Owner::Applet(applet);
-    let (_, outcome) = call(budget, name, instance, &arguments, owner, memory, linked)?;
-    let ending = ending_of(outcome, memory, linked);
+    let (_, outcome) = call_applet_method(
+        budget, name, instance, &arguments, owner, memory, linked,
+    )?;
+    let ending = result_of_run(outcome, memory, linked);
     close(memory)?;
     Ok(ending)
 }

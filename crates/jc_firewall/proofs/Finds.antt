@@ -26,7 +26,8 @@ all_allow a s [] found = tt
 all_allow a s (r ∷ more) found = all_allow_case a s r more (allows r a s) refl found (all_allow a s more)
 
 -- the first that refuses is found
-pub first_refuses : (a : Access) (s : Situation) (before : List Rule) (r : Rule) (after : List Rule) → allows r a s ≡ false → AllAllow a s before → refusal a s (before ++ r ∷ after) ≡ Some r
+pub first_refuses : (a : Access) (s : Situation) (before : List Rule) (r : Rule) (after : List Rule) → allows r a s ≡ false → AllAllow a s before
+    → refusal a s (before ++ r ∷ after) ≡ Some r
 first_refuses a s [] r after refuses all = rw refuses refl
 first_refuses a s (q ∷ before) r after refuses all = rw all.0 (first_refuses a s before r after refuses all.1)
 
@@ -34,7 +35,8 @@ first_refuses a s (q ∷ before) r after refuses all = rw all.0 (first_refuses a
 abbrev pub IsFirst : Access → Situation → List Rule → Rule → Type 0
 IsFirst a s among r = (before after : List Rule) × (among ≡ before ++ r ∷ after) × (allows r a s ≡ false) × AllAllow a s before
 
-is_first_case : (a : Access) (s : Situation) (q : Rule) (more : List Rule) (r : Rule) (v : Bool) → allows q a s ≡ v → cond (not v) (Some q) (refusal a s more) ≡ Some r
+is_first_case : (a : Access) (s : Situation) (q : Rule) (more : List Rule) (r : Rule) (v : Bool) → allows q a s ≡ v
+    → cond (not v) (Some q) (refusal a s more) ≡ Some r
     → (refusal a s more ≡ Some r → IsFirst a s more r) → IsFirst a s (q ∷ more) r
 is_first_case a s q more r true is found rest =
     let f : IsFirst a s more r = rest found in (q ∷ f.0, f.1, ap (λ rs. q ∷ rs) f.2, f.3, (is, f.4))

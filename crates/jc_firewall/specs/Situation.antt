@@ -53,5 +53,5 @@ abbrev pub is_environment : Situation → Bool
 is_environment s = same_context s.active Jcre
 
 -- no array that is cleared at a deselection, or the active context is the selected applet's
-abbrev pub has_time : Situation → Bool
-has_time s = not s.object.is_clear_on_deselect || same_context s.selected s.active
+abbrev pub is_live_transient : Situation → Bool
+is_live_transient s = not s.object.is_clear_on_deselect || same_context s.selected s.active

@@ -1,17 +1,21 @@
 -- The firewall's table (runtime environment specification, access to objects).
 use Rattle.std.specs.Prelude.{ℕ, Bool, true, false, not, ◌||◌, ◌≡◌, ◌⊎◌, if◌then◌else◌, List, [], ◌∷◌, ◌++◌, Option, None, Some, find}
 use Rattle.jc_firewall.specs.declared.access.Access.{Access}
-use Rattle.jc_firewall.specs.declared.access.Access.TheVariants.{StaticField, ArrayElement, InstanceField, VirtualCall, StandardInterfaceCall, ShareableInterfaceCall, Throw, CastToClass, CastToStandardInterface, CastToShareableInterface, StoreReference}
+use Rattle.jc_firewall.specs.declared.access.Access.TheVariants.{StaticField, ArrayElement, InstanceField, VirtualCall, StandardInterfaceCall}
+use Rattle.jc_firewall.specs.declared.access.Access.TheVariants.{ShareableInterfaceCall, Throw, CastToClass, CastToStandardInterface, CastToShareableInterface}
+use Rattle.jc_firewall.specs.declared.access.Access.TheVariants.{StoreReference}
 use Rattle.jc_firewall.specs.declared.access.Rule.{Rule}
-use Rattle.jc_firewall.specs.declared.access.Rule.TheVariants.{StaticFields, Arrays, InstanceFields, VirtualCalls, StandardInterfaceCalls, ShareableInterfaceCalls, Throws, Casts, StoredReferences, ClearOnDeselectArrays}
+use Rattle.jc_firewall.specs.declared.access.Rule.TheVariants.{StaticFields, Arrays, InstanceFields, VirtualCalls, StandardInterfaceCalls}
+use Rattle.jc_firewall.specs.declared.access.Rule.TheVariants.{ShareableInterfaceCalls, Throws, Casts, StoredReferences, ClearOnDeselectArrays}
 use Rattle.jc_firewall.specs.declared.decide.Decision.{Decision}
 use Rattle.jc_firewall.specs.declared.decide.Decision.TheVariants.{Allow, Switch, Deny}
 use Rattle.jc_firewall.specs.declared.subject.Situation.{Situation}
-use Rattle.jc_firewall.specs.Situation.{has_time, is_entry_point, is_environment, is_global_array, is_own, may_be_stored}
+use Rattle.jc_firewall.specs.Situation.{is_live_transient, is_entry_point, is_environment, is_global_array, is_own, may_be_stored}
 
 -- the rules, in the order in which they are asked
 abbrev pub rules : List Rule
-rules = StaticFields ∷ Arrays ∷ InstanceFields ∷ VirtualCalls ∷ StandardInterfaceCalls ∷ ShareableInterfaceCalls ∷ Throws ∷ Casts ∷ ClearOnDeselectArrays ∷ StoredReferences ∷ []
+rules = StaticFields ∷ Arrays ∷ InstanceFields ∷ VirtualCalls ∷ StandardInterfaceCalls ∷ ShareableInterfaceCalls ∷ Throws ∷ Casts ∷ ClearOnDeselectArrays
+    ∷ StoredReferences ∷ []
 
 -- a rule allows an access in a situation; each speaks of its own accesses, and lets all others by
 abbrev pub allows : Rule → Access → Situation → Bool
@@ -48,7 +52,7 @@ allows StoredReferences a s = true
 -- may be stored by any
 allows ClearOnDeselectArrays StaticField s = true
 allows ClearOnDeselectArrays StoreReference s = true
-allows ClearOnDeselectArrays a s = has_time s
+allows ClearOnDeselectArrays a s = is_live_transient s
 
 -- a call on an object of another context runs in that context
 abbrev pub switches : Access → Situation → Bool
@@ -61,13 +65,13 @@ abbrev pub first_refusal : Access → Situation → Option Rule
 first_refusal a s = find (λ rule. not (allows rule a s)) rules
 
 -- the answer where this is the first rule that refuses
-abbrev pub judged : Access → Situation → Option Rule → Decision
-judged a s None = if switches a s then Switch s.object.owner else Allow
-judged a s (Some rule) = Deny rule
+abbrev pub judgement : Access → Situation → Option Rule → Decision
+judgement a s None = if switches a s then Switch s.object.owner else Allow
+judgement a s (Some rule) = Deny rule
 
 -- the answer: all is allowed to the runtime environment, and to others what no rule refuses
 abbrev pub decision : Access → Situation → Decision
-decision a s = if is_environment s then Allow else judged a s (first_refusal a s)
+decision a s = if is_environment s then Allow else judgement a s (first_refusal a s)
 
 -- ---- the table as a set of accesses, situations and answers
 

@@ -1,6 +1,6 @@
 //! The access decision.
 ghost use Rattle.std.specs.Prelude.{◌≡◌, if◌then◌else◌};
-ghost use Rattle.jc_firewall.specs.Situation.{has_time};
+ghost use Rattle.jc_firewall.specs.Situation.{is_live_transient};
 ghost use Rattle.jc_firewall.specs.Table.{decision, first_refusal, switches};
 
 use crate::access::{Access, Rule};
@@ -21,7 +21,11 @@ pub enum Decision {
 /// the selected applet. During an installation the applet that is installed counts as selected.
 #[inline]
 pub const fn decide(access: Access, active: Context, selected: Context, object: Subject) -> Decision
-    ensures { result ≡ decision access (record { active = active; selected = selected; object = object }) }
+    ensures { result ≡ decision access (record {
+      active = active;
+      selected = selected;
+      object = object;
+    }) }
 {
     if active.is(Context::Jcre) {
         return Decision::Allow;
@@ -31,7 +35,7 @@ pub const fn decide(access: Access, active: Context, selected: Context, object: 
         selected,
         object,
     };
-    match refused(access, situation) {
+    match first_refusal(access, situation) {
         Some(rule) => Decision::Deny(rule),
         None if is_switch(access, situation) => Decision::Switch(object.owner),
         None => Decision::Allow,
@@ -39,7 +43,7 @@ pub const fn decide(access: Access, active: Context, selected: Context, object: 
 }
 
 // The first rule that refuses the access.
-const fn refused(access: Access, s: Situation) -> Option<Rule>
+const fn first_refusal(access: Access, s: Situation) -> Option<Rule>
     ensures { result ≡ first_refusal access s }
 {
     let own = s.is_own();
@@ -68,11 +72,12 @@ const fn refused(access: Access, s: Situation) -> Option<Rule>
 
 // This rule, where it does not allow the access, and else the one on arrays that are cleared at a deselection.
 const fn object_rule(allowed: bool, rule: Rule, s: Situation) -> Option<Rule>
-    ensures { result ≡ (if allowed then (if has_time s then None else Some Rule.ClearOnDeselectArrays) else Some rule) }
+    ensures { result ≡ (if allowed then (if is_live_transient s then None else Some
+        Rule.ClearOnDeselectArrays) else Some rule) }
 {
     if !allowed {
         Some(rule)
-    } else if s.has_time() {
+    } else if s.is_live_transient() {
         None
     } else {
         Some(Rule::ClearOnDeselectArrays)

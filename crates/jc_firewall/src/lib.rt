@@ -3,5 +3,5 @@
 
 pub mod access;
 pub mod decide;
-pub mod law;
+pub mod firewall_laws;
 pub mod subject;

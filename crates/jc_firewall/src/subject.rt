@@ -1,6 +1,6 @@
 //! Contexts, and what the firewall has to know of an object.
 ghost use Rattle.std.specs.Prelude.{◌≡◌};
-ghost use Rattle.jc_firewall.specs.Situation.{has_time, is_entry_point, is_global_array, is_own, may_be_stored, same_context};
+ghost use Rattle.jc_firewall.specs.Situation.{is_live_transient, is_entry_point, is_global_array, is_own, may_be_stored, same_context};
 
 /// A context (runtime environment specification, contexts and context switching).
 #[derive(Clone, Copy, PartialEq, Eq, Debug)]
@@ -13,7 +13,7 @@ pub enum Context {
 }
 
 impl Context {
-    /// The two are one.
+    /// Whether the two are one context.
     pub const fn is(self, other: Context) -> bool
         ensures { result ≡ same_context self other }
     {
@@ -110,8 +110,8 @@ impl Situation {
 
     /// The object is not an array that is cleared as its applet is deselected, or an applet of the active context
     /// is selected.
-    pub(crate) const fn has_time(self) -> bool
-        ensures { result ≡ has_time self }
+    pub(crate) const fn is_live_transient(self) -> bool
+        ensures { result ≡ is_live_transient self }
     {
         !self.object.is_clear_on_deselect || self.selected.is(self.active)
     }

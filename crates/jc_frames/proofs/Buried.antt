@@ -5,11 +5,11 @@ use Rattle.std.specs.List.{refill}
 use Rattle.std.proofs.lemmas.List.{take-map, drop-map, map-append, reverse-append, length-map}
 use Rattle.jc_frames.specs.declared.cell.Cell.{Cell}
 use Rattle.jc_frames.specs.declared.frames.Region.{Region}
-use Rattle.jc_frames.specs.declared.frames.Saved.{Saved}
+use Rattle.jc_frames.specs.declared.frames.SavedFrame.{SavedFrame}
 use Rattle.jc_frames.specs.Cells.{without_dead}
 use Rattle.jc_frames.specs.Frames.{Frame, Caller, Frames}
-use Rattle.jc_frames.specs.Calls.{frame_without_dead, caller_without_dead, buried}
-use Rattle.jc_frames.specs.Layout.{framed, frame_in, caller_of, callers_in, frames_of}
+use Rattle.jc_frames.specs.Calls.{frame_without_dead, caller_without_dead, frames_without_dead}
+use Rattle.jc_frames.specs.Layout.{frame_of_region, frame_in, caller_of, callers_in, frames_of}
 use Rattle.jc_frames.proofs.Stores.{refill_same}
 
 reverse-map : (f : Cell → Cell) (xs : List Cell) → reverse (map f xs) ≡ map f (reverse xs)
@@ -21,10 +21,10 @@ reverse-map f (x ∷ xs) =
 frame_is : (top : ℕ) (xs : List Cell) (r : Region) → frame_in (map (without_dead top) xs) r ≡ frame_without_dead top (frame_in xs r)
 frame_is top xs r =
     let f = without_dead top in
-    ap (λ l. framed l (reverse (drop r.bottom (map f xs))) r) (ap (drop r.base) (take-map f r.bottom xs) ∙ drop-map f r.base (take r.bottom xs))
-    ∙ ap (λ l. framed (map f (drop r.base (take r.bottom xs))) l r) (ap reverse (drop-map f r.bottom xs) ∙ reverse-map f (drop r.bottom xs))
+    ap (λ l. frame_of_region l (reverse (drop r.bottom (map f xs))) r) (ap (drop r.base) (take-map f r.bottom xs) ∙ drop-map f r.base (take r.bottom xs))
+    ∙ ap (λ l. frame_of_region (map f (drop r.base (take r.bottom xs))) l r) (ap reverse (drop-map f r.bottom xs) ∙ reverse-map f (drop r.bottom xs))
 
-callers_are : (top : ℕ) (sv : List Saved) (xs : List Cell) → callers_in (map (without_dead top) xs) sv ≡ map (caller_without_dead top) (callers_in xs sv)
+callers_are : (top : ℕ) (sv : List SavedFrame) (xs : List Cell) → callers_in (map (without_dead top) xs) sv ≡ map (caller_without_dead top) (callers_in xs sv)
 callers_are top [] xs = refl
 callers_are top (s ∷ rest) xs =
     ap (λ f. caller_of f s.resume ∷ callers_in (take s.region.base (map (without_dead top) xs)) rest) (frame_is top xs s.region)
@@ -38,14 +38,17 @@ frames_with current callers = record { current = current; callers = callers }
 two : {A B C : Type 0} (f : A → B → C) (a x : A) (b y : B) → a ≡ x → b ≡ y → f a b ≡ f x y
 two f a x b y e g = rw (e, g) refl
 
-frames_are : (top : ℕ) (xs : List Cell) (r : Region) (sv : List Saved) → frames_of (map (without_dead top) xs) r sv ≡ buried top (frames_of xs r sv)
+frames_are : (top : ℕ) (xs : List Cell) (r : Region) (sv : List SavedFrame) → frames_of (map (without_dead top) xs) r sv
+    ≡ frames_without_dead top (frames_of xs r sv)
 frames_are top xs r sv =
     let f = without_dead top in
-    two (λ current callers. frames_with current callers) (frame_in (map f xs) r) (frame_without_dead top (frame_in xs r)) (callers_in (take r.base (map f xs)) sv) (map (caller_without_dead top) (callers_in (take r.base xs) sv))
+    two (λ current callers. frames_with current callers) (frame_in (map f xs) r) (frame_without_dead top (frame_in xs r))
+    (callers_in (take r.base (map f xs)) sv) (map (caller_without_dead top) (callers_in (take r.base xs) sv))
     (frame_is top xs r) (ap (λ l. callers_in l sv) (take-map f r.base xs) ∙ callers_are top sv (take r.base xs))
 
-pub bury_through : (top : ℕ) (xs ys : List Cell) (r : Region) (sv : List Saved) (s : Frames) → ys ≡ map (without_dead top) xs → frames_of xs r sv ≡ s →
-    frames_of (refill (length xs) xs ys) r sv ≡ buried top s
+pub bury_through : (top : ℕ) (xs ys : List Cell) (r : Region) (sv : List SavedFrame) (s : Frames) → ys ≡ map (without_dead top) xs → frames_of xs r sv ≡ s →
+    frames_of (refill (length xs) xs ys) r sv ≡ frames_without_dead top s
 bury_through top xs ys r sv s e is =
-    let whole : refill (length xs) xs (map (without_dead top) xs) ≡ map (without_dead top) xs = refill_same (length xs) xs (map (without_dead top) xs) (sym (length-map xs (without_dead top))) in
+    let whole : refill (length xs) xs (map (without_dead top) xs) ≡ map (without_dead top) xs =
+    refill_same (length xs) xs (map (without_dead top) xs) (sym (length-map xs (without_dead top))) in
     rw (e, whole, ← is) (frames_are top xs r sv)

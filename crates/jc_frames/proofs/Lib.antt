@@ -3,3 +3,4 @@ pub mod Orders
 pub mod Entered
 pub mod Buried
 pub mod Arguments
+pub mod Pairs

@@ -1,10 +1,11 @@
 -- Copies of the top of the stack.
-use Rattle.std.proofs.Common.{◌≡◌, ℕ, ◌+◌, ◌-◌, ◌≤◌, List, [], ◌++◌, length, take, drop, refl, sym, ◌∙◌, ap, arith, Bool, true, ◌⊎◌, inl, inr, ⊎_elim, length-append, append_assoc}
+use Rattle.std.proofs.Common.{◌≡◌, ℕ, ◌+◌, ◌-◌, ◌≤◌, List, [], ◌++◌, length, take, drop, refl, sym, ◌∙◌, ap, arith, Bool, true, ◌⊎◌, inl, inr, ⊎_elim}
+use Rattle.std.proofs.Common.{length-append, append_assoc}
 use Rattle.std.specs.Prelude.{nat_le, if◌then◌else◌, ◌&&◌, IsTrue}
 use Rattle.std.proofs.lemmas.Grind.{common_steps}
 use Rattle.std.proofs.lemmas.Bool.Decides.{nat_tests}
 use Rattle.jc_opcodes.specs.Table.{can_duplicate_below}
-use Rattle.jc_frames.specs.Frames.{Frame, Frames, Goes, Ends, in_frame, with_stack, copied}
+use Rattle.jc_frames.specs.Frames.{Frame, Frames, GoesOn, Ends, in_frame, with_stack, copy_below}
 use Rattle.jc_frames.specs.declared.outcome.Outcome.TheVariants.{Fault}
 use Rattle.jc_frames.specs.declared.cell.Cell.{Cell}
 
@@ -35,18 +36,27 @@ whole top mid rest m n t d (inl z) =
 whole top mid rest m n t d (inr h) =
     let both : length (top ++ mid) ≡ n = omega (arith, length-append top mid) in
     let e : top ++ (mid ++ rest) ≡ (top ++ mid) ++ rest = grind (arith, common_steps) in
-    rw (take_front top (mid ++ rest) m t, e, take_front (top ++ mid) rest n both, drop_front (top ++ mid) rest n both) (sym (append_assoc top mid (top ++ rest)))
+    rw (take_front top (mid ++ rest) m t, e, take_front (top ++ mid) rest n both, drop_front (top ++ mid) rest n both)
+    (sym (append_assoc top mid (top ++ rest)))
 
 -- the top cells, then those down to the depth, then the top cells again over the rest: that is the copy
 copied_is : (m n : ℕ) (s f : Frame) (top mid rest : List Cell) → f ≡ record s { stack = top ++ (mid ++ (top ++ rest)) } → top ++ (mid ++ rest) ≡ s.stack →
-    length top ≡ m → length mid ≡ n - m → (n ≡ 0) ⊎ ((m ≤ n) × (n ≤ m + 4)) → length s.stack + m ≤ s.limit → Goes f ≡ copied m n s
+    length top ≡ m → length mid ≡ n - m → (n ≡ 0) ⊎ ((m ≤ n) × (n ≤ m + 4)) → length s.stack + m ≤ s.limit → GoesOn f ≡ copy_below m n s
 copied_is m n s f top mid rest e parts t d b room =
-    let long : length s.stack ≡ length top + (length mid + length rest) = omega (arith, ap length (sym parts), length-append top (mid ++ rest), length-append mid rest) in
+    let long : length s.stack ≡ length top + (length mid + length rest) = omega (
+      arith,
+      ap length (sym parts),
+      length-append top (mid ++ rest),
+      length-append mid rest,
+    ) in
     let deep : n ≤ length s.stack = ⊎_elim (λ z. omega arith) (λ h. omega arith) b in
-    rw e (then_is _ (Goes (record s { stack = top ++ (mid ++ (top ++ rest)) })) (Ends Fault) (fits_test m n (length s.stack) s.limit (omega arith) deep room)
-    ∙ ap (λ l. if (nat_le m (length s.stack) && nat_le n (length s.stack) && nat_le (length s.stack + m) s.limit) then Goes (record s { stack = l }) else Ends Fault) (rw (← parts) (whole top mid rest m n t d b)))
+    rw e (then_is _ (GoesOn (record s { stack = top ++ (mid ++ (top ++ rest)) })) (Ends Fault) (fits_test m n (length s.stack) s.limit (omega arith) deep room)
+    ∙ ap (λ l. if (nat_le m (length s.stack) && nat_le n (length s.stack) && nat_le (length s.stack + m) s.limit) then GoesOn
+    (record s { stack = l }) else Ends Fault) (rw (← parts) (whole top mid rest m n t d b)))
 
-pub copied_in : (m n : ℕ) (s f : Frames) (top mid rest : List Cell) → f ≡ with_stack s (top ++ (mid ++ (top ++ rest))) → top ++ (mid ++ rest) ≡ s.current.stack →
-    length top ≡ m → length mid ≡ n - m → (n ≡ 0) ⊎ ((m ≤ n) × (n ≤ m + 4)) → length s.current.stack + m ≤ s.current.limit → Goes f ≡ in_frame s (copied m n s.current)
+pub copied_in : (m n : ℕ) (s f : Frames) (top mid rest : List Cell) → f ≡ with_stack s (top ++ (mid ++ (top ++ rest))) → top ++ (mid ++ rest) ≡ s.current.stack
+    →
+    length top ≡ m → length mid ≡ n - m → (n ≡ 0) ⊎ ((m ≤ n) × (n ≤ m + 4)) → length s.current.stack + m ≤ s.current.limit
+    → GoesOn f ≡ in_frame s (copy_below m n s.current)
 copied_in m n s f top mid rest e parts t d b room =
     rw e (ap (in_frame s) (copied_is m n s.current (record s.current { stack = top ++ (mid ++ (top ++ rest)) }) top mid rest refl parts t d b room))

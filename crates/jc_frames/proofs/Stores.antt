@@ -1,5 +1,6 @@
 -- A write to a local.
-use Rattle.std.proofs.Common.{◌≡◌, ℕ, ◌+◌, ◌<◌, ◌≤◌, List, [], ◌∷◌, ◌++◌, length, take, drop, refl, sym, ap, arith, set, true, length-set, length-take, length-drop}
+use Rattle.std.proofs.Common.{◌≡◌, ℕ, ◌+◌, ◌<◌, ◌≤◌, List, [], ◌∷◌, ◌++◌, length, take, drop, refl, sym, ap, arith, set, true, length-set, length-take}
+use Rattle.std.proofs.Common.{length-drop}
 use Rattle.std.specs.Prelude.{nat_lt}
 use Rattle.std.specs.List.{refill}
 use Rattle.std.proofs.Math.Seq.{take-set-lt}
@@ -7,8 +8,8 @@ use Rattle.std.proofs.lemmas.List.{drop-set-lt, drop-set-add, take-set-le}
 use Rattle.std.proofs.lemmas.Bool.Decides.{nat_tests}
 use Rattle.jc_frames.specs.declared.cell.Cell.{Cell}
 use Rattle.jc_frames.specs.declared.frames.Region.{Region}
-use Rattle.jc_frames.specs.declared.frames.Saved.{Saved}
-use Rattle.jc_frames.specs.Frames.{Frames, Goes, in_frame, stored}
+use Rattle.jc_frames.specs.declared.frames.SavedFrame.{SavedFrame}
+use Rattle.jc_frames.specs.Frames.{Frames, GoesOn, in_frame, store_local}
 use Rattle.jc_frames.specs.Layout.{frame_in, frames_of}
 
 take_whole : (xs ys : List Cell) → take (length xs) (xs ++ ys) ≡ xs
@@ -21,15 +22,23 @@ refill_same n xs ws e = rw e (take_whole ws _)
 is_below : (n k : ℕ) → n < k → nat_lt n k ≡ true
 is_below n k h = grind (arith, nat_tests)
 
-store_is : (xs : List Cell) (r : Region) (sv : List Saved) (n : ℕ) (c : Cell) → r.base + n < r.bottom → r.bottom ≤ length xs →
-    Goes (frames_of (set xs (r.base + n) c) r sv) ≡ in_frame (frames_of xs r sv) (stored n c (frame_in xs r))
+store_is : (xs : List Cell) (r : Region) (sv : List SavedFrame) (n : ℕ) (c : Cell) → r.base + n < r.bottom → r.bottom ≤ length xs →
+    GoesOn (frames_of (set xs (r.base + n) c) r sv) ≡ in_frame (frames_of xs r sv) (store_local n c (frame_in xs r))
 store_is xs r sv n c h fits =
     let low : r.base ≤ r.base + n = omega arith in
     let below : n < length (drop r.base (take r.bottom xs)) = omega (arith, length-drop r.base (take r.bottom xs), length-take r.bottom xs) in
-    rw (is_below n (length (drop r.base (take r.bottom xs))) below, take-set-lt r.bottom xs (r.base + n) c h, drop-set-add r.base (take r.bottom xs) n c, drop-set-lt r.bottom xs (r.base + n) c h, take-set-le r.base xs (r.base + n) c low) refl
+    rw (
+      is_below n (length (drop r.base (take r.bottom xs))) below,
+      take-set-lt r.bottom xs (r.base + n) c h,
+      drop-set-add r.base (take r.bottom xs) n c,
+      drop-set-lt r.bottom xs (r.base + n) c h,
+      take-set-le r.base xs (r.base + n) c low,
+    ) refl
 
-pub store_through : (xs ys : List Cell) (r : Region) (sv : List Saved) (n m : ℕ) (c : Cell) (s : Frames) → ys ≡ xs → m ≡ n → frames_of xs r sv ≡ s → r.base + m < r.bottom → r.bottom ≤ length xs →
-    Goes (frames_of (refill (length xs) xs (set ys (r.base + m) c)) r sv) ≡ in_frame s (stored n c s.current)
+pub store_through : (xs ys : List Cell) (r : Region) (sv : List SavedFrame) (n m : ℕ) (c : Cell) (s : Frames) → ys ≡ xs → m ≡ n → frames_of xs r sv ≡ s
+    → r.base + m < r.bottom → r.bottom ≤ length xs →
+    GoesOn (frames_of (refill (length xs) xs (set ys (r.base + m) c)) r sv) ≡ in_frame s (store_local n c s.current)
 store_through xs ys r sv n m c s same number e h fits =
-    let whole : refill (length xs) xs (set xs (r.base + m) c) ≡ set xs (r.base + m) c = refill_same (length xs) xs (set xs (r.base + m) c) (sym (length-set xs (r.base + m) c)) in
+    let whole : refill (length xs) xs (set xs (r.base + m) c) ≡ set xs (r.base + m) c =
+    refill_same (length xs) xs (set xs (r.base + m) c) (sym (length-set xs (r.base + m) c)) in
     rw (same, whole, ← number, ← e) (store_is xs r sv m c h fits)

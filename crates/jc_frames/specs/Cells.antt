@@ -64,15 +64,15 @@ two_references_on cells = option_and_then (λ a. option_map (λ b. (b.0, a.0, b.
 -- ---- what a call took
 
 -- what a call found; none at a fault
-abbrev pub found : {T : Type 0} → Result T CodeFault → Option T
-found (Ok x) = Some x
-found (Err e) = None
+abbrev pub result_or_none : {T : Type 0} → Result T CodeFault → Option T
+result_or_none (Ok x) = Some x
+result_or_none (Err e) = None
 
 -- what was taken from the stack, and what is left there; none at a fault
-abbrev pub taken : {T : Type 0} → Result T CodeFault → List Cell → Option (T × List Cell)
-taken (Ok x) rest = Some (x, rest)
-taken (Err e) rest = None
+abbrev pub popped : {T : Type 0} → Result T CodeFault → List Cell → Option (T × List Cell)
+popped (Ok x) rest = Some (x, rest)
+popped (Err e) rest = None
 
-abbrev pub taken_two : {T U : Type 0} → Result (T × U) CodeFault → List Cell → Option (T × U × List Cell)
-taken_two (Ok p) rest = Some (p.0, p.1, rest)
-taken_two (Err e) rest = None
+abbrev pub popped_two : {T U : Type 0} → Result (T × U) CodeFault → List Cell → Option (T × U × List Cell)
+popped_two (Ok p) rest = Some (p.0, p.1, rest)
+popped_two (Err e) rest = None

@@ -1,15 +1,16 @@
 -- Frames: the locals and the operand stack of a method (virtual machine specification, frames), and the
 -- frames of its callers.
-use Rattle.std.specs.Prelude.{◌+◌, ◌&&◌, Bool, nat_lt, nat_le, if◌then◌else◌, length, slice_set, take, drop, ℕ, List, [], ◌∷◌, ◌++◌, Option, Some, None, Result, Ok, Err}
+use Rattle.std.specs.Prelude.{◌+◌, ◌&&◌, Bool, nat_lt, nat_le, if◌then◌else◌, length, slice_set, take, drop, ℕ, List, [], ◌∷◌, ◌++◌, Option, Some, None, Result}
+use Rattle.std.specs.Prelude.{Ok, Err}
 use Rattle.jc_frames.specs.declared.cell.Cell.{Cell}
 use Rattle.jc_frames.specs.declared.method.Origin.{Origin}
-use Rattle.jc_frames.specs.declared.method.Resume.{Resume}
+use Rattle.jc_frames.specs.declared.method.ReturnPoint.{ReturnPoint}
 use Rattle.jc_frames.specs.declared.outcome.CodeFault.{CodeFault}
 use Rattle.jc_frames.specs.declared.outcome.Exception.{Exception}
 use Rattle.jc_frames.specs.declared.outcome.Outcome.{Outcome}
 use Rattle.jc_frames.specs.declared.outcome.Outcome.TheVariants.{Fault}
-use Rattle.jc_frames.specs.declared.outcome.Stop.{Stop}
-use Rattle.jc_frames.specs.declared.outcome.Stop.TheVariants.{Throw, End}
+use Rattle.jc_frames.specs.declared.outcome.FrameExit.{FrameExit}
+use Rattle.jc_frames.specs.declared.outcome.FrameExit.TheVariants.{Throw, End}
 
 -- the locals; the stack with its top first, which holds at most so many cells; the place of the next
 -- instruction; and the method
@@ -23,7 +24,7 @@ pub record Frame : Type 0 where
 -- a frame that waits for a call, and what its return comes back to
 pub record Caller : Type 0 where
   pub frame : Frame
-  pub resume : Resume
+  pub resume : ReturnPoint
 
 -- the frame that runs, and its callers, the nearest first
 pub record Frames : Type 0 where
@@ -32,7 +33,7 @@ pub record Frames : Type 0 where
 
 -- what follows: a state to go on from, an exception that is thrown there, or the end
 pub data Next (S : Type 0) : Type 0 where
-  Goes : S → Next S
+  GoesOn : S → Next S
   Throws : Exception → S → Next S
   Ends : Outcome → Next S
 
@@ -44,38 +45,38 @@ if_some None go = Ends Fault
 if_some (Some a) go = go a
 
 -- an exception is thrown: the stack is lost
-abbrev pub raised : Exception → Frame → Next Frame
-raised e s = Throws e (record s { stack = [] })
+abbrev pub thrown_at : Exception → Frame → Next Frame
+thrown_at e s = Throws e (record s { stack = [] })
 
 -- the stack has room for one more cell
 abbrev pub has_room : Frame → Bool
 has_room s = nat_lt (length s.stack) s.limit
 
 -- a cell put on top, where there is room
-abbrev pub pushed : Cell → Frame → Next Frame
-pushed cell s = if nat_lt (length s.stack) s.limit then Goes (record s { stack = cell ∷ s.stack }) else Ends Fault
+abbrev pub push : Cell → Frame → Next Frame
+push cell s = if nat_lt (length s.stack) s.limit then GoesOn (record s { stack = cell ∷ s.stack }) else Ends Fault
 
 -- a cell put in a local, where there is one with this number
-abbrev pub stored : ℕ → Cell → Frame → Next Frame
-stored n cell s = if nat_lt n (length s.locals) then Goes (record s { locals = slice_set s.locals n cell }) else Ends Fault
+abbrev pub store_local : ℕ → Cell → Frame → Next Frame
+store_local n cell s = if nat_lt n (length s.locals) then GoesOn (record s { locals = slice_set s.locals n cell }) else Ends Fault
 
 -- the top m cells copied to below the top n, where they are there and there is room
-abbrev pub copied : ℕ → ℕ → Frame → Next Frame
-copied m n s =
+abbrev pub copy_below : ℕ → ℕ → Frame → Next Frame
+copy_below m n s =
     if nat_le m (length s.stack) && nat_le n (length s.stack) && nat_le (length s.stack + m) s.limit
-    then Goes (record s { stack = take n s.stack ++ (take m s.stack ++ drop n s.stack) }) else Ends Fault
+    then GoesOn (record s { stack = take n s.stack ++ (take m s.stack ++ drop n s.stack) }) else Ends Fault
 
 -- the top m cells and the n cells below them change places, where they are there
-abbrev pub exchanged : ℕ → ℕ → Frame → Next Frame
-exchanged m n s =
+abbrev pub exchange_cells : ℕ → ℕ → Frame → Next Frame
+exchange_cells m n s =
     if nat_le (m + n) (length s.stack)
-    then Goes (record s { stack = take n (drop m s.stack) ++ (take m s.stack ++ drop (m + n) s.stack) }) else Ends Fault
+    then GoesOn (record s { stack = take n (drop m s.stack) ++ (take m s.stack ++ drop (m + n) s.stack) }) else Ends Fault
 
 -- ---- the frame that runs, among all frames
 
 -- what the frame that runs does, its callers stay
 abbrev pub in_frame : Frames → Next Frame → Next Frames
-in_frame s (Goes f) = Goes (record s { current = f })
+in_frame s (GoesOn f) = GoesOn (record s { current = f })
 in_frame s (Throws e f) = Throws e (record s { current = f })
 in_frame s (Ends o) = Ends o
 
@@ -87,11 +88,11 @@ with_stack s cells = record s { current = record s.current { stack = cells } }
 
 -- these frames, or a code fault
 abbrev pub unless_fault : {S : Type 0} → Result (Unit {0}) CodeFault → S → Next S
-unless_fault (Ok u) s = Goes s
+unless_fault (Ok u) s = GoesOn s
 unless_fault (Err e) s = Ends Fault
 
 -- these frames, an exception thrown there, or the end
-abbrev pub after_of : Result (Unit {0}) Stop → Frames → Next Frames
-after_of (Ok u) s = Goes s
-after_of (Err (Throw e)) s = Throws e (with_stack s [])
-after_of (Err (End o)) s = Ends o
+abbrev pub next_of : Result (Unit {0}) FrameExit → Frames → Next Frames
+next_of (Ok u) s = GoesOn s
+next_of (Err (Throw e)) s = Throws e (with_stack s [])
+next_of (Err (End o)) s = Ends o

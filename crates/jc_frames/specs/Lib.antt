@@ -4,3 +4,9 @@ pub mod Layout
 pub mod Calls
 pub mod Laws
 pub mod Reasons
+pub mod ConstantOps
+pub mod LocalOps
+pub mod StackOps
+pub mod ArithmeticOps
+pub mod BranchOps
+pub mod ReturnOps

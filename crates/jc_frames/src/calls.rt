@@ -2,11 +2,11 @@
 ghost use Rattle.std.specs.Prelude.{IsNone, ◌≡◌};
 ghost use Rattle.std.specs.Option.{option_map};
 ghost use Rattle.jc_frames.specs.Frames.{in_frame, unless_fault};
-ghost use Rattle.jc_frames.specs.Calls.{entered, left_to, received};
+ghost use Rattle.jc_frames.specs.Calls.{call_or_fault, frames_after_return, frames_with_result};
 
 use crate::cell::Cell;
-use crate::frames::{Frames, MOST_CELLS, MOST_FRAMES, Region, Saved, push_zeros};
-use crate::method::{CallKind, Entry, Resume};
+use crate::frames::{Frames, MOST_CELLS, MOST_FRAMES, Region, SavedFrame, push_zeros};
+use crate::method::{CallKind, Entry, ReturnPoint};
 use crate::outcome::CodeFault;
 
 impl Frames {
@@ -16,7 +16,7 @@ impl Frames {
     /// 512 cells.
     #[inline(always)]
     pub fn enter(&mut self, entry: Entry) -> Result<(), CodeFault>
-        ensures { unless_fault result self.new ≡ entered entry self.old }
+        ensures { unless_fault result self.new ≡ call_or_fault entry self.old }
     {
         let length = self.cells.len();
         let arguments = usize::from(entry.arguments);
@@ -38,7 +38,7 @@ impl Frames {
             return Err(CodeFault);
         }
         push_zeros(&mut self.cells, entry.locals);
-        self.saved.push(Saved {
+        self.saved.push(SavedFrame {
             region: self.current,
             resume: entry.resume,
         });
@@ -55,8 +55,9 @@ impl Frames {
     /// Ends the frame that runs: its caller's goes on. `None`, and nothing changes, where nothing
     /// called it.
     #[inline(always)]
-    pub fn leave(&mut self) -> Option<Resume>
-        ensures caller { left_to self.old.callers ≡ option_map (λ resume. (resume, self.new)) result }
+    pub fn leave(&mut self) -> Option<ReturnPoint>
+        ensures caller { frames_after_return self.old.callers
+            ≡ option_map (λ resume. (resume, self.new)) result }
         ensures same { IsNone result → self.new ≡ self.old }
     {
         let caller = self.saved.pop()?;
@@ -66,8 +67,8 @@ impl Frames {
     }
 
     /// What the return of the frame that runs comes back to; `None` where nothing called it.
-    pub fn resume(&self) -> Option<Resume>
-        ensures { result ≡ option_map (λ p. p.0) (left_to self.now.callers) }
+    pub fn resume(&self) -> Option<ReturnPoint>
+        ensures { result ≡ option_map (λ p. p.0) (frames_after_return self.now.callers) }
     {
         Some(self.saved.last()?.resume)
     }
@@ -76,15 +77,16 @@ impl Frames {
     /// where there is no room, or where the runtime environment awaits a reference and gets none.
     #[inline(always)]
     pub fn receive(&mut self, call: CallKind, value: Option<Cell>) -> Result<(), CodeFault>
-        ensures { unless_fault result self.new ≡ in_frame self.old (received call value self.old.current) }
+        ensures { unless_fault result self.new ≡ in_frame self.old
+            (frames_with_result call value self.old.current) }
     {
         let _ = &self.cells; // so that the proof knows what holds of all frames
         match call {
-            CallKind::Plain => match value {
+            CallKind::Instruction => match value {
                 Some(cell) => self.try_push(cell),
                 None => Ok(()),
             },
-            CallKind::Sharing => match value.ok_or(CodeFault)? {
+            CallKind::ShareableRequest => match value.ok_or(CodeFault)? {
                 Cell::Reference(r) => self.try_push(Cell::Reference(r)),
                 _ => Err(CodeFault),
             },

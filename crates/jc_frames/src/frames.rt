@@ -5,14 +5,14 @@ ghost use Rattle.jc_frames.specs.Frames.{Frames};
 ghost use Rattle.jc_frames.specs.Calls.{first_frame};
 
 use crate::cell::Cell;
-use crate::method::{Origin, Resume};
+use crate::method::{Origin, ReturnPoint};
 use arrayvec::ArrayVec;
 use std::marker::Model;
 
 /// The most cells of all frames.
 pub const MOST_CELLS: usize = 512;
 
-/// The most frames.
+/// How many frames may stand one upon the other.
 pub const MOST_FRAMES: usize = 32;
 
 /// Where the cells of a frame lie: its locals from `base` on, its stack from `bottom` on and below
@@ -28,9 +28,9 @@ pub(crate) struct Region {
 
 /// A frame that waits for a call.
 #[derive(Clone, Copy, Default)]
-pub(crate) struct Saved {
+pub(crate) struct SavedFrame {
     pub(crate) region: Region,
-    pub(crate) resume: Resume,
+    pub(crate) resume: ReturnPoint,
 }
 
 /// The frame that runs, and its callers.
@@ -38,7 +38,7 @@ pub(crate) struct Saved {
 pub struct Frames {
     pub(crate) cells: ArrayVec<Cell, MOST_CELLS>,
     pub(crate) current: Region,
-    pub(crate) saved: ArrayVec<Saved, 31>,
+    pub(crate) saved: ArrayVec<SavedFrame, 31>,
 }
 
 impl Model for Frames {
@@ -50,7 +50,9 @@ impl Model for Frames {
 
     ghost view = { λ f. frames_of f.cells.items f.current (reverse f.saved.items) };
 
-    ghost invariant = { λ f. (f.current.base ≤ f.current.bottom) × (f.current.bottom ≤ length f.cells.items) × (length f.cells.items ≤ f.current.ceiling) × (f.current.ceiling ≤ 512)
+    ghost invariant = { λ f. (f.current.base ≤ f.current.bottom)
+        × (f.current.bottom ≤ length f.cells.items) × (length f.cells.items ≤ f.current.ceiling)
+        × (f.current.ceiling ≤ 512)
         × AreStacked f.current.base (reverse f.saved.items) };
 }
 
@@ -58,7 +60,10 @@ impl Frames {
     /// The frame of a method with these arguments, which nothing called.
     pub fn begin(arguments: &[Cell], locals: u8, limit: u8, place: u16, origin: Origin) -> Self
         requires { length arguments.now + locals + limit ≤ 512 }
-        ensures { result ≡ record { current = first_frame arguments.now locals limit place origin; callers = [] } }
+        ensures { result ≡ record {
+          current = first_frame arguments.now locals limit place origin;
+          callers = [];
+        } }
     {
         let mut cells = ArrayVec::new();
         push_all(&mut cells, arguments);
@@ -89,7 +94,8 @@ impl Frames {
     /// Moves the next instruction.
     #[inline(always)]
     pub fn set_place(&mut self, place: u16)
-        ensures { self.new ≡ record self.old { current = record self.old.current { place = place } } }
+        ensures { self.new ≡ record self.old
+            { current = record self.old.current { place = place } } }
     {
         self.current.place = place;
     }

@@ -1,19 +1,27 @@
 //! Frames: what a running method computes with, and the frames of the methods that called it. All
 //! their cells lie in one array, and a call moves none of them.
+//! The instructions that need nothing but frames: constants, locals, the stack's order, arithmetic,
+//! branches and returns.
 #![tactic(auto)]
 
-mod bury;
+pub mod arithmetic_ops;
+pub mod branch_ops;
+pub mod call_law;
 mod calls;
 pub mod cell;
+pub mod constant_ops;
+mod dead_references;
 pub mod frames;
-pub mod law;
+pub mod local_ops;
 mod locals;
 pub mod method;
 pub mod outcome;
 pub mod reasons;
+pub mod return_ops;
 mod stack;
+pub mod stack_ops;
 
 pub use cell::Cell;
 pub use frames::{Frames, MOST_CELLS, MOST_FRAMES};
-pub use method::{CallKind, Entry, Origin, Resume};
-pub use outcome::{CodeFault, Exception, Outcome, Stop};
+pub use method::{CallKind, Entry, Origin, ReturnPoint};
+pub use outcome::{CodeFault, Exception, FrameExit, Outcome};

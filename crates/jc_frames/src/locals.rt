@@ -1,8 +1,8 @@
 //! The locals of the frame that runs.
 ghost use Rattle.std.specs.Prelude.{◌≡◌, slice_get};
 ghost use Rattle.std.specs.Option.{option_and_then};
-ghost use Rattle.jc_frames.specs.Cells.{as_short, as_reference, as_address, found};
-ghost use Rattle.jc_frames.specs.Frames.{in_frame, unless_fault, stored};
+ghost use Rattle.jc_frames.specs.Cells.{as_short, as_reference, as_address, result_or_none};
+ghost use Rattle.jc_frames.specs.Frames.{in_frame, unless_fault, store_local};
 
 use crate::cell::Cell;
 use crate::frames::Frames;
@@ -26,7 +26,8 @@ impl Frames {
     /// The short in the local with this number.
     #[inline(always)]
     pub fn local_short(&self, number: u8) -> Result<i16, CodeFault>
-        ensures { found result ≡ option_and_then as_short (slice_get self.now.current.locals number) }
+        ensures { result_or_none result ≡ option_and_then as_short
+            (slice_get self.now.current.locals number) }
     {
         match self.local(number).ok_or(CodeFault)? {
             Cell::Short(x) => Ok(x),
@@ -37,7 +38,8 @@ impl Frames {
     /// The reference in the local with this number.
     #[inline(always)]
     pub fn local_reference(&self, number: u8) -> Result<Ref, CodeFault>
-        ensures { found result ≡ option_and_then as_reference (slice_get self.now.current.locals number) }
+        ensures { result_or_none result ≡ option_and_then as_reference
+            (slice_get self.now.current.locals number) }
     {
         match self.local(number).ok_or(CodeFault)? {
             Cell::Reference(r) => Ok(r),
@@ -48,7 +50,8 @@ impl Frames {
     /// The return address in the local with this number.
     #[inline(always)]
     pub fn local_address(&self, number: u8) -> Result<u16, CodeFault>
-        ensures { found result ≡ option_and_then as_address (slice_get self.now.current.locals number) }
+        ensures { result_or_none result ≡ option_and_then as_address
+            (slice_get self.now.current.locals number) }
     {
         match self.local(number).ok_or(CodeFault)? {
             Cell::ReturnAddress(a) => Ok(a),
@@ -59,7 +62,8 @@ impl Frames {
     /// Writes the local with this number, if there is one.
     #[inline(always)]
     pub fn store(&mut self, number: u8, cell: Cell) -> Result<(), CodeFault>
-        ensures { unless_fault result self.new ≡ in_frame self.old (stored number cell self.old.current) }
+        ensures { unless_fault result self.new ≡ in_frame self.old
+            (store_local number cell self.old.current) }
     {
         let place = self.current.base + usize::from(number);
         if place >= self.current.bottom {

@@ -1,6 +1,6 @@
 //! Which method a frame runs, and what it comes back to.
 
-use jc_names::OwnerWord;
+use jc_transient::OwnerWord;
 
 /// Which method a frame runs, and for whom.
 #[derive(Clone, Copy, PartialEq, Eq, Debug, Default)]
@@ -13,19 +13,19 @@ pub struct Origin {
     pub owner: OwnerWord,
 }
 
-/// Who called a method.
+/// Who called a method: an instruction, or the runtime environment as it asks a server.
 #[derive(Clone, Copy, PartialEq, Eq, Debug, Default)]
 pub enum CallKind {
     /// An instruction.
     #[default]
-    Plain,
+    Instruction,
     /// The runtime environment, which asks a server for its shareable interface object.
-    Sharing,
+    ShareableRequest,
 }
 
 /// What a return comes back to.
 #[derive(Clone, Copy, PartialEq, Eq, Debug, Default)]
-pub struct Resume {
+pub struct ReturnPoint {
     /// The owner that was active before the call.
     pub active: OwnerWord,
     /// The owner that was active before the last switch, as it was then.
@@ -50,5 +50,5 @@ pub struct Entry {
     /// The method.
     pub origin: Origin,
     /// What its return comes back to.
-    pub resume: Resume,
+    pub resume: ReturnPoint,
 }

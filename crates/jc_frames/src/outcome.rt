@@ -30,7 +30,7 @@ pub enum Exception {
 #[derive(Clone, Copy, PartialEq, Eq, Debug)]
 pub enum Outcome {
     /// By `return`.
-    Return,
+    Void,
     /// By `sreturn`, with this short.
     Short(i16),
     /// By `areturn`, with this reference.
@@ -48,7 +48,7 @@ impl Outcome {
         ensures { result ≡ outcome_of value }
     {
         let Some(cell) = value else {
-            return Outcome::Return;
+            return Outcome::Void;
         };
         match cell {
             Cell::Short(v) => Outcome::Short(v),
@@ -65,21 +65,21 @@ pub struct CodeFault;
 
 /// Why a method does not go on with its next instruction.
 #[derive(Clone, Copy, PartialEq, Eq, Debug)]
-pub enum Stop {
+pub enum FrameExit {
     /// The runtime environment throws.
     Throw(Exception),
     /// The run ends.
     End(Outcome),
 }
 
-impl From<CodeFault> for Stop {
+impl From<CodeFault> for FrameExit {
     ghost use Rattle.std.specs.Prelude.{◌≡◌};
-    ghost use Rattle.jc_frames.specs.declared.outcome.Stop.TheVariants.{End};
+    ghost use Rattle.jc_frames.specs.declared.outcome.FrameExit.TheVariants.{End};
     ghost use Rattle.jc_frames.specs.declared.outcome.Outcome.TheVariants.{Fault};
 
     ghost from_gives = { λ _ stop. stop ≡ End Fault };
 
     fn from(_: CodeFault) -> Self {
-        Stop::End(Outcome::Fault)
+        FrameExit::End(Outcome::Fault)
     }
 }

@@ -1,9 +1,9 @@
 //! The stack of the frame that runs.
 ghost use Rattle.std.specs.Prelude.{IsTrue, ◌≡◌, ◌+◌, ◌<◌, ◌≤◌, [], ◌∷◌, ◌++◌, drop, length, option_copied, slice_get, OnOk, OnErr, IfOk};
 ghost use Rattle.jc_opcodes.specs.Table.{can_duplicate_below, can_swap};
-ghost use Rattle.jc_frames.specs.Cells.{cell_on, short_on, two_shorts_on, reference_on, storable_on, taken, taken_two};
+ghost use Rattle.jc_frames.specs.Cells.{cell_on, short_on, two_shorts_on, reference_on, storable_on, popped, popped_two};
 ghost use Rattle.jc_frames.specs.Calls.{arguments_on};
-ghost use Rattle.jc_frames.specs.Frames.{in_frame, with_stack, unless_fault, has_room, pushed, copied, exchanged};
+ghost use Rattle.jc_frames.specs.Frames.{in_frame, with_stack, unless_fault, has_room, push, copy_below, exchange_cells};
 
 use crate::cell::Cell;
 use crate::frames::Frames;
@@ -16,7 +16,7 @@ impl Frames {
     #[inline(always)]
     pub fn pop(&mut self) -> Result<Cell, CodeFault>
         ensures others { self.new ≡ with_stack self.old self.new.current.stack }
-        ensures taken { cell_on self.old.current.stack ≡ taken result self.new.current.stack }
+        ensures taken { cell_on self.old.current.stack ≡ popped result self.new.current.stack }
         ensures room { OnOk result (length self.new.current.stack < self.new.current.limit) }
     {
         if self.cells.len() <= self.current.bottom {
@@ -29,7 +29,7 @@ impl Frames {
     #[inline(always)]
     pub fn pop_short(&mut self) -> Result<i16, CodeFault>
         ensures others { self.new ≡ with_stack self.old self.new.current.stack }
-        ensures taken { short_on self.old.current.stack ≡ taken result self.new.current.stack }
+        ensures taken { short_on self.old.current.stack ≡ popped result self.new.current.stack }
         ensures room { OnOk result (length self.new.current.stack < self.new.current.limit) }
     {
         match self.pop()? {
@@ -42,7 +42,7 @@ impl Frames {
     #[inline(always)]
     pub fn pop_reference(&mut self) -> Result<Ref, CodeFault>
         ensures others { self.new ≡ with_stack self.old self.new.current.stack }
-        ensures taken { reference_on self.old.current.stack ≡ taken result self.new.current.stack }
+        ensures taken { reference_on self.old.current.stack ≡ popped result self.new.current.stack }
         ensures room { OnOk result (length self.new.current.stack < self.new.current.limit) }
     {
         match self.pop()? {
@@ -55,7 +55,7 @@ impl Frames {
     #[inline(always)]
     pub fn pop_storable(&mut self) -> Result<Cell, CodeFault>
         ensures others { self.new ≡ with_stack self.old self.new.current.stack }
-        ensures taken { storable_on self.old.current.stack ≡ taken result self.new.current.stack }
+        ensures taken { storable_on self.old.current.stack ≡ popped result self.new.current.stack }
         ensures room { OnOk result (length self.new.current.stack < self.new.current.limit) }
     {
         match self.pop()? {
@@ -68,7 +68,8 @@ impl Frames {
     #[inline(always)]
     pub fn pop_two_shorts(&mut self) -> Result<(i16, i16), CodeFault>
         ensures others { self.new ≡ with_stack self.old self.new.current.stack }
-        ensures taken { two_shorts_on self.old.current.stack ≡ taken_two result self.new.current.stack }
+        ensures taken { two_shorts_on self.old.current.stack
+            ≡ popped_two result self.new.current.stack }
         ensures room { OnOk result (length self.new.current.stack < self.new.current.limit) }
     {
         let y = self.pop_short()?;
@@ -140,7 +141,7 @@ impl Frames {
     /// Puts a cell on top, if there is room.
     #[inline(always)]
     pub fn try_push(&mut self, cell: Cell) -> Result<(), CodeFault>
-        ensures { unless_fault result self.new ≡ in_frame self.old (pushed cell self.old.current) }
+        ensures { unless_fault result self.new ≡ in_frame self.old (push cell self.old.current) }
     {
         if self.cells.len() >= self.current.ceiling {
             return Err(CodeFault);
@@ -152,7 +153,8 @@ impl Frames {
     /// Copies the top `count` cells to below the top `depth`.
     pub fn copy(&mut self, count: u8, depth: u8) -> Result<(), CodeFault>
         requires { IsTrue (can_duplicate_below count depth) }
-        ensures { unless_fault result self.new ≡ in_frame self.old (copied count depth self.old.current) }
+        ensures { unless_fault result self.new ≡ in_frame self.old
+            (copy_below count depth self.old.current) }
     {
         let top = self.pop_many(count)?;
         let middle = self.pop_many(depth.saturating_sub(count))?;
@@ -168,7 +170,8 @@ impl Frames {
     /// Exchanges the top `count` cells with the `below` cells below them.
     pub fn exchange(&mut self, count: u8, below: u8) -> Result<(), CodeFault>
         requires { IsTrue (can_swap count below) }
-        ensures { unless_fault result self.new ≡ in_frame self.old (exchanged count below self.old.current) }
+        ensures { unless_fault result self.new ≡ in_frame self.old
+            (exchange_cells count below self.old.current) }
     {
         let top = self.pop_many(count)?;
         let lower = self.pop_many(below)?;
@@ -181,9 +184,11 @@ impl Frames {
     fn pop_many(&mut self, count: u8) -> Result<ArrayVec<Cell, 4>, CodeFault>
         requires { count ≤ 4 }
         ensures others { self.new ≡ with_stack self.old self.new.current.stack }
-        ensures taken { IfOk result (λ top. (length top.items ≡ count) × (top.items ++ self.new.current.stack ≡ self.old.current.stack)) }
+        ensures taken { IfOk result (λ top. (length top.items ≡ count)
+            × (top.items ++ self.new.current.stack ≡ self.old.current.stack)) }
         ensures lack { OnErr result (length self.old.current.stack < count) }
-        ensures limit { OnOk result (length self.new.current.stack + count ≤ self.new.current.limit) }
+        ensures limit { OnOk result (length self.new.current.stack + count
+            ≤ self.new.current.limit) }
     {
         let _ = &self.cells; // so that the proof knows what holds of all frames
         let mut top = ArrayVec::new();

@@ -1,12 +1,15 @@
 -- A record behind a whole table.
-use Rattle.std.proofs.Common.{◌≡◌, ℕ, zero, suc, ◌+◌, ◌/◌, ◌<◌, ◌≤◌, false, List, [], ◌∷◌, ◌++◌, length, take, drop, set, get_or, map, refl, sym, ◌∙◌, ap, arith, lit<, if◌then◌else◌}
-use Rattle.std.proofs.lemmas.List.{get_or_append_left, get_or-set_other, get_or-set_same, get_or-take, take-set-le, drop-set-lt, drop-append-le, take-append-le, length-drop, length-set, length-append, take_all, map-append, set-append_left, length-take-le, take-take}
-use Rattle.jc_words.specs.Layout.{top_address, packages_address, applets_address, reset_end_address, deselect_end_address, text_length_address, addresses_start, most_packages, registry_start, registry_length, text_start}
-use Rattle.jc_heap.specs.Cut.{Sizes, cut, lacking}
+use Rattle.std.proofs.Common.{◌≡◌, ℕ, zero, suc, ◌+◌, ◌/◌, ◌<◌, ◌≤◌, false, List, [], ◌∷◌, ◌++◌, length, take, drop, set, get_or, map, refl, sym, ◌∙◌, ap}
+use Rattle.std.proofs.Common.{arith, lit<, if◌then◌else◌}
+use Rattle.std.proofs.lemmas.List.{get_or_append_left, get_or-set_other, get_or-set_same, get_or-take, take-set-le, drop-set-lt, drop-append-le, take-append-le}
+use Rattle.std.proofs.lemmas.List.{length-drop, length-set, length-append, take_all, map-append, set-append_left, length-take-le, take-take}
+use Rattle.jc_words.specs.Layout.{top_address, packages_address, applets_address, reset_end_address, deselect_end_address, text_length_address, addresses_start}
+use Rattle.jc_words.specs.Layout.{most_packages, registry_start, registry_length, text_start}
+use Rattle.jc_heap.specs.Cut.{Sizes, records_from, missing_words}
 use Rattle.jc_heap.specs.Object.{Item, AnObject, APackage, object_of, payload}
-use Rattle.jc_heap.specs.Image.{image, base, package_addresses, is_package, sizes, item, item_entry, records, missing, table_text, IsLaid}
+use Rattle.jc_heap.specs.Image.{image, base, package_addresses, is_package, sizes, item, item_entry, records, missing_words_of_image, table_text, IsWellFormed}
 use Rattle.jc_heap.specs.Heap.{HeapState, read_image, heap_of, add_object}
-use Rattle.jc_heap.proofs.Records.{cut-append, lacking-append, take-set_comm}
+use Rattle.jc_heap.proofs.Records.{records_from-append, missing_words-append, take-set_comm}
 use Rattle.jc_heap.proofs.Images.{sizes_tell, text-same}
 
 -- one thing more, behind the others
@@ -14,25 +17,25 @@ abbrev pub add_item : HeapState → Item → ℕ → HeapState
 add_item h t size = record h { items = h.items ++ (h.top, t) ∷ []; top = h.top + size }
 
 -- a record alone
-cut-skip_all : (more : Sizes) (s at : ℕ) (ws : List ℕ) → length ws ≤ s → cut more s at ws ≡ []
-cut-skip_all more s at [] h = refl
-cut-skip_all more zero at (w ∷ ws) h = absurd (omega arith)
-cut-skip_all more (suc s) at (w ∷ ws) h = cut-skip_all more s (suc at) ws (omega arith)
+records_from-skip_all : (more : Sizes) (s at : ℕ) (ws : List ℕ) → length ws ≤ s → records_from more s at ws ≡ []
+records_from-skip_all more s at [] h = refl
+records_from-skip_all more zero at (w ∷ ws) h = absurd (omega arith)
+records_from-skip_all more (suc s) at (w ∷ ws) h = records_from-skip_all more s (suc at) ws (omega arith)
 
-lacking-skip_all : (more : Sizes) (s at : ℕ) (ws : List ℕ) → length ws ≡ s → lacking more s at ws ≡ 0
-lacking-skip_all more s at [] h = sym h
-lacking-skip_all more zero at (w ∷ ws) h = absurd (omega arith)
-lacking-skip_all more (suc s) at (w ∷ ws) h = lacking-skip_all more s (suc at) ws (omega arith)
+missing_words-skip_all : (more : Sizes) (s at : ℕ) (ws : List ℕ) → length ws ≡ s → missing_words more s at ws ≡ 0
+missing_words-skip_all more s at [] h = sym h
+missing_words-skip_all more zero at (w ∷ ws) h = absurd (omega arith)
+missing_words-skip_all more (suc s) at (w ∷ ws) h = missing_words-skip_all more s (suc at) ws (omega arith)
 
-cut-one : (more : Sizes) (at : ℕ) (ws : List ℕ) → more at ws + 1 ≡ length ws → cut more 0 at ws ≡ (at, ws) ∷ []
-cut-one more at [] h = absurd (omega arith)
-cut-one more at (w ∷ ws) h =
+records_from-one : (more : Sizes) (at : ℕ) (ws : List ℕ) → more at ws + 1 ≡ length ws → records_from more 0 at ws ≡ (at, ws) ∷ []
+records_from-one more at [] h = absurd (omega arith)
+records_from-one more at (w ∷ ws) h =
     let fits : length ws ≤ more at (w ∷ ws) = omega arith in
-    rw (take_all (more at (w ∷ ws)) ws fits, cut-skip_all more (more at (w ∷ ws)) (suc at) ws fits) refl
+    rw (take_all (more at (w ∷ ws)) ws fits, records_from-skip_all more (more at (w ∷ ws)) (suc at) ws fits) refl
 
-lacking-one : (more : Sizes) (at : ℕ) (ws : List ℕ) → more at ws + 1 ≡ length ws → lacking more 0 at ws ≡ 0
-lacking-one more at [] h = absurd (omega arith)
-lacking-one more at (w ∷ ws) h = lacking-skip_all more (more at (w ∷ ws)) (suc at) ws (omega arith)
+missing_words-one : (more : Sizes) (at : ℕ) (ws : List ℕ) → more at ws + 1 ≡ length ws → missing_words more 0 at ws ≡ 0
+missing_words-one more at [] h = absurd (omega arith)
+missing_words-one more at (w ∷ ws) h = missing_words-skip_all more (more at (w ∷ ws)) (suc at) ws (omega arith)
 
 -- an image with its top moved over another record
 module _ (img rec : List ℕ) (long : text_start ≤ length img) where
@@ -43,13 +46,12 @@ module _ (img rec : List ℕ) (long : text_start ≤ length img) where
   grown = set img top_address top ++ rec
 
   word-grown : (k : ℕ) → k < text_start → (k ≡ top_address → ⊥) → get_or grown k 0 ≡ get_or img k 0
-  word-grown k h n = get_or_append_left (set img top_address top) rec 0 k (omega (arith, length-set img top_address top)) ∙ get_or-set_other img top_address k top 0 n
-
-  pub top-grown : get_or grown top_address 0 ≡ top
-  top-grown = get_or_append_left (set img top_address top) rec 0 top_address (omega (arith, length-set img top_address top)) ∙ get_or-set_same img top_address top 0 (omega arith)
+  word-grown k h n = get_or_append_left (set img top_address top) rec 0 k (omega (arith, length-set img top_address top))
+      ∙ get_or-set_other img top_address k top 0 n
 
   tail-grown : (from : ℕ) → top_address < from → from ≤ length img → drop from grown ≡ drop from img ++ rec
-  tail-grown from h le = drop-append-le from (set img top_address top) rec (omega (arith, length-set img top_address top)) ∙ ap (λ l. l ++ rec) (drop-set-lt from img top_address top h)
+  tail-grown from h le = drop-append-le from (set img top_address top) rec (omega (arith, length-set img top_address top))
+      ∙ ap (λ l. l ++ rec) (drop-set-lt from img top_address top h)
 
   range-grown : (from n : ℕ) → top_address < from → from + n ≤ length img → take n (drop from grown) ≡ take n (drop from img)
   range-grown from n h le = ap (take n) (tail-grown from h (omega arith)) ∙ take-append-le n (drop from img) rec (omega (arith, length-drop from img))
@@ -60,7 +62,8 @@ module _ (img rec : List ℕ) (long : text_start ≤ length img) where
   pub base-grown : base grown ≡ base img
   base-grown = rw (word-grown text_length_address (lit< tt) (λ e. omega arith)) refl
 
-  module _ (based : base img ≤ length img) (whole : missing img ≡ 0) (own : sizes (package_addresses img) (length img) rec + 1 ≡ length rec) where
+  module _ (based : base img ≤ length img) (whole : missing_words_of_image img ≡ 0)
+      (own : sizes (package_addresses img) (length img) rec + 1 ≡ length rec) where
     abbrev more : Sizes
     more = sizes (package_addresses img)
 
@@ -75,53 +78,70 @@ module _ (img rec : List ℕ) (long : text_start ≤ length img) where
     at_end = omega (arith, length-drop (base img) img)
 
     records-grown : records grown ≡ records img ++ (length img, rec) ∷ []
-    unfolding missing
+    unfolding missing_words_of_image
     records-grown =
-        table-grown (λ m b ws. cut m 0 b ws)
-        ∙ cut-append more (sizes_tell (package_addresses img)) 0 (base img) (drop (base img) img) rec whole
-        ∙ ap (λ a. records img ++ cut more 0 a rec) at_end
-        ∙ ap (λ l. records img ++ l) (cut-one more (length img) rec own)
+        table-grown (λ m b ws. records_from m 0 b ws)
+        ∙ records_from-append more (sizes_tell (package_addresses img)) 0 (base img) (drop (base img) img) rec whole
+        ∙ ap (λ a. records img ++ records_from more 0 a rec) at_end
+        ∙ ap (λ l. records img ++ l) (records_from-one more (length img) rec own)
 
-    pub missing-grown : missing grown ≡ 0
-    unfolding missing
+    pub missing-grown : missing_words_of_image grown ≡ 0
+    unfolding missing_words_of_image
     missing-grown =
-        table-grown (λ m b ws. lacking m 0 b ws)
-        ∙ lacking-append more (sizes_tell (package_addresses img)) 0 (base img) (drop (base img) img) rec whole
-        ∙ ap (λ a. lacking more 0 a rec) at_end
-        ∙ lacking-one more (length img) rec own
+        table-grown (λ m b ws. missing_words m 0 b ws)
+        ∙ missing_words-append more (sizes_tell (package_addresses img)) 0 (base img) (drop (base img) img) rec whole
+        ∙ ap (λ a. missing_words more 0 a rec) at_end
+        ∙ missing_words-one more (length img) rec own
 
     pub read-grown : read_image grown ≡ add_item (read_image img) (item (package_addresses img) (length img) rec) (length rec)
     unfolding read_image
     read-grown =
-        let items : map (item_entry (package_addresses grown)) (records grown) ≡ map (item_entry (package_addresses img)) (records img) ++ (length img, item (package_addresses img) (length img) rec) ∷ [] =
+        let items : map (item_entry (package_addresses grown)) (records grown) ≡ map (item_entry (package_addresses img)) (records img)
+        ++ (length img, item (package_addresses img) (length img) rec) ∷ [] =
         ap (λ ps. map (item_entry ps) (records grown)) packages-grown
         ∙ ap (map (item_entry (package_addresses img))) records-grown
         ∙ map-append (item_entry (package_addresses img)) (records img) ((length img, rec) ∷ []) in
-        let applets : take registry_length (drop registry_start grown) ≡ take registry_length (drop registry_start img) = range-grown registry_start registry_length (lit< tt) (omega arith) in
+        let applets : take registry_length (drop registry_start grown) ≡ take registry_length (drop registry_start img) =
+        range-grown registry_start registry_length (lit< tt) (omega arith) in
         let top_is : length grown ≡ length img + length rec = omega (arith, length-append (set img top_address top) rec, length-set img top_address top) in
         let first_end : get_or grown reset_end_address 0 ≡ get_or img reset_end_address 0 = word-grown reset_end_address (lit< tt) (λ e. omega arith) in
-        let second_end : get_or grown deselect_end_address 0 ≡ get_or img deselect_end_address 0 = word-grown deselect_end_address (lit< tt) (λ e. omega arith) in
-        let head : take 3 grown ≡ take 3 img = take-append-le 3 (set img top_address top) rec (omega (arith, length-set img top_address top)) ∙ take-set-le 3 img top_address top (omega arith) in
-        let text : table_text grown ≡ table_text img = text-same img grown (word-grown text_length_address (lit< tt) (λ e. omega arith)) (range-grown text_start ((get_or img text_length_address 0 + 1) / 2) (lit< tt) (omega (arith, based))) in
+        let second_end : get_or grown deselect_end_address 0 ≡ get_or img deselect_end_address 0 =
+        word-grown deselect_end_address (lit< tt) (λ e. omega arith) in
+        let head : take 3 grown ≡ take 3 img = take-append-le 3 (set img top_address top) rec (omega (arith, length-set img top_address top))
+        ∙ take-set-le 3 img top_address top (omega arith) in
+        let text : table_text grown ≡ table_text img = text-same img grown (word-grown text_length_address (lit< tt) (λ e. omega arith))
+        (range-grown text_start ((get_or img text_length_address 0 + 1) / 2) (lit< tt) (omega (arith, based))) in
         let first_count : get_or grown packages_address 0 ≡ get_or img packages_address 0 = word-grown packages_address (lit< tt) (λ e. omega arith) in
         let second_count : get_or grown applets_address 0 ≡ get_or img applets_address 0 = word-grown applets_address (lit< tt) (λ e. omega arith) in
-        λ k. record { head = head k; text = text k; items = items k; counts = (first_count k, second_count k); packages = packages-grown k; applets = applets k; area_ends = (first_end k, second_end k); top = top_is k }
+        λ k. record {
+          head = head k;
+          text = text k;
+          items = items k;
+          counts = (first_count k, second_count k);
+          packages = packages-grown k;
+          applets = applets k;
+          area_ends = (first_end k, second_end k);
+          top = top_is k;
+        }
 
 -- words whose top moves over a record that stands there
-pub IsGrown_image : (old ws rec : List ℕ) → IsLaid old → take (get_or old top_address 0 + length rec) ws ≡ take (get_or old top_address 0) old ++ rec → get_or old top_address 0 + length rec ≤ length ws →
+pub IsGrown_image : (old ws rec : List ℕ) → IsWellFormed old → take (get_or old top_address 0 + length rec) ws ≡ take (get_or old top_address 0) old ++ rec
+    → get_or old top_address 0 + length rec ≤ length ws →
     image (set ws top_address (get_or old top_address 0 + length rec)) ≡ set (image old) top_address (length (image old) + length rec) ++ rec
 IsGrown_image old ws rec laid e fits =
     let t : ℕ = get_or old top_address 0 in
     let long : length (image old) ≡ get_or old top_address 0 = length-take-le (get_or old top_address 0) old laid.fits in
     let based : text_start ≤ get_or old top_address 0 = omega (arith, laid.based) in
-    let new_top : get_or (set ws top_address (get_or old top_address 0 + length rec)) top_address 0 ≡ get_or old top_address 0 + length rec = get_or-set_same ws top_address (get_or old top_address 0 + length rec) 0 (omega arith) in
+    let new_top : get_or (set ws top_address (get_or old top_address 0 + length rec)) top_address 0 ≡ get_or old top_address 0 + length rec =
+    get_or-set_same ws top_address (get_or old top_address 0 + length rec) 0 (omega arith) in
     ap (λ n. take n (set ws top_address (get_or old top_address 0 + length rec))) new_top
     ∙ take-set_comm (get_or old top_address 0 + length rec) ws top_address (get_or old top_address 0 + length rec)
     ∙ ap (λ l. set l top_address (get_or old top_address 0 + length rec)) e
     ∙ set-append_left (image old) rec top_address (get_or old top_address 0 + length rec) (omega arith)
     ∙ ap (λ n. set (image old) top_address (n + length rec) ++ rec) (sym long)
 
-module _ (old ws rec : List ℕ) (laid : IsLaid old) (e : take (get_or old top_address 0 + length rec) ws ≡ take (get_or old top_address 0) old ++ rec) (fits : get_or old top_address 0 + length rec ≤ length ws) (own : 3 + payload (get_or rec 0 0) (get_or rec 3 0) + 1 ≡ length rec) where
+module _ (old ws rec : List ℕ) (laid : IsWellFormed old) (e : take (get_or old top_address 0 + length rec) ws ≡ take (get_or old top_address 0) old ++ rec)
+    (fits : get_or old top_address 0 + length rec ≤ length ws) (own : 3 + payload (get_or rec 0 0) (get_or rec 3 0) + 1 ≡ length rec) where
   abbrev moved : List ℕ
   moved = set ws top_address (get_or old top_address 0 + length rec)
 
@@ -140,7 +160,8 @@ module _ (old ws rec : List ℕ) (laid : IsLaid old) (e : take (get_or old top_a
   own_image : sizes (package_addresses (image old)) (length (image old)) rec + 1 ≡ length rec
   own_image = rw free_image own
 
-  as_object : add_item (heap_of old) (item (package_addresses (image old)) (length (image old)) rec) (length rec) ≡ add_object (heap_of old) (object_of rec) (length rec)
+  as_object : add_item (heap_of old) (item (package_addresses (image old)) (length (image old)) rec) (length rec)
+      ≡ add_object (heap_of old) (object_of rec) (length rec)
   unfolding add_object
   as_object = ap (λ b. add_item (heap_of old) (if b then APackage rec else AnObject (object_of rec)) (length rec)) free_image
 
@@ -154,30 +175,34 @@ module _ (old ws rec : List ℕ) (laid : IsLaid old) (e : take (get_or old top_a
   pub top-moved : get_or moved top_address 0 ≡ get_or old top_address 0 + length rec
   top-moved = get_or-set_same ws top_address (get_or old top_address 0 + length rec) 0 (omega (arith, laid.based))
 
-  pub IsLaid-grown : IsLaid moved
+  pub IsLaid-grown : IsWellFormed moved
   IsLaid-grown = record {
     based = let b : base (image moved) ≡ base (image old) = ap base is_grown ∙ base-grown (image old) rec wide in omega (arith, top-moved, laid.based);
     fits = omega (arith, top-moved, length-set ws top_address (get_or old top_address 0 + length rec));
-    whole = ap missing is_grown ∙ missing-grown (image old) rec wide based_image laid.whole own_image;
-    packages = λ a le. ap (λ l. is_package (package_addresses l) a) is_grown ∙ ap (λ ps. is_package ps a) (packages-grown (image old) rec wide) ∙ laid.packages a (omega (arith, top-moved));
+    whole = ap missing_words_of_image is_grown ∙ missing-grown (image old) rec wide based_image laid.whole own_image;
+    packages = λ a le. ap (λ l. is_package (package_addresses l) a) is_grown ∙ ap (λ ps. is_package ps a) (packages-grown (image old) rec wide)
+        ∙ laid.packages a (omega (arith, top-moved));
   }
 
 -- words that agree below the top stand for the same image
 pub image-same_below : (ws us : List ℕ) (at : ℕ) → top_address < at → get_or ws top_address 0 ≤ at → take at us ≡ take at ws → image us ≡ image ws
 image-same_below ws us at five h e =
-    let top : get_or us top_address 0 ≡ get_or ws top_address 0 = sym (get_or-take at us top_address 0 five) ∙ ap (λ l. get_or l top_address 0) e ∙ get_or-take at ws top_address 0 five in
-    ap (λ n. take n us) top ∙ sym (take-take (get_or ws top_address 0) at us h) ∙ ap (take (get_or ws top_address 0)) e ∙ take-take (get_or ws top_address 0) at ws h
+    let top : get_or us top_address 0 ≡ get_or ws top_address 0 = sym (get_or-take at us top_address 0 five) ∙ ap (λ l. get_or l top_address 0) e
+    ∙ get_or-take at ws top_address 0 five in
+    ap (λ n. take n us) top ∙ sym (take-take (get_or ws top_address 0) at us h) ∙ ap (take (get_or ws top_address 0)) e
+    ∙ take-take (get_or ws top_address 0) at ws h
 
 pub top-same_below : (ws us : List ℕ) (at : ℕ) → top_address < at → take at us ≡ take at ws → get_or us top_address 0 ≡ get_or ws top_address 0
 top-same_below ws us at five e = sym (get_or-take at us top_address 0 five) ∙ ap (λ l. get_or l top_address 0) e ∙ get_or-take at ws top_address 0 five
 
-pub IsLaid-same_below : (ws us : List ℕ) (at : ℕ) → top_address < at → get_or ws top_address 0 ≤ at → take at us ≡ take at ws → length us ≡ length ws → IsLaid ws → IsLaid us
-IsLaid-same_below ws us at five h e long laid =
+pub IsWellFormed-same_below : (ws us : List ℕ) (at : ℕ) → top_address < at → get_or ws top_address 0 ≤ at → take at us ≡ take at ws → length us ≡ length ws
+    → IsWellFormed ws → IsWellFormed us
+IsWellFormed-same_below ws us at five h e long laid =
     let same : image us ≡ image ws = image-same_below ws us at five h e in
     let top : get_or us top_address 0 ≡ get_or ws top_address 0 = top-same_below ws us at five e in
     record {
       based = let b : base (image us) ≡ base (image ws) = ap base same in omega (arith, laid.based);
       fits = omega (arith, laid.fits);
-      whole = ap missing same ∙ laid.whole;
+      whole = ap missing_words_of_image same ∙ laid.whole;
       packages = λ a le. ap (λ l. is_package (package_addresses l) a) same ∙ laid.packages a (omega arith);
     }

@@ -1,12 +1,13 @@
 -- The ends of the areas of transient cells.
 use Rattle.std.proofs.Common.{◌≡◌, ℕ, ◌+◌, ◌/◌, ◌<◌, ◌≤◌, List, length, take, drop, set, get_or, map, refl, ◌∙◌, ap, arith, lit<}
 use Rattle.std.proofs.lemmas.List.{get_or-set_other, get_or-set_same, get_or-take, take-set-le, drop-set-lt, length-set, length-take-le}
-use Rattle.jc_words.specs.Layout.{top_address, packages_address, applets_address, reset_end_address, deselect_end_address, text_length_address, addresses_start, registry_start, registry_length, text_start}
+use Rattle.jc_words.specs.Layout.{top_address, packages_address, applets_address, reset_end_address, deselect_end_address, text_length_address, addresses_start}
+use Rattle.jc_words.specs.Layout.{registry_start, registry_length, text_start}
 use Rattle.jc_transient.specs.declared.cell.ClearEvent.{ClearEvent}
 use Rattle.jc_transient.specs.declared.cell.ClearEvent.TheVariants.{Reset, Deselect}
-use Rattle.jc_heap.specs.Cut.{cut, lacking}
-use Rattle.jc_heap.specs.Image.{image, base, package_addresses, is_package, sizes, item_entry, records, missing, table_text, IsLaid}
-use Rattle.jc_heap.specs.Heap.{HeapState, read_image, heap_of, area_end, with_area_end, area_end_address, SameShape, item_at, names}
+use Rattle.jc_heap.specs.Cut.{records_from, missing_words}
+use Rattle.jc_heap.specs.Image.{image, base, package_addresses, is_package, sizes, item_entry, records, missing_words_of_image, table_text, IsWellFormed}
+use Rattle.jc_heap.specs.Heap.{HeapState, read_image, heap_of, area_end, with_area_end, area_end_address, SameShape, heap_item_at, is_allocated}
 use Rattle.jc_heap.proofs.Images.{image-set, text-same}
 
 -- an image with another end of an area
@@ -25,16 +26,16 @@ module _ (img : List ℕ) (a v : ℕ) (wide : text_start ≤ length img) (low : 
 
   records-end : records (set img a v) ≡ records img
   records-end =
-      ap (λ ps. cut (sizes ps) 0 (base (set img a v)) (drop (base (set img a v)) (set img a v))) addresses-end
-      ∙ ap (λ b. cut (sizes (package_addresses img)) 0 b (drop b (set img a v))) base-end
-      ∙ ap (cut (sizes (package_addresses img)) 0 (base img)) (tail (base img) (omega arith))
+      ap (λ ps. records_from (sizes ps) 0 (base (set img a v)) (drop (base (set img a v)) (set img a v))) addresses-end
+      ∙ ap (λ b. records_from (sizes (package_addresses img)) 0 b (drop b (set img a v))) base-end
+      ∙ ap (records_from (sizes (package_addresses img)) 0 (base img)) (tail (base img) (omega arith))
 
-  pub missing-end : missing (set img a v) ≡ missing img
-  unfolding missing
+  pub missing-end : missing_words_of_image (set img a v) ≡ missing_words_of_image img
+  unfolding missing_words_of_image
   missing-end =
-      ap (λ ps. lacking (sizes ps) 0 (base (set img a v)) (drop (base (set img a v)) (set img a v))) addresses-end
-      ∙ ap (λ b. lacking (sizes (package_addresses img)) 0 b (drop b (set img a v))) base-end
-      ∙ ap (lacking (sizes (package_addresses img)) 0 (base img)) (tail (base img) (omega arith))
+      ap (λ ps. missing_words (sizes ps) 0 (base (set img a v)) (drop (base (set img a v)) (set img a v))) addresses-end
+      ∙ ap (λ b. missing_words (sizes (package_addresses img)) 0 b (drop b (set img a v))) base-end
+      ∙ ap (missing_words (sizes (package_addresses img)) 0 (base img)) (tail (base img) (omega arith))
 
   pub items-end : map (item_entry (package_addresses (set img a v))) (records (set img a v)) ≡ map (item_entry (package_addresses img)) (records img)
   items-end = ap (λ ps. map (item_entry ps) (records (set img a v))) addresses-end ∙ ap (map (item_entry (package_addresses img))) records-end
@@ -46,7 +47,8 @@ module _ (img : List ℕ) (a v : ℕ) (wide : text_start ≤ length img) (low : 
   head-end = take-set-le 3 img a v (omega arith)
 
   pub text-end : table_text (set img a v) ≡ table_text img
-  text-end = text-same img (set img a v) (word text_length_address (λ e. omega arith)) (ap (take ((get_or img text_length_address 0 + 1) / 2)) (tail text_start (omega arith)))
+  text-end = text-same img (set img a v) (word text_length_address (λ e. omega arith))
+      (ap (take ((get_or img text_length_address 0 + 1) / 2)) (tail text_start (omega arith)))
 
   pub other-end : (k : ℕ) → (k ≡ a → ⊥) → get_or (set img a v) k 0 ≡ get_or img k 0
   other-end k ne = word k ne
@@ -54,45 +56,66 @@ module _ (img : List ℕ) (a v : ℕ) (wide : text_start ≤ length img) (low : 
   pub own-end : get_or (set img a v) a 0 ≡ v
   own-end = get_or-set_same img a v 0 (omega arith)
 
-read-end : (img : List ℕ) (event : ClearEvent) (v : ℕ) → text_start ≤ length img → read_image (set img (area_end_address event) v) ≡ with_area_end (read_image img) event v
+read-end : (img : List ℕ) (event : ClearEvent) (v : ℕ) → text_start ≤ length img
+    → read_image (set img (area_end_address event) v) ≡ with_area_end (read_image img) event v
 unfolding read_image
 read-end img Reset v wide = λ k. record {
   head = head-end img reset_end_address v wide (lit< tt) (lit< tt) k;
   text = text-end img reset_end_address v wide (lit< tt) (lit< tt) k;
-  counts = (other-end img reset_end_address v wide (lit< tt) (lit< tt) packages_address (λ e. omega arith) k, other-end img reset_end_address v wide (lit< tt) (lit< tt) applets_address (λ e. omega arith) k);
+  counts = (
+    other-end img reset_end_address v wide (lit< tt) (lit< tt) packages_address (λ e. omega arith) k,
+    other-end img reset_end_address v wide (lit< tt) (lit< tt) applets_address (λ e. omega arith) k,
+  );
   items = items-end img reset_end_address v wide (lit< tt) (lit< tt) k;
   packages = addresses-end img reset_end_address v wide (lit< tt) (lit< tt) k;
   applets = applets-end img reset_end_address v wide (lit< tt) (lit< tt) k;
-  area_ends = (own-end img reset_end_address v wide (lit< tt) (lit< tt) k, other-end img reset_end_address v wide (lit< tt) (lit< tt) deselect_end_address (λ e. omega arith) k);
+  area_ends = (
+    own-end img reset_end_address v wide (lit< tt) (lit< tt) k,
+    other-end img reset_end_address v wide (lit< tt) (lit< tt) deselect_end_address
+        (λ e. omega arith) k,
+  );
   top = length-set img reset_end_address v k;
 }
 read-end img Deselect v wide = λ k. record {
   head = head-end img deselect_end_address v wide (lit< tt) (lit< tt) k;
   text = text-end img deselect_end_address v wide (lit< tt) (lit< tt) k;
-  counts = (other-end img deselect_end_address v wide (lit< tt) (lit< tt) packages_address (λ e. omega arith) k, other-end img deselect_end_address v wide (lit< tt) (lit< tt) applets_address (λ e. omega arith) k);
+  counts = (
+    other-end img deselect_end_address v wide (lit< tt) (lit< tt) packages_address (λ e. omega arith) k,
+    other-end img deselect_end_address v wide (lit< tt) (lit< tt) applets_address (λ e. omega arith) k,
+  );
   items = items-end img deselect_end_address v wide (lit< tt) (lit< tt) k;
   packages = addresses-end img deselect_end_address v wide (lit< tt) (lit< tt) k;
   applets = applets-end img deselect_end_address v wide (lit< tt) (lit< tt) k;
-  area_ends = (other-end img deselect_end_address v wide (lit< tt) (lit< tt) reset_end_address (λ e. omega arith) k, own-end img deselect_end_address v wide (lit< tt) (lit< tt) k);
+  area_ends = (
+    other-end img deselect_end_address v wide (lit< tt) (lit< tt) reset_end_address (λ e. omega arith) k,
+    own-end img deselect_end_address v wide (lit< tt) (lit< tt) k,
+  );
   top = length-set img deselect_end_address v k;
 }
 
 -- an image with another number of applets
-pub read-applets : (img : List ℕ) (v : ℕ) → text_start ≤ length img → read_image (set img applets_address v) ≡ record (read_image img) { counts = (((read_image img).counts).0, v) }
+pub read-applets : (img : List ℕ) (v : ℕ) → text_start ≤ length img → read_image (set img applets_address v)
+    ≡ record (read_image img) { counts = (((read_image img).counts).0, v) }
 unfolding read_image
 read-applets img v wide = λ k. record {
   head = head-end img applets_address v wide (lit< tt) (lit< tt) k;
   text = text-end img applets_address v wide (lit< tt) (lit< tt) k;
-  counts = (other-end img applets_address v wide (lit< tt) (lit< tt) packages_address (λ e. omega arith) k, own-end img applets_address v wide (lit< tt) (lit< tt) k);
+  counts = (
+    other-end img applets_address v wide (lit< tt) (lit< tt) packages_address (λ e. omega arith) k,
+    own-end img applets_address v wide (lit< tt) (lit< tt) k,
+  );
   items = items-end img applets_address v wide (lit< tt) (lit< tt) k;
   packages = addresses-end img applets_address v wide (lit< tt) (lit< tt) k;
   applets = applets-end img applets_address v wide (lit< tt) (lit< tt) k;
-  area_ends = (other-end img applets_address v wide (lit< tt) (lit< tt) reset_end_address (λ e. omega arith) k, other-end img applets_address v wide (lit< tt) (lit< tt) deselect_end_address (λ e. omega arith) k);
+  area_ends = (
+    other-end img applets_address v wide (lit< tt) (lit< tt) reset_end_address (λ e. omega arith) k,
+    other-end img applets_address v wide (lit< tt) (lit< tt) deselect_end_address (λ e. omega arith) k,
+  );
   top = length-set img applets_address v k;
 }
 
 -- one of these words set leaves the words laid
-pub laid-front : (ws : List ℕ) (a v : ℕ) → packages_address < a → a < text_length_address → IsLaid ws → IsLaid (set ws a v)
+pub laid-front : (ws : List ℕ) (a v : ℕ) → packages_address < a → a < text_length_address → IsWellFormed ws → IsWellFormed (set ws a v)
 laid-front ws a v low high laid =
     let wide : text_start ≤ length (image ws) = omega (arith, laid.based, length-take-le (get_or ws top_address 0) ws laid.fits) in
     let img : image (set ws a v) ≡ set (image ws) a v = image-set ws a v (omega (arith, low)) in
@@ -101,7 +124,7 @@ laid-front ws a v low high laid =
     record {
       based = rw (same_base, top) laid.based;
       fits = rw (top, length-set ws a v) laid.fits;
-      whole = ap missing img ∙ missing-end (image ws) a v wide low high ∙ laid.whole;
+      whole = ap missing_words_of_image img ∙ missing-end (image ws) a v wide low high ∙ laid.whole;
       packages = λ b le. ap (λ ps. is_package ps b) (ap package_addresses img ∙ addresses-end (image ws) a v wide low high) ∙ laid.packages b (rw top at le);
     }
 
@@ -114,7 +137,7 @@ place_high Reset = lit< tt
 place_high Deselect = lit< tt
 
 -- the end's word is the end
-pub area_read : (ws : List ℕ) (event : ClearEvent) → IsLaid ws → area_end (heap_of ws) event ≡ get_or ws (area_end_address event) 0
+pub area_read : (ws : List ℕ) (event : ClearEvent) → IsWellFormed ws → area_end (heap_of ws) event ≡ get_or ws (area_end_address event) 0
 unfolding read_image
 area_read ws Reset laid = get_or-take (get_or ws top_address 0) ws reset_end_address 0 (omega (arith, laid.based))
 area_read ws Deselect laid = get_or-take (get_or ws top_address 0) ws deselect_end_address 0 (omega (arith, laid.based))
@@ -122,15 +145,16 @@ area_read ws Deselect laid = get_or-take (get_or ws top_address 0) ws deselect_e
 pub top-end : (ws : List ℕ) (event : ClearEvent) (v : ℕ) → get_or (set ws (area_end_address event) v) top_address 0 ≡ get_or ws top_address 0
 top-end ws event v = get_or-set_other ws (area_end_address event) top_address v 0 (λ e. omega (arith, place_low event))
 
-pub with_area_end-heap_of : (ws : List ℕ) (event : ClearEvent) (v : ℕ) → IsLaid ws → heap_of (set ws (area_end_address event) v) ≡ with_area_end (heap_of ws) event v
+pub with_area_end-heap_of : (ws : List ℕ) (event : ClearEvent) (v : ℕ) → IsWellFormed ws
+    → heap_of (set ws (area_end_address event) v) ≡ with_area_end (heap_of ws) event v
 with_area_end-heap_of ws event v laid =
     let wide : text_start ≤ length (image ws) = omega (arith, laid.based, length-take-le (get_or ws top_address 0) ws laid.fits) in
     ap read_image (image-set ws (area_end_address event) v (omega (arith, place_low event))) ∙ read-end (image ws) event v wide
 
-pub IsLaid-end : (ws : List ℕ) (event : ClearEvent) (v : ℕ) → IsLaid ws → IsLaid (set ws (area_end_address event) v)
-IsLaid-end ws event v laid = laid-front ws (area_end_address event) v (place_low event) (place_high event) laid
+pub IsWellFormed-end : (ws : List ℕ) (event : ClearEvent) (v : ℕ) → IsWellFormed ws → IsWellFormed (set ws (area_end_address event) v)
+IsWellFormed-end ws event v laid = laid-front ws (area_end_address event) v (place_low event) (place_high event) laid
 
 pub shape-end : (d h : HeapState) (event : ClearEvent) (v : ℕ) → SameShape d h → SameShape d (with_area_end h event v)
-unfolding item_at names
+unfolding heap_item_at is_allocated
 shape-end d h Reset v s = record { items = s.items; names = s.names }
 shape-end d h Deselect v s = record { items = s.items; names = s.names }

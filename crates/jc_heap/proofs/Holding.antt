@@ -2,7 +2,7 @@
 use Rattle.std.proofs.Common.{◌≡◌, ℕ, Bool, false, List, length, sym, ◌∙◌, ap, subst}
 use Rattle.jc_commit.specs.Image.{count_of, plain_of, recovered_of, IsGoodLog}
 use Rattle.jc_commit.specs.State.{State}
-use Rattle.jc_heap.specs.Image.{IsLaid}
+use Rattle.jc_heap.specs.Image.{IsWellFormed}
 use Rattle.jc_heap.specs.Heap.{heap_of, heap_view}
 use Rattle.jc_heap.specs.Stored.{HoldsHeap}
 use Rattle.jc_heap.proofs.RawWords.{recovered-front, head_is}
@@ -18,9 +18,10 @@ pub record IsStoreOf (w : List ℕ) (is_down : Bool) (let_pass turned_down : ℕ
   pub refused : turned_down ≡ j.refused
   pub closed : j.down ≡ false → j.in_transaction ≡ false → count_of w ≡ 0
 
-pub holds : (w : List ℕ) (is_down : Bool) (let_pass turned_down : ℕ) (j : State) (n : ℕ) → IsStoreOf w is_down let_pass turned_down j → IsLaid j.recovered → length j.recovered ≡ n → HoldsHeap w is_down let_pass turned_down (heap_view j n)
+pub holds : (w : List ℕ) (is_down : Bool) (let_pass turned_down : ℕ) (j : State) (n : ℕ) → IsStoreOf w is_down let_pass turned_down j → IsWellFormed j.recovered
+    → length j.recovered ≡ n → HoldsHeap w is_down let_pass turned_down (heap_view j n)
 holds w is_down let_pass turned_down j n s back long =
-    let laid : IsLaid (recovered_of w) = subst IsLaid (sym s.recovered) back in
+    let laid : IsWellFormed (recovered_of w) = subst IsWellFormed (sym s.recovered) back in
     record {
       good = s.good;
       laid = laid;

@@ -32,3 +32,4 @@ pub mod RawWords
 pub mod Holding
 pub mod AreaRuns
 pub mod Several
+pub mod ReadBack

@@ -1,55 +1,50 @@
 -- A new object through the journal: fresh words, then the top.
-use Rattle.std.proofs.Common.{◌≡◌, ℕ, ◌+◌, ◌<◌, ◌≤◌, Bool, true, false, List, [], ◌∷◌, ◌++◌, length, get_or, set, replicate, refl, sym, ◌∙◌, ap, subst, arith, if◌then◌else◌, Some}
-use Rattle.std.specs.Prelude.{IsTrue}
+use Rattle.std.proofs.Common.{◌≡◌, ℕ, ◌+◌, ◌<◌, ◌≤◌, true, false, List, [], ◌∷◌, ◌++◌, length, get_or, set, replicate, refl, sym, ◌∙◌, ap, subst, arith}
+use Rattle.std.proofs.Common.{if◌then◌else◌, Some}
 use Rattle.std.proofs.lemmas.Bool.{false≢true}
 use Rattle.jc_commit.specs.declared.refusal.WriteRefusal.{WriteRefusal}
 use Rattle.jc_commit.specs.declared.refusal.WriteRefusal.TheVariants.{StoreDown, Full}
 use Rattle.std.proofs.lemmas.List.{length-replicate, length-take-le}
-use Rattle.jc_words.specs.Count.{raised}
+use Rattle.jc_words.specs.Count.{saturating_count}
 use Rattle.jc_words.specs.Layout.{top_address}
 use Rattle.jc_commit.specs.Image.{with_words}
 use Rattle.jc_commit.specs.Entries.{addresses_of}
-use Rattle.jc_commit.specs.State.{State, live, Changes, IsStopped as JournalStopped, added, writes_for, has_room_for as journal_room}
+use Rattle.jc_commit.specs.State.{State, live_words, Changes, IsTornWrite as JournalStopped, unlogged_addresses, writes_for, has_room_for as journal_room}
 use Rattle.jc_heap.specs.declared.object.Kind.{Kind}
 use Rattle.jc_heap.specs.declared.object.Kind.TheVariants.{Instance, BooleanArray, ByteArray, ShortArray, ReferenceArray}
 use Rattle.jc_transient.specs.declared.cell.ClearEvent.{ClearEvent}
 use Rattle.jc_transient.specs.declared.cell.ClearEvent.TheVariants.{Reset, Deselect}
 use Rattle.jc_heap.specs.Object.{Object, AnObject, header_word, new_transient, kind_number, transient_size, object_of, new_object, payload}
-use Rattle.jc_heap.specs.Image.{IsLaid}
-use Rattle.jc_heap.specs.Fresh.{IsFree, KeepsBelow, Fills, StopsFresh}
-use Rattle.jc_heap.specs.Heap.{HeapState, HeapView, heap_view, read_image, heap_of, add_object, end_address, changed, IsSound, IsStopped, LacksSpace, SameShape, names, item_at, add_transient, area_end_address, area_end, with_area_end}
-use Rattle.jc_heap.proofs.Laws.{shape-add, item_at-add_object}
-use Rattle.jc_heap.proofs.Added.{heap_of-grown, top-moved, IsLaid-grown, image-same_below, IsLaid-same_below}
-use Rattle.jc_heap.proofs.Changing.{change_view, change_sound, stopped_sound, stopped_view, top-live}
+use Rattle.jc_heap.specs.Image.{IsWellFormed}
+use Rattle.jc_heap.specs.Fresh.{KeepsBelow, Fills, IsTornFresh}
+use Rattle.jc_heap.specs.Heap.{HeapState, HeapView, heap_view, read_image, heap_of, add_object, end_address, heap_after_change, IsSound, IsTornChange}
+use Rattle.jc_heap.specs.Heap.{LacksSpace, SameShape, is_allocated, heap_item_at, add_transient, area_end_address, area_end, with_area_end}
+use Rattle.jc_heap.proofs.Laws.{shape-add, heap_item_at-add_object}
+use Rattle.jc_heap.proofs.Added.{heap_of-grown, top-moved, IsLaid-grown, image-same_below, IsWellFormed-same_below}
+use Rattle.jc_heap.proofs.Changing.{change_view, change_sound, stopped_sound, stopped_view, top-live_words}
 use Rattle.jc_heap.proofs.Views.{view_top}
-use Rattle.jc_heap.proofs.AreaEnds.{area_read, with_area_end-heap_of, IsLaid-end, shape-end, top-end}
+use Rattle.jc_heap.proofs.AreaEnds.{area_read, with_area_end-heap_of, IsWellFormed-end, shape-end, top-end}
 
--- the words from the top on are free
-pub free_above : (j : State) (n count : ℕ) → IsSound j n → j.down ≡ false → get_or j.plain top_address 0 + count ≤ n → IsFree (get_or j.plain top_address 0) count j
-free_above j n count s up fits = record {
-  up = up;
-  low = omega (arith, (s.now up).based);
-  above = omega arith;
-  above_recovered = s.order up;
-  fits = omega (arith, fits, s.size_now up);
-  small = omega (arith, s.small, s.size_now up);
-}
-
-pub lacks_space : (j : State) (v : HeapView) (n count : ℕ) → heap_view j n ≡ v → IsLaid j.plain → n < get_or j.plain top_address 0 + count → LacksSpace v count
+pub lacks_space : (j : State) (v : HeapView) (n count : ℕ) → heap_view j n ≡ v → IsWellFormed j.plain → n < get_or j.plain top_address 0 + count
+    → LacksSpace v count
 lacks_space j v n count is laid h = subst (λ u. u.size < u.now.top + count) is (omega (arith, view_top j (heap_view j n) n refl laid, h))
 
-pub has_space : (j : State) (v : HeapView) (n count : ℕ) → heap_view j n ≡ v → IsLaid j.plain → get_or j.plain top_address 0 + count ≤ n → LacksSpace v count → ⊥
+pub has_space : (j : State) (v : HeapView) (n count : ℕ) → heap_view j n ≡ v → IsWellFormed j.plain → get_or j.plain top_address 0 + count ≤ n
+    → LacksSpace v count → ⊥
 has_space j v n count is laid h = subst (λ u. u.size < u.now.top + count → ⊥) is (λ lacks. omega (arith, view_top j (heap_view j n) n refl laid, h, lacks))
 
 -- the same words, where the class and the owner are the same
-pub fills_same : (at word : ℕ) (k l m n : ℕ) (rest : List ℕ) (old new : State) → k ≡ l → m ≡ n → Fills at (word ∷ k ∷ m ∷ rest) old new → Fills at (word ∷ l ∷ n ∷ rest) old new
-fills_same at word k l m n rest old new class owner f = subst (λ x. Fills at (word ∷ x ∷ n ∷ rest) old new) class (subst (λ x. Fills at (word ∷ k ∷ x ∷ rest) old new) owner f)
+pub fills_same : (at word : ℕ) (k l m n : ℕ) (rest : List ℕ) (old new : State) → k ≡ l → m ≡ n → Fills at (word ∷ k ∷ m ∷ rest) old new
+    → Fills at (word ∷ l ∷ n ∷ rest) old new
+fills_same at word k l m n rest old new class owner f = subst (λ x. Fills at (word ∷ x ∷ n ∷ rest) old new) class
+    (subst (λ x. Fills at (word ∷ k ∷ x ∷ rest) old new) owner f)
 
 -- the words that a new object takes
 unfoldable pub new_record : ℕ → ℕ → ℕ → ℕ → List ℕ
 new_record word class owner length = (word ∷ class ∷ owner ∷ length ∷ []) ++ replicate length 0
 
-pub object_of-new_record : (kind : Kind) (class owner length : ℕ) → object_of (new_record (kind_number kind) class owner length) ≡ new_object kind class owner length
+pub object_of-new_record : (kind : Kind) (class owner length : ℕ) → object_of (new_record (kind_number kind) class owner length)
+    ≡ new_object kind class owner length
 unfolding new_record
 object_of-new_record Instance class owner length = refl
 object_of-new_record BooleanArray class owner length = refl
@@ -57,7 +52,8 @@ object_of-new_record ByteArray class owner length = refl
 object_of-new_record ShortArray class owner length = refl
 object_of-new_record ReferenceArray class owner length = refl
 
-pub own-new_record : (kind : Kind) (class owner n : ℕ) → 3 + payload (get_or (new_record (kind_number kind) class owner n) 0 0) (get_or (new_record (kind_number kind) class owner n) 3 0) + 1 ≡ length (new_record (kind_number kind) class owner n)
+pub own-new_record : (kind : Kind) (class owner n : ℕ) → 3 + payload (get_or (new_record (kind_number kind) class owner n) 0 0)
+    (get_or (new_record (kind_number kind) class owner n) 3 0) + 1 ≡ length (new_record (kind_number kind) class owner n)
 unfolding new_record
 own-new_record Instance class owner n = omega (arith, length-replicate {A = ℕ} n 0)
 own-new_record BooleanArray class owner n = omega (arith, length-replicate {A = ℕ} n 0)
@@ -73,17 +69,17 @@ module _ (j k : State) (n : ℕ) (s : IsSound j n) (up : j.down ≡ false) (b : 
   far : top_address < get_or j.plain top_address 0
   far = omega (arith, (s.now up).based)
 
-  pub live_back : live k.recovered ≡ live j.recovered
+  pub live_back : live_words k.recovered ≡ live_words j.recovered
   live_back = image-same_below j.recovered k.recovered (get_or j.plain top_address 0) far (s.order up) b.recovered
 
-  laid_back : IsLaid k.recovered
-  laid_back = IsLaid-same_below j.recovered k.recovered (get_or j.plain top_address 0) far (s.order up) b.recovered b.size_recovered s.back
+  laid_back : IsWellFormed k.recovered
+  laid_back = IsWellFormed-same_below j.recovered k.recovered (get_or j.plain top_address 0) far (s.order up) b.recovered b.size_recovered s.back
 
   -- the store refused a fresh word
-  pub fresh_stopped_sound : StopsFresh j k → IsSound k n
+  pub fresh_stopped_sound : IsTornFresh j k → IsSound k n
   fresh_stopped_sound st = stopped_sound j k n live_back b.size_recovered st.down s.back s.size_recovered s.small
 
-  pub fresh_stopped_view : (v : HeapView) → heap_view j n ≡ v → StopsFresh j k → IsStopped v (heap_view k n)
+  pub fresh_stopped_view : (v : HeapView) → heap_view j n ≡ v → IsTornFresh j k → IsTornChange v (heap_view k n)
   fresh_stopped_view v is st = stopped_view j k v n is live_back st.down st.refused
 
   module _ (rec : List ℕ) (f : Fills (get_or j.plain top_address 0) rec j k) where
@@ -91,31 +87,47 @@ module _ (j k : State) (n : ℕ) (s : IsSound j n) (up : j.down ≡ false) (b : 
     pub top_stopped_sound : (m : State) → JournalStopped k m → IsSound m n
     top_stopped_sound m st = stopped_sound k m n st.recovered st.size_recovered st.down laid_back (b.size_recovered ∙ s.size_recovered) s.small
 
-    pub top_stopped_view : (m : State) (v : HeapView) → heap_view j n ≡ v → JournalStopped k m → IsStopped v (heap_view m n)
-    top_stopped_view m v is st = stopped_view j m v n is (st.recovered ∙ live_back) st.down (st.refused ∙ ap (λ r. raised r 1) f.refused)
+    pub top_stopped_view : (m : State) (v : HeapView) → heap_view j n ≡ v → JournalStopped k m → IsTornChange v (heap_view m n)
+    top_stopped_view m v is st = stopped_view j m v n is (st.recovered ∙ live_back) st.down (st.refused ∙ ap (λ r. saturating_count r 1) f.refused)
 
-    raised_twice : (p q a w : ℕ) → q ≡ raised p a → raised q (0 + w) ≡ raised p (a + w)
+    raised_twice : (p q a w : ℕ) → q ≡ saturating_count p a → saturating_count q (0 + w) ≡ saturating_count p (a + w)
     raised_twice p q a w e = omega (arith, e)
 
     -- a change of words behind the fresh ones is a change of the heap
-    pub view_then : (cs : List (ℕ × ℕ)) (h : HeapState) (m : State) → Changes cs k m → heap_of (with_words k.plain cs) ≡ h → heap_view m n ≡ changed (heap_view j n) h (addresses_of cs) (length rec)
+    pub view_then : (cs : List (ℕ × ℕ)) (h : HeapState) (m : State) → Changes cs k m → heap_of (with_words k.plain cs) ≡ h
+        → heap_view m n ≡ heap_after_change (heap_view j n) h (addresses_of cs) (length rec)
     view_then cs h m c now =
-        let made : heap_view m n ≡ changed (heap_view k n) h (addresses_of cs) 0 = change_view cs k m n h c now in
+        let made : heap_view m n ≡ heap_after_change (heap_view k n) h (addresses_of cs) 0 = change_view cs k m n h c now in
         let durable : (if k.in_transaction then heap_of k.recovered else h) ≡ (if j.in_transaction then heap_of j.recovered else h) =
         ap (λ d. if k.in_transaction then d else h) (ap read_image live_back) ∙ ap (λ g. if g then heap_of j.recovered else h) b.in_transaction in
-        let touched : k.touched ++ added k.in_transaction (addresses_of cs) ≡ j.touched ++ added j.in_transaction (addresses_of cs) =
-        ap (λ l. l ++ added k.in_transaction (addresses_of cs)) b.touched ∙ ap (λ g. j.touched ++ added g (addresses_of cs)) b.in_transaction in
-        let sum : raised k.passed (0 + writes_for j.in_transaction (addresses_of cs)) ≡ raised j.passed (length rec + writes_for j.in_transaction (addresses_of cs)) =
+        let touched : k.touched ++ unlogged_addresses k.in_transaction (addresses_of cs) ≡ j.touched ++ unlogged_addresses j.in_transaction (addresses_of cs) =
+        ap (λ l. l ++ unlogged_addresses k.in_transaction (addresses_of cs)) b.touched
+        ∙ ap (λ g. j.touched ++ unlogged_addresses g (addresses_of cs)) b.in_transaction in
+        let sum : saturating_count k.passed (0 + writes_for j.in_transaction (addresses_of cs))
+        ≡ saturating_count j.passed (length rec + writes_for j.in_transaction (addresses_of cs)) =
         raised_twice j.passed k.passed (length rec) (writes_for j.in_transaction (addresses_of cs)) f.passed in
-        let passed : raised k.passed (0 + writes_for k.in_transaction (addresses_of cs)) ≡ raised j.passed (length rec + writes_for j.in_transaction (addresses_of cs)) =
-        ap (λ g. raised k.passed (0 + writes_for g (addresses_of cs))) b.in_transaction ∙ sum in
-        made ∙ (λ i. record { now = h; durable = durable i; begun = b.in_transaction i; touched = touched i; down = f.down i; passed = passed i; refused = f.refused i; size = n })
+        let passed : saturating_count k.passed (0 + writes_for k.in_transaction (addresses_of cs))
+        ≡ saturating_count j.passed (length rec + writes_for j.in_transaction (addresses_of cs)) =
+        ap (λ g. saturating_count k.passed (0 + writes_for g (addresses_of cs))) b.in_transaction ∙ sum in
+        made ∙ (λ i. record {
+          now = h;
+          durable = durable i;
+          begun = b.in_transaction i;
+          touched = touched i;
+          down = f.down i;
+          passed = passed i;
+          refused = f.refused i;
+          size = n;
+        })
 
-    pub sound_then : (cs : List (ℕ × ℕ)) (h : HeapState) (m : State) → Changes cs k m → heap_of (with_words k.plain cs) ≡ h → IsLaid (with_words k.plain cs) →
+    pub sound_then : (cs : List (ℕ × ℕ)) (h : HeapState) (m : State) → Changes cs k m → heap_of (with_words k.plain cs) ≡ h
+        → IsWellFormed (with_words k.plain cs) →
         get_or j.plain top_address 0 ≤ get_or (with_words k.plain cs) top_address 0 → SameShape (heap_of j.recovered) h → IsSound m n
-    sound_then cs h m c now laid order shape = change_sound cs k m n c (f.down ∙ up) laid_back (b.size_recovered ∙ s.size_recovered) (b.size ∙ s.size_now up) s.small laid
-        (λ _. omega (arith, order, s.order up, top-live j.recovered k.recovered s.back live_back))
-        (λ _. subst (λ d. SameShape d (heap_of (with_words k.plain cs))) (ap read_image (sym live_back)) (subst (SameShape (heap_of j.recovered)) (sym now) shape))
+    sound_then cs h m c now laid order shape = change_sound cs k m n c (f.down ∙ up) laid_back (b.size_recovered ∙ s.size_recovered)
+        (b.size ∙ s.size_now up) s.small laid
+        (λ _. omega (arith, order, s.order up, top-live_words j.recovered k.recovered s.back live_back))
+        (λ _. subst (λ d. SameShape d (heap_of (with_words k.plain cs))) (ap read_image (sym live_back))
+        (subst (SameShape (heap_of j.recovered)) (sym now) shape))
 
     module _ (own : 3 + payload (get_or rec 0 0) (get_or rec 3 0) + 1 ≡ length rec) (fits : get_or j.plain top_address 0 + length rec ≤ n) where
       fits_now : get_or j.plain top_address 0 + length rec ≤ length k.plain
@@ -125,7 +137,7 @@ module _ (j k : State) (n : ℕ) (s : IsSound j n) (up : j.down ≡ false) (b : 
       abbrev pub moved_top : List ℕ
       moved_top = set k.plain top_address (get_or j.plain top_address 0 + length rec)
 
-      pub laid_now : IsLaid moved_top
+      pub laid_now : IsWellFormed moved_top
       laid_now = IsLaid-grown j.plain k.plain rec (s.now up) f.words fits_now own
 
       pub top_now : get_or moved_top top_address 0 ≡ get_or j.plain top_address 0 + length rec
@@ -136,55 +148,80 @@ module _ (j k : State) (n : ℕ) (s : IsSound j n) (up : j.down ≡ false) (b : 
 
       tops : (heap_of j.recovered).top ≤ (heap_of j.plain).top
       unfolding read_image
-      tops = omega (arith, length-take-le (get_or j.plain top_address 0) j.plain (s.now up).fits, length-take-le (get_or j.recovered top_address 0) j.recovered s.back.fits, s.order up)
+      tops = omega (
+        arith,
+        length-take-le (get_or j.plain top_address 0) j.plain (s.now up).fits,
+        length-take-le (get_or j.recovered top_address 0) j.recovered s.back.fits,
+        s.order up,
+      )
 
       pub shape_now : SameShape (heap_of j.recovered) (add_object (heap_of j.plain) (object_of rec) (length rec))
       shape_now = shape-add (heap_of j.recovered) (heap_of j.plain) (object_of rec) (length rec) tops (s.shape up)
 
       pub sound_made_at : (m : State) → Changes ((top_address, get_or j.plain top_address 0 + length rec) ∷ []) k m → IsSound m n
-      sound_made_at m c = sound_then ((top_address, get_or j.plain top_address 0 + length rec) ∷ []) (add_object (heap_of j.plain) (object_of rec) (length rec)) m c heap_now laid_now (omega (arith, top_now)) shape_now
+      sound_made_at m c = sound_then ((top_address, get_or j.plain top_address 0 + length rec) ∷ [])
+          (add_object (heap_of j.plain) (object_of rec) (length rec)) m c heap_now laid_now (omega (arith, top_now)) shape_now
 
-      pub view_made_at : (m : State) → Changes ((top_address, get_or j.plain top_address 0 + length rec) ∷ []) k m → heap_view m n ≡ changed (heap_view j n) (add_object (heap_of j.plain) (object_of rec) (length rec)) (top_address ∷ []) (length rec)
-      view_made_at m c = view_then ((top_address, get_or j.plain top_address 0 + length rec) ∷ []) (add_object (heap_of j.plain) (object_of rec) (length rec)) m c heap_now
+      pub view_made_at : (m : State) → Changes ((top_address, get_or j.plain top_address 0 + length rec) ∷ []) k m
+          → heap_view m n ≡ heap_after_change (heap_view j n) (add_object (heap_of j.plain) (object_of rec) (length rec)) (top_address ∷ []) (length rec)
+      view_made_at m c = view_then ((top_address, get_or j.plain top_address 0 + length rec) ∷ [])
+          (add_object (heap_of j.plain) (object_of rec) (length rec)) m c heap_now
 
-pub view_made : (j k m : State) (v : HeapView) (n : ℕ) (kind : Kind) (class owner count end : ℕ) → heap_view j n ≡ v → IsSound j n → j.down ≡ false → KeepsBelow (get_or j.plain top_address 0) j k →
-    Fills (get_or j.plain top_address 0) (new_record (kind_number kind) class owner count) j k → end ≡ get_or j.plain top_address 0 + (4 + count) → end ≤ n → Changes ((top_address, end) ∷ []) k m →
-    heap_view m n ≡ changed v (add_object v.now (new_object kind class owner count) (4 + count)) (end_address ∷ []) (4 + count)
+pub view_made : (j k m : State) (v : HeapView) (n : ℕ) (kind : Kind) (class owner count end : ℕ) → heap_view j n ≡ v → IsSound j n → j.down ≡ false
+    → KeepsBelow (get_or j.plain top_address 0) j k →
+    Fills (get_or j.plain top_address 0) (new_record (kind_number kind) class owner count) j k → end ≡ get_or j.plain top_address 0 + (4 + count) → end ≤ n
+    → Changes ((top_address, end) ∷ []) k m →
+    heap_view m n ≡ heap_after_change v (add_object v.now (new_object kind class owner count) (4 + count)) (end_address ∷ []) (4 + count)
 unfolding end_address
 view_made j k m v n kind class owner count end is s up b f e fits c =
     let long : length (new_record (kind_number kind) class owner count) ≡ 4 + count = length-new_record (kind_number kind) class owner count in
-    let there : Changes ((top_address, get_or j.plain top_address 0 + length (new_record (kind_number kind) class owner count)) ∷ []) k m = subst (λ t. Changes ((top_address, t) ∷ []) k m) (e ∙ ap (λ l. get_or j.plain top_address 0 + l) (sym long)) c in
-    subst (λ u. heap_view m n ≡ changed u (add_object (u.now) (new_object kind class owner count) (4 + count)) (top_address ∷ []) (4 + count)) is
-    (subst (λ o. heap_view m n ≡ changed (heap_view j n) (add_object (heap_of j.plain) o (4 + count)) (top_address ∷ []) (4 + count)) (object_of-new_record kind class owner count)
-    (subst (λ l. heap_view m n ≡ changed (heap_view j n) (add_object (heap_of j.plain) (object_of (new_record (kind_number kind) class owner count)) l) (top_address ∷ []) l) long
-    (view_made_at j k n s up b (new_record (kind_number kind) class owner count) f (own-new_record kind class owner count) (omega (arith, long, e, fits)) m there)))
+    let there : Changes ((top_address, get_or j.plain top_address 0 + length (new_record (kind_number kind) class owner count)) ∷ []) k m =
+    subst (λ t. Changes ((top_address, t) ∷ []) k m) (e ∙ ap (λ l. get_or j.plain top_address 0 + l) (sym long)) c in
+    subst (λ u. heap_view m n ≡ heap_after_change u (add_object (u.now) (new_object kind class owner count) (4 + count)) (top_address ∷ []) (4 + count)) is
+    (subst (λ o. heap_view m n ≡ heap_after_change (heap_view j n) (add_object (heap_of j.plain) o (4 + count)) (top_address ∷ []) (4 + count))
+    (object_of-new_record kind class owner count)
+    (subst (λ l. heap_view m n ≡ heap_after_change (heap_view j n) (add_object (heap_of j.plain)
+    (object_of (new_record (kind_number kind) class owner count)) l) (top_address ∷ []) l) long
+    (view_made_at j k n s up b (new_record (kind_number kind) class owner count) f (own-new_record kind class owner count)
+    (omega (arith, long, e, fits)) m there)))
 
-pub sound_made : (j k m : State) (n : ℕ) (kind : Kind) (class owner count end : ℕ) → IsSound j n → j.down ≡ false → KeepsBelow (get_or j.plain top_address 0) j k →
-    Fills (get_or j.plain top_address 0) (new_record (kind_number kind) class owner count) j k → end ≡ get_or j.plain top_address 0 + (4 + count) → end ≤ n → Changes ((top_address, end) ∷ []) k m → IsSound m n
+pub sound_made : (j k m : State) (n : ℕ) (kind : Kind) (class owner count end : ℕ) → IsSound j n → j.down ≡ false
+    → KeepsBelow (get_or j.plain top_address 0) j k →
+    Fills (get_or j.plain top_address 0) (new_record (kind_number kind) class owner count) j k → end ≡ get_or j.plain top_address 0 + (4 + count) → end ≤ n
+    → Changes ((top_address, end) ∷ []) k m → IsSound m n
 sound_made j k m n kind class owner count end s up b f e fits c =
     let long : length (new_record (kind_number kind) class owner count) ≡ 4 + count = length-new_record (kind_number kind) class owner count in
-    let there : Changes ((top_address, get_or j.plain top_address 0 + length (new_record (kind_number kind) class owner count)) ∷ []) k m = subst (λ t. Changes ((top_address, t) ∷ []) k m) (e ∙ ap (λ l. get_or j.plain top_address 0 + l) (sym long)) c in
-    sound_made_at j k n s up b (new_record (kind_number kind) class owner count) f (own-new_record kind class owner count) (omega (arith, long, e, fits)) m there
+    let there : Changes ((top_address, get_or j.plain top_address 0 + length (new_record (kind_number kind) class owner count)) ∷ []) k m =
+    subst (λ t. Changes ((top_address, t) ∷ []) k m) (e ∙ ap (λ l. get_or j.plain top_address 0 + l) (sym long)) c in
+    sound_made_at j k n s up b (new_record (kind_number kind) class owner count) f (own-new_record kind class owner count)
+    (omega (arith, long, e, fits)) m there
 
 -- what stands at a new object's address
-pub made_object : (v : HeapView) (o : Object) (size fresh : ℕ) (places : List ℕ) → names v.now v.now.top ≡ false → item_at ((changed v (add_object v.now o size) places fresh).now) v.now.top ≡ AnObject o
-made_object v o size fresh places free = item_at-add_object v.now o size free
+pub made_object : (v : HeapView) (o : Object) (size fresh : ℕ) (places : List ℕ) → is_allocated v.now v.now.top ≡ false
+    → heap_item_at ((heap_after_change v (add_object v.now o size) places fresh).now) v.now.top ≡ AnObject o
+made_object v o size fresh places free = heap_item_at-add_object v.now o size free
 
-transient_there : (h : HeapState) (kind : Kind) (event : ClearEvent) (class owner long : ℕ) → names h h.top ≡ false → item_at (add_transient h kind event class owner long) h.top ≡ AnObject (new_transient kind event class owner long (area_end h event))
-unfolding add_transient item_at
-transient_there h kind Reset class owner long free = item_at-add_object h (new_transient kind Reset class owner long (area_end h Reset)) transient_size free
-transient_there h kind Deselect class owner long free = item_at-add_object h (new_transient kind Deselect class owner long (area_end h Deselect)) transient_size free
+transient_there : (h : HeapState) (kind : Kind) (event : ClearEvent) (class owner long : ℕ) → is_allocated h h.top ≡ false
+    → heap_item_at (add_transient h kind event class owner long) h.top ≡ AnObject (new_transient kind event class owner long (area_end h event))
+unfolding add_transient heap_item_at
+transient_there h kind Reset class owner long free = heap_item_at-add_object h (new_transient kind Reset class owner long (area_end h Reset)) transient_size
+    free
+transient_there h kind Deselect class owner long free = heap_item_at-add_object h
+    (new_transient kind Deselect class owner long (area_end h Deselect)) transient_size free
 
 -- the same of a new transient object
-pub made_transient : (v w : HeapView) (r fresh : ℕ) (places : List ℕ) (kind : Kind) (event : ClearEvent) (class owner long : ℕ) → r ≡ v.now.top → w ≡ changed v (add_transient v.now kind event class owner long) places fresh → names v.now v.now.top ≡ false →
-    item_at w.now r ≡ AnObject (new_transient kind event class owner long (area_end v.now event))
-made_transient v w r fresh places kind event class owner long named is free = ap (item_at (w.now)) named ∙ ap (λ u. item_at (u.now) v.now.top) is ∙ transient_there v.now kind event class owner long free
+pub made_transient : (v w : HeapView) (r fresh : ℕ) (places : List ℕ) (kind : Kind) (event : ClearEvent) (class owner long : ℕ) → r ≡ v.now.top
+    → w ≡ heap_after_change v (add_transient v.now kind event class owner long) places fresh → is_allocated v.now v.now.top ≡ false →
+    heap_item_at w.now r ≡ AnObject (new_transient kind event class owner long (area_end v.now event))
+made_transient v w r fresh places kind event class owner long named is free = ap (heap_item_at (w.now)) named ∙ ap (λ u. heap_item_at (u.now) v.now.top) is
+    ∙ transient_there v.now kind event class owner long free
 
 -- the words that a new transient object takes
 abbrev pub transient_record : Kind → ClearEvent → ℕ → ℕ → ℕ → ℕ → List ℕ
 transient_record kind event class owner long place = header_word kind (Some event) ∷ class ∷ owner ∷ long ∷ place ∷ []
 
-object_of-transient : (kind : Kind) (event : ClearEvent) (class owner long place : ℕ) → object_of (transient_record kind event class owner long place) ≡ new_transient kind event class owner long place
+object_of-transient : (kind : Kind) (event : ClearEvent) (class owner long place : ℕ)
+    → object_of (transient_record kind event class owner long place) ≡ new_transient kind event class owner long place
 object_of-transient Instance Reset class owner long place = refl
 object_of-transient Instance Deselect class owner long place = refl
 object_of-transient BooleanArray Reset class owner long place = refl
@@ -209,8 +246,10 @@ own-transient ReferenceArray Reset class owner long place = refl
 own-transient ReferenceArray Deselect class owner long place = refl
 
 -- a new transient object: the top and its area's end move together
-module _ (j k m : State) (n : ℕ) (kind : Kind) (event : ClearEvent) (class owner long place end : ℕ) (s : IsSound j n) (up : j.down ≡ false) (b : KeepsBelow (get_or j.plain top_address 0) j k)
-    (f : Fills (get_or j.plain top_address 0) (transient_record kind event class owner long place) j k) (at : place ≡ get_or j.plain (area_end_address event) 0) (e : end ≡ get_or j.plain top_address 0 + transient_size) (fits : end ≤ n)
+module _ (j k m : State) (n : ℕ) (kind : Kind) (event : ClearEvent) (class owner long place end : ℕ) (s : IsSound j n) (up : j.down ≡ false)
+    (b : KeepsBelow (get_or j.plain top_address 0) j k)
+    (f : Fills (get_or j.plain top_address 0) (transient_record kind event class owner long place) j k) (at : place ≡ get_or j.plain (area_end_address event) 0)
+    (e : end ≡ get_or j.plain top_address 0 + transient_size) (fits : end ≤ n)
     (c : Changes ((top_address, end) ∷ (area_end_address event, place + long) ∷ []) k m) where
   own_fits : get_or j.plain top_address 0 + transient_size ≤ n
   own_fits = omega (arith, e, fits)
@@ -218,7 +257,7 @@ module _ (j k m : State) (n : ℕ) (kind : Kind) (event : ClearEvent) (class own
   abbrev first : List ℕ
   first = set k.plain top_address (get_or j.plain top_address 0 + transient_size)
 
-  laid_first : IsLaid first
+  laid_first : IsWellFormed first
   laid_first = laid_now j k n s up b (transient_record kind event class owner long place) f (own-transient kind event class owner long place) own_fits
 
   heap_first : heap_of first ≡ add_object (heap_of j.plain) (new_transient kind event class owner long place) transient_size
@@ -239,31 +278,41 @@ module _ (j k m : State) (n : ℕ) (kind : Kind) (event : ClearEvent) (class own
   shape_both : SameShape (heap_of j.recovered) (add_transient (heap_of j.plain) kind event class owner long)
   shape_both = subst (SameShape (heap_of j.recovered)) (sym (with_area_end-heap_of first event (place + long) laid_first) ∙ heap_both)
       (shape-end (heap_of j.recovered) (heap_of first) event (place + long)
-      (subst (SameShape (heap_of j.recovered)) (sym (heap_now j k n s up b (transient_record kind event class owner long place) f (own-transient kind event class owner long place) own_fits))
+      (subst (SameShape (heap_of j.recovered)) (sym (heap_now j k n s up b (transient_record kind event class owner long place) f
+      (own-transient kind event class owner long place) own_fits))
       (shape_now j k n s up b (transient_record kind event class owner long place) f (own-transient kind event class owner long place) own_fits)))
 
   pub transient_sound : IsSound m n
-  transient_sound = sound_then j k n s up b (transient_record kind event class owner long place) f ((top_address, get_or j.plain top_address 0 + transient_size) ∷ (area_end_address event, place + long) ∷ [])
-      (add_transient (heap_of j.plain) kind event class owner long) m there heap_both (IsLaid-end first event (place + long) laid_first)
-      (omega (arith, top-end first event (place + long), top_now j k n s up b (transient_record kind event class owner long place) f (own-transient kind event class owner long place) own_fits)) shape_both
+  transient_sound = sound_then j k n s up b (transient_record kind event class owner long place) f
+      ((top_address, get_or j.plain top_address 0 + transient_size) ∷ (area_end_address event, place + long) ∷ [])
+      (add_transient (heap_of j.plain) kind event class owner long) m there heap_both (IsWellFormed-end first event (place + long) laid_first)
+      (omega (
+        arith,
+        top-end first event (place + long),
+        top_now j k n s up b (transient_record kind event class owner long place) f
+            (own-transient kind event class owner long place) own_fits,
+      )) shape_both
 
-  pub transient_view : (v : HeapView) → heap_view j n ≡ v → heap_view m n ≡ changed v (add_transient v.now kind event class owner long) (end_address ∷ area_end_address event ∷ []) transient_size
+  pub transient_view : (v : HeapView) → heap_view j n ≡ v → heap_view m n ≡ heap_after_change v (add_transient v.now kind event class owner long)
+      (end_address ∷ area_end_address event ∷ []) transient_size
   unfolding end_address
-  transient_view v is = subst (λ u. heap_view m n ≡ changed u (add_transient (u.now) kind event class owner long) (top_address ∷ area_end_address event ∷ []) transient_size) is
-      (view_then j k n s up b (transient_record kind event class owner long place) f ((top_address, get_or j.plain top_address 0 + transient_size) ∷ (area_end_address event, place + long) ∷ []) (add_transient (heap_of j.plain) kind event class owner long) m there heap_both)
+  transient_view v is = subst (λ u. heap_view m n ≡ heap_after_change u (add_transient (u.now) kind event class owner long)
+      (top_address ∷ area_end_address event ∷ []) transient_size) is
+      (view_then j k n s up b (transient_record kind event class owner long place) f
+      ((top_address, get_or j.plain top_address 0 + transient_size) ∷ (area_end_address event, place + long) ∷ [])
+      (add_transient (heap_of j.plain) kind event class owner long) m there heap_both)
 
 -- fresh words leave the journal's room as it is
-room_kept : (at : ℕ) (j k : State) → KeepsBelow at j k → (places : List ℕ) → journal_room k.in_transaction k.touched places ≡ journal_room j.in_transaction j.touched places
+room_kept : (at : ℕ) (j k : State) → KeepsBelow at j k → (places : List ℕ) → journal_room k.in_transaction k.touched places
+    ≡ journal_room j.in_transaction j.touched places
 room_kept at j k b places = λ i. journal_room (b.in_transaction i) (b.touched i) places
 
-pub room_there : (r b : Bool) → (IsTrue r → b ≡ false) × (b ≡ false → IsTrue r) → r ≡ false → b ≡ true
-room_there r true iff f = refl
-room_there r false iff f = absurd (false≢true (sym f ∙ iff.1 refl))
-
 -- where there was room, the store alone refuses
-pub only_down : (at : ℕ) (j k : State) → KeepsBelow at j k → (places : List ℕ) → journal_room j.in_transaction j.touched places ≡ true → (r : WriteRefusal) → (r ≡ Full → journal_room k.in_transaction k.touched places ≡ false) → r ≡ StoreDown
+pub only_down : (at : ℕ) (j k : State) → KeepsBelow at j k → (places : List ℕ) → journal_room j.in_transaction j.touched places ≡ true → (r : WriteRefusal)
+    → (r ≡ Full → journal_room k.in_transaction k.touched places ≡ false) → r ≡ StoreDown
 only_down at j k b places fit StoreDown f = refl
 only_down at j k b places fit Full f = absurd (false≢true (sym (f refl) ∙ room_kept at j k b places ∙ fit))
 
-pub view_area : (j : State) (v : HeapView) (n : ℕ) (event : ClearEvent) → heap_view j n ≡ v → IsLaid j.plain → area_end v.now event ≡ get_or j.plain (area_end_address event) 0
+pub view_area : (j : State) (v : HeapView) (n : ℕ) (event : ClearEvent) → heap_view j n ≡ v → IsWellFormed j.plain
+    → area_end v.now event ≡ get_or j.plain (area_end_address event) 0
 view_area j v n event is laid = subst (λ u. area_end (u.now) event ≡ get_or j.plain (area_end_address event) 0) is (area_read j.plain event laid)

@@ -1,76 +1,87 @@
 -- A place set, in the words and in the heap.
-use Rattle.std.proofs.Common.{◌≡◌, ℕ, ◌+◌, ◌<◌, ◌≤◌, ◌&&◌, Bool, true, false, List, [], ◌∷◌, length, get_or, set, drop, inl, inr, refl, sym, ◌∙◌, ap, subst, arith, lit<, if◌then◌else◌}
+use Rattle.std.proofs.Common.{◌≡◌, ℕ, ◌+◌, ◌<◌, ◌≤◌, ◌&&◌, Bool, true, false, List, [], ◌∷◌, length, get_or, set, drop, inl, inr, refl, sym, ◌∙◌, ap, subst}
+use Rattle.std.proofs.Common.{arith, lit<, if◌then◌else◌}
 use Rattle.std.proofs.lemmas.List.{length-set, length-take-le, get_or-set_other, get_or-take, get_or-drop, drop-set-lt}
 use Rattle.std.proofs.lemmas.Bool.{false≢true, cases_lt}
-use Rattle.jc_words.specs.Count.{raised}
+use Rattle.jc_words.specs.Count.{saturating_count}
 use Rattle.jc_words.specs.Layout.{top_address, applets_address, registry_start, registry_length, text_start}
 use Rattle.jc_commit.specs.Image.{IsPlace, IsReadable, IsUnlogged}
-use Rattle.jc_commit.specs.State.{State, Changes, written_in_place, is_touched as is_kept}
+use Rattle.jc_commit.specs.State.{State, Changes, after_write_in_place, is_touched as is_kept}
 use Rattle.jc_heap.specs.declared.place.Place.{Place}
 use Rattle.jc_heap.specs.declared.place.Place.TheVariants.{Cell, Static, Registry, AppletCount}
-use Rattle.jc_heap.specs.Cut.{lacking}
-use Rattle.jc_heap.specs.Object.{bare}
-use Rattle.jc_heap.specs.Image.{IsLaid, image, base, package_addresses, is_package, sizes, missing}
-use Rattle.jc_heap.specs.Heap.{HeapState, HeapView, heap_view, heap_of, cells, cell_address, is_touched, IsSound, SameShape, read_image, item_at, names}
-use Rattle.jc_heap.specs.Places.{place_word, HasPlace, set_place, written, counted}
+use Rattle.jc_heap.specs.Cut.{missing_words}
+use Rattle.jc_heap.specs.Object.{header_only}
+use Rattle.jc_heap.specs.Image.{IsWellFormed, image, base, package_addresses, is_package, sizes, missing_words_of_image}
+use Rattle.jc_heap.specs.Heap.{HeapState, HeapView, heap_view, heap_of, cells, cell_address, is_touched, IsSound, SameShape, read_image, heap_item_at}
+use Rattle.jc_heap.specs.Heap.{is_allocated}
+use Rattle.jc_heap.specs.Places.{place_word, HasPlace, set_place, write_place, write_nonatomic}
 use Rattle.jc_heap.specs.Components.{record_of}
 use Rattle.jc_heap.specs.Statics.{set_word}
-use Rattle.jc_heap.proofs.Laws.{shape-set, shape-set_both, names-heap_of, bare-set_cell, same_length}
-use Rattle.jc_heap.proofs.Images.{image-set, set_cell-heap_of, IsLaid-set, top-set, package_addresses-set, base-set}
+use Rattle.jc_heap.proofs.Laws.{shape-set, shape-set_both, is_allocated-heap_of, header_only-set_cell, same_length}
+use Rattle.jc_heap.proofs.Images.{image-set, set_cell-heap_of, IsWellFormed-set, top-set, package_addresses-set, base-set}
 use Rattle.jc_heap.proofs.Packages.{read-applet}
 use Rattle.jc_heap.proofs.AreaEnds.{read-applets, laid-front}
 use Rattle.jc_heap.proofs.RecordReading.{record_low, record_within, record_view, length_record}
-use Rattle.jc_heap.proofs.RecordWords.{heap_of-set_word, laid-set_word, top-set_word, set_word-absent, same_words, shape-set_word, shape-set_word_both, bare-set_word}
+use Rattle.jc_heap.proofs.RecordWords.{heap_of-set_word, laid-set_word, top-set_word, set_word-absent, same_words, shape-set_word, shape-set_word_both}
+use Rattle.jc_heap.proofs.RecordWords.{header_only-set_word}
 use Rattle.jc_heap.proofs.StaticImages.{static_behind}
 use Rattle.jc_heap.proofs.Views.{cell_spot, back_set, top_is, above_top}
 use Rattle.jc_heap.proofs.Changing.{change_view, change_sound}
 
 -- a word of the registry
-missing-registry : (img : List ℕ) (a v : ℕ) → a < registry_length → missing (set img (registry_start + a) v) ≡ missing img
-unfolding missing
-missing-registry img a v h =
-    ap (λ ps. lacking (sizes ps) 0 (base (set img (registry_start + a) v)) (drop (base (set img (registry_start + a) v)) (set img (registry_start + a) v))) (package_addresses-set img (registry_start + a) v (omega arith))
-    ∙ ap (λ b. lacking (sizes (package_addresses img)) 0 b (drop b (set img (registry_start + a) v))) (base-set img (registry_start + a) v (omega arith))
-    ∙ ap (lacking (sizes (package_addresses img)) 0 (base img)) (drop-set-lt (base img) img (registry_start + a) v (omega arith))
+missing_words_of_image-registry : (img : List ℕ) (a v : ℕ) → a < registry_length
+    → missing_words_of_image (set img (registry_start + a) v) ≡ missing_words_of_image img
+unfolding missing_words_of_image
+missing_words_of_image-registry img a v h =
+    ap (λ ps. missing_words (sizes ps) 0 (base (set img (registry_start + a) v)) (drop (base (set img (registry_start + a) v))
+    (set img (registry_start + a) v))) (package_addresses-set img (registry_start + a) v (omega arith))
+    ∙ ap (λ b. missing_words (sizes (package_addresses img)) 0 b (drop b (set img (registry_start + a) v))) (base-set img (registry_start + a) v (omega arith))
+    ∙ ap (missing_words (sizes (package_addresses img)) 0 (base img)) (drop-set-lt (base img) img (registry_start + a) v (omega arith))
 
-wide_image : (ws : List ℕ) → IsLaid ws → text_start ≤ length (image ws)
+wide_image : (ws : List ℕ) → IsWellFormed ws → text_start ≤ length (image ws)
 wide_image ws laid = omega (arith, laid.based, length-take-le (get_or ws top_address 0) ws laid.fits)
 
 top-registry : (ws : List ℕ) (a v : ℕ) → get_or (set ws (registry_start + a) v) top_address 0 ≡ get_or ws top_address 0
 top-registry ws a v = get_or-set_other ws (registry_start + a) top_address v 0 (λ e. omega arith)
 
-registry-heap_of : (ws : List ℕ) (a v : ℕ) → IsLaid ws → a < registry_length → heap_of (set ws (registry_start + a) v) ≡ set_place (heap_of ws) (Registry a) v
+registry-heap_of : (ws : List ℕ) (a v : ℕ) → IsWellFormed ws → a < registry_length
+    → heap_of (set ws (registry_start + a) v) ≡ set_place (heap_of ws) (Registry a) v
 registry-heap_of ws a v laid h = ap read_image (image-set ws (registry_start + a) v (omega arith)) ∙ read-applet (image ws) a v (wide_image ws laid) h
 
-IsLaid-registry : (ws : List ℕ) (a v : ℕ) → IsLaid ws → a < registry_length → IsLaid (set ws (registry_start + a) v)
-IsLaid-registry ws a v laid h =
+IsWellFormed-registry : (ws : List ℕ) (a v : ℕ) → IsWellFormed ws → a < registry_length → IsWellFormed (set ws (registry_start + a) v)
+IsWellFormed-registry ws a v laid h =
     let img : image (set ws (registry_start + a) v) ≡ set (image ws) (registry_start + a) v = image-set ws (registry_start + a) v (omega arith) in
     let same_base : base (image (set ws (registry_start + a) v)) ≡ base (image ws) = ap base img ∙ base-set (image ws) (registry_start + a) v (omega arith) in
     let top : get_or (set ws (registry_start + a) v) top_address 0 ≡ get_or ws top_address 0 = top-registry ws a v in
     record {
       based = omega (arith, same_base, top, laid.based);
       fits = omega (arith, top, length-set ws (registry_start + a) v, laid.fits);
-      whole = ap missing img ∙ missing-registry (image ws) a v h ∙ laid.whole;
-      packages = λ b le. ap (λ ps. is_package ps b) (ap package_addresses img ∙ package_addresses-set (image ws) (registry_start + a) v (omega arith)) ∙ laid.packages b (omega (arith, top, le));
+      whole = ap missing_words_of_image img ∙ missing_words_of_image-registry (image ws) a v h ∙ laid.whole;
+      packages = λ b le. ap (λ ps. is_package ps b) (ap package_addresses img ∙ package_addresses-set (image ws) (registry_start + a) v (omega arith))
+          ∙ laid.packages b (omega (arith, top, le));
     }
 
-pub registry_read : (j : State) (v : HeapView) (n a : ℕ) → heap_view j n ≡ v → IsLaid j.plain → a < registry_length → get_or j.plain (registry_start + a) 0 ≡ get_or (v.now.applets) a 0
+pub registry_read : (j : State) (v : HeapView) (n a : ℕ) → heap_view j n ≡ v → IsWellFormed j.plain → a < registry_length
+    → get_or j.plain (registry_start + a) 0 ≡ get_or (v.now.applets) a 0
 unfolding read_image
 registry_read j v n a is laid h = subst (λ u. get_or j.plain (registry_start + a) 0 ≡ get_or (u.now.applets) a 0) is
-    (sym (get_or-take registry_length (drop registry_start (image j.plain)) a 0 h ∙ get_or-drop registry_start (image j.plain) a 0 ∙ get_or-take (get_or j.plain top_address 0) j.plain (registry_start + a) 0 (omega (arith, laid.based))))
+    (sym (get_or-take registry_length (drop registry_start (image j.plain)) a 0 h ∙ get_or-drop registry_start (image j.plain) a 0
+    ∙ get_or-take (get_or j.plain top_address 0) j.plain (registry_start + a) 0 (omega (arith, laid.based))))
 
 -- the number of applets
-count_set : (ws : List ℕ) (v : ℕ) → IsLaid ws →
-    (heap_of (set ws applets_address v) ≡ set_place (heap_of ws) AppletCount v) × IsLaid (set ws applets_address v) × (get_or (set ws applets_address v) top_address 0 ≡ get_or ws top_address 0)
+count_set : (ws : List ℕ) (v : ℕ) → IsWellFormed ws →
+    (heap_of (set ws applets_address v) ≡ set_place (heap_of ws) AppletCount v) × IsWellFormed (set ws applets_address v)
+    × (get_or (set ws applets_address v) top_address 0 ≡ get_or ws top_address 0)
 count_set ws v laid = (
   ap read_image (image-set ws applets_address v (lit< tt)) ∙ read-applets (image ws) v (wide_image ws laid),
   laid-front ws applets_address v (lit< tt) (lit< tt) laid,
   get_or-set_other ws applets_address top_address v 0 (λ e. omega arith),
 )
 
-pub count_read : (j : State) (v : HeapView) (n : ℕ) → heap_view j n ≡ v → IsLaid j.plain → get_or j.plain applets_address 0 ≡ v.now.counts.1
+pub count_read : (j : State) (v : HeapView) (n : ℕ) → heap_view j n ≡ v → IsWellFormed j.plain → get_or j.plain applets_address 0 ≡ v.now.counts.1
 unfolding read_image
-count_read j v n is laid = subst (λ u. get_or j.plain applets_address 0 ≡ u.now.counts.1) is (sym (get_or-take (get_or j.plain top_address 0) j.plain applets_address 0 (omega (arith, laid.based))))
+count_read j v n is laid = subst (λ u. get_or j.plain applets_address 0 ≡ u.now.counts.1) is
+    (sym (get_or-take (get_or j.plain top_address 0) j.plain applets_address 0 (omega (arith, laid.based))))
 
 -- the heap has a word for the place
 abbrev pub HasWord : HeapState → Place → Type 0
@@ -86,65 +97,80 @@ has_word h (Registry i) there = there
 has_word h AppletCount there = tt
 
 -- a place set leaves the headers
-pub bare_stays : (h : HeapState) (p : Place) (x q : ℕ) → bare (item_at (set_place h p x) q) ≡ bare (item_at h q)
-unfolding item_at
-bare_stays h (Cell r i) x q = bare-set_cell h r i x q
-bare_stays h (Static r j) x q = bare-set_word h r j x q
+pub bare_stays : (h : HeapState) (p : Place) (x q : ℕ) → header_only (heap_item_at (set_place h p x) q) ≡ header_only (heap_item_at h q)
+unfolding heap_item_at
+bare_stays h (Cell r i) x q = header_only-set_cell h r i x q
+bare_stays h (Static r j) x q = header_only-set_word h r j x q
 bare_stays h (Registry i) x q = refl
 bare_stays h AppletCount x q = refl
 
 -- so the places stay
 pub word_stays : (h : HeapState) (p : Place) (x : ℕ) (q : Place) → HasWord h q → HasWord (set_place h p x) q
-word_stays h p x (Cell r i) there = omega (arith, there, same_length (item_at (set_place h p x) r) (item_at h r) (bare_stays h p x r))
-word_stays h p x (Static r j) there = (there.0, omega (arith, there.1, same_words (item_at (set_place h p x) r) (item_at h r) (bare_stays h p x r)))
+word_stays h p x (Cell r i) there = omega (arith, there, same_length (heap_item_at (set_place h p x) r) (heap_item_at h r) (bare_stays h p x r))
+word_stays h p x (Static r j) there = (there.0, omega (arith, there.1, same_words (heap_item_at (set_place h p x) r) (heap_item_at h r) (bare_stays h p x r)))
 word_stays h p x (Registry i) there = there
 word_stays h p x AppletCount there = tt
 
 -- words with a place set stand for the heap with it set
-pub word_set : (ws : List ℕ) (p : Place) (x : ℕ) → IsLaid ws → HasWord (heap_of ws) p →
-    (heap_of (set ws (place_word p) x) ≡ set_place (heap_of ws) p x) × IsLaid (set ws (place_word p) x) × (get_or (set ws (place_word p) x) top_address 0 ≡ get_or ws top_address 0)
+pub word_set : (ws : List ℕ) (p : Place) (x : ℕ) → IsWellFormed ws → HasWord (heap_of ws) p →
+    (heap_of (set ws (place_word p) x) ≡ set_place (heap_of ws) p x) × IsWellFormed (set ws (place_word p) x)
+    × (get_or (set ws (place_word p) x) top_address 0 ≡ get_or ws top_address 0)
 unfolding cell_address
-word_set ws (Cell r i) x laid h = (set_cell-heap_of ws r i x h, IsLaid-set ws r i x h laid, top-set ws r i x h)
+word_set ws (Cell r i) x laid h = (set_cell-heap_of ws r i x h, IsWellFormed-set ws r i x h laid, top-set ws r i x h)
 word_set ws (Static r j) x laid h = (heap_of-set_word ws r j x laid h.0 h.1, laid-set_word ws r j x laid h.0 h.1, top-set_word ws r j x laid h.0 h.1)
-word_set ws (Registry a) x laid h = (registry-heap_of ws a x laid h, IsLaid-registry ws a x laid h, top-registry ws a x)
+word_set ws (Registry a) x laid h = (registry-heap_of ws a x laid h, IsWellFormed-registry ws a x laid h, top-registry ws a x)
 word_set ws AppletCount x laid h = count_set ws x laid
 
-pub place_set : (ws : List ℕ) (p : Place) (x : ℕ) → IsLaid ws → HasPlace (heap_of ws) p →
-    (heap_of (set ws (place_word p) x) ≡ set_place (heap_of ws) p x) × IsLaid (set ws (place_word p) x) × (get_or (set ws (place_word p) x) top_address 0 ≡ get_or ws top_address 0)
+pub place_set : (ws : List ℕ) (p : Place) (x : ℕ) → IsWellFormed ws → HasPlace (heap_of ws) p →
+    (heap_of (set ws (place_word p) x) ≡ set_place (heap_of ws) p x) × IsWellFormed (set ws (place_word p) x)
+    × (get_or (set ws (place_word p) x) top_address 0 ≡ get_or ws top_address 0)
 place_set ws p x laid h = word_set ws p x laid (has_word (heap_of ws) p h)
 
 -- a static image's word in the recovered words: in the same record, or above their top
 word_back : (j : State) (n r i x : ℕ) → 4 ≤ i → i < length (record_of (heap_of j.plain) r) → j.down ≡ false → IsSound j n →
-    (heap_of (set j.recovered (r + i) x) ≡ set_word (heap_of j.recovered) r i x) × IsLaid (set j.recovered (r + i) x) × (get_or (set j.recovered (r + i) x) top_address 0 ≡ get_or j.recovered top_address 0)
+    (heap_of (set j.recovered (r + i) x) ≡ set_word (heap_of j.recovered) r i x) × IsWellFormed (set j.recovered (r + i) x)
+    × (get_or (set j.recovered (r + i) x) top_address 0 ≡ get_or j.recovered top_address 0)
 word_back j n r i x four h up s = elim (cases_lt r (get_or j.recovered top_address 0)) [
   | inl below ↦
-      let there : i < length (record_of (heap_of j.recovered) r) = omega (arith, h, same_words (item_at (heap_of j.plain) r) (item_at (heap_of j.recovered) r) ((s.shape up).items r (top_is j.recovered r s.back below))) in
-      (heap_of-set_word j.recovered r i x s.back four there, laid-set_word j.recovered r i x s.back four there, top-set_word j.recovered r i x s.back four there)
+      let there : i < length (record_of (heap_of j.recovered) r) = omega (
+        arith,
+        h,
+        same_words (heap_item_at (heap_of j.plain) r) (heap_item_at (heap_of j.recovered) r) ((s.shape up).items r (top_is j.recovered r s.back below)),
+      )
+      in (
+        heap_of-set_word j.recovered r i x s.back four there,
+        laid-set_word j.recovered r i x s.back four there,
+        top-set_word j.recovered r i x s.back four there,
+      )
   | inr above ↦
-      let far : (heap_of (set j.recovered (r + i) x) ≡ heap_of j.recovered) × IsLaid (set j.recovered (r + i) x) × (get_or (set j.recovered (r + i) x) top_address 0 ≡ get_or j.recovered top_address 0) = above_top j.recovered (r + i) x s.back (omega (arith, above)) in
+      let far : (heap_of (set j.recovered (r + i) x) ≡ heap_of j.recovered) × IsWellFormed (set j.recovered (r + i) x)
+      × (get_or (set j.recovered (r + i) x) top_address 0 ≡ get_or j.recovered top_address 0) =
+      above_top j.recovered (r + i) x s.back (omega (arith, above)) in
       let long : length (image j.recovered) ≡ get_or j.recovered top_address 0 = length-take-le (get_or j.recovered top_address 0) j.recovered s.back.fits in
-      let absent : names (heap_of j.recovered) r ≡ false = names-heap_of j.recovered r (omega (arith, s.back.based, long)) (omega (arith, above, long)) in
+      let absent : is_allocated (heap_of j.recovered) r ≡ false = is_allocated-heap_of j.recovered r (omega (arith, s.back.based, long))
+      (omega (arith, above, long)) in
       (far.0 ∙ sym (set_word-absent (heap_of j.recovered) r i x absent), far.1, far.2)
 ]
 
 -- in the recovered words too, or the place lies above their top
 place_back : (j : State) (n : ℕ) (p : Place) (x : ℕ) → HasPlace (heap_of j.plain) p → j.down ≡ false → IsSound j n →
-    (heap_of (set j.recovered (place_word p) x) ≡ set_place (heap_of j.recovered) p x) × IsLaid (set j.recovered (place_word p) x) × (get_or (set j.recovered (place_word p) x) top_address 0 ≡ get_or j.recovered top_address 0)
+    (heap_of (set j.recovered (place_word p) x) ≡ set_place (heap_of j.recovered) p x) × IsWellFormed (set j.recovered (place_word p) x)
+    × (get_or (set j.recovered (place_word p) x) top_address 0 ≡ get_or j.recovered top_address 0)
 unfolding cell_address
 place_back j n (Cell r i) x h up s = back_set j n r i x h up s
 place_back j n (Static r i) x h up s = word_back j n r i x (static_behind (record_of (heap_of j.plain) r) i h) h.within up s
-place_back j n (Registry a) x h up s = (registry-heap_of j.recovered a x s.back h, IsLaid-registry j.recovered a x s.back h, top-registry j.recovered a x)
+place_back j n (Registry a) x h up s = (registry-heap_of j.recovered a x s.back h, IsWellFormed-registry j.recovered a x s.back h, top-registry j.recovered a x)
 place_back j n AppletCount x h up s = count_set j.recovered x s.back
 
 pub place_shape : (d h : HeapState) (p : Place) (x : ℕ) → SameShape d h → SameShape d (set_place h p x)
-unfolding item_at names
+unfolding heap_item_at is_allocated
 place_shape d h (Cell r i) x s = shape-set d h r i x s
 place_shape d h (Static r j) x s = shape-set_word d h r j x s
 place_shape d h (Registry a) x s = record { items = s.items; names = s.names }
 place_shape d h AppletCount x s = record { items = s.items; names = s.names }
 
 pub place_shape_both : (d h : HeapState) (p : Place) (x : ℕ) → SameShape d h → SameShape (set_place d p x) (set_place h p x)
-unfolding item_at names
+unfolding heap_item_at is_allocated
 place_shape_both d h (Cell r i) x s = shape-set_both d h r i x s
 place_shape_both d h (Static r j) x s = shape-set_word_both d h r j x s
 place_shape_both d h (Registry a) x s = record { items = s.items; names = s.names }
@@ -159,12 +185,16 @@ pub record PlaceSpot (n a : ℕ) : Type 0 where
 pub far_spot : (n a : ℕ) → a < n → registry_start ≤ a → PlaceSpot n a
 far_spot n a below high = record { below = below; high = omega (arith, high); beside = λ _. high }
 
-pub place_spot : (j : State) (v : HeapView) (n : ℕ) (p : Place) → heap_view j n ≡ v → IsLaid j.plain → HasPlace v.now p → PlaceSpot (length j.plain) (place_word p)
-place_spot j v n (Cell r i) is laid h = let spot : (cell_address r i < length j.plain) × (text_start ≤ cell_address r i) = cell_spot j v n r i is h in far_spot (length j.plain) (cell_address r i) spot.0 (omega (arith, spot.1))
+pub place_spot : (j : State) (v : HeapView) (n : ℕ) (p : Place) → heap_view j n ≡ v → IsWellFormed j.plain → HasPlace v.now p
+    → PlaceSpot (length j.plain) (place_word p)
+place_spot j v n (Cell r i) is laid h =
+    let spot : (cell_address r i < length j.plain) × (text_start ≤ cell_address r i) = cell_spot j v n r i is h in
+    far_spot (length j.plain) (cell_address r i) spot.0 (omega (arith, spot.1))
 place_spot j v n (Static r i) is laid h =
     let some : 0 < length (record_of (v.now) r) = omega (arith, h.within) in
     let there : 0 < length (record_of (heap_of j.plain) r) = record_view j v n r is some in
-    far_spot (length j.plain) (r + i) (omega (arith, h.within, length_record j v n r is laid some, record_within j.plain r laid there)) (omega (arith, record_low j.plain r laid there))
+    far_spot (length j.plain) (r + i) (omega (arith, h.within, length_record j v n r is laid some, record_within j.plain r laid there))
+    (omega (arith, record_low j.plain r laid there))
 place_spot j v n (Registry a) is laid h = far_spot (length j.plain) (registry_start + a) (omega (arith, laid.based, laid.fits)) (omega arith)
 place_spot j v n AppletCount is laid h = record { below = omega (arith, laid.based, laid.fits); high = omega arith; beside = λ e. absurd (omega (arith, e)) }
 
@@ -178,13 +208,16 @@ pub place_unlogged : (n a : ℕ) → PlaceSpot n a → IsUnlogged n a
 place_unlogged n a s = record { below = s.below; not_top = λ e. omega (arith, s.high); place = λ _. place_logged n a s }
 
 -- a place set through the journal is a place set in the heap
-pub place_view : (j k : State) (v : HeapView) (n : ℕ) (p : Place) (x : ℕ) → heap_view j n ≡ v → IsLaid j.plain → HasPlace v.now p → Changes ((place_word p, x) ∷ []) j k → heap_view k n ≡ written v p x
-place_view j k v n p x is laid h c = subst (λ u. HasPlace (u.now) p → heap_view k n ≡ written u p x) is
+pub place_view : (j k : State) (v : HeapView) (n : ℕ) (p : Place) (x : ℕ) → heap_view j n ≡ v → IsWellFormed j.plain → HasPlace v.now p
+    → Changes ((place_word p, x) ∷ []) j k → heap_view k n ≡ write_place v p x
+place_view j k v n p x is laid h c = subst (λ u. HasPlace (u.now) p → heap_view k n ≡ write_place u p x) is
     (λ there. change_view ((place_word p, x) ∷ []) j k n (set_place (heap_of j.plain) p x) c (place_set j.plain p x laid there).0) h
 
-pub place_sound : (j k : State) (v : HeapView) (n : ℕ) (p : Place) (x : ℕ) → heap_view j n ≡ v → HasPlace v.now p → j.down ≡ false → IsSound j n → Changes ((place_word p, x) ∷ []) j k → IsSound k n
+pub place_sound : (j k : State) (v : HeapView) (n : ℕ) (p : Place) (x : ℕ) → heap_view j n ≡ v → HasPlace v.now p → j.down ≡ false → IsSound j n
+    → Changes ((place_word p, x) ∷ []) j k → IsSound k n
 place_sound j k v n p x is h up s c =
-    let t : (heap_of (set j.plain (place_word p) x) ≡ set_place (heap_of j.plain) p x) × IsLaid (set j.plain (place_word p) x) × (get_or (set j.plain (place_word p) x) top_address 0 ≡ get_or j.plain top_address 0) =
+    let t : (heap_of (set j.plain (place_word p) x) ≡ set_place (heap_of j.plain) p x) × IsWellFormed (set j.plain (place_word p) x)
+    × (get_or (set j.plain (place_word p) x) top_address 0 ≡ get_or j.plain top_address 0) =
     place_set j.plain p x (s.now up) (subst (λ u. HasPlace (u.now) p) (sym is) h) in
     change_sound ((place_word p, x) ∷ []) j k n c up s.back s.size_recovered (s.size_now up) s.small t.1
     (λ _. omega (arith, s.order up, t.2))
@@ -199,36 +232,64 @@ settled_both true c rec plain a x f e = absurd (false≢true (sym f))
 settled_both false c rec plain a x f e = ap (λ l. set l a x) e
 
 both_at : (j : State) (n : ℕ) (p : Place) (x : ℕ) → HasPlace (heap_of j.plain) p → j.down ≡ false → IsSound j n →
-    (heap_view (written_in_place j (place_word p) x) n ≡ record (heap_view j n) { now = set_place (heap_of j.plain) p x; durable = (if j.in_transaction && is_kept j (place_word p) then heap_of j.recovered else set_place (heap_of j.recovered) p x); passed = raised j.passed 1 })
-    × IsSound (written_in_place j (place_word p) x) n
+    (heap_view (after_write_in_place j (place_word p) x) n ≡ record (heap_view j n) {
+      now = set_place (heap_of j.plain) p x;
+      durable = (if j.in_transaction && is_kept j (place_word p) then heap_of j.recovered else set_place
+          (heap_of j.recovered) p x);
+      passed = saturating_count j.passed 1;
+    })
+    × IsSound (after_write_in_place j (place_word p) x) n
 both_at j n p x h up s =
-    let b : (heap_of (set j.recovered (place_word p) x) ≡ set_place (heap_of j.recovered) p x) × IsLaid (set j.recovered (place_word p) x) × (get_or (set j.recovered (place_word p) x) top_address 0 ≡ get_or j.recovered top_address 0) = place_back j n p x h up s in
-    let t : (heap_of (set j.plain (place_word p) x) ≡ set_place (heap_of j.plain) p x) × IsLaid (set j.plain (place_word p) x) × (get_or (set j.plain (place_word p) x) top_address 0 ≡ get_or j.plain top_address 0) = place_set j.plain p x (s.now up) h in
+    let b : (heap_of (set j.recovered (place_word p) x) ≡ set_place (heap_of j.recovered) p x) × IsWellFormed (set j.recovered (place_word p) x)
+    × (get_or (set j.recovered (place_word p) x) top_address 0 ≡ get_or j.recovered top_address 0) = place_back j n p x h up s in
+    let t : (heap_of (set j.plain (place_word p) x) ≡ set_place (heap_of j.plain) p x) × IsWellFormed (set j.plain (place_word p) x)
+    × (get_or (set j.plain (place_word p) x) top_address 0 ≡ get_or j.plain top_address 0) = place_set j.plain p x (s.now up) h in
     let now : heap_of (set j.plain (place_word p) x) ≡ set_place (heap_of j.plain) p x = t.0 in
-    let laid : IsLaid (set j.plain (place_word p) x) = t.1 in
+    let laid : IsWellFormed (set j.plain (place_word p) x) = t.1 in
     let top : get_or (set j.plain (place_word p) x) top_address 0 ≡ get_or j.plain top_address 0 = t.2 in
     let size : length (set j.plain (place_word p) x) ≡ length j.plain = length-set j.plain (place_word p) x in
-    let durable : heap_of (if j.in_transaction && is_kept j (place_word p) then j.recovered else set j.recovered (place_word p) x) ≡ (if j.in_transaction && is_kept j (place_word p) then heap_of j.recovered else set_place (heap_of j.recovered) p x) =
-    if-map heap_of (j.in_transaction && is_kept j (place_word p)) j.recovered (set j.recovered (place_word p) x) ∙ ap (λ t. if j.in_transaction && is_kept j (place_word p) then heap_of j.recovered else t) b.0 in (
-      (λ k. record { now = now k; durable = durable k; begun = j.in_transaction; touched = j.touched; down = j.down; passed = raised j.passed 1; refused = j.refused; size = n }),
+    let durable : heap_of (if j.in_transaction && is_kept j (place_word p) then j.recovered else set j.recovered (place_word p) x)
+    ≡ (if j.in_transaction && is_kept j (place_word p) then heap_of j.recovered else set_place (heap_of j.recovered) p x) =
+    if-map heap_of (j.in_transaction && is_kept j (place_word p)) j.recovered (set j.recovered (place_word p) x)
+    ∙ ap (λ t. if j.in_transaction && is_kept j (place_word p) then heap_of j.recovered else t) b.0 in (
+      (λ k. record {
+        now = now k;
+        durable = durable k;
+        begun = j.in_transaction;
+        touched = j.touched;
+        down = j.down;
+        passed = saturating_count j.passed 1;
+        refused = j.refused;
+        size = n;
+      }),
       record {
-        back = elim (j.in_transaction && is_kept j (place_word p)) as (λ g. IsLaid (if g then j.recovered else set j.recovered (place_word p) x)) [ true ↦ s.back | false ↦ b.1 ];
-        size_recovered = elim (j.in_transaction && is_kept j (place_word p)) as (λ g. length (if g then j.recovered else set j.recovered (place_word p) x) ≡ n) [ true ↦ s.size_recovered | false ↦ length-set j.recovered (place_word p) x ∙ s.size_recovered ];
+        back = elim (j.in_transaction && is_kept j (place_word p)) as (λ g. IsWellFormed (if g then j.recovered else set j.recovered (place_word p) x))
+            [ true ↦ s.back | false ↦ b.1 ];
+        size_recovered = elim (j.in_transaction && is_kept j (place_word p)) as (λ g. length (if g then j.recovered else set j.recovered (place_word p) x) ≡ n)
+            [ true ↦ s.size_recovered | false ↦ length-set j.recovered (place_word p) x ∙ s.size_recovered ];
         small = s.small;
         now = λ _. laid;
         size_now = λ _. size ∙ s.size_now up;
-        order = λ _. elim (j.in_transaction && is_kept j (place_word p)) as (λ g. get_or (if g then j.recovered else set j.recovered (place_word p) x) top_address 0 ≤ get_or (set j.plain (place_word p) x) top_address 0) [ true ↦ omega (arith, s.order up, top) | false ↦ omega (arith, s.order up, top, b.2) ];
-        shape = λ _. elim (j.in_transaction && is_kept j (place_word p)) as (λ g. SameShape (heap_of (if g then j.recovered else set j.recovered (place_word p) x)) (heap_of (set j.plain (place_word p) x))) [
-          | true ↦ subst (SameShape (heap_of j.recovered)) (sym now) (place_shape (heap_of j.recovered) (heap_of j.plain) p x (s.shape up))
-          | false ↦ subst (λ d. SameShape d (heap_of (set j.plain (place_word p) x))) (sym b.0) (subst (SameShape (set_place (heap_of j.recovered) p x)) (sym now) (place_shape_both (heap_of j.recovered) (heap_of j.plain) p x (s.shape up)))
-        ];
+        order = λ _. elim (j.in_transaction && is_kept j (place_word p)) as (λ g. get_or
+            (if g then j.recovered else set j.recovered (place_word p) x) top_address 0 ≤ get_or (set j.plain (place_word p) x) top_address 0)
+            [ true ↦ omega (arith, s.order up, top) | false ↦ omega (arith, s.order up, top, b.2) ];
+        shape = λ _. elim (j.in_transaction && is_kept j (place_word p)) as (λ g. SameShape
+            (heap_of (if g then j.recovered else set j.recovered (place_word p) x)) (heap_of (set j.plain (place_word p) x))) [
+              | true ↦ subst (SameShape (heap_of j.recovered)) (sym now) (place_shape (heap_of j.recovered) (heap_of j.plain) p x (s.shape up))
+              | false ↦ subst (λ d. SameShape d (heap_of (set j.plain (place_word p) x))) (sym b.0)
+                  (subst (SameShape (set_place (heap_of j.recovered) p x)) (sym now) (place_shape_both (heap_of j.recovered) (heap_of j.plain) p x
+                  (s.shape up)))
+            ];
         settled = λ _ closed. settled_both j.in_transaction (is_kept j (place_word p)) j.recovered j.plain (place_word p) x closed (s.settled up closed);
       },
     )
 
-pub both_view : (j : State) (v : HeapView) (n : ℕ) (p : Place) (x : ℕ) → heap_view j n ≡ v → HasPlace v.now p → j.down ≡ false → IsSound j n → heap_view (written_in_place j (place_word p) x) n ≡ counted v p x
+pub both_view : (j : State) (v : HeapView) (n : ℕ) (p : Place) (x : ℕ) → heap_view j n ≡ v → HasPlace v.now p → j.down ≡ false → IsSound j n
+    → heap_view (after_write_in_place j (place_word p) x) n ≡ write_nonatomic v p x
 unfolding is_touched
-both_view j v n p x is h up s = subst (λ u. HasPlace (u.now) p → heap_view (written_in_place j (place_word p) x) n ≡ counted u p x) is (λ k. (both_at j n p x k up s).0) h
+both_view j v n p x is h up s = subst (λ u. HasPlace (u.now) p → heap_view (after_write_in_place j (place_word p) x) n ≡ write_nonatomic u p x) is
+    (λ k. (both_at j n p x k up s).0) h
 
-pub both_sound : (j : State) (v : HeapView) (n : ℕ) (p : Place) (x : ℕ) → heap_view j n ≡ v → HasPlace v.now p → j.down ≡ false → IsSound j n → IsSound (written_in_place j (place_word p) x) n
+pub both_sound : (j : State) (v : HeapView) (n : ℕ) (p : Place) (x : ℕ) → heap_view j n ≡ v → HasPlace v.now p → j.down ≡ false → IsSound j n
+    → IsSound (after_write_in_place j (place_word p) x) n
 both_sound j v n p x is h up s = (both_at j n p x (subst (λ u. HasPlace (u.now) p) (sym is) h) up s).1

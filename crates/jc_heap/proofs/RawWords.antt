@@ -1,5 +1,6 @@
 -- The words of a store under a heap: the first three stand for themselves.
-use Rattle.std.proofs.Common.{◌≡◌, ℕ, zero, suc, ◌+◌, ◌-◌, ◌/◌, ◌<◌, ◌≤◌, true, false, List, length, take, drop, get_or, None, unwrap_or, refl, sym, ◌∙◌, ap, arith, if◌then◌else◌}
+use Rattle.std.proofs.Common.{◌≡◌, ℕ, zero, suc, ◌+◌, ◌-◌, ◌/◌, ◌<◌, ◌≤◌, true, false, List, length, take, drop, get_or, None, unwrap_or, refl, sym, ◌∙◌, ap}
+use Rattle.std.proofs.Common.{arith, if◌then◌else◌}
 use Rattle.std.proofs.lemmas.List.{ext_get_or, get_or-take, length-take, take-take, drop-take}
 use Rattle.std.proofs.lemmas.List.FromFn.{get_or-map-range_with_len}
 use Rattle.std.proofs.lemmas.Bool.{ne_eqb}
@@ -7,7 +8,7 @@ use Rattle.jc_words.specs.Layout.{top_address, text_length_address, text_start}
 use Rattle.jc_commit.specs.Image.{address_at, entries, entries_from, old_value, is_log, plain_of, recovered_of, words_by, IsGoodLog, IsReadable}
 use Rattle.jc_commit.proofs.Words.{get_or-words_by, is_log-readable}
 use Rattle.jc_commit.proofs.InPlace.{length-plain, length-recovered, plain_word}
-use Rattle.jc_heap.specs.Image.{image, table_text, IsLaid}
+use Rattle.jc_heap.specs.Image.{image, table_text, IsWellFormed}
 use Rattle.jc_heap.specs.Heap.{read_image, heap_of}
 use Rattle.jc_heap.proofs.Images.{text-same}
 
@@ -49,15 +50,16 @@ recovered-front w good =
     get_or-take 3 (recovered_of w) i 0 near ∙ recovered-front_word w i good near below ∙ sym (get_or-take 3 w i 0 near))
 
 -- the heap's head is the first three words
-pub head_is : (ws : List ℕ) → IsLaid ws → (heap_of ws).head ≡ take 3 ws
+pub head_is : (ws : List ℕ) → IsWellFormed ws → (heap_of ws).head ≡ take 3 ws
 unfolding read_image
 head_is ws laid = take-take 3 (get_or ws top_address 0) ws (omega (arith, laid.based))
 
 -- and its text the table text
-pub text_is : (ws : List ℕ) → IsLaid ws → (heap_of ws).text ≡ table_text ws
+pub text_is : (ws : List ℕ) → IsWellFormed ws → (heap_of ws).text ≡ table_text ws
 unfolding read_image
 text_is ws laid =
-    let long : get_or (image ws) text_length_address 0 ≡ get_or ws text_length_address 0 = get_or-take (get_or ws top_address 0) ws text_length_address 0 (omega (arith, laid.based)) in
+    let long : get_or (image ws) text_length_address 0 ≡ get_or ws text_length_address 0 =
+    get_or-take (get_or ws top_address 0) ws text_length_address 0 (omega (arith, laid.based)) in
     let based : text_start + (get_or ws text_length_address 0 + 1) / 2 ≤ get_or ws top_address 0 = omega (arith, laid.based, ap (λ n. (n + 1) / 2) long) in
     let split : text_start + (get_or ws top_address 0 - text_start) ≡ get_or ws top_address 0 = omega (arith, based) in
     text-same ws (image ws) long

@@ -1,5 +1,6 @@
 -- What the words of an object's record say.
-use Rattle.std.proofs.Common.{◌≡◌, ℕ, suc, ◌+◌, ◌-◌, ◌/◌, ◌%◌, ◌<◌, ◌≤◌, ◌==◌, Bool, true, false, inl, inr, List, [], ◌∷◌, length, get_or, drop, refl, sym, ◌∙◌, ap, subst, arith, if◌then◌else◌, Option, Some, None, is_some, lit≤, IsTrue, not, ◌&&◌}
+use Rattle.std.proofs.Common.{◌≡◌, ℕ, suc, ◌+◌, ◌-◌, ◌/◌, ◌%◌, ◌<◌, ◌≤◌, ◌==◌, Bool, true, false, inl, inr, List, [], ◌∷◌, length, get_or, drop, refl, sym, ◌∙◌}
+use Rattle.std.proofs.Common.{ap, subst, arith, if◌then◌else◌, Option, Some, None, is_some, lit≤, IsTrue, not, ◌&&◌}
 use Rattle.jc_transient.specs.declared.cell.ClearEvent.{ClearEvent}
 use Rattle.jc_transient.specs.declared.cell.ClearEvent.TheVariants.{Reset, Deselect}
 use Rattle.jc_heap.specs.declared.object.Kind.{Kind}
@@ -8,11 +9,11 @@ use Rattle.std.proofs.lemmas.Bool.{cases_Bool, cases_eq, false≢true, eq-eqb, n
 use Rattle.jc_words.specs.Layout.{top_address, text_start}
 use Rattle.jc_commit.specs.State.{State}
 use Rattle.jc_heap.specs.declared.object.Facts.{Facts}
-use Rattle.jc_heap.specs.Table.{at_or, has}
+use Rattle.jc_heap.specs.Table.{entry_or, has_entry}
 use Rattle.jc_heap.specs.Object.{AnObject, APackage, object_of, cells_of, facts_of, is_object, is_header, payload, kind_of, event_of}
-use Rattle.jc_heap.specs.Image.{image, base, package_addresses, is_package, sizes, item, records, missing, IsLaid}
-use Rattle.jc_heap.specs.Heap.{heap_of, read_image, item_at, names, cells, facts, IsObject}
-use Rattle.jc_heap.proofs.Records.{at_or-cut, has_behind, length-record}
+use Rattle.jc_heap.specs.Image.{image, base, package_addresses, is_package, sizes, item, records, missing_words_of_image, IsWellFormed}
+use Rattle.jc_heap.specs.Heap.{heap_of, read_image, heap_item_at, is_allocated, cells, facts, IsObject}
+use Rattle.jc_heap.proofs.Records.{entry_or-records_from, has_behind, length-record}
 use Rattle.jc_heap.proofs.Tables.{at_or-map, at_or-map_absent, has-map}
 
 -- the facts that a header's words say, and the word behind it
@@ -26,7 +27,8 @@ said word class owner long place = record {
   place = (if word / 256 == 0 then 0 else place);
 }
 
-pub said-object_of : (rec : List ℕ) → 4 ≤ length rec → (object_of rec).facts ≡ said (get_or rec 0 0) (get_or rec 1 0) (get_or rec 2 0) (get_or rec 3 0) (get_or rec 4 0)
+pub said-object_of : (rec : List ℕ) → 4 ≤ length rec → (object_of rec).facts ≡ said (get_or rec 0 0) (get_or rec 1 0) (get_or rec 2 0) (get_or rec 3 0)
+    (get_or rec 4 0)
 said-object_of [] h = absurd (omega arith)
 said-object_of (a ∷ []) h = absurd (omega arith)
 said-object_of (a ∷ b ∷ []) h = absurd (omega arith)
@@ -34,7 +36,8 @@ said-object_of (a ∷ b ∷ c ∷ []) h = absurd (omega arith)
 said-object_of (a ∷ b ∷ c ∷ d ∷ []) h = refl
 said-object_of (a ∷ b ∷ c ∷ d ∷ e ∷ rest) h = refl
 
-pub cells-object_of : (rec : List ℕ) → length rec ≡ 4 + payload (get_or rec 0 0) (get_or rec 3 0) → length rec < 65536 → get_or rec 0 0 / 256 ≡ 0 → length ((object_of rec).cells) ≡ get_or rec 3 0
+pub cells-object_of : (rec : List ℕ) → length rec ≡ 4 + payload (get_or rec 0 0) (get_or rec 3 0) → length rec < 65536 → get_or rec 0 0 / 256 ≡ 0
+    → length ((object_of rec).cells) ≡ get_or rec 3 0
 cells-object_of [] h small e = absurd (omega arith)
 cells-object_of (a ∷ []) h small e = absurd (omega arith)
 cells-object_of (a ∷ b ∷ []) h small e = absurd (omega arith)
@@ -42,30 +45,31 @@ cells-object_of (a ∷ b ∷ c ∷ []) h small e = absurd (omega arith)
 cells-object_of (a ∷ b ∷ c ∷ d ∷ rest) h small e =
     let t : (a / 256 == 0) ≡ true = eq-eqb (a / 256) 0 e in
     elim (cases_Bool (is_header a)) [
-      | inl y ↦ let n : length (a ∷ b ∷ c ∷ d ∷ rest) ≡ 4 + d = h ∙ ap (λ g. 4 + (if g then (if a / 256 == 0 then d else 1) else 65536)) y ∙ ap (λ g. 4 + (if g then d else 1)) t in rw t (omega arith)
-      | inr y ↦ let n : length (a ∷ b ∷ c ∷ d ∷ rest) ≡ 4 + 65536 = h ∙ ap (λ g. 4 + (if g then (if a / 256 == 0 then d else 1) else 65536)) y in absurd (omega arith)
+      | inl y ↦
+          let n : length (a ∷ b ∷ c ∷ d ∷ rest) ≡ 4 + d = h ∙ ap (λ g. 4 + (if g then (if a / 256 == 0 then d else 1) else 65536)) y
+          ∙ ap (λ g. 4 + (if g then d else 1)) t in
+          rw t (omega arith)
+      | inr y ↦
+          let n : length (a ∷ b ∷ c ∷ d ∷ rest) ≡ 4 + 65536 = h ∙ ap (λ g. 4 + (if g then (if a / 256 == 0 then d else 1) else 65536)) y in absurd (omega arith)
     ]
 
 at_least_one : (b : Bool) → 1 ≤ (if b then 1 else 65536)
 at_least_one true = lit≤ tt
 at_least_one false = lit≤ tt
 
-module _ (ws : List ℕ) (r : ℕ) (laid : IsLaid ws) (there : IsObject (heap_of ws) r) where
-  abbrev img : List ℕ
-  img = image ws
-
+module _ (ws : List ℕ) (r : ℕ) (laid : IsWellFormed ws) (there : IsObject (heap_of ws) r) where
   abbrev rec : List ℕ
-  rec = at_or [] (records (image ws)) r
+  rec = entry_or [] (records (image ws)) r
 
-  pub named : has (records (image ws)) r ≡ true
-  unfolding read_image item_at
-  named = elim (cases_Bool (has (records (image ws)) r)) [
+  pub named : has_entry (records (image ws)) r ≡ true
+  unfolding read_image heap_item_at
+  named = elim (cases_Bool (has_entry (records (image ws)) r)) [
     | inl e ↦ e
     | inr e ↦ absurd (false≢true (ap is_object (sym (at_or-map_absent (item (package_addresses (image ws))) (APackage []) (records (image ws)) r e)) ∙ there))
   ]
 
-  is_item : item_at (heap_of ws) r ≡ item (package_addresses (image ws)) r rec
-  unfolding read_image item_at
+  is_item : heap_item_at (heap_of ws) r ≡ item (package_addresses (image ws)) r rec
+  unfolding read_image heap_item_at
   is_item = at_or-map (item (package_addresses (image ws))) [] (APackage []) (records (image ws)) r named
 
   pub no_package : is_package (package_addresses (image ws)) r ≡ false
@@ -74,7 +78,7 @@ module _ (ws : List ℕ) (r : ℕ) (laid : IsLaid ws) (there : IsObject (heap_of
     | inr e ↦ e
   ]
 
-  pub item_is : item_at (heap_of ws) r ≡ AnObject (object_of rec)
+  pub item_is : heap_item_at (heap_of ws) r ≡ AnObject (object_of rec)
   item_is = is_item ∙ ap (λ b. if b then APackage rec else AnObject (object_of rec)) no_package
 
   pub behind : base (image ws) ≤ r
@@ -84,17 +88,32 @@ module _ (ws : List ℕ) (r : ℕ) (laid : IsLaid ws) (there : IsObject (heap_of
   word_is : (j : ℕ) → j < length rec → (r + j < get_or ws top_address 0) × (get_or rec j 0 ≡ get_or ws (r + j) 0)
   word_is j h =
       let offset : base (image ws) + (r + j - base (image ws)) ≡ r + j = omega (arith, behind) in
-      let at : (r + j - base (image ws) < length (drop (base (image ws)) (image ws))) × (get_or rec j 0 ≡ get_or (drop (base (image ws)) (image ws)) (r + j - base (image ws)) 0) =
-      at_or-cut (sizes (package_addresses (image ws))) 0 (base (image ws)) (drop (base (image ws)) (image ws)) r j (r + j - base (image ws)) h offset in
-      let below : r + j < get_or ws top_address 0 = omega (arith, at.0, offset, length-drop (base (image ws)) (image ws), length-take (get_or ws top_address 0) ws) in
-      (below, at.1 ∙ get_or-drop (base (image ws)) (image ws) (r + j - base (image ws)) 0 ∙ ap (λ k. get_or (image ws) k 0) offset ∙ get_or-take (get_or ws top_address 0) ws (r + j) 0 below)
+      let at : (r + j - base (image ws) < length (drop (base (image ws)) (image ws)))
+      × (get_or rec j 0 ≡ get_or (drop (base (image ws)) (image ws)) (r + j - base (image ws)) 0) =
+      entry_or-records_from (sizes (package_addresses (image ws))) 0 (base (image ws)) (drop (base (image ws)) (image ws)) r j
+      (r + j - base (image ws)) h offset in
+      let below : r + j < get_or ws top_address 0 = omega (
+        arith,
+        at.0,
+        offset,
+        length-drop (base (image ws)) (image ws),
+        length-take (get_or ws top_address 0) ws,
+      ) in (
+        below,
+        at.1 ∙ get_or-drop (base (image ws)) (image ws) (r + j - base (image ws)) 0 ∙ ap (λ k. get_or (image ws) k 0) offset
+            ∙ get_or-take (get_or ws top_address 0) ws (r + j) 0 below,
+      )
 
   -- the record is whole
-  long_is : length rec ≡ suc (3 + payload (get_or (drop (r - base (image ws)) (drop (base (image ws)) (image ws))) 0 0) (get_or (drop (r - base (image ws)) (drop (base (image ws)) (image ws))) 3 0))
-  unfolding missing
+  long_is : length rec ≡ suc (3 + payload (get_or (drop (r - base (image ws)) (drop (base (image ws)) (image ws))) 0 0)
+      (get_or (drop (r - base (image ws)) (drop (base (image ws)) (image ws))) 3 0))
+  unfolding missing_words_of_image
   long_is =
-      length-record (sizes (package_addresses (image ws))) 0 (base (image ws)) (drop (base (image ws)) (image ws)) r (r - base (image ws)) named laid.whole (omega (arith, behind))
-      ∙ ap (λ b. suc (if b then get_or (drop (r - base (image ws)) (drop (base (image ws)) (image ws))) 0 0 - 1 else 3 + payload (get_or (drop (r - base (image ws)) (drop (base (image ws)) (image ws))) 0 0) (get_or (drop (r - base (image ws)) (drop (base (image ws)) (image ws))) 3 0))) no_package
+      length-record (sizes (package_addresses (image ws))) 0 (base (image ws)) (drop (base (image ws)) (image ws)) r (r - base (image ws)) named laid.whole
+      (omega (arith, behind))
+      ∙ ap (λ b. suc (if b then get_or (drop (r - base (image ws)) (drop (base (image ws)) (image ws))) 0 0 - 1 else 3
+      + payload (get_or (drop (r - base (image ws)) (drop (base (image ws)) (image ws))) 0 0)
+      (get_or (drop (r - base (image ws)) (drop (base (image ws)) (image ws))) 3 0))) no_package
 
   four : 4 ≤ length rec
   four = omega (arith, long_is)
@@ -111,7 +130,8 @@ module _ (ws : List ℕ) (r : ℕ) (laid : IsLaid ws) (there : IsObject (heap_of
       ∙ sym w.1
 
   pub whole_record : length rec ≡ 4 + payload (get_or rec 0 0) (get_or rec 3 0)
-  whole_record = long_is ∙ ap (λ w. suc (3 + payload w (get_or (drop (r - base (image ws)) (drop (base (image ws)) (image ws))) 3 0))) (same_word 0 (omega (arith, four)))
+  whole_record = long_is ∙ ap (λ w. suc (3 + payload w (get_or (drop (r - base (image ws)) (drop (base (image ws)) (image ws))) 3 0)))
+      (same_word 0 (omega (arith, four)))
       ∙ ap (λ l. suc (3 + payload (get_or rec 0 0) l)) (same_word 3 (omega (arith, four))) ∙ (omega arith)
 
   pub object_spot : (text_start ≤ r) × (r + 3 < get_or ws top_address 0)
@@ -121,13 +141,19 @@ module _ (ws : List ℕ) (r : ℕ) (laid : IsLaid ws) (there : IsObject (heap_of
   first_word = (word_is 0 (omega (arith, four))).1 ∙ ap (λ k. get_or ws k 0) (omega arith)
 
   five_words : (get_or rec 0 0 / 256 ≡ 0 → ⊥) → 4 < length rec
-  five_words n = omega (arith, at_least_one (is_header (get_or rec 0 0)), whole_record ∙ ap (λ b. 4 + (if is_header (get_or rec 0 0) then (if b then get_or rec 3 0 else 1) else 65536)) (ne_eqb (get_or rec 0 0 / 256) 0 n))
+  five_words n = omega (
+    arith,
+    at_least_one (is_header (get_or rec 0 0)),
+    whole_record
+        ∙ ap (λ b. 4 + (if is_header (get_or rec 0 0) then (if b then get_or rec 3 0 else 1) else 65536)) (ne_eqb (get_or rec 0 0 / 256) 0 n),
+  )
 
   -- the word behind a transient object's header
   pub place_spot : (get_or ws r 0 / 256 ≡ 0 → ⊥) → r + 4 < get_or ws top_address 0
   place_spot n = (word_is 4 (five_words (λ e. n (ap (λ w. w / 256) (sym first_word) ∙ e)))).0
 
-  last_word : said (get_or rec 0 0) (get_or rec 1 0) (get_or rec 2 0) (get_or rec 3 0) (get_or rec 4 0) ≡ said (get_or rec 0 0) (get_or rec 1 0) (get_or rec 2 0) (get_or rec 3 0) (get_or ws (r + 4) 0)
+  last_word : said (get_or rec 0 0) (get_or rec 1 0) (get_or rec 2 0) (get_or rec 3 0) (get_or rec 4 0)
+      ≡ said (get_or rec 0 0) (get_or rec 1 0) (get_or rec 2 0) (get_or rec 3 0) (get_or ws (r + 4) 0)
   last_word = elim (cases_eq (get_or rec 0 0 / 256) 0) [
     | inl e ↦ rw (eq-eqb (get_or rec 0 0 / 256) 0 e) refl
     | inr n ↦ ap (said (get_or rec 0 0) (get_or rec 1 0) (get_or rec 2 0) (get_or rec 3 0)) (word_is 4 (five_words n)).1
@@ -136,7 +162,8 @@ module _ (ws : List ℕ) (r : ℕ) (laid : IsLaid ws) (there : IsObject (heap_of
   pub facts_are : facts (heap_of ws) r ≡ said (get_or ws r 0) (get_or ws (r + 1) 0) (get_or ws (r + 2) 0) (get_or ws (r + 3) 0) (get_or ws (r + 4) 0)
   facts_are =
       ap facts_of item_is ∙ said-object_of rec four ∙ last_word
-      ∙ (λ k. said (first_word k) ((word_is 1 (omega (arith, four))).1 k) ((word_is 2 (omega (arith, four))).1 k) ((word_is 3 (omega (arith, four))).1 k) (get_or ws (r + 4) 0))
+      ∙ (λ k. said (first_word k) ((word_is 1 (omega (arith, four))).1 k) ((word_is 2 (omega (arith, four))).1 k) ((word_is 3 (omega (arith, four))).1 k)
+      (get_or ws (r + 4) 0))
 
   pub record_within : r + length rec ≤ get_or ws top_address 0
   record_within = omega (arith, four, (word_is (length rec - 1) (omega (arith, four))).0)
@@ -148,19 +175,20 @@ module _ (ws : List ℕ) (r : ℕ) (laid : IsLaid ws) (there : IsObject (heap_of
       ∙ (word_is 3 (omega (arith, four))).1
 
 -- what stands at an address and is no package is an object
-pub object_at : (ws : List ℕ) (r : ℕ) → names (heap_of ws) r ≡ true → is_package (package_addresses (image ws)) r ≡ false → IsObject (heap_of ws) r
-unfolding read_image item_at names
+pub object_at : (ws : List ℕ) (r : ℕ) → is_allocated (heap_of ws) r ≡ true → is_package (package_addresses (image ws)) r ≡ false → IsObject (heap_of ws) r
+unfolding read_image heap_item_at is_allocated
 object_at ws r named other =
-    let there : has (records (image ws)) r ≡ true = sym (has-map (item (package_addresses (image ws))) (records (image ws)) r) ∙ named in
+    let there : has_entry (records (image ws)) r ≡ true = sym (has-map (item (package_addresses (image ws))) (records (image ws)) r) ∙ named in
     ap is_object (at_or-map (item (package_addresses (image ws))) [] (APackage []) (records (image ws)) r there)
-    ∙ ap (λ b. is_object (if b then APackage (at_or [] (records (image ws)) r) else AnObject (object_of (at_or [] (records (image ws)) r)))) other
+    ∙ ap (λ b. is_object (if b then APackage (entry_or [] (records (image ws)) r) else AnObject (object_of (entry_or [] (records (image ws)) r)))) other
 
-names_found : (ws : List ℕ) (r : ℕ) → names (heap_of ws) r ≡ has (records (image ws)) r
-unfolding read_image names
+names_found : (ws : List ℕ) (r : ℕ) → is_allocated (heap_of ws) r ≡ has_entry (records (image ws)) r
+unfolding read_image is_allocated
 names_found ws r = has-map (item (package_addresses (image ws))) (records (image ws)) r
 
 -- by what a walk finds at an address, and by the packages' addresses
-pub object_here : (ws : List ℕ) (r : ℕ) → IsLaid ws → (begins other : Bool) → begins ≡ has (records (image ws)) r → other ≡ is_package (package_addresses (image ws)) r →
+pub object_here : (ws : List ℕ) (r : ℕ) → IsWellFormed ws → (begins other : Bool) → begins ≡ has_entry (records (image ws)) r
+    → other ≡ is_package (package_addresses (image ws)) r →
     (IsTrue (begins && not other) → IsObject (heap_of ws) r) × (IsObject (heap_of ws) r → IsTrue (begins && not other))
 object_here ws r laid true false b p = (λ _. object_at ws r (names_found ws r ∙ sym b) (sym p), λ _. refl)
 object_here ws r laid true true b p = (λ t. absurd (false≢true t), λ o. absurd (false≢true (sym (no_package ws r laid o) ∙ sym p)))
@@ -173,7 +201,7 @@ pub record Spot (j : State) (r : ℕ) : Type 0 where
   pub behind : (get_or j.plain r 0 / 256 ≡ 0 → ⊥) → r + 4 < length j.plain
   pub small : length j.plain < 65536
 
-pub spot_at : (j : State) (r a : ℕ) → IsLaid j.plain → length j.plain < 65536 → IsObject (heap_of j.plain) r → a ≡ r → Spot j a
+pub spot_at : (j : State) (r a : ℕ) → IsWellFormed j.plain → length j.plain < 65536 → IsObject (heap_of j.plain) r → a ≡ r → Spot j a
 spot_at j r a laid small there e =
     let here : Spot j r = record {
       low = (object_spot j.plain r laid there).0;
@@ -184,12 +212,19 @@ spot_at j r a laid small there e =
     subst (Spot j) (sym e) here
 
 -- facts read word by word are the object's
-pub facts_built : (ws : List ℕ) (r : ℕ) → IsLaid ws → IsObject (heap_of ws) r →
+pub facts_built : (ws : List ℕ) (r : ℕ) → IsWellFormed ws → IsObject (heap_of ws) r →
     (w : ℕ) (kind : Kind) (event : Option ClearEvent) (class owner long place : ℕ) → w ≡ get_or ws r 0 → kind ≡ kind_of (w % 256) → event ≡ event_of (w / 256) →
     class ≡ get_or ws (r + 1) 0 → owner ≡ get_or ws (r + 2) 0 → long ≡ get_or ws (r + 3) 0 → place ≡ (if w / 256 == 0 then 0 else get_or ws (r + 4) 0) →
     (let built : Facts = record { kind = kind; event = event; class = class; owner = owner; length = long; place = place } in built) ≡ facts (heap_of ws) r
 facts_built ws r laid there w kind event class owner long place we ke ee ce oe le pe =
-    (λ i. record { kind = (ke ∙ ap (λ u. kind_of (u % 256)) we) i; event = (ee ∙ ap (λ u. event_of (u / 256)) we) i; class = ce i; owner = oe i; length = le i; place = (pe ∙ ap (λ u. if u / 256 == 0 then 0 else get_or ws (r + 4) 0) we) i })
+    (λ i. record {
+      kind = (ke ∙ ap (λ u. kind_of (u % 256)) we) i;
+      event = (ee ∙ ap (λ u. event_of (u / 256)) we) i;
+      class = ce i;
+      owner = oe i;
+      length = le i;
+      place = (pe ∙ ap (λ u. if u / 256 == 0 then 0 else get_or ws (r + 4) 0) we) i;
+    })
     ∙ sym (facts_are ws r laid there)
 
 some_if : (b : Bool) → is_some (if b then Some Reset else Some Deselect) ≡ true

@@ -1,21 +1,23 @@
 -- A word of a package's record changed, in all the words.
-use Rattle.std.proofs.Common.{◌≡◌, ℕ, ◌+◌, ◌-◌, ◌/◌, ◌<◌, ◌≤◌, false, inl, inr, List, [], length, take, drop, set, get_or, map, replicate, refl, sym, ◌∙◌, ap, subst, arith, if◌then◌else◌}
+use Rattle.std.proofs.Common.{◌≡◌, ℕ, ◌+◌, ◌-◌, ◌/◌, ◌<◌, ◌≤◌, false, inl, inr, List, [], length, take, drop, set, get_or, map, replicate, refl, sym, ◌∙◌, ap}
+use Rattle.std.proofs.Common.{subst, arith, if◌then◌else◌}
 use Rattle.std.proofs.lemmas.List.{drop-set-add, take-set-le, length-set, length-replicate}
 use Rattle.std.proofs.lemmas.Bool.{cases_Bool, cases_eq}
-use Rattle.jc_words.specs.Layout.{top_address, packages_address, applets_address, reset_end_address, deselect_end_address, text_length_address, registry_start, registry_length, text_start}
-use Rattle.jc_heap.specs.Cut.{Sizes, cut, lacking}
-use Rattle.jc_heap.specs.Table.{at_or, put}
-use Rattle.jc_heap.specs.Object.{Item, AnObject, APackage, object_of, bare}
-use Rattle.jc_heap.specs.Image.{image, base, package_addresses, is_package, sizes, item, item_entry, records, missing, table_text, IsLaid}
-use Rattle.jc_heap.specs.Heap.{HeapState, heap_of, read_image, item_at, names, SameShape}
+use Rattle.jc_words.specs.Layout.{top_address, packages_address, applets_address, reset_end_address, deselect_end_address, text_length_address, registry_start}
+use Rattle.jc_words.specs.Layout.{registry_length, text_start}
+use Rattle.jc_heap.specs.Cut.{Sizes, records_from, missing_words}
+use Rattle.jc_heap.specs.Table.{entry_or, with_entry}
+use Rattle.jc_heap.specs.Object.{Item, AnObject, APackage, object_of, header_only}
+use Rattle.jc_heap.specs.Image.{image, base, package_addresses, is_package, sizes, item, item_entry, records, missing_words_of_image, table_text, IsWellFormed}
+use Rattle.jc_heap.specs.Heap.{HeapState, heap_of, read_image, heap_item_at, is_allocated, SameShape}
 use Rattle.jc_heap.specs.Components.{words_of, record_of}
 use Rattle.jc_heap.specs.Statics.{with_word, set_word}
-use Rattle.jc_heap.proofs.Records.{cut-set, lacking-set}
+use Rattle.jc_heap.proofs.Records.{records_from-set, missing_words-set}
 use Rattle.jc_heap.proofs.Tables.{map-put, at_or-put_same, at_or-put_other, has-put, put-absent}
 use Rattle.jc_heap.proofs.Images.{sizes_tell, image-set, get_or_front, range_front, package_addresses-set, base-set, text-same}
 use Rattle.jc_heap.proofs.RecordReading.{is_item, is_one, is_record, behind}
 
-module _ (ws : List ℕ) (r j v : ℕ) (laid : IsLaid ws) (four : 4 ≤ j) (h : j < length (record_of (heap_of ws) r)) where
+module _ (ws : List ℕ) (r j v : ℕ) (laid : IsWellFormed ws) (four : 4 ≤ j) (h : j < length (record_of (heap_of ws) r)) where
   some : 0 < length (record_of (heap_of ws) r)
   some = omega arith
 
@@ -23,7 +25,7 @@ module _ (ws : List ℕ) (r j v : ℕ) (laid : IsLaid ws) (four : 4 ≤ j) (h : 
   img = image ws
 
   abbrev old : List ℕ
-  old = at_or [] (records (image ws)) r
+  old = entry_or [] (records (image ws)) r
 
   within : j < length old
   within = omega (arith, h, ap length (is_record ws r laid some))
@@ -55,42 +57,60 @@ module _ (ws : List ℕ) (r j v : ℕ) (laid : IsLaid ws) (four : 4 ≤ j) (h : 
       ∙ ap (λ b. F (sizes (package_addresses img)) b (drop b (set img (r + j) v))) (base-set img (r + j) v far)
       ∙ ap (F (sizes (package_addresses img)) (base img)) tail
 
-  records-set : records (set img (r + j) v) ≡ put (records img) r (set old j v)
+  records-set : records (set img (r + j) v) ≡ with_entry (records img) r (set old j v)
   records-set =
-      table-set (λ more b us. cut more 0 b us)
-      ∙ cut-set (sizes (package_addresses img)) (sizes_tell (package_addresses img)) 0 (base img) (drop (base img) img) r j offset v four within offset_is
+      table-set (λ more b us. records_from more 0 b us)
+      ∙ records_from-set (sizes (package_addresses img)) (sizes_tell (package_addresses img)) 0 (base img)
+      (drop (base img) img) r j offset v four within offset_is
 
-  missing-set : missing (set img (r + j) v) ≡ missing img
-  unfolding missing
+  missing-set : missing_words_of_image (set img (r + j) v) ≡ missing_words_of_image img
+  unfolding missing_words_of_image
   missing-set =
-      table-set (λ more b us. lacking more 0 b us)
-      ∙ lacking-set (sizes (package_addresses img)) (sizes_tell (package_addresses img)) 0 (base img) (drop (base img) img) r j offset v four within offset_is
+      table-set (λ more b us. missing_words more 0 b us)
+      ∙ missing_words-set (sizes (package_addresses img)) (sizes_tell (package_addresses img)) 0 (base img)
+      (drop (base img) img) r j offset v four within offset_is
 
   as_package : (us : List ℕ) → item (package_addresses img) r us ≡ APackage us
   as_package us = ap (λ b. if b then APackage us else AnObject (object_of us)) (is_one ws r laid some)
 
-  item-set : item (package_addresses img) r (set old j v) ≡ with_word (item_at (heap_of ws) r) j v
+  item-set : item (package_addresses img) r (set old j v) ≡ with_word (heap_item_at (heap_of ws) r) j v
   item-set = as_package (set old j v) ∙ ap (λ t. with_word t j v) (sym (as_package old) ∙ sym (is_item ws r laid some))
 
   read-set : read_image (set img (r + j) v) ≡ set_word (read_image img) r j v
   unfolding read_image set_word
   read-set =
       let registry : text_start ≤ r + j = omega (arith, low) in
-      let items : map (item_entry (package_addresses (set img (r + j) v))) (records (set img (r + j) v)) ≡ put (map (item_entry (package_addresses img)) (records img)) r (with_word (item_at (heap_of ws) r) j v) =
+      let items : map (item_entry (package_addresses (set img (r + j) v))) (records (set img (r + j) v))
+      ≡ with_entry (map (item_entry (package_addresses img)) (records img)) r (with_word (heap_item_at (heap_of ws) r) j v) =
       ap (λ ps. map (item_entry ps) (records (set img (r + j) v))) same_packages
       ∙ ap (map (item_entry (package_addresses img))) records-set
       ∙ map-put (item (package_addresses img)) (records img) r (set old j v)
-      ∙ ap (put (map (item_entry (package_addresses img)) (records img)) r) item-set in
-      let applets : take registry_length (drop registry_start (set img (r + j) v)) ≡ take registry_length (drop registry_start img) = range_front img registry_start registry_length (r + j) v registry in
-      let first_end : get_or (set img (r + j) v) reset_end_address 0 ≡ get_or img reset_end_address 0 = get_or_front img (r + j) reset_end_address v (omega arith) in
-      let second_end : get_or (set img (r + j) v) deselect_end_address 0 ≡ get_or img deselect_end_address 0 = get_or_front img (r + j) deselect_end_address v (omega arith) in
+      ∙ ap (with_entry (map (item_entry (package_addresses img)) (records img)) r) item-set in
+      let applets : take registry_length (drop registry_start (set img (r + j) v)) ≡ take registry_length (drop registry_start img) =
+      range_front img registry_start registry_length (r + j) v registry in
+      let first_end : get_or (set img (r + j) v) reset_end_address 0 ≡ get_or img reset_end_address 0 =
+      get_or_front img (r + j) reset_end_address v (omega arith) in
+      let second_end : get_or (set img (r + j) v) deselect_end_address 0 ≡ get_or img deselect_end_address 0 =
+      get_or_front img (r + j) deselect_end_address v (omega arith) in
       let top : length (set img (r + j) v) ≡ length img = length-set img (r + j) v in
       let head : take 3 (set img (r + j) v) ≡ take 3 img = take-set-le 3 img (r + j) v (omega (arith, registry)) in
       let text : table_text (set img (r + j) v) ≡ table_text img =
-      text-same img (set img (r + j) v) (get_or_front img (r + j) text_length_address v (omega (arith, registry))) (range_front img text_start ((get_or img text_length_address 0 + 1) / 2) (r + j) v (omega (arith, low))) in
-      let first_count : get_or (set img (r + j) v) packages_address 0 ≡ get_or img packages_address 0 = get_or_front img (r + j) packages_address v (omega arith) in
-      let second_count : get_or (set img (r + j) v) applets_address 0 ≡ get_or img applets_address 0 = get_or_front img (r + j) applets_address v (omega arith) in
-      λ k. record { head = head k; text = text k; items = items k; counts = (first_count k, second_count k); packages = same_packages k; applets = applets k; area_ends = (first_end k, second_end k); top = top k }
+      text-same img (set img (r + j) v) (get_or_front img (r + j) text_length_address v (omega (arith, registry)))
+      (range_front img text_start ((get_or img text_length_address 0 + 1) / 2) (r + j) v (omega (arith, low))) in
+      let first_count : get_or (set img (r + j) v) packages_address 0 ≡ get_or img packages_address 0 =
+      get_or_front img (r + j) packages_address v (omega arith) in
+      let second_count : get_or (set img (r + j) v) applets_address 0 ≡ get_or img applets_address 0 =
+      get_or_front img (r + j) applets_address v (omega arith) in
+      λ k. record {
+        head = head k;
+        text = text k;
+        items = items k;
+        counts = (first_count k, second_count k);
+        packages = same_packages k;
+        applets = applets k;
+        area_ends = (first_end k, second_end k);
+        top = top k;
+      }
 
   pub heap_of-set_word : heap_of (set ws (r + j) v) ≡ set_word (heap_of ws) r j v
   heap_of-set_word = ap read_image (image-set ws (r + j) v (omega (arith, far))) ∙ read-set
@@ -98,69 +118,69 @@ module _ (ws : List ℕ) (r j v : ℕ) (laid : IsLaid ws) (four : 4 ≤ j) (h : 
   pub top-set_word : get_or (set ws (r + j) v) top_address 0 ≡ get_or ws top_address 0
   top-set_word = get_or_front ws (r + j) top_address v (omega (arith, far))
 
-  pub laid-set_word : IsLaid (set ws (r + j) v)
+  pub laid-set_word : IsWellFormed (set ws (r + j) v)
   laid-set_word =
       let same_image : image (set ws (r + j) v) ≡ set (image ws) (r + j) v = image-set ws (r + j) v (omega (arith, far)) in
       let same_base : base (image (set ws (r + j) v)) ≡ base (image ws) = ap base same_image ∙ base-set (image ws) (r + j) v far in
       record {
         based = rw (same_base, top-set_word) laid.based;
         fits = rw (top-set_word, length-set ws (r + j) v) laid.fits;
-        whole = ap missing same_image ∙ missing-set ∙ laid.whole;
+        whole = ap missing_words_of_image same_image ∙ missing-set ∙ laid.whole;
         packages = λ a le. ap (λ ps. is_package ps a) (ap package_addresses same_image ∙ same_packages) ∙ laid.packages a (rw top-set_word at le);
       }
 
 -- what a word of a record does not tell stays as it is
 module _ {X : Type 0} (f : Item → X) (same : (t : Item) (j v : ℕ) → f (with_word t j v) ≡ f t) where
-  pub of_item-set_word : (h : HeapState) (r j v q : ℕ) → f (item_at (set_word h r j v) q) ≡ f (item_at h q)
-  unfolding item_at set_word names
+  pub of_item-set_word : (h : HeapState) (r j v q : ℕ) → f (heap_item_at (set_word h r j v) q) ≡ f (heap_item_at h q)
+  unfolding heap_item_at set_word is_allocated
   of_item-set_word h r j v q = elim (cases_eq r q) [
-    | inl is ↦ elim (cases_Bool (names h r)) [
+    | inl is ↦ elim (cases_Bool (is_allocated h r)) [
       | inl e ↦
-          ap (λ p. f (at_or (APackage []) (put h.items r (with_word (item_at h r) j v)) p)) (sym is)
-          ∙ ap f (at_or-put_same (APackage []) h.items r (with_word (item_at h r) j v) e)
-          ∙ same (item_at h r) j v
-          ∙ ap (λ p. f (item_at h p)) is
-      | inr e ↦ ap (λ l. f (at_or (APackage []) l q)) (put-absent h.items r (with_word (item_at h r) j v) e)
+          ap (λ p. f (entry_or (APackage []) (with_entry h.items r (with_word (heap_item_at h r) j v)) p)) (sym is)
+          ∙ ap f (at_or-put_same (APackage []) h.items r (with_word (heap_item_at h r) j v) e)
+          ∙ same (heap_item_at h r) j v
+          ∙ ap (λ p. f (heap_item_at h p)) is
+      | inr e ↦ ap (λ l. f (entry_or (APackage []) l q)) (put-absent h.items r (with_word (heap_item_at h r) j v) e)
     ]
-    | inr n ↦ ap f (at_or-put_other (APackage []) h.items r q (with_word (item_at h r) j v) n)
+    | inr n ↦ ap f (at_or-put_other (APackage []) h.items r q (with_word (heap_item_at h r) j v) n)
   ]
 
-pub names-set_word : (h : HeapState) (r j v q : ℕ) → names (set_word h r j v) q ≡ names h q
-unfolding names set_word
-names-set_word h r j v q = has-put h.items r q (with_word (item_at h r) j v)
+pub is_allocated-set_word : (h : HeapState) (r j v q : ℕ) → is_allocated (set_word h r j v) q ≡ is_allocated h q
+unfolding is_allocated set_word
+is_allocated-set_word h r j v q = has-put h.items r q (with_word (heap_item_at h r) j v)
 
 pub top_after-set_word : (h : HeapState) (r j v : ℕ) → (set_word h r j v).top ≡ h.top
 unfolding set_word
 top_after-set_word h r j v = refl
 
-pub set_word-absent : (h : HeapState) (r j v : ℕ) → names h r ≡ false → set_word h r j v ≡ h
-unfolding names set_word
-set_word-absent h r j v e = ap (λ l. record h { items = l }) (put-absent h.items r (with_word (item_at h r) j v) e)
+pub set_word-absent : (h : HeapState) (r j v : ℕ) → is_allocated h r ≡ false → set_word h r j v ≡ h
+unfolding is_allocated set_word
+set_word-absent h r j v e = ap (λ l. record h { items = l }) (put-absent h.items r (with_word (heap_item_at h r) j v) e)
 
 -- shapes stay
-bare-with_word : (t : Item) (j v : ℕ) → bare (with_word t j v) ≡ bare t
-bare-with_word (AnObject o) j v = refl
-bare-with_word (APackage ws) j v = ap (λ n. APackage (replicate n 0)) (length-set ws j v)
+header_only-with_word : (t : Item) (j v : ℕ) → header_only (with_word t j v) ≡ header_only t
+header_only-with_word (AnObject o) j v = refl
+header_only-with_word (APackage ws) j v = ap (λ n. APackage (replicate n 0)) (length-set ws j v)
 
-pub bare-set_word : (h : HeapState) (r j v q : ℕ) → bare (item_at (set_word h r j v) q) ≡ bare (item_at h q)
-bare-set_word = of_item-set_word bare bare-with_word
+pub header_only-set_word : (h : HeapState) (r j v q : ℕ) → header_only (heap_item_at (set_word h r j v) q) ≡ header_only (heap_item_at h q)
+header_only-set_word = of_item-set_word header_only header_only-with_word
 
 pub shape-set_word : (d h : HeapState) (r j v : ℕ) → SameShape d h → SameShape d (set_word h r j v)
 shape-set_word d h r j v s = record {
-  items = λ q lt. bare-set_word h r j v q ∙ s.items q lt;
-  names = λ q lt. names-set_word h r j v q ∙ s.names q lt;
+  items = λ q lt. header_only-set_word h r j v q ∙ s.items q lt;
+  names = λ q lt. is_allocated-set_word h r j v q ∙ s.names q lt;
 }
 
 pub shape-set_word_both : (d h : HeapState) (r j v : ℕ) → SameShape d h → SameShape (set_word d r j v) (set_word h r j v)
 shape-set_word_both d h r j v s = record {
-  items = λ q lt. bare-set_word h r j v q ∙ s.items q (subst (λ n. q < n) (top_after-set_word d r j v) lt) ∙ sym (bare-set_word d r j v q);
-  names = λ q lt. names-set_word h r j v q ∙ s.names q (subst (λ n. q < n) (top_after-set_word d r j v) lt) ∙ sym (names-set_word d r j v q);
+  items = λ q lt. header_only-set_word h r j v q ∙ s.items q (subst (λ n. q < n) (top_after-set_word d r j v) lt) ∙ sym (header_only-set_word d r j v q);
+  names = λ q lt. is_allocated-set_word h r j v q ∙ s.names q (subst (λ n. q < n) (top_after-set_word d r j v) lt) ∙ sym (is_allocated-set_word d r j v q);
 }
 
 -- the same length
-length-bare : (t : Item) → length (words_of (bare t)) ≡ length (words_of t)
-length-bare (AnObject o) = refl
-length-bare (APackage ws) = length-replicate {A = ℕ} (length ws) 0
+length-header_only : (t : Item) → length (words_of (header_only t)) ≡ length (words_of t)
+length-header_only (AnObject o) = refl
+length-header_only (APackage ws) = length-replicate {A = ℕ} (length ws) 0
 
-pub same_words : (a b : Item) → bare a ≡ bare b → length (words_of a) ≡ length (words_of b)
-same_words a b e = sym (length-bare a) ∙ ap (λ t. length (words_of t)) e ∙ length-bare b
+pub same_words : (a b : Item) → header_only a ≡ header_only b → length (words_of a) ≡ length (words_of b)
+same_words a b e = sym (length-header_only a) ∙ ap (λ t. length (words_of t)) e ∙ length-header_only b

@@ -1,16 +1,18 @@
 -- Runs of cells.
-use Rattle.std.proofs.Common.{◌≡◌, ℕ, zero, suc, ◌+◌, ◌<◌, ◌≤◌, List, [], ◌∷◌, ◌++◌, length, take, set, get_or, refl, sym, ◌∙◌, ap, subst, arith, true, false, add-zero}
+use Rattle.std.proofs.Common.{◌≡◌, ℕ, zero, suc, ◌+◌, ◌<◌, ◌≤◌, List, [], ◌∷◌, ◌++◌, length, take, set, get_or, refl, sym, ◌∙◌, ap, subst, arith, true, false}
+use Rattle.std.proofs.Common.{add-zero}
 use Rattle.std.proofs.lemmas.List.{length-take-le, take_more_set, take_more}
 use Rattle.std.proofs.lemmas.Bool.{lt-leb}
 use Rattle.jc_words.specs.Layout.{top_address, text_start}
 use Rattle.jc_commit.specs.Image.{with_words, IsPlace, capacity}
 use Rattle.jc_commit.specs.Entries.{addresses_of, ArePlaces}
-use Rattle.jc_heap.specs.Image.{IsLaid}
+use Rattle.jc_heap.specs.Image.{IsWellFormed}
 use Rattle.jc_commit.specs.State.{State, Changes, has_room_for as journal_room}
-use Rattle.jc_heap.specs.Heap.{HeapState, HeapView, heap_view, heap_of, cells, set_cell, set_cells, run_words, cell_address, changed, has_room_for, SameShape, IsSound}
+use Rattle.jc_heap.specs.Heap.{HeapState, HeapView, heap_view, heap_of, cells, set_cell, set_cells, run_words, cell_address, heap_after_change, has_room_for}
+use Rattle.jc_heap.specs.Heap.{SameShape, IsSound}
 use Rattle.jc_heap.proofs.Changing.{change_view, change_sound}
 use Rattle.jc_heap.proofs.Laws.{shape-set, length-cells-set_cell}
-use Rattle.jc_heap.proofs.Images.{set_cell-heap_of, IsLaid-set, top-set}
+use Rattle.jc_heap.proofs.Images.{set_cell-heap_of, IsWellFormed-set, top-set}
 use Rattle.jc_heap.proofs.Views.{is_place, cell_spot}
 
 pub length-run_words : (at : ℕ) (vs : List ℕ) → length (run_words at vs) ≡ length vs
@@ -49,7 +51,8 @@ address-at at [] k d h = absurd (omega arith)
 address-at at (v ∷ vs) zero d h = sym (add-zero at)
 address-at at (v ∷ vs) (suc k) d h = address-at (suc at) vs k d (omega arith) ∙ (omega arith)
 
-pub distinct-run : (at : ℕ) (vs : List ℕ) (i j d : ℕ) → i < j → j < length (addresses_of (run_words at vs)) → get_or (addresses_of (run_words at vs)) i d ≡ get_or (addresses_of (run_words at vs)) j d → ⊥
+pub distinct-run : (at : ℕ) (vs : List ℕ) (i j d : ℕ) → i < j → j < length (addresses_of (run_words at vs))
+    → get_or (addresses_of (run_words at vs)) i d ≡ get_or (addresses_of (run_words at vs)) j d → ⊥
 distinct-run at vs i j d below within e =
     omega (arith, address-at at vs i d (omega arith), address-at at vs j d within, e, below)
 
@@ -65,7 +68,8 @@ too_many v places h = elim v.begun as (λ g. journal_room g v.touched places ≡
 ]
 
 -- a run's words are places
-pub places_of_run : (j : State) (v : HeapView) (n r i : ℕ) (vs : List ℕ) → heap_view j n ≡ v → i + length vs ≤ length (cells v.now r) → ArePlaces (length j.plain) (run_words (cell_address r i) vs)
+pub places_of_run : (j : State) (v : HeapView) (n r i : ℕ) (vs : List ℕ) → heap_view j n ≡ v → i + length vs ≤ length (cells v.now r)
+    → ArePlaces (length j.plain) (run_words (cell_address r i) vs)
 unfolding cell_address
 places_of_run j v n r i vs is h = λ k within.
     let there : i + k < length (cells v.now r) = omega (arith, length-run_words (r + (4 + i)) vs) in
@@ -74,18 +78,22 @@ places_of_run j v n r i vs is h = λ k within.
     subst (IsPlace (length j.plain)) (sym e) (is_place (length j.plain) (r + (4 + (i + k))) spot.0 spot.1)
 
 -- a run of words written is a run of cells set
-pub run-heap_of : (ws : List ℕ) (r i : ℕ) (vs : List ℕ) → i + length vs ≤ length (cells (heap_of ws) r) → IsLaid ws →
-    (heap_of (with_words ws (run_words (r + (4 + i)) vs)) ≡ set_cells (heap_of ws) r i vs) × IsLaid (with_words ws (run_words (r + (4 + i)) vs)) × (get_or (with_words ws (run_words (r + (4 + i)) vs)) top_address 0 ≡ get_or ws top_address 0)
+pub run-heap_of : (ws : List ℕ) (r i : ℕ) (vs : List ℕ) → i + length vs ≤ length (cells (heap_of ws) r) → IsWellFormed ws →
+    (heap_of (with_words ws (run_words (r + (4 + i)) vs)) ≡ set_cells (heap_of ws) r i vs) × IsWellFormed (with_words ws (run_words (r + (4 + i)) vs))
+    × (get_or (with_words ws (run_words (r + (4 + i)) vs)) top_address 0 ≡ get_or ws top_address 0)
 run-heap_of ws r i [] h laid = (refl, laid, refl)
 run-heap_of ws r i (v ∷ vs) h laid =
     let here : i < length (cells (heap_of ws) r) = omega arith in
     let one : heap_of (set ws (r + (4 + i)) v) ≡ set_cell (heap_of ws) r i v = set_cell-heap_of ws r i v here in
-    let long : length (cells (heap_of (set ws (r + (4 + i)) v)) r) ≡ length (cells (heap_of ws) r) = ap (λ t. length (cells t r)) one ∙ length-cells-set_cell (heap_of ws) r i v r in
+    let long : length (cells (heap_of (set ws (r + (4 + i)) v)) r) ≡ length (cells (heap_of ws) r) = ap (λ t. length (cells t r)) one
+    ∙ length-cells-set_cell (heap_of ws) r i v r in
     let next : suc (r + (4 + i)) ≡ r + (4 + suc i) = omega arith in
-    let ih : (heap_of (with_words (set ws (r + (4 + i)) v) (run_words (r + (4 + suc i)) vs)) ≡ set_cells (heap_of (set ws (r + (4 + i)) v)) r (suc i) vs) × IsLaid (with_words (set ws (r + (4 + i)) v) (run_words (r + (4 + suc i)) vs)) × (get_or (with_words (set ws (r + (4 + i)) v) (run_words (r + (4 + suc i)) vs)) top_address 0 ≡ get_or (set ws (r + (4 + i)) v) top_address 0) =
-    run-heap_of (set ws (r + (4 + i)) v) r (suc i) vs (omega arith) (IsLaid-set ws r i v here laid) in (
+    let ih : (heap_of (with_words (set ws (r + (4 + i)) v) (run_words (r + (4 + suc i)) vs)) ≡ set_cells (heap_of (set ws (r + (4 + i)) v)) r (suc i) vs)
+    × IsWellFormed (with_words (set ws (r + (4 + i)) v) (run_words (r + (4 + suc i)) vs))
+    × (get_or (with_words (set ws (r + (4 + i)) v) (run_words (r + (4 + suc i)) vs)) top_address 0 ≡ get_or (set ws (r + (4 + i)) v) top_address 0) =
+    run-heap_of (set ws (r + (4 + i)) v) r (suc i) vs (omega arith) (IsWellFormed-set ws r i v here laid) in (
       ap (λ a. heap_of (with_words (set ws (r + (4 + i)) v) (run_words a vs))) next ∙ ih.0 ∙ ap (λ t. set_cells t r (suc i) vs) one,
-      subst (λ a. IsLaid (with_words (set ws (r + (4 + i)) v) (run_words a vs))) (sym next) ih.1,
+      subst (λ a. IsWellFormed (with_words (set ws (r + (4 + i)) v) (run_words a vs))) (sym next) ih.1,
       ap (λ a. get_or (with_words (set ws (r + (4 + i)) v) (run_words a vs)) top_address 0) next ∙ ih.2 ∙ top-set ws r i v here,
     )
 
@@ -94,19 +102,25 @@ shape-run d h r i [] s = s
 shape-run d h r i (v ∷ vs) s = shape-run d (set_cell h r i v) r (suc i) vs (shape-set d h r i v s)
 
 -- a run set through the journal is a run of the heap
-pub run_view : (j k : State) (v : HeapView) (n r i : ℕ) (vs : List ℕ) → heap_view j n ≡ v → IsLaid j.plain → i + length vs ≤ length (cells v.now r) → Changes (run_words (cell_address r i) vs) j k →
-    heap_view k n ≡ changed v (set_cells v.now r i vs) (addresses_of (run_words (cell_address r i) vs)) 0
+pub run_view : (j k : State) (v : HeapView) (n r i : ℕ) (vs : List ℕ) → heap_view j n ≡ v → IsWellFormed j.plain → i + length vs ≤ length (cells v.now r)
+    → Changes (run_words (cell_address r i) vs) j k →
+    heap_view k n ≡ heap_after_change v (set_cells v.now r i vs) (addresses_of (run_words (cell_address r i) vs)) 0
 unfolding cell_address
-run_view j k v n r i vs is laid h c = subst (λ u. i + length vs ≤ length (cells (u.now) r) → heap_view k n ≡ changed u (set_cells (u.now) r i vs) (addresses_of (run_words (r + (4 + i)) vs)) 0) is
+run_view j k v n r i vs is laid h c = subst (λ u. i + length vs ≤ length (cells (u.now) r)
+    → heap_view k n ≡ heap_after_change u (set_cells (u.now) r i vs) (addresses_of (run_words (r + (4 + i)) vs)) 0) is
     (λ there. change_view (run_words (r + (4 + i)) vs) j k n (set_cells (heap_of j.plain) r i vs) c (run-heap_of j.plain r i vs there laid).0) h
 
-run_sound_at : (j k : State) (n r i : ℕ) (vs : List ℕ) → i + length vs ≤ length (cells (heap_of j.plain) r) → j.down ≡ false → IsSound j n → Changes (run_words (r + (4 + i)) vs) j k → IsSound k n
+run_sound_at : (j k : State) (n r i : ℕ) (vs : List ℕ) → i + length vs ≤ length (cells (heap_of j.plain) r) → j.down ≡ false → IsSound j n
+    → Changes (run_words (r + (4 + i)) vs) j k → IsSound k n
 run_sound_at j k n r i vs h up s c =
-    let run : (heap_of (with_words j.plain (run_words (r + (4 + i)) vs)) ≡ set_cells (heap_of j.plain) r i vs) × IsLaid (with_words j.plain (run_words (r + (4 + i)) vs)) × (get_or (with_words j.plain (run_words (r + (4 + i)) vs)) top_address 0 ≡ get_or j.plain top_address 0) = run-heap_of j.plain r i vs h (s.now up) in
+    let run : (heap_of (with_words j.plain (run_words (r + (4 + i)) vs)) ≡ set_cells (heap_of j.plain) r i vs)
+    × IsWellFormed (with_words j.plain (run_words (r + (4 + i)) vs)) × (get_or (with_words j.plain (run_words (r + (4 + i)) vs)) top_address 0
+    ≡ get_or j.plain top_address 0) = run-heap_of j.plain r i vs h (s.now up) in
     change_sound (run_words (r + (4 + i)) vs) j k n c up s.back s.size_recovered (s.size_now up) s.small run.1
     (λ _. omega (arith, s.order up, run.2))
     (λ _. subst (SameShape (heap_of j.recovered)) (sym run.0) (shape-run (heap_of j.recovered) (heap_of j.plain) r i vs (s.shape up)))
 
-pub run_sound : (j k : State) (v : HeapView) (n r i : ℕ) (vs : List ℕ) → heap_view j n ≡ v → i + length vs ≤ length (cells v.now r) → j.down ≡ false → IsSound j n → Changes (run_words (cell_address r i) vs) j k → IsSound k n
+pub run_sound : (j k : State) (v : HeapView) (n r i : ℕ) (vs : List ℕ) → heap_view j n ≡ v → i + length vs ≤ length (cells v.now r) → j.down ≡ false
+    → IsSound j n → Changes (run_words (cell_address r i) vs) j k → IsSound k n
 unfolding cell_address
 run_sound j k v n r i vs is h up s c = run_sound_at j k n r i vs (subst (λ u. i + length vs ≤ length (cells (u.now) r)) (sym is) h) up s c

@@ -1,6 +1,7 @@
 -- Several places set as one change: places that differ have different words.
-use Rattle.std.proofs.Common.{◌≡◌, ℕ, zero, suc, ◌+◌, ◌<◌, ◌≤◌, ◌++◌, Bool, true, false, inl, inr, List, [], ◌∷◌, length, if◌then◌else◌, map, take, get_or, set, drop, refl, sym, ◌∙◌, ap, subst, arith}
-use Rattle.std.proofs.lemmas.List.{take_more_set, take_more, map-append, length-take}
+use Rattle.std.proofs.Common.{◌≡◌, ℕ, zero, suc, ◌+◌, ◌<◌, ◌≤◌, Bool, true, false, inl, inr, List, [], ◌∷◌, length, if◌then◌else◌, map, get_or, set, drop, refl}
+use Rattle.std.proofs.Common.{sym, ◌∙◌, ap, subst, arith}
+use Rattle.std.proofs.lemmas.List.{length-take}
 use Rattle.std.proofs.lemmas.Bool.{cases_Bool, cases_eq, cases_lt, eq-eqb, ne_eqb, false≢true}
 use Rattle.jc_words.specs.Layout.{top_address, text_start}
 use Rattle.jc_commit.specs.Image.{with_words, IsPlace}
@@ -8,10 +9,11 @@ use Rattle.jc_commit.specs.Entries.{addresses_of, ArePlaces}
 use Rattle.jc_commit.specs.State.{State, Changes, has_room_for as journal_room}
 use Rattle.jc_heap.specs.declared.place.Place.{Place}
 use Rattle.jc_heap.specs.declared.place.Place.TheVariants.{Cell, Static, Registry, AppletCount}
-use Rattle.jc_heap.specs.Cut.{Sizes, cut}
-use Rattle.jc_heap.specs.Table.{at_or, has}
-use Rattle.jc_heap.specs.Image.{IsLaid, image, base, package_addresses, is_package, sizes, records, item}
-use Rattle.jc_heap.specs.Heap.{HeapState, HeapView, heap_view, heap_of, read_image, item_at, names, changed, has_room_for, cell_address, cells, SameShape, IsSound}
+use Rattle.jc_heap.specs.Cut.{Sizes, records_from}
+use Rattle.jc_heap.specs.Table.{entry_or, has_entry}
+use Rattle.jc_heap.specs.Image.{IsWellFormed, image, base, package_addresses, is_package, sizes, records, item}
+use Rattle.jc_heap.specs.Heap.{HeapState, HeapView, heap_view, heap_of, read_image, heap_item_at, is_allocated, heap_after_change, has_room_for, cell_address}
+use Rattle.jc_heap.specs.Heap.{cells, SameShape, IsSound}
 use Rattle.jc_heap.specs.Places.{place_word, HasPlace, set_place, set_places, places_of, words_of, AreThere, IsBeside, AreApart}
 use Rattle.jc_heap.proofs.Records.{has_behind}
 use Rattle.jc_heap.proofs.Changing.{change_view, change_sound}
@@ -30,15 +32,6 @@ there_at h [] k d lt there = absurd (omega arith)
 there_at h (c ∷ cs) zero d lt there = there.0
 there_at h (c ∷ cs) (suc k) d lt there = there_at h cs k d (omega arith) there.2
 
--- a loop that writes the pairs one after another
-pub words_more : (words : List (ℕ × ℕ)) (k : ℕ) (cs : List (Place × ℕ)) (d : Place × ℕ) → k < length words → k < length cs → take k words ≡ words_of (take k cs) →
-    take (k + 1) (set words k (place_word ((get_or cs k d).0), (get_or cs k d).1)) ≡ words_of (take (k + 1) cs)
-words_more words k cs d h within e =
-    take_more_set words k (place_word ((get_or cs k d).0), (get_or cs k d).1) h
-    ∙ ap (λ l. l ++ (place_word ((get_or cs k d).0), (get_or cs k d).1) ∷ []) e
-    ∙ sym (map-append (λ c. (place_word c.0, c.1)) (take k cs) (get_or cs k d ∷ []))
-    ∙ ap words_of (sym (take_more cs k d within))
-
 -- places set leave the shape
 pub shape-places : (d h : HeapState) (cs : List (Place × ℕ)) → SameShape d h → SameShape d (set_places h cs)
 shape-places d h [] s = s
@@ -54,56 +47,74 @@ all_words_stay h p x [] there = tt
 all_words_stay h p x (c ∷ cs) there = (word_stays h p x c.0 there.0, all_words_stay h p x cs there.1)
 
 -- several words set stand for the heap with the places set
-pub words_set : (ws : List ℕ) (cs : List (Place × ℕ)) → IsLaid ws → AllWords (heap_of ws) cs →
-    (heap_of (with_words ws (words_of cs)) ≡ set_places (heap_of ws) cs) × IsLaid (with_words ws (words_of cs)) × (get_or (with_words ws (words_of cs)) top_address 0 ≡ get_or ws top_address 0)
+pub words_set : (ws : List ℕ) (cs : List (Place × ℕ)) → IsWellFormed ws → AllWords (heap_of ws) cs →
+    (heap_of (with_words ws (words_of cs)) ≡ set_places (heap_of ws) cs) × IsWellFormed (with_words ws (words_of cs))
+    × (get_or (with_words ws (words_of cs)) top_address 0 ≡ get_or ws top_address 0)
 words_set ws [] laid there = (refl, laid, refl)
 words_set ws (c ∷ cs) laid there =
-    let one : (heap_of (set ws (place_word c.0) c.1) ≡ set_place (heap_of ws) c.0 c.1) × IsLaid (set ws (place_word c.0) c.1) × (get_or (set ws (place_word c.0) c.1) top_address 0 ≡ get_or ws top_address 0) = word_set ws c.0 c.1 laid there.0 in
+    let one : (heap_of (set ws (place_word c.0) c.1) ≡ set_place (heap_of ws) c.0 c.1) × IsWellFormed (set ws (place_word c.0) c.1)
+    × (get_or (set ws (place_word c.0) c.1) top_address 0 ≡ get_or ws top_address 0) = word_set ws c.0 c.1 laid there.0 in
     let left : AllWords (heap_of (set ws (place_word c.0) c.1)) cs = subst (λ h. AllWords h cs) (sym one.0) (all_words_stay (heap_of ws) c.0 c.1 cs there.1) in
-    let ih : (heap_of (with_words (set ws (place_word c.0) c.1) (words_of cs)) ≡ set_places (heap_of (set ws (place_word c.0) c.1)) cs) × IsLaid (with_words (set ws (place_word c.0) c.1) (words_of cs)) × (get_or (with_words (set ws (place_word c.0) c.1) (words_of cs)) top_address 0 ≡ get_or (set ws (place_word c.0) c.1) top_address 0) =
+    let ih : (heap_of (with_words (set ws (place_word c.0) c.1) (words_of cs)) ≡ set_places (heap_of (set ws (place_word c.0) c.1)) cs)
+    × IsWellFormed (with_words (set ws (place_word c.0) c.1) (words_of cs)) × (get_or
+    (with_words (set ws (place_word c.0) c.1) (words_of cs)) top_address 0 ≡ get_or (set ws (place_word c.0) c.1) top_address 0) =
     words_set (set ws (place_word c.0) c.1) cs one.1 left in
     (ih.0 ∙ ap (λ h. set_places h cs) one.0, ih.1, ih.2 ∙ one.2)
 
 -- records lie one behind another
-disjoint : (more : Sizes) (s at : ℕ) (ws : List ℕ) (r q : ℕ) → has (cut more s at ws) r ≡ true → has (cut more s at ws) q ≡ true → r < q → r + length (at_or [] (cut more s at ws) r) ≤ q
+disjoint : (more : Sizes) (s at : ℕ) (ws : List ℕ) (r q : ℕ) → has_entry (records_from more s at ws) r ≡ true → has_entry (records_from more s at ws) q ≡ true
+    → r < q → r + length (entry_or [] (records_from more s at ws) r) ≤ q
 disjoint more s at [] r q hr hq lt = absurd (false≢true hr)
 disjoint more (suc s) at (w ∷ ws) r q hr hq lt = disjoint more s (suc at) ws r q hr hq lt
 disjoint more zero at (w ∷ ws) r q hr hq lt = elim (cases_eq at r) [
   | inl e ↦
       let n : at ≡ q → ⊥ = λ f. omega arith in
-      let there : has (cut more (more at (w ∷ ws)) (suc at) ws) q ≡ true = rw (ne_eqb at q n) at hq in
+      let there : has_entry (records_from more (more at (w ∷ ws)) (suc at) ws) q ≡ true = rw (ne_eqb at q n) at hq in
       let b : suc at + more at (w ∷ ws) ≤ q = has_behind more (more at (w ∷ ws)) (suc at) ws q there in
       rw (eq-eqb at r e) (omega (arith, b, e, length-take (more at (w ∷ ws)) ws))
   | inr n ↦
-      let here : has (cut more (more at (w ∷ ws)) (suc at) ws) r ≡ true = rw (ne_eqb at r n) at hr in
+      let here : has_entry (records_from more (more at (w ∷ ws)) (suc at) ws) r ≡ true = rw (ne_eqb at r n) at hr in
       let b : suc at + more at (w ∷ ws) ≤ r = has_behind more (more at (w ∷ ws)) (suc at) ws r here in
       let m : at ≡ q → ⊥ = λ f. omega arith in
-      let there : has (cut more (more at (w ∷ ws)) (suc at) ws) q ≡ true = rw (ne_eqb at q m) at hq in
+      let there : has_entry (records_from more (more at (w ∷ ws)) (suc at) ws) q ≡ true = rw (ne_eqb at q m) at hq in
       rw (ne_eqb at r n) (disjoint more (more at (w ∷ ws)) (suc at) ws r q here there lt)
 ]
 
 abbrev record_at : List ℕ → ℕ → List ℕ
-record_at ws r = at_or [] (records (image ws)) r
+record_at ws r = entry_or [] (records (image ws)) r
 
 -- a word of a record, of an object or of a package
 record IsIn (ws : List ℕ) (r k : ℕ) (kind : Bool) : Type 0 where
-  named : has (records (image ws)) r ≡ true
+  named : has_entry (records (image ws)) r ≡ true
   within : k < length (record_at ws r)
   is : is_package (package_addresses (image ws)) r ≡ kind
 
 cell_in : (ws : List ℕ) (r i : ℕ) → i < length (cells (heap_of ws) r) → IsIn ws r (4 + i) false
-unfolding read_image item_at names
+unfolding read_image heap_item_at is_allocated
 cell_in ws r i h =
-    let there : has (records (image ws)) r ≡ true = sym (has-map (item (package_addresses (image ws))) (records (image ws)) r) ∙ names_cells (heap_of ws) r i h in
-    let is : item_at (heap_of ws) r ≡ item (package_addresses (image ws)) r (record_at ws r) = at_or-map (item (package_addresses (image ws))) [] (APackage []) (records (image ws)) r there in
+    let there : has_entry (records (image ws)) r ≡ true = sym (has-map (item (package_addresses (image ws))) (records (image ws)) r)
+    ∙ names_cells (heap_of ws) r i h in
+    let is : heap_item_at (heap_of ws) r ≡ item (package_addresses (image ws)) r (record_at ws r) =
+    at_or-map (item (package_addresses (image ws))) [] (APackage []) (records (image ws)) r there in
     elim (cases_Bool (is_package (package_addresses (image ws)) r)) [
-      | inl e ↦ absurd (omega (arith, h, ap (λ t. length (cells_of t)) is, ap (λ b. length (cells_of (if b then APackage (record_at ws r) else AnObject (object_of (record_at ws r))))) e))
+      | inl e ↦ absurd (omega (
+        arith,
+        h,
+        ap (λ t. length (cells_of t)) is,
+        ap (λ b. length
+            (cells_of (if b then APackage (record_at ws r) else AnObject (object_of (record_at ws r))))) e,
+      ))
       | inr e ↦
-          let long : i < length ((object_of (record_at ws r)).cells) = omega (arith, h, ap (λ t. length (cells_of t)) is, ap (λ b. length (cells_of (if b then APackage (record_at ws r) else AnObject (object_of (record_at ws r))))) e) in
+          let long : i < length ((object_of (record_at ws r)).cells) = omega (
+            arith,
+            h,
+            ap (λ t. length (cells_of t)) is,
+            ap (λ b. length (cells_of (if b then APackage (record_at ws r) else AnObject (object_of (record_at ws r))))) e,
+          ) in
           record { named = there; within = (object_cell (record_at ws r) i 0 long).0; is = e }
     ]
 
-static_in : (ws : List ℕ) (r j : ℕ) → IsLaid ws → j < length (record_of (heap_of ws) r) → IsIn ws r j true
+static_in : (ws : List ℕ) (r j : ℕ) → IsWellFormed ws → j < length (record_of (heap_of ws) r) → IsIn ws r j true
 static_in ws r j laid h =
     let some : 0 < length (record_of (heap_of ws) r) = omega (arith, h) in
     record { named = named ws r laid some; within = omega (arith, h, ap length (is_record ws r laid some)); is = is_one ws r laid some }
@@ -112,26 +123,34 @@ static_in ws r j laid h =
 two_records : (ws : List ℕ) (r k q m : ℕ) (b c : Bool) → IsIn ws r k b → IsIn ws q m c → (r ≡ q → ⊥) → r + k ≡ q + m → ⊥
 two_records ws r k q m b c first second ne e = elim (cases_lt r q) [
   | inl lt ↦
-      let d : r + length (record_at ws r) ≤ q = disjoint (sizes (package_addresses (image ws))) 0 (base (image ws)) (drop (base (image ws)) (image ws)) r q first.named second.named lt in
+      let d : r + length (record_at ws r) ≤ q = disjoint (sizes (package_addresses (image ws))) 0 (base (image ws))
+      (drop (base (image ws)) (image ws)) r q first.named second.named lt in
       omega (arith, d, first.within, e)
   | inr ge ↦
-      let d : q + length (record_at ws q) ≤ r = disjoint (sizes (package_addresses (image ws))) 0 (base (image ws)) (drop (base (image ws)) (image ws)) q r second.named first.named (omega (arith, ge, ne)) in
+      let d : q + length (record_at ws q) ≤ r = disjoint (sizes (package_addresses (image ws))) 0 (base (image ws))
+      (drop (base (image ws)) (image ws)) q r second.named first.named (omega (arith, ge, ne)) in
       omega (arith, d, second.within, e)
 ]
 
 two_kinds : (ws : List ℕ) (r k q m : ℕ) → IsIn ws r k false → IsIn ws q m true → r + k ≡ q + m → ⊥
-two_kinds ws r k q m first second e = two_records ws r k q m false true first second (λ same. false≢true (sym first.is ∙ ap (is_package (package_addresses (image ws))) same ∙ second.is)) e
+two_kinds ws r k q m first second e = two_records ws r k q m false true first second
+    (λ same. false≢true (sym first.is ∙ ap (is_package (package_addresses (image ws))) same ∙ second.is)) e
 
-cell_far : (ws : List ℕ) (r i : ℕ) → IsLaid ws → i < length (cells (heap_of ws) r) → text_start ≤ r + (4 + i)
+cell_far : (ws : List ℕ) (r i : ℕ) → IsWellFormed ws → i < length (cells (heap_of ws) r) → text_start ≤ r + (4 + i)
 cell_far ws r i laid h =
-    let b : base (image ws) ≤ r = omega (arith, has_behind (sizes (package_addresses (image ws))) 0 (base (image ws)) (drop (base (image ws)) (image ws)) r (cell_in ws r i h).named) in
+    let b : base (image ws) ≤ r = omega (
+      arith,
+      has_behind (sizes (package_addresses (image ws))) 0 (base (image ws)) (drop (base (image ws)) (image ws)) r
+          (cell_in ws r i h).named,
+    ) in
     omega (arith, b)
 
-static_far : (ws : List ℕ) (r j : ℕ) → IsLaid ws → j < length (record_of (heap_of ws) r) → text_start ≤ r + j
+static_far : (ws : List ℕ) (r j : ℕ) → IsWellFormed ws → j < length (record_of (heap_of ws) r) → text_start ≤ r + j
 static_far ws r j laid h = omega (arith, behind ws r laid (omega (arith, h)))
 
 -- places that differ have different words
-pub words_apart : (ws : List ℕ) → IsLaid ws → (p q : Place) → HasWord (heap_of ws) p → HasWord (heap_of ws) q → (p ≡ q → ⊥) → place_word p ≡ place_word q → ⊥
+pub words_apart : (ws : List ℕ) → IsWellFormed ws → (p q : Place) → HasWord (heap_of ws) p → HasWord (heap_of ws) q → (p ≡ q → ⊥) → place_word p ≡ place_word q
+    → ⊥
 unfolding cell_address
 words_apart ws laid (Cell r i) (Cell q k) hp hq ne e = elim (cases_eq r q) [
   | inl s ↦ let same : i ≡ k = omega (arith, s, e) in ne (λ t. Cell (s t) (same t))
@@ -157,13 +176,14 @@ words_apart ws laid AppletCount (Registry k) hp hq ne e = omega (arith, e)
 words_apart ws laid AppletCount AppletCount hp hq ne e = ne refl
 
 -- so the words of places of which none stands twice are distinct
-beside_words : (ws : List ℕ) → IsLaid ws → (p : Place) (cs : List (Place × ℕ)) (k d : ℕ) → HasWord (heap_of ws) p → AllWords (heap_of ws) cs → IsBeside p (places_of cs) → k < length (addresses_of (words_of cs)) →
+beside_words : (ws : List ℕ) → IsWellFormed ws → (p : Place) (cs : List (Place × ℕ)) (k d : ℕ) → HasWord (heap_of ws) p → AllWords (heap_of ws) cs
+    → IsBeside p (places_of cs) → k < length (addresses_of (words_of cs)) →
     place_word p ≡ get_or (addresses_of (words_of cs)) k d → ⊥
 beside_words ws laid p [] k d hp there beside lt e = absurd (omega arith)
 beside_words ws laid p (c ∷ cs) zero d hp there beside lt e = words_apart ws laid p c.0 hp there.0 beside.0 e
 beside_words ws laid p (c ∷ cs) (suc k) d hp there beside lt e = beside_words ws laid p cs k d hp there.1 beside.1 (omega arith) e
 
-pub distinct_words : (ws : List ℕ) → IsLaid ws → (cs : List (Place × ℕ)) → AllWords (heap_of ws) cs → AreApart (places_of cs) →
+pub distinct_words : (ws : List ℕ) → IsWellFormed ws → (cs : List (Place × ℕ)) → AllWords (heap_of ws) cs → AreApart (places_of cs) →
     (i j d : ℕ) → i < j → j < length (addresses_of (words_of cs)) → get_or (addresses_of (words_of cs)) i d ≡ get_or (addresses_of (words_of cs)) j d → ⊥
 distinct_words ws laid [] there apart i j d less lt e = absurd (omega arith)
 distinct_words ws laid (c ∷ cs) there apart i zero d less lt e = absurd (omega arith)
@@ -171,7 +191,8 @@ distinct_words ws laid (c ∷ cs) there apart zero (suc j) d less lt e = beside_
 distinct_words ws laid (c ∷ cs) there apart (suc i) (suc j) d less lt e = distinct_words ws laid cs there.1 apart.1 i j d (omega arith) (omega arith) e
 
 -- and each may be logged
-are_places : (j : State) (v : HeapView) (n : ℕ) (cs : List (Place × ℕ)) (k : ℕ) → heap_view j n ≡ v → IsLaid j.plain → AreThere v.now cs → k < length (words_of cs) → IsPlace (length j.plain) ((get_or (words_of cs) k (0, 0)).0)
+are_places : (j : State) (v : HeapView) (n : ℕ) (cs : List (Place × ℕ)) (k : ℕ) → heap_view j n ≡ v → IsWellFormed j.plain → AreThere v.now cs
+    → k < length (words_of cs) → IsPlace (length j.plain) ((get_or (words_of cs) k (0, 0)).0)
 are_places j v n [] k is laid there lt = absurd (omega arith)
 are_places j v n (c ∷ cs) zero is laid there lt = place_logged (length j.plain) (place_word c.0) (place_spot j v n c.0 is laid there.0)
 are_places j v n (c ∷ cs) (suc k) is laid there lt = are_places j v n cs k is laid there.2 (omega arith)
@@ -184,10 +205,11 @@ module _ (j : State) (v : HeapView) (n : ℕ) (cs : List (Place × ℕ)) (is : h
   words_there : AllWords (heap_of j.plain) cs
   words_there = all_there (heap_of j.plain) cs (subst (λ u. AreThere u.now cs) (sym is) there)
 
-  pub several_places : IsLaid j.plain → ArePlaces (length j.plain) (words_of cs)
+  pub several_places : IsWellFormed j.plain → ArePlaces (length j.plain) (words_of cs)
   several_places laid k lt = are_places j v n cs k is laid there lt
 
-  pub several_distinct : IsLaid j.plain → AreApart (places_of cs) → (i k d : ℕ) → i < k → k < length (addresses_of (words_of cs)) → get_or (addresses_of (words_of cs)) i d ≡ get_or (addresses_of (words_of cs)) k d → ⊥
+  pub several_distinct : IsWellFormed j.plain → AreApart (places_of cs) → (i k d : ℕ) → i < k → k < length (addresses_of (words_of cs))
+      → get_or (addresses_of (words_of cs)) i d ≡ get_or (addresses_of (words_of cs)) k d → ⊥
   several_distinct laid apart = distinct_words j.plain laid cs words_there apart
 
   several_addresses : addresses_of (words_of cs) ≡ map place_word (places_of cs)
@@ -198,15 +220,17 @@ module _ (j : State) (v : HeapView) (n : ℕ) (cs : List (Place × ℕ)) (is : h
       same (x ∷ xs) = ap (λ l. place_word x.0 ∷ l) (same xs)
 
   -- places set through the journal are places set in the heap
-  pub several_view : (k : State) → IsLaid j.plain → Changes (words_of cs) j k → heap_view k n ≡ changed v (set_places v.now cs) (map place_word (places_of cs)) 0
+  pub several_view : (k : State) → IsWellFormed j.plain → Changes (words_of cs) j k
+      → heap_view k n ≡ heap_after_change v (set_places v.now cs) (map place_word (places_of cs)) 0
   several_view k laid c =
       change_view (words_of cs) j k n (set_places (heap_of j.plain) cs) c (words_set j.plain cs laid words_there).0
-      ∙ ap (λ a. changed (heap_view j n) (set_places (heap_of j.plain) cs) a 0) several_addresses
-      ∙ ap (λ u. changed u (set_places u.now cs) (map place_word (places_of cs)) 0) is
+      ∙ ap (λ a. heap_after_change (heap_view j n) (set_places (heap_of j.plain) cs) a 0) several_addresses
+      ∙ ap (λ u. heap_after_change u (set_places u.now cs) (map place_word (places_of cs)) 0) is
 
   pub several_sound : (k : State) → j.down ≡ false → IsSound j n → Changes (words_of cs) j k → IsSound k n
   several_sound k up s c =
-      let t : (heap_of (with_words j.plain (words_of cs)) ≡ set_places (heap_of j.plain) cs) × IsLaid (with_words j.plain (words_of cs)) × (get_or (with_words j.plain (words_of cs)) top_address 0 ≡ get_or j.plain top_address 0) = words_set j.plain cs (s.now up) words_there in
+      let t : (heap_of (with_words j.plain (words_of cs)) ≡ set_places (heap_of j.plain) cs) × IsWellFormed (with_words j.plain (words_of cs))
+      × (get_or (with_words j.plain (words_of cs)) top_address 0 ≡ get_or j.plain top_address 0) = words_set j.plain cs (s.now up) words_there in
       change_sound (words_of cs) j k n c up s.back s.size_recovered (s.size_now up) s.small t.1
       (λ _. omega (arith, s.order up, t.2))
       (λ _. subst (SameShape (heap_of j.recovered)) (sym t.0) (shape-places (heap_of j.recovered) (heap_of j.plain) cs (s.shape up)))

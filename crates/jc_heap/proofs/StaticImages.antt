@@ -1,49 +1,57 @@
 -- Where a record's static image begins.
-use Rattle.std.proofs.Common.{◌≡◌, ℕ, zero, suc, ◌+◌, ◌-◌, ◌<◌, ◌≤◌, get_or, inl, inr, List, [], ◌∷◌, length, take, drop, refl, sym, ◌∙◌, ap, subst, arith, Option, Some, None, IfSome, if◌then◌else◌}
+use Rattle.std.proofs.Common.{◌≡◌, ℕ, zero, suc, ◌+◌, ◌-◌, ◌<◌, ◌≤◌, get_or, inl, inr, List, [], ◌∷◌, length, take, drop, refl, sym, ◌∙◌, ap, subst, arith}
+use Rattle.std.proofs.Common.{Option, Some, None, IfSome, if◌then◌else◌}
 use Rattle.std.proofs.lemmas.List.{length-drop, get_or-take, get_or-drop, get_or_past}
 use Rattle.std.proofs.lemmas.Bool.{cases_eq, cases_lt, eq-eqb, ne_eqb}
-use Rattle.jc_heap.specs.Cut.{cut}
+use Rattle.jc_heap.specs.Cut.{records_from}
 use Rattle.jc_heap.specs.Components.{words_for, part_sizes, record_parts}
 use Rattle.jc_heap.specs.Statics.{image_from, statics_of, IsStatic}
-use Rattle.jc_heap.proofs.Following.{cut-step}
+use Rattle.jc_heap.proofs.Following.{records_from-step}
 
-pub image-here : (at : ℕ) (ws : List ℕ) → 0 < length ws → get_or ws 0 0 ≡ 0 → image_from (cut part_sizes 0 at ws) ≡ Some (at + 1)
+pub image-here : (at : ℕ) (ws : List ℕ) → 0 < length ws → get_or ws 0 0 ≡ 0 → image_from (records_from part_sizes 0 at ws) ≡ Some (at + 1)
 image-here at ws there is =
     let first : get_or (take (part_sizes at ws + 1) ws) 0 0 ≡ 0 = get_or-take (part_sizes at ws + 1) ws 0 0 (omega arith) ∙ is in
-    ap image_from (cut-step part_sizes at ws there)
-    ∙ ap (λ b. if b then Some (at + 1) else image_from (cut part_sizes 0 (at + (part_sizes at ws + 1)) (drop (part_sizes at ws + 1) ws))) (eq-eqb _ _ first)
+    ap image_from (records_from-step part_sizes at ws there)
+    ∙ ap (λ b. if b then Some (at + 1) else image_from (records_from part_sizes 0 (at + (part_sizes at ws + 1)) (drop (part_sizes at ws + 1) ws)))
+    (eq-eqb _ _ first)
 
 pub image-next : (at : ℕ) (ws : List ℕ) → 0 < length ws → (get_or ws 0 0 ≡ 0 → ⊥) →
-    image_from (cut part_sizes 0 at ws) ≡ image_from (cut part_sizes 0 (at + (2 + words_for (get_or ws 1 0))) (drop (2 + words_for (get_or ws 1 0)) ws))
+    image_from (records_from part_sizes 0 at ws) ≡ image_from (records_from part_sizes 0 (at + (2 + words_for (get_or ws 1 0)))
+    (drop (2 + words_for (get_or ws 1 0)) ws))
 image-next at ws there more =
     let n : ℕ = 2 + words_for (get_or ws 1 0) in
-    let size : part_sizes at ws + 1 ≡ 2 + words_for (get_or ws 1 0) = ap (λ b. (if b then length ws - 1 else 1 + words_for (get_or ws 1 0)) + 1) (ne_eqb (get_or ws 0 0) 0 more) ∙ (omega arith) in
+    let size : part_sizes at ws + 1 ≡ 2 + words_for (get_or ws 1 0) = ap (λ b. (if b then length ws - 1 else 1 + words_for (get_or ws 1 0)) + 1)
+    (ne_eqb (get_or ws 0 0) 0 more) ∙ (omega arith) in
     let first : get_or (take (2 + words_for (get_or ws 1 0)) ws) 0 0 ≡ get_or ws 0 0 = get_or-take (2 + words_for (get_or ws 1 0)) ws 0 0 (omega arith) in
-    ap image_from (cut-step part_sizes at ws there)
-    ∙ ap (λ m. image_from ((at, take m ws) ∷ cut part_sizes 0 (at + m) (drop m ws))) size
-    ∙ ap (λ b. if b then Some (at + 1) else image_from (cut part_sizes 0 (at + (2 + words_for (get_or ws 1 0))) (drop (2 + words_for (get_or ws 1 0)) ws))) (ne_eqb (get_or (take (2 + words_for (get_or ws 1 0)) ws) 0 0) 0 (λ e. more (sym first ∙ e)))
+    ap image_from (records_from-step part_sizes at ws there)
+    ∙ ap (λ m. image_from ((at, take m ws) ∷ records_from part_sizes 0 (at + m) (drop m ws))) size
+    ∙ ap (λ b. if b then Some (at + 1) else image_from (records_from part_sizes 0 (at + (2 + words_for (get_or ws 1 0)))
+    (drop (2 + words_for (get_or ws 1 0)) ws))) (ne_eqb (get_or (take (2 + words_for (get_or ws 1 0)) ws) 0 0) 0 (λ e. more (sym first ∙ e)))
 
-image-none : (at : ℕ) (ws : List ℕ) → length ws ≡ 0 → image_from (cut part_sizes 0 at ws) ≡ None
+image-none : (at : ℕ) (ws : List ℕ) → length ws ≡ 0 → image_from (records_from part_sizes 0 at ws) ≡ None
 image-none at [] e = refl
 image-none at (w ∷ ws) e = absurd (omega arith)
 
-pub image-cut : (at : ℕ) (ws : List ℕ) → length ws ≡ 1 → (get_or ws 0 0 ≡ 0 → ⊥) → image_from (cut part_sizes 0 at ws) ≡ None
-image-cut at ws one more =
+pub image-records_from : (at : ℕ) (ws : List ℕ) → length ws ≡ 1 → (get_or ws 0 0 ≡ 0 → ⊥) → image_from (records_from part_sizes 0 at ws) ≡ None
+image-records_from at ws one more =
     image-next at ws (omega arith) more
-    ∙ image-none (at + (2 + words_for (get_or ws 1 0))) (drop (2 + words_for (get_or ws 1 0)) ws) (omega (arith, length-drop (2 + words_for (get_or ws 1 0)) ws))
+    ∙ image-none (at + (2 + words_for (get_or ws 1 0))) (drop (2 + words_for (get_or ws 1 0)) ws)
+    (omega (arith, length-drop (2 + words_for (get_or ws 1 0)) ws))
 
 wider : (at n : ℕ) (o : Option ℕ) → IfSome o (λ p. (suc at + 1 ≤ p) × (p ≤ suc at + n)) → IfSome o (λ p. (at + 1 ≤ p) × (p ≤ at + suc n))
 wider at n None b = tt
 wider at n (Some p) b = (omega (arith, b.0), omega (arith, b.1))
 
 -- between which offsets it begins
-image_bounds : (s at : ℕ) (ws : List ℕ) → IfSome (image_from (cut part_sizes s at ws)) (λ o. (at + 1 ≤ o) × (o ≤ at + length ws))
+image_bounds : (s at : ℕ) (ws : List ℕ) → IfSome (image_from (records_from part_sizes s at ws)) (λ o. (at + 1 ≤ o) × (o ≤ at + length ws))
 image_bounds s at [] = tt
-image_bounds (suc s) at (w ∷ ws) = wider at (length ws) (image_from (cut part_sizes s (suc at) ws)) (image_bounds s (suc at) ws)
+image_bounds (suc s) at (w ∷ ws) = wider at (length ws) (image_from (records_from part_sizes s (suc at) ws)) (image_bounds s (suc at) ws)
 image_bounds zero at (w ∷ ws) = elim (cases_eq w 0) [
-  | inl e ↦ subst (λ b. IfSome (if b then Some (at + 1) else image_from (cut part_sizes (part_sizes at (w ∷ ws)) (suc at) ws)) (λ o. (at + 1 ≤ o) × (o ≤ at + suc (length ws)))) (sym (eq-eqb w 0 e)) (omega arith, omega arith)
-  | inr n ↦ subst (λ b. IfSome (if b then Some (at + 1) else image_from (cut part_sizes (part_sizes at (w ∷ ws)) (suc at) ws)) (λ o. (at + 1 ≤ o) × (o ≤ at + suc (length ws)))) (sym (ne_eqb w 0 n))
-      (wider at (length ws) (image_from (cut part_sizes (part_sizes at (w ∷ ws)) (suc at) ws)) (image_bounds (part_sizes at (w ∷ ws)) (suc at) ws))
+  | inl e ↦ subst (λ b. IfSome (if b then Some (at + 1) else image_from (records_from part_sizes (part_sizes at (w ∷ ws)) (suc at) ws))
+      (λ o. (at + 1 ≤ o) × (o ≤ at + suc (length ws)))) (sym (eq-eqb w 0 e)) (omega arith, omega arith)
+  | inr n ↦ subst (λ b. IfSome (if b then Some (at + 1) else image_from (records_from part_sizes (part_sizes at (w ∷ ws)) (suc at) ws))
+      (λ o. (at + 1 ≤ o) × (o ≤ at + suc (length ws)))) (sym (ne_eqb w 0 n))
+      (wider at (length ws) (image_from (records_from part_sizes (part_sizes at (w ∷ ws)) (suc at) ws)) (image_bounds (part_sizes at (w ∷ ws)) (suc at) ws))
 ]
 
 lower : (a b : ℕ) (o : Option ℕ) (n : ℕ) → b ≤ a → IfSome o (λ p. (a + 1 ≤ p) × (p ≤ n)) → IfSome o (λ p. b + 1 ≤ p)
@@ -62,7 +70,8 @@ unfolding statics_of
 statics_within words some = elim (cases_eq (get_or words 1 0) 0) [
   | inl e ↦ subst (λ b. IfSome (if b then None else image_from (record_parts words)) (λ o. o ≤ length words)) (sym (eq-eqb (get_or words 1 0) 0 e)) tt
   | inr n ↦ subst (λ b. IfSome (if b then None else image_from (record_parts words)) (λ o. o ≤ length words)) (sym (ne_eqb (get_or words 1 0) 0 n))
-      (upper 2 (1 + length (drop 1 words)) (length words) (image_from (record_parts words)) (omega (arith, length-drop 1 words)) (image_bounds 0 1 (drop 1 words)))
+      (upper 2 (1 + length (drop 1 words)) (length words) (image_from (record_parts words)) (omega (arith, length-drop 1 words))
+      (image_bounds 0 1 (drop 1 words)))
 ]
 
 statics_behind : (words : List ℕ) → IfSome (statics_of words) (λ o. 4 ≤ o)
@@ -72,11 +81,13 @@ statics_behind words = elim (cases_eq (get_or words 1 0) 0) [
   | inr n ↦
       let first : get_or (drop 1 words) 0 0 ≡ get_or words 1 0 = get_or-drop 1 words 0 0 in
       let there : 0 < length (drop 1 words) = omega (arith, length-drop 1 words, long_enough words n) in
-      let next : image_from (record_parts words) ≡ image_from (cut part_sizes 0 (1 + (2 + words_for (get_or (drop 1 words) 1 0))) (drop (2 + words_for (get_or (drop 1 words) 1 0)) (drop 1 words))) =
+      let next : image_from (record_parts words) ≡ image_from (records_from part_sizes 0 (1 + (2 + words_for (get_or (drop 1 words) 1 0)))
+      (drop (2 + words_for (get_or (drop 1 words) 1 0)) (drop 1 words))) =
       image-next 1 (drop 1 words) there (λ e. n (sym first ∙ e)) in
       subst (λ b. IfSome (if b then None else image_from (record_parts words)) (λ o. 4 ≤ o)) (sym (ne_eqb (get_or words 1 0) 0 n))
       (subst (λ t. IfSome t (λ o. 4 ≤ o)) (sym next)
-      (lower (1 + (2 + words_for (get_or (drop 1 words) 1 0))) 3 (image_from (cut part_sizes 0 (1 + (2 + words_for (get_or (drop 1 words) 1 0))) (drop (2 + words_for (get_or (drop 1 words) 1 0)) (drop 1 words))))
+      (lower (1 + (2 + words_for (get_or (drop 1 words) 1 0))) 3 (image_from (records_from part_sizes 0 (1 + (2 + words_for (get_or (drop 1 words) 1 0)))
+      (drop (2 + words_for (get_or (drop 1 words) 1 0)) (drop 1 words))))
       (1 + (2 + words_for (get_or (drop 1 words) 1 0)) + length (drop (2 + words_for (get_or (drop 1 words) 1 0)) (drop 1 words))) (omega arith)
       (image_bounds 0 (1 + (2 + words_for (get_or (drop 1 words) 1 0))) (drop (2 + words_for (get_or (drop 1 words) 1 0)) (drop 1 words)))))
 ]

@@ -3,19 +3,23 @@ use Rattle.std.proofs.Common.{◌≡◌, ℕ, ◌+◌, ◌<◌, ◌≤◌, false
 use Rattle.std.proofs.lemmas.List.{length-set, length-take-le, take-set-le}
 use Rattle.std.proofs.lemmas.Bool.{cases_lt}
 use Rattle.jc_words.specs.Layout.{top_address, text_start}
-use Rattle.jc_commit.specs.Image.{IsPlace, IsReadable, IsUnlogged}
+use Rattle.jc_commit.specs.Image.{IsPlace, IsReadable}
 use Rattle.jc_commit.specs.State.{State}
-use Rattle.jc_heap.specs.Image.{IsLaid, image}
-use Rattle.jc_heap.specs.Heap.{HeapView, heap_view, heap_of, cells, set_cell, cell_address, IsSound, SameShape, KeepsBelowTop, HasEnd, read_image, item_at, names}
-use Rattle.jc_heap.proofs.Laws.{same_length, set_cell-absent, names-heap_of, keeps_below_top}
-use Rattle.jc_heap.proofs.Images.{cell_within-heap_of, cell_behind-heap_of, cell-heap_of, set_cell-heap_of, IsLaid-set, top-set}
-use Rattle.jc_heap.proofs.Added.{image-same_below, top-same_below, IsLaid-same_below}
-use Rattle.jc_heap.proofs.Changing.{shape-same}
+use Rattle.jc_heap.specs.Image.{IsWellFormed, image}
+use Rattle.jc_heap.specs.Heap.{HeapView, heap_view, heap_of, cells, set_cell, cell_address, IsSound, KeepsBelowTop, HasEnd, read_image, heap_item_at}
+use Rattle.jc_heap.specs.Heap.{is_allocated}
+use Rattle.jc_heap.proofs.Laws.{same_length, set_cell-absent, is_allocated-heap_of, keeps_below_top}
+use Rattle.jc_heap.proofs.Images.{cell_within-heap_of, cell_behind-heap_of, cell-heap_of, set_cell-heap_of, IsWellFormed-set, top-set}
+use Rattle.jc_heap.proofs.Added.{image-same_below, top-same_below, IsWellFormed-same_below}
 
 -- a cell's word lies among the words, behind the registry
-pub cell_spot : (j : State) (v : HeapView) (n r i : ℕ) → heap_view j n ≡ v → i < length (cells v.now r) → (cell_address r i < length j.plain) × (text_start ≤ cell_address r i)
+pub cell_spot : (j : State) (v : HeapView) (n r i : ℕ) → heap_view j n ≡ v → i < length (cells v.now r)
+    → (cell_address r i < length j.plain) × (text_start ≤ cell_address r i)
 unfolding cell_address
-cell_spot j v n r i is h = (cell_within-heap_of j.plain r i (subst (λ u. i < length (cells (u.now) r)) (sym is) h), cell_behind-heap_of j.plain r i (subst (λ u. i < length (cells (u.now) r)) (sym is) h))
+cell_spot j v n r i is h = (
+  cell_within-heap_of j.plain r i (subst (λ u. i < length (cells (u.now) r)) (sym is) h),
+  cell_behind-heap_of j.plain r i (subst (λ u. i < length (cells (u.now) r)) (sym is) h),
+)
 
 pub readable : (n a : ℕ) → a < n → text_start ≤ a → IsReadable n a
 readable n a below high = record { below = below; not_count = λ e. omega arith; beside = λ _. omega arith }
@@ -23,83 +27,67 @@ readable n a below high = record { below = below; not_count = λ e. omega arith;
 pub is_place : (n a : ℕ) → a < n → text_start ≤ a → IsPlace n a
 is_place n a below high = record { above = omega arith; below = below; beside = λ _. omega arith }
 
-pub is_unlogged : (n a : ℕ) → a < n → text_start ≤ a → IsUnlogged n a
-is_unlogged n a below high = record { below = below; not_top = λ e. omega arith; place = λ _. is_place n a below high }
-
-pub cell_read : (j : State) (v : HeapView) (n r i : ℕ) → heap_view j n ≡ v → i < length (cells v.now r) → get_or j.plain (cell_address r i) 0 ≡ get_or (cells v.now r) i 0
+pub cell_read : (j : State) (v : HeapView) (n r i : ℕ) → heap_view j n ≡ v → i < length (cells v.now r)
+    → get_or j.plain (cell_address r i) 0 ≡ get_or (cells v.now r) i 0
 unfolding cell_address
-cell_read j v n r i is h = subst (λ u. i < length (cells (u.now) r) → get_or j.plain (r + (4 + i)) 0 ≡ get_or (cells (u.now) r) i 0) is (λ k. sym (cell-heap_of j.plain r i k)) h
+cell_read j v n r i is h = subst (λ u. i < length (cells (u.now) r) → get_or j.plain (r + (4 + i)) 0 ≡ get_or (cells (u.now) r) i 0) is
+    (λ k. sym (cell-heap_of j.plain r i k)) h
 
-pub top_is : (ws : List ℕ) (r : ℕ) → IsLaid ws → r < get_or ws top_address 0 → r < (heap_of ws).top
+pub top_is : (ws : List ℕ) (r : ℕ) → IsWellFormed ws → r < get_or ws top_address 0 → r < (heap_of ws).top
 unfolding read_image
 top_is ws r laid h = omega (arith, length-take-le (get_or ws top_address 0) ws laid.fits)
 
 -- a word at or above the top is not the heap's
-pub above_top : (ws : List ℕ) (a x : ℕ) → IsLaid ws → get_or ws top_address 0 ≤ a →
-    (heap_of (set ws a x) ≡ heap_of ws) × IsLaid (set ws a x) × (get_or (set ws a x) top_address 0 ≡ get_or ws top_address 0)
+pub above_top : (ws : List ℕ) (a x : ℕ) → IsWellFormed ws → get_or ws top_address 0 ≤ a →
+    (heap_of (set ws a x) ≡ heap_of ws) × IsWellFormed (set ws a x) × (get_or (set ws a x) top_address 0 ≡ get_or ws top_address 0)
 above_top ws a x laid far =
     let same : take (get_or ws top_address 0) (set ws a x) ≡ take (get_or ws top_address 0) ws = take-set-le (get_or ws top_address 0) ws a x far in
     let based : top_address < get_or ws top_address 0 = omega (arith, laid.based, length-take-le (get_or ws top_address 0) ws laid.fits) in (
       ap read_image (image-same_below ws (set ws a x) (get_or ws top_address 0) based (omega arith) same),
-      IsLaid-same_below ws (set ws a x) (get_or ws top_address 0) based (omega arith) same (length-set ws a x) laid,
+      IsWellFormed-same_below ws (set ws a x) (get_or ws top_address 0) based (omega arith) same (length-set ws a x) laid,
       top-same_below ws (set ws a x) (get_or ws top_address 0) based same,
     )
 
 -- the same cell set in the recovered words: there too, or above their top
 pub back_set : (j : State) (n r i x : ℕ) → i < length (cells (heap_of j.plain) r) → j.down ≡ false → IsSound j n →
-    (heap_of (set j.recovered (r + (4 + i)) x) ≡ set_cell (heap_of j.recovered) r i x) × IsLaid (set j.recovered (r + (4 + i)) x) × (get_or (set j.recovered (r + (4 + i)) x) top_address 0 ≡ get_or j.recovered top_address 0)
+    (heap_of (set j.recovered (r + (4 + i)) x) ≡ set_cell (heap_of j.recovered) r i x) × IsWellFormed (set j.recovered (r + (4 + i)) x)
+    × (get_or (set j.recovered (r + (4 + i)) x) top_address 0 ≡ get_or j.recovered top_address 0)
 back_set j n r i x h up s =
     let long : length (image j.recovered) ≡ get_or j.recovered top_address 0 = length-take-le (get_or j.recovered top_address 0) j.recovered s.back.fits in
     elim (cases_lt r (get_or j.recovered top_address 0)) [
       | inl below ↦
-          let there : i < length (cells (heap_of j.recovered) r) = omega (arith, same_length (item_at (heap_of j.plain) r) (item_at (heap_of j.recovered) r) ((s.shape up).items r (top_is j.recovered r s.back below))) in
-          (set_cell-heap_of j.recovered r i x there, IsLaid-set j.recovered r i x there s.back, top-set j.recovered r i x there)
+          let there : i < length (cells (heap_of j.recovered) r) = omega (
+            arith,
+            same_length (heap_item_at (heap_of j.plain) r)
+                (heap_item_at (heap_of j.recovered) r) ((s.shape up).items r (top_is j.recovered r s.back below)),
+          ) in
+          (set_cell-heap_of j.recovered r i x there, IsWellFormed-set j.recovered r i x there s.back, top-set j.recovered r i x there)
       | inr above ↦
-          let far : (heap_of (set j.recovered (r + (4 + i)) x) ≡ heap_of j.recovered) × IsLaid (set j.recovered (r + (4 + i)) x) × (get_or (set j.recovered (r + (4 + i)) x) top_address 0 ≡ get_or j.recovered top_address 0) = above_top j.recovered (r + (4 + i)) x s.back (omega arith) in
-          let absent : names (heap_of j.recovered) r ≡ false = names-heap_of j.recovered r (omega (arith, s.back.based)) (omega arith) in
+          let far : (heap_of (set j.recovered (r + (4 + i)) x) ≡ heap_of j.recovered) × IsWellFormed (set j.recovered (r + (4 + i)) x)
+          × (get_or (set j.recovered (r + (4 + i)) x) top_address 0 ≡ get_or j.recovered top_address 0) =
+          above_top j.recovered (r + (4 + i)) x s.back (omega arith) in
+          let absent : is_allocated (heap_of j.recovered) r ≡ false = is_allocated-heap_of j.recovered r (omega (arith, s.back.based)) (omega arith) in
           (far.0 ∙ sym (set_cell-absent (heap_of j.recovered) r i x absent), far.1, far.2)
     ]
 
 -- what an abort leaves of the names
 pub abort_keeps : (j : State) (v : HeapView) (n : ℕ) → heap_view j n ≡ v → j.down ≡ false → IsSound j n → KeepsBelowTop v.now v.durable
 abort_keeps j v n is up s = subst (λ u. KeepsBelowTop (u.now) (u.durable)) is
-    (keeps_below_top (heap_of j.plain) j.recovered (s.shape up) (omega (arith, s.back.based, length-take-le (get_or j.recovered top_address 0) j.recovered s.back.fits)))
+    (keeps_below_top (heap_of j.plain) j.recovered (s.shape up) (omega (
+      arith,
+      s.back.based,
+      length-take-le (get_or j.recovered top_address 0) j.recovered s.back.fits,
+    )))
 
-pub has_end : (j : State) (v : HeapView) (n : ℕ) → heap_view j n ≡ v → IsLaid j.plain → HasEnd v.now
+pub has_end : (j : State) (v : HeapView) (n : ℕ) → heap_view j n ≡ v → IsWellFormed j.plain → HasEnd v.now
 unfolding read_image
 has_end j v n is laid = subst (λ u. HasEnd (u.now)) is
-    (λ r above. names-heap_of j.plain r (omega (arith, laid.based, length-take-le (get_or j.plain top_address 0) j.plain laid.fits)) above)
+    (λ r above. is_allocated-heap_of j.plain r (omega (arith, laid.based, length-take-le (get_or j.plain top_address 0) j.plain laid.fits)) above)
 
-pub nothing_at_top : (j : State) (v : HeapView) (n : ℕ) → heap_view j n ≡ v → IsLaid j.plain → names v.now v.now.top ≡ false
+pub nothing_at_top : (j : State) (v : HeapView) (n : ℕ) → heap_view j n ≡ v → IsWellFormed j.plain → is_allocated v.now v.now.top ≡ false
 nothing_at_top j v n is laid = has_end j v n is laid v.now.top (omega arith)
 
 -- the top's word
-pub view_top : (j : State) (v : HeapView) (n : ℕ) → heap_view j n ≡ v → IsLaid j.plain → v.now.top ≡ get_or j.plain top_address 0
+pub view_top : (j : State) (v : HeapView) (n : ℕ) → heap_view j n ≡ v → IsWellFormed j.plain → v.now.top ≡ get_or j.plain top_address 0
 unfolding read_image
 view_top j v n is laid = ap (λ u. u.now.top) (sym is) ∙ length-take-le (get_or j.plain top_address 0) j.plain laid.fits
-
--- an abort's journal is sound
-pub aborted_sound : (j : State) (n : ℕ) → IsSound j n → (m : State) → m.plain ≡ j.recovered → m.recovered ≡ j.recovered → IsSound m n
-aborted_sound j n s m plain recovered = record {
-  back = subst IsLaid (sym recovered) s.back;
-  size_recovered = ap length recovered ∙ s.size_recovered;
-  small = s.small;
-  now = λ _. subst IsLaid (sym plain) s.back;
-  size_now = λ _. ap length plain ∙ s.size_recovered;
-  order = λ _. omega (arith, ap (λ l. get_or l top_address 0) plain, ap (λ l. get_or l top_address 0) recovered);
-  shape = λ _. subst (λ l. SameShape (heap_of m.recovered) (heap_of l)) (recovered ∙ sym plain) (shape-same (heap_of m.recovered));
-  settled = λ _ _. recovered ∙ sym plain;
-}
-
--- and a commit's
-pub committed_sound : (j : State) (n : ℕ) → IsSound j n → j.down ≡ false → (m : State) → m.plain ≡ j.plain → m.recovered ≡ j.plain → IsSound m n
-committed_sound j n s up m plain recovered = record {
-  back = subst IsLaid (sym recovered) (s.now up);
-  size_recovered = ap length recovered ∙ s.size_now up;
-  small = s.small;
-  now = λ _. subst IsLaid (sym plain) (s.now up);
-  size_now = λ _. ap length plain ∙ s.size_now up;
-  order = λ _. omega (arith, ap (λ l. get_or l top_address 0) plain, ap (λ l. get_or l top_address 0) recovered);
-  shape = λ _. subst (λ l. SameShape (heap_of m.recovered) (heap_of l)) (recovered ∙ sym plain) (shape-same (heap_of m.recovered));
-  settled = λ _ _. recovered ∙ sym plain;
-}

@@ -1,11 +1,12 @@
 -- What a package's record says of its components.
-use Rattle.std.specs.Prelude.{ℕ, ◌≡◌, ◌+◌, ◌-◌, ◌/◌, ◌==◌, ◌<◌, ◌≤◌, List, [], ◌∷◌, length, drop, slice_index, slice_index_or, Option, Some, None, if◌then◌else◌, nat_lt}
+use Rattle.std.specs.Prelude.{ℕ, ◌≡◌, ◌+◌, ◌-◌, ◌/◌, ◌==◌, ◌<◌, ◌≤◌, List, [], ◌∷◌, length, drop, slice_index, slice_index_or, Option, Some, None}
+use Rattle.std.specs.Prelude.{if◌then◌else◌, nat_lt}
 use Rattle.jc_heap.specs.declared.component.Span.{Span}
-use Rattle.jc_heap.specs.Cut.{Sizes, cut}
+use Rattle.jc_heap.specs.Cut.{Sizes, records_from}
 use Rattle.jc_heap.specs.Object.{Item, AnObject, APackage}
 use Rattle.jc_heap.specs.declared.object.Kind.{Kind}
 use Rattle.jc_heap.specs.Image.{packed_byte}
-use Rattle.jc_heap.specs.Heap.{HeapState, item_at}
+use Rattle.jc_heap.specs.Heap.{HeapState, heap_item_at}
 use Rattle.jc_heap.specs.Packages.{AreComponents, package_record}
 
 -- the words of a package's record; none, where no package's record stands
@@ -14,7 +15,7 @@ words_of (AnObject o) = []
 words_of (APackage ws) = ws
 
 abbrev pub record_of : HeapState → ℕ → List ℕ
-record_of h r = words_of (item_at h r)
+record_of h r = words_of (heap_item_at h r)
 
 -- so many bytes as words
 abbrev pub words_for : ℕ → ℕ
@@ -26,7 +27,7 @@ part_sizes at ws = if slice_index ws 0 == 0 then length ws - 1 else 1 + words_fo
 
 -- the parts of a record behind its length, each named by its offset: its components, and its static image with the 0 before it
 abbrev pub record_parts : List ℕ → List (ℕ × List ℕ)
-record_parts words = cut part_sizes 0 1 (drop 1 words)
+record_parts words = records_from part_sizes 0 1 (drop 1 words)
 
 -- where the info of a component stands; nowhere, where the record ends before it does
 abbrev pub span_in : ℕ × List ℕ → Option Span
@@ -57,6 +58,7 @@ pub record HasBytes (s : Span) (words info : List ℕ) : Type 0 where
 -- from a package's record each of its components is read, byte by byte, and no other one
 pub record ReadsBack : Type 0 where
   pub each : (at : ℕ) (cs : List (ℕ × List ℕ)) (xs : List (Kind × List ℕ)) (rest : List ℕ) → AreComponents cs → AreInfosOfBytes cs → (k : ℕ) → k < length cs →
-      (s : Span) × ((info_of (package_record at cs xs rest) ((slice_index_or cs k (0, [])).0) ≡ Some s) × HasBytes s (package_record at cs xs rest) ((slice_index_or cs k (0, [])).1))
+      (s : Span) × ((info_of (package_record at cs xs rest) ((slice_index_or cs k (0, [])).0) ≡ Some s)
+      × HasBytes s (package_record at cs xs rest) ((slice_index_or cs k (0, [])).1))
   pub no_other : (at : ℕ) (cs : List (ℕ × List ℕ)) (xs : List (Kind × List ℕ)) (rest : List ℕ) → AreComponents cs → (tag : ℕ) → 0 < tag →
       ((k : ℕ) → k < length cs → (slice_index_or cs k (0, [])).0 ≡ tag → ⊥) → info_of (package_record at cs xs rest) tag ≡ None

@@ -1,19 +1,21 @@
 -- The heap that words stand for, and the changes of a heap.
-use Rattle.std.specs.Prelude.{ℕ, suc, ◌+◌, ◌-◌, ◌≡◌, ◌<◌, ◌≤◌, ◌==◌, Bool, true, false, List, [], ◌∷◌, ◌++◌, map, take, drop, length, slice_index, Option, Some, None, if◌then◌else◌, ◌&&◌, nat_lt}
+use Rattle.std.specs.Prelude.{ℕ, suc, ◌+◌, ◌-◌, ◌≡◌, ◌<◌, ◌≤◌, ◌==◌, Bool, true, false, List, [], ◌∷◌, ◌++◌, map, take, drop, length, slice_index, Option, Some}
+use Rattle.std.specs.Prelude.{None, if◌then◌else◌, ◌&&◌, nat_lt}
 use Rattle.std.specs.List.{list_any}
-use Rattle.jc_words.specs.Count.{raised}
+use Rattle.jc_words.specs.Count.{saturating_count}
 use Rattle.jc_words.specs.Layout.{top_address, packages_address, applets_address, reset_end_address, deselect_end_address, registry_start, registry_length}
 use Rattle.jc_commit.specs.Image.{capacity, top_of}
-use Rattle.jc_commit.specs.State.{State, added, undo_writes}
+use Rattle.jc_commit.specs.State.{State, unlogged_addresses, undo_writes}
 use Rattle.jc_commit.specs.State as journal
 use Rattle.jc_heap.specs.declared.object.Facts.{Facts}
 use Rattle.jc_transient.specs.declared.cell.ClearEvent.{ClearEvent}
 use Rattle.jc_transient.specs.declared.cell.ClearEvent.TheVariants.{Reset, Deselect}
 use Rattle.jc_transient.specs.State.{area_size}
 use Rattle.jc_heap.specs.declared.object.Kind.{Kind}
-use Rattle.jc_heap.specs.Object.{Object, header_size, new_transient, transient_size, Item, AnObject, APackage, cells_of, with_cell, bare, facts_of, is_object}
-use Rattle.jc_heap.specs.Table.{at_or, has, put}
-use Rattle.jc_heap.specs.Image.{image, package_addresses, item_entry, records, table_text, IsLaid}
+use Rattle.jc_heap.specs.Object.{Object, header_size, new_transient, transient_size, Item, AnObject, APackage, cells_of, with_cell, header_only, facts_of}
+use Rattle.jc_heap.specs.Object.{is_object}
+use Rattle.jc_heap.specs.Table.{entry_or, has_entry, with_entry}
+use Rattle.jc_heap.specs.Image.{image, package_addresses, item_entry, records, table_text, IsWellFormed}
 
 -- the first three words (the magic word, the version, the number of words); the table text; what stands at
 -- each address, in order; the numbers of packages and of applets; the addresses of the packages, by their
@@ -44,31 +46,31 @@ read_image image = record {
 abbrev pub heap_of : List ℕ → HeapState
 heap_of words = read_image (image words)
 
-unfoldable pub item_at : HeapState → ℕ → Item
-item_at h r = at_or (APackage []) h.items r
+unfoldable pub heap_item_at : HeapState → ℕ → Item
+heap_item_at h r = entry_or (APackage []) h.items r
 
 -- the cells of a persistent object: none, where there is no such object
 abbrev pub cells : HeapState → ℕ → List ℕ
-cells h r = cells_of (item_at h r)
+cells h r = cells_of (heap_item_at h r)
 
 -- what the header of an object says
 abbrev pub facts : HeapState → ℕ → Facts
-facts h r = facts_of (item_at h r)
+facts h r = facts_of (heap_item_at h r)
 
 -- something stands at this address
-unfoldable pub names : HeapState → ℕ → Bool
-names h r = has h.items r
+unfoldable pub is_allocated : HeapState → ℕ → Bool
+is_allocated h r = has_entry h.items r
 
 -- nothing stands at or above its top
 abbrev pub HasEnd : HeapState → Type 0
-HasEnd h = (r : ℕ) → h.top ≤ r → names h r ≡ false
+HasEnd h = (r : ℕ) → h.top ≤ r → is_allocated h r ≡ false
 
 -- an object stands at this address
 abbrev pub IsObject : HeapState → ℕ → Type 0
-IsObject h r = is_object (item_at h r) ≡ true
+IsObject h r = is_object (heap_item_at h r) ≡ true
 
 unfoldable pub set_cell : HeapState → ℕ → ℕ → ℕ → HeapState
-set_cell h r i v = record h { items = put h.items r (with_cell (item_at h r) i v) }
+set_cell h r i v = record h { items = with_entry h.items r (with_cell (heap_item_at h r) i v) }
 
 -- a new object behind the others
 unfoldable pub add_object : HeapState → Object → ℕ → HeapState
@@ -90,7 +92,8 @@ area_end_address Deselect = deselect_end_address
 
 -- a new transient object behind the others, whose cells are the first free ones of its area
 unfoldable pub add_transient : HeapState → Kind → ClearEvent → ℕ → ℕ → ℕ → HeapState
-add_transient h kind event class owner long = with_area_end (add_object h (new_transient kind event class owner long (area_end h event)) transient_size) event (area_end h event + long)
+add_transient h kind event class owner long = with_area_end (add_object h (new_transient kind event class owner long (area_end h event)) transient_size) event
+    (area_end h event + long)
 
 -- the cells of a persistent object from an index on are these
 abbrev pub set_cells : HeapState → ℕ → ℕ → List ℕ → HeapState
@@ -113,12 +116,12 @@ next_object h r = first_above h.items r
 
 -- below the old heap's top the same things stand in the new one, with the same headers
 pub record SameShape (old new : HeapState) : Type 0 where
-  pub items : (r : ℕ) → r < old.top → bare (item_at new r) ≡ bare (item_at old r)
-  pub names : (r : ℕ) → r < old.top → names new r ≡ names old r
+  pub items : (r : ℕ) → r < old.top → header_only (heap_item_at new r) ≡ header_only (heap_item_at old r)
+  pub names : (r : ℕ) → r < old.top → is_allocated new r ≡ is_allocated old r
 
 -- of what stood, what stands below the top is left, and nothing else
 abbrev pub KeepsBelowTop : HeapState → HeapState → Type 0
-KeepsBelowTop old new = (r : ℕ) → names new r ≡ (if nat_lt r new.top then names old r else false)
+KeepsBelowTop old new = (r : ℕ) → is_allocated new r ≡ (if nat_lt r new.top then is_allocated old r else false)
 
 -- what the layers above see: the heap now, the heap that a completed recovery would leave, whether a
 -- transaction is open, the places whose old values it keeps, the store's state and its number of words
@@ -134,28 +137,33 @@ pub record HeapView : Type 0 where
 
 -- what the words of a journal stand for
 abbrev pub heap_view : State → ℕ → HeapView
-heap_view j size = record { now = heap_of j.plain; durable = heap_of j.recovered; begun = j.in_transaction; touched = j.touched; down = j.down; passed = j.passed; refused = j.refused; size = size }
+heap_view j size = record {
+  now = heap_of j.plain;
+  durable = heap_of j.recovered;
+  begun = j.in_transaction;
+  touched = j.touched;
+  down = j.down;
+  passed = j.passed;
+  refused = j.refused;
+  size = size;
+}
 
 -- what the journal of each heap meets: both images are laid, and below the top of the recovered one they
 -- have the same shape. After a refused write only the recovered words count
 pub record IsSound (j : State) (size : ℕ) : Type 0 where
-  pub back : IsLaid j.recovered
+  pub back : IsWellFormed j.recovered
   pub size_recovered : length j.recovered ≡ size
   pub small : size < 65536
-  pub now : j.down ≡ false → IsLaid j.plain
+  pub now : j.down ≡ false → IsWellFormed j.plain
   pub size_now : j.down ≡ false → length j.plain ≡ size
   pub order : j.down ≡ false → top_of j.recovered ≤ top_of j.plain
   pub shape : j.down ≡ false → SameShape (heap_of j.recovered) (heap_of j.plain)
   -- outside a transaction there is nothing to recover
   pub settled : j.down ≡ false → j.in_transaction ≡ false → j.recovered ≡ j.plain
 
--- the heap as the open transaction found it
-abbrev pub saved : HeapView → Option HeapState
-saved v = if v.begun then Some v.durable else None
-
 -- of these places, those whose old values a change has to keep: its cost
-abbrev pub kept : HeapView → List ℕ → List ℕ
-kept v places = added v.begun places
+abbrev pub unlogged_places : HeapView → List ℕ → List ℕ
+unlogged_places v places = unlogged_addresses v.begun places
 
 -- how many word writes it is to change these places
 abbrev pub writes_for : HeapView → List ℕ → ℕ
@@ -170,16 +178,16 @@ abbrev pub has_room_for : HeapView → List ℕ → Bool
 has_room_for v places = journal.has_room_for v.begun v.touched places
 
 -- a heap at rest: no transaction is open, and a loss of power leaves it as it is
-abbrev pub resting : HeapState → ℕ → ℕ → ℕ → HeapView
-resting h passed refused size = record { now = h; durable = h; begun = false; touched = []; down = false; passed = passed; refused = refused; size = size }
+abbrev pub heap_at_rest : HeapState → ℕ → ℕ → ℕ → HeapView
+heap_at_rest h passed refused size = record { now = h; durable = h; begun = false; touched = []; down = false; passed = passed; refused = refused; size = size }
 
 -- one change, to another heap, by writes to these places and to so many fresh words
-abbrev pub changed : HeapView → HeapState → List ℕ → ℕ → HeapView
-changed v h places fresh = record v {
+abbrev pub heap_after_change : HeapView → HeapState → List ℕ → ℕ → HeapView
+heap_after_change v h places fresh = record v {
   now = h;
   durable = (if v.begun then v.durable else h);
-  touched = v.touched ++ kept v places;
-  passed = raised v.passed (fresh + writes_for v places);
+  touched = v.touched ++ unlogged_places v places;
+  passed = saturating_count v.passed (fresh + writes_for v places);
 }
 
 -- the address of a cell
@@ -195,22 +203,22 @@ unfoldable pub is_touched : HeapView → ℕ → Bool
 is_touched v place = v.begun && list_any (λ b. b == place) v.touched
 
 -- a transaction is open, and what it finds is kept
-abbrev pub begun : HeapView → HeapView
-begun v = record v { begun = true; durable = v.now }
+abbrev pub heap_after_begin : HeapView → HeapView
+heap_after_begin v = record v { begun = true; durable = v.now }
 
 -- its changes stay
-abbrev pub committed : HeapView → HeapView
-committed v = record v { begun = false; durable = v.now; touched = []; passed = raised v.passed (if length v.touched == 0 then 0 else 1) }
+abbrev pub heap_after_commit : HeapView → HeapView
+heap_after_commit v = record v { begun = false; durable = v.now; touched = []; passed = saturating_count v.passed (if length v.touched == 0 then 0 else 1) }
 
 -- its changes are taken back
-abbrev pub aborted : HeapView → HeapView
-aborted v = record v { begun = false; now = v.durable; touched = []; passed = raised v.passed (undo_writes (length v.touched)) }
+abbrev pub heap_after_abort : HeapView → HeapView
+heap_after_abort v = record v { begun = false; now = v.durable; touched = []; passed = saturating_count v.passed (undo_writes (length v.touched)) }
 
 -- the store refused a write: a recovery leaves what it would have left before
-pub record IsStopped (old new : HeapView) : Type 0 where
+pub record IsTornChange (old new : HeapView) : Type 0 where
   pub durable : new.durable ≡ old.durable
   pub down : new.down ≡ true
-  pub refused : new.refused ≡ raised old.refused 1
+  pub refused : new.refused ≡ saturating_count old.refused 1
   pub size : new.size ≡ old.size
 
 -- an event's area has no space for so many cells

@@ -2,7 +2,7 @@
 use Rattle.std.specs.Prelude.{ℕ, ◌+◌, ◌-◌, ◌/◌, ◌%◌, ◌==◌, Bool, false, List, map, take, drop, slice_index, length, ◌≤◌, ◌≡◌, if◌then◌else◌}
 use Rattle.std.specs.List.{list_any, range_with_len}
 use Rattle.jc_words.specs.Layout.{top_address, packages_address, text_length_address, addresses_start, most_packages, text_start}
-use Rattle.jc_heap.specs.Cut.{Sizes, cut, lacking}
+use Rattle.jc_heap.specs.Cut.{Sizes, records_from, missing_words}
 use Rattle.jc_heap.specs.Object.{Item, AnObject, APackage, object_of, payload}
 
 -- the words below the top: the others have no meaning
@@ -31,19 +31,19 @@ item_entry packages e = (e.0, item packages e.0 e.1)
 
 -- the records of an image
 abbrev pub records : List ℕ → List (ℕ × List ℕ)
-records image = cut (sizes (package_addresses image)) 0 (base image) (drop (base image) image)
+records image = records_from (sizes (package_addresses image)) 0 (base image) (drop (base image) image)
 
 -- how many words the last record of an image lacks: none, where the table is whole
-unfoldable pub missing : List ℕ → ℕ
-missing image = lacking (sizes (package_addresses image)) 0 (base image) (drop (base image) image)
+unfoldable pub missing_words_of_image : List ℕ → ℕ
+missing_words_of_image image = missing_words (sizes (package_addresses image)) 0 (base image) (drop (base image) image)
 
 -- a byte of packed words: two in a word, the high one first
 abbrev pub packed_byte : List ℕ → ℕ → ℕ
 packed_byte words i = if i % 2 == 0 then slice_index words (i / 2) / 256 else slice_index words (i / 2) % 256
 
 -- so many bytes of packed words
-unfoldable pub unpacked : ℕ → List ℕ → List ℕ
-unpacked count words = map (packed_byte words) (range_with_len 0 count)
+unfoldable pub bytes_of_packed : ℕ → List ℕ → List ℕ
+bytes_of_packed count words = map (packed_byte words) (range_with_len 0 count)
 
 -- the words of the table text
 abbrev pub text_words : List ℕ → List ℕ
@@ -51,7 +51,7 @@ text_words words = take ((slice_index words text_length_address + 1) / 2) (drop 
 
 -- the table text
 abbrev pub table_text : List ℕ → List ℕ
-table_text words = unpacked (slice_index words text_length_address) (text_words words)
+table_text words = bytes_of_packed (slice_index words text_length_address) (text_words words)
 
 -- a byte of the table text
 abbrev pub text_byte : List ℕ → ℕ → ℕ
@@ -59,9 +59,9 @@ text_byte words i = if i % 2 == 0 then slice_index words (text_start + i / 2) / 
 
 -- words as the heap lays them: the top lies between the table's begin and the words' end, and the table ends there;
 -- a record that is no package's and begins with no header lacks words, so there is none
-pub record IsLaid (words : List ℕ) : Type 0 where
+pub record IsWellFormed (words : List ℕ) : Type 0 where
   pub based : base (image words) ≤ slice_index words top_address
   pub fits : slice_index words top_address ≤ length words
-  pub whole : missing (image words) ≡ 0
+  pub whole : missing_words_of_image (image words) ≡ 0
   -- no package begins at or above the top
   pub packages : (a : ℕ) → slice_index words top_address ≤ a → is_package (package_addresses (image words)) a ≡ false

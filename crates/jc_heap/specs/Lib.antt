@@ -12,5 +12,7 @@ pub mod Refusals
 pub mod Packages
 pub mod Components
 pub mod Statics
+pub mod Completions
 pub mod Moves
 pub mod Packed
+pub mod RegistryLayout

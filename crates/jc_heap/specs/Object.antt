@@ -1,5 +1,6 @@
 -- An object, and how a record's words say it.
-use Rattle.std.specs.Prelude.{ℕ, ◌+◌, ◌*◌, ◌/◌, ◌%◌, ◌≡◌, ◌<◌, ◌==◌, ◌&&◌, nat_lt, Bool, true, false, List, [], ◌∷◌, set, length, replicate, if◌then◌else◌, Option, Some, None}
+use Rattle.std.specs.Prelude.{ℕ, ◌+◌, ◌*◌, ◌/◌, ◌%◌, ◌≡◌, ◌<◌, ◌==◌, ◌&&◌, nat_lt, Bool, true, false, List, [], ◌∷◌, set, length, replicate, if◌then◌else◌}
+use Rattle.std.specs.Prelude.{Option, Some, None}
 use Rattle.jc_transient.specs.declared.cell.ClearEvent.{ClearEvent}
 use Rattle.jc_transient.specs.declared.cell.ClearEvent.TheVariants.{Reset, Deselect}
 use Rattle.jc_heap.specs.declared.object.Kind.{Kind}
@@ -108,9 +109,9 @@ with_cell (AnObject o) i v = AnObject (record o { cells = set o.cells i v })
 with_cell (APackage ws) i v = APackage ws
 
 -- what no change of a cell changes
-abbrev pub bare : Item → Item
-bare (AnObject o) = AnObject (record o { cells = replicate (length o.cells) 0 })
-bare (APackage ws) = APackage (replicate (length ws) 0)
+abbrev pub header_only : Item → Item
+header_only (AnObject o) = AnObject (record o { cells = replicate (length o.cells) 0 })
+header_only (APackage ws) = APackage (replicate (length ws) 0)
 
 abbrev pub facts_of : Item → Facts
 facts_of (AnObject o) = o.facts

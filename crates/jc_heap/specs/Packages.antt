@@ -3,29 +3,29 @@ use Rattle.std.specs.Prelude.{ℕ, ◌+◌, ◌*◌, ◌≡◌, ◌<◌, ◌≤�
 use Rattle.jc_words.specs.Layout.{packages_address, addresses_start}
 use Rattle.jc_heap.specs.declared.object.Kind.{Kind}
 use Rattle.jc_heap.specs.declared.object.Kind.TheVariants.{Instance, ReferenceArray}
-use Rattle.jc_heap.specs.declared.package.Component.{Component}
+use Rattle.jc_heap.specs.declared.package.RecordComponent.{RecordComponent}
 use Rattle.jc_heap.specs.declared.package.StaticArray.{StaticArray}
 use Rattle.jc_heap.specs.Object.{Object, APackage, kind_number, has_bytes, object_size}
 use Rattle.jc_heap.specs.Heap.{HeapState, add_object, end_address}
-use Rattle.jc_heap.specs.Packed.{packed}
+use Rattle.jc_heap.specs.Packed.{packed_words}
 
 -- a component as values: its tag and its info
-abbrev pub part : Component → ℕ × List ℕ
+abbrev pub part : RecordComponent → ℕ × List ℕ
 part c = (c.tag, c.info.now)
 
-abbrev pub parts : List Component → List (ℕ × List ℕ)
+abbrev pub parts : List RecordComponent → List (ℕ × List ℕ)
 parts cs = map part cs
 
 -- an initialised array as values: its kind and its bytes
-abbrev pub initial : StaticArray → Kind × List ℕ
-initial a = (a.kind, a.values.now)
+abbrev pub array_init : StaticArray → Kind × List ℕ
+array_init a = (a.kind, a.values.now)
 
-abbrev pub initials : List StaticArray → List (Kind × List ℕ)
-initials xs = map initial xs
+abbrev pub array_inits : List StaticArray → List (Kind × List ℕ)
+array_inits xs = map array_init xs
 
 -- a component in a record: its tag, its size in bytes, its info
 abbrev pub component_words : ℕ × List ℕ → List ℕ
-component_words c = c.0 ∷ length c.1 ∷ packed c.1
+component_words c = c.0 ∷ length c.1 ∷ packed_words c.1
 
 -- components one behind another
 abbrev pub components_words : List (ℕ × List ℕ) → List ℕ
@@ -34,7 +34,7 @@ components_words (c ∷ cs) = component_words c ++ components_words cs
 
 -- the cells of an initialised array: a byte each, but two bytes each of a short array
 abbrev pub elements : Kind × List ℕ → List ℕ
-elements a = if has_bytes a.0 then a.1 else packed a.1
+elements a = if has_bytes a.0 then a.1 else packed_words a.1
 
 -- an initialised array as an object
 abbrev pub array_object : ℕ → Kind × List ℕ → Object
@@ -68,11 +68,11 @@ array_addresses at (a ∷ xs) = at ∷ array_addresses (at + array_size a) xs
 
 -- a static image: references to the initialised arrays, then the other bytes
 abbrev pub image_words : ℕ → List (Kind × List ℕ) → List ℕ → List ℕ
-image_words at xs rest = array_addresses at xs ++ packed rest
+image_words at xs rest = array_addresses at xs ++ packed_words rest
 
 -- how many words a package's record has
 unfoldable pub record_size : List (ℕ × List ℕ) → List (Kind × List ℕ) → List ℕ → ℕ
-record_size cs xs rest = length (components_words cs) + (length xs + length (packed rest)) + 2
+record_size cs xs rest = length (components_words cs) + (length xs + length (packed_words rest)) + 2
 
 -- a package's record: its length, the components, a word 0, the static image
 unfoldable pub package_record : ℕ → List (ℕ × List ℕ) → List (Kind × List ℕ) → List ℕ → List ℕ
@@ -123,14 +123,14 @@ pub record AreComponents (cs : List (ℕ × List ℕ)) : Type 0 where
   pub sizes : (k : ℕ) → k < length cs → length ((slice_index_or cs k (0, [])).1) < 65536
 
 -- an array of booleans, bytes or shorts
-abbrev pub is_initial : Kind → Bool
-is_initial Instance = false
-is_initial ReferenceArray = false
-is_initial _ = true
+abbrev pub is_array_init : Kind → Bool
+is_array_init Instance = false
+is_array_init ReferenceArray = false
+is_array_init _ = true
 
 -- initialised arrays as a package may have them: of booleans, bytes or shorts, and below 65,536 bytes each
 pub record AreArrays (xs : List (Kind × List ℕ)) : Type 0 where
-  pub kinds : (k : ℕ) → k < length xs → is_initial ((slice_index_or xs k (Instance, [])).0) ≡ true
+  pub kinds : (k : ℕ) → k < length xs → is_array_init ((slice_index_or xs k (Instance, [])).0) ≡ true
   pub sizes : (k : ℕ) → k < length xs → length ((slice_index_or xs k (Instance, [])).1) < 65536
 
 -- how many bytes a static image has

@@ -1,13 +1,14 @@
 -- Places: the words that a change may name.
 use Rattle.std.specs.Prelude.{ℕ, ◌+◌, ◌*◌, ◌<◌, ◌≡◌, List, [], ◌∷◌, set, length, map, if◌then◌else◌}
-use Rattle.jc_words.specs.Count.{raised}
+use Rattle.jc_words.specs.Count.{saturating_count}
 use Rattle.jc_words.specs.Layout.{applets_address, registry_start, registry_length}
+use Rattle.jc_heap.specs.RegistryLayout.{entry_start, entry_package, entry_instance}
 use Rattle.jc_heap.specs.declared.place.Place.{Place}
 use Rattle.jc_heap.specs.declared.place.Place.TheVariants.{Cell, Static, Registry, AppletCount}
 use Rattle.jc_heap.specs.declared.place.AppletEntry.{AppletEntry}
 use Rattle.jc_heap.specs.Object.{IsElement}
-use Rattle.jc_heap.specs.Image.{IsLaid}
-use Rattle.jc_heap.specs.Heap.{HeapState, HeapView, cells, facts, heap_of, set_cell, cell_address, changed, is_touched}
+use Rattle.jc_heap.specs.Image.{IsWellFormed}
+use Rattle.jc_heap.specs.Heap.{HeapState, HeapView, cells, facts, heap_of, set_cell, cell_address, heap_after_change, is_touched}
 use Rattle.jc_heap.specs.Components.{record_of}
 use Rattle.jc_heap.specs.Statics.{set_word, IsStatic}
 
@@ -39,15 +40,15 @@ set_place h (Registry i) v = record h { applets = set h.applets i v }
 set_place h AppletCount v = record h { counts = (h.counts.0, v) }
 
 -- a place set as one change
-abbrev pub written : HeapView → Place → ℕ → HeapView
-written v p x = changed v (set_place v.now p x) (place_word p ∷ []) 0
+abbrev pub write_place : HeapView → Place → ℕ → HeapView
+write_place v p x = heap_after_change v (set_place v.now p x) (place_word p ∷ []) 0
 
 -- a place set for good, where no earlier change of the open transaction has touched it
-abbrev pub counted : HeapView → Place → ℕ → HeapView
-counted v p x = record v {
+abbrev pub write_nonatomic : HeapView → Place → ℕ → HeapView
+write_nonatomic v p x = record v {
   now = set_place v.now p x;
   durable = (if is_touched v (place_word p) then v.durable else set_place v.durable p x);
-  passed = raised v.passed 1;
+  passed = saturating_count v.passed 1;
 }
 
 -- the places of several changes
@@ -81,8 +82,12 @@ AreApart (p ∷ ps) = IsBeside p ps × AreApart ps
 -- what one applet more changes: its three words behind those of the others, and the number of applets
 abbrev pub applet_changes : HeapState → AppletEntry → List (Place × ℕ)
 applet_changes h entry =
-    (Registry (3 * h.counts.1), entry.aid) ∷ (Registry (3 * h.counts.1 + 1), entry.package) ∷ (Registry (3 * h.counts.1 + 2), entry.instance) ∷ (AppletCount, h.counts.1 + 1) ∷ []
+    (Registry (entry_start h.counts.1), entry.aid)
+    ∷ (Registry (entry_start h.counts.1 + entry_package), entry.package)
+    ∷ (Registry (entry_start h.counts.1 + entry_instance), entry.instance)
+    ∷ (AppletCount, h.counts.1 + 1) ∷ []
 
 -- places that differ have different words, in the heap of words that are laid
 abbrev pub HaveOwnWords : Type 0
-HaveOwnWords = (words : List ℕ) → IsLaid words → (p q : Place) → HasPlace (heap_of words) p → HasPlace (heap_of words) q → (p ≡ q → ⊥) → place_word p ≡ place_word q → ⊥
+HaveOwnWords = (words : List ℕ) → IsWellFormed words → (p q : Place) → HasPlace (heap_of words) p → HasPlace (heap_of words) q → (p ≡ q → ⊥)
+    → place_word p ≡ place_word q → ⊥

@@ -1,8 +1,8 @@
 -- The static image of a package, and a word of its record changed.
 use Rattle.std.specs.Prelude.{ℕ, ◌+◌, ◌==◌, ◌≡◌, ◌<◌, ◌≤◌, List, [], ◌∷◌, length, set, slice_index, Option, Some, None, if◌then◌else◌}
-use Rattle.jc_heap.specs.Table.{put}
+use Rattle.jc_heap.specs.Table.{with_entry}
 use Rattle.jc_heap.specs.Object.{Item, AnObject, APackage}
-use Rattle.jc_heap.specs.Heap.{HeapState, item_at}
+use Rattle.jc_heap.specs.Heap.{HeapState, heap_item_at}
 use Rattle.jc_heap.specs.Components.{record_parts}
 
 abbrev pub with_word : Item → ℕ → ℕ → Item
@@ -11,7 +11,7 @@ with_word (APackage ws) j v = APackage (set ws j v)
 
 -- another word of the package's record at an address
 unfoldable pub set_word : HeapState → ℕ → ℕ → ℕ → HeapState
-set_word h r j v = record h { items = put h.items r (with_word (item_at h r) j v) }
+set_word h r j v = record h { items = with_entry h.items r (with_word (heap_item_at h r) j v) }
 
 -- where the image among these parts begins: behind the first 0 that stands for a tag
 abbrev pub image_from : List (ℕ × List ℕ) → Option ℕ

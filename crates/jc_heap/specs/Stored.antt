@@ -1,25 +1,25 @@
 -- What a store is that holds a heap.
 use Rattle.std.specs.Prelude.{ℕ, ◌≡◌, Bool, false, List, length, take}
 use Rattle.jc_commit.specs.Image.{count_of, plain_of, recovered_of, IsGoodLog}
-use Rattle.jc_heap.specs.Image.{IsLaid}
-use Rattle.jc_heap.specs.Heap.{HeapView, heap_of, resting}
+use Rattle.jc_heap.specs.Image.{IsWellFormed}
+use Rattle.jc_heap.specs.Heap.{HeapView, heap_of, heap_at_rest}
 
 -- a store with these words, which is down or not, is at rest: it is up, its words are a heap's, and no entry of the log counts
 pub record IsAtRest (words : List ℕ) (is_down : Bool) : Type 0 where
   pub up : is_down ≡ false
   pub good : IsGoodLog words
-  pub laid : IsLaid (recovered_of words)
+  pub laid : IsWellFormed (recovered_of words)
   pub closed : count_of words ≡ 0
 
 -- the heap of a store at rest, which has let so many writes pass and refused so many
-abbrev pub rested : List ℕ → ℕ → ℕ → HeapView
-rested words passed refused = resting (heap_of (recovered_of words)) passed refused (length words)
+abbrev pub heap_of_store_at_rest : List ℕ → ℕ → ℕ → HeapView
+heap_of_store_at_rest words passed refused = heap_at_rest (heap_of (recovered_of words)) passed refused (length words)
 
 -- a store with these words, which is down or not, has let so many writes pass and refused so many, holds this heap: its words stand
 -- for the heap as it is, and a recovery of them leaves the durable one. The first three are not the journal's
 pub record HoldsHeap (words : List ℕ) (is_down : Bool) (let_pass turned_down : ℕ) (v : HeapView) : Type 0 where
   pub good : IsGoodLog words
-  pub laid : IsLaid (recovered_of words)
+  pub laid : IsWellFormed (recovered_of words)
   pub now : heap_of (plain_of words) ≡ v.now
   pub durable : heap_of (recovered_of words) ≡ v.durable
   pub head : take 3 words ≡ v.durable.head

@@ -5,7 +5,7 @@ use Rattle.jc_transient.specs.declared.cell.ClearEvent.{ClearEvent}
 use Rattle.jc_transient.specs.State.{area_size}
 use Rattle.jc_heap.specs.declared.object.Kind.TheVariants.{ReferenceArray}
 use Rattle.jc_heap.specs.Object.{Item, facts_of, cells_of, event_number}
-use Rattle.jc_heap.specs.Heap.{HeapState, area_end, item_at, facts, names, IsObject}
+use Rattle.jc_heap.specs.Heap.{HeapState, area_end, heap_item_at, facts, is_allocated, IsObject}
 use Rattle.jc_heap.specs.Components.{record_of}
 
 -- the item is an object whose cells lie in the area of this event
@@ -28,8 +28,9 @@ pub record FitsAt (event : ClearEvent) (place : ℕ) (t : Item) : Type 0 where
 
 -- the objects of an event have the cells of its area: each begins where those before it end, the area ends where
 -- they all end, and they have no more cells than there are
-pub record IsFilled (h : HeapState) (event : ClearEvent) : Type 0 where
-  pub places : (before after : List (ℕ × Item)) (r : ℕ) (t : Item) → h.items ≡ before ++ (r, t) ∷ after → lies_in event t ≡ true → (facts_of t).place ≡ all_cells_in event before
+pub record IsFilledArea (h : HeapState) (event : ClearEvent) : Type 0 where
+  pub places : (before after : List (ℕ × Item)) (r : ℕ) (t : Item) → h.items ≡ before ++ (r, t) ∷ after → lies_in event t ≡ true
+      → (facts_of t).place ≡ all_cells_in event before
   pub end : area_end h event ≡ all_cells_in event h.items
   pub fits : area_end h event ≤ area_size
 
@@ -42,8 +43,8 @@ abbrev pub HoldsReferences : HeapState → Item → Type 0
 HoldsReferences h t = (facts_of t).kind ≡ ReferenceArray → (i : ℕ) → i < length (cells_of t) → IsReference h (slice_index (cells_of t) i)
 
 -- at each of these addresses something stands
-abbrev pub AreMet : HeapState → List ℕ → Type 0
-AreMet h addresses = (k : ℕ) → k < length addresses → names h (slice_index addresses k) ≡ true
+abbrev pub AreAllocated : HeapState → List ℕ → Type 0
+AreAllocated h addresses = (k : ℕ) → k < length addresses → is_allocated h (slice_index addresses k) ≡ true
 
 -- at each of these addresses stands a package's record with its two words at least: its length, and the 0 behind its components
 abbrev pub AreRecords : HeapState → List ℕ → Type 0
@@ -56,14 +57,14 @@ AreDistinct addresses = (j k : ℕ) → j < k → k < length addresses → slice
 -- what a heap's words say of one another: there are places for the packages and the applets, the packages'
 -- addresses are those of their records, which have their words, references are references, and the transient objects have
 -- their cells
-pub record IsWhole (h : HeapState) : Type 0 where
+pub record IsConsistent (h : HeapState) : Type 0 where
   pub few_packages : h.counts.0 ≤ most_packages
   pub few_applets : h.counts.1 ≤ most_applets
-  pub met : AreMet h h.packages
+  pub met : AreAllocated h h.packages
   pub records : AreRecords h h.packages
   pub distinct : AreDistinct h.packages
-  pub references : (r : ℕ) → HoldsReferences h (item_at h r)
-  pub areas : (event : ClearEvent) → IsFilled h event
+  pub references : (r : ℕ) → HoldsReferences h (heap_item_at h r)
+  pub areas : (event : ClearEvent) → IsFilledArea h event
 
 -- in a whole heap a transient object's cells lie below the end of its event's area, and no two objects share one
 pub record OwnsCells (h : HeapState) : Type 0 where

@@ -1,19 +1,20 @@
 //! New packages.
 ghost use Rattle.std.specs.Prelude.{[], ◌∷◌, ◌≡◌, ◌<◌, ◌+◌, false, length, Err, OnOk, OnErr, IfOk, ◌↔◌};
 ghost use Rattle.jc_words.specs.Layout.{most_packages};
-ghost use Rattle.jc_heap.specs.Fresh.{IsFree, KeepsBelow, Fills, StopsFresh};
+ghost use Rattle.jc_heap.specs.Fresh.{IsFree, KeepsBelow, Fills, IsTornFresh};
 ghost use Rattle.jc_heap.specs.Object.{APackage};
-ghost use Rattle.jc_heap.specs.Moves.{AddPackage, MakesUnless, after_making, no_package};
-ghost use Rattle.jc_heap.specs.Heap.{changed, IsStopped, has_room_for, LacksSpace, names, item_at};
-ghost use Rattle.jc_heap.specs.Packages.{parts, initials, AreComponents, AreArrays, image_size, record_size, package_record, package_size, package_words, add_package, addresses_of_package};
+ghost use Rattle.jc_heap.specs.Moves.{AddPackage, PerformsMovesUnless, refusal_of_package};
+ghost use Rattle.jc_heap.specs.Completions.{after_making};
+ghost use Rattle.jc_heap.specs.Heap.{heap_after_change, IsTornChange, has_room_for, LacksSpace, is_allocated, heap_item_at};
+ghost use Rattle.jc_heap.specs.Packages.{parts, array_inits, AreComponents, AreArrays, image_size, record_size, package_record, package_size, package_words};
+ghost use Rattle.jc_heap.specs.Packages.{add_package, addresses_of_package};
 
 use crate::heap::Heap;
-use crate::package::{Component, StaticArray, size_of_arrays, size_of_record};
+use crate::package::{RecordComponent, StaticArray, size_of_arrays, size_of_record};
 use crate::record::{write_arrays, write_package_record};
 use crate::refusal::HeapRefusal;
 use jc_commit::Journal;
-use jc_names::OwnerWord;
-use jc_transient::Ref;
+use jc_transient::{OwnerWord, Ref};
 use jc_words::layout::{ADDRESSES, PACKAGES, TOP};
 use jc_words::{StoreDown, WordStore};
 
@@ -26,17 +27,19 @@ fn write_package<S: WordStore>(
     at: u16,
     size: u16,
     number: u16,
-    components: &[Component],
+    components: &[RecordComponent],
     arrays: &[StaticArray],
     image: &[u8],
 ) -> Result<(), StoreDown>
-    requires free { IsFree at (package_size (parts components.now) (initials arrays.now) image.now) journal.old }
-    requires size { size ≡ record_size (parts components.now) (initials arrays.now) image.now }
+    requires free { IsFree at (package_size (parts components.now)
+        (array_inits arrays.now) image.now) journal.old }
+    requires size { size ≡ record_size (parts components.now) (array_inits arrays.now) image.now }
     requires components { AreComponents (parts components.now) }
     requires number { number < 256 }
     ensures below { KeepsBelow at journal.old journal.new }
-    ensures done { OnOk result (Fills at (package_words at number (parts components.now) (initials arrays.now) image.now) journal.old journal.new) }
-    ensures stopped { OnErr result (StopsFresh journal.old journal.new) }
+    ensures done { OnOk result (Fills at (package_words at number (parts components.now)
+        (array_inits arrays.now) image.now) journal.old journal.new) }
+    ensures stopped { OnErr result (IsTornFresh journal.old journal.new) }
 {
     write_package_record(journal, at, size, components, arrays, image)?;
     write_arrays(journal, at + size, arrays, OwnerWord(FIRST_OWNER + number))?;
@@ -48,18 +51,22 @@ impl<S: WordStore> Heap<S> {
     /// The image's first words become the references to the arrays; `image` is what stands behind them.
     pub fn add_package(
         &mut self,
-        components: &[Component],
+        components: &[RecordComponent],
         arrays: &[StaticArray],
         image: &[u8],
     ) -> Result<Ref, HeapRefusal>
         requires up { self.old.down ≡ false }
         requires few { self.old.now.counts.0 < most_packages }
         requires components { AreComponents (parts components.now) }
-        requires arrays { AreArrays (initials arrays.now) }
-        requires image { image_size (initials arrays.now) image.now < 65536 }
-        ensures moves { MakesUnless (no_package self.old (parts components.now) (initials arrays.now) image.now) self.old (after_making result self.new) (AddPackage (parts components.now) (initials arrays.now) image.now ∷ []) self.old.now.top }
-        ensures record { IfOk result (λ r. item_at self.new.now r ≡ APackage (package_record r (parts components.now) (initials arrays.now) image.now)) }
-        ensures free { names self.old.now self.old.now.top ≡ false }
+        requires arrays { AreArrays (array_inits arrays.now) }
+        requires image { image_size (array_inits arrays.now) image.now < 65536 }
+        ensures moves { PerformsMovesUnless (refusal_of_package self.old (parts components.now)
+            (array_inits arrays.now) image.now) self.old (after_making result self.new)
+            (AddPackage (parts components.now) (array_inits arrays.now) image.now ∷ [])
+            self.old.now.top }
+        ensures record { IfOk result (λ r. heap_item_at self.new.now r ≡ APackage
+            (package_record r (parts components.now) (array_inits arrays.now) image.now)) }
+        ensures free { is_allocated self.old.now self.old.now.top ≡ false }
     {
         let top = self.journal.read(TOP);
         let size = size_of_record(components, arrays, image);

@@ -31,7 +31,8 @@ fn span_at<S: WordStore>(journal: &Journal<S>, base: u16, long: u16, at: u16) ->
     requires there { base + long ≤ length journal.now.plain }
     requires small { length journal.now.plain < 65536 }
     requires inside { at < long }
-    ensures { let words = drop at (take long (drop base journal.now.plain)) in result ≡ span_in (at, take (2 + words_for (slice_index words 1)) words) }
+    ensures { let words = drop at (take long (drop base journal.now.plain)) in result
+        ≡ span_in (at, take (2 + words_for (slice_index words 1)) words) }
 {
     if long - at < 2 {
         return None;

@@ -3,11 +3,13 @@ ghost use Rattle.std.specs.Prelude.{ℕ, take, ◌≡◌, ◌<◌, ◌≤◌, []
 ghost use Rattle.jc_words.specs.Layout.{text_start};
 ghost use Rattle.jc_commit.specs.Image.{capacity};
 ghost use Rattle.jc_heap.specs.Object.{IsElement};
-ghost use Rattle.jc_heap.specs.Image.{IsLaid};
-ghost use Rattle.jc_heap.specs.Heap.{HeapView, heap_view, IsSound, cells, facts, IsObject, HasEnd, next_object, run_words, cell_address, room_left, KeepsBelowTop};
-ghost use Rattle.jc_heap.specs.Stored.{HoldsHeap, IsAtRest, rested};
+ghost use Rattle.jc_heap.specs.Image.{IsWellFormed};
+ghost use Rattle.jc_heap.specs.Heap.{HeapView, heap_view, IsSound, cells, facts, IsObject, HasEnd, next_object, run_words, cell_address, room_left};
+ghost use Rattle.jc_heap.specs.Heap.{KeepsBelowTop};
+ghost use Rattle.jc_heap.specs.Stored.{HoldsHeap, IsAtRest, heap_of_store_at_rest};
 ghost use Rattle.jc_heap.specs.declared.place.Place.TheVariants.{Cell};
-ghost use Rattle.jc_heap.specs.Moves.{Write, SetCells, Begin, Commit, Abort, Made, Makes, MakesUnless, after_change, after_step, no_room, no_run};
+ghost use Rattle.jc_heap.specs.Moves.{Write, SetCells, Begin, Commit, Abort, PerformsMoves, PerformsMovesUnless, refusal_of_places, refusal_of_cells};
+ghost use Rattle.jc_heap.specs.Completions.{Completed, after_change, after_step};
 
 use crate::layout::HEADER;
 use crate::lookup::{facts_at, next_behind};
@@ -145,7 +147,8 @@ impl<S: WordStore> Heap<S> {
         requires up { self.old.down ≡ false }
         requires cell { i < length (cells self.old.now object) }
         requires value { IsElement (facts self.old.now object).kind v }
-        ensures { MakesUnless (no_room self.old (Cell object i ∷ [])) self.old (after_change result self.new) (Write (Cell object i) v ∷ []) tt }
+        ensures { PerformsMovesUnless (refusal_of_places self.old (Cell object i ∷ [])) self.old
+            (after_change result self.new) (Write (Cell object i) v ∷ []) tt }
     {
         self.write(Place::Cell(object, i), v)
     }
@@ -154,8 +157,10 @@ impl<S: WordStore> Heap<S> {
     pub fn set_run(&mut self, object: Ref, i: u16, values: &[u16]) -> Result<(), ChangeRefusal>
         requires up { self.old.down ≡ false }
         requires cells { i + length values.now ≤ length (cells self.old.now object) }
-        requires values { (k : ℕ) → k < length values.now → IsElement (facts self.old.now object).kind (slice_index values.now k) }
-        ensures { MakesUnless (no_run self.old object i values.now) self.old (after_change result self.new) (SetCells object i values.now ∷ []) tt }
+        requires values { (k : ℕ) → k < length values.now
+            → IsElement (facts self.old.now object).kind (slice_index values.now k) }
+        ensures { PerformsMovesUnless (refusal_of_cells self.old object i values.now) self.old
+            (after_change result self.new) (SetCells object i values.now ∷ []) tt }
     {
         if values.len() > MOST_CHANGES {
             return Err(ChangeRefusal::CommitFull);
@@ -188,7 +193,8 @@ impl<S: WordStore> Heap<S> {
     pub fn begin(&mut self)
         requires up { self.old.down ≡ false }
         requires outside { self.old.begun ≡ false }
-        ensures moves { Makes {A = Unit {0}} self.old (Made tt self.new) (Begin ∷ []) tt }
+        ensures moves { PerformsMoves {A = Unit {0}} self.old (Completed tt self.new)
+            (Begin ∷ []) tt }
         ensures settled { self.old.durable ≡ self.old.now }
         ensures none { self.old.touched ≡ [] }
     {
@@ -199,7 +205,7 @@ impl<S: WordStore> Heap<S> {
     pub fn commit(&mut self) -> Result<(), StoreDown>
         requires up { self.old.down ≡ false }
         requires inside { self.old.begun ≡ true }
-        ensures { Makes self.old (after_step result self.new) (Commit ∷ []) tt }
+        ensures { PerformsMoves self.old (after_step result self.new) (Commit ∷ []) tt }
     {
         self.journal.commit()?;
         Ok(())
@@ -209,7 +215,7 @@ impl<S: WordStore> Heap<S> {
     pub fn abort(&mut self) -> Result<(), StoreDown>
         requires up { self.old.down ≡ false }
         requires inside { self.old.begun ≡ true }
-        ensures moves { Makes self.old (after_step result self.new) (Abort ∷ []) tt }
+        ensures moves { PerformsMoves self.old (after_step result self.new) (Abort ∷ []) tt }
         ensures names { OnOk result (KeepsBelowTop self.old.now self.new.now) }
     {
         self.journal.abort()?;
@@ -221,7 +227,7 @@ impl<S: WordStore> Heap<S> {
     pub fn of_journal(journal: Journal<S>, size: u16) -> Heap<S>
         requires size { size ≡ length journal.plain }
         requires settled { journal.recovered ≡ journal.plain }
-        requires laid { IsLaid journal.plain }
+        requires laid { IsWellFormed journal.plain }
         ensures { result ≡ heap_view journal size }
     {
         Heap { journal, size }
@@ -240,7 +246,8 @@ impl<S: WordStore> Heap<S> {
     /// read or written.
     pub fn resume(store: S) -> Heap<S>
         requires { IsAtRest (S.words store) (S.down store) }
-        ensures { result ≡ rested (S.words store) (S.passed store) (S.refused store) }
+        ensures { result ≡ heap_of_store_at_rest (S.words store) (S.passed store)
+            (S.refused store) }
     {
         let size = store.size();
         Heap {
@@ -251,7 +258,8 @@ impl<S: WordStore> Heap<S> {
 
     /// The store, for a power up or for `resume`.
     pub fn into_store(self) -> S
-        ensures { HoldsHeap (S.words result) (S.down result) (S.passed result) (S.refused result) self }
+        ensures { HoldsHeap (S.words result) (S.down result) (S.passed result)
+            (S.refused result) self }
     {
         let Heap { journal, size: _ } = self;
         journal.into_store()

@@ -1,10 +1,12 @@
 //! Objects by reference over the words of a journal: what a card keeps without power.
+//! Laws of a heap: atomicity, what keeps it whole, and what is read back.
 #![tactic(auto)]
 
 mod adding;
 mod component;
 mod fresh;
 mod heap;
+mod heap_laws;
 pub mod layout;
 pub mod lookup;
 mod making;
@@ -15,12 +17,17 @@ mod place;
 mod record;
 mod refusal;
 mod registered;
+pub mod registry_layout;
 mod statics;
 pub mod walk;
 
 pub use component::Span;
 pub use heap::Heap;
+pub use heap_laws::{
+    changes_keep_a_heap_whole, components_are_read_back, places_have_words_of_their_own,
+    transactions_keep_what_is_durable, transient_objects_own_their_cells,
+};
 pub use object::{Facts, Kind};
-pub use package::{Component, StaticArray};
+pub use package::{RecordComponent, StaticArray};
 pub use place::{AppletEntry, Place};
 pub use refusal::{ChangeRefusal, HeapRefusal};

@@ -2,7 +2,7 @@
 ghost use Rattle.std.specs.Prelude.{◌≡◌, ◌<◌, ◌≤◌, ◌+◌, ◌/◌, ◌==◌, if◌then◌else◌, None, IfSome, length, slice_index};
 ghost use Rattle.jc_words.specs.Layout.{text_start};
 ghost use Rattle.jc_heap.specs.Object.{header_size};
-ghost use Rattle.jc_heap.specs.Image.{IsLaid};
+ghost use Rattle.jc_heap.specs.Image.{IsWellFormed};
 ghost use Rattle.jc_heap.specs.Heap.{heap_of, cells, facts, IsObject, next_object};
 
 use crate::layout::{HEADER, LENGTH};
@@ -19,7 +19,8 @@ fn area_place<S: WordStore>(journal: &Journal<S>, at: u16, word: u16) -> u16
     requires behind { text_start ≤ at }
     requires there { (word / 256 ≡ 0 → ⊥) → at + header_size < length journal.now.plain }
     requires small { length journal.now.plain < 65536 }
-    ensures { result ≡ (if word / 256 == 0 then 0 else slice_index journal.now.plain (at + header_size)) }
+    ensures { result ≡ (if word / 256 == 0 then 0 else slice_index journal.now.plain
+        (at + header_size)) }
 {
     if word / 256 == 0 {
         return 0;
@@ -30,11 +31,12 @@ fn area_place<S: WordStore>(journal: &Journal<S>, at: u16, word: u16) -> u16
 /// What the header of an object says.
 #[inline(always)]
 pub fn facts_at<S: WordStore>(journal: &Journal<S>, object: Ref) -> Facts
-    requires laid { IsLaid journal.now.plain }
+    requires laid { IsWellFormed journal.now.plain }
     requires small { length journal.now.plain < 65536 }
     requires there { IsObject (heap_of journal.now.plain) object }
     ensures facts { result ≡ facts (heap_of journal.now.plain) object }
-    ensures cells { result.event ≡ None → length (cells (heap_of journal.now.plain) object) ≡ result.length }
+    ensures cells { result.event ≡ None → length (cells (heap_of journal.now.plain) object)
+        ≡ result.length }
 {
     let at = object.address();
     let word = journal.read(at);
@@ -51,7 +53,7 @@ pub fn facts_at<S: WordStore>(journal: &Journal<S>, object: Ref) -> Facts
 
 /// The object behind another one in the order of addresses, or the first one of all behind null.
 pub fn next_behind<S: WordStore>(journal: &Journal<S>, object: Ref) -> Option<Ref>
-    requires laid { IsLaid journal.now.plain }
+    requires laid { IsWellFormed journal.now.plain }
     requires small { length journal.now.plain < 65536 }
     requires there { (object ≡ 0 → ⊥) → IsObject (heap_of journal.now.plain) object }
     ensures next { result ≡ next_object (heap_of journal.now.plain) object }

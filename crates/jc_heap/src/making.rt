@@ -1,16 +1,16 @@
 //! New objects.
 ghost use Rattle.std.specs.Prelude.{nat_le, ◌≡◌, [], ◌∷◌, false, IfOk, Some, ◌+◌};
 ghost use Rattle.jc_heap.specs.Object.{AnObject, new_object, object_size, new_transient, header_word};
-ghost use Rattle.jc_heap.specs.Heap.{names, item_at, area_end};
-ghost use Rattle.jc_heap.specs.Moves.{AddTransient, MakesUnless, after_making, new_move, no_new, no_transient};
+ghost use Rattle.jc_heap.specs.Heap.{is_allocated, heap_item_at, area_end};
+ghost use Rattle.jc_heap.specs.Moves.{AddTransient, PerformsMovesUnless, new_move, refusal_of_object, refusal_of_transient};
+ghost use Rattle.jc_heap.specs.Completions.{after_making};
 
 use crate::fresh::{write_record, write_run};
 use crate::heap::Heap;
 use crate::layout::{HEADER, area_word};
 use crate::object::Kind;
 use crate::refusal::HeapRefusal;
-use jc_names::{ClassWord, OwnerWord};
-use jc_transient::{AREA_CELLS, ClearEvent, Ref};
+use jc_transient::{AREA_CELLS, ClassWord, ClearEvent, OwnerWord, Ref};
 use jc_words::WordStore;
 use jc_words::layout::TOP;
 
@@ -33,9 +33,12 @@ impl<S: WordStore> Heap<S> {
         length: u16,
     ) -> Result<Ref, HeapRefusal>
         requires { self.old.down ≡ false }
-        ensures moves { MakesUnless (no_new self.old length) self.old (after_making result self.new) (new_move kind class owner length ∷ []) self.old.now.top }
-        ensures made { IfOk result (λ r. item_at self.new.now r ≡ AnObject (new_object kind class owner length)) }
-        ensures free { names self.old.now self.old.now.top ≡ false }
+        ensures moves { PerformsMovesUnless (refusal_of_object self.old length) self.old
+            (after_making result self.new) (new_move kind class owner length ∷ [])
+            self.old.now.top }
+        ensures made { IfOk result (λ r. heap_item_at self.new.now r
+            ≡ AnObject (new_object kind class owner length)) }
+        ensures free { is_allocated self.old.now self.old.now.top ≡ false }
     {
         let top = self.journal.read(TOP);
         let end = u32::from(top) + u32::from(HEADER) + u32::from(length);
@@ -67,9 +70,13 @@ impl<S: WordStore> Heap<S> {
         length: u16,
     ) -> Result<Ref, HeapRefusal>
         requires { self.old.down ≡ false }
-        ensures moves { MakesUnless (no_transient self.old event length) self.old (after_making result self.new) (AddTransient kind event class owner length ∷ []) self.old.now.top }
-        ensures made { IfOk result (λ r. item_at self.new.now r ≡ AnObject (new_transient kind event class owner length (area_end self.old.now event))) }
-        ensures free { names self.old.now self.old.now.top ≡ false }
+        ensures moves { PerformsMovesUnless (refusal_of_transient self.old event length) self.old
+            (after_making result self.new) (AddTransient kind event class owner length ∷ [])
+            self.old.now.top }
+        ensures made { IfOk result (λ r. heap_item_at self.new.now r
+            ≡ AnObject (new_transient kind event class owner length
+            (area_end self.old.now event))) }
+        ensures free { is_allocated self.old.now self.old.now.top ≡ false }
     {
         let end_word = area_word(event);
         let place = self.journal.read(end_word);

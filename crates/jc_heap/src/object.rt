@@ -2,8 +2,7 @@
 ghost use Rattle.std.specs.Prelude.{◌≡◌};
 ghost use Rattle.jc_heap.specs.Object.{kind_number, kind_of, event_of, is_header};
 
-use jc_names::{ClassWord, OwnerWord};
-use jc_transient::ClearEvent;
+use jc_transient::{ClassWord, ClearEvent, OwnerWord};
 
 /// What an object holds.
 #[derive(Clone, Copy, Debug, Default, PartialEq, Eq)]
@@ -90,7 +89,14 @@ impl Facts {
         length: u16,
         place: u16,
     ) -> Facts
-        ensures { result ≡ record { kind = kind; event = event; class = class; owner = owner; length = length; place = place } }
+        ensures { result ≡ record {
+          kind = kind;
+          event = event;
+          class = class;
+          owner = owner;
+          length = length;
+          place = place;
+        } }
     {
         Facts {
             kind,

@@ -1,6 +1,7 @@
 //! What a package is made from, and how many words it takes.
 ghost use Rattle.std.specs.Prelude.{◌≡◌, ◌<◌, length};
-ghost use Rattle.jc_heap.specs.Packages.{part, parts, initial, initials, elements, component_words, components_words, arrays_size, AreComponents, AreArrays, record_size, image_size};
+ghost use Rattle.jc_heap.specs.Packages.{part, parts, array_init, array_inits, elements, component_words, components_words, arrays_size, AreComponents};
+ghost use Rattle.jc_heap.specs.Packages.{AreArrays, record_size, image_size};
 
 use crate::layout::HEADER;
 use crate::object::Kind;
@@ -8,7 +9,7 @@ use crate::packed::packed_size;
 
 /// A component of a package.
 #[derive(Clone, Copy)]
-pub struct Component<'a> {
+pub struct RecordComponent<'a> {
     /// 1 to 8, or 10.
     pub tag: u8,
     /// What stands behind the component's tag and size.
@@ -26,7 +27,7 @@ pub struct StaticArray<'a> {
 
 // The number of an array's cells.
 pub(crate) fn cell_count(array: &StaticArray) -> usize
-    ensures { result ≡ length (elements (initial array.now)) }
+    ensures { result ≡ length (elements (array_init array.now)) }
 {
     match array.kind {
         Kind::BooleanArray | Kind::ByteArray => array.values.len(),
@@ -35,7 +36,7 @@ pub(crate) fn cell_count(array: &StaticArray) -> usize
 }
 
 // How many words components take in a record.
-fn components_size(components: &[Component]) -> u32
+fn components_size(components: &[RecordComponent]) -> u32
     requires { AreComponents (parts components.now) }
     ensures exact { result ≡ length (components_words (parts components.now)) }
     ensures small { result < 1_000_000 }
@@ -49,9 +50,9 @@ fn components_size(components: &[Component]) -> u32
 
 // How many words arrays take.
 pub(crate) fn size_of_arrays(arrays: &[StaticArray]) -> u32
-    requires arrays { AreArrays (initials arrays.now) }
+    requires arrays { AreArrays (array_inits arrays.now) }
     requires few { length arrays.now < 32768 }
-    ensures exact { result ≡ arrays_size (initials arrays.now) }
+    ensures exact { result ≡ arrays_size (array_inits arrays.now) }
     ensures small { result < 2_500_000_000 }
 {
     let mut size = 0;
@@ -62,10 +63,14 @@ pub(crate) fn size_of_arrays(arrays: &[StaticArray]) -> u32
 }
 
 // How many words a package's record has.
-pub(crate) fn size_of_record(components: &[Component], arrays: &[StaticArray], image: &[u8]) -> u32
+pub(crate) fn size_of_record(
+    components: &[RecordComponent],
+    arrays: &[StaticArray],
+    image: &[u8],
+) -> u32
     requires components { AreComponents (parts components.now) }
-    requires image { image_size (initials arrays.now) image.now < 65536 }
-    ensures exact { result ≡ record_size (parts components.now) (initials arrays.now) image.now }
+    requires image { image_size (array_inits arrays.now) image.now < 65536 }
+    ensures exact { result ≡ record_size (parts components.now) (array_inits arrays.now) image.now }
     ensures small { result < 1_500_000 }
 {
     let statics = arrays.len() + packed_size(image);

@@ -1,10 +1,10 @@
 //! Bytes as words, two a word.
 ghost use Rattle.std.specs.Prelude.{◌≡◌, ◌<◌, ◌+◌, ◌*◌, length, slice_index};
-ghost use Rattle.jc_heap.specs.Packed.{packed};
+ghost use Rattle.jc_heap.specs.Packed.{packed_words};
 
 // How many words hold so many bytes.
 pub(crate) fn packed_size(bytes: &[u8]) -> usize
-    ensures { result ≡ length (packed bytes.now) }
+    ensures { result ≡ length (packed_words bytes.now) }
 {
     bytes.len() / 2 + bytes.len() % 2
 }
@@ -22,7 +22,7 @@ fn byte_or_zero(bytes: &[u8], i: usize) -> u16
 
 /// A word of packed bytes, 0 behind the last one.
 pub fn packed_word(bytes: &[u8], k: u16) -> u16
-    ensures word { result ≡ slice_index (packed bytes.now) k }
+    ensures word { result ≡ slice_index (packed_words bytes.now) k }
     ensures high { slice_index bytes.now (2 * k) < 256 }
     ensures low { slice_index bytes.now (2 * k + 1) < 256 }
 {

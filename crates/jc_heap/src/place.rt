@@ -1,12 +1,14 @@
 //! Words that a change names: cells, the words of static images and of the registry.
 ghost use Rattle.std.specs.Prelude.{◌≡◌, ◌<◌, ◌≤◌, false, [], ◌∷◌, map, length, slice_index, take};
 ghost use Rattle.jc_words.specs.Layout.{registry_length, most_applets};
-ghost use Rattle.jc_heap.specs.Heap.{has_room_for, kept};
-ghost use Rattle.jc_heap.specs.Moves.{Write, SetPlaces, Count, Makes, MakesUnless, after_change, after_step, no_room, no_applet, applet_move};
+ghost use Rattle.jc_heap.specs.Heap.{has_room_for, unlogged_places};
+ghost use Rattle.jc_heap.specs.Moves.{Write, SetPlaces, WriteNonAtomic, PerformsMoves, PerformsMovesUnless, refusal_of_places, refusal_of_applet, applet_move};
+ghost use Rattle.jc_heap.specs.Completions.{after_change, after_step};
 ghost use Rattle.jc_heap.specs.Places.{HasPlace, MayHold, AreThere, AreApart, place_word, places_of, words_of};
 
 use crate::heap::{Heap, MOST_CHANGES};
 use crate::refusal::ChangeRefusal;
+use crate::registry_layout::{ENTRY_INSTANCE, ENTRY_PACKAGE, entry_start};
 use jc_transient::Ref;
 use jc_words::layout::{APPLETS, REGISTRY};
 use jc_words::{StoreDown, WordStore};
@@ -80,13 +82,14 @@ impl<S: WordStore> Heap<S> {
         self.journal.read(APPLETS)
     }
 
-    /// Writes a place.
+    /// Writes a place as one change, which an open transaction takes back unless it commits.
     #[inline(always)]
     pub fn write(&mut self, place: Place, v: u16) -> Result<(), ChangeRefusal>
         requires up { self.old.down ≡ false }
         requires there { HasPlace self.old.now place }
         requires value { MayHold self.old.now place v }
-        ensures { MakesUnless (no_room self.old (place ∷ [])) self.old (after_change result self.new) (Write place v ∷ []) tt }
+        ensures { PerformsMovesUnless (refusal_of_places self.old (place ∷ [])) self.old
+            (after_change result self.new) (Write place v ∷ []) tt }
     {
         let word = self.place_word(place);
         self.journal.write(word, v)?;
@@ -98,7 +101,8 @@ impl<S: WordStore> Heap<S> {
         requires up { self.old.down ≡ false }
         requires there { AreThere self.old.now changes.now }
         requires apart { AreApart (places_of changes.now) }
-        ensures { MakesUnless (no_room self.old (places_of changes.now)) self.old (after_change result self.new) (SetPlaces changes.now ∷ []) tt }
+        ensures { PerformsMovesUnless (refusal_of_places self.old (places_of changes.now)) self.old
+            (after_change result self.new) (SetPlaces changes.now ∷ []) tt }
     {
         if changes.len() > MOST_CHANGES {
             return Err(ChangeRefusal::CommitFull);
@@ -114,13 +118,19 @@ impl<S: WordStore> Heap<S> {
     pub fn add_applet(&mut self, entry: AppletEntry) -> Result<u16, ChangeRefusal>
         requires up { self.old.down ≡ false }
         requires few { self.old.now.counts.1 < most_applets }
-        ensures { MakesUnless (no_applet self.old entry) self.old (after_change result self.new) (applet_move self.old.now entry ∷ []) self.old.now.counts.1 }
+        ensures { PerformsMovesUnless (refusal_of_applet self.old entry) self.old
+            (after_change result self.new) (applet_move self.old.now entry ∷ [])
+            self.old.now.counts.1 }
     {
         let number = self.applets();
+        let first = entry_start(number);
         self.set_all(&[
-            (Place::Registry(3 * number), entry.aid.address()),
-            (Place::Registry(3 * number + 1), entry.package),
-            (Place::Registry(3 * number + 2), entry.instance.address()),
+            (Place::Registry(first), entry.aid.address()),
+            (Place::Registry(first + ENTRY_PACKAGE), entry.package),
+            (
+                Place::Registry(first + ENTRY_INSTANCE),
+                entry.instance.address(),
+            ),
             (Place::AppletCount, number + 1),
         ])?;
         Ok(number)
@@ -132,7 +142,8 @@ impl<S: WordStore> Heap<S> {
         requires up { self.old.down ≡ false }
         requires there { HasPlace self.old.now place }
         requires value { MayHold self.old.now place v }
-        ensures { Makes self.old (after_step result self.new) (Count place v ∷ []) tt }
+        ensures { PerformsMoves self.old (after_step result self.new)
+            (WriteNonAtomic place v ∷ []) tt }
     {
         let word = self.place_word(place);
         self.journal.write_both(word, v)?;
@@ -141,7 +152,7 @@ impl<S: WordStore> Heap<S> {
 
     /// How many of these places' old values one change of them has to keep.
     pub fn cost(&self, places: &[Place]) -> usize
-        ensures { result ≡ length (kept self.now (map place_word places.now)) }
+        ensures { result ≡ length (unlogged_places self.now (map place_word places.now)) }
     {
         if self.is_open() {
             return places.len();

@@ -1,16 +1,17 @@
 //! The words of a package above the top: its record and its initialised arrays.
 ghost use Rattle.std.specs.Prelude.{ℕ, ◌≡◌, ◌<◌, ◌+◌, ◌*◌, [], ◌∷◌, ◌++◌, length, slice_index, slice_index_or, OnOk, OnErr, IfOk};
-ghost use Rattle.jc_heap.specs.Fresh.{IsFree, KeepsBelow, Fills, StopsFresh};
-ghost use Rattle.jc_heap.specs.Packages.{part, parts, initial, initials, elements, component_words, components_words, array_addresses, arrays_size, image_words, record_size, package_record, AreComponents, array_words, arrays_words};
-ghost use Rattle.jc_heap.specs.Packed.{packed};
+ghost use Rattle.jc_heap.specs.Fresh.{IsFree, KeepsBelow, Fills, IsTornFresh};
+ghost use Rattle.jc_heap.specs.Packages.{part, parts, array_init, array_inits, elements, component_words, components_words, array_addresses, arrays_size};
+ghost use Rattle.jc_heap.specs.Packages.{image_words, record_size, package_record, AreComponents, array_words, arrays_words};
+ghost use Rattle.jc_heap.specs.Packed.{packed_words};
 
 use crate::fresh::write_run;
 use crate::layout::HEADER;
 use crate::object::Kind;
-use crate::package::{Component, StaticArray, cell_count};
+use crate::package::{RecordComponent, StaticArray, cell_count};
 use crate::packed::{packed_size, packed_word};
 use jc_commit::Journal;
-use jc_names::{NO_CLASS, OwnerWord};
+use jc_transient::{NO_CLASS, OwnerWord};
 use jc_words::{StoreDown, WordStore};
 
 // Writes bytes from an address on, two a word.
@@ -19,10 +20,10 @@ fn write_packed<S: WordStore>(
     at: u16,
     bytes: &[u8],
 ) -> Result<(), StoreDown>
-    requires { IsFree at (length (packed bytes.now)) journal.old }
+    requires { IsFree at (length (packed_words bytes.now)) journal.old }
     ensures below { KeepsBelow at journal.old journal.new }
-    ensures done { OnOk result (Fills at (packed bytes.now) journal.old journal.new) }
-    ensures stopped { OnErr result (StopsFresh journal.old journal.new) }
+    ensures done { OnOk result (Fills at (packed_words bytes.now) journal.old journal.new) }
+    ensures stopped { OnErr result (IsTornFresh journal.old journal.new) }
 {
     for k in 0..packed_size(bytes) {
         journal.write_fresh(at + k as u16, packed_word(bytes, k as u16))?;
@@ -39,7 +40,7 @@ fn write_bytes<S: WordStore>(
     requires { IsFree at (length bytes.now) journal.old }
     ensures below { KeepsBelow at journal.old journal.new }
     ensures done { OnOk result (Fills at bytes.now journal.old journal.new) }
-    ensures stopped { OnErr result (StopsFresh journal.old journal.new) }
+    ensures stopped { OnErr result (IsTornFresh journal.old journal.new) }
 {
     for (k, byte) in bytes.iter().enumerate() {
         journal.write_fresh(at + k as u16, u16::from(*byte))?;
@@ -51,13 +52,14 @@ fn write_bytes<S: WordStore>(
 fn write_component<S: WordStore>(
     journal: &mut Journal<S>,
     at: u16,
-    component: &Component,
+    component: &RecordComponent,
 ) -> Result<(), StoreDown>
     requires free { IsFree at (length (component_words (part component.now))) journal.old }
     requires small { length component.now.info.now < 65536 }
     ensures below { KeepsBelow at journal.old journal.new }
-    ensures done { OnOk result (Fills at (component_words (part component.now)) journal.old journal.new) }
-    ensures stopped { OnErr result (StopsFresh journal.old journal.new) }
+    ensures done { OnOk result (Fills at (component_words (part component.now)) journal.old
+        journal.new) }
+    ensures stopped { OnErr result (IsTornFresh journal.old journal.new) }
 {
     let info = component.info;
     write_run(journal, at, &[u16::from(component.tag), info.len() as u16])?;
@@ -69,14 +71,16 @@ fn write_component<S: WordStore>(
 fn write_components<S: WordStore>(
     journal: &mut Journal<S>,
     at: u16,
-    components: &[Component],
+    components: &[RecordComponent],
 ) -> Result<u16, StoreDown>
     requires free { IsFree at (length (components_words (parts components.now))) journal.old }
     requires small { AreComponents (parts components.now) }
-    ensures behind { IfOk result (λ next. next ≡ at + length (components_words (parts components.now))) }
+    ensures behind { IfOk result (λ next. next ≡ at + length
+        (components_words (parts components.now))) }
     ensures below { KeepsBelow at journal.old journal.new }
-    ensures done { OnOk result (Fills at (components_words (parts components.now)) journal.old journal.new) }
-    ensures stopped { OnErr result (StopsFresh journal.old journal.new) }
+    ensures done { OnOk result (Fills at (components_words (parts components.now)) journal.old
+        journal.new) }
+    ensures stopped { OnErr result (IsTornFresh journal.old journal.new) }
 {
     let mut next = at;
     for component in components {
@@ -94,10 +98,11 @@ fn write_references<S: WordStore>(
     first: u16,
 ) -> Result<(), StoreDown>
     requires free { IsFree at (length arrays.now) journal.old }
-    requires small { first + arrays_size (initials arrays.now) < 65536 }
+    requires small { first + arrays_size (array_inits arrays.now) < 65536 }
     ensures below { KeepsBelow at journal.old journal.new }
-    ensures done { OnOk result (Fills at (array_addresses first (initials arrays.now)) journal.old journal.new) }
-    ensures stopped { OnErr result (StopsFresh journal.old journal.new) }
+    ensures done { OnOk result (Fills at (array_addresses first (array_inits arrays.now))
+        journal.old journal.new) }
+    ensures stopped { OnErr result (IsTornFresh journal.old journal.new) }
 {
     let mut address = first;
     for (k, array) in arrays.iter().enumerate() {
@@ -115,11 +120,12 @@ fn write_static_image<S: WordStore>(
     first: u16,
     image: &[u8],
 ) -> Result<(), StoreDown>
-    requires free { IsFree at (length arrays.now + length (packed image.now)) journal.old }
-    requires small { first + arrays_size (initials arrays.now) < 65536 }
+    requires free { IsFree at (length arrays.now + length (packed_words image.now)) journal.old }
+    requires small { first + arrays_size (array_inits arrays.now) < 65536 }
     ensures below { KeepsBelow at journal.old journal.new }
-    ensures done { OnOk result (Fills at (image_words first (initials arrays.now) image.now) journal.old journal.new) }
-    ensures stopped { OnErr result (StopsFresh journal.old journal.new) }
+    ensures done { OnOk result (Fills at (image_words first (array_inits arrays.now) image.now)
+        journal.old journal.new) }
+    ensures stopped { OnErr result (IsTornFresh journal.old journal.new) }
 {
     write_references(journal, at, arrays, first)?;
     write_packed(journal, at + arrays.len() as u16, image)?;
@@ -132,10 +138,11 @@ fn write_elements<S: WordStore>(
     at: u16,
     array: &StaticArray,
 ) -> Result<(), StoreDown>
-    requires { IsFree at (length (elements (initial array.now))) journal.old }
+    requires { IsFree at (length (elements (array_init array.now))) journal.old }
     ensures below { KeepsBelow at journal.old journal.new }
-    ensures done { OnOk result (Fills at (elements (initial array.now)) journal.old journal.new) }
-    ensures stopped { OnErr result (StopsFresh journal.old journal.new) }
+    ensures done { OnOk result (Fills at (elements (array_init array.now)) journal.old
+        journal.new) }
+    ensures stopped { OnErr result (IsTornFresh journal.old journal.new) }
 {
     match array.kind {
         Kind::BooleanArray | Kind::ByteArray => write_bytes(journal, at, array.values)?,
@@ -151,10 +158,11 @@ fn write_array<S: WordStore>(
     array: &StaticArray,
     owner: OwnerWord,
 ) -> Result<(), StoreDown>
-    requires { IsFree at (length (array_words owner (initial array.now))) journal.old }
+    requires { IsFree at (length (array_words owner (array_init array.now))) journal.old }
     ensures below { KeepsBelow at journal.old journal.new }
-    ensures done { OnOk result (Fills at (array_words owner (initial array.now)) journal.old journal.new) }
-    ensures stopped { OnErr result (StopsFresh journal.old journal.new) }
+    ensures done { OnOk result (Fills at (array_words owner (array_init array.now)) journal.old
+        journal.new) }
+    ensures stopped { OnErr result (IsTornFresh journal.old journal.new) }
 {
     let cells = cell_count(array) as u16;
     write_run(
@@ -173,10 +181,11 @@ pub(crate) fn write_arrays<S: WordStore>(
     arrays: &[StaticArray],
     owner: OwnerWord,
 ) -> Result<(), StoreDown>
-    requires { IsFree at (length (arrays_words owner (initials arrays.now))) journal.old }
+    requires { IsFree at (length (arrays_words owner (array_inits arrays.now))) journal.old }
     ensures below { KeepsBelow at journal.old journal.new }
-    ensures done { OnOk result (Fills at (arrays_words owner (initials arrays.now)) journal.old journal.new) }
-    ensures stopped { OnErr result (StopsFresh journal.old journal.new) }
+    ensures done { OnOk result (Fills at (arrays_words owner (array_inits arrays.now)) journal.old
+        journal.new) }
+    ensures stopped { OnErr result (IsTornFresh journal.old journal.new) }
 {
     let mut next = at;
     for array in arrays {
@@ -191,17 +200,18 @@ pub(crate) fn write_package_record<S: WordStore>(
     journal: &mut Journal<S>,
     at: u16,
     size: u16,
-    components: &[Component],
+    components: &[RecordComponent],
     arrays: &[StaticArray],
     image: &[u8],
 ) -> Result<(), StoreDown>
     requires free { IsFree at size journal.old }
-    requires size { size ≡ record_size (parts components.now) (initials arrays.now) image.now }
+    requires size { size ≡ record_size (parts components.now) (array_inits arrays.now) image.now }
     requires components { AreComponents (parts components.now) }
-    requires behind { at + size + arrays_size (initials arrays.now) < 65536 }
+    requires behind { at + size + arrays_size (array_inits arrays.now) < 65536 }
     ensures below { KeepsBelow at journal.old journal.new }
-    ensures done { OnOk result (Fills at (package_record at (parts components.now) (initials arrays.now) image.now) journal.old journal.new) }
-    ensures stopped { OnErr result (StopsFresh journal.old journal.new) }
+    ensures done { OnOk result (Fills at (package_record at (parts components.now)
+        (array_inits arrays.now) image.now) journal.old journal.new) }
+    ensures stopped { OnErr result (IsTornFresh journal.old journal.new) }
 {
     write_run(journal, at, &[size])?;
     let next = write_components(journal, at + 1, components)?;

@@ -1,7 +1,7 @@
 //! The packages of a heap by their places in the registry.
 ghost use Rattle.std.specs.Prelude.{◌≡◌, ◌<◌, false, length, slice_index, Some, None, IfSome, if◌then◌else◌};
 ghost use Rattle.jc_words.specs.Layout.{most_packages};
-ghost use Rattle.jc_heap.specs.Heap.{names};
+ghost use Rattle.jc_heap.specs.Heap.{is_allocated};
 ghost use Rattle.jc_heap.specs.Components.{record_of};
 
 use crate::heap::Heap;
@@ -25,7 +25,8 @@ impl<S: WordStore> Heap<S> {
     pub fn package(&self, k: u16) -> Option<Ref>
         requires up { self.now.down ≡ false }
         requires below { k < length self.now.now.packages }
-        ensures exact { let r = slice_index self.now.now.packages k in result ≡ (if names self.now.now r then Some r else None) }
+        ensures exact { let r = slice_index self.now.now.packages k in result
+            ≡ (if is_allocated self.now.now r then Some r else None) }
         ensures record { IfSome result (λ r. 0 < length (record_of self.now.now r)) }
     {
         let address = self.journal.read(ADDRESSES + k);

@@ -39,7 +39,8 @@ impl<S: WordStore> Heap<S> {
         requires there { 0 < length (record_of self.now.now at) }
         ensures exact { result ≡ statics_of (record_of self.now.now at) }
         ensures within { IfSome result (λ o. o ≤ length (record_of self.now.now at)) }
-        ensures image { IfSome result (λ o. (j : ℕ) → o ≤ j → j < length (record_of self.now.now at) → IsStatic (record_of self.now.now at) j) }
+        ensures image { IfSome result (λ o. (j : ℕ) → o ≤ j → j < length (record_of self.now.now at)
+            → IsStatic (record_of self.now.now at) j) }
     {
         let base = at.address();
         let long = self.journal.read(base).max(1);

@@ -1,9 +1,9 @@
 //! The walk over the heap's records.
 ghost use Rattle.std.specs.Prelude.{◌≡◌, ◌<◌, ◌&&◌, nat_lt, not, map, ◌≤◌, ◌+◌, ◌↔◌, IsTrue, length, slice_index, drop, take};
 ghost use Rattle.jc_words.specs.Layout.{top_address, text_start};
-ghost use Rattle.jc_heap.specs.Image.{IsLaid, image, base, missing, package_addresses, is_package, sizes};
-ghost use Rattle.jc_heap.specs.Cut.{cut, lacking};
-ghost use Rattle.jc_heap.specs.Table.{has};
+ghost use Rattle.jc_heap.specs.Image.{IsWellFormed, image, base, missing_words_of_image, package_addresses, is_package, sizes};
+ghost use Rattle.jc_heap.specs.Cut.{records_from, missing_words};
+ghost use Rattle.jc_heap.specs.Table.{has_entry};
 ghost use Rattle.jc_heap.specs.Image.{item_entry};
 ghost use Rattle.jc_heap.specs.Heap.{first_above};
 
@@ -41,7 +41,8 @@ pub fn record_size<S: WordStore>(journal: &Journal<S>, at: u16, top: u16) -> u32
     requires behind { text_start ≤ at }
     requires inside { at < slice_index journal.now.plain top_address }
     requires is_top { top ≡ slice_index journal.now.plain top_address }
-    ensures { result ≡ sizes (package_addresses (image journal.now.plain)) at (drop at (image journal.now.plain)) + 1 }
+    ensures { result ≡ sizes (package_addresses (image journal.now.plain)) at
+        (drop at (image journal.now.plain)) + 1 }
 {
     let word = journal.read(at);
     if begins_package(journal, at) {
@@ -64,7 +65,8 @@ fn is_object_above<S: WordStore>(journal: &Journal<S>, at: u16, above: u16) -> b
     requires wide { text_start ≤ slice_index journal.now.plain top_address }
     requires fits { slice_index journal.now.plain top_address ≤ length journal.now.plain }
     requires small { length journal.now.plain < 65536 }
-    ensures { result ≡ (nat_lt above at && not (is_package (package_addresses (image journal.now.plain)) at)) }
+    ensures { result ≡ (nat_lt above at && not (is_package
+        (package_addresses (image journal.now.plain)) at)) }
 {
     if at <= above {
         return false;
@@ -74,12 +76,15 @@ fn is_object_above<S: WordStore>(journal: &Journal<S>, at: u16, above: u16) -> b
 
 // The first object above an address, among the records from an address on.
 pub(crate) fn first_object<S: WordStore>(journal: &Journal<S>, from: u16, above: u16) -> Option<Ref>
-    requires laid { IsLaid journal.now.plain }
+    requires laid { IsWellFormed journal.now.plain }
     requires small { length journal.now.plain < 65536 }
     requires low { text_start ≤ from }
     requires high { from ≤ slice_index journal.now.plain top_address }
-    requires whole { lacking (sizes (package_addresses (image journal.now.plain))) 0 from (drop from (image journal.now.plain)) ≡ 0 }
-    ensures { result ≡ first_above (map (item_entry (package_addresses (image journal.now.plain))) (cut (sizes (package_addresses (image journal.now.plain))) 0 from (drop from (image journal.now.plain)))) above }
+    requires whole { missing_words (sizes (package_addresses (image journal.now.plain))) 0 from
+        (drop from (image journal.now.plain)) ≡ 0 }
+    ensures { result ≡ first_above (map (item_entry (package_addresses (image journal.now.plain)))
+        (records_from (sizes (package_addresses (image journal.now.plain))) 0 from
+        (drop from (image journal.now.plain)))) above }
 {
     let top = journal.read(TOP);
     let mut at = from;
@@ -95,12 +100,14 @@ pub(crate) fn first_object<S: WordStore>(journal: &Journal<S>, from: u16, above:
 
 // A record begins at the address, among the records from another address on.
 pub(crate) fn begins_record<S: WordStore>(journal: &Journal<S>, from: u16, address: u16) -> bool
-    requires laid { IsLaid journal.now.plain }
+    requires laid { IsWellFormed journal.now.plain }
     requires small { length journal.now.plain < 65536 }
     requires low { text_start ≤ from }
     requires high { from ≤ slice_index journal.now.plain top_address }
-    requires whole { lacking (sizes (package_addresses (image journal.now.plain))) 0 from (drop from (image journal.now.plain)) ≡ 0 }
-    ensures { result ≡ has (cut (sizes (package_addresses (image journal.now.plain))) 0 from (drop from (image journal.now.plain))) address }
+    requires whole { missing_words (sizes (package_addresses (image journal.now.plain))) 0 from
+        (drop from (image journal.now.plain)) ≡ 0 }
+    ensures { result ≡ has_entry (records_from (sizes (package_addresses (image journal.now.plain)))
+        0 from (drop from (image journal.now.plain))) address }
 {
     let top = journal.read(TOP);
     let mut at = from;

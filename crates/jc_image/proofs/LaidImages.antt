@@ -1,27 +1,31 @@
 -- What the words of an image without objects stand for.
-use Rattle.std.proofs.Common.{◌≡◌, ℕ, ◌+◌, ◌-◌, ◌*◌, ◌/◌, ◌%◌, ◌<◌, ◌≤◌, inl, inr, List, [], ◌∷◌, ◌++◌, length, take, drop, get_or, map, replicate, refl, sym, ◌∙◌, ap, arith, lit<}
-use Rattle.std.proofs.lemmas.List.{ext_get_or, drop_at, drop_all, drop-drop, drop-append-le, take_all, take-append-le, length-append, length-replicate, length-take-le, get_or_append_left, get_or-append_right, get_or-replicate, get_or-take, drop-replicate}
+use Rattle.std.proofs.Common.{◌≡◌, ℕ, ◌+◌, ◌-◌, ◌*◌, ◌/◌, ◌%◌, ◌<◌, ◌≤◌, inl, inr, List, [], ◌∷◌, ◌++◌, length, take, drop, get_or, map, replicate, refl, sym}
+use Rattle.std.proofs.Common.{◌∙◌, ap, arith, lit<}
+use Rattle.std.proofs.lemmas.List.{ext_get_or, drop_at, drop_all, drop-drop, drop-append-le, take_all, take-append-le, length-append, length-replicate}
+use Rattle.std.proofs.lemmas.List.{length-take-le, get_or_append_left, get_or-append_right, get_or-replicate, get_or-take, drop-replicate}
 use Rattle.std.proofs.lemmas.List.FromFn.{length-map-range_with_len, get_or-map-range_with_len}
 use Rattle.std.proofs.lemmas.Bool.{cases_eq, cases_lt, eq-eqb, ne_eqb}
-use Rattle.jc_words.specs.Layout.{count_address, top_address, packages_address, applets_address, reset_end_address, deselect_end_address, text_length_address, front_length, addresses_start, most_packages, registry_start, registry_length, text_start, version}
+use Rattle.jc_words.specs.Layout.{count_address, top_address, packages_address, applets_address, reset_end_address, deselect_end_address, text_length_address}
+use Rattle.jc_words.specs.Layout.{front_length, addresses_start, most_packages, registry_start, registry_length, text_start, version}
 use Rattle.jc_commit.specs.Image.{count_of, plain_of}
 use Rattle.jc_commit.proofs.InPlace.{length-plain, plain_word}
-use Rattle.jc_heap.specs.Cut.{cut, lacking}
+use Rattle.jc_heap.specs.Cut.{records_from, missing_words}
 use Rattle.jc_heap.specs.Heap.{read_image, heap_of}
 use Rattle.jc_heap.proofs.RawWords.{plain_zero}
-use Rattle.jc_heap.specs.Image.{packed_byte, unpacked, image, base, package_addresses, is_package, sizes, item_entry, records, missing, table_text, IsLaid}
-use Rattle.jc_heap.specs.Packed.{packed}
-use Rattle.jc_heap.proofs.Packing.{packed-word}
-use Rattle.jc_image.specs.Laying.{IsOfBytes, first_free, laid_front, laid_words, laid_heap}
+use Rattle.jc_heap.specs.Image.{packed_byte, bytes_of_packed, image, base, package_addresses, is_package, sizes, item_entry, records, missing_words_of_image}
+use Rattle.jc_heap.specs.Image.{table_text, IsWellFormed}
+use Rattle.jc_heap.specs.Packed.{packed_words}
+use Rattle.jc_heap.proofs.Packing.{packed_words-word}
+use Rattle.jc_image.specs.Laying.{IsOfBytes, first_free, image_front, new_image_words, unsealed_heap}
 
-pub length-packed : (text : List ℕ) → length (packed text) ≡ (length text + 1) / 2
-length-packed [] = refl
-length-packed (b ∷ []) = refl
-length-packed (b ∷ c ∷ bytes) = omega (arith, length-packed bytes)
+pub length-packed_words : (text : List ℕ) → length (packed_words text) ≡ (length text + 1) / 2
+length-packed_words [] = refl
+length-packed_words (b ∷ []) = refl
+length-packed_words (b ∷ c ∷ bytes) = omega (arith, length-packed_words bytes)
 
-packed_byte-packed : (text : List ℕ) (i : ℕ) → IsOfBytes text → packed_byte (packed text) i ≡ get_or text i 0
-packed_byte-packed text i bytes =
-    let word : get_or (packed text) (i / 2) 0 ≡ 256 * get_or text (2 * (i / 2)) 0 + get_or text (2 * (i / 2) + 1) 0 = packed-word text (i / 2) in
+packed_byte-packed_words : (text : List ℕ) (i : ℕ) → IsOfBytes text → packed_byte (packed_words text) i ≡ get_or text i 0
+packed_byte-packed_words text i bytes =
+    let word : get_or (packed_words text) (i / 2) 0 ≡ 256 * get_or text (2 * (i / 2)) 0 + get_or text (2 * (i / 2) + 1) 0 = packed_words-word text (i / 2) in
     elim (cases_eq (i % 2) 0) [
       | inl e ↦
           let at : get_or text (2 * (i / 2)) 0 ≡ get_or text i 0 = ap (λ k. get_or text k 0) (omega (arith, e)) in
@@ -32,84 +36,93 @@ packed_byte-packed text i bytes =
     ]
 
 -- packed words hold the bytes
-pub unpacked-packed : (text : List ℕ) → IsOfBytes text → unpacked (length text) (packed text) ≡ text
-unfolding unpacked
-unpacked-packed text bytes =
-    ext_get_or 0 (unpacked (length text) (packed text)) text
-    (length-map-range_with_len (packed_byte (packed text)) 0 (length text))
-    (λ i h. get_or-map-range_with_len (packed_byte (packed text)) 0 (length text) i i 0 (omega (arith, h, length-map-range_with_len (packed_byte (packed text)) 0 (length text))) (omega arith) ∙ packed_byte-packed text i bytes)
+pub bytes_of_packed-packed_words : (text : List ℕ) → IsOfBytes text → bytes_of_packed (length text) (packed_words text) ≡ text
+unfolding bytes_of_packed
+bytes_of_packed-packed_words text bytes =
+    ext_get_or 0 (bytes_of_packed (length text) (packed_words text)) text
+    (length-map-range_with_len (packed_byte (packed_words text)) 0 (length text))
+    (λ i h. get_or-map-range_with_len (packed_byte (packed_words text)) 0 (length text) i i 0
+    (omega (arith, h, length-map-range_with_len (packed_byte (packed_words text)) 0 (length text))) (omega arith) ∙ packed_byte-packed_words text i bytes)
 
 module _ (n : ℕ) (text : List ℕ) where
   -- the words before the table text
   abbrev fixed : List ℕ
-  fixed = laid_front n (length text) ++ replicate (text_start - front_length) 0
+  fixed = image_front n (length text) ++ replicate (text_start - front_length) 0
 
   length-fixed : length fixed ≡ text_start
-  length-fixed = omega (arith, length-append (laid_front n (length text)) (replicate {A = ℕ} (text_start - front_length) 0), length-replicate {A = ℕ} (text_start - front_length) 0)
+  length-fixed = omega (
+    arith,
+    length-append (image_front n (length text)) (replicate {A = ℕ} (text_start - front_length) 0),
+    length-replicate {A = ℕ} (text_start - front_length) 0,
+  )
 
-  pub length-laid : length (laid_words n text) ≡ first_free (length text)
-  unfolding laid_words
-  length-laid = omega (arith, length-append fixed (packed text), length-fixed, length-packed text)
+  pub length-laid : length (new_image_words n text) ≡ first_free (length text)
+  unfolding new_image_words
+  length-laid = omega (arith, length-append fixed (packed_words text), length-fixed, length-packed_words text)
 
-  pub front-word : (i : ℕ) → i < front_length → get_or (laid_words n text) i 0 ≡ get_or (laid_front n (length text)) i 0
-  unfolding laid_words
-  front-word i h = get_or_append_left fixed (packed text) 0 i (omega (arith, length-fixed)) ∙ get_or_append_left (laid_front n (length text)) (replicate (text_start - front_length) 0) 0 i h
+  pub front-word : (i : ℕ) → i < front_length → get_or (new_image_words n text) i 0 ≡ get_or (image_front n (length text)) i 0
+  unfolding new_image_words
+  front-word i h = get_or_append_left fixed (packed_words text) 0 i (omega (arith, length-fixed))
+      ∙ get_or_append_left (image_front n (length text)) (replicate (text_start - front_length) 0) 0 i h
 
-  pub zero-word : (i : ℕ) → front_length ≤ i → i < text_start → get_or (laid_words n text) i 0 ≡ 0
-  unfolding laid_words
+  pub zero-word : (i : ℕ) → front_length ≤ i → i < text_start → get_or (new_image_words n text) i 0 ≡ 0
+  unfolding new_image_words
   zero-word i low high =
-      get_or_append_left fixed (packed text) 0 i (omega (arith, length-fixed))
-      ∙ get_or-append_right (laid_front n (length text)) (replicate (text_start - front_length) 0) front_length i 0 refl low
+      get_or_append_left fixed (packed_words text) 0 i (omega (arith, length-fixed))
+      ∙ get_or-append_right (image_front n (length text)) (replicate (text_start - front_length) 0) front_length i 0 refl low
       ∙ get_or-replicate (text_start - front_length) (i - front_length) 0 0 (omega arith)
 
-  pub text-word : (i : ℕ) → text_start ≤ i → get_or (laid_words n text) i 0 ≡ get_or (packed text) (i - text_start) 0
-  unfolding laid_words
-  text-word i h = get_or-append_right fixed (packed text) text_start i 0 length-fixed h
+  pub text-word : (i : ℕ) → text_start ≤ i → get_or (new_image_words n text) i 0 ≡ get_or (packed_words text) (i - text_start) 0
+  unfolding new_image_words
+  text-word i h = get_or-append_right fixed (packed_words text) text_start i 0 length-fixed h
 
-  drop-text : drop text_start (laid_words n text) ≡ packed text
-  unfolding laid_words
-  drop-text = drop_at fixed (packed text) text_start length-fixed
+  drop-text : drop text_start (new_image_words n text) ≡ packed_words text
+  unfolding new_image_words
+  drop-text = drop_at fixed (packed_words text) text_start length-fixed
 
-  applets-laid : take registry_length (drop registry_start (laid_words n text)) ≡ replicate registry_length 0
-  unfolding laid_words
+  applets-laid : take registry_length (drop registry_start (new_image_words n text)) ≡ replicate registry_length 0
+  unfolding new_image_words
   applets-laid =
       let zeros : drop registry_start fixed ≡ replicate registry_length 0 =
-      sym (drop-drop (registry_start - front_length) front_length fixed) ∙ ap (drop (registry_start - front_length)) (drop_at (laid_front n (length text)) (replicate (text_start - front_length) 0) front_length refl) ∙ drop-replicate (registry_start - front_length) (text_start - front_length) 0 in
+      sym (drop-drop (registry_start - front_length) front_length fixed) ∙ ap (drop (registry_start - front_length))
+      (drop_at (image_front n (length text)) (replicate (text_start - front_length) 0) front_length refl)
+      ∙ drop-replicate (registry_start - front_length) (text_start - front_length) 0 in
       let few : length (drop registry_start fixed) ≡ registry_length = ap length zeros ∙ length-replicate {A = ℕ} registry_length 0 in
-      ap (take registry_length) (drop-append-le registry_start fixed (packed text) (omega (arith, length-fixed)))
-      ∙ take-append-le registry_length (drop registry_start fixed) (packed text) (omega (arith, few))
+      ap (take registry_length) (drop-append-le registry_start fixed (packed_words text) (omega (arith, length-fixed)))
+      ∙ take-append-le registry_length (drop registry_start fixed) (packed_words text) (omega (arith, few))
       ∙ take_all registry_length (drop registry_start fixed) (omega (arith, few))
       ∙ zeros
 
-  packages-laid : package_addresses (laid_words n text) ≡ []
-  packages-laid = ap (λ k. take k (take most_packages (drop addresses_start (laid_words n text)))) (front-word packages_address (lit< tt))
+  packages-laid : package_addresses (new_image_words n text) ≡ []
+  packages-laid = ap (λ k. take k (take most_packages (drop addresses_start (new_image_words n text)))) (front-word packages_address (lit< tt))
 
-  base-laid : base (laid_words n text) ≡ first_free (length text)
+  base-laid : base (new_image_words n text) ≡ first_free (length text)
   base-laid = ap (λ k. text_start + (k + 1) / 2) (front-word text_length_address (lit< tt))
 
-  table-laid : drop (base (laid_words n text)) (laid_words n text) ≡ []
-  table-laid = drop_all (base (laid_words n text)) (laid_words n text) (omega (arith, length-laid, base-laid))
+  table-laid : drop (base (new_image_words n text)) (new_image_words n text) ≡ []
+  table-laid = drop_all (base (new_image_words n text)) (new_image_words n text) (omega (arith, length-laid, base-laid))
 
-  missing-laid : missing (laid_words n text) ≡ 0
-  unfolding missing
-  missing-laid = ap (lacking (sizes (package_addresses (laid_words n text))) 0 (base (laid_words n text))) table-laid
+  missing-laid : missing_words_of_image (new_image_words n text) ≡ 0
+  unfolding missing_words_of_image
+  missing-laid = ap (missing_words (sizes (package_addresses (new_image_words n text))) 0 (base (new_image_words n text))) table-laid
 
-  items-laid : map (item_entry (package_addresses (laid_words n text))) (records (laid_words n text)) ≡ []
-  items-laid = ap (λ l. map (item_entry (package_addresses (laid_words n text))) (cut (sizes (package_addresses (laid_words n text))) 0 (base (laid_words n text)) l)) table-laid
+  items-laid : map (item_entry (package_addresses (new_image_words n text))) (records (new_image_words n text)) ≡ []
+  items-laid = ap (λ l. map (item_entry (package_addresses (new_image_words n text)))
+      (records_from (sizes (package_addresses (new_image_words n text))) 0 (base (new_image_words n text)) l)) table-laid
 
-  head-laid : take 3 (laid_words n text) ≡ 0 ∷ version ∷ n ∷ []
-  unfolding laid_words
+  head-laid : take 3 (new_image_words n text) ≡ 0 ∷ version ∷ n ∷ []
+  unfolding new_image_words
   head-laid = refl
 
   module _ (bytes : IsOfBytes text) where
-    text-laid : table_text (laid_words n text) ≡ text
+    text-laid : table_text (new_image_words n text) ≡ text
     text-laid =
-        ap (λ k. unpacked k (take ((k + 1) / 2) (drop text_start (laid_words n text)))) (front-word text_length_address (lit< tt))
-        ∙ ap (λ l. unpacked (length text) (take ((length text + 1) / 2) l)) drop-text
-        ∙ ap (unpacked (length text)) (take_all ((length text + 1) / 2) (packed text) (omega (arith, length-packed text)))
-        ∙ unpacked-packed text bytes
+        ap (λ k. bytes_of_packed k (take ((k + 1) / 2) (drop text_start (new_image_words n text)))) (front-word text_length_address (lit< tt))
+        ∙ ap (λ l. bytes_of_packed (length text) (take ((length text + 1) / 2) l)) drop-text
+        ∙ ap (bytes_of_packed (length text)) (take_all ((length text + 1) / 2) (packed_words text) (omega (arith, length-packed_words text)))
+        ∙ bytes_of_packed-packed_words text bytes
 
-    read-laid : read_image (laid_words n text) ≡ laid_heap n text
+    read-laid : read_image (new_image_words n text) ≡ unsealed_heap n text
     unfolding read_image
     read-laid = λ k. record {
       head = head-laid k;
@@ -125,24 +138,26 @@ module _ (n : ℕ) (text : List ℕ) where
     -- the words of a store, of which these are the first
     module _ (rest : List ℕ) where
       abbrev all : List ℕ
-      all = laid_words n text ++ rest
+      all = new_image_words n text ++ rest
 
       within : (i : ℕ) → i < first_free (length text) → i < length all
-      within i h = omega (arith, length-append (laid_words n text) rest, length-laid)
+      within i h = omega (arith, length-append (new_image_words n text) rest, length-laid)
 
-      all-word : (i : ℕ) → i < first_free (length text) → get_or all i 0 ≡ get_or (laid_words n text) i 0
-      all-word i h = get_or_append_left (laid_words n text) rest 0 i (omega (arith, length-laid))
+      all-word : (i : ℕ) → i < first_free (length text) → get_or all i 0 ≡ get_or (new_image_words n text) i 0
+      all-word i h = get_or_append_left (new_image_words n text) rest 0 i (omega (arith, length-laid))
 
-      log-word : (i : ℕ) → i < first_free (length text) → get_or (laid_words n text) i 0 ≡ 0 → get_or (plain_of all) i 0 ≡ get_or (laid_words n text) i 0
+      log-word : (i : ℕ) → i < first_free (length text) → get_or (new_image_words n text) i 0 ≡ 0
+          → get_or (plain_of all) i 0 ≡ get_or (new_image_words n text) i 0
       log-word i h z = plain_zero all i (within i h) (all-word i h ∙ z) ∙ sym z
 
-      own-word : (i : ℕ) → i < first_free (length text) → (i ≡ count_address → ⊥) → (front_length ≤ i → addresses_start ≤ i) → get_or (plain_of all) i 0 ≡ get_or (laid_words n text) i 0
+      own-word : (i : ℕ) → i < first_free (length text) → (i ≡ count_address → ⊥) → (front_length ≤ i → addresses_start ≤ i)
+          → get_or (plain_of all) i 0 ≡ get_or (new_image_words n text) i 0
       own-word i h ne beside = plain_word all i (record { below = within i h; not_count = ne; beside = beside }) ∙ all-word i h
 
-      plain-laid_word : (i : ℕ) → i < first_free (length text) → get_or (plain_of all) i 0 ≡ get_or (laid_words n text) i 0
+      plain-laid_word : (i : ℕ) → i < first_free (length text) → get_or (plain_of all) i 0 ≡ get_or (new_image_words n text) i 0
       plain-laid_word i h = elim (cases_lt i front_length) [
         | inl front ↦ elim (cases_eq i 3) [
-          | inl e ↦ log-word i h (front-word i front ∙ ap (λ k. get_or (laid_front n (length text)) k 0) e)
+          | inl e ↦ log-word i h (front-word i front ∙ ap (λ k. get_or (image_front n (length text)) k 0) e)
           | inr ne ↦ own-word i h ne (λ high. absurd (omega arith))
         ]
         | inr behind ↦ elim (cases_lt i text_start) [
@@ -154,24 +169,29 @@ module _ (n : ℕ) (text : List ℕ) where
       top-laid : get_or (plain_of all) top_address 0 ≡ first_free (length text)
       top-laid = plain-laid_word top_address (omega arith) ∙ front-word top_address (lit< tt)
 
-      length-below : length (take (first_free (length text)) (plain_of all)) ≡ length (laid_words n text)
-      length-below = omega (arith, length-take-le (first_free (length text)) (plain_of all) (omega (arith, length-plain all, length-append (laid_words n text) rest, length-laid)), length-laid)
+      length-below : length (take (first_free (length text)) (plain_of all)) ≡ length (new_image_words n text)
+      length-below = omega (
+        arith,
+        length-take-le (first_free (length text)) (plain_of all)
+            (omega (arith, length-plain all, length-append (new_image_words n text) rest, length-laid)),
+        length-laid,
+      )
 
-      image-laid : image (plain_of all) ≡ laid_words n text
+      image-laid : image (plain_of all) ≡ new_image_words n text
       image-laid =
           ap (λ t. take t (plain_of all)) top-laid
-          ∙ ext_get_or 0 (take (first_free (length text)) (plain_of all)) (laid_words n text) length-below
+          ∙ ext_get_or 0 (take (first_free (length text)) (plain_of all)) (new_image_words n text) length-below
           (λ i h. let near : i < first_free (length text) = omega (arith, h, length-below, length-laid) in
           get_or-take (first_free (length text)) (plain_of all) i 0 near ∙ plain-laid_word i near)
 
-      pub heap_of-laid : heap_of (plain_of all) ≡ laid_heap n text
+      pub heap_of-laid : heap_of (plain_of all) ≡ unsealed_heap n text
       heap_of-laid = ap read_image image-laid ∙ read-laid
 
-      pub IsLaid-laid : IsLaid (plain_of all)
+      pub IsLaid-laid : IsWellFormed (plain_of all)
       IsLaid-laid = record {
         based = omega (arith, ap base image-laid, base-laid, top-laid);
-        fits = omega (arith, top-laid, length-plain all, length-append (laid_words n text) rest, length-laid);
-        whole = ap missing image-laid ∙ missing-laid;
+        fits = omega (arith, top-laid, length-plain all, length-append (new_image_words n text) rest, length-laid);
+        whole = ap missing_words_of_image image-laid ∙ missing-laid;
         packages = λ a le. ap (λ l. is_package (package_addresses l) a) image-laid ∙ ap (λ ps. is_package ps a) packages-laid;
       }
 

@@ -3,15 +3,15 @@ use Rattle.std.proofs.Common.{◌≡◌, ℕ, ◌+◌, ◌<◌, ◌≤◌, List,
 use Rattle.std.proofs.lemmas.Bool.{cases_eq}
 use Rattle.jc_words.specs.Layout.{packages_address, addresses_start, most_packages, text_start}
 use Rattle.jc_commit.specs.Image.{IsReadable}
-use Rattle.jc_heap.specs.Image.{IsLaid}
+use Rattle.jc_heap.specs.Image.{IsWellFormed}
 use Rattle.jc_heap.specs.Components.{record_of}
 use Rattle.jc_commit.specs.State.{State}
-use Rattle.jc_heap.specs.Heap.{heap_of, heap_view, names, read_image}
+use Rattle.jc_heap.specs.Heap.{heap_of, heap_view, is_allocated, read_image}
 use Rattle.jc_heap.proofs.RecordReading.{length_record, package_there, record_low, record_within}
 use Rattle.jc_heap.proofs.Walks.{length-packages, package_read}
 use Rattle.jc_image.proofs.Wholes.{counts_read}
 
-module _ (ws : List ℕ) (laid : IsLaid ws) where
+module _ (ws : List ℕ) (laid : IsWellFormed ws) where
   long_min : length ((heap_of ws).packages) ≡ min (get_or ws packages_address 0) most_packages
   unfolding read_image
   long_min = length-packages ws (omega (arith, laid.based)) laid.fits
@@ -30,7 +30,8 @@ module _ (ws : List ℕ) (laid : IsLaid ws) where
   table_readable k h = record { below = omega (arith, table_short, laid.based, laid.fits); not_count = λ e. omega arith; beside = λ _. omega arith }
 
 -- the record of a package that is there
-module _ (j : State) (k : ℕ) (laid : IsLaid j.plain) (below : k < length ((heap_of j.plain).packages)) (there : names (heap_of j.plain) (get_or ((heap_of j.plain).packages) k 0) ≡ true) where
+module _ (j : State) (k : ℕ) (laid : IsWellFormed j.plain) (below : k < length ((heap_of j.plain).packages))
+    (there : is_allocated (heap_of j.plain) (get_or ((heap_of j.plain).packages) k 0) ≡ true) where
   abbrev address : ℕ
   address = get_or ((heap_of j.plain).packages) k 0
 

@@ -1,13 +1,14 @@
 -- The references that the cells of a heap hold.
-use Rattle.std.proofs.Common.{◌≡◌, ℕ, zero, suc, ◌+◌, ◌/◌, ◌%◌, ◌<◌, ◌≤◌, ◌||◌, not, Bool, true, false, inl, inr, List, [], ◌∷◌, length, get_or, drop, map, refl, sym, ◌∙◌, ap, subst, arith}
+use Rattle.std.proofs.Common.{◌≡◌, ℕ, zero, suc, ◌+◌, ◌/◌, ◌%◌, ◌<◌, ◌≤◌, ◌||◌, not, Bool, true, false, inl, inr, List, [], ◌∷◌, length, get_or, drop, map}
+use Rattle.std.proofs.Common.{refl, sym, ◌∙◌, ap, subst, arith}
 use Rattle.std.proofs.lemmas.Bool.{cases_eq, cases_Bool, eq-eqb, ne_eqb, false≢true}
 use Rattle.jc_words.specs.Layout.{top_address}
 use Rattle.jc_heap.specs.declared.object.Kind.TheVariants.{Instance, BooleanArray, ByteArray, ShortArray, ReferenceArray}
-use Rattle.jc_heap.specs.Cut.{Sizes, cut}
-use Rattle.jc_heap.specs.Table.{at_or, has}
+use Rattle.jc_heap.specs.Cut.{Sizes, records_from}
+use Rattle.jc_heap.specs.Table.{entry_or, has_entry}
 use Rattle.jc_heap.specs.Object.{Item, APackage, facts_of, cells_of, kind_of}
-use Rattle.jc_heap.specs.Image.{image, base, package_addresses, is_package, sizes, item, item_entry, IsLaid}
-use Rattle.jc_heap.specs.Heap.{HeapState, heap_of, read_image, item_at}
+use Rattle.jc_heap.specs.Image.{image, base, package_addresses, is_package, sizes, item, item_entry, IsWellFormed}
+use Rattle.jc_heap.specs.Heap.{HeapState, heap_of, read_image, heap_item_at}
 use Rattle.jc_image.specs.Steps.{IsAt, item_from}
 use Rattle.jc_heap.specs.Whole.{IsReference, HoldsReferences}
 use Rattle.jc_heap.proofs.Tables.{has-map}
@@ -31,7 +32,7 @@ kind_five n e = elim (cases_eq n 2) [
 ]
 
 -- the record at an address
-module _ (h : HeapState) (ws : List ℕ) (at : ℕ) (laid : IsLaid ws) (here : IsAt ws at) (below : at < get_or ws top_address 0) where
+module _ (h : HeapState) (ws : List ℕ) (at : ℕ) (laid : IsWellFormed ws) (here : IsAt ws at) (below : at < get_or ws top_address 0) where
   -- a package has no cells
   pub holds_package : is_package (package_addresses (image ws)) at ≡ true → HoldsReferences h (item_from ws at)
   holds_package there kind i lt =
@@ -81,42 +82,45 @@ AllHold h (e ∷ es) = HoldsReferences h e.1 × AllHold h es
 -- no address twice
 abbrev Apart : List (ℕ × Item) → Type 0
 Apart [] = Unit {0}
-Apart (e ∷ es) = (has es e.0 ≡ false) × Apart es
+Apart (e ∷ es) = (has_entry es e.0 ≡ false) × Apart es
 
-apart_cut : (ps : List ℕ) (more : Sizes) (s at : ℕ) (ws : List ℕ) → Apart (map (item_entry ps) (cut more s at ws))
+apart_cut : (ps : List ℕ) (more : Sizes) (s at : ℕ) (ws : List ℕ) → Apart (map (item_entry ps) (records_from more s at ws))
 apart_cut ps more s at [] = tt
 apart_cut ps more (suc s) at (w ∷ ws) = apart_cut ps more s (suc at) ws
 apart_cut ps more zero at (w ∷ ws) = (
-  has-map (item ps) (cut more (more at (w ∷ ws)) (suc at) ws) at ∙ elim (cases_Bool (has (cut more (more at (w ∷ ws)) (suc at) ws) at)) [
-    | inl e ↦ let b : suc at + more at (w ∷ ws) ≤ at = has_behind more (more at (w ∷ ws)) (suc at) ws at e in absurd (omega arith)
-    | inr e ↦ e
-  ],
+  has-map (item ps) (records_from more (more at (w ∷ ws)) (suc at) ws) at ∙ elim (cases_Bool
+      (has_entry (records_from more (more at (w ∷ ws)) (suc at) ws) at)) [
+        | inl e ↦ let b : suc at + more at (w ∷ ws) ≤ at = has_behind more (more at (w ∷ ws)) (suc at) ws at e in absurd (omega arith)
+        | inr e ↦ e
+      ],
   apart_cut ps more (more at (w ∷ ws)) (suc at) ws,
 )
 
-all_at : (h : HeapState) (es : List (ℕ × Item)) → AllHold h es → (r : ℕ) → HoldsReferences h (at_or (APackage []) es r)
+all_at : (h : HeapState) (es : List (ℕ × Item)) → AllHold h es → (r : ℕ) → HoldsReferences h (entry_or (APackage []) es r)
 all_at h [] all r = λ kind i lt. absurd (omega arith)
 all_at h (e ∷ es) all r = elim (cases_eq e.0 r) [
   | inl is ↦ rw (eq-eqb e.0 r is) all.0
   | inr n ↦ rw (ne_eqb e.0 r n) (all_at h es all.1 r)
 ]
 
-all_from : (h : HeapState) (es : List (ℕ × Item)) → Apart es → ((r : ℕ) → has es r ≡ true → HoldsReferences h (at_or (APackage []) es r)) → AllHold h es
+all_from : (h : HeapState) (es : List (ℕ × Item)) → Apart es → ((r : ℕ) → has_entry es r ≡ true → HoldsReferences h (entry_or (APackage []) es r))
+    → AllHold h es
 all_from h [] apart all = tt
 all_from h (e ∷ es) apart all = (
-  rw (eq-eqb e.0 e.0 refl) at (all e.0 (ap (λ b. b || has es e.0) (eq-eqb e.0 e.0 refl))),
+  rw (eq-eqb e.0 e.0 refl) at (all e.0 (ap (λ b. b || has_entry es e.0) (eq-eqb e.0 e.0 refl))),
   all_from h es apart.1 (λ r there.
-      let n : e.0 ≡ r → ⊥ = λ is. false≢true (sym apart.0 ∙ ap (has es) is ∙ there) in
-      rw (ne_eqb e.0 r n) at (all r (ap (λ b. b || has es r) (ne_eqb e.0 r n) ∙ there))),
+      let n : e.0 ≡ r → ⊥ = λ is. false≢true (sym apart.0 ∙ ap (has_entry es) is ∙ there) in
+      rw (ne_eqb e.0 r n) at (all r (ap (λ b. b || has_entry es r) (ne_eqb e.0 r n) ∙ there))),
 )
 
-pub all_of_list : (h : HeapState) → AllHold h h.items → (r : ℕ) → HoldsReferences h (item_at h r)
-unfolding item_at
+pub all_of_list : (h : HeapState) → AllHold h h.items → (r : ℕ) → HoldsReferences h (heap_item_at h r)
+unfolding heap_item_at
 all_of_list h all r = all_at h h.items all r
 
-pub list_of_all : (ws : List ℕ) → ((r : ℕ) → HoldsReferences (heap_of ws) (item_at (heap_of ws) r)) → AllHold (heap_of ws) ((heap_of ws).items)
-unfolding item_at read_image
-list_of_all ws all = all_from (heap_of ws) ((heap_of ws).items) (apart_cut (package_addresses (image ws)) (sizes (package_addresses (image ws))) 0 (base (image ws)) (drop (base (image ws)) (image ws))) (λ r there. all r)
+pub list_of_all : (ws : List ℕ) → ((r : ℕ) → HoldsReferences (heap_of ws) (heap_item_at (heap_of ws) r)) → AllHold (heap_of ws) ((heap_of ws).items)
+unfolding heap_item_at read_image
+list_of_all ws all = all_from (heap_of ws) ((heap_of ws).items) (apart_cut (package_addresses (image ws)) (sizes (package_addresses (image ws))) 0
+    (base (image ws)) (drop (base (image ws)) (image ws))) (λ r there. all r)
 
 pub not_true : (b : Bool) → not b ≡ true → b ≡ false
 not_true true e = absurd (false≢true e)

@@ -1,11 +1,12 @@
 -- One step over the records of a heap's words.
-use Rattle.std.proofs.Common.{◌≡◌, ℕ, ◌+◌, ◌-◌, add-zero, ◌/◌, ◌<◌, ◌≤◌, true, false, inl, inr, List, [], ◌∷◌, length, get_or, set, take, drop, map, refl, sym, ◌∙◌, ap, arith, if◌then◌else◌, ◌==◌}
+use Rattle.std.proofs.Common.{◌≡◌, ℕ, ◌+◌, ◌-◌, add-zero, ◌/◌, ◌<◌, ◌≤◌, true, false, inl, inr, List, [], ◌∷◌, length, get_or, set, take, drop, map, refl, sym}
+use Rattle.std.proofs.Common.{◌∙◌, ap, arith, if◌then◌else◌, ◌==◌}
 use Rattle.std.proofs.lemmas.List.{length-drop, length-take, length-take-le, get_or-take, drop_all}
 use Rattle.std.proofs.lemmas.Bool.{cases_Bool, cases_eq, eq-eqb, ne_eqb}
 use Rattle.jc_words.specs.Layout.{top_address, text_length_address, text_start}
-use Rattle.jc_heap.specs.Cut.{cut, lacking}
+use Rattle.jc_heap.specs.Cut.{records_from, missing_words}
 use Rattle.jc_heap.specs.Object.{AnObject, APackage, object_of, facts_of, cells_of, is_header, payload}
-use Rattle.jc_heap.specs.Image.{image, base, package_addresses, is_package, sizes, item_entry, IsLaid}
+use Rattle.jc_heap.specs.Image.{image, base, package_addresses, is_package, sizes, item_entry, IsWellFormed}
 use Rattle.jc_heap.specs.Heap.{heap_of, read_image}
 use Rattle.jc_image.specs.Steps.{IsAt, items_from, size_from, item_from}
 use Rattle.jc_heap.proofs.Walks.{word_from, word_at}
@@ -14,25 +15,26 @@ use Rattle.jc_heap.proofs.Reading.{said, said-object_of, cells-object_of}
 use Rattle.jc_heap.proofs.Following.{base_is, whole_first, step_fits, step_whole, item_here}
 
 -- the first record
-pub first_at : (ws : List ℕ) (at : ℕ) → IsLaid ws → at ≡ text_start + (get_or ws text_length_address 0 + 1) / 2 → IsAt ws at
+pub first_at : (ws : List ℕ) (at : ℕ) → IsWellFormed ws → at ≡ text_start + (get_or ws text_length_address 0 + 1) / 2 → IsAt ws at
 first_at ws at laid e =
     let is : base (image ws) ≡ at = base_is ws laid ∙ sym e in
     record {
       low = omega (arith, e);
       high = omega (arith, is, laid.based);
-      whole = ap (λ a. lacking (sizes (package_addresses (image ws))) 0 a (drop a (image ws))) (sym is) ∙ whole_first ws laid;
+      whole = ap (λ a. missing_words (sizes (package_addresses (image ws))) 0 a (drop a (image ws))) (sym is) ∙ whole_first ws laid;
     }
 
-pub first_items : (ws : List ℕ) (at : ℕ) → IsLaid ws → at ≡ text_start + (get_or ws text_length_address 0 + 1) / 2 → (heap_of ws).items ≡ items_from ws at
+pub first_items : (ws : List ℕ) (at : ℕ) → IsWellFormed ws → at ≡ text_start + (get_or ws text_length_address 0 + 1) / 2 → (heap_of ws).items ≡ items_from ws at
 unfolding read_image items_from
 first_items ws at laid e =
     let is : base (image ws) ≡ at = base_is ws laid ∙ sym e in
-    ap (λ a. map (item_entry (package_addresses (image ws))) (cut (sizes (package_addresses (image ws))) 0 a (drop a (image ws)))) is
+    ap (λ a. map (item_entry (package_addresses (image ws))) (records_from (sizes (package_addresses (image ws))) 0 a (drop a (image ws)))) is
 
 -- past the last record there is nothing
 pub nothing_from : (ws : List ℕ) (at : ℕ) → get_or ws top_address 0 ≤ at → items_from ws at ≡ []
 unfolding items_from
-nothing_from ws at h = ap (λ l. map (item_entry (package_addresses (image ws))) (cut (sizes (package_addresses (image ws))) 0 at l)) (drop_all at (image ws) (omega (arith, length-take (get_or ws top_address 0) ws)))
+nothing_from ws at h = ap (λ l. map (item_entry (package_addresses (image ws))) (records_from (sizes (package_addresses (image ws))) 0 at l))
+    (drop_all at (image ws) (omega (arith, length-take (get_or ws top_address 0) ws)))
 
 no_cells : (rec : List ℕ) → (get_or rec 0 0 / 256 ≡ 0 → ⊥) → length ((object_of rec).cells) ≡ 0
 no_cells [] n = refl
@@ -41,7 +43,7 @@ no_cells (a ∷ b ∷ []) n = refl
 no_cells (a ∷ b ∷ c ∷ []) n = refl
 no_cells (a ∷ b ∷ c ∷ d ∷ rest) n = rw (ne_eqb (a / 256) 0 n) refl
 
-module _ (ws : List ℕ) (at : ℕ) (laid : IsLaid ws) (here : IsAt ws at) (below : at < get_or ws top_address 0) where
+module _ (ws : List ℕ) (at : ℕ) (laid : IsWellFormed ws) (here : IsAt ws at) (below : at < get_or ws top_address 0) where
   pub size_is : size_from ws at ≡ sizes (package_addresses (image ws)) at (drop at (image ws)) + 1
   unfolding size_from
   size_is = refl
@@ -75,7 +77,8 @@ module _ (ws : List ℕ) (at : ℕ) (laid : IsLaid ws) (here : IsAt ws at) (belo
 
   module _ (small : length ws < 65536) (no : is_package (package_addresses (image ws)) at ≡ false) where
     object_size : size_from ws at ≡ 4 + payload (get_or (drop at (image ws)) 0 0) (get_or (drop at (image ws)) 3 0)
-    object_size = size_is ∙ ap (λ b. (if b then get_or (drop at (image ws)) 0 0 - 1 else 3 + payload (get_or (drop at (image ws)) 0 0) (get_or (drop at (image ws)) 3 0)) + 1) no ∙ (omega arith)
+    object_size = size_is ∙ ap (λ b. (if b then get_or (drop at (image ws)) 0 0 - 1 else 3
+        + payload (get_or (drop at (image ws)) 0 0) (get_or (drop at (image ws)) 3 0)) + 1) no ∙ (omega arith)
 
     first_word : get_or (drop at (image ws)) 0 0 ≡ get_or ws at 0
     first_word = word_at ws at below
@@ -85,7 +88,8 @@ module _ (ws : List ℕ) (at : ℕ) (laid : IsLaid ws) (here : IsAt ws at) (belo
       | inl e ↦ e
       | inr e ↦
           let none : is_header (get_or (drop at (image ws)) 0 0) ≡ false = ap is_header first_word ∙ e in
-          let long : size_from ws at ≡ 4 + 65536 = object_size ∙ ap (λ b. 4 + (if b then (if get_or (drop at (image ws)) 0 0 / 256 == 0 then get_or (drop at (image ws)) 3 0 else 1) else 65536)) none in
+          let long : size_from ws at ≡ 4 + 65536 = object_size ∙ ap (λ b. 4 + (if b then
+          (if get_or (drop at (image ws)) 0 0 / 256 == 0 then get_or (drop at (image ws)) 3 0 else 1) else 65536)) none in
           absurd (omega (arith, long, size_fits, laid.fits))
     ]
 
@@ -113,21 +117,25 @@ module _ (ws : List ℕ) (at : ℕ) (laid : IsLaid ws) (here : IsAt ws at) (belo
     unfolding item_from
     object_here = ap (λ b. if b then APackage rec else AnObject (object_of rec)) no
 
-    last_word : said (get_or rec 0 0) (get_or rec 1 0) (get_or rec 2 0) (get_or rec 3 0) (get_or rec 4 0) ≡ said (get_or rec 0 0) (get_or rec 1 0) (get_or rec 2 0) (get_or rec 3 0) (get_or ws (at + 4) 0)
+    last_word : said (get_or rec 0 0) (get_or rec 1 0) (get_or rec 2 0) (get_or rec 3 0) (get_or rec 4 0)
+        ≡ said (get_or rec 0 0) (get_or rec 1 0) (get_or rec 2 0) (get_or rec 3 0) (get_or ws (at + 4) 0)
     last_word = elim (cases_eq (get_or ws at 0 / 256) 0) [
       | inl e ↦ rw (eq-eqb (get_or rec 0 0 / 256) 0 (ap (λ w. w / 256) zeroth ∙ e)) refl
-      | inr n ↦ ap (said (get_or rec 0 0) (get_or rec 1 0) (get_or rec 2 0) (get_or rec 3 0)) (rec_word 4 (omega (arith, object_words ∙ ap (λ b. 4 + (if b then get_or ws (at + 3) 0 else 1)) (ne_eqb (get_or ws at 0 / 256) 0 n))))
+      | inr n ↦ ap (said (get_or rec 0 0) (get_or rec 1 0) (get_or rec 2 0) (get_or rec 3 0))
+          (rec_word 4 (omega (arith, object_words ∙ ap (λ b. 4 + (if b then get_or ws (at + 3) 0 else 1)) (ne_eqb (get_or ws at 0 / 256) 0 n))))
     ]
       where
         zeroth : get_or rec 0 0 ≡ get_or ws at 0
         zeroth = rec_word 0 (omega (arith, four)) ∙ ap (λ k. get_or ws k 0) (add-zero at)
 
     -- what its header says
-    pub facts_here : facts_of (item_from ws at) ≡ said (get_or ws at 0) (get_or ws (at + 1) 0) (get_or ws (at + 2) 0) (get_or ws (at + 3) 0) (get_or ws (at + 4) 0)
+    pub facts_here : facts_of (item_from ws at) ≡ said (get_or ws at 0) (get_or ws (at + 1) 0) (get_or ws (at + 2) 0) (get_or ws (at + 3) 0)
+        (get_or ws (at + 4) 0)
     facts_here =
         let zeroth : get_or rec 0 0 ≡ get_or ws at 0 = rec_word 0 (omega (arith, four)) ∙ ap (λ k. get_or ws k 0) (add-zero at) in
         ap facts_of object_here ∙ said-object_of rec (omega (arith, rec_long, four)) ∙ last_word
-        ∙ (λ k. said (zeroth k) (rec_word 1 (omega (arith, four)) k) (rec_word 2 (omega (arith, four)) k) (rec_word 3 (omega (arith, four)) k) (get_or ws (at + 4) 0))
+        ∙ (λ k. said (zeroth k) (rec_word 1 (omega (arith, four)) k) (rec_word 2 (omega (arith, four)) k) (rec_word 3 (omega (arith, four)) k)
+        (get_or ws (at + 4) 0))
 
     -- a transient object's record has no cells
     pub transient_cells : (get_or ws at 0 / 256 ≡ 0 → ⊥) → length (cells_of (item_from ws at)) ≡ 0
@@ -160,8 +168,13 @@ module _ (ws : List ℕ) (at : ℕ) (laid : IsLaid ws) (here : IsAt ws at) (belo
         ∙ cells-object_of rec own_size words_small (ap (λ w. w / 256) zeroth_word ∙ persistent)
         ∙ rec_word 3 (omega (arith, four small no))
 
-    pub cell_here : (i : ℕ) → i < length (cells_of (item_from ws at)) → (at + (4 + i) < get_or ws top_address 0) × (get_or (cells_of (item_from ws at)) i 0 ≡ get_or ws (at + (4 + i)) 0)
+    pub cell_here : (i : ℕ) → i < length (cells_of (item_from ws at)) → (at + (4 + i) < get_or ws top_address 0)
+        × (get_or (cells_of (item_from ws at)) i 0 ≡ get_or ws (at + (4 + i)) 0)
     cell_here i h =
         let h' : i < length ((object_of rec).cells) = omega (arith, h, ap (λ t. length (cells_of t)) (object_here small no)) in
-        let o : (4 + i < length rec) × (get_or ((object_of rec).cells) i 0 ≡ get_or rec (4 + i) 0) × (object_of (set rec (4 + i) 0) ≡ record (object_of rec) { cells = set ((object_of rec).cells) i 0 }) = object_cell rec i 0 h' in
-        (omega (arith, o.0, rec_long, size_fits), ap (λ t. get_or (cells_of t) i 0) (object_here small no) ∙ o.1 ∙ rec_word (4 + i) (omega (arith, o.0, rec_long)))
+        let o : (4 + i < length rec) × (get_or ((object_of rec).cells) i 0 ≡ get_or rec (4 + i) 0)
+        × (object_of (set rec (4 + i) 0) ≡ record (object_of rec) { cells = set ((object_of rec).cells) i 0 }) = object_cell rec i 0 h' in (
+          omega (arith, o.0, rec_long, size_fits),
+          ap (λ t. get_or (cells_of t) i 0) (object_here small no) ∙ o.1
+              ∙ rec_word (4 + i) (omega (arith, o.0, rec_long)),
+        )

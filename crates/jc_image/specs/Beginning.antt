@@ -4,10 +4,10 @@ use Rattle.jc_heap.specs.declared.object.Facts.{Facts}
 use Rattle.jc_heap.specs.Heap.{HeapState, facts, next_object}
 
 -- behind an address stand objects with these headers, one after another
-abbrev pub Follow : HeapState → ℕ → List Facts → Type 0
-Follow h r [] = Unit {0}
-Follow h r (f ∷ more) = (q : ℕ) × (next_object h r ≡ Some q) × (facts h q ≡ f) × Follow h q more
+abbrev pub HeadersFollow : HeapState → ℕ → List Facts → Type 0
+HeadersFollow h r [] = Unit {0}
+HeadersFollow h r (f ∷ more) = (q : ℕ) × (next_object h r ≡ Some q) × (facts h q ≡ f) × HeadersFollow h q more
 
 -- the first objects of the heap have these headers
-unfoldable pub BeginsWith : HeapState → List Facts → Type 0
-BeginsWith h first = Follow h 0 first
+unfoldable pub HeapBeginsWith : HeapState → List Facts → Type 0
+HeapBeginsWith h first = HeadersFollow h 0 first

@@ -2,3 +2,5 @@ pub mod Laying
 pub mod Beginning
 pub mod Steps
 pub mod Opening
+pub mod Listed
+pub mod Listing

@@ -1,7 +1,7 @@
 -- Steps over the records of a heap's words.
 use Rattle.std.specs.Prelude.{ℕ, ◌+◌, ◌≡◌, ◌≤◌, List, map, take, drop, slice_index}
 use Rattle.jc_words.specs.Layout.{top_address, text_start}
-use Rattle.jc_heap.specs.Cut.{cut, lacking}
+use Rattle.jc_heap.specs.Cut.{records_from, missing_words}
 use Rattle.jc_heap.specs.Object.{Item}
 use Rattle.jc_heap.specs.Image.{image, package_addresses, sizes, item, item_entry}
 
@@ -9,11 +9,11 @@ use Rattle.jc_heap.specs.Image.{image, package_addresses, sizes, item, item_entr
 pub record IsAt (words : List ℕ) (at : ℕ) : Type 0 where
   pub low : text_start ≤ at
   pub high : at ≤ slice_index words top_address
-  pub whole : lacking (sizes (package_addresses (image words))) 0 at (drop at (image words)) ≡ 0
+  pub whole : missing_words (sizes (package_addresses (image words))) 0 at (drop at (image words)) ≡ 0
 
 -- the items from an address on
 unfoldable pub items_from : List ℕ → ℕ → List (ℕ × Item)
-items_from words at = map (item_entry (package_addresses (image words))) (cut (sizes (package_addresses (image words))) 0 at (drop at (image words)))
+items_from words at = map (item_entry (package_addresses (image words))) (records_from (sizes (package_addresses (image words))) 0 at (drop at (image words)))
 
 -- how many words the record at an address has
 unfoldable pub size_from : List ℕ → ℕ → ℕ

@@ -3,10 +3,10 @@ ghost use Rattle.std.specs.Prelude.{◌≡◌, ◌<◌, ◌≤◌, ◌+◌, ◌�
 ghost use Rattle.jc_words.specs.Layout.{top_address};
 ghost use Rattle.jc_transient.specs.State.{area_size};
 ghost use Rattle.jc_heap.specs.Object.{event_number};
-ghost use Rattle.jc_heap.specs.Image.{IsLaid};
+ghost use Rattle.jc_heap.specs.Image.{IsWellFormed};
 ghost use Rattle.jc_heap.specs.Heap.{heap_of};
 ghost use Rattle.jc_image.specs.Steps.{IsAt, item_from};
-ghost use Rattle.jc_heap.specs.Whole.{lies_in, cells_in, FitsAt, IsFilled};
+ghost use Rattle.jc_heap.specs.Whole.{lies_in, cells_in, FitsAt, IsFilledArea};
 
 use crate::steps::{end_of_record, first_record};
 use jc_commit::Journal;
@@ -28,7 +28,7 @@ fn number_of(event: ClearEvent) -> u16
 
 // The record at an address is an object's whose cells lie in the event's area.
 fn is_in_area<S: WordStore>(journal: &Journal<S>, at: u16, event: ClearEvent) -> bool
-    requires laid { IsLaid journal.now.plain }
+    requires laid { IsWellFormed journal.now.plain }
     requires small { length journal.now.plain < 65536 }
     requires begins { IsAt journal.now.plain at }
     requires inside { at < slice_index journal.now.plain top_address }
@@ -48,13 +48,14 @@ fn place_behind<S: WordStore>(
     event: ClearEvent,
     place: u16,
 ) -> Option<u16>
-    requires laid { IsLaid journal.now.plain }
+    requires laid { IsWellFormed journal.now.plain }
     requires small { length journal.now.plain < 65536 }
     requires begins { IsAt journal.now.plain at }
     requires inside { at < slice_index journal.now.plain top_address }
     requires room { place ≤ area_size }
     ensures fits { IfSome result (λ _. FitsAt event place (item_from journal.now.plain at)) }
-    ensures next { IfSome result (λ next. next ≡ place + cells_in event (item_from journal.now.plain at)) }
+    ensures next { IfSome result (λ next. next ≡ place
+        + cells_in event (item_from journal.now.plain at)) }
     ensures none { IfNone result (FitsAt event place (item_from journal.now.plain at) → ⊥) }
 {
     if !is_in_area(journal, at, event) {
@@ -73,9 +74,9 @@ fn place_behind<S: WordStore>(
 
 // The event's objects have the cells of its area.
 pub(crate) fn is_filled<S: WordStore>(journal: &Journal<S>, event: ClearEvent) -> bool
-    requires laid { IsLaid journal.now.plain }
+    requires laid { IsWellFormed journal.now.plain }
     requires small { length journal.now.plain < 65536 }
-    ensures { IsTrue result ↔ IsFilled (heap_of journal.now.plain) event }
+    ensures { IsTrue result ↔ IsFilledArea (heap_of journal.now.plain) event }
 {
     let top = journal.read(TOP);
     let mut at = first_record(journal);

@@ -1,8 +1,8 @@
 //! The objects with which a heap begins.
 ghost use Rattle.std.specs.Prelude.{◌≡◌, ◌<◌, ◌↔◌, length, IsTrue};
-ghost use Rattle.jc_heap.specs.Image.{IsLaid};
+ghost use Rattle.jc_heap.specs.Image.{IsWellFormed};
 ghost use Rattle.jc_heap.specs.Heap.{heap_of, IsObject};
-ghost use Rattle.jc_image.specs.Beginning.{BeginsWith, Follow};
+ghost use Rattle.jc_image.specs.Beginning.{HeapBeginsWith, HeadersFollow};
 
 use jc_commit::Journal;
 use jc_heap::Facts;
@@ -12,10 +12,10 @@ use jc_words::WordStore;
 
 // Whether objects with these headers stand behind an object, one after another.
 fn follows<S: WordStore>(journal: &Journal<S>, from: Ref, expected: &[Facts]) -> bool
-    requires laid { IsLaid journal.now.plain }
+    requires laid { IsWellFormed journal.now.plain }
     requires small { length journal.now.plain < 65536 }
     requires there { (from ≡ 0 → ⊥) → IsObject (heap_of journal.now.plain) from }
-    ensures { IsTrue result ↔ Follow (heap_of journal.now.plain) from expected.now }
+    ensures { IsTrue result ↔ HeadersFollow (heap_of journal.now.plain) from expected.now }
 {
     let Some((first, more)) = expected.split_first() else {
         return true;
@@ -31,9 +31,9 @@ fn follows<S: WordStore>(journal: &Journal<S>, from: Ref, expected: &[Facts]) ->
 
 // Whether the first objects have these headers.
 pub(crate) fn begins_with<S: WordStore>(journal: &Journal<S>, first: &[Facts]) -> bool
-    requires laid { IsLaid journal.now.plain }
+    requires laid { IsWellFormed journal.now.plain }
     requires small { length journal.now.plain < 65536 }
-    ensures { IsTrue result ↔ BeginsWith (heap_of journal.now.plain) first.now }
+    ensures { IsTrue result ↔ HeapBeginsWith (heap_of journal.now.plain) first.now }
 {
     follows(journal, Ref::null(), first)
 }

@@ -1,9 +1,11 @@
 //! Making an image: its words without objects, and at the end the magic word.
-ghost use Rattle.std.specs.Prelude.{◌≡◌, ◌<◌, ◌≤◌, ◌+◌, ◌-◌, ◌*◌, ◌/◌, ◌++◌, ◌⊎◌, true, false, drop, length, slice_index, take, is_ok, if◌then◌else◌, OnOk, OnErr, IfOk, IfErr};
-ghost use Rattle.jc_words.specs.Count.{raised};
+ghost use Rattle.std.specs.Prelude.{◌≡◌, ◌<◌, ◌≤◌, ◌+◌, ◌-◌, ◌*◌, ◌/◌, ◌++◌, ◌⊎◌, true, false, drop, length, slice_index, take, is_ok, if◌then◌else◌, OnOk};
+ghost use Rattle.std.specs.Prelude.{OnErr, IfOk, IfErr};
+ghost use Rattle.jc_words.specs.Count.{saturating_count};
 ghost use Rattle.jc_words.specs.Layout.{magic_address, text_start};
 ghost use Rattle.jc_heap.specs.Stored.{HoldsHeap};
-ghost use Rattle.jc_image.specs.Laying.{IsOfBytes, IsPartlyLaid, first_free, laid_front, laid_to, laid_view, laid_words, sealed_view, unsealed};
+ghost use Rattle.jc_image.specs.Laying.{IsOfBytes, IsPartlyWritten, first_free, image_front, written_image_prefix, unsealed_view, new_image_words, sealed_view};
+ghost use Rattle.jc_image.specs.Laying.{heap_after_refused_seal};
 
 use jc_commit::Journal;
 use jc_heap::Heap;
@@ -21,7 +23,7 @@ pub fn first_free(text: u16) -> u32
 // The first words of an image without objects, all but the magic word.
 fn front_of(size: u16, text: u16) -> [u16; FRONT_LENGTH]
     requires { first_free text < 65536 }
-    ensures { result ≡ laid_front size text }
+    ensures { result ≡ image_front size text }
 {
     let top = first_free(text) as u16;
     [
@@ -45,12 +47,13 @@ fn front_of(size: u16, text: u16) -> [u16; FRONT_LENGTH]
 }
 
 // A word of an image of n words without objects.
-fn laid_word(n: u16, text: &[u8], i: u16) -> u16
+fn new_image_word(n: u16, text: &[u8], i: u16) -> u16
     requires short { length text.now < 65536 }
     requires fits { first_free (length text.now) ≤ n }
     requires low { i < first_free (length text.now) }
-    ensures word { result ≡ slice_index (laid_words n text.now) i }
-    ensures bytes { text_start ≤ i → (slice_index text.now (2 * (i - text_start)) < 256) × (slice_index text.now (2 * (i - text_start) + 1) < 256) }
+    ensures word { result ≡ slice_index (new_image_words n text.now) i }
+    ensures bytes { text_start ≤ i → (slice_index text.now (2 * (i - text_start)) < 256)
+        × (slice_index text.now (2 * (i - text_start) + 1) < 256) }
 {
     if (i as usize) < FRONT_LENGTH {
         return front_of(n, text.len() as u16)[i as usize];
@@ -65,18 +68,21 @@ fn laid_word(n: u16, text: &[u8], i: u16) -> u16
 fn write_image<S: WordStore>(store: &mut S, text: &[u8]) -> Result<(), StoreDown>
     requires short { length text.now < 65536 }
     requires fits { first_free (length text.now) ≤ length (S.words store.old) }
-    ensures done { OnOk result (S.words store.new ≡ laid_to (first_free (length text.now)) (length (S.words store.old)) text.now (S.words store.old)) }
-    ensures part { IsPartlyLaid text.now (S.words store.old) (S.words store.new) }
+    ensures done { OnOk result (S.words store.new ≡ written_image_prefix
+        (first_free (length text.now)) (length (S.words store.old)) text.now (S.words store.old)) }
+    ensures part { IsPartlyWritten text.now (S.words store.old) (S.words store.new) }
     ensures size { length (S.words store.new) ≡ length (S.words store.old) }
     ensures bytes { OnOk result (IsOfBytes text.now) }
     ensures up { OnOk result (S.down store.new ≡ false) }
     ensures down { OnErr result (S.down store.new ≡ true) }
-    ensures passed { OnOk result (S.passed store.new ≡ raised (S.passed store.old) (first_free (length text.now))) }
-    ensures refused { S.refused store.new ≡ (if is_ok result then S.refused store.old else raised (S.refused store.old) 1) }
+    ensures passed { OnOk result (S.passed store.new
+        ≡ saturating_count (S.passed store.old) (first_free (length text.now))) }
+    ensures refused { S.refused store.new ≡ (if is_ok result then S.refused store.old else
+        saturating_count (S.refused store.old) 1) }
 {
     let n = store.size();
     for i in 0..first_free(text.len() as u16) as u16 {
-        store.write(i, laid_word(n, text, i))?;
+        store.write(i, new_image_word(n, text, i))?;
     }
     Ok(())
 }
@@ -86,12 +92,14 @@ fn write_image<S: WordStore>(store: &mut S, text: &[u8]) -> Result<(), StoreDown
 pub fn lay<S: WordStore>(mut store: S, text: &[u8]) -> Result<Heap<S>, S>
     requires short { length text.now < 65536 }
     requires fits { first_free (length text.now) ≤ length (S.words store) }
-    ensures done { IfOk result (λ h. h ≡ laid_view (length (S.words store)) text.now (raised (S.passed store) (first_free (length text.now))) (S.refused store)) }
+    ensures done { IfOk result (λ h. h ≡ unsealed_view (length (S.words store)) text.now
+        (saturating_count (S.passed store) (first_free (length text.now))) (S.refused store)) }
     ensures down { IfErr result (λ s. S.down s ≡ true) }
-    ensures refused { IfErr result (λ s. S.refused s ≡ raised (S.refused store) 1) }
-    ensures part { IfErr result (λ s. IsPartlyLaid text.now (S.words store) (S.words s)) }
+    ensures refused { IfErr result (λ s. S.refused s ≡ saturating_count (S.refused store) 1) }
+    ensures part { IfErr result (λ s. IsPartlyWritten text.now (S.words store) (S.words s)) }
     ensures size { IfErr result (λ s. length (S.words s) ≡ length (S.words store)) }
-    ensures unmarked { IfErr result (λ s. (S.words s ≡ S.words store) ⊎ (slice_index (S.words s) magic_address ≡ 0)) }
+    ensures unmarked { IfErr result (λ s. (S.words s ≡ S.words store)
+        ⊎ (slice_index (S.words s) magic_address ≡ 0)) }
 {
     let size = store.size();
     let Ok(()) = write_image(&mut store, text) else {
@@ -107,8 +115,10 @@ pub fn lay<S: WordStore>(mut store: S, text: &[u8]) -> Result<Heap<S>, S>
 pub fn seal<S: WordStore>(heap: Heap<S>) -> Result<S, S>
     requires up { heap.down ≡ false }
     requires outside { heap.begun ≡ false }
-    ensures sealed { IfOk result (λ s. HoldsHeap (S.words s) (S.down s) (S.passed s) (S.refused s) (sealed_view heap)) }
-    ensures stopped { IfErr result (λ s. HoldsHeap (S.words s) (S.down s) (S.passed s) (S.refused s) (unsealed heap)) }
+    ensures sealed { IfOk result (λ s. HoldsHeap (S.words s) (S.down s) (S.passed s) (S.refused s)
+        (sealed_view heap)) }
+    ensures stopped { IfErr result (λ s. HoldsHeap (S.words s) (S.down s) (S.passed s) (S.refused s)
+        (heap_after_refused_seal heap)) }
     ensures settled { heap.durable ≡ heap.now }
 {
     let mut journal = heap.into_journal();

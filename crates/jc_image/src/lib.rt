@@ -1,15 +1,18 @@
 //! Whole images: laying and sealing one, opening one, and whether its heap is whole.
+//! The packages and the applets that an image lists, read from its words as they stand.
 #![tactic(auto)]
 
 mod areas;
 mod beginning;
+mod consistency;
 mod laying;
+mod listing;
 mod marks;
 mod opening;
 mod package_table;
 mod references;
 mod steps;
-mod whole;
 
 pub use laying::{first_free, lay, seal};
+pub use listing::{AppletName, PackageName, applet_at, package_at};
 pub use opening::OpenImage;

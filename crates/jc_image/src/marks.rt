@@ -1,7 +1,7 @@
 //! The addresses at which the records of a heap begin.
 ghost use Rattle.std.specs.Prelude.{ℕ, ◌≡◌, ◌<◌, false, length, slice_index_or};
-ghost use Rattle.jc_heap.specs.Image.{IsLaid};
-ghost use Rattle.jc_heap.specs.Heap.{heap_of, names};
+ghost use Rattle.jc_heap.specs.Image.{IsWellFormed};
+ghost use Rattle.jc_heap.specs.Heap.{heap_of, is_allocated};
 
 use crate::steps::{end_of_record, first_record};
 use jc_commit::Journal;
@@ -22,9 +22,9 @@ fn no_marks() -> [bool; ALL]
 
 // For each address, whether something stands there.
 pub(crate) fn marks_of<S: WordStore>(journal: &Journal<S>) -> [bool; ALL]
-    requires laid { IsLaid journal.now.plain }
+    requires laid { IsWellFormed journal.now.plain }
     requires small { length journal.now.plain < 65536 }
-    ensures { (r : ℕ) → slice_index_or result r false ≡ names (heap_of journal.now.plain) r }
+    ensures { (r : ℕ) → slice_index_or result r false ≡ is_allocated (heap_of journal.now.plain) r }
 {
     let top = journal.read(TOP);
     let mut at = first_record(journal);

@@ -1,19 +1,19 @@
 //! Opening an image, and whether its heap is whole.
 ghost use Rattle.std.specs.Prelude.{ℕ, ◌+◌, ◌/◌, ◌≡◌, ◌<◌, ◌≤◌, ◌^◌, ◌↔◌, IsTrue, IsOk, IfOk, IfErr, OnOk, true, false, length, slice_index, take};
-ghost use Rattle.jc_words.specs.Count.{raised};
+ghost use Rattle.jc_words.specs.Count.{saturating_count};
 ghost use Rattle.jc_words.specs.Layout.{top_address, text_length_address, text_start};
 ghost use Rattle.jc_commit.specs.Image.{IsGoodLog, StillRecovers};
 ghost use Rattle.jc_commit.specs.Replay.{IsPartOfReplay};
-ghost use Rattle.jc_commit.specs.State.{opened};
-ghost use Rattle.jc_heap.specs.Cut.{lacking};
-ghost use Rattle.jc_heap.specs.Image.{text_byte, table_text, IsLaid, image, base, missing, package_addresses, is_package, sizes};
+ghost use Rattle.jc_commit.specs.State.{recovered_journal};
+ghost use Rattle.jc_heap.specs.Cut.{missing_words};
+ghost use Rattle.jc_heap.specs.Image.{text_byte, table_text, IsWellFormed, image, base, missing_words_of_image, package_addresses, is_package, sizes};
 ghost use Rattle.jc_heap.specs.Heap.{heap_view, heap_of};
-ghost use Rattle.jc_heap.specs.Whole.{IsWhole};
-ghost use Rattle.jc_image.specs.Beginning.{BeginsWith};
+ghost use Rattle.jc_heap.specs.Whole.{IsConsistent};
+ghost use Rattle.jc_image.specs.Beginning.{HeapBeginsWith};
 ghost use Rattle.jc_image.specs.Opening.{HoldsImage};
 
 use crate::beginning::begins_with;
-use crate::whole::words_agree;
+use crate::consistency::is_consistent;
 use jc_commit::{Journal, OpenRefusal};
 use jc_heap::walk::record_size;
 use jc_heap::{Facts, Heap};
@@ -40,11 +40,11 @@ impl<S: WordStore> Model for OpenImage<S> {
 }
 
 // The records end where the table ends.
-fn is_whole<S: WordStore>(journal: &Journal<S>) -> bool
+fn records_fit<S: WordStore>(journal: &Journal<S>) -> bool
     requires wide { base (image journal.now.plain) ≤ slice_index journal.now.plain top_address }
     requires fits { slice_index journal.now.plain top_address ≤ length journal.now.plain }
     requires small { length journal.now.plain < 65536 }
-    ensures { IsTrue result ↔ (missing (image journal.now.plain) ≡ 0) }
+    ensures { IsTrue result ↔ (missing_words_of_image (image journal.now.plain) ≡ 0) }
 {
     let top = u32::from(journal.read(TOP));
     let mut at = TEXT_START + (u32::from(journal.read(TEXT_LENGTH)) + 1) / 2;
@@ -63,7 +63,8 @@ fn packages_below<S: WordStore>(journal: &Journal<S>, top: u16) -> bool
     requires wide { text_start ≤ slice_index journal.now.plain top_address }
     requires fits { slice_index journal.now.plain top_address ≤ length journal.now.plain }
     requires small { length journal.now.plain < 65536 }
-    ensures { IsTrue result ↔ ((a : ℕ) → top ≤ a → is_package (package_addresses (image journal.now.plain)) a ≡ false) }
+    ensures { IsTrue result ↔ ((a : ℕ) → top ≤ a → is_package
+        (package_addresses (image journal.now.plain)) a ≡ false) }
 {
     let count = journal.read(PACKAGES).min(MOST_PACKAGES);
     for k in 0..count {
@@ -75,10 +76,10 @@ fn packages_below<S: WordStore>(journal: &Journal<S>, top: u16) -> bool
 }
 
 // The heap's records end where the top says.
-fn is_laid<S: WordStore>(journal: &Journal<S>, size: u16) -> bool
+fn is_well_formed<S: WordStore>(journal: &Journal<S>, size: u16) -> bool
     requires size { size ≡ length journal.now.plain }
     requires wide { text_start ≤ size }
-    ensures { IsTrue result ↔ IsLaid journal.now.plain }
+    ensures { IsTrue result ↔ IsWellFormed journal.now.plain }
 {
     let top = journal.read(TOP);
     let text = u32::from(journal.read(TEXT_LENGTH));
@@ -86,7 +87,7 @@ fn is_laid<S: WordStore>(journal: &Journal<S>, size: u16) -> bool
         return false;
     }
     if packages_below(journal, top) {
-        return is_whole(journal);
+        return records_fit(journal);
     }
     false
 }
@@ -95,23 +96,30 @@ fn is_laid<S: WordStore>(journal: &Journal<S>, size: u16) -> bool
 fn is_heap<S: WordStore>(journal: &Journal<S>, size: u16) -> bool
     requires size { size ≡ length journal.now.plain }
     requires wide { text_start ≤ size }
-    ensures { IsTrue result ↔ (IsLaid journal.now.plain × IsWhole (heap_of journal.now.plain)) }
+    ensures { IsTrue result ↔ (IsWellFormed journal.now.plain
+        × IsConsistent (heap_of journal.now.plain)) }
 {
-    is_laid(journal, size) && words_agree(journal)
+    is_well_formed(journal, size) && is_consistent(journal)
 }
 
 impl<S: WordStore> OpenImage<S> {
     /// Opens a store, and first takes back what a loss of power left open.
     pub fn open(store: S) -> Result<OpenImage<S>, (OpenRefusal, S)>
         requires { text_start ≤ length (S.words store) }
-        ensures ok { IfOk result (λ o. o ≡ opened (S.words store) (S.passed store) (S.refused store)) }
+        ensures ok { IfOk result (λ o. o ≡ recovered_journal (S.words store) (S.passed store)
+            (S.refused store)) }
         ensures good { OnOk result (IsGoodLog (S.words store)) }
-        ensures bad_log { IfErr result (λ e. e.0 ≡ OpenRefusal.BadLog → (IsGoodLog (S.words store) → ⊥) × (e.1 ≡ store)) }
-        ensures stopped { IfErr result (λ e. e.0 ≡ OpenRefusal.StoreDown → IsGoodLog (S.words store) × StillRecovers (S.words store) (S.words e.1) × (S.down e.1 ≡ true)) }
-        ensures part { IfErr result (λ e. e.0 ≡ OpenRefusal.StoreDown → IsPartOfReplay (S.words store) (S.words e.1) (S.passed store) (S.passed e.1)) }
+        ensures bad_log { IfErr result (λ e. e.0 ≡ OpenRefusal.BadLog
+            → (IsGoodLog (S.words store) → ⊥) × (e.1 ≡ store)) }
+        ensures stopped { IfErr result (λ e. e.0 ≡ OpenRefusal.StoreDown
+            → IsGoodLog (S.words store) × StillRecovers (S.words store) (S.words e.1)
+            × (S.down e.1 ≡ true)) }
+        ensures part { IfErr result (λ e. e.0 ≡ OpenRefusal.StoreDown
+            → IsPartOfReplay (S.words store) (S.words e.1) (S.passed store) (S.passed e.1)) }
         ensures was_up { OnOk result (S.down store ≡ false) }
         ensures was_down { IfErr result (λ e. S.down store ≡ true → e.1 ≡ store) }
-        ensures refused { IfErr result (λ e. e.0 ≡ OpenRefusal.StoreDown → S.down store ≡ false → S.refused e.1 ≡ raised (S.refused store) 1) }
+        ensures refused { IfErr result (λ e. e.0 ≡ OpenRefusal.StoreDown → S.down store ≡ false
+            → S.refused e.1 ≡ saturating_count (S.refused store) 1) }
     {
         let size = store.size();
         match Journal::open(store) {
@@ -141,7 +149,8 @@ impl<S: WordStore> OpenImage<S> {
 
     /// Whether the store has the words of a table text of that length.
     pub fn has_text(&self) -> bool
-        ensures { IsTrue result ↔ (text_start + (slice_index self.now.plain text_length_address + 1) / 2 ≤ length self.now.plain) }
+        ensures { IsTrue result ↔ (text_start + (slice_index self.now.plain text_length_address + 1)
+            / 2 ≤ length self.now.plain) }
     {
         let text = u32::from(self.text_length());
         TEXT_START + (text + 1) / 2 <= u32::from(self.size)
@@ -167,7 +176,8 @@ impl<S: WordStore> OpenImage<S> {
 
     /// The store, with its recovered words.
     pub fn into_store(self) -> S
-        ensures { HoldsImage (S.words result) (S.down result) (S.passed result) (S.refused result) self }
+        ensures { HoldsImage (S.words result) (S.down result) (S.passed result)
+            (S.refused result) self }
     {
         let OpenImage { journal, size: _ } = self;
         journal.into_store()
@@ -177,10 +187,12 @@ impl<S: WordStore> OpenImage<S> {
     /// recovered words.
     pub fn check(self, first: &[Facts]) -> Result<Heap<S>, S>
         requires { self.down ≡ false }
-        ensures exact { IsOk result ↔ (IsLaid self.plain × IsWhole (heap_of self.plain) × BeginsWith (heap_of self.plain) first.now) }
-        ensures whole { IfOk result (λ h. IsWhole h.now) }
+        ensures exact { IsOk result ↔ (IsWellFormed self.plain × IsConsistent (heap_of self.plain)
+            × HeapBeginsWith (heap_of self.plain) first.now) }
+        ensures whole { IfOk result (λ h. IsConsistent h.now) }
         ensures heap { IfOk result (λ h. h ≡ heap_view self (length self.plain)) }
-        ensures store { IfErr result (λ s. HoldsImage (S.words s) (S.down s) (S.passed s) (S.refused s) self) }
+        ensures store { IfErr result (λ s. HoldsImage (S.words s) (S.down s) (S.passed s)
+            (S.refused s) self) }
     {
         let OpenImage { journal, size } = self;
         if !is_heap(&journal, size) {

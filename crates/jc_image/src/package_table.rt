@@ -1,9 +1,9 @@
 //! Whether the table of the packages' addresses agrees with the records.
 ghost use Rattle.std.specs.Prelude.{ℕ, ◌≡◌, ◌<◌, ◌≤◌, ◌↔◌, IsTrue, true, false, length, slice_index, slice_index_or};
 ghost use Rattle.jc_words.specs.Layout.{most_packages};
-ghost use Rattle.jc_heap.specs.Image.{IsLaid};
-ghost use Rattle.jc_heap.specs.Heap.{heap_of, names};
-ghost use Rattle.jc_heap.specs.Whole.{AreMet, AreRecords, AreDistinct};
+ghost use Rattle.jc_heap.specs.Image.{IsWellFormed};
+ghost use Rattle.jc_heap.specs.Heap.{heap_of, is_allocated};
+ghost use Rattle.jc_heap.specs.Whole.{AreAllocated, AreRecords, AreDistinct};
 
 use crate::marks::ALL;
 use jc_commit::Journal;
@@ -11,12 +11,14 @@ use jc_words::WordStore;
 use jc_words::layout::{ADDRESSES, PACKAGES};
 
 // At each package's address something stands.
-fn are_met<S: WordStore>(journal: &Journal<S>, marks: &[bool; ALL]) -> bool
-    requires laid { IsLaid journal.now.plain }
+fn are_allocated<S: WordStore>(journal: &Journal<S>, marks: &[bool; ALL]) -> bool
+    requires laid { IsWellFormed journal.now.plain }
     requires small { length journal.now.plain < 65536 }
     requires few { (heap_of journal.now.plain).counts.0 ≤ most_packages }
-    requires marks { (r : ℕ) → slice_index_or marks.now r false ≡ names (heap_of journal.now.plain) r }
-    ensures { IsTrue result ↔ AreMet (heap_of journal.now.plain) (heap_of journal.now.plain).packages }
+    requires marks { (r : ℕ) → slice_index_or marks.now r false
+        ≡ is_allocated (heap_of journal.now.plain) r }
+    ensures { IsTrue result ↔ AreAllocated (heap_of journal.now.plain)
+        (heap_of journal.now.plain).packages }
 {
     let count = journal.read(PACKAGES);
     for k in 0..count {
@@ -29,11 +31,12 @@ fn are_met<S: WordStore>(journal: &Journal<S>, marks: &[bool; ALL]) -> bool
 
 // At each package's address, where something stands, a record has its two words at least.
 fn are_records<S: WordStore>(journal: &Journal<S>) -> bool
-    requires laid { IsLaid journal.now.plain }
+    requires laid { IsWellFormed journal.now.plain }
     requires small { length journal.now.plain < 65536 }
     requires few { (heap_of journal.now.plain).counts.0 ≤ most_packages }
-    requires met { AreMet (heap_of journal.now.plain) (heap_of journal.now.plain).packages }
-    ensures { IsTrue result ↔ AreRecords (heap_of journal.now.plain) (heap_of journal.now.plain).packages }
+    requires met { AreAllocated (heap_of journal.now.plain) (heap_of journal.now.plain).packages }
+    ensures { IsTrue result ↔ AreRecords (heap_of journal.now.plain)
+        (heap_of journal.now.plain).packages }
 {
     let count = journal.read(PACKAGES);
     for k in 0..count {
@@ -47,9 +50,10 @@ fn are_records<S: WordStore>(journal: &Journal<S>) -> bool
 
 // The address of a package is none of those before it.
 fn is_new<S: WordStore>(journal: &Journal<S>, k: u16) -> bool
-    requires laid { IsLaid journal.now.plain }
+    requires laid { IsWellFormed journal.now.plain }
     requires there { k < length (heap_of journal.now.plain).packages }
-    ensures { IsTrue result ↔ ((j : ℕ) → j < k → slice_index (heap_of journal.now.plain).packages j ≡ slice_index (heap_of journal.now.plain).packages k → ⊥) }
+    ensures { IsTrue result ↔ ((j : ℕ) → j < k → slice_index (heap_of journal.now.plain).packages j
+        ≡ slice_index (heap_of journal.now.plain).packages k → ⊥) }
 {
     let address = journal.read(ADDRESSES + k);
     for j in 0..k {
@@ -62,7 +66,7 @@ fn is_new<S: WordStore>(journal: &Journal<S>, k: u16) -> bool
 
 // No package's address is repeated.
 fn are_distinct<S: WordStore>(journal: &Journal<S>) -> bool
-    requires laid { IsLaid journal.now.plain }
+    requires laid { IsWellFormed journal.now.plain }
     requires few { (heap_of journal.now.plain).counts.0 ≤ most_packages }
     ensures { IsTrue result ↔ AreDistinct (heap_of journal.now.plain).packages }
 {
@@ -77,11 +81,14 @@ fn are_distinct<S: WordStore>(journal: &Journal<S>) -> bool
 
 // Each package has a record of its own.
 pub(crate) fn table_agrees<S: WordStore>(journal: &Journal<S>, marks: &[bool; ALL]) -> bool
-    requires laid { IsLaid journal.now.plain }
+    requires laid { IsWellFormed journal.now.plain }
     requires small { length journal.now.plain < 65536 }
     requires few { (heap_of journal.now.plain).counts.0 ≤ most_packages }
-    requires marks { (r : ℕ) → slice_index_or marks.now r false ≡ names (heap_of journal.now.plain) r }
-    ensures { IsTrue result ↔ (AreMet (heap_of journal.now.plain) (heap_of journal.now.plain).packages × AreRecords (heap_of journal.now.plain) (heap_of journal.now.plain).packages × AreDistinct (heap_of journal.now.plain).packages) }
+    requires marks { (r : ℕ) → slice_index_or marks.now r false
+        ≡ is_allocated (heap_of journal.now.plain) r }
+    ensures { IsTrue result ↔ (AreAllocated (heap_of journal.now.plain)
+        (heap_of journal.now.plain).packages × AreRecords (heap_of journal.now.plain)
+        (heap_of journal.now.plain).packages × AreDistinct (heap_of journal.now.plain).packages) }
 {
-    are_met(journal, marks) && are_records(journal) && are_distinct(journal)
+    are_allocated(journal, marks) && are_records(journal) && are_distinct(journal)
 }

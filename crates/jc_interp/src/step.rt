@@ -1,24 +1,24 @@
 //! What is left of a step where frames alone do not go on, and the exception that it throws.
 ghost use Rattle.std.specs.Prelude.{◌≡◌, ◌<◌, ◌^◌, false, length};
-ghost use Rattle.jc_memory.specs.Doing.{Makes};
-ghost use Rattle.jc_world.specs.Groups.{after_group};
-ghost use Rattle.jc_interp.specs.Stepping.{code_of, operated};
-ghost use Rattle.jc_interp.specs.Pausing.{finished, requested, resumed};
+ghost use Rattle.jc_memory.specs.Programs.{Executes};
+ghost use Rattle.jc_world.specs.Instructions.{after_instruction};
+ghost use Rattle.jc_interp.specs.Stepping.{code_of, object_instruction};
+ghost use Rattle.jc_interp.specs.PausedSteps.{step_rest, memory_instruction, paused_rest};
 
-use crate::calling::invoke;
-use crate::turns::{Pause, Request, Why};
+use crate::calling::invoke_instruction;
+use crate::frames_only::{FramesExit, MemoryInstr, PausedStep};
 use jc_frames::Frames;
-use jc_interp_arrays::index;
-use jc_interp_calls::come_back::come_back;
-use jc_interp_calls::text::text_of;
-use jc_interp_calls::throw::{throw, throw_top};
-use jc_interp_fields::reach;
-use jc_interp_objects::{check_cast, instance_of, make_instance};
+use jc_interp_calls::method_component::method_component_of;
+use jc_interp_calls::method_return::return_to_caller;
+use jc_interp_calls::throw::{athrow, throw};
+use jc_interp_objects::{
+    array_instruction, checkcast, field_instruction, instanceof, new_instance,
+};
 use jc_linker::linked::Linked;
 use jc_memory::Memory;
-use jc_opcodes::instr::Object;
+use jc_opcodes::instr::ObjectOp;
 use jc_words::WordStore;
-use jc_world::Break;
+use jc_world::StepExit;
 
 // The code in which places of a package's methods are counted.
 pub(crate) fn code_of<'a>(lent: &'a [u8], package_number: u8, linked: &'a Linked) -> &'a [u8]
@@ -29,83 +29,89 @@ pub(crate) fn code_of<'a>(lent: &'a [u8], package_number: u8, linked: &'a Linked
     if package_number == 0 {
         lent
     } else {
-        text_of(package_number, linked)
+        method_component_of(package_number, linked)
     }
 }
 
 // Makes, throws or tests an object.
-fn operate<S: WordStore>(
-    operation: Object,
+fn object_instruction<S: WordStore>(
+    operation: ObjectOp,
     place: u16,
     frames: &mut Frames,
     memory: &mut Memory<S>,
     linked: &Linked,
-) -> Result<(), Break>
+) -> Result<(), StepExit>
     requires up { memory.old.heap.down ≡ false }
-    ensures { Makes (operated operation place linked.now frames.old memory.old) memory.old (after_group result frames.new memory.new) }
+    ensures { Executes (object_instruction operation place linked.now frames.old memory.old)
+        memory.old (after_instruction result frames.new memory.new) }
 {
     match operation {
-        Object::New(index) => make_instance(index, frames, memory, linked),
-        Object::Throw => throw_top(place, frames, memory, linked),
-        Object::CheckCast(tested) => check_cast(tested, frames, memory, linked),
-        Object::InstanceOf(tested) => instance_of(tested, frames, memory, linked),
+        ObjectOp::New(array_instruction) => new_instance(array_instruction, frames, memory, linked),
+        ObjectOp::Athrow => athrow(place, frames, memory, linked),
+        ObjectOp::CheckCast(tested) => checkcast(tested, frames, memory, linked),
+        ObjectOp::InstanceOf(tested) => instanceof(tested, frames, memory, linked),
     }
 }
 
 // Carries out an instruction at a place, behind which the next one stands.
 #[inline(always)]
 fn execute<S: WordStore>(
-    request: Request,
+    request: MemoryInstr,
     place: u16,
     frames: &mut Frames,
     memory: &mut Memory<S>,
     linked: &Linked,
-) -> Result<(), Break>
+) -> Result<(), StepExit>
     requires up { memory.old.heap.down ≡ false }
-    ensures { Makes (requested request place linked.now frames.old memory.old) memory.old (after_group result frames.new memory.new) }
+    ensures { Executes (memory_instruction request place linked.now frames.old memory.old)
+        memory.old (after_instruction result frames.new memory.new) }
 {
     match request {
-        Request::Leave(how) => come_back(how, frames, memory),
-        Request::Reach(field) => reach(field, frames, memory, linked),
-        Request::Index(operation) => index(operation, frames, memory, linked),
-        Request::Operate(operation) => operate(operation, place, frames, memory, linked),
-        Request::Call(call) => invoke(call, place, frames, memory, linked),
+        MemoryInstr::Return(how) => return_to_caller(how, frames, memory),
+        MemoryInstr::Field(field) => field_instruction(field, frames, memory, linked),
+        MemoryInstr::Array(operation) => array_instruction(operation, frames, memory, linked),
+        MemoryInstr::Object(operation) => object_instruction(
+            operation, place, frames, memory, linked,
+        ),
+        MemoryInstr::Invoke(call) => invoke_instruction(call, place, frames, memory, linked),
     }
 }
 
 // Does what is left of an instruction at a place.
 #[inline(always)]
 fn resume<S: WordStore>(
-    why: Why,
+    why: FramesExit,
     place: u16,
     frames: &mut Frames,
     memory: &mut Memory<S>,
     linked: &Linked,
-) -> Result<(), Break>
+) -> Result<(), StepExit>
     requires up { memory.old.heap.down ≡ false }
-    ensures { Makes (resumed why place linked.now frames.old memory.old) memory.old (after_group result frames.new memory.new) }
+    ensures { Executes (paused_rest why place linked.now frames.old memory.old) memory.old
+        (after_instruction result frames.new memory.new) }
 {
     match why {
-        Why::Stops(stop) => Err(Break::from(stop)),
-        Why::Asks(request) => execute(request, place, frames, memory, linked),
+        FramesExit::Exit(stop) => Err(StepExit::from(stop)),
+        FramesExit::Needs(request) => execute(request, place, frames, memory, linked),
     }
 }
 
 /// Does what is left of a step at a pause, and throws what it throws.
-#[tactic(auto, using(jc_memory::proofs::Doings::bind_made, jc_memory::proofs::Doings::bind_cut, jc_memory::proofs::Doings::down_did))]
+#[tactic(auto, using(jc_memory::proofs::ProgramLemmas::in_two_calls))]
 #[inline(always)]
 pub(crate) fn finish<S: WordStore>(
-    pause: Pause,
+    pause: PausedStep,
     frames: &mut Frames,
     memory: &mut Memory<S>,
     linked: &Linked,
-) -> Result<(), Break>
+) -> Result<(), StepExit>
     requires up { memory.old.heap.down ≡ false }
-    ensures { Makes (finished pause linked.now frames.old memory.old) memory.old (after_group result frames.new memory.new) }
+    ensures { Executes (step_rest pause linked.now frames.old memory.old) memory.old
+        (after_instruction result frames.new memory.new) }
 {
-    let Pause { place, why } = pause;
+    let PausedStep { place, why } = pause;
     match resume(why, place, frames, memory, linked) {
-        Err(Break::Throw(exception)) => {
+        Err(StepExit::Throw(exception)) => {
             frames.clear_stack();
             throw(exception, place, frames, memory, linked)
         }

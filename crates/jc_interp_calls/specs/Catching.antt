@@ -1,52 +1,54 @@
 -- Which handler of a method catches what is thrown.
 use Rattle.std.specs.Prelude.{ℕ, zero, suc, ◌+◌, ◌==◌, ◌&&◌, nat_lt, nat_le, List, length, Option, Some, None, unwrap_or, if◌then◌else◌}
-use Rattle.jc_packages.specs.declared.target.Target.{Target}
-use Rattle.jc_packages.specs.declared.target.Target.TheVariants.{Class}
-use Rattle.jc_packages.specs.Values.{Packages}
-use Rattle.jc_packages.specs.Classes.{is_below}
-use Rattle.jc_packages.specs.Lookups.{target_at}
+use Rattle.jc_linker.specs.declared.target.Target.{Target}
+use Rattle.jc_linker.specs.declared.target.Target.TheVariants.{Class}
+use Rattle.jc_linker.specs.Values.{Packages}
+use Rattle.jc_linker.specs.Classes.{is_below}
+use Rattle.jc_linker.specs.Lookups.{target_at}
 use Rattle.jc_opcodes.specs.Operands.{u1}
 use Rattle.jc_frames.specs.declared.method.Origin.{Origin}
-use Rattle.jc_methods.specs.declared.handlers.Handler.{Handler}
-use Rattle.jc_methods.specs.Handlers.{handler_in, watches}
-use Rattle.jc_interp_calls.specs.declared.catch.Catch.{Catch}
-use Rattle.jc_interp_calls.specs.declared.catch.Catch.TheVariants.{Here, Above, Faulty}
-use Rattle.jc_interp_calls.specs.Texts.{text_of}
+use Rattle.jc_opcodes.specs.declared.handlers.Handler.{Handler}
+use Rattle.jc_opcodes.specs.Handlers.{handler_in, watches}
+use Rattle.jc_interp_calls.specs.declared.catch.HandlerResult.{HandlerResult}
+use Rattle.jc_interp_calls.specs.declared.catch.HandlerResult.TheVariants.{Caught, NotCaught, CodeFault}
+use Rattle.jc_interp_calls.specs.MethodComponent.{method_component_of}
 
 -- a handler goes on within the method, from its header to the end of the component; else a code fault
-abbrev pub landed : ℕ → List ℕ → ℕ → Catch
-landed method text target = if nat_le method target && nat_lt target (length text) then Here target else Faulty
+abbrev pub handler_target : ℕ → List ℕ → ℕ → HandlerResult
+handler_target method text target = if nat_le method target && nat_lt target (length text) then Caught target else CodeFault
 
 -- a handler of this class catches an exception of a class below it; an entry that names no class is a code fault
-abbrev pub caught_as : Packages → ℕ → Option Target → Catch → Catch
-caught_as p thrown (Some (Class class)) caught = if is_below p thrown class then caught else Above
-caught_as p thrown _ caught = Faulty
+abbrev pub catch_by_class : Packages → ℕ → Option Target → HandlerResult → HandlerResult
+catch_by_class p thrown (Some (Class class)) caught = if is_below p thrown class then caught else NotCaught
+catch_by_class p thrown _ caught = CodeFault
 
 -- a handler that watches over the place catches all, or what is of its class
-abbrev pub caught_by : Packages → ℕ → Origin → ℕ → List ℕ → Handler → Catch
-caught_by p thrown origin place text h =
-    if watches h place then (if h.catch_type == 0 then landed origin.method text h.target else caught_as p thrown (target_at p origin.package_number h.catch_type) (landed origin.method text h.target)) else Above
+abbrev pub catch_by_handler : Packages → ℕ → Origin → ℕ → List ℕ → Handler → HandlerResult
+catch_by_handler p thrown origin place text h =
+    if watches h place then (if h.catch_type == 0 then handler_target origin.method text h.target else catch_by_class p thrown
+    (target_at p origin.package_number h.catch_type) (handler_target origin.method text h.target)) else NotCaught
 
 -- a handler that the component's end cuts is a code fault
-unfoldable pub tried : Packages → ℕ → Origin → ℕ → List ℕ → Option Handler → Catch
-tried p thrown origin place text None = Faulty
-tried p thrown origin place text (Some h) = caught_by p thrown origin place text h
+unfoldable pub catch_by_entry : Packages → ℕ → Origin → ℕ → List ℕ → Option Handler → HandlerResult
+catch_by_entry p thrown origin place text None = CodeFault
+catch_by_entry p thrown origin place text (Some h) = catch_by_handler p thrown origin place text h
 
 -- the next one is tried where one doesn't catch
-abbrev pub or_next : Catch → Catch → Catch
-or_next Above next = next
-or_next (Here target) next = Here target
-or_next Faulty next = Faulty
+abbrev pub or_next_handler : HandlerResult → HandlerResult → HandlerResult
+or_next_handler NotCaught next = next
+or_next_handler (Caught target) next = Caught target
+or_next_handler CodeFault next = CodeFault
 
 -- the first that catches, of so many handlers that stand from a place on
-abbrev pub caught_from : Packages → ℕ → Origin → ℕ → List ℕ → ℕ → ℕ → Catch
-caught_from p thrown origin place text zero at = Above
-caught_from p thrown origin place text (suc n) at = or_next (tried p thrown origin place text (handler_in text at)) (caught_from p thrown origin place text n (at + 8))
+abbrev pub catch_from : Packages → ℕ → Origin → ℕ → List ℕ → ℕ → ℕ → HandlerResult
+catch_from p thrown origin place text zero at = NotCaught
+catch_from p thrown origin place text (suc n) at = or_next_handler (catch_by_entry p thrown origin place text (handler_in text at))
+    (catch_from p thrown origin place text n (at + 8))
 
 -- the first handler of a component that catches an exception of this class, thrown in a method by the instruction at this place:
 -- the component begins with their number
-abbrev pub caught_among : Packages → ℕ → Origin → ℕ → List ℕ → Catch
-caught_among p thrown origin place text = caught_from p thrown origin place text (unwrap_or (u1 text 0) 0) 1
+abbrev pub catch_in_component : Packages → ℕ → Origin → ℕ → List ℕ → HandlerResult
+catch_in_component p thrown origin place text = catch_from p thrown origin place text (unwrap_or (u1 text 0) 0) 1
 
-unfoldable pub caught_in : Packages → ℕ → Origin → ℕ → Catch
-caught_in p thrown origin place = caught_among p thrown origin place (text_of p origin.package_number)
+unfoldable pub catch_in_method : Packages → ℕ → Origin → ℕ → HandlerResult
+catch_in_method p thrown origin place = catch_in_component p thrown origin place (method_component_of p origin.package_number)

@@ -1,8 +1,8 @@
-pub mod Texts
+pub mod MethodComponent
 pub mod Parameters
-pub mod Choosing
+pub mod Invoke
 pub mod Entering
 pub mod Catching
-pub mod Returning
+pub mod MethodReturn
 pub mod Throwing
-pub mod Asking
+pub mod ServerCalls

@@ -10,25 +10,31 @@ use Rattle.jc_frames.specs.declared.cell.Cell.{Cell}
 use Rattle.jc_frames.specs.Cells.{as_short, as_reference}
 use Rattle.jc_platform.specs.declared.names.PlatformClass.TheVariants.{Aid, Apdu}
 use Rattle.jc_platform.specs.declared.names.PlatformMethod.{PlatformMethod}
-use Rattle.jc_platform.specs.declared.names.PlatformMethod.TheVariants.{ObjectEquals, PinCheck, AppletGetShareableInterfaceObject, AppletRegisterBytes, AppletProcess, ApduReceiveBytes, ApduSendBytes, ApduSetOutgoingAndSend, ApduSetOutgoingLength, AidInit, AidEquals, AidEqualsBytes, AidGetBytes, OwnerPinInit, OwnerPinCheck, OwnerPinUpdate, CardExceptionInit, CardExceptionSetReason, CardRuntimeExceptionInit, CardRuntimeExceptionSetReason, IsoExceptionInit, PinExceptionInit, SystemExceptionInit, TransactionExceptionInit, ApduExceptionInit, UserExceptionInit}
+use Rattle.jc_platform.specs.declared.names.PlatformMethod.TheVariants.{ObjectEquals, PinCheck, AppletGetShareableInterfaceObject, AppletRegisterBytes}
+use Rattle.jc_platform.specs.declared.names.PlatformMethod.TheVariants.{AppletProcess, ApduReceiveBytes, ApduSendBytes, ApduSetOutgoingAndSend}
+use Rattle.jc_platform.specs.declared.names.PlatformMethod.TheVariants.{ApduSetOutgoingLength, AidInit, AidEquals, AidEqualsBytes, AidGetBytes, OwnerPinInit}
+use Rattle.jc_platform.specs.declared.names.PlatformMethod.TheVariants.{OwnerPinCheck, OwnerPinUpdate, CardExceptionInit, CardExceptionSetReason}
+use Rattle.jc_platform.specs.declared.names.PlatformMethod.TheVariants.{CardRuntimeExceptionInit, CardRuntimeExceptionSetReason, IsoExceptionInit}
+use Rattle.jc_platform.specs.declared.names.PlatformMethod.TheVariants.{PinExceptionInit, SystemExceptionInit, TransactionExceptionInit, ApduExceptionInit}
+use Rattle.jc_platform.specs.declared.names.PlatformMethod.TheVariants.{UserExceptionInit}
 use Rattle.jc_platform.specs.Distinct.{class_word}
-use Rattle.jc_packages.specs.declared.target.Method.{Method}
-use Rattle.jc_packages.specs.declared.target.Method.TheVariants.{Code, Native}
-use Rattle.jc_packages.specs.Values.{Packages}
+use Rattle.jc_linker.specs.declared.target.Method.{Method}
+use Rattle.jc_linker.specs.declared.target.Method.TheVariants.{Code, Native}
+use Rattle.jc_linker.specs.Values.{Packages}
 use Rattle.jc_world.specs.Objects.{is_instance_of}
 use Rattle.jc_interp_calls.specs.declared.parameters.Parameters.{Parameters}
-use Rattle.jc_interp_calls.specs.declared.parameters.Wanted.{Wanted}
-use Rattle.jc_interp_calls.specs.declared.parameters.Wanted.TheVariants.{Anything, Class, Bytes}
+use Rattle.jc_interp_calls.specs.declared.parameters.ReferenceType.{ReferenceType}
+use Rattle.jc_interp_calls.specs.declared.parameters.ReferenceType.TheVariants.{Anything, Class, Bytes}
 
 -- there is something, and it is so
-abbrev pub is_there : {A : Type 0} → Option A → (A → Bool) → Bool
-is_there None so = false
-is_there (Some a) so = so a
+abbrev pub is_present_and : {A : Type 0} → Option A → (A → Bool) → Bool
+is_present_and None so = false
+is_present_and (Some a) so = so a
 
 abbrev pub numbers : ℕ → Parameters
 numbers n = record { reference = None; numbers = n }
 
-abbrev pub reference_and : Wanted → ℕ → Parameters
+abbrev pub reference_and : ReferenceType → ℕ → Parameters
 reference_and wanted n = record { reference = Some wanted; numbers = n }
 
 -- the parameters of a method behind its receiver; a method without a receiver has none here
@@ -77,18 +83,18 @@ is_bytes ShortArray = false
 is_bytes ReferenceArray = false
 
 -- an object is what a parameter wants
-abbrev pub is_wanted : Wanted → Packages → Facts → Bool
-is_wanted Anything p f = true
-is_wanted (Class class) p f = is_instance_of p f (class_word p.platform class)
-is_wanted Bytes p f = is_bytes f.kind
+abbrev pub is_of_parameter : ReferenceType → Packages → Facts → Bool
+is_of_parameter Anything p f = true
+is_of_parameter (Class class) p f = is_instance_of p f (class_word p.platform class)
+is_of_parameter Bytes p f = is_bytes f.kind
 
 -- null, or a reference to what a parameter wants
-abbrev pub refers_to : Wanted → Packages → MemoryState → ℕ → Bool
-refers_to wanted p m r = r == 0 || is_there (header_at m r) (is_wanted wanted p)
+abbrev pub refers_to : ReferenceType → Packages → MemoryState → ℕ → Bool
+refers_to wanted p m r = r == 0 || is_present_and (header_at m r) (is_of_parameter wanted p)
 
-abbrev pub has_reference : Option Wanted → ℕ → Packages → MemoryState → List Cell → Bool
+abbrev pub has_reference : Option ReferenceType → ℕ → Packages → MemoryState → List Cell → Bool
 has_reference None i p m stack = true
-has_reference (Some wanted) i p m stack = is_there (reference_at i stack) (refers_to wanted p m)
+has_reference (Some wanted) i p m stack = is_present_and (reference_at i stack) (refers_to wanted p m)
 
 -- at most two numbers stand on the top
 abbrev pub has_numbers : ℕ → List Cell → Bool

@@ -1,17 +1,17 @@
 //! How the frame of a method in bytecode begins.
 ghost use Rattle.std.specs.Prelude.{◌≡◌, false};
-ghost use Rattle.jc_memory.specs.Doing.{Makes};
-ghost use Rattle.jc_world.specs.Groups.{after_group};
-ghost use Rattle.jc_interp_calls.specs.Entering.{begun, entering_by, entry_of, origin_of, switched, takes};
+ghost use Rattle.jc_memory.specs.Programs.{Executes};
+ghost use Rattle.jc_world.specs.Instructions.{after_instruction};
+ghost use Rattle.jc_interp_calls.specs.Entering.{first_frames_of, method_entry_with, entry_of, origin_of, registers_in_callee, takes};
 
-use crate::text::text_of;
-use jc_frames::{CallKind, Cell, Entry, Frames, MOST_CELLS, Origin, Outcome, Resume};
+use crate::method_component::method_component_of;
+use jc_frames::{CallKind, Cell, Entry, Frames, MOST_CELLS, Origin, Outcome, ReturnPoint};
 use jc_linker::linked::Linked;
 use jc_memory::{Memory, Owner, Registers};
-use jc_methods::{Header, header_at};
-use jc_names::OwnerWord;
+use jc_opcodes::{Header, header_at};
+use jc_transient::OwnerWord;
 use jc_words::WordStore;
-use jc_world::Break;
+use jc_world::StepExit;
 
 /// A method in bytecode that is called.
 #[derive(Clone, Copy, PartialEq, Eq, Debug)]
@@ -35,8 +35,8 @@ pub struct CallSite {
 
 // The registers while a method runs for another owner.
 #[inline(always)]
-pub(crate) fn switched(owner: Option<Owner>, registers: Registers) -> Registers
-    ensures { result ≡ switched owner registers }
+pub(crate) fn registers_in_callee(owner: Option<Owner>, registers: Registers) -> Registers
+    ensures { result ≡ registers_in_callee owner registers }
 {
     match owner {
         None => registers,
@@ -64,7 +64,9 @@ fn origin_of(callee: Callee, registers: Registers) -> Origin
     Origin {
         package_number: callee.package_number,
         method: callee.offset,
-        owner: switched(callee.switches_to, registers).active.number(),
+        owner: registers_in_callee(callee.switches_to, registers)
+            .active
+            .number(),
     }
 }
 
@@ -83,7 +85,7 @@ pub(crate) fn entry_of(
         limit: header.limit,
         place: header.place,
         origin: origin_of(callee, registers),
-        resume: Resume {
+        resume: ReturnPoint {
             active: registers.active.number(),
             previous: registers.previous.number(),
             place: site.place,
@@ -102,18 +104,19 @@ pub fn enter<S: WordStore>(
     site: CallSite,
     frames: &mut Frames,
     memory: &mut Memory<S>,
-) -> Result<(), Break>
-    ensures { Makes (entering_by header callee site frames.old memory.old) memory.old (after_group result frames.new memory.new) }
+) -> Result<(), StepExit>
+    ensures { Executes (method_entry_with header callee site frames.old memory.old) memory.old
+        (after_instruction result frames.new memory.new) }
 {
     let Some(header) = header else {
-        return Err(Break::End(Outcome::Fault));
+        return Err(StepExit::End(Outcome::Fault));
     };
     if !takes(usize::from(callee.arguments), header) {
-        return Err(Break::End(Outcome::Fault));
+        return Err(StepExit::End(Outcome::Fault));
     }
     frames.enter(entry_of(header, callee, site, memory.registers()))?;
     if let Some(owner) = callee.switches_to {
-        memory.turn(switched(Some(owner), memory.registers()));
+        memory.set_registers(registers_in_callee(Some(owner), memory.registers()));
     }
     Ok(())
 }
@@ -121,7 +124,7 @@ pub fn enter<S: WordStore>(
 /// The frames of a method before its first instruction, which nothing called; `None`, a code fault, where
 /// its header is cut, where it is abstract or takes another number of cells, or where its cells are too
 /// many.
-#[tactic(auto, unfolding(crate::specs::Entering::begun))]
+#[tactic(auto, unfolding(crate::specs::Entering::first_frames_of))]
 pub fn begin(
     linked: &Linked,
     package_number: u8,
@@ -129,9 +132,9 @@ pub fn begin(
     arguments: &[Cell],
     owner: OwnerWord,
 ) -> Option<Frames>
-    ensures { result ≡ begun linked.now package_number offset arguments.now owner }
+    ensures { result ≡ first_frames_of linked.now package_number offset arguments.now owner }
 {
-    let header = header_at(text_of(package_number, linked), offset)?;
+    let header = header_at(method_component_of(package_number, linked), offset)?;
     let cells = arguments.len() + usize::from(header.locals) + usize::from(header.limit);
     if !takes(arguments.len(), header) || cells > MOST_CELLS {
         return None;

@@ -2,11 +2,11 @@
 //! which handler catches what is thrown.
 #![tactic(auto)]
 
-pub mod ask;
 pub mod catch;
-pub mod choose;
-pub mod come_back;
 pub mod enter;
+pub mod invoke;
+pub mod method_component;
+pub mod method_return;
 pub mod parameters;
-pub mod text;
+pub mod server_call;
 pub mod throw;

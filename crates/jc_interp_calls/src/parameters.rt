@@ -1,12 +1,13 @@
 //! What the methods of the platform take behind their receivers.
 ghost use Rattle.std.specs.Prelude.{◌≡◌, false};
-ghost use Rattle.jc_interp_calls.specs.Parameters.{fits, has_kinds, has_numbers, has_reference, is_number_at, is_wanted, numbers, parameters_of, reference_and, reference_at, refers_to};
+ghost use Rattle.jc_interp_calls.specs.Parameters.{fits, has_kinds, has_numbers, has_reference, is_number_at, is_of_parameter, numbers, parameters_of};
+ghost use Rattle.jc_interp_calls.specs.Parameters.{reference_and, reference_at, refers_to};
 
 use jc_frames::{Cell, Frames};
 use jc_heap::{Facts, Kind};
 use jc_linker::linked::Linked;
+use jc_linker::target::Method;
 use jc_memory::Memory;
-use jc_packages::target::Method;
 use jc_platform::names::{PlatformClass, PlatformMethod};
 use jc_transient::Ref;
 use jc_words::WordStore;
@@ -14,7 +15,7 @@ use jc_world::objects::is_instance_of;
 
 /// What a reference parameter wants, if it is not null.
 #[derive(Clone, Copy, PartialEq, Eq, Debug)]
-pub enum Wanted {
+pub enum ReferenceType {
     Anything,
     /// An instance of the class.
     Class(PlatformClass),
@@ -25,7 +26,7 @@ pub enum Wanted {
 /// The parameters of a method behind its receiver: a reference, if there is one, and then numbers.
 #[derive(Clone, Copy, PartialEq, Eq, Debug)]
 pub struct Parameters {
-    pub reference: Option<Wanted>,
+    pub reference: Option<ReferenceType>,
     /// How many numbers, at most two.
     pub numbers: u8,
 }
@@ -39,7 +40,7 @@ const fn numbers(count: u8) -> Parameters
     }
 }
 
-const fn reference_and(wanted: Wanted, count: u8) -> Parameters
+const fn reference_and(wanted: ReferenceType, count: u8) -> Parameters
     ensures { result ≡ reference_and wanted count }
 {
     Parameters {
@@ -56,19 +57,22 @@ pub const fn parameters_of(method: PlatformMethod) -> Parameters
 {
     match method {
         PlatformMethod::ObjectEquals | PlatformMethod::AidEquals => {
-            reference_and(Wanted::Anything, 0)
+            reference_and(ReferenceType::Anything, 0)
         }
-        PlatformMethod::AppletProcess => reference_and(Wanted::Class(PlatformClass::Apdu), 0),
+        PlatformMethod::AppletProcess => reference_and(
+            ReferenceType::Class(PlatformClass::Apdu),
+            0,
+        ),
         PlatformMethod::AppletGetShareableInterfaceObject => {
-            reference_and(Wanted::Class(PlatformClass::Aid), 1)
+            reference_and(ReferenceType::Class(PlatformClass::Aid), 1)
         }
-        PlatformMethod::AidGetBytes => reference_and(Wanted::Bytes, 1),
+        PlatformMethod::AidGetBytes => reference_and(ReferenceType::Bytes, 1),
         PlatformMethod::PinCheck
         | PlatformMethod::AppletRegisterBytes
         | PlatformMethod::AidInit
         | PlatformMethod::AidEqualsBytes
         | PlatformMethod::OwnerPinCheck
-        | PlatformMethod::OwnerPinUpdate => reference_and(Wanted::Bytes, 2),
+        | PlatformMethod::OwnerPinUpdate => reference_and(ReferenceType::Bytes, 2),
         PlatformMethod::ApduReceiveBytes
         | PlatformMethod::ApduSetOutgoingLength
         | PlatformMethod::CardExceptionInit
@@ -109,21 +113,21 @@ fn reference_at(place: u8, frames: &Frames) -> Option<Ref>
 }
 
 // An object is what a parameter wants.
-fn is_wanted(wanted: Wanted, facts: Facts, linked: &Linked) -> bool
-    ensures { result ≡ is_wanted wanted linked.now facts }
+fn is_of_parameter(wanted: ReferenceType, facts: Facts, linked: &Linked) -> bool
+    ensures { result ≡ is_of_parameter wanted linked.now facts }
 {
     match wanted {
-        Wanted::Anything => true,
-        Wanted::Class(class) => {
+        ReferenceType::Anything => true,
+        ReferenceType::Class(class) => {
             is_instance_of(facts, linked.platform().class_word(class), linked)
         }
-        Wanted::Bytes => facts.kind == Kind::ByteArray,
+        ReferenceType::Bytes => facts.kind == Kind::ByteArray,
     }
 }
 
 // Null, or a reference to what a parameter wants.
 fn refers_to<S: WordStore>(
-    wanted: Wanted,
+    wanted: ReferenceType,
     reference: Ref,
     memory: &Memory<S>,
     linked: &Linked,
@@ -135,13 +139,13 @@ fn refers_to<S: WordStore>(
         return true;
     }
     match memory.header(reference) {
-        Some(facts) => is_wanted(wanted, facts, linked),
+        Some(facts) => is_of_parameter(wanted, facts, linked),
         None => false,
     }
 }
 
 fn has_reference<S: WordStore>(
-    wanted: Option<Wanted>,
+    wanted: Option<ReferenceType>,
     place: u8,
     frames: &Frames,
     memory: &Memory<S>,

@@ -1,28 +1,29 @@
 //! Exceptions: whose instance is thrown, and which frame goes on with it.
 ghost use Rattle.std.specs.Prelude.{◌≡◌, ◌<◌, false};
 ghost use Rattle.jc_frames.specs.Frames.{in_frame, unless_fault, with_stack};
-ghost use Rattle.jc_memory.specs.Doing.{Makes};
-ghost use Rattle.jc_world.specs.Groups.{after_group};
-ghost use Rattle.jc_interp_calls.specs.Throwing.{carries, handled, number_of, reason_of, throwing, thrown, unwinding, unwound, with_reason};
+ghost use Rattle.jc_memory.specs.Programs.{Executes};
+ghost use Rattle.jc_world.specs.Instructions.{after_instruction};
+ghost use Rattle.jc_interp_calls.specs.Throwing.{has_reason_cell, handler_entry, number_of, reason_of, athrow, exception_throw, object_unwind, unwind};
+ghost use Rattle.jc_interp_calls.specs.Throwing.{with_reason};
 
-use crate::catch::{Catch, caught_in};
-use crate::come_back::back_to;
+use crate::catch::{HandlerResult, catch_in_method};
+use crate::method_return::registers_of_caller;
 use jc_firewall::access::Access;
 use jc_frames::{CallKind, Cell, CodeFault, Exception, Frames, Outcome};
 use jc_heap::Facts;
 use jc_linker::linked::Linked;
 use jc_memory::Memory;
-use jc_names::ClassWord;
 use jc_platform::names::PlatformClass;
-use jc_transient::{CellValue, Ref};
+use jc_transient::{CellValue, ClassWord, Ref};
 use jc_words::WordStore;
-use jc_world::Break;
+use jc_world::StepExit;
 use jc_world::contexts::allow;
 use jc_world::objects::{is_instance, is_instance_of, object};
 
 // A handler goes on with the exception alone on its stack.
 fn handle(thrown: Ref, target: u16, frames: &mut Frames) -> Result<(), CodeFault>
-    ensures { unless_fault result frames.new ≡ handled thrown target frames.old.callers frames.old.current }
+    ensures { unless_fault result frames.new ≡ handler_entry thrown target frames.old.callers
+        frames.old.current }
 {
     frames.clear_stack();
     frames.set_place(target);
@@ -30,7 +31,7 @@ fn handle(thrown: Ref, target: u16, frames: &mut Frames) -> Result<(), CodeFault
 }
 
 // An exception of this class is thrown by the instruction at a place of the frame that runs.
-#[tactic(auto, unfolding(crate::specs::Throwing::unwound))]
+#[tactic(auto, unfolding(crate::specs::Throwing::unwind))]
 fn unwind<S: WordStore>(
     class: ClassWord,
     thrown: Ref,
@@ -38,25 +39,26 @@ fn unwind<S: WordStore>(
     frames: &mut Frames,
     memory: &mut Memory<S>,
     linked: &Linked,
-) -> Result<(), Break>
-    ensures { Makes (unwound linked.now class thrown place frames.old memory.old) memory.old (after_group result frames.new memory.new) }
+) -> Result<(), StepExit>
+    ensures { Executes (unwind linked.now class thrown place frames.old memory.old) memory.old
+        (after_instruction result frames.new memory.new) }
 {
-    match caught_in(class, &frames.origin(), place, linked) {
-        Catch::Here(target) => {
+    match catch_in_method(class, &frames.origin(), place, linked) {
+        HandlerResult::Caught(target) => {
             handle(thrown, target, frames)?;
             Ok(())
         }
-        Catch::Faulty => Err(Break::End(Outcome::Fault)),
-        Catch::Above => {
+        HandlerResult::CodeFault => Err(StepExit::End(Outcome::Fault)),
+        HandlerResult::NotCaught => {
             let Some(resume) = frames.leave() else {
-                return Err(Break::End(Outcome::Thrown(thrown)));
+                return Err(StepExit::End(Outcome::Thrown(thrown)));
             };
             let call = resume.call;
             let place = resume.place;
-            memory.turn(back_to(resume, memory.registers()));
+            memory.set_registers(registers_of_caller(resume, memory.registers()));
             match call {
-                CallKind::Plain => unwind(class, thrown, place, frames, memory, linked),
-                CallKind::Sharing => {
+                CallKind::Instruction => unwind(class, thrown, place, frames, memory, linked),
+                CallKind::ShareableRequest => {
                     frames.try_push(Cell::Reference(Ref::null()))?;
                     Ok(())
                 }
@@ -66,40 +68,42 @@ fn unwind<S: WordStore>(
 }
 
 // An object is thrown by the instruction at a place.
-#[tactic(auto, unfolding(crate::specs::Throwing::unwinding))]
+#[tactic(auto, unfolding(crate::specs::Throwing::object_unwind))]
 fn throw_object<S: WordStore>(
     thrown: Ref,
     place: u16,
     frames: &mut Frames,
     memory: &mut Memory<S>,
     linked: &Linked,
-) -> Result<(), Break>
+) -> Result<(), StepExit>
     requires up { memory.old.heap.down ≡ false }
-    ensures { Makes (unwinding thrown place linked.now frames.old memory.old) memory.old (after_group result frames.new memory.new) }
+    ensures { Executes (object_unwind thrown place linked.now frames.old memory.old) memory.old
+        (after_instruction result frames.new memory.new) }
 {
     match memory.header(thrown) {
         Some(facts) => unwind(facts.class(), thrown, place, frames, memory, linked),
-        None => Err(Break::End(Outcome::Fault)),
+        None => Err(StepExit::End(Outcome::Fault)),
     }
 }
 
-/// Throws the object on top (`athrow`), by the instruction at a place. A code fault where it is no
-/// instance of a class below `Throwable`.
-#[tactic(auto, unfolding(crate::specs::Throwing::throwing))]
-pub fn throw_top<S: WordStore>(
+/// `athrow`: throws the object on top, by the instruction at a place. A code fault where it is no instance of a
+/// class below `Throwable`.
+#[tactic(auto, unfolding(crate::specs::Throwing::athrow))]
+pub fn athrow<S: WordStore>(
     place: u16,
     frames: &mut Frames,
     memory: &mut Memory<S>,
     linked: &Linked,
-) -> Result<(), Break>
+) -> Result<(), StepExit>
     requires up { memory.old.heap.down ≡ false }
-    ensures { Makes (throwing place linked.now frames.old memory.old) memory.old (after_group result frames.new memory.new) }
+    ensures { Executes (athrow place linked.now frames.old memory.old) memory.old
+        (after_instruction result frames.new memory.new) }
 {
     let thrown = frames.pop_reference()?;
     let facts = object(thrown, memory)?;
     let throwable = linked.platform().class_word(PlatformClass::Throwable);
     if !is_instance_of(facts, throwable, linked) {
-        return Err(Break::End(Outcome::Fault));
+        return Err(StepExit::End(Outcome::Fault));
     }
     allow(Access::Throw, facts, memory, linked)?;
     throw_object(thrown, place, frames, memory, linked)
@@ -147,8 +151,8 @@ const fn reason_of(exception: Exception) -> Option<i16>
 }
 
 // A transient instance with a cell.
-fn carries(facts: Facts) -> bool
-    ensures { result ≡ carries facts }
+fn has_reason_cell(facts: Facts) -> bool
+    ensures { result ≡ has_reason_cell facts }
 {
     is_instance(facts.kind) && facts.event.is_some() && facts.length > 0
 }
@@ -161,16 +165,17 @@ fn throw_with<S: WordStore>(
     frames: &mut Frames,
     memory: &mut Memory<S>,
     linked: &Linked,
-) -> Result<(), Break>
+) -> Result<(), StepExit>
     requires up { memory.old.heap.down ≡ false }
-    ensures { Makes (with_reason reason thrown place linked.now frames.old memory.old) memory.old (after_group result frames.new memory.new) }
+    ensures { Executes (with_reason reason thrown place linked.now frames.old memory.old) memory.old
+        (after_instruction result frames.new memory.new) }
 {
     if let Some(reason) = reason {
         let Some(facts) = memory.header(thrown) else {
-            return Err(Break::End(Outcome::Fault));
+            return Err(StepExit::End(Outcome::Fault));
         };
-        if !carries(facts) {
-            return Err(Break::End(Outcome::Fault));
+        if !has_reason_cell(facts) {
+            return Err(StepExit::End(Outcome::Fault));
         }
         memory.set(thrown, 0, CellValue::Short(reason))?;
     }
@@ -178,16 +183,17 @@ fn throw_with<S: WordStore>(
 }
 
 /// The runtime environment throws its own instance, with its reason, by the instruction at a place.
-#[tactic(auto, unfolding(crate::specs::Throwing::thrown))]
+#[tactic(auto, unfolding(crate::specs::Throwing::exception_throw))]
 pub fn throw<S: WordStore>(
     exception: Exception,
     place: u16,
     frames: &mut Frames,
     memory: &mut Memory<S>,
     linked: &Linked,
-) -> Result<(), Break>
+) -> Result<(), StepExit>
     requires up { memory.old.heap.down ≡ false }
-    ensures { Makes (thrown exception place linked.now frames.old memory.old) memory.old (after_group result frames.new memory.new) }
+    ensures { Executes (exception_throw exception place linked.now frames.old memory.old) memory.old
+        (after_instruction result frames.new memory.new) }
 {
     let thrown = memory.fixed(number_of(exception));
     throw_with(reason_of(exception), thrown, place, frames, memory, linked)

@@ -1,3 +1,12 @@
-pub mod Types
-pub mod Casts
-pub mod Making
+pub mod StaticImages
+pub mod FieldNames
+pub mod Fields
+pub mod StaticFields
+pub mod FieldOps
+pub mod ArrayElements
+pub mod ArrayAccess
+pub mod ArrayCreation
+pub mod ArrayOps
+pub mod ObjectTypes
+pub mod TypeChecks
+pub mod ObjectCreation

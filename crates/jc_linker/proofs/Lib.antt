@@ -1,2 +1,4 @@
+pub mod Walks
 pub mod Ontos
 pub mod Behind
+pub mod Extending

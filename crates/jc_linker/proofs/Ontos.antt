@@ -2,34 +2,34 @@
 use Rattle.std.proofs.Common.{◌≡◌, ◌<◌, ◌≤◌, ◌+◌, ℕ, List, [], ◌∷◌, ◌++◌, Option, Some, None, Result, Ok, Err, length, drop, refl, ap, sym, ◌∙◌, append_assoc}
 use Rattle.std.specs.Prelude.{slice_get}
 use Rattle.std.proofs.lemmas.List.{append-nil, drop_all}
-use Rattle.jc_cap_fields.specs.Packages.{NamedPackage}
-use Rattle.jc_cap_text.specs.declared.pool.Entry.{Entry}
-use Rattle.jc_packages.specs.declared.target.Target.{Target}
-use Rattle.jc_packages.specs.Resolves.{resolution}
-use Rattle.jc_packages.specs.Values.{Packages}
+use Rattle.jc_cap_linkage.specs.Packages.{NamedPackage}
+use Rattle.jc_cap_linkage.specs.declared.pool.Entry.{Entry}
+use Rattle.jc_linker.specs.declared.target.Target.{Target}
+use Rattle.jc_linker.specs.Resolves.{resolution}
+use Rattle.jc_linker.specs.Values.{Packages}
 use Rattle.jc_linker.specs.declared.fault.LinkFault.{LinkFault}
 use Rattle.jc_linker.specs.declared.fault.LinkFault.TheVariants.{ImportMissing, ImportVersion, Unresolved, NoMemory}
-use Rattle.jc_linker.specs.Answers.{IsFault, onto, then_on}
+use Rattle.jc_linker.specs.Answers.{IsFault, list_append, then_on}
 use Rattle.jc_linker.specs.Imports.{import_number, import_numbers}
 use Rattle.jc_linker.specs.Linking.{targets_from}
-use Rattle.jc_loaded.proofs.Walks.{dropped_next}
+use Rattle.jc_linker.proofs.Walks.{dropped_next}
 
-pub onto_nothing : {A : Type 0} (r : Result (List A) LinkFault) → r ≡ onto [] r
-unfolding onto
+pub onto_nothing : {A : Type 0} (r : Result (List A) LinkFault) → r ≡ list_append [] r
+unfolding list_append
 onto_nothing (Ok xs) = refl
 onto_nothing (Err e) = refl
 
-onto_next : {A : Type 0} (xs : List A) (x : A) (r : Result (List A) LinkFault) → onto xs (then_on r (λ ys. Ok (x ∷ ys))) ≡ onto (xs ++ x ∷ []) r
-unfolding onto
+onto_next : {A : Type 0} (xs : List A) (x : A) (r : Result (List A) LinkFault) → list_append xs (then_on r (λ ys. Ok (x ∷ ys))) ≡ list_append (xs ++ x ∷ []) r
+unfolding list_append
 onto_next xs x (Ok ys) = ap Ok (sym (append_assoc xs (x ∷ []) ys))
 onto_next xs x (Err e) = refl
 
-onto_fault : {A : Type 0} (xs : List A) (e : LinkFault) → onto xs (Err e) ≡ Err e
-unfolding onto
+onto_fault : {A : Type 0} (xs : List A) (e : LinkFault) → list_append xs (Err e) ≡ Err e
+unfolding list_append
 onto_fault xs e = refl
 
-onto_end : {A : Type 0} (xs : List A) → onto xs (Ok []) ≡ Ok xs
-unfolding onto
+onto_end : {A : Type 0} (xs : List A) → list_append xs (Ok []) ≡ Ok xs
+unfolding list_append
 onto_end xs = ap Ok (append-nil xs)
 
 -- a fault is the answer
@@ -41,7 +41,8 @@ is_fault NoMemory said h = tt
 
 -- ---- imports
 
-imports_cons : (p : Packages) (i : NamedPackage) (is : List NamedPackage) → import_numbers p (i ∷ is) ≡ then_on (import_number p i) (λ n. then_on (import_numbers p is) (λ ns. Ok (n ∷ ns)))
+imports_cons : (p : Packages) (i : NamedPackage) (is : List NamedPackage) → import_numbers p (i ∷ is)
+    ≡ then_on (import_number p i) (λ n. then_on (import_numbers p is) (λ ns. Ok (n ∷ ns)))
 unfolding import_numbers
 imports_cons p i is = refl
 
@@ -49,18 +50,21 @@ imports_nil : (p : Packages) → import_numbers p [] ≡ Ok []
 unfolding import_numbers
 imports_nil p = refl
 
-pub imports_next : (p : Packages) (all : List NamedPackage) (k : ℕ) (i : NamedPackage) (n : ℕ) (ns : List ℕ) → slice_get all k ≡ Some i → import_number p i ≡ Ok n → onto ns (import_numbers p (drop k all)) ≡ onto (ns ++ n ∷ []) (import_numbers p (drop (k + 1) all))
+pub imports_next : (p : Packages) (all : List NamedPackage) (k : ℕ) (i : NamedPackage) (n : ℕ) (ns : List ℕ) → slice_get all k ≡ Some i
+    → import_number p i ≡ Ok n → list_append ns (import_numbers p (drop k all)) ≡ list_append (ns ++ n ∷ []) (import_numbers p (drop (k + 1) all))
 imports_next p all k i n ns at is =
-    ap (λ rest. onto ns (import_numbers p rest)) (dropped_next all k i at) ∙ ap (onto ns) (imports_cons p i (drop (k + 1) all))
-    ∙ ap (λ r. onto ns (then_on r (λ m. then_on (import_numbers p (drop (k + 1) all)) (λ ms. Ok (m ∷ ms))))) is ∙ onto_next ns n (import_numbers p (drop (k + 1) all))
+    ap (λ rest. list_append ns (import_numbers p rest)) (dropped_next all k i at) ∙ ap (list_append ns) (imports_cons p i (drop (k + 1) all))
+    ∙ ap (λ r. list_append ns (then_on r (λ m. then_on (import_numbers p (drop (k + 1) all)) (λ ms. Ok (m ∷ ms))))) is
+    ∙ onto_next ns n (import_numbers p (drop (k + 1) all))
 
-pub imports_fault : (p : Packages) (all : List NamedPackage) (k : ℕ) (i : NamedPackage) (e : LinkFault) (ns : List ℕ) → slice_get all k ≡ Some i → import_number p i ≡ Err e → onto ns (import_numbers p (drop k all)) ≡ Err e
+pub imports_fault : (p : Packages) (all : List NamedPackage) (k : ℕ) (i : NamedPackage) (e : LinkFault) (ns : List ℕ) → slice_get all k ≡ Some i
+    → import_number p i ≡ Err e → list_append ns (import_numbers p (drop k all)) ≡ Err e
 imports_fault p all k i e ns at is =
-    ap (λ rest. onto ns (import_numbers p rest)) (dropped_next all k i at) ∙ ap (onto ns) (imports_cons p i (drop (k + 1) all))
-    ∙ ap (λ r. onto ns (then_on r (λ m. then_on (import_numbers p (drop (k + 1) all)) (λ ms. Ok (m ∷ ms))))) is ∙ onto_fault ns e
+    ap (λ rest. list_append ns (import_numbers p rest)) (dropped_next all k i at) ∙ ap (list_append ns) (imports_cons p i (drop (k + 1) all))
+    ∙ ap (λ r. list_append ns (then_on r (λ m. then_on (import_numbers p (drop (k + 1) all)) (λ ms. Ok (m ∷ ms))))) is ∙ onto_fault ns e
 
-pub imports_end : (p : Packages) (all : List NamedPackage) (k : ℕ) (ns : List ℕ) → length all ≤ k → onto ns (import_numbers p (drop k all)) ≡ Ok ns
-imports_end p all k ns h = ap (λ rest. onto ns (import_numbers p rest)) (drop_all k all h) ∙ ap (onto ns) (imports_nil p) ∙ onto_end ns
+pub imports_end : (p : Packages) (all : List NamedPackage) (k : ℕ) (ns : List ℕ) → length all ≤ k → list_append ns (import_numbers p (drop k all)) ≡ Ok ns
+imports_end p all k ns h = ap (λ rest. list_append ns (import_numbers p rest)) (drop_all k all h) ∙ ap (list_append ns) (imports_nil p) ∙ onto_end ns
 
 -- ---- entries
 
@@ -68,21 +72,30 @@ targets_nil : (p : Packages) (number index : ℕ) → targets_from p number inde
 unfolding targets_from
 targets_nil p number index = refl
 
-targets_cons : (p : Packages) (number index : ℕ) (e : Entry) (es : List Entry) (t : Target) → resolution p number e ≡ Some t → targets_from p number index (e ∷ es) ≡ then_on (targets_from p number (index + 1) es) (λ ts. Ok (t ∷ ts))
+targets_cons : (p : Packages) (number index : ℕ) (e : Entry) (es : List Entry) (t : Target) → resolution p number e ≡ Some t
+    → targets_from p number index (e ∷ es) ≡ then_on (targets_from p number (index + 1) es) (λ ts. Ok (t ∷ ts))
 unfolding targets_from
 targets_cons p number index e es t is = rw is refl
 
-targets_none : (p : Packages) (number index : ℕ) (e : Entry) (es : List Entry) → resolution p number e ≡ None → targets_from p number index (e ∷ es) ≡ Err (Unresolved index)
+targets_none : (p : Packages) (number index : ℕ) (e : Entry) (es : List Entry) → resolution p number e ≡ None
+    → targets_from p number index (e ∷ es) ≡ Err (Unresolved index)
 unfolding targets_from
 targets_none p number index e es is = rw is refl
 
-pub targets_next : (p : Packages) (number : ℕ) (all : List Entry) (k : ℕ) (e : Entry) (t : Target) (ts : List Target) → slice_get all k ≡ Some e → resolution p number e ≡ Some t → onto ts (targets_from p number k (drop k all)) ≡ onto (ts ++ t ∷ []) (targets_from p number (k + 1) (drop (k + 1) all))
+pub targets_next : (p : Packages) (number : ℕ) (all : List Entry) (k : ℕ) (e : Entry) (t : Target) (ts : List Target) → slice_get all k ≡ Some e
+    → resolution p number e ≡ Some t → list_append ts (targets_from p number k (drop k all))
+    ≡ list_append (ts ++ t ∷ []) (targets_from p number (k + 1) (drop (k + 1) all))
 targets_next p number all k e t ts at is =
-    ap (λ rest. onto ts (targets_from p number k rest)) (dropped_next all k e at) ∙ ap (onto ts) (targets_cons p number k e (drop (k + 1) all) t is) ∙ onto_next ts t (targets_from p number (k + 1) (drop (k + 1) all))
+    ap (λ rest. list_append ts (targets_from p number k rest)) (dropped_next all k e at)
+    ∙ ap (list_append ts) (targets_cons p number k e (drop (k + 1) all) t is) ∙ onto_next ts t (targets_from p number (k + 1) (drop (k + 1) all))
 
-pub targets_fault : (p : Packages) (number : ℕ) (all : List Entry) (k : ℕ) (e : Entry) (ts : List Target) → slice_get all k ≡ Some e → resolution p number e ≡ None → onto ts (targets_from p number k (drop k all)) ≡ Err (Unresolved k)
+pub targets_fault : (p : Packages) (number : ℕ) (all : List Entry) (k : ℕ) (e : Entry) (ts : List Target) → slice_get all k ≡ Some e
+    → resolution p number e ≡ None → list_append ts (targets_from p number k (drop k all)) ≡ Err (Unresolved k)
 targets_fault p number all k e ts at is =
-    ap (λ rest. onto ts (targets_from p number k rest)) (dropped_next all k e at) ∙ ap (onto ts) (targets_none p number k e (drop (k + 1) all) is) ∙ onto_fault ts (Unresolved k)
+    ap (λ rest. list_append ts (targets_from p number k rest)) (dropped_next all k e at) ∙ ap (list_append ts) (targets_none p number k e (drop (k + 1) all) is)
+    ∙ onto_fault ts (Unresolved k)
 
-pub targets_end : (p : Packages) (number : ℕ) (all : List Entry) (k : ℕ) (ts : List Target) → length all ≤ k → onto ts (targets_from p number k (drop k all)) ≡ Ok ts
-targets_end p number all k ts h = ap (λ rest. onto ts (targets_from p number k rest)) (drop_all k all h) ∙ ap (onto ts) (targets_nil p number k) ∙ onto_end ts
+pub targets_end : (p : Packages) (number : ℕ) (all : List Entry) (k : ℕ) (ts : List Target) → length all ≤ k
+    → list_append ts (targets_from p number k (drop k all)) ≡ Ok ts
+targets_end p number all k ts h = ap (λ rest. list_append ts (targets_from p number k rest)) (drop_all k all h) ∙ ap (list_append ts) (targets_nil p number k)
+    ∙ onto_end ts

@@ -21,6 +21,6 @@ then_on (Ok x) f = f x
 then_on (Err e) f = Err e
 
 -- a list behind others
-unfoldable pub onto : {A : Type 0} → List A → Result (List A) LinkFault → Result (List A) LinkFault
-onto xs (Ok ys) = Ok (xs ++ ys)
-onto xs (Err e) = Err e
+unfoldable pub list_append : {A : Type 0} → List A → Result (List A) LinkFault → Result (List A) LinkFault
+list_append xs (Ok ys) = Ok (xs ++ ys)
+list_append xs (Err e) = Err e

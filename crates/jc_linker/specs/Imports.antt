@@ -4,10 +4,10 @@ use Rattle.std.specs.Option.{option_map, option_and_then}
 use Rattle.jc_platform.specs.declared.row.Version.{Version}
 use Rattle.jc_platform.specs.Numbers.{package_number}
 use Rattle.jc_platform.specs.Platform.{package_by_number}
-use Rattle.jc_cap_fields.specs.Packages.{NamedPackage}
-use Rattle.jc_packages.specs.Classes.{package_in}
-use Rattle.jc_packages.specs.Lookups.{found}
-use Rattle.jc_packages.specs.Values.{PackageValue, Packages}
+use Rattle.jc_cap_linkage.specs.Packages.{NamedPackage}
+use Rattle.jc_linker.specs.Classes.{package_in}
+use Rattle.jc_linker.specs.Lookups.{package_with_aid}
+use Rattle.jc_linker.specs.Values.{PackageValue, Packages}
 use Rattle.jc_linker.specs.declared.fault.LinkFault.{LinkFault}
 use Rattle.jc_linker.specs.declared.fault.LinkFault.TheVariants.{ImportMissing, ImportVersion}
 use Rattle.jc_linker.specs.Answers.{then_on}
@@ -31,7 +31,7 @@ if_fits p i None = Err ImportMissing
 if_fits p i (Some number) = if fits i (version_of p number) then Ok number else Err ImportVersion
 
 unfoldable pub import_number : Packages → NamedPackage → Result ℕ LinkFault
-import_number p i = if_fits p i (found p i.aid)
+import_number p i = if_fits p i (package_with_aid p i.aid)
 
 -- the numbers of all, or the fault of the first that fails
 unfoldable pub import_numbers : Packages → List NamedPackage → Result (List ℕ) LinkFault

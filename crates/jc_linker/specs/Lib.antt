@@ -1,5 +1,12 @@
+pub mod Values
+pub mod Classes
+pub mod Methods
+pub mod Lookups
+pub mod Resolves
+pub mod Outlines
 pub mod Answers
 pub mod Imports
 pub mod Linking
 pub mod Walk
-pub mod Whole
+pub mod Tables
+pub mod Completeness

@@ -1,23 +1,24 @@
 -- A package as it is linked.
-use Rattle.std.specs.Prelude.{ℕ, ◌+◌, ◌*◌, ◌/◌, ◌%◌, ◌==◌, min, true, false, List, [], ◌∷◌, ◌++◌, map, length, Option, Some, None, Result, Ok, Err, if◌then◌else◌, slice_get, unwrap_or}
-use Rattle.jc_cap_fields.specs.declared.class_refs.ClassRef.{ClassRef}
-use Rattle.jc_cap_text.specs.declared.pool.Entry.{Entry}
+use Rattle.std.specs.Prelude.{ℕ, ◌+◌, ◌*◌, ◌/◌, ◌%◌, ◌==◌, min, true, false, List, [], ◌∷◌, ◌++◌, map, length, Option, Some, None, Result, Ok, Err}
+use Rattle.std.specs.Prelude.{if◌then◌else◌, slice_get, unwrap_or}
+use Rattle.jc_cap_linkage.specs.declared.class_refs.ClassRef.{ClassRef}
+use Rattle.jc_cap_linkage.specs.declared.pool.Entry.{Entry}
 use Rattle.jc_cap_code.specs.declared.class_records.ClassRecord.{ClassRecord}
 use Rattle.jc_cap_code.specs.declared.class_records.ClassRecord.TheVariants as records
 use Rattle.jc_cap_code.specs.declared.class_records.ClassInfo.{ClassInfo}
-use Rattle.jc_cap_code.specs.ClassValues.{Placed}
+use Rattle.jc_cap_code.specs.ClassValues.{RecordAt}
 use Rattle.jc_cap_code.specs.Implemented.{Implemented}
-use Rattle.jc_packages.specs.declared.target.Target.{Target}
-use Rattle.jc_packages.specs.Classes.{size_of}
-use Rattle.jc_packages.specs.Resolves.{class_named, resolution}
-use Rattle.jc_packages.specs.Values.{ClassValue, Implementation, PackageValue, Packages}
-use Rattle.jc_loaded.specs.declared.components.Components.{Components}
-use Rattle.jc_loaded.specs.Outlines.{outline_of, outlined}
+use Rattle.jc_linker.specs.declared.target.Target.{Target}
+use Rattle.jc_linker.specs.Classes.{size_of}
+use Rattle.jc_linker.specs.Resolves.{class_named, resolution}
+use Rattle.jc_linker.specs.Values.{ClassValue, Implementation, PackageValue, Packages}
+use Rattle.jc_linker.specs.declared.components.LinkerComponents.{LinkerComponents}
+use Rattle.jc_linker.specs.Outlines.{outline_of, package_outline}
 use Rattle.jc_linker.specs.declared.fault.LinkFault.{LinkFault}
 use Rattle.jc_linker.specs.declared.fault.LinkFault.TheVariants.{Unresolved}
 use Rattle.jc_linker.specs.Answers.{then_on}
 use Rattle.jc_linker.specs.Imports.{import_numbers}
-use Rattle.jc_linker.specs.Whole.{are_whole}
+use Rattle.jc_linker.specs.Completeness.{are_complete}
 
 -- the packages with one more behind them
 abbrev pub with_package : Packages → PackageValue → Packages
@@ -71,7 +72,7 @@ class_by_record p names number done offset (records.Interface i) = record (outli
 }
 
 -- the classes of these records, behind those that are linked
-unfoldable pub classes_behind : Packages → Packages → ℕ → List ClassValue → List Placed → List ClassValue
+unfoldable pub classes_behind : Packages → Packages → ℕ → List ClassValue → List RecordAt → List ClassValue
 classes_behind p names number done [] = done
 classes_behind p names number done (r ∷ rs) = classes_behind p names number (done ++ class_by_record p names number done r.offset r.contents ∷ []) rs
 
@@ -87,18 +88,19 @@ targets_from p number index [] = Ok []
 targets_from p number index (e ∷ es) = if_resolved index (resolution p number e) (targets_from p number (index + 1) es)
 
 -- the package with its classes
-abbrev pub with_classes : Packages → Components → List ℕ → PackageValue
-with_classes p c imports = record (outlined c imports) { classes = classes_behind p (with_package p (outlined c imports)) (next_number p) [] c.classes }
+abbrev pub with_classes : Packages → LinkerComponents → List ℕ → PackageValue
+with_classes p c imports = record (package_outline c imports)
+    { classes = classes_behind p (with_package p (package_outline c imports)) (next_number p) [] c.classes }
 
 -- the package with what its entries resolve to, if its classes are whole
-abbrev pub if_whole : Packages → PackageValue → List Target → Result PackageValue LinkFault
-if_whole p q targets = if are_whole (with_package p q) (next_number p) q.classes then Ok (record q { targets = targets }) else Err (Unresolved 65535)
+abbrev pub if_complete : Packages → PackageValue → List Target → Result PackageValue LinkFault
+if_complete p q targets = if are_complete (with_package p q) (next_number p) q.classes then Ok (record q { targets = targets }) else Err (Unresolved 65535)
 
 -- the package with its classes, with what its entries resolve to
-abbrev pub resolved : Packages → Components → PackageValue → Result PackageValue LinkFault
-resolved p c q = then_on (targets_from (with_package p q) (next_number p) 0 c.pool) (if_whole p q)
+abbrev pub resolved_package : Packages → LinkerComponents → PackageValue → Result PackageValue LinkFault
+resolved_package p c q = then_on (targets_from (with_package p q) (next_number p) 0 c.pool) (if_complete p q)
 
 -- a package linked against these: the fault of the first import that fails, else the lowest index of an entry that
 -- doesn't resolve, else 65535 where the Class component names what is not there
-unfoldable pub linking : Packages → Components → Result PackageValue LinkFault
-linking p c = then_on (import_numbers p c.imports) (λ imports. resolved p c (with_classes p c imports))
+unfoldable pub link_result : Packages → LinkerComponents → Result PackageValue LinkFault
+link_result p c = then_on (import_numbers p c.imports) (λ imports. resolved_package p c (with_classes p c imports))

@@ -1,7 +1,7 @@
 -- A walk from a class upwards.
 use Rattle.std.specs.Prelude.{ℕ, Option, Some}
-use Rattle.jc_packages.specs.Classes.{superclass_in}
-use Rattle.jc_packages.specs.Values.{Packages}
+use Rattle.jc_linker.specs.Classes.{superclass_in}
+use Rattle.jc_linker.specs.Values.{Packages}
 use Rattle.jc_linker.specs.declared.lineage.Next.{Next}
 use Rattle.jc_linker.specs.declared.lineage.Next.TheVariants.{Class, Above}
 

@@ -1,15 +1,26 @@
 //! Classes by their words.
-ghost use Rattle.std.specs.Prelude.{◌≡◌};
-ghost use Rattle.jc_packages.specs.Classes.{implements, interfaces_in, is_below, is_class, is_listed, is_made, is_shareable, own_reference, class_in, reference_cell, size_of, superclass_in};
+ghost use Rattle.std.specs.Prelude.{◌≡◌, ◌<◌};
+ghost use Rattle.jc_linker.specs.Classes.{extends, implements, interfaces_in, is_among, is_below, is_class, is_deep, is_listed, is_instantiable_class};
+ghost use Rattle.jc_linker.specs.Classes.{is_shareable, is_told, lineage, lists_some, own_reference, class_in, reference_cell, size_of, superclass_in};
+ghost use Rattle.jc_linker.specs.Tables.{extends_by};
 ghost use Rattle.jc_platform.specs.Platform.{class_by_word};
 
+use crate::lineage::MOST_CLASSES;
 use crate::scope::Scope;
-use jc_names::ClassWord;
 use jc_platform::names::PlatformClass;
+use jc_transient::ClassWord;
+
+// What the table tells of an interface with a lower word.
+fn is_told(table: &[bool], superinterface: ClassWord, interface: ClassWord) -> bool
+    ensures { result ≡ is_told table.now superinterface interface }
+{
+    let place = superinterface.0 as usize;
+    superinterface.0 < interface.0 && table.get(place).copied().unwrap_or(false)
+}
 
 impl Scope<'_> {
     /// A class or an interface stands behind this word.
-    #[tactic(auto, unfolding(jc_packages::specs::Classes::is_class))]
+    #[tactic(auto, unfolding(crate::specs::Classes::is_class))]
     pub(crate) fn is_class(&self, class: ClassWord) -> bool
         ensures { result ≡ is_class self.now class }
     {
@@ -17,7 +28,7 @@ impl Scope<'_> {
     }
 
     /// The superclass. `Object` and interfaces have none.
-    #[tactic(auto, unfolding(jc_packages::specs::Classes::superclass_in))]
+    #[tactic(auto, unfolding(crate::specs::Classes::superclass_in))]
     pub(crate) fn superclass(&self, class: ClassWord) -> Option<ClassWord>
         ensures { result ≡ superclass_in self.now class }
     {
@@ -33,7 +44,7 @@ impl Scope<'_> {
     }
 
     // The class lists the interface.
-    #[tactic(auto, unfolding(jc_packages::specs::Classes::interfaces_in))]
+    #[tactic(auto, unfolding(crate::specs::Classes::interfaces_in))]
     fn lists(&self, class: ClassWord, interface: ClassWord) -> bool
         ensures { result ≡ is_listed interface (interfaces_in self.now class) }
     {
@@ -49,14 +60,97 @@ impl Scope<'_> {
         }
     }
 
-    // The class implements the interface itself, or an interface that extends it.
-    #[tactic(auto, unfolding(jc_packages::specs::Classes::implements, jc_packages::specs::Classes::interfaces_in))]
+    // A class or an interface lists some interface.
+    #[tactic(auto, unfolding(crate::specs::Classes::interfaces_in))]
+    fn lists_some(&self, class: ClassWord) -> bool
+        ensures { result ≡ lists_some self.now class }
+    {
+        if let Some(loaded) = self.loaded_class(class) {
+            return !loaded.interfaces.is_empty();
+        }
+        match self.platform.class_by_word(class) {
+            Some(named) => named.interface().is_some(),
+            None => false,
+        }
+    }
+
+    // One of the interfaces that a loaded interface lists has a list of its own.
+    #[tactic(auto, unfolding(crate::specs::Classes::interfaces_in))]
+    fn is_deep(&self, interface: ClassWord) -> bool
+        ensures { result ≡ is_deep self.now interface }
+    {
+        if let Some(loaded) = self.loaded_class(interface) {
+            return loaded.interfaces.iter().any(|listed| listed.interface.0 < interface.0
+                && self.lists_some(listed.interface));
+        }
+        let Some(named) = self.platform.class_by_word(interface) else {
+            return false;
+        };
+        match named.interface() {
+            Some(listed) => {
+                let word = self.platform.class_word(listed);
+                word.0 < interface.0 && self.lists_some(word)
+            }
+            None => false,
+        }
+    }
+
+    // It lists the interface, or one of which the table tells that it extends it.
+    #[tactic(auto, unfolding(crate::specs::Classes::interfaces_in))]
+    fn extends_by(&self, interface: ClassWord, of: ClassWord, table: &[bool]) -> bool
+        ensures { result ≡ extends_by self.now of table.now interface }
+    {
+        if let Some(loaded) = self.loaded_class(interface) {
+            return loaded.interfaces.iter().any(|listed| listed.interface == of
+                || is_told(table, listed.interface, interface));
+        }
+        let Some(named) = self.platform.class_by_word(interface) else {
+            return false;
+        };
+        match named.interface() {
+            Some(listed) => {
+                let word = self.platform.class_word(listed);
+                word == of || is_told(table, word, interface)
+            }
+            None => false,
+        }
+    }
+
+    // An interface of a loaded package extends the other one: those with lower words are looked at in turn.
+    fn extends_deep(&self, interface: ClassWord, of: ClassWord) -> bool
+        requires { interface < 8704 }
+        ensures { result ≡ extends self.now interface of }
+    {
+        let mut table = [false; MOST_CLASSES as usize];
+        for word in 0..interface.0 {
+            table[word as usize] = self.extends_by(ClassWord(word), of, &table);
+        }
+        self.extends_by(interface, of, &table)
+    }
+
+    // An interface extends the other one. Only where it lists interfaces that list others does it take more time than
+    // its list is long.
+    #[tactic(auto, using(crate::proofs::Extending::extends_listed, crate::proofs::Extending::extends_high, crate::proofs::Extending::extends_shallow))]
+    fn extends(&self, interface: ClassWord, of: ClassWord) -> bool
+        ensures { result ≡ extends self.now interface of }
+    {
+        if self.lists(interface, of) {
+            return true;
+        }
+        if interface.0 >= MOST_CLASSES || !self.is_deep(interface) {
+            return false;
+        }
+        self.extends_deep(interface, of)
+    }
+
+    // The class itself lists the interface, or one that extends it.
+    #[tactic(auto, unfolding(crate::specs::Classes::implements, crate::specs::Classes::interfaces_in))]
     fn implements(&self, class: ClassWord, interface: ClassWord) -> bool
         ensures { result ≡ implements self.now class interface }
     {
         if let Some(loaded) = self.loaded_class(class) {
             return loaded.interfaces.iter().any(|listed| listed.interface == interface
-                || self.lists(listed.interface, interface));
+                || self.extends(listed.interface, interface));
         }
         let Some(named) = self.platform.class_by_word(class) else {
             return false;
@@ -64,18 +158,34 @@ impl Scope<'_> {
         match named.interface() {
             Some(listed) => {
                 let word = self.platform.class_word(listed);
-                word == interface || self.lists(word, interface)
+                word == interface || self.extends(word, interface)
             }
             None => false,
         }
     }
 
+    // The class is the other or below it, whatever they list.
+    fn reaches(&self, class: ClassWord, of: ClassWord) -> bool
+        ensures { result ≡ is_among of (lineage self.now class) }
+    {
+        let mut walk = self.lineage(class);
+        while let Some(above) = walk.pop() {
+            if above == of {
+                return true;
+            }
+        }
+        false
+    }
+
     /// A subtype: the class is the other, below it, or implements it. It takes time that grows with the number of
-    /// classes above.
-    #[tactic(auto, unfolding(jc_packages::specs::Classes::is_below, jc_packages::specs::Classes::any_is))]
+    /// classes above, and with the interfaces that they list.
+    #[tactic(auto, using(crate::proofs::Extending::among_is), unfolding(crate::specs::Classes::is_below, crate::specs::Classes::any_is))]
     pub(crate) fn is_below(&self, class: ClassWord, of: ClassWord) -> bool
         ensures { result ≡ is_below self.now class of }
     {
+        if self.reaches(class, of) {
+            return true;
+        }
         let mut walk = self.lineage(class);
         while let Some(above) = walk.pop() {
             if above == of || self.implements(above, of) {
@@ -86,7 +196,7 @@ impl Scope<'_> {
     }
 
     /// An interface that extends `Shareable`, or a class with such an interface.
-    #[tactic(auto, unfolding(jc_packages::specs::Classes::is_shareable))]
+    #[tactic(auto, unfolding(crate::specs::Classes::is_shareable))]
     pub(crate) fn is_shareable(&self, class: ClassWord) -> bool
         ensures { result ≡ is_shareable self.now class }
     {
@@ -94,7 +204,7 @@ impl Scope<'_> {
     }
 
     /// How many cells an instance has.
-    #[tactic(auto, unfolding(jc_packages::specs::Classes::size_of))]
+    #[tactic(auto, unfolding(crate::specs::Classes::size_of))]
     pub(crate) fn size_of(&self, class: ClassWord) -> u32
         ensures { result ≡ size_of self.now class }
     {
@@ -108,9 +218,9 @@ impl Scope<'_> {
     }
 
     /// `new` makes instances of it.
-    #[tactic(auto, unfolding(jc_packages::specs::Classes::is_made))]
-    pub(crate) fn is_made(&self, class: ClassWord) -> bool
-        ensures { result ≡ is_made self.now class }
+    #[tactic(auto, unfolding(crate::specs::Classes::is_instantiable_class))]
+    pub(crate) fn is_instantiable_class(&self, class: ClassWord) -> bool
+        ensures { result ≡ is_instantiable_class self.now class }
     {
         if let Some(loaded) = self.loaded_class(class) {
             return !loaded.is_interface;
@@ -122,7 +232,7 @@ impl Scope<'_> {
     }
 
     /// A cell of an instance holds a reference.
-    #[tactic(auto, unfolding(jc_packages::specs::Classes::reference_cell, jc_packages::specs::Classes::any_reference))]
+    #[tactic(auto, unfolding(crate::specs::Classes::reference_cell, crate::specs::Classes::any_reference))]
     pub(crate) fn reference_cell(&self, class: ClassWord, cell: u16) -> bool
         ensures { result ≡ reference_cell self.now class cell }
     {
@@ -137,7 +247,8 @@ impl Scope<'_> {
 
     // The cell belongs to this class, not to a superclass, and holds a reference.
     fn own_reference(&self, class: ClassWord, cell: u16) -> bool
-        ensures { result ≡ own_reference (class_in self.now class) (class_by_word self.now.platform class) cell }
+        ensures { result ≡ own_reference (class_in self.now class)
+            (class_by_word self.now.platform class) cell }
     {
         if let Some(loaded) = self.loaded_class(class) {
             let cell = u32::from(cell);

@@ -1,16 +1,16 @@
 //! The classes of a package, linked.
 ghost use Rattle.std.specs.Prelude.{◌≡◌, ◌+◌, ◌≤◌, ◌<◌, [], length, map, IfOk};
-ghost use Rattle.jc_cap_code.specs.ImplementedViews.{implemented};
+ghost use Rattle.jc_cap_code.specs.ImplementedViews.{implemented_value};
 ghost use Rattle.jc_linker.specs.Linking.{cells_above, class_by_record, class_of, classes_behind, implementation_of, superinterface_of, word_of};
 
+use crate::class::{LinkedClass, LinkedInterface, TokenTable};
+use crate::copies::{bytes, numbers, outline};
 use crate::scope::Scope;
 use jc_cap_code::class_lists::{ClassRefs, ImplementedInterface, ImplementedInterfaces};
 use jc_cap_code::class_records::{ClassInfo, ClassRecord};
 use jc_cap_code::classes::Classes;
-use jc_cap_fields::class_refs::ClassRef;
-use jc_loaded::class::{Implemented, LinkedClass, TokenTable};
-use jc_loaded::copies::{bytes, numbers, outline};
-use jc_names::{ClassWord, NO_CLASS};
+use jc_cap_linkage::class_refs::ClassRef;
+use jc_transient::{ClassWord, NO_CLASS};
 use std::alloc::{AllocError, Global};
 
 /// What the names of classes are looked up in: the packages that were loaded, and behind them the one that is being
@@ -31,7 +31,9 @@ impl Linking<'_> {
         classes: &Classes<'_>,
     ) -> Result<Vec<LinkedClass>, AllocError>
         requires { length classes.now ≤ 256 }
-        ensures linked { IfOk result (λ done. done.items ≡ classes_behind self.now.loaded.now self.now.names.now self.now.number [] classes.now) }
+        ensures linked { IfOk result (λ done. done.items
+            ≡ classes_behind self.now.loaded.now self.now.names.now self.now.number []
+            classes.now) }
         ensures few { IfOk result (λ done. length done.items ≤ 256) }
     {
         let mut done = Vec::new(alloc);
@@ -50,7 +52,8 @@ impl Linking<'_> {
         offset: u16,
         told: ClassRecord<'_>,
     ) -> Result<LinkedClass, AllocError>
-        ensures { IfOk result (λ class. class ≡ class_by_record self.now.loaded.now self.now.names.now self.now.number done.now offset told.entry) }
+        ensures { IfOk result (λ class. class ≡ class_by_record self.now.loaded.now
+            self.now.names.now self.now.number done.now offset told.entry) }
     {
         match told {
             ClassRecord::Class(info) => self.class_of(alloc, done, offset, info),
@@ -70,7 +73,8 @@ impl Linking<'_> {
         offset: u16,
         info: ClassInfo<'_>,
     ) -> Result<LinkedClass, AllocError>
-        ensures { IfOk result (λ class. class ≡ class_of self.now.loaded.now self.now.names.now self.now.number done.now offset info.entry) }
+        ensures { IfOk result (λ class. class ≡ class_of self.now.loaded.now self.now.names.now
+            self.now.number done.now offset info.entry) }
     {
         let superclass = self.word_of(info.superclass);
         let interfaces = self.implementations(alloc, info.interfaces)?;
@@ -122,8 +126,9 @@ impl Linking<'_> {
         &self,
         alloc: Global,
         list: &ClassRefs<'_>,
-    ) -> Result<Vec<Implemented>, AllocError>
-        ensures { IfOk result (λ made. made.items ≡ map (superinterface_of self.now.names.now self.now.number) list.now) }
+    ) -> Result<Vec<LinkedInterface>, AllocError>
+        ensures { IfOk result (λ made. made.items ≡ map
+            (superinterface_of self.now.names.now self.now.number) list.now) }
     {
         let mut made = Vec::new(alloc);
         for place in 0..list.count() {
@@ -136,8 +141,9 @@ impl Linking<'_> {
         &self,
         alloc: Global,
         list: ImplementedInterfaces<'_>,
-    ) -> Result<Vec<Implemented>, AllocError>
-        ensures { IfOk result (λ made. made.items ≡ map (implementation_of self.now.names.now self.now.number) list.entry) }
+    ) -> Result<Vec<LinkedInterface>, AllocError>
+        ensures { IfOk result (λ made. made.items ≡ map
+            (implementation_of self.now.names.now self.now.number) list.entry) }
     {
         let mut made = Vec::new(alloc);
         let mut rest = list;
@@ -149,10 +155,10 @@ impl Linking<'_> {
         Ok(made)
     }
 
-    fn superinterface(&self, alloc: Global, class: ClassRef) -> Implemented
+    fn superinterface(&self, alloc: Global, class: ClassRef) -> LinkedInterface
         ensures { result ≡ superinterface_of self.now.names.now self.now.number class }
     {
-        Implemented {
+        LinkedInterface {
             interface: self.word_of(class),
             tokens: Vec::new(alloc),
         }
@@ -162,10 +168,11 @@ impl Linking<'_> {
         &self,
         alloc: Global,
         info: ImplementedInterface<'_>,
-    ) -> Result<Implemented, AllocError>
-        ensures { IfOk result (λ made. made ≡ implementation_of self.now.names.now self.now.number (implemented info.entry)) }
+    ) -> Result<LinkedInterface, AllocError>
+        ensures { IfOk result (λ made. made ≡ implementation_of self.now.names.now self.now.number
+            (implemented_value info.entry)) }
     {
-        Ok(Implemented {
+        Ok(LinkedInterface {
             interface: self.word_of(info.interface),
             tokens: bytes(alloc, info.tokens)?,
         })

@@ -1,13 +1,13 @@
 //! Which packages a package imports.
 ghost use Rattle.std.specs.Prelude.{◌≡◌, [], ◌∷◌, ◌++◌, OnOk};
-ghost use Rattle.jc_cap_fields.specs.Views.{package_info};
+ghost use Rattle.jc_cap_linkage.specs.FieldViews.{package_info};
 ghost use Rattle.jc_linker.specs.Answers.{Answers};
 ghost use Rattle.jc_linker.specs.Imports.{import_number, import_numbers, version_of};
 
 use crate::fault::LinkFault;
 use crate::linked::Linked;
-use jc_cap_fields::packages::PackageInfo;
-use jc_cap_text::imports::Imports;
+use jc_cap_linkage::imports::Imports;
+use jc_cap_linkage::packages::PackageInfo;
 use jc_platform::row::Version;
 use std::alloc::{AllocError, Global};
 
@@ -32,7 +32,7 @@ impl Linked {
     fn import_number(&self, import: PackageInfo<'_>) -> Result<u8, LinkFault>
         ensures { result ≡ import_number self.now (package_info import.entry) }
     {
-        let Some(number) = self.found(import.aid) else {
+        let Some(number) = self.package_with_aid(import.aid) else {
             return Err(LinkFault::ImportMissing);
         };
         match self.version_of(number) {

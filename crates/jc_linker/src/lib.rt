@@ -1,8 +1,15 @@
+//! Linked packages, as the machine reads them: what entries resolve to, and the words for look-ups. Types and
+//! definitions alone.
+//! Loaded packages as values, and what is copied of their components.
 //! Linked packages: classes, methods and entries by their numbers.
 #![tactic(auto)]
 
+pub mod class;
 mod classes;
 mod classes_linked;
+mod completeness;
+pub mod components;
+pub mod copies;
 pub mod fault;
 mod imports;
 mod lineage;
@@ -10,6 +17,8 @@ pub mod link;
 pub mod linked;
 mod lookups;
 mod methods;
+pub mod package;
 mod resolve;
 mod scope;
-mod whole;
+pub mod search;
+pub mod target;

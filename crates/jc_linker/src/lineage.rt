@@ -1,14 +1,14 @@
 //! A class and the classes above it.
 ghost use Rattle.std.specs.Prelude.{◌≡◌, [], ◌∷◌, MatchOption};
 ghost use Rattle.jc_linker.specs.Walk.{next_class};
-ghost use Rattle.jc_packages.specs.Classes.{lineage};
+ghost use Rattle.jc_linker.specs.Classes.{lineage};
 
 use crate::scope::Scope;
-use jc_names::ClassWord;
+use jc_transient::ClassWord;
 use std::marker::Model;
 
 /// More classes than this no card has.
-const MOST_CLASSES: u16 = 8704;
+pub(crate) const MOST_CLASSES: u16 = 8704;
 
 /// Which class comes next in a walk. A superclass is looked up only as it is asked for.
 #[derive(Clone, Copy)]
@@ -29,7 +29,7 @@ pub(crate) struct Lineage<'a> {
 
 impl<'a> Model for Lineage<'a> {
     ghost use Rattle.std.specs.Prelude.{ℕ, List};
-    ghost use Rattle.jc_packages.specs.Classes.{lineage_from};
+    ghost use Rattle.jc_linker.specs.Classes.{lineage_from};
     ghost use Rattle.jc_linker.specs.Walk.{next_class};
 
     ghost Value = { List ℕ };
@@ -61,7 +61,7 @@ impl<'a> Scope<'a> {
 
 impl<'a> Lineage<'a> {
     /// The next class.
-    #[tactic(auto, unfolding(jc_packages::specs::Classes::lineage_from))]
+    #[tactic(auto, unfolding(crate::specs::Classes::lineage_from))]
     pub(crate) fn pop(&mut self) -> Option<ClassWord>
         ensures { MatchOption result (self.old ≡ []) (λ class. self.old ≡ class ∷ self.new) }
     {

@@ -1,42 +1,42 @@
 //! Linking a package.
 ghost use Rattle.std.specs.Prelude.{◌≡◌, ◌<◌, ◌≤◌, ◌++◌, [], ◌∷◌, IfOk, OnOk, length};
 ghost use Rattle.jc_linker.specs.Answers.{Answers};
-ghost use Rattle.jc_linker.specs.Linking.{classes_behind, linking, targets_from, with_package};
+ghost use Rattle.jc_linker.specs.Linking.{classes_behind, link_result, targets_from, with_package};
 
+use crate::class::LinkedClass;
 use crate::classes_linked::Linking;
+use crate::components::LinkerComponents;
+use crate::copies::package_outline;
 use crate::fault::LinkFault;
 use crate::linked::{Addition, Linked};
+use crate::package::LinkedPackage;
 use crate::scope::Scope;
+use crate::target::Target;
 use jc_cap_code::classes::Classes;
-use jc_cap_text::pool::ConstantPool;
-use jc_loaded::class::LinkedClass;
-use jc_loaded::components::Components;
-use jc_loaded::copies::outlined;
-use jc_loaded::package::LinkedPackage;
-use jc_packages::target::Target;
+use jc_cap_linkage::pool::ConstantPool;
 use std::alloc::{AllocError, Global};
 
 /// Links a package against those that are there: what each entry of its constant pool resolves to is found here, once.
 /// The fault is that of the first import that fails; else the lowest index of an entry that does not resolve; else 65535
 /// where the Class component names what is not there.
-#[tactic(auto, unfolding(crate::specs::Linking::linking))]
+#[tactic(auto, unfolding(crate::specs::Linking::link_result))]
 pub fn link(
     alloc: Global,
     linked: &Linked,
-    components: &Components<'_>,
+    components: &LinkerComponents<'_>,
 ) -> Result<Addition, LinkFault>
     requires room { length linked.now.loaded < 32 }
     requires few { length components.now.classes ≤ 256 }
-    ensures { Answers (λ added. added) result (linking linked.now components.now) }
+    ensures { Answers (λ added. added) result (link_result linked.now components.now) }
 {
     let number = linked.count() as u8 + 1;
     let imports = linked.import_numbers(alloc, &components.imports)?;
-    let mut package = outlined(alloc, components, imports)?;
+    let mut package = package_outline(alloc, components, imports)?;
     let classes = linked_classes(alloc, linked, &package, number, &components.classes)?;
     package.classes = classes;
     let scope = linked.scope_with(&package);
     let targets = scope.targets(alloc, number, &components.pool)?;
-    if !scope.are_whole(number, &package.classes) {
+    if !scope.are_complete(number, &package.classes) {
         return Err(LinkFault::Unresolved(65535));
     }
     package.targets = targets;
@@ -52,7 +52,8 @@ fn linked_classes(
     records: &Classes<'_>,
 ) -> Result<Vec<LinkedClass>, AllocError>
     requires { length records.now ≤ 256 }
-    ensures classes { IfOk result (λ made. made.items ≡ classes_behind linked.now (with_package linked.now outlined.now) number [] records.now) }
+    ensures classes { IfOk result (λ made. made.items
+        ≡ classes_behind linked.now (with_package linked.now outlined.now) number [] records.now) }
     ensures few { IfOk result (λ made. length made.items ≤ 256) }
 {
     let loaded = linked.scope();
@@ -74,7 +75,8 @@ impl Scope<'_> {
         number: u8,
         pool: &ConstantPool<'_>,
     ) -> Result<Vec<Target>, LinkFault>
-        ensures { Answers (λ targets. targets.items) result (targets_from self.now number 0 pool.now) }
+        ensures { Answers (λ targets. targets.items) result
+            (targets_from self.now number 0 pool.now) }
     {
         let mut targets = Vec::new(alloc);
         for index in 0..pool.count() {

@@ -1,16 +1,16 @@
 //! The packages of a card.
 ghost use Rattle.std.specs.Prelude.{◌≡◌, ◌<◌, ◌≤◌, ◌++◌, [], ◌∷◌, length, slice_get, IfOk, option_copied};
-ghost use Rattle.jc_packages.specs.Classes.{is_below, is_class, is_made, is_shareable, package_in, reference_cell, size_of, superclass_in};
+ghost use Rattle.jc_linker.specs.Classes.{is_below, is_class, is_instantiable_class, is_shareable, package_in, reference_cell, size_of, superclass_in};
 ghost use Rattle.jc_linker.specs.Linking.{with_package};
-ghost use Rattle.jc_packages.specs.Methods.{interface_method_at, method_at};
-ghost use Rattle.jc_packages.specs.Resolves.{names_interface};
+ghost use Rattle.jc_linker.specs.Methods.{interface_method_at, method_at};
+ghost use Rattle.jc_linker.specs.Resolves.{names_interface};
 
+use crate::package::LinkedPackage;
 use crate::scope::Scope;
-use jc_cap_text::pool::VirtualToken;
-use jc_loaded::package::LinkedPackage;
-use jc_names::ClassWord;
-use jc_packages::target::Method;
+use crate::target::Method;
+use jc_cap_linkage::pool::VirtualToken;
 use jc_platform::platform::Platform;
+use jc_transient::ClassWord;
 use std::alloc::{AllocError, Global};
 use std::marker::Model;
 
@@ -26,7 +26,7 @@ pub struct Linked {
 
 impl Model for Linked {
     ghost use Rattle.std.specs.Prelude.{◌≤◌, length, vec_capacity};
-    ghost use Rattle.jc_packages.specs.Values.{Packages};
+    ghost use Rattle.jc_linker.specs.Values.{Packages};
 
     ghost Value = { Packages };
 
@@ -42,7 +42,7 @@ pub struct Addition {
 }
 
 impl Model for Addition {
-    ghost use Rattle.jc_packages.specs.Values.{PackageValue};
+    ghost use Rattle.jc_linker.specs.Values.{PackageValue};
 
     ghost Value = { PackageValue };
 
@@ -93,7 +93,7 @@ impl Linked {
         self.loaded.len() as u8
     }
 
-    #[tactic(auto, unfolding(jc_packages::specs::Classes::package_in))]
+    #[tactic(auto, unfolding(crate::specs::Classes::package_in))]
     pub(crate) fn package(&self, number: u8) -> Option<&LinkedPackage>
         ensures { option_copied result ≡ package_in self.now number }
     {
@@ -141,7 +141,7 @@ impl Linked {
     }
 
     /// A subtype: the class is the other, below it, or implements it. It takes time that grows with the number of
-    /// classes above.
+    /// classes above, and with the interfaces that they list.
     pub fn is_below(&self, class: ClassWord, of: ClassWord) -> bool
         ensures { result ≡ is_below self.now class of }
     {
@@ -170,10 +170,10 @@ impl Linked {
     }
 
     /// `new` makes instances of it.
-    pub fn is_made(&self, class: ClassWord) -> bool
-        ensures { result ≡ is_made self.now class }
+    pub fn is_instantiable_class(&self, class: ClassWord) -> bool
+        ensures { result ≡ is_instantiable_class self.now class }
     {
-        self.scope().is_made(class)
+        self.scope().is_instantiable_class(class)
     }
 
     /// A cell of an instance holds a reference.

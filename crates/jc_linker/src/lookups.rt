@@ -2,16 +2,16 @@
 ghost use Rattle.std.specs.Prelude.{◌≡◌, ◌<◌, ◌≤◌, IfSome, length, option_copied, position};
 ghost use Rattle.std.specs.Option.{option_map};
 ghost use Rattle.std.specs.Str.{bytes_eq};
-ghost use Rattle.jc_packages.specs.Classes.{package_in};
-ghost use Rattle.jc_packages.specs.Lookups.{applet_entry, code_at, entry_at, entry_with_aid, found, methods_of, statics_at, target_at};
+ghost use Rattle.jc_linker.specs.Classes.{package_in};
+ghost use Rattle.jc_linker.specs.Lookups.{applet_entry, code_at, entry_at, entry_with_aid, package_with_aid, methods_of, statics_at, target_at};
 
 use crate::linked::Linked;
-use jc_packages::target::Target;
+use crate::target::Target;
 use jc_platform::names::PlatformPackage;
 
 impl Linked {
-    /// What an entry of a package's constant pool resolves to, in constant time; none only past the pool's end.
-    #[tactic(auto, unfolding(jc_packages::specs::Lookups::target_at))]
+    /// What an entry of a package's constant pool resolves to; none only past the pool's end.
+    #[tactic(auto, unfolding(crate::specs::Lookups::target_at))]
     pub fn target_at(&self, package_number: u8, index: u16) -> Option<&Target>
         ensures { option_copied result ≡ target_at self.entry.now package_number index }
     {
@@ -19,7 +19,7 @@ impl Linked {
     }
 
     /// The bytes of a package's Method component from an offset on.
-    #[tactic(auto, unfolding(jc_packages::specs::Lookups::code_at))]
+    #[tactic(auto, unfolding(crate::specs::Lookups::code_at))]
     pub fn code_at(&self, package_number: u8, offset: u16) -> &[u8]
         requires { offset ≤ length (methods_of (package_in self.now package_number)) }
         ensures { result.now ≡ code_at self.entry.now package_number offset }
@@ -31,7 +31,7 @@ impl Linked {
     }
 
     /// The size of a package's static image in bytes, and how many references it begins with.
-    #[tactic(auto, unfolding(jc_packages::specs::Lookups::statics_at))]
+    #[tactic(auto, unfolding(crate::specs::Lookups::statics_at))]
     pub fn statics_at(&self, package_number: u8) -> (u16, u16)
         ensures { result ≡ statics_at self.now package_number }
     {
@@ -42,7 +42,7 @@ impl Linked {
     }
 
     /// Where the install method of the first applet with this AID stands in a package.
-    #[tactic(auto, unfolding(jc_packages::specs::Lookups::entry_at))]
+    #[tactic(auto, unfolding(crate::specs::Lookups::entry_at))]
     pub fn entry_at(&self, package_number: u8, aid: &[u8]) -> Option<u16>
         ensures { result ≡ entry_at self.now package_number aid.now }
     {
@@ -50,25 +50,27 @@ impl Linked {
     }
 
     /// The AID of the entry with this number in a package's Applet component.
-    #[tactic(auto, unfolding(jc_packages::specs::Lookups::applet_entry))]
+    #[tactic(auto, unfolding(crate::specs::Lookups::applet_entry))]
     pub fn applet_aid(&self, package_number: u8, entry: u8) -> Option<&[u8]>
-        ensures { option_copied result ≡ option_map (λ a. a.aid) (applet_entry self.entry.now package_number entry) }
+        ensures { option_copied result ≡ option_map (λ a. a.aid)
+            (applet_entry self.entry.now package_number entry) }
     {
         let package = self.package(package_number)?;
         Some(package.applets.get(entry as usize)?.aid.as_slice())
     }
 
     /// Where the install method of the entry with this number in a package's Applet component stands.
-    #[tactic(auto, unfolding(jc_packages::specs::Lookups::applet_entry))]
+    #[tactic(auto, unfolding(crate::specs::Lookups::applet_entry))]
     pub fn install_at(&self, package_number: u8, entry: u8) -> Option<u16>
-        ensures { result ≡ option_map (λ a. a.install_offset) (applet_entry self.now package_number entry) }
+        ensures { result ≡ option_map (λ a. a.install_offset)
+            (applet_entry self.now package_number entry) }
     {
         let package = self.package(package_number)?;
         Some(package.applets.get(entry as usize)?.install_offset)
     }
 
     /// The number of the first entry with this AID in a package's Applet component.
-    #[tactic(auto, unfolding(jc_packages::specs::Lookups::entry_with_aid))]
+    #[tactic(auto, unfolding(crate::specs::Lookups::entry_with_aid))]
     pub fn entry_with_aid(&self, package_number: u8, aid: &[u8]) -> Option<u8>
         ensures { result ≡ entry_with_aid self.now package_number aid.now }
     {
@@ -78,9 +80,9 @@ impl Linked {
     }
 
     /// The number of the package with this AID.
-    #[tactic(auto, unfolding(jc_packages::specs::Lookups::found))]
-    pub fn found(&self, aid: &[u8]) -> Option<u8>
-        ensures { result ≡ found self.now aid.now }
+    #[tactic(auto, unfolding(crate::specs::Lookups::package_with_aid))]
+    pub fn package_with_aid(&self, aid: &[u8]) -> Option<u8>
+        ensures { result ≡ package_with_aid self.now aid.now }
     {
         if let Some(named) = PlatformPackage::with_aid(aid) {
             return Some(self.platform.number(named));

@@ -1,20 +1,20 @@
 //! Methods by class and token.
 ghost use Rattle.std.specs.Prelude.{◌≡◌};
-ghost use Rattle.jc_packages.specs.Classes.{lineage};
-ghost use Rattle.jc_packages.specs.Methods.{carried_in, if_native, interface_method_at, method_at, method_in, natively, searched};
+ghost use Rattle.jc_linker.specs.Classes.{lineage};
+ghost use Rattle.jc_linker.specs.Methods.{implementation_in, if_native, interface_method_at, method_at, method_in, native_implementation, first_decided};
 ghost use Rattle.jc_platform.specs.Platform.{method_by_token};
 
 use crate::scope::Scope;
-use jc_cap_text::pool::VirtualToken;
-use jc_names::ClassWord;
-use jc_packages::search::Search;
-use jc_packages::target::Method;
+use crate::search::Search;
+use crate::target::Method;
+use jc_cap_linkage::pool::VirtualToken;
 use jc_platform::names::{MethodKind, PlatformClass};
+use jc_transient::ClassWord;
 
 impl Scope<'_> {
     /// The method that a call by token on an instance of a class runs, through a class of the package with this
     /// number. It takes time that grows with the number of classes above.
-    #[tactic(auto, unfolding(jc_packages::specs::Methods::method_at))]
+    #[tactic(auto, unfolding(crate::specs::Methods::method_at))]
     pub(crate) fn method_at(
         &self,
         class: ClassWord,
@@ -33,7 +33,7 @@ impl Scope<'_> {
         }
     }
 
-    #[tactic(auto, unfolding(jc_packages::specs::Methods::method_at, jc_packages::specs::Methods::searched))]
+    #[tactic(auto, unfolding(crate::specs::Methods::method_at, crate::specs::Methods::first_decided))]
     fn public_method(&self, class: ClassWord, token: u8) -> Option<Method>
         ensures { result ≡ method_at self.now class 0 (VirtualToken.Public token) }
     {
@@ -48,9 +48,10 @@ impl Scope<'_> {
         None
     }
 
-    #[tactic(auto, unfolding(jc_packages::specs::Methods::method_at, jc_packages::specs::Methods::searched))]
+    #[tactic(auto, unfolding(crate::specs::Methods::method_at, crate::specs::Methods::first_decided))]
     fn package_method(&self, class: ClassWord, package_number: u8, token: u8) -> Option<Method>
-        ensures { result ≡ method_at self.now class package_number (VirtualToken.PackageVisible token) }
+        ensures { result ≡ method_at self.now class package_number
+            (VirtualToken.PackageVisible token) }
     {
         let mut walk = self.lineage(class);
         while let Some(above) = walk.pop() {
@@ -67,7 +68,7 @@ impl Scope<'_> {
     }
 
     // What a class says of a token.
-    #[tactic(auto, unfolding(jc_packages::specs::Methods::method_in))]
+    #[tactic(auto, unfolding(crate::specs::Methods::method_in))]
     fn method_in(&self, token: VirtualToken, class: ClassWord) -> Search<Method>
         ensures { result ≡ method_in self.now token class }
     {
@@ -90,7 +91,8 @@ impl Scope<'_> {
     }
 
     fn native_in(&self, named: PlatformClass, token: u8) -> Search<Method>
-        ensures { result ≡ if_native (method_by_token self.now.platform named MethodKind.Virtual token) }
+        ensures { result ≡ if_native (method_by_token self.now.platform named
+            MethodKind.Virtual token) }
     {
         match self
             .platform
@@ -103,7 +105,7 @@ impl Scope<'_> {
 
     /// The method that a call of an interface's method by token on an instance of a class runs. It takes time that
     /// grows with the number of classes above.
-    #[tactic(auto, unfolding(jc_packages::specs::Methods::interface_method_at))]
+    #[tactic(auto, unfolding(crate::specs::Methods::interface_method_at))]
     pub(crate) fn interface_method_at(
         &self,
         class: ClassWord,
@@ -112,16 +114,17 @@ impl Scope<'_> {
     ) -> Option<Method>
         ensures { result ≡ interface_method_at self.now class interface token }
     {
-        self.public_method(class, self.carried_out(class, interface, token)?)
+        self.public_method(class, self.implemented_method(class, interface, token)?)
     }
 
-    #[tactic(auto, unfolding(jc_packages::specs::Methods::searched))]
-    fn carried_out(&self, class: ClassWord, interface: ClassWord, token: u8) -> Option<u8>
-        ensures { result ≡ searched (carried_in self.now interface token) (lineage self.now class) }
+    #[tactic(auto, unfolding(crate::specs::Methods::first_decided))]
+    fn implemented_method(&self, class: ClassWord, interface: ClassWord, token: u8) -> Option<u8>
+        ensures { result ≡ first_decided (implementation_in self.now interface token)
+            (lineage self.now class) }
     {
         let mut walk = self.lineage(class);
         while let Some(above) = walk.pop() {
-            match self.carried_in(interface, token, above) {
+            match self.implementation_in(interface, token, above) {
                 Search::Found(own) => return Some(own),
                 Search::Above => {}
                 Search::Nowhere => return None,
@@ -131,26 +134,26 @@ impl Scope<'_> {
     }
 
     // The token of the virtual method by which a class carries out a method of an interface.
-    #[tactic(auto, unfolding(jc_packages::specs::Methods::carried_in))]
-    fn carried_in(&self, interface: ClassWord, token: u8, class: ClassWord) -> Search<u8>
-        ensures { result ≡ carried_in self.now interface token class }
+    #[tactic(auto, unfolding(crate::specs::Methods::implementation_in))]
+    fn implementation_in(&self, interface: ClassWord, token: u8, class: ClassWord) -> Search<u8>
+        ensures { result ≡ implementation_in self.now interface token class }
     {
         if let Some(loaded) = self.loaded_class(class) {
-            return loaded.carries(interface, token);
+            return loaded.implementing_token(interface, token);
         }
         match self.platform.class_by_word(class) {
-            Some(named) => self.natively(interface, token, named.interface()),
+            Some(named) => self.native_implementation(interface, token, named.interface()),
             None => Search::Nowhere,
         }
     }
 
-    fn natively(
+    fn native_implementation(
         &self,
         interface: ClassWord,
         token: u8,
         implemented: Option<PlatformClass>,
     ) -> Search<u8>
-        ensures { result ≡ natively self.now interface token implemented }
+        ensures { result ≡ native_implementation self.now interface token implemented }
     {
         let Some(named) = implemented else {
             return Search::Above;

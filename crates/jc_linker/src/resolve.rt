@@ -1,19 +1,20 @@
 //! What the entries of constant pools resolve to.
 ghost use Rattle.std.specs.Prelude.{◌≡◌, option_copied};
-ghost use Rattle.jc_packages.specs.Classes.{class_in};
-ghost use Rattle.jc_packages.specs.Resolves.{class_at_offset, class_named, class_with_token, export_of, field_target, foreign_field, foreign_method, imported_by, names_interface, resolution, static_method_by, super_target, virtual_target};
+ghost use Rattle.jc_linker.specs.Classes.{class_in};
+ghost use Rattle.jc_linker.specs.Resolves.{class_at_offset, class_named, class_with_token, export_of, field_target, foreign_field, foreign_method};
+ghost use Rattle.jc_linker.specs.Resolves.{import_by_token, names_interface, resolution, static_method_by, super_target, virtual_target};
 
+use crate::package::ExportedClass;
 use crate::scope::Scope;
-use jc_cap_fields::class_refs::ClassRef;
-use jc_cap_text::pool::{Entry, StaticRef, VirtualToken};
-use jc_loaded::package::ExportedClass;
-use jc_names::ClassWord;
-use jc_packages::target::{Method, Target};
+use crate::target::{Method, Target};
+use jc_cap_linkage::class_refs::ClassRef;
+use jc_cap_linkage::pool::{Entry, StaticRef, VirtualToken};
 use jc_platform::names::MethodKind;
+use jc_transient::ClassWord;
 
 impl Scope<'_> {
     /// What an entry in the package with this number resolves to.
-    #[tactic(auto, unfolding(jc_packages::specs::Resolves::resolution))]
+    #[tactic(auto, unfolding(crate::specs::Resolves::resolution))]
     pub(crate) fn resolution(&self, number: u8, entry: Entry) -> Option<Target>
         ensures { result ≡ resolution self.now number entry }
     {
@@ -38,7 +39,11 @@ impl Scope<'_> {
                     class_token,
                     token,
                 },
-            ) => self.foreign_field(class_token, token, self.imported_by(number, package_token)?),
+            ) => self.foreign_field(
+                class_token,
+                token,
+                self.import_by_token(number, package_token)?,
+            ),
             Entry::StaticMethod(StaticRef::Internal(offset)) => Some(Target::StaticMethod {
                 class: None,
                 method: Method::Code {
@@ -52,12 +57,16 @@ impl Scope<'_> {
                     class_token,
                     token,
                 },
-            ) => self.foreign_method(class_token, token, self.imported_by(number, package_token)?),
+            ) => self.foreign_method(
+                class_token,
+                token,
+                self.import_by_token(number, package_token)?,
+            ),
         }
     }
 
     /// The class that a reference in the package with this number names.
-    #[tactic(auto, unfolding(jc_packages::specs::Resolves::class_named))]
+    #[tactic(auto, unfolding(crate::specs::Resolves::class_named))]
     pub(crate) fn class_named(&self, number: u8, class: ClassRef) -> Option<ClassWord>
         ensures { result ≡ class_named self.now number class }
     {
@@ -66,11 +75,11 @@ impl Scope<'_> {
             ClassRef::External {
                 package_token,
                 class_token,
-            } => self.class_with_token(self.imported_by(number, package_token)?, class_token),
+            } => self.class_with_token(self.import_by_token(number, package_token)?, class_token),
         }
     }
 
-    #[tactic(auto, unfolding(jc_packages::specs::Resolves::class_at_offset))]
+    #[tactic(auto, unfolding(crate::specs::Resolves::class_at_offset))]
     fn class_at_offset(&self, number: u8, offset: u16) -> Option<ClassWord>
         ensures { result ≡ class_at_offset self.now number offset }
     {
@@ -79,14 +88,14 @@ impl Scope<'_> {
     }
 
     // The number of the package that a package imports by a token.
-    #[tactic(auto, unfolding(jc_packages::specs::Resolves::imported_by))]
-    fn imported_by(&self, number: u8, token: u8) -> Option<u8>
-        ensures { result ≡ imported_by self.now number token }
+    #[tactic(auto, unfolding(crate::specs::Resolves::import_by_token))]
+    fn import_by_token(&self, number: u8, token: u8) -> Option<u8>
+        ensures { result ≡ import_by_token self.now number token }
     {
         self.package(number)?.imports.get(token as usize).copied()
     }
 
-    #[tactic(auto, unfolding(jc_packages::specs::Resolves::class_with_token))]
+    #[tactic(auto, unfolding(crate::specs::Resolves::class_with_token))]
     fn class_with_token(&self, number: u8, token: u8) -> Option<ClassWord>
         ensures { result ≡ class_with_token self.now number token }
     {
@@ -100,7 +109,7 @@ impl Scope<'_> {
     }
 
     /// The class is an interface.
-    #[tactic(auto, unfolding(jc_packages::specs::Resolves::names_interface))]
+    #[tactic(auto, unfolding(crate::specs::Resolves::names_interface))]
     pub(crate) fn names_interface(&self, class: ClassWord) -> bool
         ensures { result ≡ names_interface self.now class }
     {
@@ -113,7 +122,7 @@ impl Scope<'_> {
         }
     }
 
-    #[tactic(auto, unfolding(jc_packages::specs::Resolves::field_target))]
+    #[tactic(auto, unfolding(crate::specs::Resolves::field_target))]
     fn field_target(&self, token: u8, class: ClassWord) -> Option<Target>
         ensures { result ≡ field_target self.now token class }
     {
@@ -128,7 +137,7 @@ impl Scope<'_> {
         })
     }
 
-    #[tactic(auto, unfolding(jc_packages::specs::Resolves::virtual_target))]
+    #[tactic(auto, unfolding(crate::specs::Resolves::virtual_target))]
     fn virtual_target(&self, token: VirtualToken, class: ClassWord) -> Option<Target>
         ensures { result ≡ virtual_target self.now token class }
     {
@@ -143,7 +152,7 @@ impl Scope<'_> {
         })
     }
 
-    #[tactic(auto, unfolding(jc_packages::specs::Resolves::super_target))]
+    #[tactic(auto, unfolding(crate::specs::Resolves::super_target))]
     fn super_target(&self, token: VirtualToken, class: ClassWord) -> Option<Target>
         ensures { result ≡ super_target self.now token class }
     {
@@ -152,14 +161,14 @@ impl Scope<'_> {
         Some(Target::SuperMethod { class, method })
     }
 
-    #[tactic(auto, unfolding(jc_packages::specs::Resolves::export_of))]
+    #[tactic(auto, unfolding(crate::specs::Resolves::export_of))]
     fn export_of(&self, number: u8, class_token: u8) -> Option<&ExportedClass>
         ensures { option_copied result ≡ export_of self.now number class_token }
     {
         self.package(number)?.exports.get(class_token as usize)
     }
 
-    #[tactic(auto, unfolding(jc_packages::specs::Resolves::foreign_field))]
+    #[tactic(auto, unfolding(crate::specs::Resolves::foreign_field))]
     fn foreign_field(&self, class_token: u8, token: u8, number: u8) -> Option<Target>
         ensures { result ≡ foreign_field self.now class_token token number }
     {
@@ -171,7 +180,7 @@ impl Scope<'_> {
         })
     }
 
-    #[tactic(auto, unfolding(jc_packages::specs::Resolves::foreign_method))]
+    #[tactic(auto, unfolding(crate::specs::Resolves::foreign_method))]
     fn foreign_method(&self, class_token: u8, token: u8, number: u8) -> Option<Target>
         ensures { result ≡ foreign_method self.now class_token token number }
     {
@@ -190,7 +199,8 @@ impl Scope<'_> {
         class_token: u8,
         token: u8,
     ) -> Option<Method>
-        ensures { result ≡ static_method_by self.now number class token (export_of self.now number class_token) }
+        ensures { result ≡ static_method_by self.now number class token
+            (export_of self.now number class_token) }
     {
         if let Some(export) = self.export_of(number, class_token) {
             let offset = export.method_offsets.get(token as usize).copied()?;

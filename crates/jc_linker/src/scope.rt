@@ -1,11 +1,11 @@
 //! The packages of a card, and one behind them that is being linked.
 ghost use Rattle.std.specs.Prelude.{◌≡◌, option_copied};
-ghost use Rattle.jc_packages.specs.Classes.{class_in, package_in};
+ghost use Rattle.jc_linker.specs.Classes.{class_in, package_in};
 
-use jc_loaded::class::LinkedClass;
-use jc_loaded::package::LinkedPackage;
-use jc_names::ClassWord;
+use crate::class::LinkedClass;
+use crate::package::LinkedPackage;
 use jc_platform::platform::Platform;
+use jc_transient::ClassWord;
 use std::marker::Model;
 
 #[derive(Drop)]
@@ -18,15 +18,18 @@ pub(crate) struct Scope<'a> {
 
 impl<'a> Model for Scope<'a> {
     ghost use Rattle.std.specs.Prelude.{◌++◌, option_copied, option_to_list};
-    ghost use Rattle.jc_packages.specs.Values.{Packages};
+    ghost use Rattle.jc_linker.specs.Values.{Packages};
 
     ghost Value = { Packages };
 
-    ghost view = { λ s. record { platform = s.platform.now; loaded = s.loaded.now ++ option_to_list (option_copied s.own) } };
+    ghost view = { λ s. record {
+      platform = s.platform.now;
+      loaded = s.loaded.now ++ option_to_list (option_copied s.own);
+    } };
 }
 
 impl Scope<'_> {
-    #[tactic(auto, unfolding(jc_packages::specs::Classes::package_in))]
+    #[tactic(auto, unfolding(crate::specs::Classes::package_in))]
     pub(crate) fn package(&self, number: u8) -> Option<&LinkedPackage>
         ensures { option_copied result ≡ package_in self.now number }
     {
@@ -43,7 +46,7 @@ impl Scope<'_> {
         self.own
     }
 
-    #[tactic(auto, unfolding(jc_packages::specs::Classes::class_in))]
+    #[tactic(auto, unfolding(crate::specs::Classes::class_in))]
     pub(crate) fn loaded_class(&self, class: ClassWord) -> Option<&LinkedClass>
         ensures { option_copied result ≡ class_in self.now class }
     {

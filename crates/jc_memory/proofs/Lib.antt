@@ -1,5 +1,6 @@
-pub mod Doings
+pub mod ProgramLemmas
 pub mod Usable
 pub mod Marking
 pub mod Burying
 pub mod Running
+pub mod Room

@@ -8,11 +8,13 @@ use Rattle.jc_heap.specs.declared.refusal.ChangeRefusal.{ChangeRefusal}
 use Rattle.jc_heap.specs.declared.refusal.HeapRefusal.{HeapRefusal}
 use Rattle.jc_heap.specs.declared.object.Kind.{Kind}
 use Rattle.jc_heap.specs.Object.{is_object, new_transient, transient_size}
-use Rattle.jc_heap.specs.Heap.{HeapState, HeapView, SameShape, HasEnd, IsObject, aborted, item_at, area_end, add_object, add_transient}
-use Rattle.jc_heap.specs.Moves.{Move, Write, SetPlaces, Count, SetCells, AddObject, AddTransient, AddPackage, Begin, Commit, Abort, apply, MakesUnless, Makes, after_making, after_change, after_step}
-use Rattle.jc_heap.specs.Keeping.{Suits, AreWhole}
-use Rattle.jc_heap.proofs.Laws.{item_at-absent, shape-add}
-use Rattle.jc_heap.proofs.Keeping.{object-bare}
+use Rattle.jc_heap.specs.Heap.{HeapState, HeapView, SameShape, HasEnd, IsObject, heap_after_abort, heap_item_at, area_end, add_object, add_transient}
+use Rattle.jc_heap.specs.Moves.{Move, Write, SetPlaces, WriteNonAtomic, SetCells, AddObject, AddTransient, AddPackage, Begin, Commit, Abort, apply_move}
+use Rattle.jc_heap.specs.Moves.{PerformsMovesUnless, PerformsMoves}
+use Rattle.jc_heap.specs.Completions.{after_making, after_change, after_step}
+use Rattle.jc_heap.specs.Keeping.{MoveIsLegal, AreConsistent}
+use Rattle.jc_heap.proofs.Laws.{heap_item_at-absent, shape-add}
+use Rattle.jc_heap.proofs.Keeping.{object-header_only}
 use Rattle.jc_heap.proofs.KeepingMoves.{keeps}
 use Rattle.jc_heap.proofs.Places.{place_shape}
 use Rattle.jc_heap.proofs.Several.{shape-places}
@@ -28,16 +30,17 @@ abbrev pub IsForth : Move → Type 0
 IsForth Abort = ⊥
 IsForth m = Unit {0}
 
-shape-transient : (d h : HeapState) (kind : Kind) (event : ClearEvent) (class owner long : ℕ) → d.top ≤ h.top → SameShape d h → SameShape d (add_transient h kind event class owner long)
+shape-transient : (d h : HeapState) (kind : Kind) (event : ClearEvent) (class owner long : ℕ) → d.top ≤ h.top → SameShape d h
+    → SameShape d (add_transient h kind event class owner long)
 unfolding add_transient
 shape-transient d h kind event class owner long le s =
     shape-end d (add_object h (new_transient kind event class owner long (area_end h event)) transient_size) event (area_end h event + long)
     (shape-add d h (new_transient kind event class owner long (area_end h event)) transient_size le s)
 
-forth : (m : Move) (v : HeapView) → IsForth m → SameShape v.now (apply m v).now
+forth : (m : Move) (v : HeapView) → IsForth m → SameShape v.now (apply_move m v).now
 forth (Write p x) v f = place_shape v.now v.now p x (shape-same v.now)
 forth (SetPlaces cs) v f = shape-places v.now v.now cs (shape-same v.now)
-forth (Count p x) v f = place_shape v.now v.now p x (shape-same v.now)
+forth (WriteNonAtomic p x) v f = place_shape v.now v.now p x (shape-same v.now)
 forth (SetCells r i vs) v f = shape-run v.now v.now r i vs (shape-same v.now)
 forth (AddObject o size) v f = shape-add v.now v.now o size (omega arith) (shape-same v.now)
 forth (AddTransient kind event class owner long) v f = shape-transient v.now v.now kind event class owner long (omega arith) (shape-same v.now)
@@ -48,32 +51,34 @@ forth Abort v f = absurd f
 
 stays : (old new : HeapState) (r : ℕ) → SameShape old new → HasEnd old → IsObject old r → IsObject new r
 stays old new r shape end there = elim (cases_lt r old.top) [
-  | inl below ↦ sym (object-bare (item_at new r)) ∙ ap is_object (shape.items r below) ∙ object-bare (item_at old r) ∙ there
-  | inr above ↦ absurd (true≢false (sym there ∙ ap is_object (item_at-absent old r (end r above))))
+  | inl below ↦ sym (object-header_only (heap_item_at new r)) ∙ ap is_object (shape.items r below) ∙ object-header_only (heap_item_at old r) ∙ there
+  | inr above ↦ absurd (true≢false (sym there ∙ ap is_object (heap_item_at-absent old r (end r above))))
 ]
 
 -- a whole heap with an object at each of these addresses
 abbrev pub Known : List Bool → HeapView → Type 0
-Known marks v = AreWhole v × ((r : ℕ) → is_marked marks r ≡ true → IsObject v.now r)
+Known marks v = AreConsistent v × ((r : ℕ) → is_marked marks r ≡ true → IsObject v.now r)
 
 abbrev pub KnownWhileUp : List Bool → HeapView → Type 0
-KnownWhileUp marks v = (v.down ≡ false → AreWhole v) × AreObjects marks v
+KnownWhileUp marks v = (v.down ≡ false → AreConsistent v) × AreObjects marks v
 
-known : (marks : List Bool) (m : Move) (v : HeapView) → Suits v m → IsForth m → Known marks v → Known marks (apply m v)
-known marks m v suits f k = (keeps m v suits k.0, λ r marked. stays v.now (apply m v).now r (forth m v f) k.0.now.end (k.1 r marked))
+known : (marks : List Bool) (m : Move) (v : HeapView) → MoveIsLegal v m → IsForth m → Known marks v → Known marks (apply_move m v)
+known marks m v suits f k = (keeps m v suits k.0, λ r marked. stays v.now (apply_move m v).now r (forth m v f) k.0.now.end (k.1 r marked))
 
 pub known_making : {A : Type 0} (marks : List Bool) (reason : Option HeapRefusal) (old new : HeapView) (result : Result A HeapRefusal) (m : Move) (a : A) →
-    MakesUnless reason old (after_making result new) (m ∷ []) a → (reason ≡ None → Suits old m) → IsForth m → Known marks old → KnownWhileUp marks new
+    PerformsMovesUnless reason old (after_making result new) (m ∷ []) a → (reason ≡ None → MoveIsLegal old m) → IsForth m → Known marks old
+    → KnownWhileUp marks new
 known_making marks reason old new result m a made suits f k =
     let all = made_by (Known marks) reason old new result m a made (λ none. known marks m old (suits none) f k) k in (λ up. (all up).0, λ up. (all up).1)
 
 pub known_change : {A : Type 0} (marks : List Bool) (reason : Option HeapRefusal) (old new : HeapView) (result : Result A ChangeRefusal) (m : Move) (a : A) →
-    MakesUnless reason old (after_change result new) (m ∷ []) a → (reason ≡ None → Suits old m) → IsForth m → Known marks old → KnownWhileUp marks new
+    PerformsMovesUnless reason old (after_change result new) (m ∷ []) a → (reason ≡ None → MoveIsLegal old m) → IsForth m → Known marks old
+    → KnownWhileUp marks new
 known_change marks reason old new result m a made suits f k =
     let all = changed_by (Known marks) reason old new result m a made (λ none. known marks m old (suits none) f k) k in (λ up. (all up).0, λ up. (all up).1)
 
 pub known_step : {A E : Type 0} (marks : List Bool) (old new : HeapView) (result : Result A E) (m : Move) (a : A) →
-    Makes old (after_step result new) (m ∷ []) a → Suits old m → IsForth m → Known marks old → KnownWhileUp marks new
+    PerformsMoves old (after_step result new) (m ∷ []) a → MoveIsLegal old m → IsForth m → Known marks old → KnownWhileUp marks new
 known_step marks old new result m a made suits f k =
     let all = stepped_by (Known marks) old new result m a made (known marks m old suits f k) k in (λ up. (all up).0, λ up. (all up).1)
 
@@ -85,11 +90,13 @@ one_more marks v r objects there up q marked = elim (cases_eq q r) [
 ]
 
 -- after an abort the marks below the new top are true
-pub still_marked : (marks new : List Bool) (v w : HeapView) (before : ℕ) → AreWhole v → before ≡ v.now.top → ((r : ℕ) → is_marked marks r ≡ true → IsObject v.now r) → w ≡ aborted v →
+pub still_marked : (marks new : List Bool) (v w : HeapView) (before : ℕ) → AreConsistent v → before ≡ v.now.top
+    → ((r : ℕ) → is_marked marks r ≡ true → IsObject v.now r) → w ≡ heap_after_abort v →
     ((r : ℕ) → is_marked new r ≡ true → (is_marked marks r ≡ true) × ((r < w.now.top) ⊎ (before ≤ r))) → AreObjects new w
 still_marked marks new v w before whole top objects is left up r marked =
     let there = objects r (left r marked).0 in
     subst (λ u. IsObject u.now r) (sym is) (elim ((left r marked).1) [
-      | inl below ↦ sym (object-bare (item_at v.durable r)) ∙ ap is_object (sym (whole.shape.items r (subst (λ u. r < u.now.top) is below))) ∙ object-bare (item_at v.now r) ∙ there
-      | inr above ↦ absurd (true≢false (sym there ∙ ap is_object (item_at-absent v.now r (whole.now.end r (subst (λ n. n ≤ r) top above)))))
+      | inl below ↦ sym (object-header_only (heap_item_at v.durable r)) ∙ ap is_object (sym (whole.shape.items r (subst (λ u. r < u.now.top) is below)))
+          ∙ object-header_only (heap_item_at v.now r) ∙ there
+      | inr above ↦ absurd (true≢false (sym there ∙ ap is_object (heap_item_at-absent v.now r (whole.now.end r (subst (λ n. n ≤ r) top above)))))
     ])

@@ -1,5 +1,6 @@
 -- Loops over runs of cells.
-use Rattle.std.proofs.Common.{◌≡◌, ℕ, Some, zero, suc, pos, replicate, ◌+◌, ◌<◌, ◌≤◌, List, [], ◌∷◌, ◌++◌, set, take, drop, length, map, get_or, refl, sym, ◌∙◌, ap, arith}
+use Rattle.std.proofs.Common.{◌≡◌, ℕ, Some, zero, suc, pos, replicate, ◌+◌, ◌<◌, ◌≤◌, List, [], ◌∷◌, ◌++◌, set, take, drop, length, map, get_or, refl, sym, ◌∙◌}
+use Rattle.std.proofs.Common.{ap, arith}
 use Rattle.std.specs.List.{range_with_len}
 use Rattle.std.proofs.lemmas.List.{take_more_set, take_more, length-append, length-map, map-append, take_all}
 use Rattle.std.proofs.lemmas.List.FromFn.{map-range_with_len_more}
@@ -12,12 +13,14 @@ use Rattle.jc_transient.specs.declared.cell.ClearEvent.TheVariants.{Reset, Desel
 use Rattle.jc_transient.specs.Cells.{number_of}
 use Rattle.jc_transient.specs.State.{RamState, HasSizes, area, area_size, with_area, with_cells}
 use Rattle.jc_heap.specs.Heap.{facts}
-use Rattle.jc_memory.specs.State.{MemoryState, filled}
+use Rattle.jc_memory.specs.State.{MemoryState, ram_after_set}
 
-pub widen_more : (ws bs : List ℕ) (k v : ℕ) → k < length ws → k < length bs → v ≡ get_or bs k 0 → take k ws ≡ take k bs → take (k + 1) (set ws k v) ≡ take (k + 1) bs
+pub widen_more : (ws bs : List ℕ) (k v : ℕ) → k < length ws → k < length bs → v ≡ get_or bs k 0 → take k ws ≡ take k bs
+    → take (k + 1) (set ws k v) ≡ take (k + 1) bs
 widen_more ws bs k v here there is e = take_more_set ws k v here ∙ ap (λ l. l ++ v ∷ []) e ∙ ap (λ x. take k bs ++ x ∷ []) is ∙ sym (take_more bs k 0 there)
 
-pub read_more : (f : ℕ → ℕ) (out : List ℕ) (i k v : ℕ) → k < length out → v ≡ f (i + k) → take k out ≡ map f (range_with_len i k) → take (k + 1) (set out k v) ≡ map f (range_with_len i (k + 1))
+pub read_more : (f : ℕ → ℕ) (out : List ℕ) (i k v : ℕ) → k < length out → v ≡ f (i + k) → take k out ≡ map f (range_with_len i k)
+    → take (k + 1) (set out k v) ≡ map f (range_with_len i (k + 1))
 read_more f out i k v here is e =
     take_more_set out k v here ∙ ap (λ l. l ++ v ∷ []) e ∙ ap (λ x. map f (range_with_len i k) ++ x ∷ []) is ∙ sym (map-range_with_len_more f i k (i + k) refl)
 
@@ -29,7 +32,8 @@ zeros_are zero = refl
 zeros_are (suc n) = ap (λ l. Short (pos 0) ∷ l) (zeros_are n)
 
 two_parts : (d : List CellValue) (place zeros : ℕ) (bytes : List ℕ) → place ≤ length d →
-    with_cells (with_cells d place (map number_of bytes)) (place + length bytes) (replicate zeros (Short (pos 0))) ≡ with_cells d place (map number_of (bytes ++ replicate zeros 0))
+    with_cells (with_cells d place (map number_of bytes)) (place + length bytes) (replicate zeros (Short (pos 0)))
+    ≡ with_cells d place (map number_of (bytes ++ replicate zeros 0))
 two_parts d place zeros bytes fits =
     let front = map number_of bytes in
     let back = replicate zeros (Short (pos 0)) in
@@ -49,16 +53,19 @@ pub fill_two : (event : ClearEvent) (ram mid new : RamState) (place zeros : ℕ)
     new ≡ with_area mid event (with_cells (area mid event) (place + length bytes) (replicate zeros (Short (pos 0)))) →
     new ≡ with_area ram event (with_cells (area ram event) place (map number_of (bytes ++ replicate zeros 0)))
 fill_two Reset ram mid new place zeros bytes sizes fits mid_is new_is =
-    new_is ∙ ap {A = RamState} (λ m. record m { reset_cells = with_cells m.reset_cells (place + length bytes) (replicate zeros (Short (pos 0))) }) mid_is ∙ ap (λ l. record ram { reset_cells = l }) (two_parts ram.reset_cells place zeros bytes (omega (arith, fits, sizes.reset_cells)))
+    new_is ∙ ap {A = RamState} (λ m. record m { reset_cells = with_cells m.reset_cells (place + length bytes) (replicate zeros (Short (pos 0))) }) mid_is
+    ∙ ap (λ l. record ram { reset_cells = l }) (two_parts ram.reset_cells place zeros bytes (omega (arith, fits, sizes.reset_cells)))
 fill_two Deselect ram mid new place zeros bytes sizes fits mid_is new_is =
-    new_is ∙ ap {A = RamState} (λ m. record m { deselect_cells = with_cells m.deselect_cells (place + length bytes) (replicate zeros (Short (pos 0))) }) mid_is ∙ ap (λ l. record ram { deselect_cells = l }) (two_parts ram.deselect_cells place zeros bytes (omega (arith, fits, sizes.deselect_cells)))
+    new_is ∙ ap {A = RamState} (λ m. record m { deselect_cells = with_cells m.deselect_cells (place + length bytes) (replicate zeros (Short (pos 0))) }) mid_is
+    ∙ ap (λ l. record ram { deselect_cells = l }) (two_parts ram.deselect_cells place zeros bytes (omega (arith, fits, sizes.deselect_cells)))
 
 -- the same for the first cells of a transient object
-pub filled_from : (event : ClearEvent) (s : MemoryState) (mid new : RamState) (r place zeros : ℕ) (bytes : List ℕ) → HasSizes s.ram → (facts s.heap.now r).event ≡ Some event → place ≡ (facts s.heap.now r).place → place + length bytes ≤ area_size →
+pub filled_from : (event : ClearEvent) (s : MemoryState) (mid new : RamState) (r place zeros : ℕ) (bytes : List ℕ) → HasSizes s.ram
+    → (facts s.heap.now r).event ≡ Some event → place ≡ (facts s.heap.now r).place → place + length bytes ≤ area_size →
     mid ≡ with_area s.ram event (with_cells (area s.ram event) place (map number_of bytes)) →
     new ≡ with_area mid event (with_cells (area mid event) (place + length bytes) (replicate zeros (Short (pos 0)))) →
-    new ≡ filled s.ram (facts s.heap.now r).event ((facts s.heap.now r).place + 0) (map number_of (bytes ++ replicate zeros 0))
+    new ≡ ram_after_set s.ram (facts s.heap.now r).event ((facts s.heap.now r).place + 0) (map number_of (bytes ++ replicate zeros 0))
 filled_from event s mid new r place zeros bytes sizes transient there fits mid_is new_is =
     fill_two event s.ram mid new place zeros bytes sizes fits mid_is new_is
     ∙ ap (λ n. with_area s.ram event (with_cells (area s.ram event) n (map number_of (bytes ++ replicate zeros 0)))) (omega (arith, there))
-    ∙ ap (λ e. filled s.ram e ((facts s.heap.now r).place + 0) (map number_of (bytes ++ replicate zeros 0))) (sym transient)
+    ∙ ap (λ e. ram_after_set s.ram e ((facts s.heap.now r).place + 0) (map number_of (bytes ++ replicate zeros 0))) (sym transient)

@@ -1,5 +1,6 @@
 -- What calls of the heap keep, and what they need for it.
-use Rattle.std.proofs.Common.{◌≡◌, ℕ, ◌+◌, ◌<◌, ◌≤◌, Bool, true, false, List, [], ◌∷◌, refl, sym, ◌∙◌, ap, subst, arith, Option, Some, None, Result, Ok, Err, if◌then◌else◌, length, slice_index, inl, inr}
+use Rattle.std.proofs.Common.{◌≡◌, ℕ, ◌+◌, ◌<◌, ◌≤◌, Bool, true, false, List, [], ◌∷◌, refl, sym, ◌∙◌, ap, subst, arith, Option, Some, None, Result, Ok, Err}
+use Rattle.std.proofs.Common.{if◌then◌else◌, length, slice_index, inl, inr}
 use Rattle.std.proofs.lemmas.Bool.{true≢false, ltb-false, cases_lt}
 use Rattle.std.proofs.lemmas.Option.{none-some}
 use Rattle.std.proofs.lemmas.Grind.{common_steps}
@@ -17,22 +18,23 @@ use Rattle.jc_heap.specs.declared.refusal.ChangeRefusal.TheVariants as change
 use Rattle.jc_heap.specs.declared.refusal.HeapRefusal.{HeapRefusal}
 use Rattle.jc_heap.specs.declared.refusal.HeapRefusal.TheVariants as making
 use Rattle.jc_heap.specs.Object.{facts_of}
-use Rattle.jc_heap.specs.Heap.{HeapState, HeapView, SameShape, HasEnd, item_at, cells, facts, area_end}
-use Rattle.jc_heap.specs.Whole.{IsReference, IsWhole}
-use Rattle.jc_heap.specs.Moves.{Move, Count, AddTransient, After, Made, Cut, Answer, Done, Refused, Makes, MakesUnless, apply, after_making, after_change, after_step, new_move, no_transient, applet_move}
-use Rattle.jc_heap.specs.Keeping.{Suits, StandsWhole, AreWhole}
-use Rattle.jc_heap.proofs.Laws.{item_at-absent, same_facts}
+use Rattle.jc_heap.specs.Heap.{HeapState, HeapView, SameShape, HasEnd, heap_item_at, cells, facts, area_end}
+use Rattle.jc_heap.specs.Whole.{IsReference, IsConsistent}
+use Rattle.jc_heap.specs.Moves.{Move, WriteNonAtomic, AddTransient, PerformsMoves, PerformsMovesUnless, apply_move, new_move, refusal_of_transient, applet_move}
+use Rattle.jc_heap.specs.Completions.{Completion, Completed, Torn, Attempt, Done, Refused, after_making, after_change, after_step}
+use Rattle.jc_heap.specs.Keeping.{MoveIsLegal, IsConsistentHeap, AreConsistent}
+use Rattle.jc_heap.proofs.Laws.{heap_item_at-absent, same_facts}
 use Rattle.jc_heap.proofs.OwnCells.{owns_cells}
 use Rattle.jc_memory.specs.State.{MemoryState}
 use Rattle.jc_memory.specs.Cells.{IsHeaderOf}
 
 -- a heap at rest that is whole is whole after a loss of power
-pub at_rest : (v : HeapView) → IsWhole v.now → HasEnd v.now → 0 < v.now.top → v.durable ≡ v.now → AreWhole v
+pub at_rest : (v : HeapView) → IsConsistent v.now → HasEnd v.now → 0 < v.now.top → v.durable ≡ v.now → AreConsistent v
 at_rest v whole end some settled =
-    let now : StandsWhole v.now = record { whole = whole; end = end; some = some } in
+    let now : IsConsistentHeap v.now = record { whole = whole; end = end; some = some } in
     record {
       now = now;
-      durable = subst StandsWhole (sym settled) now;
+      durable = subst IsConsistentHeap (sym settled) now;
       shape = subst (λ d. SameShape d v.now) (sym settled) (record { items = λ r below. refl; names = λ r below. refl });
       order = omega (arith, ap (λ h. h.top) settled);
     }
@@ -41,9 +43,9 @@ not_both : (b : Bool) → b ≡ true → b ≡ false → ⊥
 not_both b t f = true≢false (sym t ∙ f)
 
 -- the heap that a call left
-abbrev heap_of : {A : Type 0} → After A → HeapView
-heap_of (Made a v) = v
-heap_of (Cut v) = v
+abbrev heap_of : {A : Type 0} → Completion HeapView A → HeapView
+heap_of (Completed a v) = v
+heap_of (Torn v) = v
 
 making_heap : {A : Type 0} (result : Result A HeapRefusal) (v : HeapView) → heap_of (after_making result v) ≡ v
 making_heap (Ok a) v = refl
@@ -62,40 +64,45 @@ step_heap (Ok a) v = refl
 step_heap (Err e) v = refl
 
 -- what holds of a heap and of it after the one move that a call makes, holds after the call, unless the store went down
-made_so : {A : Type 0} (P : HeapView → Type 0) (old : HeapView) (after : After A) (m : Move) (a : A) → Makes old after (m ∷ []) a → P (apply m old) → (heap_of after).down ≡ false → P (heap_of after)
-made_so P old (Made x new) m a made so up = subst P (sym made.1) so
-made_so P old (Cut new) m a made so up = absurd (not_both new.down made.down up)
+made_so : {A : Type 0} (P : HeapView → Type 0) (old : HeapView) (after : Completion HeapView A) (m : Move) (a : A) → PerformsMoves old after (m ∷ []) a
+    → P (apply_move m old) → (heap_of after).down ≡ false → P (heap_of after)
+made_so P old (Completed x new) m a made so up = subst P (sym made.1) so
+made_so P old (Torn new) m a made so up = absurd (not_both new.down made.down up)
 
-unless_so : {A : Type 0} (P : HeapView → Type 0) (reason : Option HeapRefusal) (old : HeapView) (after : After (Answer A)) (m : Move) (a : A) → MakesUnless reason old after (m ∷ []) a →
-    (reason ≡ None → P (apply m old)) → P old → (heap_of after).down ≡ false → P (heap_of after)
-unless_so P reason old (Made (Done x) new) m a made so before up = subst P (sym made.2) (so made.0)
-unless_so P reason old (Made (Refused why) new) m a made so before up = subst P (sym made.1) before
-unless_so P reason old (Cut new) m a made so before up = absurd (not_both new.down made.1.down up)
+unless_so : {A : Type 0} (P : HeapView → Type 0) (reason : Option HeapRefusal) (old : HeapView) (after : Completion HeapView (Attempt A)) (m : Move) (a : A)
+    → PerformsMovesUnless reason old after (m ∷ []) a →
+    (reason ≡ None → P (apply_move m old)) → P old → (heap_of after).down ≡ false → P (heap_of after)
+unless_so P reason old (Completed (Done x) new) m a made so before up = subst P (sym made.2) (so made.0)
+unless_so P reason old (Completed (Refused why) new) m a made so before up = subst P (sym made.1) before
+unless_so P reason old (Torn new) m a made so before up = absurd (not_both new.down made.1.down up)
 
 pub made_by : {A : Type 0} (P : HeapView → Type 0) (reason : Option HeapRefusal) (old new : HeapView) (result : Result A HeapRefusal) (m : Move) (a : A) →
-    MakesUnless reason old (after_making result new) (m ∷ []) a → (reason ≡ None → P (apply m old)) → P old → new.down ≡ false → P new
-made_by P reason old new result m a made so before = subst (λ v. v.down ≡ false → P v) (making_heap result new) (unless_so P reason old (after_making result new) m a made so before)
+    PerformsMovesUnless reason old (after_making result new) (m ∷ []) a → (reason ≡ None → P (apply_move m old)) → P old → new.down ≡ false → P new
+made_by P reason old new result m a made so before = subst (λ v. v.down ≡ false → P v) (making_heap result new)
+    (unless_so P reason old (after_making result new) m a made so before)
 
 pub changed_by : {A : Type 0} (P : HeapView → Type 0) (reason : Option HeapRefusal) (old new : HeapView) (result : Result A ChangeRefusal) (m : Move) (a : A) →
-    MakesUnless reason old (after_change result new) (m ∷ []) a → (reason ≡ None → P (apply m old)) → P old → new.down ≡ false → P new
-changed_by P reason old new result m a made so before = subst (λ v. v.down ≡ false → P v) (change_heap result new) (unless_so P reason old (after_change result new) m a made so before)
+    PerformsMovesUnless reason old (after_change result new) (m ∷ []) a → (reason ≡ None → P (apply_move m old)) → P old → new.down ≡ false → P new
+changed_by P reason old new result m a made so before = subst (λ v. v.down ≡ false → P v) (change_heap result new)
+    (unless_so P reason old (after_change result new) m a made so before)
 
 pub stepped_by : {A E : Type 0} (P : HeapView → Type 0) (old new : HeapView) (result : Result A E) (m : Move) (a : A) →
-    Makes old (after_step result new) (m ∷ []) a → P (apply m old) → P old → new.down ≡ false → P new
+    PerformsMoves old (after_step result new) (m ∷ []) a → P (apply_move m old) → P old → new.down ≡ false → P new
 stepped_by P old new result m a made so before = subst (λ v. v.down ≡ false → P v) (step_heap result new) (made_so P old (after_step result new) m a made so)
 
 -- a new object's cells are zero
 zero_cell : (long i : ℕ) → i < length {A = ℕ} (replicate long 0) → slice_index (replicate long 0) i ≡ 0
 zero_cell long i lt = grind (arith, common_steps)
 
-pub object_suits : (v : HeapView) (kind : Kind) (class owner long : ℕ) → Suits v (new_move kind class owner long)
+pub object_suits : (v : HeapView) (kind : Kind) (class owner long : ℕ) → MoveIsLegal v (new_move kind class owner long)
 object_suits v kind class owner long = (omega arith, (refl, λ k i lt. inl (zero_cell long i lt)))
 
 either_size : (b : Bool) (rest : Option HeapRefusal) → (if b then Some making.NoTransientSpace else rest) ≡ None → b ≡ false
 either_size true rest e = absurd (none-some making.NoTransientSpace (sym e))
 either_size false rest e = refl
 
-pub transient_suits : (v : HeapView) (kind : Kind) (event : ClearEvent) (class owner long : ℕ) → no_transient v event long ≡ None → Suits v (AddTransient kind event class owner long)
+pub transient_suits : (v : HeapView) (kind : Kind) (event : ClearEvent) (class owner long : ℕ) → refusal_of_transient v event long ≡ None
+    → MoveIsLegal v (AddTransient kind event class owner long)
 transient_suits v kind event class owner long none lacks =
     let le = ltb-false area_size (area_end v.now event + long) (either_size (nat_lt area_size (area_end v.now event + long)) _ none) in omega (arith, le, lacks)
 
@@ -105,19 +112,20 @@ no_array k i r = cc
 -- an instance is one in the durable heap, too, if anything
 durable_kind : (d h : HeapState) (r : ℕ) → SameShape d h → HasEnd d → (facts h r).kind ≡ Instance → (facts d r).kind ≡ Instance
 durable_kind d h r shape end is = elim (cases_lt r d.top) [
-  | inl below ↦ ap (λ f. f.kind) (sym (same_facts (item_at h r) (item_at d r) (shape.items r below))) ∙ is
-  | inr above ↦ ap (λ t. (facts_of t).kind) (item_at-absent d r (end r above))
+  | inl below ↦ ap (λ f. f.kind) (sym (same_facts (heap_item_at h r) (heap_item_at d r) (shape.items r below))) ∙ is
+  | inr above ↦ ap (λ t. (facts_of t).kind) (heap_item_at-absent d r (end r above))
 ]
 
 -- a counter of an instance is no reference
-pub counter_suits : (v : HeapView) (r i x : ℕ) → AreWhole v → (facts v.now r).kind ≡ Instance → Suits v (Count (Cell r i) x)
+pub counter_suits : (v : HeapView) (r i x : ℕ) → AreConsistent v → (facts v.now r).kind ≡ Instance → MoveIsLegal v (WriteNonAtomic (Cell r i) x)
 counter_suits v r i x whole is = (λ e. absurd (no_array _ is e), λ e. absurd (no_array _ (durable_kind v.durable v.now r whole.shape whole.durable.end is) e))
 
-pub applet_suits : (v : HeapView) (entry : AppletEntry) → v.now.counts.1 < most_applets → Suits v (applet_move v.now entry)
+pub applet_suits : (v : HeapView) (entry : AppletEntry) → v.now.counts.1 < most_applets → MoveIsLegal v (applet_move v.now entry)
 applet_suits v entry few = (tt, (tt, (tt, (omega (arith, few), tt))))
 
 -- what a header says of the cells
-pub header_of : (s : MemoryState) (r : ℕ) (f : Facts) → AreWhole s.heap → f ≡ facts s.heap.now r → (f.event ≡ None → length (cells s.heap.now r) ≡ f.length) → IsHeaderOf s r f
+pub header_of : (s : MemoryState) (r : ℕ) (f : Facts) → AreConsistent s.heap → f ≡ facts s.heap.now r
+    → (f.event ≡ None → length (cells s.heap.now r) ≡ f.length) → IsHeaderOf s r f
 header_of s r f whole is persistent = record {
   is = is;
   persistent = persistent;
@@ -125,4 +133,5 @@ header_of s r f whole is persistent = record {
 }
   where
     within : (event : ClearEvent) → (facts s.heap.now r).event ≡ Some event → (facts s.heap.now r).place + (facts s.heap.now r).length ≤ area_size
-    within event is = let below = (owns_cells s.heap.now whole.now.whole).below r event is in let fits = (whole.now.whole.areas event).fits in omega (arith, below, fits)
+    within event is =
+        let below = (owns_cells s.heap.now whole.now.whole).below r event is in let fits = (whole.now.whole.areas event).fits in omega (arith, below, fits)

@@ -12,11 +12,12 @@ use Rattle.jc_heap.specs.declared.object.Kind.TheVariants.{ReferenceArray}
 use Rattle.jc_heap.specs.declared.place.Place.TheVariants.{Cell}
 use Rattle.jc_heap.specs.declared.refusal.HeapRefusal.{HeapRefusal}
 use Rattle.jc_heap.specs.Object.{IsElement, is_object}
-use Rattle.jc_heap.specs.Heap.{cells, facts, item_at}
+use Rattle.jc_heap.specs.Heap.{cells, facts, heap_item_at}
 use Rattle.jc_heap.specs.Whole.{IsReference}
-use Rattle.jc_heap.specs.Moves.{Write, SetCells, Answer, Done, no_room, no_run}
-use Rattle.jc_memory.specs.State.{MemoryState, Effect, Changes, Fills}
-use Rattle.jc_memory.specs.Doing.{Doing, Gives, Then, unless_refused}
+use Rattle.jc_heap.specs.Moves.{Write, SetCells, refusal_of_places, refusal_of_cells}
+use Rattle.jc_heap.specs.Completions.{Attempt, Done}
+use Rattle.jc_memory.specs.State.{MemoryState, Effect, HeapMove, SetTransient}
+use Rattle.jc_memory.specs.Programs.{Program, Finish, Perform, unless_refused}
 
 -- a value as a word: a number modulo 2^16, or a reference
 abbrev pub word_of : CellValue → ℕ
@@ -49,42 +50,42 @@ abbrev pub words_at : MemoryState → ℕ → ℕ → ℕ → List ℕ
 words_at s r i count = map (word_at s r) (range_with_len i count)
 
 -- what setting a cell does to an object that is kept so
-abbrev pub sets_in : Option ClearEvent → ℕ → ℕ → CellValue → Effect
-sets_in None r i v = Changes (Write (Cell r i) (word_of v))
-sets_in (Some event) r i v = Fills r i (v ∷ [])
+abbrev pub cell_effect_in : Option ClearEvent → ℕ → ℕ → CellValue → Effect
+cell_effect_in None r i v = HeapMove (Write (Cell r i) (word_of v))
+cell_effect_in (Some event) r i v = SetTransient r i (v ∷ [])
 
 -- what setting a cell does
-abbrev pub sets : MemoryState → ℕ → ℕ → CellValue → Effect
-sets s r i v = sets_in (facts s.heap.now r).event r i v
+abbrev pub cell_effect : MemoryState → ℕ → ℕ → CellValue → Effect
+cell_effect s r i v = cell_effect_in (facts s.heap.now r).event r i v
 
 -- why cells of an object that is kept so can't be set: the transaction has no room; a transient one needs none
-abbrev pub no_room_in : Option ClearEvent → Option HeapRefusal → Option HeapRefusal
-no_room_in None reason = reason
-no_room_in (Some event) reason = None
+abbrev pub cell_refusal_in : Option ClearEvent → Option HeapRefusal → Option HeapRefusal
+cell_refusal_in None reason = reason
+cell_refusal_in (Some event) reason = None
 
 -- why a cell can't be set
-abbrev pub no_room_for : MemoryState → ℕ → ℕ → Option HeapRefusal
-no_room_for s r i = no_room_in (facts s.heap.now r).event (no_room s.heap (Cell r i ∷ []))
+abbrev pub cell_refusal : MemoryState → ℕ → ℕ → Option HeapRefusal
+cell_refusal s r i = cell_refusal_in (facts s.heap.now r).event (refusal_of_places s.heap (Cell r i ∷ []))
 
 -- what setting a cell may do
-abbrev pub stored : MemoryState → ℕ → ℕ → CellValue → Doing (Answer (Unit {0}))
-stored s r i v = unless_refused (no_room_for s r i) (Then (sets s r i v) (Gives (Done tt)))
+abbrev pub cell_store : MemoryState → ℕ → ℕ → CellValue → Program (Attempt (Unit {0}))
+cell_store s r i v = unless_refused (cell_refusal s r i) (Perform (cell_effect s r i v) (Finish (Done tt)))
 
 -- what setting cells from an index on does, as one change
-abbrev pub sets_run_in : Option ClearEvent → ℕ → ℕ → List ℕ → Effect
-sets_run_in None r i words = Changes (SetCells r i words)
-sets_run_in (Some event) r i words = Fills r i (map number_of words)
+abbrev pub cells_effect_in : Option ClearEvent → ℕ → ℕ → List ℕ → Effect
+cells_effect_in None r i words = HeapMove (SetCells r i words)
+cells_effect_in (Some event) r i words = SetTransient r i (map number_of words)
 
-abbrev pub sets_run : MemoryState → ℕ → ℕ → List ℕ → Effect
-sets_run s r i words = sets_run_in (facts s.heap.now r).event r i words
+abbrev pub cells_effect : MemoryState → ℕ → ℕ → List ℕ → Effect
+cells_effect s r i words = cells_effect_in (facts s.heap.now r).event r i words
 
 -- why they can't be set
-abbrev pub no_room_for_run : MemoryState → ℕ → ℕ → List ℕ → Option HeapRefusal
-no_room_for_run s r i words = no_room_in (facts s.heap.now r).event (no_run s.heap r i words)
+abbrev pub cells_refusal : MemoryState → ℕ → ℕ → List ℕ → Option HeapRefusal
+cells_refusal s r i words = cell_refusal_in (facts s.heap.now r).event (refusal_of_cells s.heap r i words)
 
 -- what setting them may do
-abbrev pub stored_run : MemoryState → ℕ → ℕ → List ℕ → Doing (Answer (Unit {0}))
-stored_run s r i words = unless_refused (no_room_for_run s r i words) (Then (sets_run s r i words) (Gives (Done tt)))
+abbrev pub cells_store : MemoryState → ℕ → ℕ → List ℕ → Program (Attempt (Unit {0}))
+cells_store s r i words = unless_refused (cells_refusal s r i words) (Perform (cells_effect s r i words) (Finish (Done tt)))
 
 -- a value that the cells of an object may have: a byte in an array of bytes, a reference in an array of references
 pub record MayHave (s : MemoryState) (r : ℕ) (v : CellValue) : Type 0 where
@@ -98,7 +99,7 @@ pub record MayHaveAll (s : MemoryState) (r : ℕ) (words : List ℕ) : Type 0 wh
 
 -- what the header of the object behind a reference says, if an object stands there
 abbrev pub header_at : MemoryState → ℕ → Option Facts
-header_at s r = if is_object (item_at s.heap.now r) then Some (facts s.heap.now r) else None
+header_at s r = if is_object (heap_item_at s.heap.now r) then Some (facts s.heap.now r) else None
 
 -- what the header of an object says of its cells: a persistent one has so many, a transient one's lie within its area
 pub record IsHeaderOf (s : MemoryState) (r : ℕ) (f : Facts) : Type 0 where

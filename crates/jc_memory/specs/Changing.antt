@@ -5,33 +5,37 @@ use Rattle.jc_heap.specs.declared.place.Place.{Place}
 use Rattle.jc_heap.specs.declared.place.Place.TheVariants.{Cell}
 use Rattle.jc_heap.specs.declared.place.AppletEntry.{AppletEntry}
 use Rattle.jc_heap.specs.Places.{places_of}
-use Rattle.jc_heap.specs.Moves.{Write, SetPlaces, Count, AddPackage, Commit, Abort, Answer, Done, no_room, no_package, no_applet, applet_move}
-use Rattle.jc_memory.specs.State.{MemoryState, Changes, Buries}
-use Rattle.jc_memory.specs.Doing.{Doing, Gives, Then, Picks, unless_refused}
+use Rattle.jc_heap.specs.Moves.{Write, SetPlaces, WriteNonAtomic, AddPackage, Commit, Abort, refusal_of_places, refusal_of_package, refusal_of_applet}
+use Rattle.jc_heap.specs.Moves.{applet_move}
+use Rattle.jc_heap.specs.Completions.{Attempt, Done}
+use Rattle.jc_memory.specs.State.{MemoryState, HeapMove, NullDead}
+use Rattle.jc_memory.specs.Programs.{Program, Finish, Perform, Choose, unless_refused}
 
 -- what writing a place may do
-abbrev pub written : MemoryState → Place → ℕ → Doing (Answer (Unit {0}))
-written s place v = unless_refused (no_room s.heap (place ∷ [])) (Then (Changes (Write place v)) (Gives (Done tt)))
+abbrev pub place_write : MemoryState → Place → ℕ → Program (Attempt (Unit {0}))
+place_write s place v = unless_refused (refusal_of_places s.heap (place ∷ [])) (Perform (HeapMove (Write place v)) (Finish (Done tt)))
 
 -- what writing several places as one change may do
-abbrev pub written_all : MemoryState → List (Place × ℕ) → Doing (Answer (Unit {0}))
-written_all s changes = unless_refused (no_room s.heap (places_of changes)) (Then (Changes (SetPlaces changes)) (Gives (Done tt)))
+abbrev pub places_write : MemoryState → List (Place × ℕ) → Program (Attempt (Unit {0}))
+places_write s changes = unless_refused (refusal_of_places s.heap (places_of changes)) (Perform (HeapMove (SetPlaces changes)) (Finish (Done tt)))
 
 -- what setting a counter does: nothing but the store refuses it
-abbrev pub counted : ℕ → ℕ → ℕ → Doing (Unit {0})
-counted r i v = Then (Changes (Count (Cell r i) v)) (Gives tt)
+abbrev pub nonatomic_write : ℕ → ℕ → ℕ → Program (Unit {0})
+nonatomic_write r i v = Perform (HeapMove (WriteNonAtomic (Cell r i) v)) (Finish tt)
 
 -- what the end of a transaction does, one way and the other
-abbrev pub committed : Doing (Unit {0})
-committed = Then (Changes Commit) (Gives tt)
+abbrev pub commit : Program (Unit {0})
+commit = Perform (HeapMove Commit) (Finish tt)
 
-abbrev pub aborted : Doing (Unit {0})
-aborted = Then (Changes Abort) (Then Buries (Gives tt))
+abbrev pub abort : Program (Unit {0})
+abort = Perform (HeapMove Abort) (Perform NullDead (Finish tt))
 
 -- what adding a package may do: its record gets a new reference
-abbrev pub package_added : MemoryState → List (ℕ × List ℕ) → List (Kind × List ℕ) → List ℕ → Doing (Answer ℕ)
-package_added s components arrays image = unless_refused (no_package s.heap components arrays image) (Picks (λ r. Then (Changes (AddPackage components arrays image)) (Gives (Done r))))
+abbrev pub package_addition : MemoryState → List (ℕ × List ℕ) → List (Kind × List ℕ) → List ℕ → Program (Attempt ℕ)
+package_addition s components arrays image = unless_refused (refusal_of_package s.heap components arrays image)
+    (Choose (λ r. Perform (HeapMove (AddPackage components arrays image)) (Finish (Done r))))
 
 -- what registering an applet may do: it gets the next number
-abbrev pub applet_added : MemoryState → AppletEntry → Doing (Answer ℕ)
-applet_added s entry = unless_refused (no_applet s.heap entry) (Then (Changes (applet_move s.heap.now entry)) (Gives (Done s.heap.now.counts.1)))
+abbrev pub applet_addition : MemoryState → AppletEntry → Program (Attempt ℕ)
+applet_addition s entry = unless_refused (refusal_of_applet s.heap entry) (Perform (HeapMove (applet_move s.heap.now entry))
+    (Finish (Done s.heap.now.counts.1)))

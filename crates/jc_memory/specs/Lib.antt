@@ -1,7 +1,7 @@
 pub mod Owners
 pub mod Power
 pub mod State
-pub mod Doing
+pub mod Programs
 pub mod Reading
 pub mod Laws
 pub mod Cells
@@ -9,3 +9,4 @@ pub mod Making
 pub mod Changing
 pub mod Dead
 pub mod Marks
+pub mod Room

@@ -17,5 +17,5 @@ abbrev pub volatile_of : MemoryState → VolatileState
 volatile_of s = record { ram = s.ram; fixed = s.fixed; registers = s.registers; command = s.command; sent = s.sent }
 
 -- the memory of a heap and of the rest
-abbrev pub resumed : HeapView → VolatileState → MemoryState
-resumed heap v = record { heap = heap; ram = v.ram; fixed = v.fixed; registers = v.registers; command = v.command; sent = v.sent }
+abbrev pub resumed_memory : HeapView → VolatileState → MemoryState
+resumed_memory heap v = record { heap = heap; ram = v.ram; fixed = v.fixed; registers = v.registers; command = v.command; sent = v.sent }

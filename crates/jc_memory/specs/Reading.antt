@@ -1,38 +1,38 @@
 -- What is so of everything that may be done: readings of a tree.
 use Rattle.std.specs.Prelude.{ℕ, ◌≡◌, ◌⊎◌, List, [], ◌∷◌}
-use Rattle.jc_memory.specs.State.{MemoryState, Effect, effected, IsNew}
-use Rattle.jc_memory.specs.Doing.{Doing, Gives, Then, Picks, Or}
+use Rattle.jc_memory.specs.State.{MemoryState, Effect, apply_effect, IsNew}
+use Rattle.jc_memory.specs.Programs.{Program, Finish, Perform, Choose, Either}
 
 -- whatever is chosen, the answer and the memory left are so
-abbrev pub Each : {A : Type 0} → Doing A → MemoryState → (A → MemoryState → Type 0) → Type 0
-Each (Gives a) s P = P a s
-Each (Then e rest) s P = Each rest (effected e s) P
-Each (Picks choose) s P = (r : ℕ) → IsNew s.heap.now r → Each (choose r) s P
-Each (Or x y) s P = Each x s P × Each y s P
+abbrev pub AllResults : {A : Type 0} → Program A → MemoryState → (A → MemoryState → Type 0) → Type 0
+AllResults (Finish a) s P = P a s
+AllResults (Perform e rest) s P = AllResults rest (apply_effect e s) P
+AllResults (Choose choose) s P = (r : ℕ) → IsNew s.heap.now r → AllResults (choose r) s P
+AllResults (Either x y) s P = AllResults x s P × AllResults y s P
 
 -- whatever is chosen, each effect is due in the memory that it finds
-abbrev pub AllDue : {A : Type 0} → (Effect → MemoryState → Type 0) → Doing A → MemoryState → Type 0
-AllDue P (Gives a) s = Unit {0}
-AllDue P (Then e rest) s = P e s × AllDue P rest (effected e s)
-AllDue P (Picks choose) s = (r : ℕ) → IsNew s.heap.now r → AllDue P (choose r) s
-AllDue P (Or x y) s = AllDue P x s × AllDue P y s
+abbrev pub AllDue : {A : Type 0} → (Effect → MemoryState → Type 0) → Program A → MemoryState → Type 0
+AllDue P (Finish a) s = Unit {0}
+AllDue P (Perform e rest) s = P e s × AllDue P rest (apply_effect e s)
+AllDue P (Choose choose) s = (r : ℕ) → IsNew s.heap.now r → AllDue P (choose r) s
+AllDue P (Either x y) s = AllDue P x s × AllDue P y s
 
 -- each of these effects is due in the memory that it finds
-abbrev pub AreDue : (Effect → MemoryState → Type 0) → List Effect → MemoryState → Type 0
-AreDue P [] s = Unit {0}
-AreDue P (e ∷ es) s = P e s × AreDue P es (effected e s)
+abbrev pub AllEffectsDue : (Effect → MemoryState → Type 0) → List Effect → MemoryState → Type 0
+AllEffectsDue P [] s = Unit {0}
+AllEffectsDue P (e ∷ es) s = P e s × AllEffectsDue P es (apply_effect e s)
 
 -- all of it was done by these effects, in this order, with this answer
-abbrev pub Takes : {A : Type 0} → Doing A → MemoryState → List Effect → A → Type 0
-Takes (Gives a) s es answer = (es ≡ []) × (answer ≡ a)
-Takes (Then e rest) s es answer = (more : List Effect) × (es ≡ e ∷ more) × Takes rest (effected e s) more answer
-Takes (Picks choose) s es answer = (r : ℕ) × IsNew s.heap.now r × Takes (choose r) s es answer
-Takes (Or x y) s es answer = Takes x s es answer ⊎ Takes y s es answer
+abbrev pub HasTrace : {A : Type 0} → Program A → MemoryState → List Effect → A → Type 0
+HasTrace (Finish a) s es answer = (es ≡ []) × (answer ≡ a)
+HasTrace (Perform e rest) s es answer = (more : List Effect) × (es ≡ e ∷ more) × HasTrace rest (apply_effect e s) more answer
+HasTrace (Choose choose) s es answer = (r : ℕ) × IsNew s.heap.now r × HasTrace (choose r) s es answer
+HasTrace (Either x y) s es answer = HasTrace x s es answer ⊎ HasTrace y s es answer
 
 -- it begins with these effects, in this order
-abbrev pub Begins : {A : Type 0} → Doing A → MemoryState → List Effect → Type 0
-Begins d s [] = Unit {0}
-Begins (Gives a) s (e ∷ es) = ⊥
-Begins (Then first rest) s (e ∷ es) = (e ≡ first) × Begins rest (effected first s) es
-Begins (Picks choose) s (e ∷ es) = (r : ℕ) × IsNew s.heap.now r × Begins (choose r) s (e ∷ es)
-Begins (Or x y) s (e ∷ es) = Begins x s (e ∷ es) ⊎ Begins y s (e ∷ es)
+abbrev pub HasTracePrefix : {A : Type 0} → Program A → MemoryState → List Effect → Type 0
+HasTracePrefix d s [] = Unit {0}
+HasTracePrefix (Finish a) s (e ∷ es) = ⊥
+HasTracePrefix (Perform first rest) s (e ∷ es) = (e ≡ first) × HasTracePrefix rest (apply_effect first s) es
+HasTracePrefix (Choose choose) s (e ∷ es) = (r : ℕ) × IsNew s.heap.now r × HasTracePrefix (choose r) s (e ∷ es)
+HasTracePrefix (Either x y) s (e ∷ es) = HasTracePrefix x s (e ∷ es) ⊎ HasTracePrefix y s (e ∷ es)

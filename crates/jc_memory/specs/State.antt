@@ -2,11 +2,11 @@
 use Rattle.std.specs.Prelude.{ℕ, ◌+◌, ◌≡◌, ◌<◌, Bool, false, List, [], ◌∷◌, ◌++◌, map, slice_set, Option, Some, None}
 use Rattle.jc_transient.specs.declared.cell.CellValue.{CellValue}
 use Rattle.jc_transient.specs.declared.cell.ClearEvent.{ClearEvent}
-use Rattle.jc_transient.specs.Cells.{cleared, without_dead}
+use Rattle.jc_transient.specs.Cells.{default_value, without_dead}
 use Rattle.jc_transient.specs.State.{RamState, HasSizes, area, with_area, with_cells}
-use Rattle.jc_heap.specs.Heap.{HeapState, HeapView, facts, names}
-use Rattle.jc_heap.specs.Keeping.{AreWhole}
-use Rattle.jc_heap.specs.Moves.{Move, apply}
+use Rattle.jc_heap.specs.Heap.{HeapState, HeapView, facts, is_allocated}
+use Rattle.jc_heap.specs.Keeping.{AreConsistent}
+use Rattle.jc_heap.specs.Moves.{Move, apply_move}
 use Rattle.jc_memory.specs.declared.registers.Registers.{Registers}
 
 -- the heap; the transient contents; the objects with which the heap begins, in their order; for whom code runs;
@@ -23,55 +23,55 @@ pub record MemoryState : Type 0 where
 -- object's flag set; the transient objects of an event cleared; each transient reference to an object that
 -- the heap has not made null; the registers set; a command begun; bytes sent
 pub data Effect : Type 0 where
-  Changes : Move → Effect
-  Fills : ℕ → ℕ → List CellValue → Effect
-  Flags : ℕ → Bool → Effect
-  Clears : ClearEvent → Effect
-  Buries : Effect
-  Turns : Registers → Effect
-  Starts : List ℕ → Effect
-  Sends : List ℕ → Effect
+  HeapMove : Move → Effect
+  SetTransient : ℕ → ℕ → List CellValue → Effect
+  SetFlag : ℕ → Bool → Effect
+  ClearTransient : ClearEvent → Effect
+  NullDead : Effect
+  SetRegisters : Registers → Effect
+  BeginCommand : List ℕ → Effect
+  SendBytes : List ℕ → Effect
 
 -- these values stand in an event's area from a place on; there is no area for persistent objects
-abbrev pub filled : RamState → Option ClearEvent → ℕ → List CellValue → RamState
-filled ram None place values = ram
-filled ram (Some event) place values = with_area ram event (with_cells (area ram event) place values)
+abbrev pub ram_after_set : RamState → Option ClearEvent → ℕ → List CellValue → RamState
+ram_after_set ram None place values = ram
+ram_after_set ram (Some event) place values = with_area ram event (with_cells (area ram event) place values)
 
 -- each reference to something at or above the top is null
-abbrev pub buried : ℕ → RamState → RamState
-buried top ram = record ram { reset_cells = map (without_dead top) ram.reset_cells; deselect_cells = map (without_dead top) ram.deselect_cells }
+abbrev pub ram_without_dead : ℕ → RamState → RamState
+ram_without_dead top ram = record ram { reset_cells = map (without_dead top) ram.reset_cells; deselect_cells = map (without_dead top) ram.deselect_cells }
 
 -- the memory after an effect
-abbrev pub effected : Effect → MemoryState → MemoryState
-effected (Changes m) s = record s { heap = apply m s.heap }
-effected (Fills r i values) s = record s { ram = filled s.ram (facts s.heap.now r).event ((facts s.heap.now r).place + i) values }
-effected (Flags r flag) s = record s { ram = record s.ram { flags = slice_set s.ram.flags r flag } }
-effected (Clears event) s = record s { ram = with_area s.ram event (map cleared (area s.ram event)) }
-effected Buries s = record s { ram = buried s.heap.now.top s.ram }
-effected (Turns registers) s = record s { registers = registers }
-effected (Starts bytes) s = record s { command = bytes; sent = [] }
-effected (Sends bytes) s = record s { sent = s.sent ++ bytes }
+abbrev pub apply_effect : Effect → MemoryState → MemoryState
+apply_effect (HeapMove m) s = record s { heap = apply_move m s.heap }
+apply_effect (SetTransient r i values) s = record s { ram = ram_after_set s.ram (facts s.heap.now r).event ((facts s.heap.now r).place + i) values }
+apply_effect (SetFlag r flag) s = record s { ram = record s.ram { flags = slice_set s.ram.flags r flag } }
+apply_effect (ClearTransient event) s = record s { ram = with_area s.ram event (map default_value (area s.ram event)) }
+apply_effect NullDead s = record s { ram = ram_without_dead s.heap.now.top s.ram }
+apply_effect (SetRegisters registers) s = record s { registers = registers }
+apply_effect (BeginCommand bytes) s = record s { command = bytes; sent = [] }
+apply_effect (SendBytes bytes) s = record s { sent = s.sent ++ bytes }
 
 -- the memory after these effects
-abbrev pub effected_all : List Effect → MemoryState → MemoryState
-effected_all [] s = s
-effected_all (e ∷ es) s = effected_all es (effected e s)
+abbrev pub apply_effects : List Effect → MemoryState → MemoryState
+apply_effects [] s = s
+apply_effects (e ∷ es) s = apply_effects es (apply_effect e s)
 
 -- the moves of the heap among these effects
 abbrev pub moves_of : List Effect → List Move
 moves_of [] = []
-moves_of (Changes m ∷ es) = m ∷ moves_of es
+moves_of (HeapMove m ∷ es) = m ∷ moves_of es
 moves_of (e ∷ es) = moves_of es
 
 -- a reference that the next new object may have: nothing stands there, and it is not null. A move puts a new
 -- object at the heap's end, so it is the end's
 pub record IsNew (h : HeapState) (r : ℕ) : Type 0 where
-  pub free : names h r ≡ false
+  pub free : is_allocated h r ≡ false
   pub some : r ≡ 0 → ⊥
   pub chosen : r ≡ h.top
 
 -- what the parts of each memory meet: while its store is up the heap is whole, now and after a loss of power;
 -- the contents have their sizes
-pub record AreParts (v : HeapView) (contents : RamState) : Type 0 where
-  pub heap : v.down ≡ false → AreWhole v
+pub record IsConsistentMemory (v : HeapView) (contents : RamState) : Type 0 where
+  pub heap : v.down ≡ false → AreConsistent v
   pub ram : HasSizes contents

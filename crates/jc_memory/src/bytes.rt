@@ -1,8 +1,9 @@
 //! Runs of cells.
 ghost use Rattle.std.specs.Prelude.{◌≡◌, ◌+◌, ◌≤◌, false, length, take};
 ghost use Rattle.jc_heap.specs.Heap.{IsObject, facts};
-ghost use Rattle.jc_memory.specs.Doing.{Makes, after_change};
-ghost use Rattle.jc_memory.specs.Cells.{bytes_at, words_at, stored_run, MayHaveAll};
+ghost use Rattle.jc_memory.specs.Programs.{Executes};
+ghost use Rattle.jc_heap.specs.Completions.{after_change};
+ghost use Rattle.jc_memory.specs.Cells.{bytes_at, words_at, cells_store, MayHaveAll};
 
 use crate::memory::{MOST_COMMAND, Memory};
 use jc_heap::ChangeRefusal;
@@ -54,7 +55,8 @@ impl<S: WordStore> Memory<S> {
         requires there { IsObject self.old.heap.now object }
         requires cells { i + length words.now ≤ (facts self.old.heap.now object).length }
         requires values { MayHaveAll self.old object words.now }
-        ensures { Makes (stored_run self.old object i words.now) self.old (after_change result self.new) }
+        ensures { Executes (cells_store self.old object i words.now) self.old
+            (after_change result self.new) }
     {
         let facts = self.facts(object);
         match facts.event {
@@ -73,7 +75,8 @@ impl<S: WordStore> Memory<S> {
         requires cells { i + length bytes.now ≤ (facts self.old.heap.now object).length }
         requires values { MayHaveAll self.old object bytes.now }
         requires few { length bytes.now ≤ MOST_COMMAND }
-        ensures { Makes (stored_run self.old object i bytes.now) self.old (after_change result self.new) }
+        ensures { Executes (cells_store self.old object i bytes.now) self.old
+            (after_change result self.new) }
     {
         let facts = self.facts(object);
         match facts.event {

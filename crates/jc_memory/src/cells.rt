@@ -1,15 +1,16 @@
 //! Cells of objects, wherever they are kept.
 ghost use Rattle.std.specs.Prelude.{◌≡◌, ◌<◌, false};
 ghost use Rattle.jc_heap.specs.Heap.{IsObject, facts};
-ghost use Rattle.jc_memory.specs.Doing.{Makes, after_change};
-ghost use Rattle.jc_memory.specs.Cells.{word_of, word_at, short_at, byte_at, stored, MayHave};
+ghost use Rattle.jc_memory.specs.Programs.{Executes};
+ghost use Rattle.jc_heap.specs.Completions.{after_change};
+ghost use Rattle.jc_memory.specs.Cells.{word_of, word_at, short_at, byte_at, cell_store, MayHave};
 
 use crate::memory::Memory;
 use jc_heap::ChangeRefusal;
 use jc_transient::{CellValue, Ref};
 use jc_words::WordStore;
 
-// A value as a word.
+// A number's 16 bits, or a reference's address.
 #[inline(always)]
 fn word_of(value: CellValue) -> u16
     ensures { result ≡ word_of value }
@@ -77,7 +78,8 @@ impl<S: WordStore> Memory<S> {
         requires there { IsObject self.old.heap.now object }
         requires cell { i < (facts self.old.heap.now object).length }
         requires value { MayHave self.old object value }
-        ensures { Makes (stored self.old object i value) self.old (after_change result self.new) }
+        ensures { Executes (cell_store self.old object i value) self.old
+            (after_change result self.new) }
     {
         let facts = self.facts(object);
         match facts.event {

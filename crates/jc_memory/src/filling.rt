@@ -2,7 +2,7 @@
 ghost use Rattle.std.specs.Prelude.{◌≡◌, ◌+◌, ◌≤◌, ◌++◌, false, length, map, replicate, Some};
 ghost use Rattle.jc_transient.specs.Cells.{number_of};
 ghost use Rattle.jc_heap.specs.Heap.{IsObject, facts};
-ghost use Rattle.jc_memory.specs.State.{Fills, effected};
+ghost use Rattle.jc_memory.specs.State.{SetTransient, apply_effect};
 
 use crate::memory::Memory;
 use jc_transient::{CellValue, ClearEvent, Ref};
@@ -16,7 +16,8 @@ impl<S: WordStore> Memory<S> {
         requires there { IsObject self.old.heap.now object }
         requires transient { (facts self.old.heap.now object).event ≡ Some event }
         requires cells { length bytes.now + zeros ≤ (facts self.old.heap.now object).length }
-        ensures { self.new ≡ effected (Fills object 0 (map number_of (bytes.now ++ replicate zeros 0))) self.old }
+        ensures { self.new ≡ apply_effect (SetTransient object 0
+            (map number_of (bytes.now ++ replicate zeros 0))) self.old }
     {
         let place = self.facts(object).place;
         self.ram.put_bytes(event, place, bytes);

@@ -1,7 +1,7 @@
 //! Flags of objects, clear events, and for whom code runs.
 ghost use Rattle.std.specs.Prelude.{◌≡◌};
 ghost use Rattle.jc_transient.specs.State.{flag_of};
-ghost use Rattle.jc_memory.specs.State.{Flags, Clears, Turns, effected};
+ghost use Rattle.jc_memory.specs.State.{SetFlag, ClearTransient, SetRegisters, apply_effect};
 
 use crate::memory::Memory;
 use crate::registers::Registers;
@@ -18,14 +18,14 @@ impl<S: WordStore> Memory<S> {
 
     /// Sets the flag of an object. No abort takes it back.
     pub fn set_flag(&mut self, object: Ref, value: bool)
-        ensures { self.new ≡ effected (Flags object value) self.old }
+        ensures { self.new ≡ apply_effect (SetFlag object value) self.old }
     {
         self.ram.set_flag(object, value);
     }
 
     /// Clears the transient objects of an event.
     pub fn clear(&mut self, event: ClearEvent)
-        ensures { self.new ≡ effected (Clears event) self.old }
+        ensures { self.new ≡ apply_effect (ClearTransient event) self.old }
     {
         self.ram.clear(event);
     }
@@ -39,8 +39,8 @@ impl<S: WordStore> Memory<S> {
     }
 
     /// Sets the registers.
-    pub fn turn(&mut self, registers: Registers)
-        ensures { self.new ≡ effected (Turns registers) self.old }
+    pub fn set_registers(&mut self, registers: Registers)
+        ensures { self.new ≡ apply_effect (SetRegisters registers) self.old }
     {
         self.registers = registers;
     }

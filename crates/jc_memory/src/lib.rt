@@ -1,28 +1,34 @@
 //! The memory of a card that runs: what code may do to it, as data, and the calls that do it.
+//! Calls of several changes ask room for all of them before the first one. After that the store alone may refuse.
 #![tactic(auto)]
 
 mod adding;
+mod apdu;
 mod bytes;
 mod cells;
+mod commit_capacity;
 mod filling;
 mod flags;
-mod law;
 mod making;
 mod marks;
 mod memory;
 mod power;
+mod program_laws;
 mod registers;
-mod sent;
 mod transaction;
 
-pub use law::{
-    Held, Kept, aborts_bury_the_dead, calls_follow_one_another, due_effects_keep_what_holds,
-    losses_fall_before_a_move, new_references_are_apart, what_holds_of_each_holds,
+pub use commit_capacity::{
+    has_space, lacks_capacity, make_within_capacity, register_within_capacity, set_within_capacity,
+    write_within_capacity,
 };
 pub use making::NewObject;
 pub use marks::Marks;
 pub use memory::{FIXED_OBJECTS, MOST_COMMAND, MOST_SENT, Memory};
 pub use power::Volatile;
+pub use program_laws::{
+    aborts_null_dead_references, calls_follow_one_another, losses_fall_before_a_move,
+    new_references_are_fresh,
+};
 pub use registers::{
     ApduPhase, ApduState, AppletNumber, Depth, Installation, Owner, PackageNumber, Registers,
 };

@@ -1,13 +1,13 @@
 //! New objects.
 ghost use Rattle.std.specs.Prelude.{◌≡◌, false, None, Some};
-ghost use Rattle.jc_memory.specs.Doing.{Makes, after_making};
-ghost use Rattle.jc_memory.specs.Making.{made, zero_of};
+ghost use Rattle.jc_memory.specs.Programs.{Executes};
+ghost use Rattle.jc_heap.specs.Completions.{after_making};
+ghost use Rattle.jc_memory.specs.Making.{new_object, zero_of};
 
 use crate::memory::Memory;
 use crate::registers::Owner;
 use jc_heap::{HeapRefusal, Kind};
-use jc_names::ClassWord;
-use jc_transient::{CellValue, ClearEvent, Ref};
+use jc_transient::{CellValue, ClassWord, ClearEvent, Ref};
 use jc_words::WordStore;
 
 /// What a new object is to be.
@@ -38,7 +38,7 @@ impl<S: WordStore> Memory<S> {
     fn make_persistent(&mut self, object: NewObject) -> Result<Ref, HeapRefusal>
         requires up { self.old.heap.down ≡ false }
         requires event { object.event ≡ None }
-        ensures { Makes (made self.old object) self.old (after_making result self.new) }
+        ensures { Executes (new_object self.old object) self.old (after_making result self.new) }
     {
         let owner = object.owner.number();
         let r = self
@@ -54,7 +54,7 @@ impl<S: WordStore> Memory<S> {
     fn make_transient(&mut self, event: ClearEvent, object: NewObject) -> Result<Ref, HeapRefusal>
         requires up { self.old.heap.down ≡ false }
         requires event { object.event ≡ Some event }
-        ensures { Makes (made self.old object) self.old (after_making result self.new) }
+        ensures { Executes (new_object self.old object) self.old (after_making result self.new) }
     {
         let owner = object.owner.number();
         let (kind, length) = (object.kind, object.length);
@@ -73,7 +73,7 @@ impl<S: WordStore> Memory<S> {
     /// transaction.
     pub fn make(&mut self, object: NewObject) -> Result<Ref, HeapRefusal>
         requires up { self.old.heap.down ≡ false }
-        ensures { Makes (made self.old object) self.old (after_making result self.new) }
+        ensures { Executes (new_object self.old object) self.old (after_making result self.new) }
     {
         match object.event {
             None => self.make_persistent(object),

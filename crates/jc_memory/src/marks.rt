@@ -51,7 +51,8 @@ fn unmark(marks: &mut [bool])
 fn unmark_between(marks: &mut [bool], from: usize, to: usize)
     requires { to ≤ length marks.old }
     ensures len { length marks.new ≡ length marks.old }
-    ensures left { (r : ℕ) → is_marked marks.new r ≡ true → (is_marked marks.old r ≡ true) × ((r < from) ⊎ (to ≤ r)) }
+    ensures left { (r : ℕ) → is_marked marks.new r ≡ true
+        → (is_marked marks.old r ≡ true) × ((r < from) ⊎ (to ≤ r)) }
 {
     for place in from..to {
         marks[place] = false;
@@ -85,7 +86,8 @@ impl Marks {
 
     // Takes the marks of the addresses from one on and below another away.
     pub(crate) fn forget(&mut self, from: u16, to: u16)
-        ensures { (r : ℕ) → is_marked self.new r ≡ true → (is_marked self.old r ≡ true) × ((r < from) ⊎ (to ≤ r)) }
+        ensures { (r : ℕ) → is_marked self.new r ≡ true
+            → (is_marked self.old r ≡ true) × ((r < from) ⊎ (to ≤ r)) }
     {
         unmark_between(&mut self.marks, usize::from(from), usize::from(to));
     }

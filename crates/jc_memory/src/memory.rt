@@ -1,7 +1,7 @@
 //! A memory: its parts, and what headers say.
 ghost use Rattle.std.specs.Prelude.{◌≡◌, ◌<◌, [], false, IfSome, slice_index};
 ghost use Rattle.jc_heap.specs.Heap.{IsObject};
-ghost use Rattle.jc_heap.specs.Whole.{IsWhole};
+ghost use Rattle.jc_heap.specs.Whole.{IsConsistent};
 ghost use Rattle.jc_transient.specs.State.{HasSizes};
 ghost use Rattle.jc_memory.specs.Owners.{at_reset};
 ghost use Rattle.jc_memory.specs.Cells.{IsHeaderOf, header_at};
@@ -39,14 +39,21 @@ pub struct Memory<S: WordStore> {
 }
 
 impl<S: WordStore> Model for Memory<S> {
-    ghost use Rattle.jc_memory.specs.State.{MemoryState, AreParts};
+    ghost use Rattle.jc_memory.specs.State.{MemoryState, IsConsistentMemory};
     ghost use Rattle.jc_memory.specs.Marks.{AreObjects};
 
     ghost Value = { MemoryState };
 
-    ghost view = { λ m. record { heap = m.heap; ram = m.ram; fixed = m.fixed; registers = m.registers; command = m.command.items; sent = m.sent.items } };
+    ghost view = { λ m. record {
+      heap = m.heap;
+      ram = m.ram;
+      fixed = m.fixed;
+      registers = m.registers;
+      command = m.command.items;
+      sent = m.sent.items;
+    } };
 
-    ghost invariant = { λ m. AreParts m.heap m.ram × AreObjects m.marks m.heap };
+    ghost invariant = { λ m. IsConsistentMemory m.heap m.ram × AreObjects m.marks m.heap };
 }
 
 impl<S: WordStore> Memory<S> {
@@ -55,9 +62,16 @@ impl<S: WordStore> Memory<S> {
     pub fn new(heap: Heap<S>, ram: Ram, fixed: [Ref; FIXED_OBJECTS], mut marks: Marks) -> Memory<S>
         requires up { heap.down ≡ false }
         requires rests { heap.begun ≡ false }
-        requires whole { IsWhole heap.now }
+        requires whole { IsConsistent heap.now }
         requires sizes { HasSizes ram }
-        ensures { result ≡ record { heap = heap; ram = ram; fixed = fixed; registers = at_reset; command = []; sent = [] } }
+        ensures { result ≡ record {
+          heap = heap;
+          ram = ram;
+          fixed = fixed;
+          registers = at_reset;
+          command = [];
+          sent = [];
+        } }
     {
         // Nothing stands at or above the top, and the durable heap is this one.
         let _ = (heap.top(), heap.is_open());
@@ -111,7 +125,8 @@ impl<S: WordStore> Memory<S> {
     pub fn header(&self, reference: Ref) -> Option<Facts>
         requires up { self.now.heap.down ≡ false }
         ensures header { result ≡ header_at self.now reference }
-        ensures there { IfSome result (λ facts. IsObject self.now.heap.now reference × IsHeaderOf self.now reference facts) }
+        ensures there { IfSome result (λ facts. IsObject self.now.heap.now reference
+            × IsHeaderOf self.now reference facts) }
     {
         if self.marks.has(reference) || self.heap.is_object(reference.address()) {
             Some(self.facts(reference))

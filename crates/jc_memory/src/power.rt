@@ -2,9 +2,9 @@
 ghost use Rattle.std.specs.Prelude.{◌≡◌, false};
 ghost use Rattle.jc_commit.specs.Image.{recovered_of};
 ghost use Rattle.jc_heap.specs.Heap.{heap_of};
-ghost use Rattle.jc_heap.specs.Stored.{HoldsHeap, IsAtRest, rested};
-ghost use Rattle.jc_heap.specs.Whole.{IsWhole};
-ghost use Rattle.jc_memory.specs.Power.{resumed, volatile_of};
+ghost use Rattle.jc_heap.specs.Stored.{HoldsHeap, IsAtRest, heap_of_store_at_rest};
+ghost use Rattle.jc_heap.specs.Whole.{IsConsistent};
+ghost use Rattle.jc_memory.specs.Power.{resumed_memory, volatile_of};
 
 use crate::marks::Marks;
 use crate::memory::{FIXED_OBJECTS, MOST_COMMAND, MOST_SENT, Memory};
@@ -32,7 +32,13 @@ impl Model for Volatile {
 
     ghost Value = { VolatileState };
 
-    ghost view = { λ m. record { ram = m.ram; fixed = m.fixed; registers = m.registers; command = m.command.items; sent = m.sent.items } };
+    ghost view = { λ m. record {
+      ram = m.ram;
+      fixed = m.fixed;
+      registers = m.registers;
+      command = m.command.items;
+      sent = m.sent.items;
+    } };
 
     ghost invariant = { λ m. HasSizes m.ram };
 }
@@ -40,8 +46,9 @@ impl Model for Volatile {
 impl<S: WordStore> Memory<S> {
     /// The store, and what is not kept in it.
     pub fn into_store(self) -> (S, Volatile)
-        ensures store { HoldsHeap (S.words result.0) (S.down result.0) (S.passed result.0) (S.refused result.0) self.heap }
-        ensures whole { self.heap.down ≡ false → IsWhole self.heap.durable }
+        ensures store { HoldsHeap (S.words result.0) (S.down result.0) (S.passed result.0)
+            (S.refused result.0) self.heap }
+        ensures whole { self.heap.down ≡ false → IsConsistent self.heap.durable }
         ensures volatile { result.1 ≡ volatile_of self }
     {
         let Memory {
@@ -68,8 +75,9 @@ impl<S: WordStore> Memory<S> {
     /// Nothing is read or written.
     pub fn resume(store: S, volatile: Volatile) -> Memory<S>
         requires rests { IsAtRest (S.words store) (S.down store) }
-        requires whole { IsWhole (heap_of (recovered_of (S.words store))) }
-        ensures { result ≡ resumed (rested (S.words store) (S.passed store) (S.refused store)) volatile }
+        requires whole { IsConsistent (heap_of (recovered_of (S.words store))) }
+        ensures { result ≡ resumed_memory (heap_of_store_at_rest (S.words store) (S.passed store)
+            (S.refused store)) volatile }
     {
         let Volatile {
             ram,

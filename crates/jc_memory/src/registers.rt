@@ -2,7 +2,7 @@
 ghost use Rattle.std.specs.Prelude.{◌≡◌};
 ghost use Rattle.jc_memory.specs.Owners.{owner_number, owner_of, at_reset};
 
-use jc_names::{OwnerWord, RUNTIME_ENVIRONMENT};
+use jc_transient::{OwnerWord, RUNTIME_ENVIRONMENT};
 
 /// An applet instance by its number in the registry, 1 to 64.
 #[derive(Clone, Copy, Debug, PartialEq, Eq)]

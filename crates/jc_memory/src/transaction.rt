@@ -2,12 +2,13 @@
 ghost use Rattle.std.specs.Prelude.{◌≡◌, ◌<◌, false, true, length};
 ghost use Rattle.jc_heap.specs.declared.object.Kind.TheVariants.{Instance};
 ghost use Rattle.jc_heap.specs.Heap.{cells, facts};
-ghost use Rattle.jc_heap.specs.Keeping.{MayStand, MayAllStand};
+ghost use Rattle.jc_heap.specs.Keeping.{IsLegalValue, AreLegalValues};
 ghost use Rattle.jc_heap.specs.Places.{HasPlace, MayHold, AreThere, AreApart, places_of};
 ghost use Rattle.jc_heap.specs.Moves.{Begin};
-ghost use Rattle.jc_memory.specs.State.{Changes, effected};
-ghost use Rattle.jc_memory.specs.Doing.{Makes, after_change, after_step};
-ghost use Rattle.jc_memory.specs.Changing.{written, written_all, counted, committed, aborted};
+ghost use Rattle.jc_memory.specs.State.{HeapMove, apply_effect};
+ghost use Rattle.jc_memory.specs.Programs.{Executes};
+ghost use Rattle.jc_heap.specs.Completions.{after_change, after_step};
+ghost use Rattle.jc_memory.specs.Changing.{place_write, places_write, nonatomic_write, commit, abort};
 
 use crate::memory::Memory;
 use jc_heap::{ChangeRefusal, Place};
@@ -15,11 +16,11 @@ use jc_transient::Ref;
 use jc_words::{StoreDown, WordStore};
 
 impl<S: WordStore> Memory<S> {
-    /// Begins a transaction.
+    /// Begins a transaction: what is changed from here on is taken back unless it is committed.
     pub fn begin(&mut self)
         requires up { self.old.heap.down ≡ false }
         requires outside { self.old.heap.begun ≡ false }
-        ensures { self.new ≡ effected (Changes Begin) self.old }
+        ensures { self.new ≡ apply_effect (HeapMove Begin) self.old }
     {
         self.heap.begin();
     }
@@ -28,7 +29,7 @@ impl<S: WordStore> Memory<S> {
     pub fn commit(&mut self) -> Result<(), StoreDown>
         requires up { self.old.heap.down ≡ false }
         requires inside { self.old.heap.begun ≡ true }
-        ensures { Makes committed self.old (after_step result self.new) }
+        ensures { Executes commit self.old (after_step result self.new) }
     {
         self.heap.commit()
     }
@@ -38,7 +39,7 @@ impl<S: WordStore> Memory<S> {
     pub fn abort(&mut self) -> Result<(), StoreDown>
         requires up { self.old.heap.down ≡ false }
         requires inside { self.old.heap.begun ≡ true }
-        ensures { Makes aborted self.old (after_step result self.new) }
+        ensures { Executes abort self.old (after_step result self.new) }
     {
         let before = self.heap.top();
         self.heap.abort()?;
@@ -53,8 +54,8 @@ impl<S: WordStore> Memory<S> {
         requires up { self.old.heap.down ≡ false }
         requires there { HasPlace self.old.heap.now place }
         requires value { MayHold self.old.heap.now place v }
-        requires reference { MayStand self.old.heap.now place v }
-        ensures { Makes (written self.old place v) self.old (after_change result self.new) }
+        requires reference { IsLegalValue self.old.heap.now place v }
+        ensures { Executes (place_write self.old place v) self.old (after_change result self.new) }
     {
         self.heap.write(place, v)
     }
@@ -64,19 +65,20 @@ impl<S: WordStore> Memory<S> {
         requires up { self.old.heap.down ≡ false }
         requires there { AreThere self.old.heap.now changes.now }
         requires apart { AreApart (places_of changes.now) }
-        requires references { MayAllStand self.old.heap.now changes.now }
-        ensures { Makes (written_all self.old changes.now) self.old (after_change result self.new) }
+        requires references { AreLegalValues self.old.heap.now changes.now }
+        ensures { Executes (places_write self.old changes.now) self.old
+            (after_change result self.new) }
     {
         self.heap.set_all(changes)
     }
 
     /// Sets a counter of a persistent instance for good: no abort takes it back, unless an earlier change
     /// of the transaction has touched it.
-    pub fn count(&mut self, object: Ref, i: u16, v: u16) -> Result<(), StoreDown>
+    pub fn nonatomic_write(&mut self, object: Ref, i: u16, v: u16) -> Result<(), StoreDown>
         requires up { self.old.heap.down ≡ false }
         requires cell { i < length (cells self.old.heap.now object) }
         requires kind { (facts self.old.heap.now object).kind ≡ Instance }
-        ensures { Makes (counted object i v) self.old (after_step result self.new) }
+        ensures { Executes (nonatomic_write object i v) self.old (after_step result self.new) }
     {
         self.heap.write_both(Place::Cell(object, i), v)
     }

@@ -1,30 +1,32 @@
 -- The instruction table (virtual machine specification, the instruction set): each opcode with its
 -- mnemonic, the form of its operands and the instruction that they make. An opcode that has no row is
 -- no instruction: those of the int forms have none.
-use Rattle.std.specs.Prelude.{IsTrue, ℕ, ◌+◌, ◌*◌, ◌/◌, ◌%◌, ℤ, pos, negsuc, ◌-ℤ◌, ◌==◌, nat_le, int_lt, if◌then◌else◌, List, [], ◌∷◌, ◌++◌, Option, Some, None, slice_get, length, map, Bool, ◌&&◌, ◌||◌, unsigned_abs}
+use Rattle.std.specs.Prelude.{IsTrue, ℕ, ◌+◌, ◌*◌, ◌/◌, ◌%◌, ℤ, pos, negsuc, ◌-ℤ◌, ◌==◌, nat_le, int_lt, if◌then◌else◌, List, [], ◌∷◌, ◌++◌, Option, Some, None}
+use Rattle.std.specs.Prelude.{slice_get, length, map, Bool, ◌&&◌, ◌||◌, unsigned_abs}
 use Rattle.std.specs.Option.{option_map, option_and_then}
 use Rattle.jc_opcodes.specs.Operands.{u1, s1, u2, s2}
 use Rattle.jc_opcodes.specs.declared.instr.Instr.{Instr}
-use Rattle.jc_opcodes.specs.declared.instr.Instr.TheVariants.{Nop, Push, Access, Arrange, Compute, Jump, Leave, Reach, Index, Operate, Call}
-use Rattle.jc_opcodes.specs.declared.instr.Constant.TheVariants.{Null, Number}
-use Rattle.jc_opcodes.specs.declared.instr.Local.TheVariants.{LoadReference, LoadShort, StoreReference, StoreShort, Increment}
-use Rattle.jc_opcodes.specs.declared.instr.Stack.TheVariants.{Pop, PopTwo, Duplicate, DuplicateTwo, DuplicateBelow, Swap}
-use Rattle.jc_opcodes.specs.declared.instr.Arithmetic.TheVariants.{Two, Negate, ToByte}
-use Rattle.jc_opcodes.specs.declared.instr.Binary.TheVariants.{Add, Subtract, Multiply, Divide, Remainder, ShiftLeft, ShiftRight, ShiftRightUnsigned, And, Or, Xor}
+use Rattle.jc_opcodes.specs.declared.instr.Instr.TheVariants.{Nop, Constant, Local, Stack, Arithmetic, Branch, Return, Field, Array, Object, Invoke}
+use Rattle.jc_opcodes.specs.declared.instr.ConstantOp.TheVariants.{Null, Number}
+use Rattle.jc_opcodes.specs.declared.instr.LocalOp.TheVariants.{Aload, Sload, Astore, Sstore, Sinc}
+use Rattle.jc_opcodes.specs.declared.instr.StackOp.TheVariants.{Pop, Pop2, Dup, Dup2, DupX, SwapX}
+use Rattle.jc_opcodes.specs.declared.instr.ArithmeticOp.TheVariants.{Two, Negate, S2b}
+use Rattle.jc_opcodes.specs.declared.instr.BinaryOp.TheVariants.{Add, Subtract, Multiply, Divide, Remainder, ShiftLeft, ShiftRight, ShiftRightUnsigned, And, Or}
+use Rattle.jc_opcodes.specs.declared.instr.BinaryOp.TheVariants.{Xor}
 use Rattle.jc_opcodes.specs.declared.instr.Comparison.TheVariants.{Equal, NotEqual, Less, GreaterOrEqual, Greater, LessOrEqual}
 use Rattle.jc_opcodes.specs.declared.instr.Condition.{Condition}
 use Rattle.jc_opcodes.specs.declared.instr.Condition.TheVariants.{Zero, IsNull, NotNull, SameReference, OtherReference, Shorts}
-use Rattle.jc_opcodes.specs.declared.instr.Branch.TheVariants.{If, Goto, Subroutine, Back, Table, Lookup}
-use Rattle.jc_opcodes.specs.declared.instr.Return.TheVariants.{WithReference, WithShort, WithNothing}
+use Rattle.jc_opcodes.specs.declared.instr.BranchOp.TheVariants.{If, Goto, Jsr, Ret, Table, Lookup}
+use Rattle.jc_opcodes.specs.declared.instr.ReturnOp.TheVariants.{Areturn, Sreturn, Return}
 use Rattle.jc_opcodes.specs.declared.instr.ValueType.TheVariants.{Reference, Byte, Short}
-use Rattle.jc_opcodes.specs.declared.instr.Field.TheVariants.{GetStatic, PutStatic, Get, Put, GetOfThis, PutOfThis}
+use Rattle.jc_opcodes.specs.declared.instr.FieldOp.TheVariants.{GetStatic, PutStatic, GetField, PutField, GetFieldThis, PutFieldThis}
 use Rattle.jc_opcodes.specs.declared.instr.PrimitiveArray.{PrimitiveArray}
 use Rattle.jc_opcodes.specs.declared.instr.PrimitiveArray.TheVariants.{Booleans, Bytes, Shorts}
-use Rattle.jc_opcodes.specs.declared.instr.ArrayOp.TheVariants.{Load, Store, MakePrimitives, MakeReferences, CountElements}
+use Rattle.jc_opcodes.specs.declared.instr.ArrayOp.TheVariants.{Load, Store, NewArray, ANewArray, ArrayLength}
 use Rattle.jc_opcodes.specs.declared.instr.TestedType.{TestedType}
 use Rattle.jc_opcodes.specs.declared.instr.TestedType.TheVariants.{OfClass, OfPrimitives, OfReferences}
-use Rattle.jc_opcodes.specs.declared.instr.Object.TheVariants.{New, Throw, CheckCast, InstanceOf}
-use Rattle.jc_opcodes.specs.declared.instr.Invoke.TheVariants.{Virtual, Special, Static, Interface}
+use Rattle.jc_opcodes.specs.declared.instr.ObjectOp.TheVariants.{New, Athrow, CheckCast, InstanceOf}
+use Rattle.jc_opcodes.specs.declared.instr.InvokeOp.TheVariants.{Virtual, Special, Static, Interface}
 
 -- what follows an opcode, and the instruction that it makes
 pub data Form : Type 0 where
@@ -54,42 +56,42 @@ Row = ℕ × Form
 abbrev pub constants : List Row
 constants =
     (0x00, Bare Nop) ∷  -- nop
-    (0x01, Bare (Push Null)) ∷  -- aconst_null
-    (0x02, Bare (Push (Number (negsuc 0)))) ∷  -- sconst_m1
-    (0x03, Bare (Push (Number (pos 0)))) ∷  -- sconst_0
-    (0x04, Bare (Push (Number (pos 1)))) ∷  -- sconst_1
-    (0x05, Bare (Push (Number (pos 2)))) ∷  -- sconst_2
-    (0x06, Bare (Push (Number (pos 3)))) ∷  -- sconst_3
-    (0x07, Bare (Push (Number (pos 4)))) ∷  -- sconst_4
-    (0x08, Bare (Push (Number (pos 5)))) ∷  -- sconst_5
-    (0x10, S1 (λ v. Push (Number v))) ∷  -- bspush
-    (0x11, S2 (λ v. Push (Number v))) ∷  -- sspush
+    (0x01, Bare (Constant Null)) ∷  -- aconst_null
+    (0x02, Bare (Constant (Number (negsuc 0)))) ∷  -- sconst_m1
+    (0x03, Bare (Constant (Number (pos 0)))) ∷  -- sconst_0
+    (0x04, Bare (Constant (Number (pos 1)))) ∷  -- sconst_1
+    (0x05, Bare (Constant (Number (pos 2)))) ∷  -- sconst_2
+    (0x06, Bare (Constant (Number (pos 3)))) ∷  -- sconst_3
+    (0x07, Bare (Constant (Number (pos 4)))) ∷  -- sconst_4
+    (0x08, Bare (Constant (Number (pos 5)))) ∷  -- sconst_5
+    (0x10, S1 (λ v. Constant (Number v))) ∷  -- bspush
+    (0x11, S2 (λ v. Constant (Number v))) ∷  -- sspush
     []
 
 abbrev pub locals : List Row
 locals =
-    (0x15, U1 (λ n. Access (LoadReference n))) ∷  -- aload
-    (0x16, U1 (λ n. Access (LoadShort n))) ∷  -- sload
-    (0x18, Bare (Access (LoadReference 0))) ∷  -- aload_0
-    (0x19, Bare (Access (LoadReference 1))) ∷  -- aload_1
-    (0x1A, Bare (Access (LoadReference 2))) ∷  -- aload_2
-    (0x1B, Bare (Access (LoadReference 3))) ∷  -- aload_3
-    (0x1C, Bare (Access (LoadShort 0))) ∷  -- sload_0
-    (0x1D, Bare (Access (LoadShort 1))) ∷  -- sload_1
-    (0x1E, Bare (Access (LoadShort 2))) ∷  -- sload_2
-    (0x1F, Bare (Access (LoadShort 3))) ∷  -- sload_3
-    (0x28, U1 (λ n. Access (StoreReference n))) ∷  -- astore
-    (0x29, U1 (λ n. Access (StoreShort n))) ∷  -- sstore
-    (0x2B, Bare (Access (StoreReference 0))) ∷  -- astore_0
-    (0x2C, Bare (Access (StoreReference 1))) ∷  -- astore_1
-    (0x2D, Bare (Access (StoreReference 2))) ∷  -- astore_2
-    (0x2E, Bare (Access (StoreReference 3))) ∷  -- astore_3
-    (0x2F, Bare (Access (StoreShort 0))) ∷  -- sstore_0
-    (0x30, Bare (Access (StoreShort 1))) ∷  -- sstore_1
-    (0x31, Bare (Access (StoreShort 2))) ∷  -- sstore_2
-    (0x32, Bare (Access (StoreShort 3))) ∷  -- sstore_3
-    (0x59, U1S1 (λ n v. Access (Increment n v))) ∷  -- sinc
-    (0x96, U1S2 (λ n v. Access (Increment n v))) ∷  -- sinc_w
+    (0x15, U1 (λ n. Local (Aload n))) ∷  -- aload
+    (0x16, U1 (λ n. Local (Sload n))) ∷  -- sload
+    (0x18, Bare (Local (Aload 0))) ∷  -- aload_0
+    (0x19, Bare (Local (Aload 1))) ∷  -- aload_1
+    (0x1A, Bare (Local (Aload 2))) ∷  -- aload_2
+    (0x1B, Bare (Local (Aload 3))) ∷  -- aload_3
+    (0x1C, Bare (Local (Sload 0))) ∷  -- sload_0
+    (0x1D, Bare (Local (Sload 1))) ∷  -- sload_1
+    (0x1E, Bare (Local (Sload 2))) ∷  -- sload_2
+    (0x1F, Bare (Local (Sload 3))) ∷  -- sload_3
+    (0x28, U1 (λ n. Local (Astore n))) ∷  -- astore
+    (0x29, U1 (λ n. Local (Sstore n))) ∷  -- sstore
+    (0x2B, Bare (Local (Astore 0))) ∷  -- astore_0
+    (0x2C, Bare (Local (Astore 1))) ∷  -- astore_1
+    (0x2D, Bare (Local (Astore 2))) ∷  -- astore_2
+    (0x2E, Bare (Local (Astore 3))) ∷  -- astore_3
+    (0x2F, Bare (Local (Sstore 0))) ∷  -- sstore_0
+    (0x30, Bare (Local (Sstore 1))) ∷  -- sstore_1
+    (0x31, Bare (Local (Sstore 2))) ∷  -- sstore_2
+    (0x32, Bare (Local (Sstore 3))) ∷  -- sstore_3
+    (0x59, U1S1 (λ n v. Local (Sinc n v))) ∷  -- sinc
+    (0x96, U1S2 (λ n v. Local (Sinc n v))) ∷  -- sinc_w
     []
 
 -- what dup_x takes: m from 1 to 4, and n 0 or from m to m + 4
@@ -97,40 +99,40 @@ abbrev pub can_duplicate_below : ℕ → ℕ → Bool
 can_duplicate_below m n = nat_le 1 m && nat_le m 4 && (n == 0 || (nat_le m n && nat_le n (m + 4)))
 
 abbrev pub duplicate_below : ℕ → ℕ → Option Instr
-duplicate_below m n = if can_duplicate_below m n then Some (Arrange (DuplicateBelow m n)) else None
+duplicate_below m n = if can_duplicate_below m n then Some (Stack (DupX m n)) else None
 
 -- what swap_x takes: m and n each 1 or 2
 abbrev pub can_swap : ℕ → ℕ → Bool
 can_swap m n = nat_le 1 m && nat_le m 2 && nat_le 1 n && nat_le n 2
 
 abbrev pub swap : ℕ → ℕ → Option Instr
-swap m n = if can_swap m n then Some (Arrange (Swap m n)) else None
+swap m n = if can_swap m n then Some (Stack (SwapX m n)) else None
 
 abbrev pub stack : List Row
 stack =
-    (0x3B, Bare (Arrange Pop)) ∷  -- pop
-    (0x3C, Bare (Arrange PopTwo)) ∷  -- pop2
-    (0x3D, Bare (Arrange Duplicate)) ∷  -- dup
-    (0x3E, Bare (Arrange DuplicateTwo)) ∷  -- dup2
+    (0x3B, Bare (Stack Pop)) ∷  -- pop
+    (0x3C, Bare (Stack Pop2)) ∷  -- pop2
+    (0x3D, Bare (Stack Dup)) ∷  -- dup
+    (0x3E, Bare (Stack Dup2)) ∷  -- dup2
     (0x3F, Halves duplicate_below) ∷  -- dup_x
     (0x40, Halves swap) ∷  -- swap_x
     []
 
 abbrev pub arithmetic : List Row
 arithmetic =
-    (0x41, Bare (Compute (Two Add))) ∷  -- sadd
-    (0x43, Bare (Compute (Two Subtract))) ∷  -- ssub
-    (0x45, Bare (Compute (Two Multiply))) ∷  -- smul
-    (0x47, Bare (Compute (Two Divide))) ∷  -- sdiv
-    (0x49, Bare (Compute (Two Remainder))) ∷  -- srem
-    (0x4B, Bare (Compute Negate)) ∷  -- sneg
-    (0x4D, Bare (Compute (Two ShiftLeft))) ∷  -- sshl
-    (0x4F, Bare (Compute (Two ShiftRight))) ∷  -- sshr
-    (0x51, Bare (Compute (Two ShiftRightUnsigned))) ∷  -- sushr
-    (0x53, Bare (Compute (Two And))) ∷  -- sand
-    (0x55, Bare (Compute (Two Or))) ∷  -- sor
-    (0x57, Bare (Compute (Two Xor))) ∷  -- sxor
-    (0x5B, Bare (Compute ToByte)) ∷  -- s2b
+    (0x41, Bare (Arithmetic (Two Add))) ∷  -- sadd
+    (0x43, Bare (Arithmetic (Two Subtract))) ∷  -- ssub
+    (0x45, Bare (Arithmetic (Two Multiply))) ∷  -- smul
+    (0x47, Bare (Arithmetic (Two Divide))) ∷  -- sdiv
+    (0x49, Bare (Arithmetic (Two Remainder))) ∷  -- srem
+    (0x4B, Bare (Arithmetic Negate)) ∷  -- sneg
+    (0x4D, Bare (Arithmetic (Two ShiftLeft))) ∷  -- sshl
+    (0x4F, Bare (Arithmetic (Two ShiftRight))) ∷  -- sshr
+    (0x51, Bare (Arithmetic (Two ShiftRightUnsigned))) ∷  -- sushr
+    (0x53, Bare (Arithmetic (Two And))) ∷  -- sand
+    (0x55, Bare (Arithmetic (Two Or))) ∷  -- sor
+    (0x57, Bare (Arithmetic (Two Xor))) ∷  -- sxor
+    (0x5B, Bare (Arithmetic S2b)) ∷  -- s2b
     []
 
 -- the conditional branches with an offset of one byte
@@ -154,25 +156,21 @@ conditions =
     (0x6F, Shorts LessOrEqual) ∷  -- if_scmple
     []
 
--- the condition that belongs to an opcode, if it has one
-abbrev pub condition_in : List (ℕ × Condition) → ℕ → Option Condition
-condition_in [] op = None
-condition_in (row ∷ rows) op = if op == row.0 then Some row.1 else condition_in rows op
-
 -- a conditional branch with an offset of one byte
 abbrev pub in_short : (ℕ × Condition) → Row
-in_short (op, condition) = (op, S1 (λ offset. Jump (If condition offset)))
+in_short (op, condition) = (op, S1 (λ offset. Branch (If condition offset)))
 
--- its wide form (ifeq_w to if_scmple_w, 98 to A7), with an offset of two bytes
+-- its wide form, with an offset of two bytes: ifeq_w, ifne_w, iflt_w, ifge_w, ifgt_w, ifle_w, ifnull_w, ifnonnull_w,
+-- if_acmpeq_w, if_acmpne_w, if_scmpeq_w, if_scmpne_w, if_scmplt_w, if_scmpge_w, if_scmpgt_w, if_scmple_w (98 to A7)
 abbrev pub in_wide : (ℕ × Condition) → Row
-in_wide (op, condition) = (op + 0x38, S2 (λ offset. Jump (If condition offset)))
+in_wide (op, condition) = (op + 0x38, S2 (λ offset. Branch (If condition offset)))
 
 abbrev pub jumps : List Row
 jumps =
-    (0x70, S1 (λ offset. Jump (Goto offset))) ∷  -- goto
-    (0xA8, S2 (λ offset. Jump (Goto offset))) ∷  -- goto_w
-    (0x71, S2 (λ offset. Jump (Subroutine offset))) ∷  -- jsr
-    (0x72, U1 (λ n. Jump (Back n))) ∷  -- ret
+    (0x70, S1 (λ offset. Branch (Goto offset))) ∷  -- goto
+    (0xA8, S2 (λ offset. Branch (Goto offset))) ∷  -- goto_w
+    (0x71, S2 (λ offset. Branch (Jsr offset))) ∷  -- jsr
+    (0x72, U1 (λ n. Branch (Ret n))) ∷  -- ret
     (0x73, TableSwitch) ∷  -- stableswitch
     (0x75, LookupSwitch) ∷  -- slookupswitch
     []
@@ -182,37 +180,37 @@ branches = map in_short conditions ++ (map in_wide conditions ++ jumps)
 
 abbrev pub returns : List Row
 returns =
-    (0x77, Bare (Leave WithReference)) ∷  -- areturn
-    (0x78, Bare (Leave WithShort)) ∷  -- sreturn
-    (0x7A, Bare (Leave WithNothing)) ∷  -- return
+    (0x77, Bare (Return Areturn)) ∷  -- areturn
+    (0x78, Bare (Return Sreturn)) ∷  -- sreturn
+    (0x7A, Bare (Return Return)) ∷  -- return
     []
 
 abbrev pub fields : List Row
 fields =
-    (0x7B, U2 (λ index. Reach (GetStatic Reference index))) ∷  -- getstatic_a
-    (0x7C, U2 (λ index. Reach (GetStatic Byte index))) ∷  -- getstatic_b
-    (0x7D, U2 (λ index. Reach (GetStatic Short index))) ∷  -- getstatic_s
-    (0x7F, U2 (λ index. Reach (PutStatic Reference index))) ∷  -- putstatic_a
-    (0x80, U2 (λ index. Reach (PutStatic Byte index))) ∷  -- putstatic_b
-    (0x81, U2 (λ index. Reach (PutStatic Short index))) ∷  -- putstatic_s
-    (0x83, U1 (λ index. Reach (Get Reference index))) ∷  -- getfield_a
-    (0x84, U1 (λ index. Reach (Get Byte index))) ∷  -- getfield_b
-    (0x85, U1 (λ index. Reach (Get Short index))) ∷  -- getfield_s
-    (0x87, U1 (λ index. Reach (Put Reference index))) ∷  -- putfield_a
-    (0x88, U1 (λ index. Reach (Put Byte index))) ∷  -- putfield_b
-    (0x89, U1 (λ index. Reach (Put Short index))) ∷  -- putfield_s
-    (0xA9, U2 (λ index. Reach (Get Reference index))) ∷  -- getfield_a_w
-    (0xAA, U2 (λ index. Reach (Get Byte index))) ∷  -- getfield_b_w
-    (0xAB, U2 (λ index. Reach (Get Short index))) ∷  -- getfield_s_w
-    (0xAD, U1 (λ index. Reach (GetOfThis Reference index))) ∷  -- getfield_a_this
-    (0xAE, U1 (λ index. Reach (GetOfThis Byte index))) ∷  -- getfield_b_this
-    (0xAF, U1 (λ index. Reach (GetOfThis Short index))) ∷  -- getfield_s_this
-    (0xB1, U2 (λ index. Reach (Put Reference index))) ∷  -- putfield_a_w
-    (0xB2, U2 (λ index. Reach (Put Byte index))) ∷  -- putfield_b_w
-    (0xB3, U2 (λ index. Reach (Put Short index))) ∷  -- putfield_s_w
-    (0xB5, U1 (λ index. Reach (PutOfThis Reference index))) ∷  -- putfield_a_this
-    (0xB6, U1 (λ index. Reach (PutOfThis Byte index))) ∷  -- putfield_b_this
-    (0xB7, U1 (λ index. Reach (PutOfThis Short index))) ∷  -- putfield_s_this
+    (0x7B, U2 (λ index. Field (GetStatic Reference index))) ∷  -- getstatic_a
+    (0x7C, U2 (λ index. Field (GetStatic Byte index))) ∷  -- getstatic_b
+    (0x7D, U2 (λ index. Field (GetStatic Short index))) ∷  -- getstatic_s
+    (0x7F, U2 (λ index. Field (PutStatic Reference index))) ∷  -- putstatic_a
+    (0x80, U2 (λ index. Field (PutStatic Byte index))) ∷  -- putstatic_b
+    (0x81, U2 (λ index. Field (PutStatic Short index))) ∷  -- putstatic_s
+    (0x83, U1 (λ index. Field (GetField Reference index))) ∷  -- getfield_a
+    (0x84, U1 (λ index. Field (GetField Byte index))) ∷  -- getfield_b
+    (0x85, U1 (λ index. Field (GetField Short index))) ∷  -- getfield_s
+    (0x87, U1 (λ index. Field (PutField Reference index))) ∷  -- putfield_a
+    (0x88, U1 (λ index. Field (PutField Byte index))) ∷  -- putfield_b
+    (0x89, U1 (λ index. Field (PutField Short index))) ∷  -- putfield_s
+    (0xA9, U2 (λ index. Field (GetField Reference index))) ∷  -- getfield_a_w
+    (0xAA, U2 (λ index. Field (GetField Byte index))) ∷  -- getfield_b_w
+    (0xAB, U2 (λ index. Field (GetField Short index))) ∷  -- getfield_s_w
+    (0xAD, U1 (λ index. Field (GetFieldThis Reference index))) ∷  -- getfield_a_this
+    (0xAE, U1 (λ index. Field (GetFieldThis Byte index))) ∷  -- getfield_b_this
+    (0xAF, U1 (λ index. Field (GetFieldThis Short index))) ∷  -- getfield_s_this
+    (0xB1, U2 (λ index. Field (PutField Reference index))) ∷  -- putfield_a_w
+    (0xB2, U2 (λ index. Field (PutField Byte index))) ∷  -- putfield_b_w
+    (0xB3, U2 (λ index. Field (PutField Short index))) ∷  -- putfield_s_w
+    (0xB5, U1 (λ index. Field (PutFieldThis Reference index))) ∷  -- putfield_a_this
+    (0xB6, U1 (λ index. Field (PutFieldThis Byte index))) ∷  -- putfield_b_this
+    (0xB7, U1 (λ index. Field (PutFieldThis Short index))) ∷  -- putfield_s_this
     []
 
 -- what newarray makes
@@ -224,37 +222,37 @@ primitive_array t =
 
 abbrev pub arrays : List Row
 arrays =
-    (0x24, Bare (Index (Load Reference))) ∷  -- aaload
-    (0x25, Bare (Index (Load Byte))) ∷  -- baload
-    (0x26, Bare (Index (Load Short))) ∷  -- saload
-    (0x37, Bare (Index (Store Reference))) ∷  -- aastore
-    (0x38, Bare (Index (Store Byte))) ∷  -- bastore
-    (0x39, Bare (Index (Store Short))) ∷  -- sastore
-    (0x90, Listed (λ t. option_map (λ elements. Index (MakePrimitives elements)) (primitive_array t))) ∷  -- newarray
-    (0x91, U2 (λ index. Index (MakeReferences index))) ∷  -- anewarray
-    (0x92, Bare (Index CountElements)) ∷  -- arraylength
+    (0x24, Bare (Array (Load Reference))) ∷  -- aaload
+    (0x25, Bare (Array (Load Byte))) ∷  -- baload
+    (0x26, Bare (Array (Load Short))) ∷  -- saload
+    (0x37, Bare (Array (Store Reference))) ∷  -- aastore
+    (0x38, Bare (Array (Store Byte))) ∷  -- bastore
+    (0x39, Bare (Array (Store Short))) ∷  -- sastore
+    (0x90, Listed (λ t. option_map (λ elements. Array (NewArray elements)) (primitive_array t))) ∷  -- newarray
+    (0x91, U2 (λ index. Array (ANewArray index))) ∷  -- anewarray
+    (0x92, Bare (Array ArrayLength)) ∷  -- arraylength
     []
 
 -- the type that checkcast and instanceof test for; the index is of no use to arrays of numbers
-abbrev pub tested_type : ℕ → ℕ → Option TestedType
-tested_type t index =
+abbrev pub type_operand : ℕ → ℕ → Option TestedType
+type_operand t index =
     if t == 0 then Some (OfClass index) else
     if t == 14 then Some (OfReferences index) else option_map OfPrimitives (primitive_array t)
 
 abbrev pub objects : List Row
 objects =
-    (0x8F, U2 (λ index. Operate (New index))) ∷  -- new
-    (0x93, Bare (Operate Throw)) ∷  -- athrow
-    (0x94, ListedU2 (λ t index. option_map (λ tested. Operate (CheckCast tested)) (tested_type t index))) ∷  -- checkcast
-    (0x95, ListedU2 (λ t index. option_map (λ tested. Operate (InstanceOf tested)) (tested_type t index))) ∷  -- instanceof
+    (0x8F, U2 (λ index. Object (New index))) ∷  -- new
+    (0x93, Bare (Object Athrow)) ∷  -- athrow
+    (0x94, ListedU2 (λ t index. option_map (λ tested. Object (CheckCast tested)) (type_operand t index))) ∷  -- checkcast
+    (0x95, ListedU2 (λ t index. option_map (λ tested. Object (InstanceOf tested)) (type_operand t index))) ∷  -- instanceof
     []
 
 abbrev pub calls : List Row
 calls =
-    (0x8B, U2 (λ index. Call (Virtual index))) ∷  -- invokevirtual
-    (0x8C, U2 (λ index. Call (Special index))) ∷  -- invokespecial
-    (0x8D, U2 (λ index. Call (Static index))) ∷  -- invokestatic
-    (0x8E, U1U2U1 (λ arguments index token. Call (Interface arguments index token))) ∷  -- invokeinterface
+    (0x8B, U2 (λ index. Invoke (Virtual index))) ∷  -- invokevirtual
+    (0x8C, U2 (λ index. Invoke (Special index))) ∷  -- invokespecial
+    (0x8D, U2 (λ index. Invoke (Static index))) ∷  -- invokestatic
+    (0x8E, U1U2U1 (λ arguments index token. Invoke (Interface arguments index token))) ∷  -- invokeinterface
     []
 
 abbrev pub table : List Row
@@ -266,38 +264,40 @@ form_in [] op = None
 form_in (row ∷ rows) op = if op == row.0 then Some row.1 else form_in rows op
 
 -- an instruction, where all its bytes, which end before this place, are there
-abbrev pub ending : List ℕ → ℕ → Instr → Option (Instr × ℕ)
-ending code next instr = if nat_le next (length code) then Some (instr, next) else None
+abbrev pub with_end : List ℕ → ℕ → Instr → Option (Instr × ℕ)
+with_end code next instr = if nat_le next (length code) then Some (instr, next) else None
 
 -- the instruction whose operands begin at a place, and the place after them
-abbrev pub read : List ℕ → ℕ → Form → Option (Instr × ℕ)
-read code at (Bare instr) = Some (instr, at)
-read code at (U1 f) = option_map (λ n. (f n, at + 1)) (u1 code at)
-read code at (S1 f) = option_map (λ v. (f v, at + 1)) (s1 code at)
-read code at (S2 f) = option_map (λ v. (f v, at + 2)) (s2 code at)
-read code at (U2 f) = option_map (λ v. (f v, at + 2)) (u2 code at)
-read code at (U1S1 f) = option_and_then (λ n. option_map (λ v. (f n v, at + 2)) (s1 code (at + 1))) (u1 code at)
-read code at (U1S2 f) = option_and_then (λ n. option_map (λ v. (f n v, at + 3)) (s2 code (at + 1))) (u1 code at)
-read code at (U1U2U1 f) = option_and_then (λ n. option_and_then (λ v. option_map (λ m. (f n v m, at + 4)) (u1 code (at + 3))) (u2 code (at + 1))) (u1 code at)
-read code at (Listed f) = option_and_then (λ b. option_map (λ instr. (instr, at + 1)) (f b)) (u1 code at)
-read code at (ListedU2 f) = option_and_then (λ b. option_and_then (λ v. option_map (λ instr. (instr, at + 3)) (f b v)) (u2 code (at + 1))) (u1 code at)
-read code at (Halves f) = option_and_then (λ b. option_map (λ instr. (instr, at + 1)) (f (b / 16) (b % 16))) (u1 code at)
-read code at TableSwitch =
+abbrev pub instruction_with : List ℕ → ℕ → Form → Option (Instr × ℕ)
+instruction_with code at (Bare instr) = Some (instr, at)
+instruction_with code at (U1 f) = option_map (λ n. (f n, at + 1)) (u1 code at)
+instruction_with code at (S1 f) = option_map (λ v. (f v, at + 1)) (s1 code at)
+instruction_with code at (S2 f) = option_map (λ v. (f v, at + 2)) (s2 code at)
+instruction_with code at (U2 f) = option_map (λ v. (f v, at + 2)) (u2 code at)
+instruction_with code at (U1S1 f) = option_and_then (λ n. option_map (λ v. (f n v, at + 2)) (s1 code (at + 1))) (u1 code at)
+instruction_with code at (U1S2 f) = option_and_then (λ n. option_map (λ v. (f n v, at + 3)) (s2 code (at + 1))) (u1 code at)
+instruction_with code at (U1U2U1 f) = option_and_then (λ n. option_and_then (λ v. option_map (λ m. (f n v m, at + 4)) (u1 code (at + 3))) (u2 code (at + 1)))
+    (u1 code at)
+instruction_with code at (Listed f) = option_and_then (λ b. option_map (λ instr. (instr, at + 1)) (f b)) (u1 code at)
+instruction_with code at (ListedU2 f) = option_and_then (λ b. option_and_then (λ v. option_map (λ instr. (instr, at + 3)) (f b v)) (u2 code (at + 1)))
+    (u1 code at)
+instruction_with code at (Halves f) = option_and_then (λ b. option_map (λ instr. (instr, at + 1)) (f (b / 16) (b % 16))) (u1 code at)
+instruction_with code at TableSwitch =
     option_and_then (λ otherwise. option_and_then (λ low. option_and_then (λ high.
     if int_lt high low then None else
-    ending code (at + 6 + 2 * (unsigned_abs (high -ℤ low) + 1)) (Jump (Table otherwise low high)))
+    with_end code (at + 6 + 2 * (unsigned_abs (high -ℤ low) + 1)) (Branch (Table otherwise low high)))
     (s2 code (at + 4))) (s2 code (at + 2))) (s2 code at)
-read code at LookupSwitch =
+instruction_with code at LookupSwitch =
     option_and_then (λ otherwise. option_and_then (λ count.
-    ending code (at + 4 + 4 * count) (Jump (Lookup otherwise count)))
+    with_end code (at + 4 + 4 * count) (Branch (Lookup otherwise count)))
     (u2 code (at + 2))) (s2 code at)
 
 -- the instruction whose opcode stands at a place and the place after it; none where it is undecodable or cut
-abbrev pub decoded : List ℕ → ℕ → Option (Instr × ℕ)
-decoded code pc = option_and_then (λ op. option_and_then (read code (pc + 1)) (form_in table op)) (slice_get code pc)
+abbrev pub decode : List ℕ → ℕ → Option (Instr × ℕ)
+decode code pc = option_and_then (λ op. option_and_then (instruction_with code (pc + 1)) (form_in table op)) (slice_get code pc)
 
 -- an instruction whose operands the table lists: of dup_x and swap_x not all bytes are
 abbrev pub HasListedOperands : Instr → Type 0
-HasListedOperands (Arrange (DuplicateBelow m n)) = IsTrue (can_duplicate_below m n)
-HasListedOperands (Arrange (Swap m n)) = IsTrue (can_swap m n)
+HasListedOperands (Stack (DupX m n)) = IsTrue (can_duplicate_below m n)
+HasListedOperands (Stack (SwapX m n)) = IsTrue (can_swap m n)
 HasListedOperands instr = Unit {0}

@@ -1,7 +1,7 @@
 //! Arrays: `aaload` to `sastore`, `newarray`, `anewarray`, `arraylength`.
 ghost use Rattle.std.specs.Prelude.{IfSome, ◌≡◌, ◌≤◌, length};
 ghost use Rattle.std.specs.Option.{option_and_then};
-ghost use Rattle.jc_opcodes.specs.Table.{HasListedOperands, form_in, primitive_array, read};
+ghost use Rattle.jc_opcodes.specs.Table.{HasListedOperands, form_in, primitive_array, instruction_with};
 ghost use Rattle.jc_opcodes.specs.Rows.{from_arrays};
 
 use crate::instr::{ArrayOp, Instr, PrimitiveArray, ValueType};
@@ -11,26 +11,27 @@ use crate::operands::{u1_at, u2_at};
 #[inline(always)]
 pub(crate) fn decode_array(opcode: u8, code: &[u8], at: usize) -> Option<(Instr, usize)>
     requires { at ≤ length code.now }
-    ensures value { result ≡ option_and_then (read code.now at) (form_in from_arrays opcode) }
+    ensures value { result ≡ option_and_then (instruction_with code.now at)
+        (form_in from_arrays opcode) }
     ensures within { IfSome result (λ p. p.1 ≤ length code.now) }
     ensures listed { IfSome result (λ p. HasListedOperands p.0) }
 {
     let (operation, next) = match opcode {
-        0x24 => (ArrayOp::Load(ValueType::Reference), at),
-        0x25 => (ArrayOp::Load(ValueType::Byte), at),
-        0x26 => (ArrayOp::Load(ValueType::Short), at),
-        0x37 => (ArrayOp::Store(ValueType::Reference), at),
-        0x38 => (ArrayOp::Store(ValueType::Byte), at),
-        0x39 => (ArrayOp::Store(ValueType::Short), at),
-        0x90 => (
-            ArrayOp::MakePrimitives(primitive_array_of(u1_at(code, at)?)?),
+        0x24 => (ArrayOp::Load(ValueType::Reference), at), // aaload
+        0x25 => (ArrayOp::Load(ValueType::Byte), at), // baload
+        0x26 => (ArrayOp::Load(ValueType::Short), at), // saload
+        0x37 => (ArrayOp::Store(ValueType::Reference), at), // aastore
+        0x38 => (ArrayOp::Store(ValueType::Byte), at), // bastore
+        0x39 => (ArrayOp::Store(ValueType::Short), at), // sastore
+        0x90 => ( // newarray
+            ArrayOp::NewArray(primitive_array_of(u1_at(code, at)?)?),
             at + 1,
         ),
-        0x91 => (ArrayOp::MakeReferences(u2_at(code, at)?), at + 2),
-        0x92 => (ArrayOp::CountElements, at),
+        0x91 => (ArrayOp::ANewArray(u2_at(code, at)?), at + 2), // anewarray
+        0x92 => (ArrayOp::ArrayLength, at), // arraylength
         _ => return decode_object(opcode, code, at),
     };
-    Some((Instr::Index(operation), next))
+    Some((Instr::Array(operation), next))
 }
 
 /// What `newarray` makes for an operand, if it is one.

@@ -1,39 +1,41 @@
 //! Calls: `invokevirtual`, `invokespecial`, `invokestatic`, `invokeinterface`.
 ghost use Rattle.std.specs.Prelude.{IfSome, ◌≡◌, ◌≤◌, length};
 ghost use Rattle.std.specs.Option.{option_and_then};
-ghost use Rattle.jc_opcodes.specs.Table.{Form, HasListedOperands, calls, form_in, read};
+ghost use Rattle.jc_opcodes.specs.Table.{Form, HasListedOperands, calls, form_in, instruction_with};
 
-use crate::instr::{Instr, Invoke};
+use crate::instr::{Instr, InvokeOp};
 use crate::operands::{u1_at, u2_at};
 
 #[inline(always)]
 pub(crate) fn decode_call(opcode: u8, code: &[u8], at: usize) -> Option<(Instr, usize)>
     requires { at ≤ length code.now }
-    ensures value { result ≡ option_and_then (read code.now at) (form_in calls opcode) }
+    ensures value { result ≡ option_and_then (instruction_with code.now at) (form_in calls opcode) }
     ensures within { IfSome result (λ p. p.1 ≤ length code.now) }
     ensures listed { IfSome result (λ p. HasListedOperands p.0) }
 {
     let (call, next) = match opcode {
-        0x8B => (Invoke::Virtual(u2_at(code, at)?), at + 2),
-        0x8C => (Invoke::Special(u2_at(code, at)?), at + 2),
-        0x8D => (Invoke::Static(u2_at(code, at)?), at + 2),
-        0x8E => return decode_interface_call(code, at),
+        0x8B => (InvokeOp::Virtual(u2_at(code, at)?), at + 2), // invokevirtual
+        0x8C => (InvokeOp::Special(u2_at(code, at)?), at + 2), // invokespecial
+        0x8D => (InvokeOp::Static(u2_at(code, at)?), at + 2), // invokestatic
+        0x8E => return decode_interface_call(code, at), // invokeinterface
         _ => return None,
     };
-    Some((Instr::Call(call), next))
+    Some((Instr::Invoke(call), next))
 }
 
 #[inline(always)]
 fn decode_interface_call(code: &[u8], at: usize) -> Option<(Instr, usize)>
     requires { at ≤ length code.now }
-    ensures value { result ≡ read code.now at (Form.U1U2U1 (λ arguments index token. Instr.Call (Invoke.Interface arguments index token))) }
+    ensures value { result ≡ instruction_with code.now at
+        (Form.U1U2U1 (λ arguments index token. Instr.Invoke
+        (InvokeOp.Interface arguments index token))) }
     ensures within { IfSome result (λ p. p.1 ≤ length code.now) }
     ensures listed { IfSome result (λ p. HasListedOperands p.0) }
 {
-    let call = Invoke::Interface {
+    let call = InvokeOp::Interface {
         arguments: u1_at(code, at)?,
         index: u2_at(code, at + 1)?,
         token: u1_at(code, at + 3)?,
     };
-    Some((Instr::Call(call), at + 4))
+    Some((Instr::Invoke(call), at + 4))
 }

@@ -1,6 +1,6 @@
 //! From the bytes of a method to an instruction.
 ghost use Rattle.std.specs.Prelude.{IfSome, ◌≡◌, ◌<◌, ◌≤◌, length};
-ghost use Rattle.jc_opcodes.specs.Table.{HasListedOperands, decoded};
+ghost use Rattle.jc_opcodes.specs.Table.{HasListedOperands, decode};
 
 use crate::constants::decode_constant;
 use crate::instr::Instr;
@@ -12,7 +12,7 @@ use crate::operands::u1_at;
 /// forms are not), or where the code ends before the instruction does.
 #[inline(always)]
 pub fn decode(code: &[u8], pc: usize) -> Option<(Instr, usize)>
-    ensures value { result ≡ decoded code.now pc }
+    ensures value { result ≡ decode code.now pc }
     ensures within { IfSome result (λ p. (pc < length code.now) × (p.1 ≤ length code.now)) }
     ensures listed { IfSome result (λ p. HasListedOperands p.0) }
 {

@@ -6,30 +6,30 @@ pub enum Instr {
     /// Does nothing (`nop`).
     Nop,
     /// Puts a constant on the stack.
-    Push(Constant),
+    Constant(ConstantOp),
     /// Reads or writes a local.
-    Access(Local),
+    Local(LocalOp),
     /// Reorders the stack.
-    Arrange(Stack),
+    Stack(StackOp),
     /// Computes on shorts.
-    Compute(Arithmetic),
+    Arithmetic(ArithmeticOp),
     /// May go on elsewhere.
-    Jump(Branch),
+    Branch(BranchOp),
     /// Ends the method.
-    Leave(Return),
+    Return(ReturnOp),
     /// Reads or writes a field.
-    Reach(Field),
+    Field(FieldOp),
     /// Makes an array, or reads or writes its elements.
-    Index(ArrayOp),
+    Array(ArrayOp),
     /// Makes, throws or tests an object.
-    Operate(Object),
+    Object(ObjectOp),
     /// Calls a method.
-    Call(Invoke),
+    Invoke(InvokeOp),
 }
 
 /// What is put on the stack.
 #[derive(Clone, Copy, PartialEq, Eq, Debug)]
-pub enum Constant {
+pub enum ConstantOp {
     /// The null reference.
     Null,
     /// A short.
@@ -38,50 +38,50 @@ pub enum Constant {
 
 /// A use of the local with this number.
 #[derive(Clone, Copy, PartialEq, Eq, Debug)]
-pub enum Local {
+pub enum LocalOp {
     /// Pushes a reference.
-    LoadReference(u8),
+    Aload(u8),
     /// Pushes a short.
-    LoadShort(u8),
+    Sload(u8),
     /// Pops a reference or a return address.
-    StoreReference(u8),
+    Astore(u8),
     /// Pops a short.
-    StoreShort(u8),
+    Sstore(u8),
     /// Adds a constant to a short.
-    Increment(u8, i16),
+    Sinc(u8, i16),
 }
 
 /// A change of the stack's order.
 #[derive(Clone, Copy, PartialEq, Eq, Debug)]
-pub enum Stack {
+pub enum StackOp {
     /// Drops the top cell.
     Pop,
     /// Drops the top two cells.
-    PopTwo,
+    Pop2,
     /// Copies the top cell.
-    Duplicate,
+    Dup,
     /// Copies the top two cells.
-    DuplicateTwo,
+    Dup2,
     /// Copies the top `count` cells to below the top `depth`; on top where `depth` is 0.
-    DuplicateBelow { count: u8, depth: u8 },
+    DupX { count: u8, depth: u8 },
     /// The top `count` cells change places with the `below` cells below them.
-    Swap { count: u8, below: u8 },
+    SwapX { count: u8, below: u8 },
 }
 
 /// An operation on one short or on two.
 #[derive(Clone, Copy, PartialEq, Eq, Debug)]
-pub enum Arithmetic {
+pub enum ArithmeticOp {
     /// On the two shorts on top, the first operand below the second.
-    Two(Binary),
+    Two(BinaryOp),
     /// The negative of the short on top.
     Negate,
     /// The low byte of the short on top, sign-extended (`s2b`).
-    ToByte,
+    S2b,
 }
 
 /// An operation on two shorts.
 #[derive(Clone, Copy, PartialEq, Eq, Debug)]
-pub enum Binary {
+pub enum BinaryOp {
     Add,
     Subtract,
     Multiply,
@@ -125,15 +125,15 @@ pub enum Condition {
 
 /// A jump. Offsets count from its opcode.
 #[derive(Clone, Copy, PartialEq, Eq, Debug)]
-pub enum Branch {
+pub enum BranchOp {
     /// Where the condition holds.
     If(Condition, i16),
     /// Always.
     Goto(i16),
     /// Pushes the next address and jumps (`jsr`).
-    Subroutine(i16),
+    Jsr(i16),
     /// To the address in the local with this number (`ret`).
-    Back(u8),
+    Ret(u8),
     /// By a table of offsets for `low` to `high`, which begins 7 bytes after the opcode (`stableswitch`).
     Table { otherwise: i16, low: i16, high: i16 },
     /// By `count` pairs of a match and an offset, which begin 5 bytes after the opcode (`slookupswitch`).
@@ -142,13 +142,13 @@ pub enum Branch {
 
 /// How a method ends.
 #[derive(Clone, Copy, PartialEq, Eq, Debug)]
-pub enum Return {
+pub enum ReturnOp {
     /// With the reference on top (`areturn`).
-    WithReference,
+    Areturn,
     /// With the short on top (`sreturn`).
-    WithShort,
+    Sreturn,
     /// With nothing (`return`).
-    WithNothing,
+    Return,
 }
 
 /// What a field or an element of an array holds.
@@ -164,19 +164,19 @@ pub enum ValueType {
 
 /// A use of the field of this type that the entry of the constant pool with this index names.
 #[derive(Clone, Copy, PartialEq, Eq, Debug)]
-pub enum Field {
+pub enum FieldOp {
     /// Reads a static field.
     GetStatic(ValueType, u16),
     /// Writes a static field.
     PutStatic(ValueType, u16),
     /// Reads a field of the object on the stack.
-    Get(ValueType, u16),
+    GetField(ValueType, u16),
     /// Writes a field of the object on the stack.
-    Put(ValueType, u16),
+    PutField(ValueType, u16),
     /// Reads a field of the object in local 0 (`getfield_a_this` and its kin).
-    GetOfThis(ValueType, u16),
+    GetFieldThis(ValueType, u16),
     /// Writes a field of the object in local 0 (`putfield_a_this` and its kin).
-    PutOfThis(ValueType, u16),
+    PutFieldThis(ValueType, u16),
 }
 
 /// The elements of an array of numbers.
@@ -195,12 +195,12 @@ pub enum ArrayOp {
     /// Writes an element.
     Store(ValueType),
     /// Makes an array of numbers (`newarray`).
-    MakePrimitives(PrimitiveArray),
+    NewArray(PrimitiveArray),
     /// Makes an array of references to the class that the entry of the constant pool with this index
     /// names (`anewarray`).
-    MakeReferences(u16),
+    ANewArray(u16),
     /// Counts the elements (`arraylength`).
-    CountElements,
+    ArrayLength,
 }
 
 /// A type that an object may be an instance of.
@@ -216,11 +216,11 @@ pub enum TestedType {
 
 /// An operation on an object.
 #[derive(Clone, Copy, PartialEq, Eq, Debug)]
-pub enum Object {
+pub enum ObjectOp {
     /// Makes an instance of the class that the entry of the constant pool with this index names.
     New(u16),
     /// Throws it (`athrow`).
-    Throw,
+    Athrow,
     /// Throws an exception where it is not of this type (`checkcast`).
     CheckCast(TestedType),
     /// Whether it is of this type (`instanceof`).
@@ -229,7 +229,7 @@ pub enum Object {
 
 /// A call of the method that the entry of the constant pool with this index names.
 #[derive(Clone, Copy, PartialEq, Eq, Debug)]
-pub enum Invoke {
+pub enum InvokeOp {
     /// By the class of its receiver (`invokevirtual`).
     Virtual(u16),
     /// Of a constructor, of a private method or of a method of a superclass (`invokespecial`).

@@ -1,4 +1,6 @@
 //! The instructions of the virtual machine: their decoding, and the operations on shorts.
+//! Methods as the machine enters them: headers and exception handlers, read where they stand in a Method
+//! component.
 #![tactic(auto)]
 
 mod arithmetic;
@@ -8,6 +10,8 @@ mod calls;
 mod constants;
 pub mod decode;
 mod fields;
+pub mod handlers;
+pub mod header;
 pub mod instr;
 mod locals;
 mod objects;
@@ -15,3 +19,6 @@ pub mod operands;
 mod returns;
 pub mod short;
 mod stack;
+
+pub use handlers::{Handler, handler_at};
+pub use header::{Header, header_at};

@@ -10,17 +10,17 @@ use Rattle.jc_heap.specs.declared.place.Place.TheVariants.{Cell}
 use Rattle.jc_heap.specs.Object.{has_bytes}
 use Rattle.jc_heap.specs.Heap.{facts}
 use Rattle.jc_heap.specs.declared.refusal.HeapRefusal.TheVariants as making
-use Rattle.jc_heap.specs.Moves.{SetPlaces, no_room}
+use Rattle.jc_heap.specs.Moves.{SetPlaces, refusal_of_places}
 use Rattle.jc_heap.specs.Places.{AreThere, AreApart, IsBeside, places_of, place_word}
-use Rattle.jc_heap.specs.Keeping.{MayAllStand}
+use Rattle.jc_heap.specs.Keeping.{AreLegalValues}
 use Rattle.jc_heap.proofs.Runs.{too_many}
-use Rattle.jc_memory.specs.State.{MemoryState, Changes, Flags}
+use Rattle.jc_memory.specs.State.{MemoryState, HeapMove, SetFlag}
 use Rattle.jc_memory.specs.Cells.{word_at}
-use Rattle.jc_memory.specs.Doing.{Doing, Gives, Then}
+use Rattle.jc_memory.specs.Programs.{Program, Finish, Perform}
 use Rattle.jc_pin.specs.declared.updating.PinRefusal.{PinRefusal}
 use Rattle.jc_pin.specs.declared.updating.PinRefusal.TheVariants.{CommitFull, IllegalValue}
-use Rattle.jc_pin.specs.Pins.{IsKept, IsPin, record_of}
-use Rattle.jc_pin.specs.Updating.{bytes_put, update_of, updated, unless_full}
+use Rattle.jc_pin.specs.Pins.{IsPersistentWith, IsPin, record_of}
+use Rattle.jc_pin.specs.Updating.{byte_changes, changes_of_update, pin_update, unless_full}
 use Rattle.jc_pin.proofs.Putting.{puts_there, puts_stand, puts_apart}
 
 no_bytes : (k : Kind) → k ≡ Instance → has_bytes k ≡ true → ⊥
@@ -45,7 +45,7 @@ module _ (s : MemoryState) (r : ℕ) (pin : IsPin s r) where
       let five = pin.itself.cells in
       (omega (arith, five), λ e. absurd (no_bytes _ pin.itself.kind e), (omega (arith, five), λ e. absurd (no_bytes _ pin.itself.kind e), tt))
 
-  ends_stand : (n : ℕ) → MayAllStand s.heap.now (ends n)
+  ends_stand : (n : ℕ) → AreLegalValues s.heap.now (ends n)
   ends_stand n = (λ e. absurd (no_references _ pin.itself.kind e), (λ e. absurd (no_references _ pin.itself.kind e), tt))
 
   ends_apart : (n : ℕ) → AreApart (places_of (ends n))
@@ -60,47 +60,51 @@ module _ (s : MemoryState) (r : ℕ) (pin : IsPin s r) where
   abbrev Within : List ℕ → Type 0
   Within bytes = length bytes ≤ word_at s r 1
 
-  room : (b : ℕ) (bs : List ℕ) → Within (b ∷ bs) → IsKept s ByteArray (word_at s r 1) (word_at s r 4)
+  room : (b : ℕ) (bs : List ℕ) → Within (b ∷ bs) → IsPersistentWith s ByteArray (word_at s r 1) (word_at s r 4)
   room b bs within = pin.value (omega (arith, within))
 
-  pub update_there : (bytes : List ℕ) → Within bytes → ((k : ℕ) → k < length bytes → get_or bytes k 0 < 256) → AreThere s.heap.now (update_of (record_of s r) r bytes)
+  pub update_there : (bytes : List ℕ) → Within bytes → ((k : ℕ) → k < length bytes → get_or bytes k 0 < 256)
+      → AreThere s.heap.now (changes_of_update (record_of s r) r bytes)
   update_there [] within small = ends_there 0
   update_there (b ∷ bs) within small =
       let array = room b bs within in
       let cells = array.cells in
       puts_there s.heap.now (word_at s r 4) array.kind (ends (length (b ∷ bs))) 0 (b ∷ bs) (omega (arith, within, cells)) small (ends_there (length (b ∷ bs)))
 
-  pub update_stands : (bytes : List ℕ) → Within bytes → MayAllStand s.heap.now (update_of (record_of s r) r bytes)
+  pub update_stands : (bytes : List ℕ) → Within bytes → AreLegalValues s.heap.now (changes_of_update (record_of s r) r bytes)
   update_stands [] within = ends_stand 0
-  update_stands (b ∷ bs) within = puts_stand s.heap.now (word_at s r 4) (room b bs within).kind (ends (length (b ∷ bs))) 0 (b ∷ bs) (ends_stand (length (b ∷ bs)))
+  update_stands (b ∷ bs) within = puts_stand s.heap.now (word_at s r 4) (room b bs within).kind (ends (length (b ∷ bs))) 0 (b ∷ bs)
+      (ends_stand (length (b ∷ bs)))
 
-  pub update_apart : (bytes : List ℕ) → Within bytes → AreApart (places_of (update_of (record_of s r) r bytes))
+  pub update_apart : (bytes : List ℕ) → Within bytes → AreApart (places_of (changes_of_update (record_of s r) r bytes))
   update_apart [] within = ends_apart 0
   update_apart (b ∷ bs) within =
       let is = (room b bs within).kind in
-      puts_apart s.heap.now (word_at s r 4) is (ends (length (b ∷ bs))) 0 (b ∷ bs) (λ k. beside_ends (word_at s r 4) (length (b ∷ bs)) k is) (ends_apart (length (b ∷ bs)))
+      puts_apart s.heap.now (word_at s r 4) is (ends (length (b ∷ bs))) 0 (b ∷ bs) (λ k. beside_ends (word_at s r 4) (length (b ∷ bs)) k is)
+      (ends_apart (length (b ∷ bs)))
 
-length-puts : (array i : ℕ) (bytes : List ℕ) → length (bytes_put array i bytes) ≡ length bytes
+length-puts : (array i : ℕ) (bytes : List ℕ) → length (byte_changes array i bytes) ≡ length bytes
 length-puts array i [] = refl
 length-puts array i (b ∷ bs) = ap suc (length-puts array (suc i) bs)
 
 -- an update of more places than a change can have is refused
-pub too_long : (s : MemoryState) (r : ℕ) (bytes : List ℕ) → length bytes ≤ word_at s r 1 → 254 < length bytes → updated s r bytes ≡ Gives (Err CommitFull)
-unfolding updated
+pub too_long : (s : MemoryState) (r : ℕ) (bytes : List ℕ) → length bytes ≤ word_at s r 1 → 254 < length bytes → pin_update s r bytes ≡ Finish (Err CommitFull)
+unfolding pin_update
 too_long s r bytes within long =
-    ap (λ b. if b then Gives (Err IllegalValue) else unless_full (no_room s.heap (places_of change)) rest) (le-ltb (word_at s r 1) (length bytes) within)
+    ap (λ b. if b then Finish (Err IllegalValue) else unless_full (refusal_of_places s.heap (places_of change)) rest)
+    (le-ltb (word_at s r 1) (length bytes) within)
     ∙ ap (λ b. unless_full (if b then None else Some making.CommitFull) rest) (too_many s.heap (map place_word (places_of change)) many)
   where
     change : List (Place × ℕ)
-    change = update_of (record_of s r) r bytes
+    change = changes_of_update (record_of s r) r bytes
 
-    rest : Doing (Result (Unit {0}) PinRefusal)
-    rest = Then (Changes (SetPlaces change)) (Then (Flags r false) (Gives (Ok tt)))
+    rest : Program (Result (Unit {0}) PinRefusal)
+    rest = Perform (HeapMove (SetPlaces change)) (Perform (SetFlag r false) (Finish (Ok tt)))
 
     many : 256 < length (map place_word (places_of change))
     many =
         let words = length-map (places_of change) place_word in
         let places = length-map change (λ c. c.0) in
-        let parts = length-append (bytes_put (word_at s r 4) 0 bytes) ((Cell r 3, length bytes) ∷ (Cell r 2, word_at s r 0) ∷ []) in
+        let parts = length-append (byte_changes (word_at s r 4) 0 bytes) ((Cell r 3, length bytes) ∷ (Cell r 2, word_at s r 0) ∷ []) in
         let puts = length-puts (word_at s r 4) 0 bytes in
         omega (arith, words, places, parts, puts, long)

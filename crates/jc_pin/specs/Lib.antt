@@ -2,4 +2,4 @@ pub mod Pins
 pub mod Checking
 pub mod Resetting
 pub mod Updating
-pub mod Starting
+pub mod PinInit

@@ -4,11 +4,12 @@ ghost use Rattle.std.specs.Str.{bytes_eq};
 ghost use Rattle.std.specs.Option.{option_copied};
 ghost use Rattle.jc_heap.specs.declared.object.Kind.TheVariants.{Instance, ByteArray};
 ghost use Rattle.jc_memory.specs.Cells.{bytes_at};
-ghost use Rattle.jc_memory.specs.Doing.{Makes, after_step};
-ghost use Rattle.jc_pin.specs.Pins.{IsKept, IsPin};
-ghost use Rattle.jc_pin.specs.Checking.{is_value, judged, checked};
+ghost use Rattle.jc_memory.specs.Programs.{Executes};
+ghost use Rattle.jc_heap.specs.Completions.{after_step};
+ghost use Rattle.jc_pin.specs.Pins.{IsPersistentWith, IsPin};
+ghost use Rattle.jc_pin.specs.Checking.{is_value, comparison, pin_check};
 
-use crate::pin::record;
+use crate::pin::{COUNTER, record};
 use jc_memory::Memory;
 use jc_transient::Ref;
 use jc_words::{StoreDown, WordStore};
@@ -16,7 +17,7 @@ use jc_words::{StoreDown, WordStore};
 // Whether an array begins with these bytes. It reads all of them, wherever the first one differs.
 fn begins_with<S: WordStore>(memory: &Memory<S>, array: Ref, bytes: &[u8]) -> bool
     requires up { memory.now.heap.down ≡ false }
-    requires array { IsKept memory.now ByteArray (length bytes.now) array }
+    requires array { IsPersistentWith memory.now ByteArray (length bytes.now) array }
     ensures { result ≡ bytes_eq bytes.now (bytes_at memory.now array 0 (length bytes.now)) }
 {
     // It has no more cells than a word can say.
@@ -42,14 +43,15 @@ fn is_value<S: WordStore>(memory: &Memory<S>, pin: Ref, bytes: &[u8]) -> bool
 }
 
 // Compares, once a try was taken.
-fn judge<S: WordStore>(
+fn compare<S: WordStore>(
     memory: &mut Memory<S>,
     pin: Ref,
     guess: Option<&[u8]>,
 ) -> Result<bool, StoreDown>
     requires up { memory.old.heap.down ≡ false }
     requires pin { IsPin memory.old pin }
-    ensures { Makes (judged memory.old pin (option_copied guess.entry)) memory.old (after_step result memory.new) }
+    ensures { Executes (comparison memory.old pin (option_copied guess.entry)) memory.old
+        (after_step result memory.new) }
 {
     let Some(bytes) = guess else {
         return Ok(false);
@@ -58,7 +60,7 @@ fn judge<S: WordStore>(
         return Ok(false);
     }
     let limit = record(memory, pin).limit;
-    memory.count(pin, 2, limit)?;
+    memory.nonatomic_write(pin, COUNTER, limit)?;
     memory.set_flag(pin, true);
     Ok(true)
 }
@@ -66,7 +68,7 @@ fn judge<S: WordStore>(
 /// Compares bytes with the value of a PIN; `None` stands for arguments that are bad, which no value equals. Before
 /// anything is compared the flag is taken away and a try is counted, which no abort gives back. The value gives all
 /// tries back, and sets the flag. Without a try left nothing is done.
-#[tactic(auto, unfolding(crate::specs::Checking::checked))]
+#[tactic(auto, unfolding(crate::specs::Checking::pin_check))]
 pub fn check<S: WordStore>(
     memory: &mut Memory<S>,
     pin: Ref,
@@ -74,13 +76,14 @@ pub fn check<S: WordStore>(
 ) -> Result<bool, StoreDown>
     requires up { memory.old.heap.down ≡ false }
     requires pin { IsPin memory.old pin }
-    ensures { Makes (checked memory.old pin (option_copied guess.entry)) memory.old (after_step result memory.new) }
+    ensures { Executes (pin_check memory.old pin (option_copied guess.entry)) memory.old
+        (after_step result memory.new) }
 {
     let tries = record(memory, pin).tries;
     if tries == 0 {
         return Ok(false);
     }
     memory.set_flag(pin, false);
-    memory.count(pin, 2, tries - 1)?;
-    judge(memory, pin, guess)
+    memory.nonatomic_write(pin, COUNTER, tries - 1)?;
+    compare(memory, pin, guess)
 }

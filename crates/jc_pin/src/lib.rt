@@ -4,12 +4,12 @@
 
 mod checking;
 mod pin;
+mod pin_init;
 mod resetting;
-mod starting;
 mod updating;
 
 pub use checking::check;
 pub use pin::{PinRecord, is_pin, is_validated, record, tries};
+pub use pin_init::init;
 pub use resetting::{reset, reset_and_unblock};
-pub use starting::init;
 pub use updating::{PinRefusal, update};

@@ -1,10 +1,11 @@
 //! A PIN is reset.
 ghost use Rattle.std.specs.Prelude.{◌≡◌, false};
-ghost use Rattle.jc_memory.specs.Doing.{Makes, after_step};
+ghost use Rattle.jc_memory.specs.Programs.{Executes};
+ghost use Rattle.jc_heap.specs.Completions.{after_step};
 ghost use Rattle.jc_pin.specs.Pins.{IsPin};
-ghost use Rattle.jc_pin.specs.Resetting.{unblocked, reset_if_given};
+ghost use Rattle.jc_pin.specs.Resetting.{pin_unblock, pin_reset};
 
-use crate::pin::record;
+use crate::pin::{COUNTER, record};
 use jc_memory::Memory;
 use jc_transient::Ref;
 use jc_words::{StoreDown, WordStore};
@@ -13,19 +14,19 @@ use jc_words::{StoreDown, WordStore};
 pub fn reset_and_unblock<S: WordStore>(memory: &mut Memory<S>, pin: Ref) -> Result<(), StoreDown>
     requires up { memory.old.heap.down ≡ false }
     requires pin { IsPin memory.old pin }
-    ensures { Makes (unblocked memory.old pin) memory.old (after_step result memory.new) }
+    ensures { Executes (pin_unblock memory.old pin) memory.old (after_step result memory.new) }
 {
     let limit = record(memory, pin).limit;
     memory.set_flag(pin, false);
-    memory.count(pin, 2, limit)
+    memory.nonatomic_write(pin, COUNTER, limit)
 }
 
 /// The same, where the value was given. Else it does nothing.
-#[tactic(auto, unfolding(crate::specs::Resetting::reset_if_given))]
+#[tactic(auto, unfolding(crate::specs::Resetting::pin_reset))]
 pub fn reset<S: WordStore>(memory: &mut Memory<S>, pin: Ref) -> Result<(), StoreDown>
     requires up { memory.old.heap.down ≡ false }
     requires pin { IsPin memory.old pin }
-    ensures { Makes (reset_if_given memory.old pin) memory.old (after_step result memory.new) }
+    ensures { Executes (pin_reset memory.old pin) memory.old (after_step result memory.new) }
 {
     if memory.flag(pin) {
         reset_and_unblock(memory, pin)

@@ -1,11 +1,12 @@
 //! A PIN gets another value.
 ghost use Rattle.std.specs.Prelude.{◌≡◌, ◌+◌, ◌<◌, ◌≤◌, false, length, take, Some};
-ghost use Rattle.jc_memory.specs.Doing.{Makes, after_change};
-ghost use Rattle.jc_memory.specs.Changing.{written_all};
+ghost use Rattle.jc_memory.specs.Programs.{Executes};
+ghost use Rattle.jc_heap.specs.Completions.{after_change};
+ghost use Rattle.jc_memory.specs.Changing.{places_write};
 ghost use Rattle.jc_pin.specs.Pins.{IsPin, record_of};
-ghost use Rattle.jc_pin.specs.Updating.{after_pin, bytes_put, update_of, updated};
+ghost use Rattle.jc_pin.specs.Updating.{after_pin, byte_changes, changes_of_update, pin_update};
 
-use crate::pin::{PinRecord, record};
+use crate::pin::{COUNTER, LENGTH, PinRecord, record};
 use jc_heap::{ChangeRefusal, Place};
 use jc_memory::Memory;
 use jc_transient::Ref;
@@ -30,9 +31,9 @@ pub enum PinRefusal {
 
 impl From<ChangeRefusal> for PinRefusal {
     ghost use Rattle.std.specs.Prelude.{◌≡◌};
-    ghost use Rattle.jc_pin.specs.Updating.{of_change};
+    ghost use Rattle.jc_pin.specs.Updating.{pin_refusal_of};
 
-    ghost from_gives = { λ r p. p ≡ of_change r };
+    ghost from_gives = { λ r p. p ≡ pin_refusal_of r };
 
     fn from(refusal: ChangeRefusal) -> Self {
         match refusal {
@@ -57,23 +58,23 @@ impl From<StoreDown> for PinRefusal {
 fn put_bytes(changes: &mut [(Place, u16)], array: Ref, bytes: &[u8])
     requires room { length bytes.now ≤ length changes.old }
     requires few { length bytes.now < 65536 }
-    ensures { take (length bytes.now) changes.new ≡ bytes_put array 0 bytes.now }
+    ensures { take (length bytes.now) changes.new ≡ byte_changes array 0 bytes.now }
 {
     for (k, byte) in bytes.iter().enumerate() {
         changes[k] = (Place::Cell(array, k as u16), u16::from(*byte));
     }
 }
 
-// The changes that are an update.
+// The changes of an update: the bytes of the value, its length and the tries.
 fn fill_changes(changes: &mut [(Place, u16)], pin: Ref, kept: PinRecord, bytes: &[u8])
     requires room { length bytes.now + 2 ≤ length changes.old }
     requires few { length bytes.now < 65536 }
-    ensures { take (length bytes.now + 2) changes.new ≡ update_of kept pin bytes.now }
+    ensures { take (length bytes.now + 2) changes.new ≡ changes_of_update kept pin bytes.now }
 {
     let count = bytes.len();
     put_bytes(changes, kept.value, bytes);
-    changes[count] = (Place::Cell(pin, 3), count as u16);
-    changes[count + 1] = (Place::Cell(pin, 2), kept.limit);
+    changes[count] = (Place::Cell(pin, LENGTH), count as u16);
+    changes[count + 1] = (Place::Cell(pin, COUNTER), kept.limit);
 }
 
 // Sets the value, its length and all tries as one change.
@@ -86,7 +87,8 @@ fn set_value<S: WordStore>(
     requires pin { IsPin memory.old pin }
     requires within { length bytes.now ≤ (record_of memory.old pin).maximum }
     requires few { length bytes.now + 2 ≤ MOST_CHANGES }
-    ensures { Makes (written_all memory.old (update_of (record_of memory.old pin) pin bytes.now)) memory.old (after_change result memory.new) }
+    ensures { Executes (places_write memory.old (changes_of_update
+        (record_of memory.old pin) pin bytes.now)) memory.old (after_change result memory.new) }
 {
     let mut changes = [(Place::AppletCount, 0); MOST_CHANGES];
     fill_changes(&mut changes, pin, record(memory, pin), bytes);
@@ -95,7 +97,7 @@ fn set_value<S: WordStore>(
 
 /// Gives a PIN another value, by one change with the length and all tries, and takes the flag away, which no abort
 /// brings back. Refused: a value above the maximum; one for which the transaction has no room.
-#[tactic(auto, unfolding(crate::specs::Updating::updated))]
+#[tactic(auto, unfolding(crate::specs::Updating::pin_update))]
 pub fn update<S: WordStore>(
     memory: &mut Memory<S>,
     pin: Ref,
@@ -103,7 +105,8 @@ pub fn update<S: WordStore>(
 ) -> Result<(), PinRefusal>
     requires up { memory.old.heap.down ≡ false }
     requires pin { IsPin memory.old pin }
-    ensures { Makes (updated memory.old pin bytes.now) memory.old (after_pin result memory.new) }
+    ensures { Executes (pin_update memory.old pin bytes.now) memory.old
+        (after_pin result memory.new) }
 {
     if bytes.len() > record(memory, pin).maximum as usize {
         return Err(PinRefusal::IllegalValue);

@@ -58,7 +58,8 @@ class_in r i c t = record r { class = Some c; class_tokens = set r.class_tokens 
 abbrev pub method_in : Reading → ℕ → ℕ → Reading
 method_in r i t = record r { method_tokens = set r.method_tokens i (Some t) }
 
-package_taken : (r : Reading) (p : PlatformPackage) (v : Version) (rows : List Row) → package_number p < length r.versions → above_of r ≡ above rows → above_of (package_in r (set r.versions (package_number p) (Some v)) (unwrap_or r.first p) p) ≡ above (Package p v ∷ rows)
+package_taken : (r : Reading) (p : PlatformPackage) (v : Version) (rows : List Row) → package_number p < length r.versions → above_of r ≡ above rows
+    → above_of (package_in r (set r.versions (package_number p) (Some v)) (unwrap_or r.first p) p) ≡ above (Package p v ∷ rows)
 package_taken r p v rows h e =
     let written : above_of (package_in r (set r.versions (package_number p) (Some v)) (unwrap_or r.first p) p) ≡ with_package (above_of r) p v =
     λ i. record {
@@ -71,7 +72,8 @@ package_taken r p v rows h e =
     } in
     written ∙ ap (λ (a : Above). with_package a p v) e
 
-class_taken : (r : Reading) (c : PlatformClass) (t : ℕ) (rows : List Row) → class_number c < length r.class_tokens → above_of r ≡ above rows → above_of (class_in r (class_number c) c t) ≡ above (Class c t ∷ rows)
+class_taken : (r : Reading) (c : PlatformClass) (t : ℕ) (rows : List Row) → class_number c < length r.class_tokens → above_of r ≡ above rows
+    → above_of (class_in r (class_number c) c t) ≡ above (Class c t ∷ rows)
 class_taken r c t rows h e =
     let written : above_of (class_in r (class_number c) c t) ≡ with_class (above_of r) c t =
     λ i. record {
@@ -84,7 +86,8 @@ class_taken r c t rows h e =
     } in
     written ∙ ap (λ (a : Above). with_class a c t) e
 
-method_taken : (r : Reading) (m : PlatformMethod) (t : ℕ) (rows : List Row) → method_number m < length r.method_tokens → above_of r ≡ above rows → above_of (method_in r (method_number m) t) ≡ above (Method m t ∷ rows)
+method_taken : (r : Reading) (m : PlatformMethod) (t : ℕ) (rows : List Row) → method_number m < length r.method_tokens → above_of r ≡ above rows
+    → above_of (method_in r (method_number m) t) ≡ above (Method m t ∷ rows)
 method_taken r m t rows h e =
     let written : above_of (method_in r (method_number m) t) ≡ with_method (above_of r) m t =
     λ i. record {
@@ -97,18 +100,22 @@ method_taken r m t rows h e =
     } in
     written ∙ ap (λ (a : Above). with_method a m t) e
 
-pub above-package_in : (r : Reading) (vs : List (Option Version)) (f p : PlatformPackage) (v : Version) → vs ≡ set r.versions (package_number p) (Some v) → f ≡ unwrap_or r.first p → package_number p < length r.versions → (rows : List Row) → above_of r ≡ above rows → above_of (package_in r vs f p) ≡ above (Package p v ∷ rows)
+pub above-package_in : (r : Reading) (vs : List (Option Version)) (f p : PlatformPackage) (v : Version) → vs ≡ set r.versions (package_number p) (Some v)
+    → f ≡ unwrap_or r.first p → package_number p < length r.versions → (rows : List Row) → above_of r ≡ above rows
+    → above_of (package_in r vs f p) ≡ above (Package p v ∷ rows)
 above-package_in r vs f p v written first h rows e =
     ap (λ (xs : List (Option Version)). above_of (package_in r xs f p)) written
     ∙ ap (λ (g : PlatformPackage). above_of (package_in r (set r.versions (package_number p) (Some v)) g p)) first
     ∙ package_taken r p v rows h e
 
-pub above-class_in : (r : Reading) (i : ℕ) (c : PlatformClass) (t : ℕ) → i ≡ class_number c → i < length r.class_tokens → (rows : List Row) → above_of r ≡ above rows → above_of (class_in r i c t) ≡ above (Class c t ∷ rows)
+pub above-class_in : (r : Reading) (i : ℕ) (c : PlatformClass) (t : ℕ) → i ≡ class_number c → i < length r.class_tokens → (rows : List Row)
+    → above_of r ≡ above rows → above_of (class_in r i c t) ≡ above (Class c t ∷ rows)
 above-class_in r i c t place h rows e =
     let at : class_number c < length r.class_tokens = subst (λ (j : ℕ). j < length r.class_tokens) place h in
     ap (λ (j : ℕ). above_of (class_in r j c t)) place ∙ class_taken r c t rows at e
 
-pub above-method_in : (r : Reading) (i : ℕ) (m : PlatformMethod) (t : ℕ) → i ≡ method_number m → i < length r.method_tokens → (rows : List Row) → above_of r ≡ above rows → above_of (method_in r i t) ≡ above (Method m t ∷ rows)
+pub above-method_in : (r : Reading) (i : ℕ) (m : PlatformMethod) (t : ℕ) → i ≡ method_number m → i < length r.method_tokens → (rows : List Row)
+    → above_of r ≡ above rows → above_of (method_in r i t) ≡ above (Method m t ∷ rows)
 above-method_in r i m t place h rows e =
     let at : method_number m < length r.method_tokens = subst (λ (j : ℕ). j < length r.method_tokens) place h in
     ap (λ (j : ℕ). above_of (method_in r j t)) place ∙ method_taken r m t rows at e

@@ -21,7 +21,8 @@ missing_method r n lacks =
     inr (inr (inr (w.0, ap (λ (j : ℕ). get_or r.method_tokens j None) w.1 ∙ lacks.2)))
 
 -- the versions of both packages
-pub versions_are : (r : Reading) (v w : Version) → (above_of r).version JavaLang ≡ Some v → (above_of r).version JavacardFramework ≡ Some w → (p : PlatformPackage) → get_or r.versions (package_number p) None ≡ slice_get (v ∷ w ∷ []) (package_number p)
+pub versions_are : (r : Reading) (v w : Version) → (above_of r).version JavaLang ≡ Some v → (above_of r).version JavacardFramework ≡ Some w
+    → (p : PlatformPackage) → get_or r.versions (package_number p) None ≡ slice_get (v ∷ w ∷ []) (package_number p)
 versions_are r v w e f JavaLang = e
 versions_are r v w e f JavacardFramework = f
 

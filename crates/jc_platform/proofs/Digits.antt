@@ -1,5 +1,6 @@
 -- Decimal numbers, by what std's `parse` answers.
-use Rattle.std.proofs.Common.{◌≡◌, ◌≢◌, ◌<◌, ◌^◌, ℕ, Bool, true, false, ◌&&◌, ltb, List, [], ◌∷◌, Some, None, Result, Ok, Err, length, get_or, refl, ap, sym, ◌∙◌, arith}
+use Rattle.std.proofs.Common.{◌≡◌, ◌≢◌, ◌<◌, ◌^◌, ℕ, Bool, true, false, ◌&&◌, ltb, List, [], ◌∷◌, Some, None, Result, Ok, Err, length, get_or, refl, ap, sym}
+use Rattle.std.proofs.Common.{◌∙◌, arith}
 use Rattle.std.specs.Prelude.{if◌then◌else◌}
 use Rattle.std.specs.Result.{OkIff, result_ok}
 use Rattle.std.specs.Str.{IsUtf8, all_ascii_digits}
@@ -40,7 +41,8 @@ pub number_empty : (bs : List ℕ) → length bs ≡ 0 → number_of bs ≡ None
 number_empty [] e = refl
 number_empty (b ∷ bs) e = absurd (omega arith)
 
-by_cases : {E : Type 0} (bs : List ℕ) (r : Result ℕ E) → OkIff r ((all_ascii_digits bs ≡ true) × (0 < length bs) × (digits_value 10 bs < 2 ^ 8)) (digits_value 10 bs) → result_ok r ≡ number_of bs
+by_cases : {E : Type 0} (bs : List ℕ) (r : Result ℕ E) → OkIff r ((all_ascii_digits bs ≡ true) × (0 < length bs) × (digits_value 10 bs < 2 ^ 8))
+    (digits_value 10 bs) → result_ok r ≡ number_of bs
 by_cases bs (Ok x) h =
     let some : ltb 0 (length bs) ≡ true = (Decides-ltb 0 (length bs)).1 h.0.1 in
     let small : ltb (digits_value 10 bs) 256 ≡ true = (Decides-ltb (digits_value 10 bs) 256).1 h.0.2 in

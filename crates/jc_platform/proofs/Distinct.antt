@@ -1,5 +1,6 @@
 -- The tokens of one place are different.
-use Rattle.std.proofs.Common.{◌≡◌, ◌<◌, ◌==◌, ◌&&◌, cond, not, ℕ, Bool, true, false, List, [], ◌∷◌, Option, Some, None, Ok, length, refl, ap, sym, subst, ◌∙◌, arith}
+use Rattle.std.proofs.Common.{◌≡◌, ◌<◌, ◌==◌, ◌&&◌, cond, not, ℕ, Bool, true, false, List, [], ◌∷◌, Option, Some, None, Ok, length, refl, ap, sym, subst, ◌∙◌}
+use Rattle.std.proofs.Common.{arith}
 use Rattle.std.specs.Prelude.{find, if◌then◌else◌, is_some, nat_le}
 use Rattle.std.specs.List.{list_all}
 use Rattle.std.specs.Str.{bytes_eq}
@@ -19,7 +20,8 @@ use Rattle.jc_platform.specs.declared.row.Row.TheVariants.{Package, Class, Metho
 use Rattle.jc_platform.specs.Distinct.{AreDistinct, class_of, entry_of_class, entry_of_method, home_of, kind_of_method}
 use Rattle.jc_platform.specs.Names.{class_entry, classes, method_entry, methods}
 use Rattle.jc_platform.specs.Numbers.{class_number, method_number, same_class, same_kind, same_package}
-use Rattle.jc_platform.specs.Rows.{Above, above, class_token_in, has_class_token, has_method_token, is_package, is_token, largest_token, method_token_in, parts_at}
+use Rattle.jc_platform.specs.Rows.{Above, above, class_token_in, has_class_token, has_method_token, is_package, is_token, largest_token, method_token_in}
+use Rattle.jc_platform.specs.Rows.{parts_at}
 use Rattle.jc_platform.specs.Table.{Reads, Say}
 use Rattle.jc_platform.specs.Tokens.{Tokens}
 use Rattle.jc_platform.proofs.Fitting.{IsFitting, row_fits}
@@ -36,8 +38,10 @@ not_true false e = refl
 
 -- ---- what a new row keeps
 
-module _ {X K : Type 0} (number : X → ℕ) (key : X → K) (f : X → Option ℕ) (b : X) (s : ℕ) (earlier : (c d : X) (t : ℕ) → key c ≡ key d → f c ≡ Some t → f d ≡ Some t → c ≡ d) (free : (d : X) → key b ≡ key d → f d ≡ Some s → ⊥) where
-  by_places : (c d : X) (t : ℕ) (p q : Bool) → key c ≡ key d → (p ≡ true → b ≡ c) → (q ≡ true → b ≡ d) → (if p then Some s else f c) ≡ Some t → (if q then Some s else f d) ≡ Some t → c ≡ d
+module _ {X K : Type 0} (number : X → ℕ) (key : X → K) (f : X → Option ℕ) (b : X) (s : ℕ)
+    (earlier : (c d : X) (t : ℕ) → key c ≡ key d → f c ≡ Some t → f d ≡ Some t → c ≡ d) (free : (d : X) → key b ≡ key d → f d ≡ Some s → ⊥) where
+  by_places : (c d : X) (t : ℕ) (p q : Bool) → key c ≡ key d → (p ≡ true → b ≡ c) → (q ≡ true → b ≡ d) → (if p then Some s else f c) ≡ Some t
+      → (if q then Some s else f d) ≡ Some t → c ≡ d
   by_places c d t true true k l r g h = sym (l refl) ∙ r refl
   by_places c d t true false k l r g h = absurd (free d (ap key (l refl) ∙ k) (h ∙ sym g))
   by_places c d t false true k l r g h = absurd (free c (ap key (r refl) ∙ sym k) (g ∙ sym h))
@@ -45,7 +49,8 @@ module _ {X K : Type 0} (number : X → ℕ) (key : X → K) (f : X → Option �
 
 -- ---- the lists of names
 
-found_case : {X : Type 0} (q p : X → Bool) (x : X) (xs : List X) (e : X) (b : Bool) → q x ≡ true → (find p xs ≡ Some e → q e ≡ true) → cond b (Some x) (find p xs) ≡ Some e → q e ≡ true
+found_case : {X : Type 0} (q p : X → Bool) (x : X) (xs : List X) (e : X) (b : Bool) → q x ≡ true → (find p xs ≡ Some e → q e ≡ true)
+    → cond b (Some x) (find p xs) ≡ Some e → q e ≡ true
 found_case q p x xs e true here later h = let g : Some x ≡ Some e = h in let same : x ≡ e = cc in subst (λ y. q y ≡ true) same here
 found_case q p x xs e false here later h = later h
 
@@ -94,49 +99,68 @@ class_free : (a : Above) (b : PlatformClass) (s : ℕ) → IsFitting a (Class b 
 class_free a b s fit d k token =
     let e = fit.0 in
     let here = found_has (λ f. same_package (home_of f.class) f.home) (λ f. bytes_eq f.name fit.2) classes e homes fit.3 in
-    let no : has_class_token a e.home s ≡ false = not_true (has_class_token a e.home s) (and_true (is_package a.home e.home && not (is_some (a.class_token e.class))) (not (has_class_token a e.home s)) fit.4).1 in
+    let no : has_class_token a e.home s ≡ false = not_true (has_class_token a e.home s)
+    (and_true (is_package a.home e.home && not (is_some (a.class_token e.class))) (not (has_class_token a e.home s)) fit.4).1 in
     let place : class_number d < length classes = omega (arith, class_below d, class_places) in
     let home : same_package (home_of d) e.home ≡ true = subst (λ (p : PlatformPackage). same_package p e.home ≡ true) (ap home_of fit.1 ∙ k) here in
-    let has : is_token (a.class_token (entry_of_class (class_number d)).class) s ≡ true = ap (λ (c : PlatformClass). is_token (a.class_token c) s) (class_at_place d) ∙ ap (λ (o : Option ℕ). is_token o s) token ∙ (Decides-eqb s s).1 refl in
-    let yes : has_class_token a e.home s ≡ true = list_any_at (λ f. same_package f.home e.home && is_token (a.class_token f.class) s) classes (class_number d) (class_entry JavaLang Object []) place (both _ _ home has) in
+    let has : is_token (a.class_token (entry_of_class (class_number d)).class) s ≡ true =
+    ap (λ (c : PlatformClass). is_token (a.class_token c) s) (class_at_place d) ∙ ap (λ (o : Option ℕ). is_token o s) token
+    ∙ (Decides-eqb s s).1 refl in
+    let yes : has_class_token a e.home s ≡ true = list_any_at (λ f. same_package f.home e.home && is_token (a.class_token f.class) s) classes (class_number d)
+    (class_entry JavaLang Object []) place (both _ _ home has) in
     false≢true (sym no ∙ yes)
 
-method_free : (a : Above) (b : PlatformMethod) (s : ℕ) → IsFitting a (Method b s) → (d : PlatformMethod) → class_of b ≡ class_of d → kind_of_method b ≡ kind_of_method d → a.method_token d ≡ Some s → ⊥
+method_free : (a : Above) (b : PlatformMethod) (s : ℕ) → IsFitting a (Method b s) → (d : PlatformMethod) → class_of b ≡ class_of d
+    → kind_of_method b ≡ kind_of_method d → a.method_token d ≡ Some s → ⊥
 method_free a b s fit d k l token =
     let e = fit.0 in
-    let here = found_has (λ f. same_class (class_of f.method) f.class && same_kind (kind_of_method f.method) f.kind) (λ f. same_class f.class fit.2 && same_kind f.kind fit.3 && bytes_eq f.name fit.4) methods e method_homes fit.5 in
+    let here = found_has (λ f. same_class (class_of f.method) f.class && same_kind (kind_of_method f.method) f.kind)
+    (λ f. same_class f.class fit.2 && same_kind f.kind fit.3 && bytes_eq f.name fit.4) methods e method_homes fit.5 in
     let there = and_true (same_class (class_of e.method) e.class) (same_kind (kind_of_method e.method) e.kind) here in
-    let no : has_method_token a e.class e.kind s ≡ false = not_true (has_method_token a e.class e.kind s) (and_true (nat_le s (largest_token e.kind) && not (is_some (a.method_token e.method))) (not (has_method_token a e.class e.kind s)) fit.6).1 in
+    let no : has_method_token a e.class e.kind s ≡ false = not_true (has_method_token a e.class e.kind s)
+    (and_true (nat_le s (largest_token e.kind) && not (is_some (a.method_token e.method))) (not (has_method_token a e.class e.kind s)) fit.6).1 in
     let place : method_number d < length methods = omega (arith, method_below d, method_places) in
     let class : same_class (class_of d) e.class ≡ true = subst (λ (c : PlatformClass). same_class c e.class ≡ true) (ap class_of fit.1 ∙ k) there.0 in
     let kind : same_kind (kind_of_method d) e.kind ≡ true = subst (λ (c : MethodKind). same_kind c e.kind ≡ true) (ap kind_of_method fit.1 ∙ l) there.1 in
-    let has : is_token (a.method_token (entry_of_method (method_number d)).method) s ≡ true = ap (λ (m : PlatformMethod). is_token (a.method_token m) s) (method_at_place d) ∙ ap (λ (o : Option ℕ). is_token o s) token ∙ (Decides-eqb s s).1 refl in
-    let yes : has_method_token a e.class e.kind s ≡ true = list_any_at (λ f. same_class f.class e.class && same_kind f.kind e.kind && is_token (a.method_token f.method) s) methods (method_number d) (method_entry Object Static ObjectInit 1 []) place (both _ _ (both _ _ class kind) has) in
+    let has : is_token (a.method_token (entry_of_method (method_number d)).method) s ≡ true =
+    ap (λ (m : PlatformMethod). is_token (a.method_token m) s) (method_at_place d) ∙ ap (λ (o : Option ℕ). is_token o s) token
+    ∙ (Decides-eqb s s).1 refl in
+    let yes : has_method_token a e.class e.kind s ≡ true = list_any_at (λ f. same_class f.class e.class && same_kind f.kind e.kind && is_token
+    (a.method_token f.method) s) methods (method_number d) (method_entry Object Static ObjectInit 1 []) place (both _ _ (both _ _ class kind) has) in
     false≢true (sym no ∙ yes)
 
 -- ---- all rows
 
-distinct_classes : (lines : List (List ℕ)) (rows : List Row) → Say lines rows → (c d : PlatformClass) (t : ℕ) → home_of c ≡ home_of d → class_token_in rows c ≡ Some t → class_token_in rows d ≡ Some t → c ≡ d
+distinct_classes : (lines : List (List ℕ)) (rows : List Row) → Say lines rows → (c d : PlatformClass) (t : ℕ) → home_of c ≡ home_of d
+    → class_token_in rows c ≡ Some t → class_token_in rows d ≡ Some t → c ≡ d
 distinct_classes [] [] said c d t k g h = absurd (let e : None ≡ Some t = g in cc)
 distinct_classes [] (row ∷ rows) said c d t k g h = absurd said
 distinct_classes (line ∷ lines) [] said c d t k g h = absurd said
 distinct_classes (line ∷ lines) (Package p v ∷ rows) said c d t k g h = distinct_classes lines rows said.1 c d t k g h
 distinct_classes (line ∷ lines) (Method m s ∷ rows) said c d t k g h = distinct_classes lines rows said.1 c d t k g h
 distinct_classes (line ∷ lines) (Class b s ∷ rows) said c d t k g h =
-    by_places class_number home_of (class_token_in rows) b s (distinct_classes lines rows said.1) (class_free (above rows) b s (row_fits (above rows) (parts_at 32 line) (Class b s) said.0)) c d t (same_class b c) (same_class b d) k (λ e. class_by_number b c ((Decides-eqb (class_number b) (class_number c)).0 e)) (λ e. class_by_number b d ((Decides-eqb (class_number b) (class_number d)).0 e)) g h
+    by_places class_number home_of (class_token_in rows) b s (distinct_classes lines rows said.1)
+    (class_free (above rows) b s (row_fits (above rows) (parts_at 32 line) (Class b s) said.0)) c d t (same_class b c) (same_class b d) k
+    (λ e. class_by_number b c ((Decides-eqb (class_number b) (class_number c)).0 e))
+    (λ e. class_by_number b d ((Decides-eqb (class_number b) (class_number d)).0 e)) g h
 
 -- the class and the kind of a method
 abbrev place_of : PlatformMethod → PlatformClass × MethodKind
 place_of m = (class_of m, kind_of_method m)
 
-distinct_methods : (lines : List (List ℕ)) (rows : List Row) → Say lines rows → (c d : PlatformMethod) (t : ℕ) → place_of c ≡ place_of d → method_token_in rows c ≡ Some t → method_token_in rows d ≡ Some t → c ≡ d
+distinct_methods : (lines : List (List ℕ)) (rows : List Row) → Say lines rows → (c d : PlatformMethod) (t : ℕ) → place_of c ≡ place_of d
+    → method_token_in rows c ≡ Some t → method_token_in rows d ≡ Some t → c ≡ d
 distinct_methods [] [] said c d t k g h = absurd (let e : None ≡ Some t = g in cc)
 distinct_methods [] (row ∷ rows) said c d t k g h = absurd said
 distinct_methods (line ∷ lines) [] said c d t k g h = absurd said
 distinct_methods (line ∷ lines) (Package p v ∷ rows) said c d t k g h = distinct_methods lines rows said.1 c d t k g h
 distinct_methods (line ∷ lines) (Class m s ∷ rows) said c d t k g h = distinct_methods lines rows said.1 c d t k g h
 distinct_methods (line ∷ lines) (Method b s ∷ rows) said c d t k g h =
-    by_places method_number place_of (method_token_in rows) b s (distinct_methods lines rows said.1) (λ n l. method_free (above rows) b s (row_fits (above rows) (parts_at 32 line) (Method b s) said.0) n (ap (λ (p : PlatformClass × MethodKind). p.0) l) (ap (λ (p : PlatformClass × MethodKind). p.1) l)) c d t (method_number b == method_number c) (method_number b == method_number d) k (λ e. method_by_number b c ((Decides-eqb (method_number b) (method_number c)).0 e)) (λ e. method_by_number b d ((Decides-eqb (method_number b) (method_number d)).0 e)) g h
+    by_places method_number place_of (method_token_in rows) b s (distinct_methods lines rows said.1)
+    (λ n l. method_free (above rows) b s (row_fits (above rows) (parts_at 32 line) (Method b s) said.0) n (ap (λ (p : PlatformClass × MethodKind). p.0) l)
+    (ap (λ (p : PlatformClass × MethodKind). p.1) l)) c d t (method_number b == method_number c) (method_number b == method_number d) k
+    (λ e. method_by_number b c ((Decides-eqb (method_number b) (method_number c)).0 e))
+    (λ e. method_by_number b d ((Decides-eqb (method_number b) (method_number d)).0 e)) g h
 
 pub distinct : (text : List ℕ) (t : Tokens) → Reads text (Ok t) → AreDistinct t
 distinct text t read =

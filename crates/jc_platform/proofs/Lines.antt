@@ -1,12 +1,13 @@
 -- The lines of a text, one after another.
-use Rattle.std.proofs.Common.{◌≡◌, ◌+◌, ◌<◌, ◌≤◌, ℕ, true, false, cond, ◌==◌, List, [], ◌∷◌, ◌++◌, Option, Some, None, length, reverse, refl, ap, sym, subst, ◌∙◌, append_assoc, arith}
+use Rattle.std.proofs.Common.{◌≡◌, ◌+◌, ◌<◌, ◌≤◌, ℕ, true, false, cond, ◌==◌, List, [], ◌∷◌, ◌++◌, Option, Some, None, length, reverse, refl, ap, sym, subst}
+use Rattle.std.proofs.Common.{◌∙◌, append_assoc, arith}
 use Rattle.std.specs.List.{onto_first}
 use Rattle.std.specs.Option.{MatchOption, is_some}
 use Rattle.std.proofs.lemmas.Bool.{false≢true}
 use Rattle.std.proofs.lemmas.List.{reverse-append}
 use Rattle.jc_platform.specs.declared.row.Row.{Row}
 use Rattle.jc_platform.specs.Rows.{Above, above, parts_at, row_of, row_of_line}
-use Rattle.jc_platform.specs.Table.{Say, Spells, IsBad, IsFirstBad}
+use Rattle.jc_platform.specs.Table.{Say, IsBad, IsFirstBad}
 
 -- one more line at the end
 pub reverse-cons : {A : Type 0} (x : A) (xs ys : List A) → reverse (x ∷ xs) ++ ys ≡ reverse xs ++ x ∷ ys
@@ -29,15 +30,19 @@ has_parts c (x ∷ xs) =
     [ true ↦ record { first = []; more = parts_at c xs; are = refl } | false ↦ onto_first_part x (parts_at c xs) ]
 
 -- a line of five words or more is no row
-pub five_words : (a : Above) (line k r x s y z f g : List ℕ) → parts_at 32 line ≡ k ∷ parts_at 32 r → parts_at 32 r ≡ x ∷ parts_at 32 s → parts_at 32 s ≡ y ∷ parts_at 32 z → parts_at 32 z ≡ f ∷ parts_at 32 g → row_of_line a line ≡ None
+pub five_words : (a : Above) (line k r x s y z f g : List ℕ) → parts_at 32 line ≡ k ∷ parts_at 32 r → parts_at 32 r ≡ x ∷ parts_at 32 s
+    → parts_at 32 s ≡ y ∷ parts_at 32 z → parts_at 32 z ≡ f ∷ parts_at 32 g → row_of_line a line ≡ None
 five_words a line k r x s y z f g one two three four =
     let last = has_parts 32 g in
     let all : parts_at 32 line ≡ k ∷ x ∷ y ∷ f ∷ last.first ∷ last.more =
-    one ∙ ap (λ (ps : List (List ℕ)). k ∷ ps) (two ∙ ap (λ (ps : List (List ℕ)). x ∷ ps) (three ∙ ap (λ (ps : List (List ℕ)). y ∷ ps) (four ∙ ap (λ (ps : List (List ℕ)). f ∷ ps) last.are))) in
+    one ∙ ap (λ (ps : List (List ℕ)). k ∷ ps) (two ∙ ap (λ (ps : List (List ℕ)). x ∷ ps)
+    (three ∙ ap (λ (ps : List (List ℕ)). y ∷ ps) (four ∙ ap (λ (ps : List (List ℕ)). f ∷ ps) last.are))) in
     ap (row_of a) all
 
 -- where the fourth word's end was found, there are more
-pub more_words : {P : Type 0} (a : Above) (line k r x s y z : List ℕ) (X : Type 0) (f g : P → List ℕ) (o : Option P) → parts_at 32 line ≡ k ∷ parts_at 32 r → parts_at 32 r ≡ x ∷ parts_at 32 s → parts_at 32 s ≡ y ∷ parts_at 32 z → MatchOption o X (λ p. parts_at 32 z ≡ f p ∷ parts_at 32 (g p)) → is_some o ≡ true → row_of_line a line ≡ None
+pub more_words : {P : Type 0} (a : Above) (line k r x s y z : List ℕ) (X : Type 0) (f g : P → List ℕ) (o : Option P) → parts_at 32 line ≡ k ∷ parts_at 32 r
+    → parts_at 32 r ≡ x ∷ parts_at 32 s → parts_at 32 s ≡ y ∷ parts_at 32 z → MatchOption o X (λ p. parts_at 32 z ≡ f p ∷ parts_at 32 (g p)) → is_some o ≡ true
+    → row_of_line a line ≡ None
 more_words a line k r x s y z X f g None one two three four h = absurd (false≢true h)
 more_words a line k r x s y z X f g (Some p) one two three four h = five_words a line k r x s y z (f p) (g p) one two three four
 
@@ -60,7 +65,8 @@ pub at_first : (text : List ℕ) (a : Above) → a ≡ above [] → IsReadTo tex
 at_first text a e = record { lines = []; rows = []; parts = refl; said = tt; above_is = e; number_is = refl; room = omega arith }
 
 -- after one more line
-pub after_line : (text rest line more : List ℕ) (n : ℕ) (row : Row) (a b : Above) → IsReadTo text rest n a → parts_at 10 rest ≡ line ∷ parts_at 10 more → length more < length rest → row_of_line a line ≡ Some row → ((rows : List Row) → a ≡ above rows → b ≡ above (row ∷ rows)) → IsReadTo text more (n + 1) b
+pub after_line : (text rest line more : List ℕ) (n : ℕ) (row : Row) (a b : Above) → IsReadTo text rest n a → parts_at 10 rest ≡ line ∷ parts_at 10 more
+    → length more < length rest → row_of_line a line ≡ Some row → ((rows : List Row) → a ≡ above rows → b ≡ above (row ∷ rows)) → IsReadTo text more (n + 1) b
 after_line text rest line more n row a b s cut shorter is_row puts = record {
   lines = line ∷ s.lines;
   rows = row ∷ s.rows;
@@ -71,12 +77,9 @@ after_line text rest line more n row a b s cut shorter is_row puts = record {
   room = let r : n + length rest ≤ length text = s.room in omega arith;
 }
 
--- at the end of the text
-pub at_end : (text rest : List ℕ) (n : ℕ) (a : Above) → IsReadTo text rest n a → rest ≡ [] → (rows : List Row) × Spells text rows × (a ≡ above rows)
-at_end text rest n a s e = (s.rows, (s.lines, s.parts ∙ ap (λ xs. reverse s.lines ++ parts_at 10 xs) e, s.said), s.above_is)
-
 -- the line that comes is the first bad one
-pub bad_line : (text rest part : List ℕ) (more : List (List ℕ)) (n : ℕ) (a : Above) → IsReadTo text rest n a → parts_at 10 rest ≡ part ∷ more → IsBad a part more → IsFirstBad text (n + 1)
+pub bad_line : (text rest part : List ℕ) (more : List (List ℕ)) (n : ℕ) (a : Above) → IsReadTo text rest n a → parts_at 10 rest ≡ part ∷ more
+    → IsBad a part more → IsFirstBad text (n + 1)
 bad_line text rest part more n a s cut bad = (
   s.lines,
   s.rows,

@@ -1,5 +1,6 @@
 -- Look-ups in a list that is seen another way, and reads of a list after a write.
-use Rattle.std.proofs.Common.{◌≡◌, ◌<◌, ◌≤◌, ◌+◌, ◌-◌, ◌==◌, ℕ, zero, suc, Bool, true, false, cond, eqb, ltb, ◌||◌, ◌&&◌, List, [], ◌∷◌, Option, Some, None, length, get_or, set, take, drop, arith, subst, refl, ap, sym, ◌∙◌, map, Decides}
+use Rattle.std.proofs.Common.{◌≡◌, ◌<◌, ◌≤◌, ◌+◌, ◌-◌, ◌==◌, ℕ, zero, suc, Bool, true, false, cond, eqb, ltb, ◌||◌, ◌&&◌, List, [], ◌∷◌, Option, Some, None}
+use Rattle.std.proofs.Common.{length, get_or, set, take, drop, arith, subst, refl, ap, sym, ◌∙◌, map, Decides}
 use Rattle.std.specs.List.{find, list_any, position, position_or_len}
 use Rattle.std.specs.Option.{option_map}
 use Rattle.std.proofs.lemmas.Bool.Decides.{Decides-eqb}
@@ -23,15 +24,18 @@ list_any-map p f [] = refl
 list_any-map p f (x ∷ xs) = ap (λ b. p (f x) || b) (list_any-map p f xs)
 
 -- what a search in a list finds, seen in the list that f shows
-pub found_through : {X Y : Type 0} (p : Y → Bool) (f : X → Y) (xs : List X) (ys : List Y) (r : Option X) → map f xs ≡ ys → r ≡ find (λ x. p (f x)) xs → option_map f r ≡ find p ys
+pub found_through : {X Y : Type 0} (p : Y → Bool) (f : X → Y) (xs : List X) (ys : List Y) (r : Option X) → map f xs ≡ ys → r ≡ find (λ x. p (f x)) xs
+    → option_map f r ≡ find p ys
 found_through p f xs ys r e found = ap (option_map f) found ∙ sym (find-map p f xs) ∙ ap (find p) e
 
 -- whether an element of a list passes, seen in the list that f shows
-pub any_through : {X Y : Type 0} (p : Y → Bool) (f : X → Y) (xs : List X) (ys : List Y) (r : Bool) → map f xs ≡ ys → r ≡ list_any (λ x. p (f x)) xs → r ≡ list_any p ys
+pub any_through : {X Y : Type 0} (p : Y → Bool) (f : X → Y) (xs : List X) (ys : List Y) (r : Bool) → map f xs ≡ ys → r ≡ list_any (λ x. p (f x)) xs
+    → r ≡ list_any p ys
 any_through p f xs ys r e any = any ∙ sym (list_any-map p f xs) ∙ ap (list_any p) e
 
 -- what stands at j after a write at i
-pub read_written : {X : Type 0} (xs : List (Option X)) (i j : ℕ) (v : Option X) → i < length xs → get_or (set xs i v) j None ≡ cond (eqb i j) v (get_or xs j None)
+pub read_written : {X : Type 0} (xs : List (Option X)) (i j : ℕ) (v : Option X) → i < length xs
+    → get_or (set xs i v) j None ≡ cond (eqb i j) v (get_or xs j None)
 read_written {X} xs i j v h = cases (eqb i j) (Decides-eqb i j)
   where
     cases : (b : Bool) → Decides b (i ≡ j) → get_or (set xs i v) j None ≡ cond b v (get_or xs j None)
@@ -52,7 +56,8 @@ found_at p n i true q f = (ltb-true p n q, (let g : Some p ≡ Some i = f in cc)
 found_at p n i false q f = absurd (let g : None ≡ Some i = f in cc)
 
 -- the first part ends at the first byte c
-pub parts_cut : (c : ℕ) (bytes : List ℕ) (r : Option ℕ) (i : ℕ) → r ≡ position (λ b. b == c) bytes → r ≡ Some i → parts_at c bytes ≡ take i bytes ∷ parts_at c (drop (i + 1) bytes)
+pub parts_cut : (c : ℕ) (bytes : List ℕ) (r : Option ℕ) (i : ℕ) → r ≡ position (λ b. b == c) bytes → r ≡ Some i
+    → parts_at c bytes ≡ take i bytes ∷ parts_at c (drop (i + 1) bytes)
 parts_cut c bytes r i at some =
     let f = found_at (position_or_len (λ b. b == c) bytes) (length bytes) i _ refl (sym at ∙ some) in
     subst (λ (j : ℕ). parts_at c bytes ≡ take j bytes ∷ parts_at c (drop (j + 1) bytes)) f.1 (slice_split_first (λ b. b == c) bytes 0 f.0)

@@ -1,5 +1,6 @@
 -- What a token stands for is what has it.
-use Rattle.std.proofs.Common.{◌≡◌, ◌<◌, ◌==◌, ◌&&◌, cond, ℕ, zero, suc, Bool, true, false, List, [], ◌∷◌, Option, Some, None, Ok, length, get_or, refl, ap, sym, subst, ◌∙◌, arith}
+use Rattle.std.proofs.Common.{◌≡◌, ◌<◌, ◌==◌, ◌&&◌, cond, ℕ, zero, suc, Bool, true, false, List, [], ◌∷◌, Option, Some, None, Ok, length, get_or, refl, ap, sym}
+use Rattle.std.proofs.Common.{subst, ◌∙◌, arith}
 use Rattle.std.specs.Prelude.{find, if◌then◌else◌, slice_index}
 use Rattle.std.specs.Option.{option_map}
 use Rattle.std.proofs.lemmas.Bool.{false≢true}
@@ -18,7 +19,8 @@ use Rattle.jc_platform.specs.Numbers.{class_number, kind_number, method_number, 
 use Rattle.jc_platform.specs.Platform.{TellNames, class_by_token, method_by_token, package_by_number}
 use Rattle.jc_platform.specs.Table.{Reads}
 use Rattle.jc_platform.specs.Tokens.{Tokens, number_in}
-use Rattle.jc_platform.proofs.Distinct.{both, class_at_place, class_by_number, class_places, distinct, found_has, homes, method_at_place, method_homes, method_places}
+use Rattle.jc_platform.proofs.Distinct.{both, class_at_place, class_by_number, class_places, distinct, found_has, homes, method_at_place, method_homes}
+use Rattle.jc_platform.proofs.Distinct.{method_places}
 use Rattle.jc_platform.proofs.Lists.{and_true}
 use Rattle.jc_platform.proofs.Numbers.{class_below, method_below}
 
@@ -59,7 +61,8 @@ same_class_is c d e = class_by_number c d ((Decides-eqb (class_number c) (class_
 abbrev numbered : PlatformPackage → PlatformPackage → ℕ
 numbered first p = if same_package p first then 64 else 65
 
-package_told : (first p : PlatformPackage) → (if numbered first p == numbered first JavaLang then Some JavaLang else (if numbered first p == numbered first JavacardFramework then Some JavacardFramework else None)) ≡ Some p
+package_told : (first p : PlatformPackage) → (if numbered first p == numbered first JavaLang then Some JavaLang else
+    (if numbered first p == numbered first JavacardFramework then Some JavacardFramework else None)) ≡ Some p
 package_told JavaLang JavaLang = refl
 package_told JavaLang JavacardFramework = refl
 package_told JavacardFramework JavaLang = refl
@@ -76,7 +79,8 @@ told_class t distinct c =
     let passes : ClassEntry → Bool = λ e. same_package e.home (home_of c) && slice_index t.class_tokens (class_number e.class) == token in
     let place : class_number c < length classes = omega (arith, class_below c, class_places) in
     let home : same_package (home_of c) (home_of c) ≡ true = (Decides-eqb _ _).1 refl in
-    let there : passes (entry_of_class (class_number c)) ≡ true = both _ _ home (ap (λ (d : PlatformClass). slice_index t.class_tokens (class_number d) == token) (class_at_place c) ∙ (Decides-eqb token token).1 refl) in
+    let there : passes (entry_of_class (class_number c)) ≡ true = both _ _ home (ap
+    (λ (d : PlatformClass). slice_index t.class_tokens (class_number d) == token) (class_at_place c) ∙ (Decides-eqb token token).1 refl) in
     let f : Found passes classes = found_at passes classes (class_number c) (class_entry JavaLang Object []) place there in
     let e = f.0 in
     let parts = and_true (same_package e.home (home_of c)) (slice_index t.class_tokens (class_number e.class) == token) f.2 in
@@ -85,21 +89,27 @@ told_class t distinct c =
     let same : e.class ≡ c = distinct.of_classes e.class c homes_agree ((Decides-eqb _ _).0 parts.1) in
     ap (option_map (λ g. g.class)) f.1 ∙ ap Some same
 
-told_method : (t : Tokens) → AreDistinct t → (m : PlatformMethod) → method_by_token t (class_of m) (kind_of_method m) (slice_index t.method_tokens (method_number m)) ≡ Some m
+told_method : (t : Tokens) → AreDistinct t → (m : PlatformMethod) → method_by_token t (class_of m) (kind_of_method m)
+    (slice_index t.method_tokens (method_number m)) ≡ Some m
 unfolding method_by_token
 told_method t distinct m =
     let token = slice_index t.method_tokens (method_number m) in
-    let passes : MethodEntry → Bool = λ e. same_class e.class (class_of m) && same_kind e.kind (kind_of_method m) && slice_index t.method_tokens (method_number e.method) == token in
+    let passes : MethodEntry → Bool = λ e. same_class e.class (class_of m) && same_kind e.kind (kind_of_method m) && slice_index t.method_tokens
+    (method_number e.method) == token in
     let place : method_number m < length methods = omega (arith, method_below m, method_places) in
     let class : same_class (class_of m) (class_of m) ≡ true = (Decides-eqb _ _).1 refl in
     let kind : same_kind (kind_of_method m) (kind_of_method m) ≡ true = (Decides-eqb _ _).1 refl in
-    let there : passes (entry_of_method (method_number m)) ≡ true = both _ _ (both _ _ class kind) (ap (λ (n : PlatformMethod). slice_index t.method_tokens (method_number n) == token) (method_at_place m) ∙ (Decides-eqb token token).1 refl) in
+    let there : passes (entry_of_method (method_number m)) ≡ true = both _ _ (both _ _ class kind)
+    (ap (λ (n : PlatformMethod). slice_index t.method_tokens (method_number n) == token) (method_at_place m) ∙ (Decides-eqb token token).1 refl) in
     let f : Found passes methods = found_at passes methods (method_number m) (method_entry Object Static ObjectInit 1 []) place there in
     let e = f.0 in
-    let parts = and_true (same_class e.class (class_of m) && same_kind e.kind (kind_of_method m)) (slice_index t.method_tokens (method_number e.method) == token) f.2 in
+    let parts = and_true (same_class e.class (class_of m) && same_kind e.kind (kind_of_method m))
+    (slice_index t.method_tokens (method_number e.method) == token) f.2 in
     let places = and_true (same_class e.class (class_of m)) (same_kind e.kind (kind_of_method m)) parts.0 in
-    let its = and_true (same_class (class_of e.method) e.class) (same_kind (kind_of_method e.method) e.kind) (found_has (λ g. same_class (class_of g.method) g.class && same_kind (kind_of_method g.method) g.kind) passes methods e method_homes f.1) in
-    let same : e.method ≡ m = distinct.of_methods e.method m (same_class_is _ _ its.0 ∙ same_class_is _ _ places.0) (same_kind_is _ _ its.1 ∙ same_kind_is _ _ places.1) ((Decides-eqb _ _).0 parts.1) in
+    let its = and_true (same_class (class_of e.method) e.class) (same_kind (kind_of_method e.method) e.kind)
+    (found_has (λ g. same_class (class_of g.method) g.class && same_kind (kind_of_method g.method) g.kind) passes methods e method_homes f.1) in
+    let same : e.method ≡ m = distinct.of_methods e.method m (same_class_is _ _ its.0 ∙ same_class_is _ _ places.0)
+    (same_kind_is _ _ its.1 ∙ same_kind_is _ _ places.1) ((Decides-eqb _ _).0 parts.1) in
     ap (option_map (λ g. g.method)) f.1 ∙ ap Some same
 
 pub names_told : (text : List ℕ) (t : Tokens) → Reads text (Ok t) → TellNames t

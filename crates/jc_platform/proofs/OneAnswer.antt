@@ -1,5 +1,6 @@
 -- A text has one answer.
-use Rattle.std.proofs.Common.{◌≡◌, ◌+◌, ◌*◌, ◌<◌, ◌≤◌, ℕ, List, [], ◌∷◌, ◌++◌, Option, Some, None, Ok, Err, get_or, length, reverse, refl, ap, sym, subst, ◌∙◌, arith, ⊎_elim}
+use Rattle.std.proofs.Common.{◌≡◌, ◌+◌, ◌*◌, ◌<◌, ◌≤◌, ℕ, List, [], ◌∷◌, ◌++◌, Option, Some, None, Ok, Err, get_or, length, reverse, refl, ap, sym, subst, ◌∙◌}
+use Rattle.std.proofs.Common.{arith, ⊎_elim}
 use Rattle.std.specs.Prelude.{slice_get, slice_index}
 use Rattle.std.proofs.lemmas.Grind.{get_or_default_zero}
 use Rattle.std.proofs.lemmas.List.{same_lists}
@@ -54,7 +55,8 @@ abbrev IsGood : Above → List ℕ → List (List ℕ) → Type 0
 IsGood a part more = (row : Row) × (row_of_line a part ≡ Some row) × (next : List ℕ) × (rest : List (List ℕ)) × (more ≡ next ∷ rest)
 
 -- where more lines say rows, the part that follows fewer is a good line
-goes_on : (l m : List (List ℕ)) (rs ss : List Row) (p q : List ℕ) (ps qs : List (List ℕ)) → length l < length m → reverse l ++ p ∷ ps ≡ reverse m ++ q ∷ qs → Say l rs → Say m ss → IsGood (above rs) p ps
+goes_on : (l m : List (List ℕ)) (rs ss : List Row) (p q : List ℕ) (ps qs : List (List ℕ)) → length l < length m → reverse l ++ p ∷ ps ≡ reverse m ++ q ∷ qs
+    → Say l rs → Say m ss → IsGood (above rs) p ps
 goes_on l [] rs ss p q ps qs h e s t = absurd (omega (arith, h))
 goes_on l (line ∷ m) rs [] p q ps qs h e s t = absurd t
 goes_on l (line ∷ m) rs (row ∷ ss) p q ps qs h e s t =
@@ -146,10 +148,12 @@ all_same xs ys n a b each = same_lists xs ys (a ∙ sym b) (λ k d lt.
     let y : get_or ys k d ≡ get_or ys k 0 = get_or_default_zero ys k d (omega (arith, lt, a, b)) in
     x ∙ each k (omega (arith, lt, a)) ∙ sym y)
 
-one_class : (cs ds : List ℕ) → ((c : PlatformClass) → slice_index cs (class_number c) ≡ slice_index ds (class_number c)) → (k : ℕ) → k < class_count → get_or cs k 0 ≡ get_or ds k 0
+one_class : (cs ds : List ℕ) → ((c : PlatformClass) → slice_index cs (class_number c) ≡ slice_index ds (class_number c)) → (k : ℕ) → k < class_count
+    → get_or cs k 0 ≡ get_or ds k 0
 one_class cs ds each k lt = let w = class_at k lt in ap (λ (j : ℕ). get_or cs j 0) (sym w.1) ∙ each w.0 ∙ ap (λ (j : ℕ). get_or ds j 0) w.1
 
-one_method : (cs ds : List ℕ) → ((m : PlatformMethod) → slice_index cs (method_number m) ≡ slice_index ds (method_number m)) → (k : ℕ) → k < method_count → get_or cs k 0 ≡ get_or ds k 0
+one_method : (cs ds : List ℕ) → ((m : PlatformMethod) → slice_index cs (method_number m) ≡ slice_index ds (method_number m)) → (k : ℕ) → k < method_count
+    → get_or cs k 0 ≡ get_or ds k 0
 one_method cs ds each k lt = let w = method_at k lt in ap (λ (j : ℕ). get_or cs j 0) (sym w.1) ∙ each w.0 ∙ ap (λ (j : ℕ). get_or ds j 0) w.1
 
 -- both versions
@@ -169,9 +173,12 @@ one_table text t u a b =
     let x = a.1.2 in
     let y : AreThoseOf (above a.1.0) u = subst (λ (rows : List Row). AreThoseOf (above rows) u) same b.1.2 in
     let first = some_once (above a.1.0).first t.first u.first x.first y.first in
-    let versions = two_same t.versions u.versions x.as_many_versions y.as_many_versions (sym (x.versions JavaLang) ∙ y.versions JavaLang) (sym (x.versions JavacardFramework) ∙ y.versions JavacardFramework) in
-    let classes = all_same t.class_tokens u.class_tokens class_count x.as_many_classes y.as_many_classes (one_class t.class_tokens u.class_tokens (λ c. some_once ((above a.1.0).class_token c) _ _ (x.class_tokens c) (y.class_tokens c))) in
-    let methods = all_same t.method_tokens u.method_tokens method_count x.as_many_methods y.as_many_methods (one_method t.method_tokens u.method_tokens (λ m. some_once ((above a.1.0).method_token m) _ _ (x.method_tokens m) (y.method_tokens m))) in
+    let versions = two_same t.versions u.versions x.as_many_versions y.as_many_versions (sym (x.versions JavaLang) ∙ y.versions JavaLang)
+    (sym (x.versions JavacardFramework) ∙ y.versions JavacardFramework) in
+    let classes = all_same t.class_tokens u.class_tokens class_count x.as_many_classes y.as_many_classes
+    (one_class t.class_tokens u.class_tokens (λ c. some_once ((above a.1.0).class_token c) _ _ (x.class_tokens c) (y.class_tokens c))) in
+    let methods = all_same t.method_tokens u.method_tokens method_count x.as_many_methods y.as_many_methods
+    (one_method t.method_tokens u.method_tokens (λ m. some_once ((above a.1.0).method_token m) _ _ (x.method_tokens m) (y.method_tokens m))) in
     λ i. record { first = first i; versions = versions i; class_tokens = classes i; method_tokens = methods i }
 
 -- two faults of one text are one
@@ -182,5 +189,6 @@ one_fault text (BadTable m) (BadTable n) a b = ap BadTable (numbers a b)
     numbers = ⊎_elim
         (λ long. ⊎_elim (λ other. long.1 ∙ sym other.1) (⊎_elim (λ bad. absurd (too_long (length text) long.0 bad.0)) (λ lacks. long.1 ∙ sym lacks.1)))
         (⊎_elim
-        (λ bad. ⊎_elim (λ long. absurd (too_long (length text) long.0 bad.0)) (⊎_elim (λ other. one_first_bad text m n bad.1 other.1) (λ lacks. absurd (not_spelt text lacks.2.0 m lacks.2.1 bad.1))))
+        (λ bad. ⊎_elim (λ long. absurd (too_long (length text) long.0 bad.0)) (⊎_elim (λ other. one_first_bad text m n bad.1 other.1)
+        (λ lacks. absurd (not_spelt text lacks.2.0 m lacks.2.1 bad.1))))
         (λ lacks. ⊎_elim (λ long. lacks.1 ∙ sym long.1) (⊎_elim (λ bad. absurd (not_spelt text lacks.2.0 n lacks.2.1 bad.1)) (λ other. lacks.1 ∙ sym other.1))))

@@ -38,5 +38,7 @@ kind_of_method m = (entry_of_method (method_number m)).kind
 
 -- a token tells a class among those of its package, and a method among those of its class and kind
 pub record AreDistinct (t : Tokens) : Type 0 where
-  pub of_classes : (c d : PlatformClass) → home_of c ≡ home_of d → slice_index t.class_tokens (class_number c) ≡ slice_index t.class_tokens (class_number d) → c ≡ d
-  pub of_methods : (m n : PlatformMethod) → class_of m ≡ class_of n → kind_of_method m ≡ kind_of_method n → slice_index t.method_tokens (method_number m) ≡ slice_index t.method_tokens (method_number n) → m ≡ n
+  pub of_classes : (c d : PlatformClass) → home_of c ≡ home_of d → slice_index t.class_tokens (class_number c) ≡ slice_index t.class_tokens (class_number d)
+      → c ≡ d
+  pub of_methods : (m n : PlatformMethod) → class_of m ≡ class_of n → kind_of_method m ≡ kind_of_method n
+      → slice_index t.method_tokens (method_number m) ≡ slice_index t.method_tokens (method_number n) → m ≡ n

@@ -3,11 +3,38 @@ use Rattle.std.specs.Prelude.{ℕ, Bool, ◌==◌}
 use Rattle.jc_platform.specs.declared.names.PlatformPackage.{PlatformPackage}
 use Rattle.jc_platform.specs.declared.names.PlatformPackage.TheVariants.{JavaLang, JavacardFramework}
 use Rattle.jc_platform.specs.declared.names.PlatformClass.{PlatformClass}
-use Rattle.jc_platform.specs.declared.names.PlatformClass.TheVariants.{Object, Throwable, Exception, RuntimeException, IndexOutOfBoundsException, ArithmeticException, ArrayIndexOutOfBoundsException, ArrayStoreException, ClassCastException, NegativeArraySizeException, NullPointerException, SecurityException, Shareable, Pin, Applet, Apdu, Aid, JcSystem, Util, OwnerPin, CardException, CardRuntimeException, IsoException, PinException, SystemException, TransactionException, ApduException, UserException}
+use Rattle.jc_platform.specs.declared.names.PlatformClass.TheVariants.{Object, Throwable, Exception, RuntimeException, IndexOutOfBoundsException}
+use Rattle.jc_platform.specs.declared.names.PlatformClass.TheVariants.{ArithmeticException, ArrayIndexOutOfBoundsException, ArrayStoreException}
+use Rattle.jc_platform.specs.declared.names.PlatformClass.TheVariants.{ClassCastException, NegativeArraySizeException, NullPointerException, SecurityException}
+use Rattle.jc_platform.specs.declared.names.PlatformClass.TheVariants.{Shareable, Pin, Applet, Apdu, Aid, JcSystem, Util, OwnerPin, CardException}
+use Rattle.jc_platform.specs.declared.names.PlatformClass.TheVariants.{CardRuntimeException, IsoException, PinException, SystemException, TransactionException}
+use Rattle.jc_platform.specs.declared.names.PlatformClass.TheVariants.{ApduException, UserException}
 use Rattle.jc_platform.specs.declared.names.MethodKind.{MethodKind}
 use Rattle.jc_platform.specs.declared.names.MethodKind.TheVariants.{Static, Virtual, Interface}
 use Rattle.jc_platform.specs.declared.names.PlatformMethod.{PlatformMethod}
-use Rattle.jc_platform.specs.declared.names.PlatformMethod.TheVariants.{ObjectInit, ObjectEquals, ThrowableInit, ExceptionInit, RuntimeExceptionInit, IndexOutOfBoundsExceptionInit, ArithmeticExceptionInit, ArrayIndexOutOfBoundsExceptionInit, ArrayStoreExceptionInit, ClassCastExceptionInit, NegativeArraySizeExceptionInit, NullPointerExceptionInit, SecurityExceptionInit, PinCheck, PinGetTriesRemaining, PinIsValidated, PinReset, AppletInit, AppletDeselect, AppletGetShareableInterfaceObject, AppletRegister, AppletRegisterBytes, AppletSelect, AppletSelectingApplet, AppletProcess, ApduGetBuffer, ApduReceiveBytes, ApduSendBytes, ApduSetIncomingAndReceive, ApduSetOutgoing, ApduSetOutgoingAndSend, ApduSetOutgoingLength, AidInit, AidEquals, AidEqualsBytes, AidGetBytes, JcSystemAbortTransaction, JcSystemBeginTransaction, JcSystemCommitTransaction, JcSystemGetAid, JcSystemGetAppletShareableInterfaceObject, JcSystemGetMaxCommitCapacity, JcSystemGetPreviousContextAid, JcSystemGetTransactionDepth, JcSystemGetUnusedCommitCapacity, JcSystemIsTransient, JcSystemLookupAid, JcSystemMakeTransientBooleanArray, JcSystemMakeTransientByteArray, JcSystemMakeTransientObjectArray, JcSystemMakeTransientShortArray, UtilArrayCompare, UtilArrayCopy, UtilGetShort, UtilMakeShort, UtilSetShort, OwnerPinInit, OwnerPinCheck, OwnerPinGetTriesRemaining, OwnerPinIsValidated, OwnerPinReset, OwnerPinResetAndUnblock, OwnerPinUpdate, CardExceptionInit, CardExceptionThrowIt, CardExceptionGetReason, CardExceptionSetReason, CardRuntimeExceptionInit, CardRuntimeExceptionThrowIt, CardRuntimeExceptionGetReason, CardRuntimeExceptionSetReason, IsoExceptionInit, IsoExceptionThrowIt, PinExceptionInit, PinExceptionThrowIt, SystemExceptionInit, SystemExceptionThrowIt, TransactionExceptionInit, TransactionExceptionThrowIt, ApduExceptionInit, ApduExceptionThrowIt, UserExceptionInit, UserExceptionThrowIt}
+use Rattle.jc_platform.specs.declared.names.PlatformMethod.TheVariants.{ObjectInit, ObjectEquals, ThrowableInit, ExceptionInit, RuntimeExceptionInit}
+use Rattle.jc_platform.specs.declared.names.PlatformMethod.TheVariants.{IndexOutOfBoundsExceptionInit, ArithmeticExceptionInit}
+use Rattle.jc_platform.specs.declared.names.PlatformMethod.TheVariants.{ArrayIndexOutOfBoundsExceptionInit, ArrayStoreExceptionInit, ClassCastExceptionInit}
+use Rattle.jc_platform.specs.declared.names.PlatformMethod.TheVariants.{NegativeArraySizeExceptionInit, NullPointerExceptionInit, SecurityExceptionInit}
+use Rattle.jc_platform.specs.declared.names.PlatformMethod.TheVariants.{PinCheck, PinGetTriesRemaining, PinIsValidated, PinReset, AppletInit, AppletDeselect}
+use Rattle.jc_platform.specs.declared.names.PlatformMethod.TheVariants.{AppletGetShareableInterfaceObject, AppletRegister, AppletRegisterBytes, AppletSelect}
+use Rattle.jc_platform.specs.declared.names.PlatformMethod.TheVariants.{AppletSelectingApplet, AppletProcess, ApduGetBuffer, ApduReceiveBytes, ApduSendBytes}
+use Rattle.jc_platform.specs.declared.names.PlatformMethod.TheVariants.{ApduSetIncomingAndReceive, ApduSetOutgoing, ApduSetOutgoingAndSend}
+use Rattle.jc_platform.specs.declared.names.PlatformMethod.TheVariants.{ApduSetOutgoingLength, AidInit, AidEquals, AidEqualsBytes, AidGetBytes}
+use Rattle.jc_platform.specs.declared.names.PlatformMethod.TheVariants.{JcSystemAbortTransaction, JcSystemBeginTransaction, JcSystemCommitTransaction}
+use Rattle.jc_platform.specs.declared.names.PlatformMethod.TheVariants.{JcSystemGetAid, JcSystemGetAppletShareableInterfaceObject, JcSystemGetMaxCommitCapacity}
+use Rattle.jc_platform.specs.declared.names.PlatformMethod.TheVariants.{JcSystemGetPreviousContextAid, JcSystemGetTransactionDepth}
+use Rattle.jc_platform.specs.declared.names.PlatformMethod.TheVariants.{JcSystemGetUnusedCommitCapacity, JcSystemIsTransient, JcSystemLookupAid}
+use Rattle.jc_platform.specs.declared.names.PlatformMethod.TheVariants.{JcSystemMakeTransientBooleanArray, JcSystemMakeTransientByteArray}
+use Rattle.jc_platform.specs.declared.names.PlatformMethod.TheVariants.{JcSystemMakeTransientObjectArray, JcSystemMakeTransientShortArray, UtilArrayCompare}
+use Rattle.jc_platform.specs.declared.names.PlatformMethod.TheVariants.{UtilArrayCopy, UtilGetShort, UtilMakeShort, UtilSetShort, OwnerPinInit, OwnerPinCheck}
+use Rattle.jc_platform.specs.declared.names.PlatformMethod.TheVariants.{OwnerPinGetTriesRemaining, OwnerPinIsValidated, OwnerPinReset, OwnerPinResetAndUnblock}
+use Rattle.jc_platform.specs.declared.names.PlatformMethod.TheVariants.{OwnerPinUpdate, CardExceptionInit, CardExceptionThrowIt, CardExceptionGetReason}
+use Rattle.jc_platform.specs.declared.names.PlatformMethod.TheVariants.{CardExceptionSetReason, CardRuntimeExceptionInit, CardRuntimeExceptionThrowIt}
+use Rattle.jc_platform.specs.declared.names.PlatformMethod.TheVariants.{CardRuntimeExceptionGetReason, CardRuntimeExceptionSetReason, IsoExceptionInit}
+use Rattle.jc_platform.specs.declared.names.PlatformMethod.TheVariants.{IsoExceptionThrowIt, PinExceptionInit, PinExceptionThrowIt, SystemExceptionInit}
+use Rattle.jc_platform.specs.declared.names.PlatformMethod.TheVariants.{SystemExceptionThrowIt, TransactionExceptionInit, TransactionExceptionThrowIt}
+use Rattle.jc_platform.specs.declared.names.PlatformMethod.TheVariants.{ApduExceptionInit, ApduExceptionThrowIt, UserExceptionInit, UserExceptionThrowIt}
 
 -- how many packages, classes and methods there are
 abbrev pub package_count : ℕ

@@ -19,7 +19,8 @@ aid_of JavacardFramework = 160 ∷ 0 ∷ 0 ∷ 0 ∷ 98 ∷ 1 ∷ 1 ∷ []
 
 -- the package with this AID
 unfoldable pub package_by_aid : List ℕ → Option PlatformPackage
-package_by_aid aid = if bytes_eq aid (aid_of JavaLang) then Some JavaLang else (if bytes_eq aid (aid_of JavacardFramework) then Some JavacardFramework else None)
+package_by_aid aid = if bytes_eq aid (aid_of JavaLang) then Some JavaLang else (if bytes_eq aid
+    (aid_of JavacardFramework) then Some JavacardFramework else None)
 
 -- the package with this number
 unfoldable pub package_by_number : Tokens → ℕ → Option PlatformPackage
@@ -27,7 +28,8 @@ package_by_number t n = if n == number_in t JavaLang then Some JavaLang else (if
 
 -- the class of a package with this token
 unfoldable pub class_by_token : Tokens → PlatformPackage → ℕ → Option PlatformClass
-class_by_token t home token = option_map (λ e. e.class) (find (λ e. same_package e.home home && slice_index t.class_tokens (class_number e.class) == token) classes)
+class_by_token t home token = option_map (λ e. e.class) (find (λ e. same_package e.home home && slice_index t.class_tokens (class_number e.class) == token)
+    classes)
 
 -- the class that an object's header names so
 unfoldable pub class_by_word : Tokens → ℕ → Option PlatformClass
@@ -35,7 +37,8 @@ class_by_word t word = option_and_then (λ home. class_by_token t home (word % 2
 
 -- the method of a class with this kind and token
 unfoldable pub method_by_token : Tokens → PlatformClass → MethodKind → ℕ → Option PlatformMethod
-method_by_token t class kind token = option_map (λ e. e.method) (find (λ e. same_class e.class class && same_kind e.kind kind && slice_index t.method_tokens (method_number e.method) == token) methods)
+method_by_token t class kind token = option_map (λ e. e.method) (find (λ e. same_class e.class class && same_kind e.kind kind && slice_index t.method_tokens
+    (method_number e.method) == token) methods)
 
 -- tokens stand for one class and one method: what has a token is what the token stands for
 pub record TellNames (t : Tokens) : Type 0 where

@@ -1,5 +1,6 @@
 -- What the lines of a platform table say.
-use Rattle.std.specs.Prelude.{ℕ, Bool, false, not, ◌&&◌, ◌==◌, nat_le, nat_lt, if◌then◌else◌, List, [], ◌∷◌, length, codes, Option, None, Some, is_some, unwrap_or, find}
+use Rattle.std.specs.Prelude.{ℕ, Bool, false, not, ◌&&◌, ◌==◌, nat_le, nat_lt, if◌then◌else◌, List, [], ◌∷◌, length, codes, Option, None, Some, is_some}
+use Rattle.std.specs.Prelude.{unwrap_or, find}
 use Rattle.std.specs.List.{list_any, slice_split}
 use Rattle.std.specs.Option.{option_and_then}
 use Rattle.std.specs.Str.{bytes_eq, all_ascii_digits}
@@ -91,7 +92,8 @@ number_of word = if nat_lt 0 (length word) && all_ascii_digits word && nat_lt (d
 
 -- the kind of method that a keyword begins
 abbrev pub kind_of : List ℕ → Option MethodKind
-kind_of word = if bytes_eq word (codes "static") then Some Static else (if bytes_eq word (codes "virtual") then Some Virtual else (if bytes_eq word (codes "interface") then Some Interface else None))
+kind_of word = if bytes_eq word (codes "static") then Some Static else (if bytes_eq word (codes "virtual") then Some Virtual else
+    (if bytes_eq word (codes "interface") then Some Interface else None))
 
 -- the largest token of a kind
 abbrev pub largest_token : MethodKind → ℕ

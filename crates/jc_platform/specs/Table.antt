@@ -33,7 +33,8 @@ IsFirstBad text n = (lines : List (List ℕ)) × (rows : List Row) × (part : Li
 
 -- no package stands, or some name is missing
 abbrev pub IsMissing : Above → Type 0
-IsMissing a = (a.first ≡ None) ⊎ ((p : PlatformPackage) × (a.version p ≡ None)) ⊎ ((c : PlatformClass) × (a.class_token c ≡ None)) ⊎ ((m : PlatformMethod) × (a.method_token m ≡ None))
+IsMissing a = (a.first ≡ None) ⊎ ((p : PlatformPackage) × (a.version p ≡ None)) ⊎ ((c : PlatformClass) × (a.class_token c ≡ None))
+    ⊎ ((m : PlatformMethod) × (a.method_token m ≡ None))
 
 -- the tokens and versions are those that stand above, all stand there, and there are no more
 pub record AreThoseOf (a : Above) (t : Tokens) : Type 0 where

@@ -18,9 +18,12 @@ pub fn tokens_are_distinct()
 /// Law: a text has one answer. It is read as a table or refused, never both; two tables that it is read as are
 /// one; two faults are one. It does nothing.
 pub fn a_text_has_one_answer()
-    ensures table_or_fault { (text : List ℕ) (t : Tokens) (f : TableFault) → Reads text (Ok t) → Reads text (Err f) → ⊥ }
-    ensures one_table { (text : List ℕ) (t u : Tokens) → Reads text (Ok t) → Reads text (Ok u) → t ≡ u }
-    ensures one_fault { (text : List ℕ) (f g : TableFault) → Reads text (Err f) → Reads text (Err g) → f ≡ g }
+    ensures table_or_fault { (text : List ℕ) (t : Tokens) (f : TableFault) → Reads text (Ok t)
+        → Reads text (Err f) → ⊥ }
+    ensures one_table { (text : List ℕ) (t u : Tokens) → Reads text (Ok t) → Reads text (Ok u)
+        → t ≡ u }
+    ensures one_fault { (text : List ℕ) (f g : TableFault) → Reads text (Err f) → Reads text (Err g)
+        → f ≡ g }
 {}
 
 /// Law: in a table that was read, a package's number, a class's token in its package, and a method's token among those

@@ -5,7 +5,7 @@ ghost use Rattle.std.specs.Option.{option_map};
 ghost use Rattle.std.specs.Str.{bytes_eq};
 ghost use Rattle.jc_platform.specs.Names.{classes, methods, packages};
 ghost use Rattle.jc_platform.specs.Rows.{method_named};
-ghost use Rattle.jc_platform.specs.Seen.{seen_class, seen_method, seen_package};
+ghost use Rattle.jc_platform.specs.Seen.{class_value, method_value, package_value};
 
 use crate::names::{
     CLASSES, ClassName, METHODS, MethodKind, MethodName, PACKAGES, PackageName, PlatformClass,
@@ -13,28 +13,28 @@ use crate::names::{
 
 /// Every package.
 pub(crate) fn all_packages() -> &'static [PackageName]
-    ensures { map seen_package result.now ≡ packages }
+    ensures { map package_value result.now ≡ packages }
 {
     &PACKAGES
 }
 
 /// Every class.
 pub(crate) fn all_classes() -> &'static [ClassName]
-    ensures { map seen_class result.now ≡ classes }
+    ensures { map class_value result.now ≡ classes }
 {
     &CLASSES
 }
 
 /// Every method.
 pub(crate) fn all_methods() -> &'static [MethodName]
-    ensures { map seen_method result.now ≡ methods }
+    ensures { map method_value result.now ≡ methods }
 {
     &METHODS
 }
 
 /// The package whose AID this is, in upper case hexadecimal.
 pub(crate) fn package_with(aid: &[u8]) -> Option<PackageName>
-    ensures { option_map seen_package result ≡ find (λ e. bytes_eq e.aid_text aid.now) packages }
+    ensures { option_map package_value result ≡ find (λ e. bytes_eq e.aid_text aid.now) packages }
 {
     all_packages()
         .iter()
@@ -44,7 +44,7 @@ pub(crate) fn package_with(aid: &[u8]) -> Option<PackageName>
 
 /// The class with this name.
 pub(crate) fn class_named(name: &[u8]) -> Option<ClassName>
-    ensures { option_map seen_class result ≡ find (λ e. bytes_eq e.name name.now) classes }
+    ensures { option_map class_value result ≡ find (λ e. bytes_eq e.name name.now) classes }
 {
     all_classes()
         .iter()
@@ -58,7 +58,7 @@ pub(crate) fn method_named(
     kind: MethodKind,
     name: &[u8],
 ) -> Option<MethodName>
-    ensures { option_map seen_method result ≡ method_named class kind name.now }
+    ensures { option_map method_value result ≡ method_named class kind name.now }
 {
     all_methods()
         .iter()

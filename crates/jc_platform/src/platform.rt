@@ -6,7 +6,7 @@ ghost use Rattle.jc_platform.specs.Distinct.{class_word};
 ghost use Rattle.jc_platform.specs.Names.{classes, methods};
 ghost use Rattle.jc_platform.specs.Numbers.{class_number, method_number, package_number, same_class, same_kind, same_package};
 ghost use Rattle.jc_platform.specs.Platform.{aid_of, class_by_token, class_by_word, method_by_token, package_by_aid, package_by_number};
-ghost use Rattle.jc_platform.specs.Seen.{seen_class, seen_method};
+ghost use Rattle.jc_platform.specs.Seen.{class_value, method_value};
 ghost use Rattle.jc_platform.specs.Tokens.{number_in};
 
 use crate::lookup::{all_classes, all_methods};
@@ -15,7 +15,7 @@ use crate::names::{
 };
 use crate::row::Version;
 use crate::table::Table;
-use jc_names::ClassWord;
+use jc_transient::ClassWord;
 use std::marker::Model;
 
 /// The packages of the platform with their tokens.
@@ -139,7 +139,9 @@ impl Platform {
     }
 
     fn class_entry(&self, home: PlatformPackage, token: u8) -> Option<ClassName>
-        ensures { option_map seen_class result ≡ find (λ e. same_package e.home home && slice_index self.now.class_tokens (class_number e.class) == token) classes }
+        ensures { option_map class_value result ≡ find
+            (λ e. same_package e.home home && slice_index self.now.class_tokens
+            (class_number e.class) == token) classes }
     {
         all_classes()
             .iter()
@@ -148,7 +150,9 @@ impl Platform {
     }
 
     fn method_entry(&self, class: PlatformClass, kind: MethodKind, token: u8) -> Option<MethodName>
-        ensures { option_map seen_method result ≡ find (λ e. same_class e.class class && same_kind e.kind kind && slice_index self.now.method_tokens (method_number e.method) == token) methods }
+        ensures { option_map method_value result ≡ find
+            (λ e. same_class e.class class && same_kind e.kind kind && slice_index
+            self.now.method_tokens (method_number e.method) == token) methods }
     {
         all_methods()
             .iter()

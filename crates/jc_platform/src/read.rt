@@ -35,7 +35,8 @@ pub fn read_table(text: &[u8]) -> Result<Table, TableFault>
 /// Reads all lines of a text.
 fn read_lines(text: &[u8]) -> Result<Reading, TableFault>
     requires { length text.now ≤ 16384 }
-    ensures { MatchResult result (λ reading. (rows : List Row) × Spells text.now rows × (above_of reading ≡ above rows)) (λ fault. IsFault fault (IsFirstBad text.now)) }
+    ensures { MatchResult result (λ reading. (rows : List Row) × Spells text.now rows
+        × (above_of reading ≡ above rows)) (λ fault. IsFault fault (IsFirstBad text.now)) }
 {
     let mut reading = Reading::new();
     let mut rest = text;

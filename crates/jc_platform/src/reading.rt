@@ -1,11 +1,12 @@
 //! What the lines so far say.
 
 ghost use Rattle.std.specs.Prelude.{◌≡◌, [], ◌∷◌, List, MatchOption, Some, length, slice_set, unwrap_or};
-ghost use Rattle.jc_platform.specs.Rows.{above, class_row, has_class_token, has_method_token, is_package, is_token, may_be_class, may_be_method, method_row, package_row, row_of_line};
+ghost use Rattle.jc_platform.specs.Rows.{above, class_row, has_class_token, has_method_token, is_package, is_token, may_be_class, may_be_method, method_row};
+ghost use Rattle.jc_platform.specs.Rows.{package_row, row_of_line};
 ghost use Rattle.jc_platform.specs.Numbers.{package_number};
 ghost use Rattle.jc_platform.specs.Table.{AreThoseOf, IsMissing};
 ghost use Rattle.jc_platform.specs.Reading.{AreCopied, IsLacking, above_of};
-ghost use Rattle.jc_platform.specs.Seen.{seen_class, seen_method};
+ghost use Rattle.jc_platform.specs.Seen.{class_value, method_value};
 ghost use Rattle.jc_platform.specs.declared.row.Row.{Row};
 
 use crate::lookup::{all_classes, all_methods, class_named, method_named, package_with};
@@ -126,7 +127,7 @@ impl Reading {
 
     /// A class may stand here: in its own package, nowhere above, and with a token of its own.
     fn may_be_class(&self, entry: &ClassName, token: u8) -> bool
-        ensures { result ≡ may_be_class (above_of self.now) (seen_class entry.now) token }
+        ensures { result ≡ may_be_class (above_of self.now) (class_value entry.now) token }
     {
         is_package(self.home, entry.home)
             && self.class_token(entry.class).is_none()
@@ -136,7 +137,7 @@ impl Reading {
     /// A method may stand here, in its own class: nowhere above, and with a token of its own that its kind
     /// may have.
     fn may_be_method(&self, entry: &MethodName, token: u8) -> bool
-        ensures { result ≡ may_be_method (above_of self.now) (seen_method entry.now) token }
+        ensures { result ≡ may_be_method (above_of self.now) (method_value entry.now) token }
     {
         token <= entry.kind.largest_token()
             && self.method_token(entry.method).is_none()
@@ -163,7 +164,8 @@ impl Reading {
 
     /// Takes a row in.
     pub(crate) fn put(&mut self, row: Row)
-        ensures { (rows : List Row) → above_of self.old ≡ above rows → above_of self.new ≡ above (row ∷ rows) }
+        ensures { (rows : List Row) → above_of self.old ≡ above rows
+            → above_of self.new ≡ above (row ∷ rows) }
     {
         match row {
             Row::Package(named, version) => self.put_package(named, version),
@@ -173,7 +175,8 @@ impl Reading {
     }
 
     fn put_package(&mut self, named: PlatformPackage, version: Version)
-        ensures { (rows : List Row) → above_of self.old ≡ above rows → above_of self.new ≡ above (Row.Package named version ∷ rows) }
+        ensures { (rows : List Row) → above_of self.old ≡ above rows
+            → above_of self.new ≡ above (Row.Package named version ∷ rows) }
     {
         self.home = Some(named);
         self.class = None;
@@ -182,21 +185,24 @@ impl Reading {
     }
 
     fn put_class(&mut self, class: PlatformClass, token: u8)
-        ensures { (rows : List Row) → above_of self.old ≡ above rows → above_of self.new ≡ above (Row.Class class token ∷ rows) }
+        ensures { (rows : List Row) → above_of self.old ≡ above rows
+            → above_of self.new ≡ above (Row.Class class token ∷ rows) }
     {
         self.class = Some(class);
         self.class_tokens[class.index()] = Some(token);
     }
 
     fn put_method(&mut self, method: PlatformMethod, token: u8)
-        ensures { (rows : List Row) → above_of self.old ≡ above rows → above_of self.new ≡ above (Row.Method method token ∷ rows) }
+        ensures { (rows : List Row) → above_of self.old ≡ above rows
+            → above_of self.new ≡ above (Row.Method method token ∷ rows) }
     {
         self.method_tokens[method.index()] = Some(token);
     }
 
     /// The table, if every name stands above.
     pub(crate) fn finish(&self) -> Option<Table>
-        ensures { MatchOption result (IsMissing (above_of self.now)) (λ t. AreThoseOf (above_of self.now) t) }
+        ensures { MatchOption result (IsMissing (above_of self.now))
+            (λ t. AreThoseOf (above_of self.now) t) }
     {
         let first = self.first?;
         let java_lang = self.version(PlatformPackage::JavaLang)?;

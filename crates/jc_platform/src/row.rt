@@ -2,7 +2,7 @@
 
 use crate::names::{PlatformClass, PlatformMethod, PlatformPackage};
 
-/// The version of a package.
+/// The major and minor version of a package.
 #[derive(Clone, Copy, PartialEq, Eq, Debug)]
 pub struct Version {
     pub major: u8,

@@ -3,7 +3,7 @@
 ghost use Rattle.std.specs.Prelude.{◌≡◌};
 ghost use Rattle.jc_platform.specs.Distinct.{class_of, entry_of_method};
 ghost use Rattle.jc_platform.specs.Numbers.{method_number};
-ghost use Rattle.jc_platform.specs.Seen.{seen_method};
+ghost use Rattle.jc_platform.specs.Seen.{method_value};
 ghost use Rattle.jc_platform.specs.Signatures.{argument_cells, is_constructor};
 
 use crate::lookup::all_methods;
@@ -13,7 +13,7 @@ impl PlatformMethod {
     // What the list says of it.
     #[inline(always)]
     fn entry(self) -> &'static MethodName
-        ensures { seen_method result.now ≡ entry_of_method (method_number self) }
+        ensures { method_value result.now ≡ entry_of_method (method_number self) }
     {
         &all_methods()[self.index()]
     }

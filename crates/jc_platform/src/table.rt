@@ -10,7 +10,7 @@ use crate::names::{
 };
 use crate::platform::Platform;
 use crate::row::Version;
-use jc_names::ClassWord;
+use jc_transient::ClassWord;
 use std::marker::Model;
 
 /// The tokens of the platform's classes and methods, and its packages' versions and order.
@@ -26,7 +26,12 @@ pub struct Table {
 impl Model for Table {
     ghost Value = { Tokens };
 
-    ghost view = { λ t. record { first = t.first; versions = t.versions; class_tokens = t.class_tokens; method_tokens = t.method_tokens } };
+    ghost view = { λ t. record {
+      first = t.first;
+      versions = t.versions;
+      class_tokens = t.class_tokens;
+      method_tokens = t.method_tokens;
+    } };
 }
 
 impl Table {
@@ -39,7 +44,12 @@ impl Table {
         class_tokens: [u8; CLASS_COUNT],
         method_tokens: [u8; METHOD_COUNT],
     ) -> Self
-        ensures { result ≡ record { first = first; versions = versions; class_tokens = class_tokens; method_tokens = method_tokens } }
+        ensures { result ≡ record {
+          first = first;
+          versions = versions;
+          class_tokens = class_tokens;
+          method_tokens = method_tokens;
+        } }
     {
         Table {
             first,

@@ -7,7 +7,8 @@ use crate::names::MethodKind;
 
 /// The bytes before the first separator and those behind it.
 pub(crate) fn split_once(bytes: &[u8], separator: u8) -> Option<(&[u8], &[u8])>
-    ensures parts { MatchOption result (parts_at separator bytes.now ≡ bytes.now ∷ []) (λ r. parts_at separator bytes.now ≡ r.0.now ∷ parts_at separator r.1.now) }
+    ensures parts { MatchOption result (parts_at separator bytes.now ≡ bytes.now ∷ [])
+        (λ r. parts_at separator bytes.now ≡ r.0.now ∷ parts_at separator r.1.now) }
     ensures shorter { IfSome result (λ r. length r.1.now < length bytes.now) }
 {
     let at = bytes.iter().position(|byte| *byte == separator)?;

@@ -1,5 +1,6 @@
 -- What an AID object that holds an AID tells of it.
-use Rattle.std.proofs.Common.{◌≡◌, ℕ, ◌+◌, ◌-◌, ◌/◌, ◌<◌, ◌≤◌, Bool, true, false, List, get_or, length, map, refl, sym, ◌∙◌, ap, subst, arith, inl, inr, Option, Some, None}
+use Rattle.std.proofs.Common.{◌≡◌, ℕ, ◌+◌, ◌-◌, ◌/◌, ◌<◌, ◌≤◌, Bool, true, false, List, get_or, length, map, refl, sym, ◌∙◌, ap, subst, arith, inl, inr, Option}
+use Rattle.std.proofs.Common.{Some, None}
 use Rattle.std.specs.List.{range_with_len}
 use Rattle.std.specs.Prelude.{◌%◌, ◌==◌, slice_index, nat_eq, nat_le, if◌then◌else◌}
 use Rattle.std.proofs.lemmas.Bool.{cases_Bool, eq-eqb, false≢true, leb-true, true≢false}
@@ -25,8 +26,14 @@ told cells aid is =
     let long = slice_index cells 0 in
     let both = same_if (nat_le long 16) (map (aid_byte cells) (range_with_len 0 long)) aid is in
     let same = both.1 in
-    let first : long ≡ length aid = sym (length-map-range_with_len (aid_byte cells) 0 long) ∙ ap length same in
-    (first, (omega (arith, leb-true long 16 both.0, first), λ i below. sym (get_or-map-range_with_len (aid_byte cells) 0 long i i 0 (omega (arith, below, first)) (omega arith)) ∙ ap (λ l. get_or l i 0) same))
+    let first : long ≡ length aid = sym (length-map-range_with_len (aid_byte cells) 0 long) ∙ ap length same in (
+      first,
+      (
+        omega (arith, leb-true long 16 both.0, first),
+        λ i below. sym (get_or-map-range_with_len (aid_byte cells) 0 long i i 0
+            (omega (arith, below, first)) (omega arith)) ∙ ap (λ l. get_or l i 0) same,
+      ),
+    )
 
 -- where something of it differs, it is not that
 differs : (b : Bool) (cells aid : List ℕ) → (Told cells aid → ⊥) → is_aid aid (if b then aid_of_cells cells else None) ≡ false
@@ -36,7 +43,8 @@ differs true cells aid never = elim (cases_Bool (is_aid aid (aid_of_cells cells)
   | inr other ↦ other
 ]
 
-pub not_held : (s : MemoryState) (r : ℕ) (f : Facts) (h : Option Facts) (aid : List ℕ) → h ≡ header_at s r → h ≡ Some f → (Told (words_at s r 0 9) aid → ⊥) → is_aid aid (aid_at s r) ≡ false
+pub not_held : (s : MemoryState) (r : ℕ) (f : Facts) (h : Option Facts) (aid : List ℕ) → h ≡ header_at s r → h ≡ Some f → (Told (words_at s r 0 9) aid → ⊥)
+    → is_aid aid (aid_at s r) ≡ false
 not_held s r f h aid is some never = ap (λ g. is_aid aid (aid_behind s r g)) (sym is ∙ some) ∙ differs (f.length == 9) (words_at s r 0 9) aid never
 
 -- a cell among those
@@ -48,7 +56,8 @@ pub other_length : (s : MemoryState) (r : ℕ) (aid : List ℕ) (first : ℕ) �
 other_length s r aid first is other t = other (is ∙ sym (cell_of s r 0 (omega arith)) ∙ t.0)
 
 -- another last byte than its cells say
-pub other_last : (s : MemoryState) (r : ℕ) (aid : List ℕ) (word byte last : ℕ) → last + 1 ≡ length aid → word ≡ word_at s r (1 + last / 2) → byte ≡ (if last % 2 == 0 then word / 256 else word % 256) → nat_eq byte (get_or aid last 0) ≡ false → Told (words_at s r 0 9) aid → ⊥
+pub other_last : (s : MemoryState) (r : ℕ) (aid : List ℕ) (word byte last : ℕ) → last + 1 ≡ length aid → word ≡ word_at s r (1 + last / 2)
+    → byte ≡ (if last % 2 == 0 then word / 256 else word % 256) → nat_eq byte (get_or aid last 0) ≡ false → Told (words_at s r 0 9) aid → ⊥
 other_last s r aid word byte last end word_is byte_is other t =
     let below : 1 + last / 2 < 9 = omega (arith, t.1.0, end) in
     let cell : word ≡ slice_index (words_at s r 0 9) (1 + last / 2) = word_is ∙ sym (cell_of s r (1 + last / 2) below) in

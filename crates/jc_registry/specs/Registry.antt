@@ -4,6 +4,7 @@ use Rattle.std.specs.List.{range_with_len}
 use Rattle.std.specs.Option.{option_map, option_and_then}
 use Rattle.std.specs.Str.{bytes_eq}
 use Rattle.jc_words.specs.Layout.{most_applets}
+use Rattle.jc_heap.specs.RegistryLayout.{entry_start, entry_aid, entry_package, entry_instance}
 use Rattle.jc_heap.specs.declared.place.AppletEntry.{AppletEntry}
 use Rattle.jc_heap.specs.Heap.{HeapState}
 use Rattle.jc_memory.specs.State.{MemoryState}
@@ -20,11 +21,15 @@ is_applet h n = nat_lt 0 n && nat_le n (applet_count h)
 
 -- a word of the registry's entry for an applet: its AID object, the number of its package, its instance
 abbrev pub entry_word : HeapState → ℕ → ℕ → ℕ
-entry_word h n k = slice_index h.applets (3 * (n - 1) + k)
+entry_word h n k = slice_index h.applets (entry_start (n - 1) + k)
 
 -- what the registry keeps of an applet
 unfoldable pub applet_entry : HeapState → ℕ → Option AppletEntry
-applet_entry h n = if is_applet h n then Some (record { aid = entry_word h n 0; «package» = entry_word h n 1; instance = entry_word h n 2 }) else None
+applet_entry h n = if is_applet h n then Some (record {
+  aid = entry_word h n entry_aid;
+  «package» = entry_word h n entry_package;
+  instance = entry_word h n entry_instance;
+}) else None
 
 -- its AID object
 abbrev pub aid_of_applet : HeapState → ℕ → Option ℕ

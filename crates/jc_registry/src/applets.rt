@@ -5,6 +5,7 @@ ghost use Rattle.jc_registry.specs.Registry.{aid_of_applet, applet_count, applet
 
 use crate::aid::{aid_at, may_hold};
 use jc_heap::AppletEntry;
+use jc_heap::registry_layout::{ENTRY_INSTANCE, ENTRY_PACKAGE, entry_start};
 use jc_memory::{AppletNumber, Memory};
 use jc_transient::Ref;
 use jc_words::WordStore;
@@ -32,16 +33,16 @@ pub fn entry_of_applet<S: WordStore>(
     if n == 0 || n > applet_count(memory) {
         return None;
     }
-    let at = 3 * (u16::from(n) - 1);
+    let at = entry_start(u16::from(n) - 1);
     let heap = memory.heap();
     Some(AppletEntry {
         aid: Ref::at(heap.registry(at)),
-        package: heap.registry(at + 1),
-        instance: Ref::at(heap.registry(at + 2)),
+        package: heap.registry(at + ENTRY_PACKAGE),
+        instance: Ref::at(heap.registry(at + ENTRY_INSTANCE)),
     })
 }
 
-/// The AID object of an applet.
+/// The AID object of an applet; none where no applet has the number.
 pub fn aid_of_applet<S: WordStore>(memory: &Memory<S>, number: AppletNumber) -> Option<Ref>
     requires up { memory.now.heap.down ≡ false }
     ensures { result ≡ aid_of_applet memory.now.heap.now number.0 }
@@ -57,7 +58,7 @@ pub fn package_of_applet<S: WordStore>(memory: &Memory<S>, number: AppletNumber)
     Some(entry_of_applet(memory, number)?.package)
 }
 
-/// The instance of an applet.
+/// The instance of an applet; none where no applet has the number.
 pub fn instance_of_applet<S: WordStore>(memory: &Memory<S>, number: AppletNumber) -> Option<Ref>
     requires up { memory.now.heap.down ≡ false }
     ensures { result ≡ instance_of_applet memory.now.heap.now number.0 }

@@ -3,10 +3,10 @@ use Rattle.std.proofs.Common.{arith, ◌≡◌, ◌≤◌, ◌<◌, List, ℕ, f
 use Rattle.jc_commit.specs.Image.{IsGoodLog, count_of, recovered_of}
 use Rattle.jc_words.specs.Layout.{log_end}
 use Rattle.jc_heap.specs.Heap.{heap_of}
-use Rattle.jc_card.specs.PowerUp.{Refuses, Stands}
+use Rattle.jc_card.specs.PowerUp.{PowerUpRefuses, RefusalLeaves}
 use Rattle.jc_card.specs.declared.power_up.PowerFault.{PowerFault as Fault}
 use Rattle.jc_card.specs.declared.power_up.PowerFault.TheVariants.{BadMagic, BadVersion, BadSize, BadLog, BadTable, BadPackage, NoMemory, StoreDown}
-use Rattle.jc_session.specs.Power.{KeptState, Power, StoreState, IsStoreOf}
+use Rattle.jc_session.specs.Power.{KeptState, PowerState, StoreState, IsStoreOf}
 use Rattle.jc_session.specs.Starting.{FailsToReset, FailsToStart}
 use Rattle.jc_session.proofs.Laid.{laid_still}
 
@@ -19,7 +19,8 @@ closed_log old new good size closed = record {
 }
 
 -- what a power up that found a fault leaves: its log is good, and it recovers to the same heap
-still_left : (fault : Fault) (old new : List ℕ) → (fault ≡ StoreDown → ⊥) → IsGoodLog old → length new ≡ length old → Stands fault old new → IsGoodLog new × (heap_of (recovered_of new) ≡ heap_of (recovered_of old))
+still_left : (fault : Fault) (old new : List ℕ) → (fault ≡ StoreDown → ⊥) → IsGoodLog old → length new ≡ length old → RefusalLeaves fault old new
+    → IsGoodLog new × (heap_of (recovered_of new) ≡ heap_of (recovered_of old))
 still_left BadMagic old new other good size stands = (subst IsGoodLog (sym stands) good, ap (λ w. heap_of (recovered_of w)) stands)
 still_left BadVersion old new other good size stands = (subst IsGoodLog (sym stands) good, ap (λ w. heap_of (recovered_of w)) stands)
 still_left BadSize old new other good size stands = (subst IsGoodLog (sym stands) good, ap (λ w. heap_of (recovered_of w)) stands)
@@ -30,7 +31,9 @@ still_left NoMemory old new other good size stands = (closed_log old new good si
 still_left StoreDown old new other good size stands = absurd (other refl)
 
 -- a reset that finds a fault leaves what was there, with the power on
-pub fails_to_reset : (fault : Fault) (s : Power) (before after : StoreState) → IsStoreOf s before → Refuses fault before.words → (fault ≡ StoreDown → ⊥) → length after.words ≡ length before.words → Stands fault before.words after.words → after.down ≡ false → after.refused ≡ before.refused → FailsToReset fault s after
+pub fails_to_reset : (fault : Fault) (s : PowerState) (before after : StoreState) → IsStoreOf s before → PowerUpRefuses fault before.words
+    → (fault ≡ StoreDown → ⊥) → length after.words ≡ length before.words → RefusalLeaves fault before.words after.words → after.down ≡ false
+    → after.refused ≡ before.refused → FailsToReset fault s after
 fails_to_reset fault s before after held cause other size stands up refused =
     let left = still_left fault before.words after.words other held.good size stands in (
       before,
@@ -39,9 +42,17 @@ fails_to_reset fault s before after held cause other size stands up refused =
       other,
       record {
         good = left.0;
-        kept = λ i. record { durable = (left.1 ∙ ap (λ (k : KeptState). k.durable) held.kept) i; laid = (laid_still fault before.words after.words other stands ∙ ap (λ (k : KeptState). k.laid) held.kept) i; down = up i; refused = (refused ∙ ap (λ (k : KeptState). k.refused) held.kept) i; size = (size ∙ ap (λ (k : KeptState). k.size) held.kept) i };
+        kept = λ i. record {
+          durable = (left.1 ∙ ap (λ (k : KeptState). k.durable) held.kept) i;
+          laid = (laid_still fault before.words after.words other stands ∙ ap (λ (k : KeptState). k.laid) held.kept) i;
+          down = up i;
+          refused =
+              (refused ∙ ap (λ (k : KeptState). k.refused) held.kept) i;
+          size = (size ∙ ap (λ (k : KeptState). k.size) held.kept) i;
+        };
       },
     )
 
-pub start_fails : (fault : Fault) (s : Power) (before after : StoreState) → IsStoreOf s before → FailsToStart fault before after → FailsToReset fault s after
+pub start_fails : (fault : Fault) (s : PowerState) (before after : StoreState) → IsStoreOf s before → FailsToStart fault before after
+    → FailsToReset fault s after
 start_fails fault s before after held fails = fails_to_reset fault s before after held fails.cause fails.other fails.size fails.stands fails.up fails.refused

@@ -6,12 +6,13 @@ use Rattle.jc_card.specs.declared.power_up.PowerFault.{PowerFault}
 use Rattle.jc_session.specs.declared.event.Event.{Event}
 use Rattle.jc_session.specs.declared.event.Event.TheVariants.{Reset}
 use Rattle.jc_session.specs.declared.event.Answer.{Answer}
-use Rattle.jc_session.specs.Power.{Power, StoreState}
+use Rattle.jc_session.specs.Power.{PowerState, StoreState}
 use Rattle.jc_session.specs.Serving.{Serves, SessionRun}
 use Rattle.jc_session.specs.Starting.{FailsToReset}
-use Rattle.jc_session.specs.Sessions.{IsSession, StopsAtReset}
+use Rattle.jc_session.specs.Sessions.{IsSession, FailsAtReset}
 
-run_more : (events : List Event) (answers : List Answer) (s t u : Power) (event : Event) (answer : Answer) → SessionRun s events answers t → Serves t event answer u →
+run_more : (events : List Event) (answers : List Answer) (s t u : PowerState) (event : Event) (answer : Answer) → SessionRun s events answers t
+    → Serves t event answer u →
     SessionRun s (events ++ event ∷ []) (answers ++ answer ∷ []) u
 run_more [] [] s t u event answer run served = (u, subst (λ p. Serves p event answer u) run served, refl)
 run_more (e ∷ es) (a ∷ rest) s t u event answer run served = (run.0, run.1, run_more es rest run.0 t u event answer run.2 served)
@@ -19,18 +20,20 @@ run_more [] (a ∷ rest) s t u event answer run served = absurd run
 run_more (e ∷ es) [] s t u event answer run served = absurd run
 
 -- one more event is served
-pub session_more : (before : StoreState) (some more : List Event) (answers given : List Answer) (t u : Power) (event : Event) (answer : Answer) →
+pub session_more : (before : StoreState) (some more : List Event) (answers given : List Answer) (t u : PowerState) (event : Event) (answer : Answer) →
     more ≡ some ++ event ∷ [] → given ≡ answers ++ answer ∷ [] → IsSession before some answers t → Serves t event answer u → IsSession before more given u
 session_more before some more answers given t u event answer events_are answers_are session served =
     subst (λ l. IsSession before l given u) (sym events_are) (subst (λ l. IsSession before (some ++ event ∷ []) l u) (sym answers_are)
     (session.0, session.1, run_more some answers session.0 t u event answer session.2 served))
 
 -- all events were served
-pub session_ended : (before : StoreState) (events : List Event) (answers : List Answer) (last : Power) (n : ℕ) → length events ≤ n → IsSession before (take n events) answers last → IsSession before events answers last
+pub session_ended : (before : StoreState) (events : List Event) (answers : List Answer) (last : PowerState) (n : ℕ) → length events ≤ n
+    → IsSession before (take n events) answers last → IsSession before events answers last
 session_ended before events answers last n over session = subst (λ l. IsSession before l answers last) (take_all n events over) session
 
 -- the first n events were served, and the reset behind them finds a fault
-pub stops_at_reset : (before after : StoreState) (events : List Event) (answers : List Answer) (last : Power) (n : ℕ) (event : Event) (fault : PowerFault) → n < length events → event ≡ get_or events n event →
-    IsSession before (take n events) answers last → (event ≡ Reset) × FailsToReset fault last after → StopsAtReset fault before events after
+pub stops_at_reset : (before after : StoreState) (events : List Event) (answers : List Answer) (last : PowerState) (n : ℕ) (event : Event) (fault : PowerFault)
+    → n < length events → event ≡ get_or events n event →
+    IsSession before (take n events) answers last → (event ≡ Reset) × FailsToReset fault last after → FailsAtReset fault before events after
 stops_at_reset before after events answers last n event fault below is session fails =
     (n, answers, last, slice_get_read events (length events) n event refl below is ∙ ap Some fails.0, session, fails.1)

@@ -1,23 +1,24 @@
 -- Sessions over a store that refuses no write.
 use Rattle.std.proofs.Common.{◌≡◌, ℕ, ◌+◌, ◌<◌, ◌≤◌, List, [], ◌∷◌, refl, sym, ◌∙◌, ap, subst, arith}
-use Rattle.jc_words.specs.Count.{raised}
+use Rattle.jc_words.specs.Count.{saturating_count}
 use Rattle.jc_card.specs.CardState.{CardState}
 use Rattle.jc_session.specs.declared.event.Event.{Event}
 use Rattle.jc_session.specs.declared.event.Event.TheVariants.{Command, Reset}
 use Rattle.jc_session.specs.declared.event.Answer.{Answer}
 use Rattle.jc_session.specs.declared.event.Answer.TheVariants.{Response, Ready, Down}
-use Rattle.jc_session.specs.Power.{Power, Up, Off, KeptState, StoreState, IsStoreOf, kept, kept_in}
+use Rattle.jc_session.specs.Power.{PowerState, Up, Off, KeptState, StoreState, IsStoreOf, durable_state, durable_state_in_store}
 use Rattle.jc_session.specs.Starting.{Starts, IsPoweredUp}
 use Rattle.jc_session.specs.Serving.{Serves, SessionRun}
 use Rattle.jc_session.specs.WholeCopies.{ServesWhole, RunsWhole}
 use Rattle.jc_session.specs.Laws.{AreWholeSessions, ResetsBeginAnew, DownTellsRefusals, IsToldByAnswer, IsToldOfRefusal}
 use Rattle.jc_session.proofs.Refusals.{one_more, powered_count, done_count, served_grows, run_grows}
 
-no_rise : (m n : ℕ) → m < 18446744073709551615 → n ≡ raised m 1 → n ≡ m → ⊥
-no_rise m n small risen same = let e : raised m 1 ≡ m + 1 = one_more m small in omega (arith, risen, same, e)
+no_rise : (m n : ℕ) → m < 18446744073709551615 → n ≡ saturating_count m 1 → n ≡ m → ⊥
+no_rise m n small risen same = let e : saturating_count m 1 ≡ m + 1 = one_more m small in omega (arith, risen, same, e)
 
 -- where the count does not rise, the card stays up, and served the event as one with whole copies
-served_whole : (card : CardState) (event : Event) (answer : Answer) (next : Power) → Serves (Up card) event answer next → card.memory.heap.refused < 18446744073709551615 → (kept next).refused ≡ card.memory.heap.refused →
+served_whole : (card : CardState) (event : Event) (answer : Answer) (next : PowerState) → Serves (Up card) event answer next
+    → card.memory.heap.refused < 18446744073709551615 → (durable_state next).refused ≡ card.memory.heap.refused →
     (mid : CardState) × (next ≡ Up mid) × ServesWhole card event answer mid
 served_whole card (Command bytes) (Response r) (Up next) h small same = (next, refl, h)
 served_whole card (Command bytes) Down (Off k) h small same = absurd (no_rise card.memory.heap.refused k.refused small h.2 same)
@@ -25,38 +26,42 @@ served_whole card Reset Ready (Up next) h small same = (next, refl, h)
 served_whole card Reset Down (Off k) h small same = absurd (no_rise card.memory.heap.refused k.refused small (ap (λ (x : KeptState). x.refused) h) same)
 served_whole card event answer next h small same = absurd h
 
-run_whole : (events : List Event) (answers : List Answer) (card : CardState) (last : Power) → SessionRun (Up card) events answers last → card.memory.heap.refused < 18446744073709551615 → (kept last).refused ≡ card.memory.heap.refused →
+run_whole : (events : List Event) (answers : List Answer) (card : CardState) (last : PowerState) → SessionRun (Up card) events answers last
+    → card.memory.heap.refused < 18446744073709551615 → (durable_state last).refused ≡ card.memory.heap.refused →
     (end : CardState) × (last ≡ Up end) × RunsWhole card events answers end
 run_whole [] [] card last h small same = (card, h, refl)
 run_whole (event ∷ events) (answer ∷ answers) card last h small same =
     let up = served_grows (Up card) event answer h.0 h.1 in
     let on = run_grows h.0 events answers last h.2 in
-    let stays : (kept h.0).refused ≡ card.memory.heap.refused = omega (arith, up, on, same) in
+    let stays : (durable_state h.0).refused ≡ card.memory.heap.refused = omega (arith, up, on, same) in
     let served = served_whole card event answer h.0 h.1 small stays in
-    let count : served.0.memory.heap.refused ≡ card.memory.heap.refused = sym (ap (λ p. (kept p).refused) served.1) ∙ stays in
-    let rest = run_whole events answers served.0 last (subst (λ p. SessionRun p events answers last) served.1 h.2) (omega (arith, count, small)) (same ∙ sym count) in
+    let count : served.0.memory.heap.refused ≡ card.memory.heap.refused = sym (ap (λ p. (durable_state p).refused) served.1) ∙ stays in
+    let rest = run_whole events answers served.0 last (subst (λ p. SessionRun p events answers last) served.1 h.2) (omega (arith, count, small))
+    (same ∙ sym count) in
     (rest.0, rest.1, (served.0, served.2, rest.2))
 run_whole [] (answer ∷ answers) card last h small same = absurd h
 run_whole (event ∷ events) [] card last h small same = absurd h
 
-start_count : (before : StoreState) (first : Power) → Starts before first → before.refused ≤ (kept first).refused
-start_count before (Up card) h = let e : card.memory.heap.refused ≡ before.refused = powered_count (kept_in before) card h.1 in omega (arith, e)
-start_count before (Off k) h = let e : k.refused ≡ raised before.refused 1 = ap (λ (x : KeptState). x.refused) h.1 in omega (arith, e)
+start_count : (before : StoreState) (first : PowerState) → Starts before first → before.refused ≤ (durable_state first).refused
+start_count before (Up card) h = let e : card.memory.heap.refused ≡ before.refused = powered_count (durable_state_in_store before) card h.1 in omega (arith, e)
+start_count before (Off k) h = let e : k.refused ≡ saturating_count before.refused 1 = ap (λ (x : KeptState). x.refused) h.1 in omega (arith, e)
 
-started_up : (before : StoreState) (first : Power) → Starts before first → before.refused < 18446744073709551615 → (kept first).refused ≡ before.refused →
-    (card : CardState) × (first ≡ Up card) × IsPoweredUp (kept_in before) card
+started_up : (before : StoreState) (first : PowerState) → Starts before first → before.refused < 18446744073709551615
+    → (durable_state first).refused ≡ before.refused →
+    (card : CardState) × (first ≡ Up card) × IsPoweredUp (durable_state_in_store before) card
 started_up before (Up card) h small same = (card, refl, h.1)
 started_up before (Off k) h small same = absurd (no_rise before.refused k.refused small (ap (λ (x : KeptState). x.refused) h.1) same)
 
 pub are_whole : AreWholeSessions
 are_whole before after events answers last session store none =
-    let left : after.refused ≡ (kept last).refused = ap (λ (x : KeptState). x.refused) store.kept in
+    let left : after.refused ≡ (durable_state last).refused = ap (λ (x : KeptState). x.refused) store.kept in
     let up = start_count before session.0 session.1 in
     let on = run_grows session.0 events answers last session.2 in
-    let stays : (kept session.0).refused ≡ before.refused = omega (arith, left, up, on, none.1) in
+    let stays : (durable_state session.0).refused ≡ before.refused = omega (arith, left, up, on, none.1) in
     let first = started_up before session.0 session.1 none.0 stays in
-    let count : first.0.memory.heap.refused ≡ before.refused = sym (ap (λ p. (kept p).refused) first.1) ∙ stays in
-    let run = run_whole events answers first.0 last (subst (λ p. SessionRun p events answers last) first.1 session.2) (omega (arith, count, none.0)) (sym left ∙ (none.1 ∙ sym count)) in
+    let count : first.0.memory.heap.refused ≡ before.refused = sym (ap (λ p. (durable_state p).refused) first.1) ∙ stays in
+    let run = run_whole events answers first.0 last (subst (λ p. SessionRun p events answers last) first.1 session.2) (omega (arith, count, none.0))
+    (sym left ∙ (none.1 ∙ sym count)) in
     (first.0, run.0, first.2, run.2, subst (λ p. IsStoreOf p after) run.1 store)
 
 pub begin_anew : ResetsBeginAnew
@@ -68,15 +73,15 @@ begin_anew card next h = record {
   unloaded = h.reset.load;
 }
 
-told_by_answer : (s : Power) (event : Event) (answer : Answer) (next : Power) → Serves s event answer next → IsToldByAnswer answer s next
+told_by_answer : (s : PowerState) (event : Event) (answer : Answer) (next : PowerState) → Serves s event answer next → IsToldByAnswer answer s next
 told_by_answer (Up card) (Command bytes) (Response r) (Up next) h = done_count bytes.items r card next h
 told_by_answer (Up card) (Command bytes) Down (Off k) h = tt
 told_by_answer (Off k) (Command bytes) Down (Off l) h = tt
-told_by_answer s Reset Ready (Up card) h = powered_count (kept s) card h
+told_by_answer s Reset Ready (Up card) h = powered_count (durable_state s) card h
 told_by_answer s Reset Down (Off k) h = tt
 told_by_answer s event answer next h = absurd h
 
-told_down : (s : Power) (event : Event) (next : Power) → Serves s event Down next → IsToldOfRefusal event s next
+told_down : (s : PowerState) (event : Event) (next : PowerState) → Serves s event Down next → IsToldOfRefusal event s next
 told_down (Up card) (Command bytes) (Off k) h = h.2
 told_down (Off k) (Command bytes) (Off l) h = ap Off h
 told_down (Up card) Reset (Off k) h = ap (λ (x : KeptState). x.refused) h

@@ -1,7 +1,7 @@
 -- Laws of sessions.
 use Rattle.std.specs.Prelude.{ℕ, ◌≡◌, true, false, List, Some, None}
-use Rattle.jc_words.specs.Count.{raised}
-use Rattle.jc_transient.specs.State.{IsBlank}
+use Rattle.jc_words.specs.Count.{saturating_count}
+use Rattle.jc_transient.specs.State.{IsCleared}
 use Rattle.jc_card.specs.Apdu.{Apdu, apdu_of}
 use Rattle.jc_card.specs.CardState.{CardState}
 use Rattle.jc_card.specs.Dispatching.{is_select, manager_aid}
@@ -9,14 +9,14 @@ use Rattle.jc_session.specs.declared.event.Event.{Event}
 use Rattle.jc_session.specs.declared.event.Event.TheVariants.{Command, Reset}
 use Rattle.jc_session.specs.declared.event.Answer.{Answer}
 use Rattle.jc_session.specs.declared.event.Answer.TheVariants.{Response, Ready, Down}
-use Rattle.jc_session.specs.Power.{Power, Up, Off, StoreState, IsStoreOf, kept}
+use Rattle.jc_session.specs.Power.{PowerState, Up, Off, StoreState, IsStoreOf, durable_state}
 use Rattle.jc_session.specs.Serving.{AnswersCommand, Serves}
 use Rattle.jc_session.specs.Sessions.{IsSession}
 use Rattle.jc_session.specs.WholeCopies.{IsWholeSession, RefusesNone}
 
 -- over a store that refuses no write a session is that of a card that keeps whole copies of its heap
 abbrev pub AreWholeSessions : Type 0
-AreWholeSessions = (before after : StoreState) (events : List Event) (answers : List Answer) (last : Power) →
+AreWholeSessions = (before after : StoreState) (events : List Event) (answers : List Answer) (last : PowerState) →
     IsSession before events answers last → IsStoreOf last after → RefusesNone before.refused after.refused → IsWholeSession before events answers after
 
 -- nothing is left of what died with the power: the present heap is the durable one, no transaction is open, the transient
@@ -24,7 +24,7 @@ AreWholeSessions = (before after : StoreState) (events : List Event) (answers : 
 pub record BeginsAnew (card next : CardState) : Type 0 where
   pub heap : next.memory.heap.now ≡ card.memory.heap.durable
   pub closed : next.memory.heap.begun ≡ false
-  pub blank : IsBlank next.memory.ram
+  pub blank : IsCleared next.memory.ram
   pub unselected : next.memory.registers.selected ≡ None
   pub unloaded : next.load ≡ None
 
@@ -37,22 +37,22 @@ ManagerUnselects = (card next : CardState) (bytes response : List ℕ) (c : Apdu
     AnswersCommand (Up card) bytes (Response response) (Up next) → next.memory.registers.selected ≡ None
 
 -- with the answer down the card is off; with any other it is up, and the store has refused no further write
-abbrev pub IsToldByAnswer : Answer → Power → Power → Type 0
+abbrev pub IsToldByAnswer : Answer → PowerState → PowerState → Type 0
 IsToldByAnswer Down s (Off k) = Unit {0}
 IsToldByAnswer Down s (Up card) = ⊥
-IsToldByAnswer (Response r) s (Up card) = (kept (Up card)).refused ≡ (kept s).refused
+IsToldByAnswer (Response r) s (Up card) = (durable_state (Up card)).refused ≡ (durable_state s).refused
 IsToldByAnswer (Response r) s (Off k) = ⊥
-IsToldByAnswer Ready s (Up card) = (kept (Up card)).refused ≡ (kept s).refused
+IsToldByAnswer Ready s (Up card) = (durable_state (Up card)).refused ≡ (durable_state s).refused
 IsToldByAnswer Ready s (Off k) = ⊥
 
 -- and down is told where the store has refused one more, or the card was off and is asked by a command
-abbrev pub IsToldOfRefusal : Event → Power → Power → Type 0
+abbrev pub IsToldOfRefusal : Event → PowerState → PowerState → Type 0
 IsToldOfRefusal (Command bytes) (Off k) next = next ≡ Off k
-IsToldOfRefusal event s next = (kept next).refused ≡ raised (kept s).refused 1
+IsToldOfRefusal event s next = (durable_state next).refused ≡ saturating_count (durable_state s).refused 1
 
-pub record TellsRefusals (s : Power) (event : Event) (answer : Answer) (next : Power) : Type 0 where
+pub record TellsRefusals (s : PowerState) (event : Event) (answer : Answer) (next : PowerState) : Type 0 where
   pub told : IsToldByAnswer answer s next
   pub down : answer ≡ Down → IsToldOfRefusal event s next
 
 abbrev pub DownTellsRefusals : Type 0
-DownTellsRefusals = (s : Power) (event : Event) (answer : Answer) (next : Power) → Serves s event answer next → TellsRefusals s event answer next
+DownTellsRefusals = (s : PowerState) (event : Event) (answer : Answer) (next : PowerState) → Serves s event answer next → TellsRefusals s event answer next

@@ -2,10 +2,10 @@
 use Rattle.std.specs.Prelude.{ℕ, ◌≡◌, ◌==◌, ◌&&◌, nat_le, nat_lt, Bool, true, false, List, length, slice_index}
 use Rattle.std.specs.List.{list_all}
 use Rattle.jc_words.specs.Layout.{top_address}
-use Rattle.jc_words.specs.Count.{raised}
+use Rattle.jc_words.specs.Count.{saturating_count}
 use Rattle.jc_commit.specs.Image.{IsGoodLog, recovered_of}
 use Rattle.jc_heap.specs.Heap.{HeapState, HeapView, heap_of}
-use Rattle.jc_heap.specs.Image.{base, image, missing, package_addresses}
+use Rattle.jc_heap.specs.Image.{base, image, missing_words_of_image, package_addresses}
 use Rattle.jc_card.specs.CardState.{CardState}
 
 -- what is left of a card without power: the heap that a recovery gives, and whether its words are laid; of its store, whether it is
@@ -18,26 +18,26 @@ pub record KeptState : Type 0 where
   pub size : ℕ
 
 -- a card is up, or it is off
-pub data Power : Type 0 where
-  Up : CardState → Power
-  Off : KeptState → Power
+pub data PowerState : Type 0 where
+  Up : CardState → PowerState
+  Off : KeptState → PowerState
 
 -- what a loss of power leaves of a heap, whose words are laid
-abbrev pub kept_by : HeapView → KeptState
-kept_by v = record { durable = v.durable; laid = true; down = v.down; refused = v.refused; size = v.size }
+abbrev pub durable_rest : HeapView → KeptState
+durable_rest v = record { durable = v.durable; laid = true; down = v.down; refused = v.refused; size = v.size }
 
 -- what a loss of power leaves now
-abbrev pub kept : Power → KeptState
-kept (Up card) = kept_by card.memory.heap
-kept (Off k) = k
+abbrev pub durable_state : PowerState → KeptState
+durable_state (Up card) = durable_rest card.memory.heap
+durable_state (Off k) = k
 
 -- one more write was refused
-abbrev pub refused_once : KeptState → KeptState
-refused_once k = record { durable = k.durable; laid = k.laid; down = true; refused = raised k.refused 1; size = k.size }
+abbrev pub with_refusal : KeptState → KeptState
+with_refusal k = record { durable = k.durable; laid = k.laid; down = true; refused = saturating_count k.refused 1; size = k.size }
 
 -- the power is back
-abbrev pub powered_on : KeptState → KeptState
-powered_on k = record { durable = k.durable; laid = k.laid; down = false; refused = k.refused; size = k.size }
+abbrev pub with_power : KeptState → KeptState
+with_power k = record { durable = k.durable; laid = k.laid; down = false; refused = k.refused; size = k.size }
 
 -- the words of a store, whether it is down, and how many writes it has refused
 pub record StoreState : Type 0 where
@@ -47,15 +47,21 @@ pub record StoreState : Type 0 where
 
 -- whether words are laid: the top is not below the places that every heap has nor above the words, the records reach up to it, and no
 -- package stands at or above it
-unfoldable pub is_laid : List ℕ → Bool
-is_laid words = nat_le (base (image words)) (slice_index words top_address) && (nat_le (slice_index words top_address) (length words)
-    && (missing (image words) == 0 && list_all (λ a. nat_lt a (slice_index words top_address)) (package_addresses (image words))))
+unfoldable pub is_well_formed : List ℕ → Bool
+is_well_formed words = nat_le (base (image words)) (slice_index words top_address) && (nat_le (slice_index words top_address) (length words)
+    && (missing_words_of_image (image words) == 0 && list_all (λ a. nat_lt a (slice_index words top_address)) (package_addresses (image words))))
 
 -- what is left of a card in its store
-abbrev pub kept_in : StoreState → KeptState
-kept_in store = record { durable = heap_of (recovered_of store.words); laid = is_laid (recovered_of store.words); down = store.down; refused = store.refused; size = length store.words }
+abbrev pub durable_state_in_store : StoreState → KeptState
+durable_state_in_store store = record {
+  durable = heap_of (recovered_of store.words);
+  laid = is_well_formed (recovered_of store.words);
+  down = store.down;
+  refused = store.refused;
+  size = length store.words;
+}
 
 -- the store of a card that is so: a recovery of its words gives the durable heap
-pub record IsStoreOf (s : Power) (store : StoreState) : Type 0 where
+pub record IsStoreOf (s : PowerState) (store : StoreState) : Type 0 where
   pub good : IsGoodLog store.words
-  pub kept : kept_in store ≡ kept s
+  pub kept : durable_state_in_store store ≡ durable_state s

@@ -1,22 +1,23 @@
 -- What a card answers to commands and resets, and what becomes of it.
 use Rattle.std.specs.Prelude.{ℕ, ◌≡◌, true, List, [], ◌∷◌}
-use Rattle.jc_words.specs.Count.{raised}
-use Rattle.jc_memory.specs.Doing.{Did, LeftBy}
-use Rattle.jc_card.specs.Answers.{exchanging}
-use Rattle.jc_card.specs.Dispatching.{answered}
+use Rattle.jc_words.specs.Count.{saturating_count}
+use Rattle.jc_memory.specs.Programs.{Completes, TearLeaves}
+use Rattle.jc_card.specs.Answers.{exchange}
+use Rattle.jc_card.specs.Dispatching.{with_response}
 use Rattle.jc_session.specs.declared.event.Event.{Event}
 use Rattle.jc_session.specs.declared.event.Event.TheVariants.{Command, Reset}
 use Rattle.jc_session.specs.declared.event.Answer.{Answer}
 use Rattle.jc_session.specs.declared.event.Answer.TheVariants.{Response, Ready, Down}
-use Rattle.jc_session.specs.Power.{Power, Up, Off, kept, refused_once}
+use Rattle.jc_session.specs.Power.{PowerState, Up, Off, durable_state, with_refusal}
 use Rattle.jc_session.specs.Starting.{IsPoweredUp}
 
 -- a command may be answered so, and lead there
-abbrev pub AnswersCommand : Power → List ℕ → Answer → Power → Type 0
+abbrev pub AnswersCommand : PowerState → List ℕ → Answer → PowerState → Type 0
 -- no write was refused: all of it was done
-AnswersCommand (Up card) bytes (Response r) (Up next) = Did (exchanging bytes card) card.memory (answered next r) next.memory
+AnswersCommand (Up card) bytes (Response r) (Up next) = Completes (exchange bytes card) card.memory (with_response next r) next.memory
 -- a write was refused within it: this heap a loss within it may leave, laid in a store of the same size
-AnswersCommand (Up card) bytes Down (Off k) = LeftBy (exchanging bytes card) card.memory k.durable × (k.down ≡ true) × (k.refused ≡ raised card.memory.heap.refused 1) × (k.size ≡ card.memory.heap.size) × (k.laid ≡ true)
+AnswersCommand (Up card) bytes Down (Off k) = TearLeaves (exchange bytes card) card.memory k.durable × (k.down ≡ true)
+    × (k.refused ≡ saturating_count card.memory.heap.refused 1) × (k.size ≡ card.memory.heap.size) × (k.laid ≡ true)
 -- without power nothing is done
 AnswersCommand (Off k) bytes Down (Off l) = l ≡ k
 AnswersCommand (Up card) bytes (Response r) (Off k) = ⊥
@@ -27,23 +28,23 @@ AnswersCommand (Off k) bytes Ready next = ⊥
 AnswersCommand (Off k) bytes Down (Up next) = ⊥
 
 -- a reset may be answered so, and lead there, whether the card was up or off
-abbrev pub AnswersReset : Power → Answer → Power → Type 0
+abbrev pub AnswersReset : PowerState → Answer → PowerState → Type 0
 -- no write was refused
-AnswersReset s Ready (Up card) = IsPoweredUp (kept s) card
+AnswersReset s Ready (Up card) = IsPoweredUp (durable_state s) card
 -- a write was refused: the same is left
-AnswersReset s Down (Off k) = k ≡ refused_once (kept s)
+AnswersReset s Down (Off k) = k ≡ with_refusal (durable_state s)
 AnswersReset s Ready (Off k) = ⊥
 AnswersReset s Down (Up card) = ⊥
 AnswersReset s (Response r) next = ⊥
 
 -- an event may be answered so, and lead there
-abbrev pub Serves : Power → Event → Answer → Power → Type 0
+abbrev pub Serves : PowerState → Event → Answer → PowerState → Type 0
 Serves s (Command bytes) answer next = AnswersCommand s bytes.items answer next
 Serves s Reset answer next = AnswersReset s answer next
 
 -- these events may be answered so, one after another, from one state to the other
-abbrev pub SessionRun : Power → List Event → List Answer → Power → Type 0
+abbrev pub SessionRun : PowerState → List Event → List Answer → PowerState → Type 0
 SessionRun s [] [] last = last ≡ s
-SessionRun s (event ∷ events) (answer ∷ answers) last = (next : Power) × Serves s event answer next × SessionRun next events answers last
+SessionRun s (event ∷ events) (answer ∷ answers) last = (next : PowerState) × Serves s event answer next × SessionRun next events answers last
 SessionRun s [] (answer ∷ answers) last = ⊥
 SessionRun s (event ∷ events) [] last = ⊥

@@ -1,35 +1,36 @@
 -- Powering up: at the beginning, over whatever words a store has, and at a reset.
 use Rattle.std.specs.Prelude.{◌≡◌, false, length}
-use Rattle.jc_heap.specs.Heap.{resting}
+use Rattle.jc_heap.specs.Heap.{heap_at_rest}
 use Rattle.jc_card.specs.CardState.{CardState}
 use Rattle.jc_card.specs.Made.{IsCardHeap, IsMade}
-use Rattle.jc_card.specs.PowerUp.{Refuses, Stands}
+use Rattle.jc_card.specs.PowerUp.{PowerUpRefuses, RefusalLeaves}
 use Rattle.jc_card.specs.Reset.{IsAtReset}
 use Rattle.jc_card.specs.declared.power_up.PowerFault.{PowerFault}
 use Rattle.jc_card.specs.declared.power_up.PowerFault.TheVariants.{StoreDown}
-use Rattle.jc_session.specs.Power.{Power, Up, Off, KeptState, StoreState, IsStoreOf, kept, kept_in, powered_on, refused_once}
+use Rattle.jc_session.specs.Power.{PowerState, Up, Off, KeptState, StoreState, IsStoreOf, durable_state, durable_state_in_store, with_power, with_refusal}
 
 -- the card of what was left: its heap is the durable one, at rest, and all else is as after a reset
 pub record IsPoweredUp (k : KeptState) (card : CardState) : Type 0 where
   pub made : IsCardHeap k.size k.durable
-  pub heap : card.memory.heap ≡ resting k.durable card.memory.heap.passed k.refused k.size
+  pub heap : card.memory.heap ≡ heap_at_rest k.durable card.memory.heap.passed k.refused k.size
   pub reset : IsAtReset k.durable card
 
 -- a power up over a store ends so: the card is up, over words that the product makes; or a write was refused
-abbrev pub Starts : StoreState → Power → Type 0
-Starts store (Up card) = IsMade store.words × IsPoweredUp (kept_in store) card
-Starts store (Off k) = Refuses StoreDown store.words × (k ≡ refused_once (kept_in store))
+abbrev pub Starts : StoreState → PowerState → Type 0
+Starts store (Up card) = IsMade store.words × IsPoweredUp (durable_state_in_store store) card
+Starts store (Off k) = PowerUpRefuses StoreDown store.words × (k ≡ with_refusal (durable_state_in_store store))
 
 -- a power up over a store finds this fault, which its words have and which is not that a write was refused; the words that
 -- it leaves are these
 pub record FailsToStart (fault : PowerFault) (before after : StoreState) : Type 0 where
-  pub cause : Refuses fault before.words
+  pub cause : PowerUpRefuses fault before.words
   pub other : fault ≡ StoreDown → ⊥
-  pub stands : Stands fault before.words after.words
+  pub stands : RefusalLeaves fault before.words after.words
   pub size : length after.words ≡ length before.words
   pub up : after.down ≡ false
   pub refused : after.refused ≡ before.refused
 
 -- a reset of a card that is so finds this fault, which the words of its store have; what was left of it stays, with the power on
-abbrev pub FailsToReset : PowerFault → Power → StoreState → Type 0
-FailsToReset fault s after = (before : StoreState) × IsStoreOf s before × Refuses fault before.words × (fault ≡ StoreDown → ⊥) × IsStoreOf (Off (powered_on (kept s))) after
+abbrev pub FailsToReset : PowerFault → PowerState → StoreState → Type 0
+FailsToReset fault s after = (before : StoreState) × IsStoreOf s before × PowerUpRefuses fault before.words × (fault ≡ StoreDown → ⊥)
+    × IsStoreOf (Off (with_power (durable_state s))) after

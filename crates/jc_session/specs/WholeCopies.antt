@@ -1,21 +1,21 @@
 -- Sessions without power loss: a card that keeps whole copies of its heap, the present and the durable one.
 use Rattle.std.specs.Prelude.{ℕ, ◌≡◌, ◌<◌, List, [], ◌∷◌}
-use Rattle.jc_memory.specs.Doing.{Did}
-use Rattle.jc_card.specs.Answers.{exchanging}
+use Rattle.jc_memory.specs.Programs.{Completes}
+use Rattle.jc_card.specs.Answers.{exchange}
 use Rattle.jc_card.specs.CardState.{CardState}
-use Rattle.jc_card.specs.Dispatching.{answered}
+use Rattle.jc_card.specs.Dispatching.{with_response}
 use Rattle.jc_session.specs.declared.event.Event.{Event}
 use Rattle.jc_session.specs.declared.event.Event.TheVariants.{Command, Reset}
 use Rattle.jc_session.specs.declared.event.Answer.{Answer}
 use Rattle.jc_session.specs.declared.event.Answer.TheVariants.{Response, Ready, Down}
-use Rattle.jc_session.specs.Power.{Up, StoreState, IsStoreOf, kept_by, kept_in}
+use Rattle.jc_session.specs.Power.{Up, StoreState, IsStoreOf, durable_rest, durable_state_in_store}
 use Rattle.jc_session.specs.Starting.{IsPoweredUp}
 
 -- such a card answers an event so, and is then so: a command by all of what it may do to the copies, a reset by making the
 -- durable copy the present one
 abbrev pub ServesWhole : CardState → Event → Answer → CardState → Type 0
-ServesWhole card (Command bytes) (Response r) next = Did (exchanging bytes.items card) card.memory (answered next r) next.memory
-ServesWhole card Reset Ready next = IsPoweredUp (kept_by card.memory.heap) next
+ServesWhole card (Command bytes) (Response r) next = Completes (exchange bytes.items card) card.memory (with_response next r) next.memory
+ServesWhole card Reset Ready next = IsPoweredUp (durable_rest card.memory.heap) next
 ServesWhole card (Command bytes) Ready next = ⊥
 ServesWhole card (Command bytes) Down next = ⊥
 ServesWhole card Reset (Response r) next = ⊥
@@ -34,4 +34,5 @@ RefusesNone before after = (before < 18446744073709551615) × (after ≡ before)
 
 -- a session of such a card over a store, from its power up on: it is answered so, and leaves such a store
 abbrev pub IsWholeSession : StoreState → List Event → List Answer → StoreState → Type 0
-IsWholeSession before events answers after = (first last : CardState) × IsPoweredUp (kept_in before) first × RunsWhole first events answers last × IsStoreOf (Up last) after
+IsWholeSession before events answers after = (first last : CardState) × IsPoweredUp (durable_state_in_store before) first × RunsWhole first events answers last
+    × IsStoreOf (Up last) after

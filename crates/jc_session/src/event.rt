@@ -10,7 +10,7 @@ pub enum Event {
     Reset,
 }
 
-/// What is answered.
+/// The answer to an event: a response, or whether the card is up after a reset.
 #[derive(Drop)]
 pub enum Answer {
     /// To a command: the card's response.

@@ -2,12 +2,12 @@
 #![tactic(auto)]
 
 pub mod event;
-pub mod held;
-mod law;
 pub mod session;
+mod session_laws;
+pub mod state;
 
 pub use jc_card as card;
-pub use law::{
+pub use session_laws::{
     a_reset_begins_anew, down_is_answered_for_a_refused_write, selecting_the_manager_unselects,
     sessions_are_those_of_whole_copies,
 };

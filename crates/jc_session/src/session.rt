@@ -4,7 +4,7 @@ ghost use Rattle.jc_session.specs.Sessions.{SessionEnds, answers_of};
 ghost use Rattle.jc_session.specs.WholeCopies.{IsWholeSession, RefusesNone};
 
 use crate::event::{Answer, Event};
-use crate::held::Held;
+use crate::state::SessionState;
 use jc_card::power_up::PowerFault;
 use jc_words::WordStore;
 use std::alloc::Global;
@@ -28,18 +28,33 @@ pub fn session<S: WordStore>(
     store: S,
     events: &[Event],
 ) -> (S, Result<Vec<Answer>, SessionFault>)
-    ensures session { SessionEnds (answers_of result.1) (record { words = S.words store; down = S.down store; refused = S.refused store }) events.now
-        (record { words = S.words result.0; down = S.down result.0; refused = S.refused result.0 }) }
+    ensures session { SessionEnds (answers_of result.1)
+        (record { words = S.words store; down = S.down store; refused = S.refused store })
+        events.now
+        (record {
+          words = S.words result.0;
+          down = S.down result.0;
+          refused = S.refused result.0;
+        }) }
     // While the store refuses no write, the answers and the heap are those of a card that keeps whole copies of its heap.
-    ensures whole { RefusesNone (S.refused store) (S.refused result.0) → IfOk (answers_of result.1) (λ answers.
-        IsWholeSession (record { words = S.words store; down = S.down store; refused = S.refused store }) events.now answers
-        (record { words = S.words result.0; down = S.down result.0; refused = S.refused result.0 })) }
+    ensures whole { RefusesNone (S.refused store) (S.refused result.0)
+        → IfOk (answers_of result.1) (λ answers.
+        IsWholeSession (record {
+          words = S.words store;
+          down = S.down store;
+          refused = S.refused store;
+        }) events.now answers
+        (record {
+          words = S.words result.0;
+          down = S.down result.0;
+          refused = S.refused result.0;
+        })) }
 {
     let Ok(room) = Vec::with_capacity(alloc, events.len()) else {
         return (store, Err(SessionFault::NoMemory));
     };
     let mut answers = room;
-    let mut held = match Held::start(alloc, store) {
+    let mut held = match SessionState::start(alloc, store) {
         Ok(held) => held,
         Err((fault, store)) => return (store, Err(SessionFault::PowerFault(fault))),
     };

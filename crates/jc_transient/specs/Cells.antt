@@ -5,9 +5,9 @@ use Rattle.jc_transient.specs.declared.cell.CellValue.{CellValue}
 use Rattle.jc_transient.specs.declared.cell.CellValue.TheVariants.{Short, Reference}
 
 -- the value of a cell once it is cleared
-abbrev pub cleared : CellValue → CellValue
-cleared (Short v) = Short (pos 0)
-cleared (Reference r) = Reference 0
+abbrev pub default_value : CellValue → CellValue
+default_value (Short v) = Short (pos 0)
+default_value (Reference r) = Reference 0
 
 -- the value, or null where it refers to an object at or above the top
 abbrev pub without_dead : ℕ → CellValue → CellValue
@@ -25,4 +25,4 @@ low_byte (Reference r) = 0
 
 -- the cells from this place on are as a clearing leaves them
 abbrev pub AreClearedFrom : ℕ → List CellValue → Type 0
-AreClearedFrom place cells = map cleared (drop place cells) ≡ drop place cells
+AreClearedFrom place cells = map default_value (drop place cells) ≡ drop place cells

@@ -53,7 +53,7 @@ abbrev pub flag_of : RamState → ℕ → Bool
 flag_of s r = slice_index_or s.flags r false
 
 -- each cell is zero and each flag is false
-pub record IsBlank (s : RamState) : Type 0 where
+pub record IsCleared (s : RamState) : Type 0 where
   pub sizes : HasSizes s
   pub cells : (event : ClearEvent) (place : ℕ) → cell_at s event place ≡ Short (pos 0)
   pub flags : (r : ℕ) → flag_of s r ≡ false

@@ -1,6 +1,6 @@
 //! The cells of one area.
 ghost use Rattle.std.specs.Prelude.{◌≡◌, ◌<◌, ◌≤◌, ◌+◌, ℕ, ◌++◌, length, map, replicate, take, drop, pos, IfOk, vec_len, slice_index_or, slice_set};
-ghost use Rattle.jc_transient.specs.Cells.{cleared, without_dead, number_of};
+ghost use Rattle.jc_transient.specs.Cells.{default_value, without_dead, number_of};
 ghost use Rattle.jc_transient.specs.State.{with_cells};
 
 use crate::cell::CellValue;
@@ -23,14 +23,16 @@ impl Model for Area {
 
     ghost view = { λ a. a.cells.items };
 
-    ghost invariant = { λ a. (a.used ≤ length a.cells.items) × AreClearedFrom a.used a.cells.items };
+    ghost invariant = { λ a. (a.used ≤ length a.cells.items)
+        × AreClearedFrom a.used a.cells.items };
 }
 
 impl Area {
     /// So many cells, each zero.
     pub(crate) fn new(alloc: Global, count: usize) -> Result<Area, AllocError>
         ensures len { IfOk result (λ area. length area ≡ count) }
-        ensures zero { IfOk result (λ area. (k : ℕ) → slice_index_or area k (CellValue.Short (pos 0)) ≡ CellValue.Short (pos 0)) }
+        ensures zero { IfOk result (λ area. (k : ℕ) → slice_index_or area k
+            (CellValue.Short (pos 0)) ≡ CellValue.Short (pos 0)) }
     {
         Ok(Area {
             cells: zero_cells(alloc, count)?,
@@ -75,7 +77,7 @@ impl Area {
         self.used = self.used.max(place + bytes.len());
     }
 
-    /// The same for words.
+    /// Puts words into the cells, from a place on.
     pub(crate) fn put_words(&mut self, place: usize, words: &[u16])
         requires { place + length words.now ≤ length self.old }
         ensures { self.new ≡ with_cells self.old place (map number_of words.now) }
@@ -86,7 +88,7 @@ impl Area {
 
     /// Clears the cells.
     pub(crate) fn clear(&mut self)
-        ensures { self.new ≡ map cleared self.old }
+        ensures { self.new ≡ map default_value self.old }
     {
         clear_cells(self.cells.as_mut_slice(), self.used);
         self.used = 0;
@@ -103,7 +105,8 @@ impl Area {
 // So many cells, each zero.
 fn zero_cells(alloc: Global, count: usize) -> Result<Vec<CellValue>, AllocError>
     ensures len { IfOk result (λ cells. vec_len cells ≡ count) }
-    ensures zero { IfOk result (λ cells. (k : ℕ) → slice_index_or cells.items k (CellValue.Short (pos 0)) ≡ CellValue.Short (pos 0)) }
+    ensures zero { IfOk result (λ cells. (k : ℕ) → slice_index_or cells.items k
+        (CellValue.Short (pos 0)) ≡ CellValue.Short (pos 0)) }
     ensures all { IfOk result (λ cells. cells.items ≡ replicate count (CellValue.Short (pos 0))) }
 {
     let cells = vec![in alloc; CellValue::Short(0); count]?;
@@ -122,10 +125,10 @@ fn fill_cells(cells: &mut [CellValue], place: usize, count: usize, value: &CellV
 // Clears the first so many cells.
 fn clear_cells(cells: &mut [CellValue], count: usize)
     requires { count ≤ length cells.old }
-    ensures { cells.new ≡ map cleared (take count cells.old) ++ drop count cells.old }
+    ensures { cells.new ≡ map default_value (take count cells.old) ++ drop count cells.old }
 {
     for k in 0..count {
-        cells[k] = cells[k].cleared();
+        cells[k] = cells[k].default_value();
     }
 }
 

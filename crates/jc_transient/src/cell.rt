@@ -1,6 +1,6 @@
 //! Values of cells.
 ghost use Rattle.std.specs.Prelude.{◌≡◌};
-ghost use Rattle.jc_transient.specs.Cells.{cleared, without_dead, number_of, low_byte};
+ghost use Rattle.jc_transient.specs.Cells.{default_value, without_dead, number_of, low_byte};
 
 use crate::Ref;
 
@@ -24,8 +24,8 @@ pub enum ClearEvent {
 
 impl CellValue {
     /// The value of the cell once it is cleared: zero, or null.
-    pub const fn cleared(self) -> CellValue
-        ensures { result ≡ cleared self }
+    pub const fn default_value(self) -> CellValue
+        ensures { result ≡ default_value self }
     {
         match self {
             CellValue::Short(_) => CellValue::Short(0),
@@ -56,7 +56,7 @@ impl CellValue {
         CellValue::Short(byte as i16)
     }
 
-    /// A word as a number.
+    /// The number whose 16 bits the word is.
     pub const fn of_word(word: u16) -> CellValue
         ensures { result ≡ number_of word }
     {

@@ -1,12 +1,15 @@
 //! What a card keeps in memory: cells of transient objects, flags of objects, the APDU buffer. None
 //! of it outlives a loss of power, and no abort of a transaction changes it.
+//! Classes and owners, as the words of an image name them.
 #![tactic(auto)]
 
 mod area;
 mod cell;
+mod header_words;
 mod ram;
 mod reference;
 
 pub use cell::{CellValue, ClearEvent};
+pub use header_words::{ClassWord, NO_CLASS, OwnerWord, RUNTIME_ENVIRONMENT};
 pub use ram::{AREA_CELLS, BUFFER_CELLS, BUFFER_PLACE, Ram};
 pub use reference::Ref;

@@ -1,7 +1,9 @@
 //! The contents of memory.
-ghost use Rattle.std.specs.Prelude.{◌≡◌, ◌<◌, ◌≤◌, ◌+◌, Bool, ℕ, List, false, length, map, replicate, take, drop, ◌++◌, pos, IfOk, vec_len, slice_index_or, slice_set};
-ghost use Rattle.jc_transient.specs.Cells.{cleared, without_dead, number_of, low_byte};
-ghost use Rattle.jc_transient.specs.State.{area_size, flag_count, buffer_size, buffer_place, HasSizes, IsBlank, area, with_area, cell_at, flag_of, with_cells, with_buffer_bytes};
+ghost use Rattle.std.specs.Prelude.{◌≡◌, ◌<◌, ◌≤◌, ◌+◌, Bool, ℕ, List, false, length, map, replicate, take, drop, ◌++◌, pos, IfOk, vec_len, slice_index_or};
+ghost use Rattle.std.specs.Prelude.{slice_set};
+ghost use Rattle.jc_transient.specs.Cells.{default_value, without_dead, number_of, low_byte};
+ghost use Rattle.jc_transient.specs.State.{area_size, flag_count, buffer_size, buffer_place, HasSizes, IsCleared, area, with_area, cell_at, flag_of};
+ghost use Rattle.jc_transient.specs.State.{with_cells, with_buffer_bytes};
 
 use crate::area::Area;
 use crate::cell::{CellValue, ClearEvent};
@@ -34,15 +36,23 @@ impl Model for Ram {
 
     ghost Value = { RamState };
 
-    ghost view = { λ r. record { reset_cells = r.reset_cells; deselect_cells = r.deselect_cells; flags = r.flags.items } };
+    ghost view = { λ r. record {
+      reset_cells = r.reset_cells;
+      deselect_cells = r.deselect_cells;
+      flags = r.flags.items;
+    } };
 
-    ghost invariant = { λ r. HasSizes (record { reset_cells = r.reset_cells; deselect_cells = r.deselect_cells; flags = r.flags.items }) };
+    ghost invariant = { λ r. HasSizes (record {
+      reset_cells = r.reset_cells;
+      deselect_cells = r.deselect_cells;
+      flags = r.flags.items;
+    }) };
 }
 
 impl Ram {
     /// Memory in which each cell is zero and each flag is false. Nothing else here takes memory.
     pub fn new(alloc: Global) -> Result<Ram, AllocError>
-        ensures { IfOk result IsBlank }
+        ensures { IfOk result IsCleared }
     {
         Ok(Ram {
             reset_cells: Area::new(alloc, AREA_CELLS as usize)?,
@@ -67,7 +77,8 @@ impl Ram {
     #[inline(always)]
     pub fn set(&mut self, event: ClearEvent, place: u16, value: CellValue)
         requires { place < area_size }
-        ensures done { self.new ≡ with_area self.old event (slice_set (area self.old event) place value) }
+        ensures done { self.new ≡ with_area self.old event
+            (slice_set (area self.old event) place value) }
         ensures sizes { HasSizes self.new }
     {
         match event {
@@ -79,7 +90,8 @@ impl Ram {
     /// Sets so many cells from a place on, as the maker of a new object does.
     pub fn fill(&mut self, event: ClearEvent, place: u16, count: u16, value: CellValue)
         requires { place + count ≤ area_size }
-        ensures done { self.new ≡ with_area self.old event (with_cells (area self.old event) place (replicate count value)) }
+        ensures done { self.new ≡ with_area self.old event
+            (with_cells (area self.old event) place (replicate count value)) }
         ensures sizes { HasSizes self.new }
     {
         let (place, count) = (place as usize, count as usize);
@@ -92,7 +104,8 @@ impl Ram {
     /// Puts bytes, each as a number, into the cells from a place on.
     pub fn put_bytes(&mut self, event: ClearEvent, place: u16, bytes: &[u8])
         requires { place + length bytes.now ≤ area_size }
-        ensures done { self.new ≡ with_area self.old event (with_cells (area self.old event) place (map number_of bytes.now)) }
+        ensures done { self.new ≡ with_area self.old event
+            (with_cells (area self.old event) place (map number_of bytes.now)) }
         ensures sizes { HasSizes self.new }
     {
         match event {
@@ -101,10 +114,11 @@ impl Ram {
         }
     }
 
-    /// The same for words.
+    /// Puts words into the cells of an event, from a place on.
     pub fn put_words(&mut self, event: ClearEvent, place: u16, words: &[u16])
         requires { place + length words.now ≤ area_size }
-        ensures done { self.new ≡ with_area self.old event (with_cells (area self.old event) place (map number_of words.now)) }
+        ensures done { self.new ≡ with_area self.old event
+            (with_cells (area self.old event) place (map number_of words.now)) }
         ensures sizes { HasSizes self.new }
     {
         match event {
@@ -122,7 +136,8 @@ impl Ram {
 
     /// Sets the flag of an object.
     pub fn set_flag(&mut self, object: Ref, value: bool)
-        ensures done { self.new ≡ record self.old { flags = slice_set self.old.flags object value } }
+        ensures done { self.new ≡ record self.old
+            { flags = slice_set self.old.flags object value } }
         ensures set { flag_of self.new object ≡ value }
         ensures sizes { HasSizes self.new }
     {
@@ -132,7 +147,8 @@ impl Ram {
 
     /// Clears the cells of an event's area: numbers become zero and references null.
     pub fn clear(&mut self, event: ClearEvent)
-        ensures done { self.new ≡ with_area self.old event (map cleared (area self.old event)) }
+        ensures done { self.new ≡ with_area self.old event
+            (map default_value (area self.old event)) }
         ensures sizes { HasSizes self.new }
     {
         match event {
@@ -151,13 +167,6 @@ impl Ram {
     {
         self.reset_cells.null_dead(top);
         self.deselect_cells.null_dead(top);
-    }
-
-    /// How many bytes the APDU buffer holds, one in each of its cells.
-    pub fn buffer_cells() -> u16
-        ensures { result ≡ buffer_size }
-    {
-        BUFFER_CELLS
     }
 
     /// A byte of the APDU buffer.

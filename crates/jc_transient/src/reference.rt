@@ -35,7 +35,7 @@ impl Ref {
         Ref(address)
     }
 
-    /// The address.
+    /// The word address of the object; 0 for null.
     #[inline(always)]
     pub const fn address(self) -> u16
         ensures { result ≡ self }

@@ -1,7 +1,7 @@
 -- Each class is a subtype of itself.
 use Rattle.std.proofs.Common.{ℕ, ◌≡◌, ◌==◌, true, refl, arith}
-use Rattle.jc_packages.specs.Values.{Packages}
-use Rattle.jc_packages.specs.Classes.{is_below, any_is, lineage_from}
+use Rattle.jc_linker.specs.Values.{Packages}
+use Rattle.jc_linker.specs.Classes.{is_below, any_is, lineage_from}
 
 itself : (n : ℕ) → (n == n) ≡ true
 itself n = grind arith

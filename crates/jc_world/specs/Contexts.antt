@@ -1,6 +1,8 @@
 -- Contexts: to whom objects belong, for whom code runs, and what the firewall answers.
-use Rattle.std.specs.Prelude.{ℕ, ◌+◌, ◌*◌, ◌-◌, ◌%◌, ◌==◌, ◌&&◌, nat_lt, nat_le, Bool, true, false, not, slice_index, Option, Some, None, Result, Ok, Err, if◌then◌else◌}
+use Rattle.std.specs.Prelude.{ℕ, ◌+◌, ◌*◌, ◌-◌, ◌%◌, ◌==◌, ◌&&◌, nat_lt, nat_le, Bool, true, false, not, slice_index, Option, Some, None, Result, Ok, Err}
+use Rattle.std.specs.Prelude.{if◌then◌else◌}
 use Rattle.jc_words.specs.Layout.{most_applets}
+use Rattle.jc_heap.specs.RegistryLayout.{entry_start, entry_package}
 use Rattle.jc_transient.specs.declared.cell.ClearEvent.{ClearEvent}
 use Rattle.jc_transient.specs.declared.cell.ClearEvent.TheVariants.{Reset, Deselect}
 use Rattle.jc_heap.specs.declared.object.Facts.{Facts}
@@ -15,8 +17,8 @@ use Rattle.jc_memory.specs.Owners.{owner_of}
 use Rattle.jc_memory.specs.State.{MemoryState}
 use Rattle.jc_platform.specs.declared.names.PlatformClass.TheVariants.{Aid}
 use Rattle.jc_platform.specs.Distinct.{class_word}
-use Rattle.jc_packages.specs.Values.{Packages}
-use Rattle.jc_packages.specs.Classes.{is_shareable}
+use Rattle.jc_linker.specs.Values.{Packages}
+use Rattle.jc_linker.specs.Classes.{is_shareable}
 use Rattle.jc_firewall.specs.declared.access.Access.{Access}
 use Rattle.jc_firewall.specs.declared.access.Access.TheVariants.{ShareableInterfaceCall, CastToShareableInterface}
 use Rattle.jc_firewall.specs.declared.decide.Decision.{Decision}
@@ -29,8 +31,8 @@ use Rattle.jc_firewall.specs.declared.subject.Subject.{Subject}
 use Rattle.jc_firewall.specs.declared.subject.Situation.{Situation}
 use Rattle.jc_firewall.specs.Table.{decision}
 use Rattle.jc_frames.specs.declared.outcome.Exception.TheVariants.{SecurityException}
-use Rattle.jc_frames.specs.declared.outcome.Stop.{Stop}
-use Rattle.jc_frames.specs.declared.outcome.Stop.TheVariants.{Throw}
+use Rattle.jc_frames.specs.declared.outcome.FrameExit.{FrameExit}
+use Rattle.jc_frames.specs.declared.outcome.FrameExit.TheVariants.{Throw}
 
 -- the package of the applet that is being installed; 0, where none is
 abbrev pub installed_package : Installation → ℕ
@@ -40,7 +42,8 @@ installed_package (Registered p) = p.0
 
 -- the package of an applet instance: the registry says it, and of the applet that is not registered yet its installation
 unfoldable pub package_of_applet : MemoryState → ℕ → ℕ
-package_of_applet m a = if not (a == 0) && nat_le a most_applets && nat_le a m.heap.now.counts.1 then slice_index m.heap.now.applets (3 * (a - 1) + 1) else installed_package m.registers.installation
+package_of_applet m a = if not (a == 0) && nat_le a most_applets && nat_le a m.heap.now.counts.1 then slice_index m.heap.now.applets
+    (entry_start (a - 1) + entry_package) else installed_package m.registers.installation
 
 -- the context of an owner: all applets of a package share one with it
 abbrev pub context_of : MemoryState → Owner → Context
@@ -71,48 +74,48 @@ abbrev pub designation_of : Packages → Facts → Designation
 designation_of p f = if f.owner == 0 then own_designation p f.kind f.class else Ordinary
 
 -- an instance is of a class with an interface that extends Shareable
-abbrev pub shares : Packages → Kind → ℕ → Bool
-shares p Instance class = is_shareable p class
-shares p BooleanArray class = false
-shares p ByteArray class = false
-shares p ShortArray class = false
-shares p ReferenceArray class = false
+abbrev pub is_shareable_instance : Packages → Kind → ℕ → Bool
+is_shareable_instance p Instance class = is_shareable p class
+is_shareable_instance p BooleanArray class = false
+is_shareable_instance p ByteArray class = false
+is_shareable_instance p ShortArray class = false
+is_shareable_instance p ReferenceArray class = false
 
 -- cleared as its applet is deselected
-abbrev pub is_for_selection : Option ClearEvent → Bool
-is_for_selection None = false
-is_for_selection (Some Reset) = false
-is_for_selection (Some Deselect) = true
+abbrev pub has_deselect_event : Option ClearEvent → Bool
+has_deselect_event None = false
+has_deselect_event (Some Reset) = false
+has_deselect_event (Some Deselect) = true
 
 -- what the firewall sees of an object
 unfoldable pub subject_of : Packages → MemoryState → Facts → Subject
 subject_of p m f = record {
   owner = context_of m (owner_of f.owner);
   designation = designation_of p f;
-  has_shareable_interface = shares p f.kind f.class;
-  is_clear_on_deselect = is_for_selection f.event;
+  has_shareable_interface = is_shareable_instance p f.kind f.class;
+  is_clear_on_deselect = has_deselect_event f.event;
 }
 
 -- the rules on an access ask for the object's shareable interfaces
-abbrev pub asks_sharing : Access → Bool
-asks_sharing ShareableInterfaceCall = true
-asks_sharing CastToShareableInterface = true
-asks_sharing a = false
+abbrev pub needs_shareable : Access → Bool
+needs_shareable ShareableInterfaceCall = true
+needs_shareable CastToShareableInterface = true
+needs_shareable a = false
 
 -- an access to an object by the code that runs
 unfoldable pub situation_of : Packages → MemoryState → Facts → Situation
 situation_of p m f = record { active = context_of m m.registers.active; selected = selected_context m; object = subject_of p m f }
 
 -- what the firewall answers to it
-unfoldable pub decided : Access → Packages → MemoryState → Facts → Decision
-decided access p m f = decision access (situation_of p m f)
+unfoldable pub firewall_decision : Access → Packages → MemoryState → Facts → Decision
+firewall_decision access p m f = decision access (situation_of p m f)
 
 -- a refused access throws
-abbrev pub unless_denied : Decision → Result (Unit {0}) Stop
+abbrev pub unless_denied : Decision → Result (Unit {0}) FrameExit
 unless_denied Allow = Ok tt
 unless_denied (Switch c) = Ok tt
 unless_denied (Deny rule) = Err (Throw SecurityException)
 
 -- an access is allowed, or throws
-abbrev pub allowed : Access → Packages → MemoryState → Facts → Result (Unit {0}) Stop
-allowed access p m f = unless_denied (decided access p m f)
+abbrev pub firewall_check : Access → Packages → MemoryState → Facts → Result (Unit {0}) FrameExit
+firewall_check access p m f = unless_denied (firewall_decision access p m f)

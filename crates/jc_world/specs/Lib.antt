@@ -1,5 +1,12 @@
-pub mod Stops
+pub mod StepExits
 pub mod Contexts
 pub mod Objects
-pub mod Groups
-pub mod Calls
+pub mod Instructions
+pub mod NativeCalls
+pub mod Values
+pub mod Types
+pub mod Making
+pub mod Numbers
+pub mod Answers
+pub mod Arrays
+pub mod Instances

@@ -1,25 +1,26 @@
 //! Contexts: to whom objects belong, for whom code runs, and what the firewall answers.
 ghost use Rattle.std.specs.Prelude.{◌≡◌, false, true};
-ghost use Rattle.jc_firewall.specs.Situation.{has_time};
+ghost use Rattle.jc_firewall.specs.Situation.{is_live_transient};
 ghost use Rattle.jc_firewall.specs.declared.access.Access.TheVariants.{ArrayElement};
 ghost use Rattle.jc_firewall.specs.declared.decide.Decision.TheVariants.{Allow};
 ghost use Rattle.jc_world.specs.Objects.{is_instance};
 ghost use Rattle.jc_memory.specs.Owners.{owner_of};
 ghost use Rattle.jc_memory.specs.State.{MemoryState};
-ghost use Rattle.jc_packages.specs.Values.{Packages};
-ghost use Rattle.jc_world.specs.Contexts.{allowed, context_of, decided, asks_sharing, designation_of, installed_package, is_for_selection, package_of_applet, selected_context, shares, situation_of, subject_of};
+ghost use Rattle.jc_linker.specs.Values.{Packages};
+ghost use Rattle.jc_world.specs.Contexts.{firewall_check, context_of, firewall_decision, needs_shareable, designation_of, installed_package};
+ghost use Rattle.jc_world.specs.Contexts.{has_deselect_event, package_of_applet, selected_context, is_shareable_instance, situation_of, subject_of};
 
 use crate::objects::is_instance;
 use jc_firewall::access::Access;
 use jc_firewall::decide::{Decision, decide};
 use jc_firewall::subject::{Context, Designation, Subject};
-use jc_frames::{Exception, Stop};
+use jc_frames::{Exception, FrameExit};
+use jc_heap::registry_layout::{ENTRY_PACKAGE, entry_start};
 use jc_heap::{Facts, Kind};
 use jc_linker::linked::Linked;
 use jc_memory::{Installation, Memory, Owner, Registers};
-use jc_names::{ClassWord, OwnerWord, RUNTIME_ENVIRONMENT};
 use jc_platform::names::PlatformClass;
-use jc_transient::ClearEvent;
+use jc_transient::{ClassWord, ClearEvent, OwnerWord, RUNTIME_ENVIRONMENT};
 use jc_words::WordStore;
 use jc_words::layout::MOST_APPLETS;
 
@@ -44,13 +45,13 @@ pub fn package_of_applet<S: WordStore>(applet: u8, memory: &Memory<S>) -> u16
     let heap = memory.heap();
     let number = u16::from(applet);
     if number != 0 && number <= MOST_APPLETS && number <= heap.applets() {
-        heap.registry(3 * (number - 1) + 1)
+        heap.registry(entry_start(number - 1) + ENTRY_PACKAGE)
     } else {
         installed_package(memory.registers().installation)
     }
 }
 
-/// The context of an owner.
+/// The context of an owner: that of its package, or the runtime environment's.
 pub fn context_of<S: WordStore>(owner: Owner, memory: &Memory<S>) -> Context
     requires up { memory.now.heap.down ≡ false }
     ensures { result ≡ context_of memory.now owner }
@@ -98,8 +99,8 @@ fn designation_of(facts: Facts, linked: &Linked) -> Designation
     }
 }
 
-fn shares(facts: Facts, linked: &Linked) -> bool
-    ensures { result ≡ shares linked.now facts.kind facts.class }
+fn is_shareable_instance(facts: Facts, linked: &Linked) -> bool
+    ensures { result ≡ is_shareable_instance linked.now facts.kind facts.class }
 {
     match facts.kind {
         Kind::Instance => linked.is_shareable(facts.class()),
@@ -108,8 +109,8 @@ fn shares(facts: Facts, linked: &Linked) -> bool
 }
 
 #[inline(always)]
-const fn is_for_selection(event: Option<ClearEvent>) -> bool
-    ensures { result ≡ is_for_selection event }
+const fn has_deselect_event(event: Option<ClearEvent>) -> bool
+    ensures { result ≡ has_deselect_event event }
 {
     match event {
         None => false,
@@ -119,8 +120,8 @@ const fn is_for_selection(event: Option<ClearEvent>) -> bool
 }
 
 // Whether the rules on an access ask for the object's shareable interfaces.
-const fn asks_sharing(access: Access) -> bool
-    ensures { result ≡ asks_sharing access }
+const fn needs_shareable(access: Access) -> bool
+    ensures { result ≡ needs_shareable access }
 {
     match access {
         Access::ShareableInterfaceCall => true,
@@ -138,13 +139,14 @@ fn subject_with<S: WordStore>(
     linked: &Linked,
 ) -> Subject
     requires up { memory.now.heap.down ≡ false }
-    ensures { result ≡ record (subject_of linked.now memory.now facts) { has_shareable_interface = shared } }
+    ensures { result ≡ record (subject_of linked.now memory.now facts)
+        { has_shareable_interface = shared } }
 {
     Subject {
         owner: context_of(Owner::of(facts.owner()), memory),
         designation: designation_of(facts, linked),
         has_shareable_interface: shared,
-        is_clear_on_deselect: is_for_selection(facts.event),
+        is_clear_on_deselect: has_deselect_event(facts.event),
     }
 }
 
@@ -154,7 +156,7 @@ pub fn subject_of<S: WordStore>(facts: Facts, memory: &Memory<S>, linked: &Linke
     requires up { memory.now.heap.down ≡ false }
     ensures { result ≡ subject_of linked.now memory.now facts }
 {
-    subject_with(shares(facts, linked), facts, memory, linked)
+    subject_with(is_shareable_instance(facts, linked), facts, memory, linked)
 }
 
 // The word in a header names this owner.
@@ -172,7 +174,8 @@ const fn is_owner(owner: Owner, word: OwnerWord) -> bool
 // Code of the selected applet runs.
 #[inline(always)]
 const fn is_selected(registers: Registers) -> bool
-    ensures { (m : MemoryState) → m.registers ≡ registers → result ≡ true → selected_context m ≡ context_of m registers.active }
+    ensures { (m : MemoryState) → m.registers ≡ registers → result ≡ true
+        → selected_context m ≡ context_of m registers.active }
 {
     let Installation::Idle = registers.installation else {
         return false;
@@ -187,15 +190,17 @@ const fn is_selected(registers: Registers) -> bool
 #[inline(always)]
 #[tactic(auto, using(crate::proofs::Free::same), unfolding(crate::specs::Contexts::situation_of, crate::specs::Contexts::subject_of))]
 const fn has_time(facts: Facts, registers: Registers) -> bool
-    ensures { (p : Packages) (m : MemoryState) → m.registers ≡ registers → result ≡ true → has_time (situation_of p m facts) ≡ true }
+    ensures { (p : Packages) (m : MemoryState) → m.registers ≡ registers → result ≡ true
+        → is_live_transient (situation_of p m facts) ≡ true }
 {
-    !is_for_selection(facts.event) || is_selected(registers)
+    !has_deselect_event(facts.event) || is_selected(registers)
 }
 
 // It is an access to elements of a global array.
 #[inline(always)]
 const fn is_shared(access: Access, facts: Facts) -> bool
-    ensures { result ≡ true → (access ≡ ArrayElement) × (facts.owner ≡ 0) × (is_instance facts.kind ≡ false) }
+    ensures { result ≡ true → (access ≡ ArrayElement) × (facts.owner ≡ 0)
+        × (is_instance facts.kind ≡ false) }
 {
     match access {
         Access::ArrayElement => facts.owner().0 == 0 && !is_instance(facts.kind),
@@ -208,7 +213,8 @@ const fn is_shared(access: Access, facts: Facts) -> bool
 #[inline(always)]
 #[tactic(auto, using(crate::proofs::Free::own_free, crate::proofs::Free::global_free))]
 const fn is_free(access: Access, facts: Facts, registers: Registers) -> bool
-    ensures { (p : Packages) (m : MemoryState) → m.registers ≡ registers → result ≡ true → decided access p m facts ≡ Allow }
+    ensures { (p : Packages) (m : MemoryState) → m.registers ≡ registers → result ≡ true
+        → firewall_decision access p m facts ≡ Allow }
 {
     has_time(facts, registers)
         && (is_owner(registers.active, facts.owner()) || is_shared(access, facts))
@@ -216,8 +222,8 @@ const fn is_free(access: Access, facts: Facts, registers: Registers) -> bool
 
 // What the rules answer to an access to an object with this kind, event, class and owner.
 #[inline(never)]
-#[tactic(auto, using(crate::proofs::Unasked::unasked), unfolding(crate::specs::Contexts::decided, crate::specs::Contexts::situation_of))]
-fn judged<S: WordStore>(
+#[tactic(auto, using(crate::proofs::Unasked::unasked), unfolding(crate::specs::Contexts::firewall_decision, crate::specs::Contexts::situation_of))]
+fn judgement<S: WordStore>(
     access: Access,
     kind: Kind,
     event: Option<ClearEvent>,
@@ -227,12 +233,20 @@ fn judged<S: WordStore>(
     linked: &Linked,
 ) -> Decision
     requires up { memory.now.heap.down ≡ false }
-    ensures { result ≡ decided access linked.now memory.now (record { kind = kind; event = event; class = class; owner = owner; length = 0; place = 0 }) }
+    ensures { result ≡ firewall_decision access linked.now memory.now
+        (record {
+          kind = kind;
+          event = event;
+          class = class;
+          owner = owner;
+          length = 0;
+          place = 0;
+        }) }
 {
     let facts = Facts::new(kind, event, class, owner, 0, 0);
     let active = context_of(memory.registers().active, memory);
     let selected = selected_context(memory);
-    if !asks_sharing(access) {
+    if !needs_shareable(access) {
         return decide(
             access,
             active,
@@ -245,20 +259,20 @@ fn judged<S: WordStore>(
 
 /// What the firewall answers to an access of the code that runs to an object with this header.
 #[inline(always)]
-#[tactic(auto, unfolding(crate::specs::Contexts::decided, crate::specs::Contexts::situation_of, crate::specs::Contexts::subject_of))]
-pub fn decided<S: WordStore>(
+#[tactic(auto, unfolding(crate::specs::Contexts::firewall_decision, crate::specs::Contexts::situation_of, crate::specs::Contexts::subject_of))]
+pub fn firewall_decision<S: WordStore>(
     access: Access,
     facts: Facts,
     memory: &Memory<S>,
     linked: &Linked,
 ) -> Decision
     requires up { memory.now.heap.down ≡ false }
-    ensures { result ≡ decided access linked.now memory.now facts }
+    ensures { result ≡ firewall_decision access linked.now memory.now facts }
 {
     if is_free(access, facts, memory.registers()) {
         return Decision::Allow;
     }
-    judged(
+    judgement(
         access,
         facts.kind,
         facts.event,
@@ -276,13 +290,13 @@ pub fn allow<S: WordStore>(
     facts: Facts,
     memory: &Memory<S>,
     linked: &Linked,
-) -> Result<(), Stop>
+) -> Result<(), FrameExit>
     requires up { memory.now.heap.down ≡ false }
-    ensures { result ≡ allowed access linked.now memory.now facts }
+    ensures { result ≡ firewall_check access linked.now memory.now facts }
 {
-    match decided(access, facts, memory, linked) {
+    match firewall_decision(access, facts, memory, linked) {
         Decision::Allow => Ok(()),
         Decision::Switch(_) => Ok(()),
-        Decision::Deny(_) => Err(Stop::Throw(Exception::SecurityException)),
+        Decision::Deny(_) => Err(FrameExit::Throw(Exception::SecurityException)),
     }
 }

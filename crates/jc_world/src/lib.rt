@@ -1,12 +1,26 @@
 //! What instructions and calls of the platform's methods share: why code does not go on, the objects
 //! behind references, and the firewall's answer to an access.
+//! What instructions on fields, arrays and objects share: values on the stack and in cells, classes that code names,
+//! new objects.
+//! Arguments of the platform's methods, and what they return.
 #![tactic(auto)]
 
-pub mod answer;
+pub mod answers;
 pub mod arguments;
+pub mod arrays;
 pub mod contexts;
+pub mod instances;
+pub mod making;
+pub mod native_result;
+pub mod numbers;
 pub mod objects;
-pub mod stop;
+pub mod step_exit;
+pub mod types;
+pub mod values;
 
-pub use answer::{Answer, Asked};
-pub use stop::Break;
+pub use answers::{boolean, short};
+pub use arrays::{Stretch, bytes_argument, elements, put};
+pub use instances::instance;
+pub use native_result::{NativeResult, ServerCall};
+pub use numbers::not_negative;
+pub use step_exit::StepExit;

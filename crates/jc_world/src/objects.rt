@@ -6,28 +6,28 @@ ghost use Rattle.jc_world.specs.Objects.{object_at, is_instance, is_instance_of,
 
 use crate::contexts::allow;
 use jc_firewall::access::Access;
-use jc_frames::{Exception, Outcome, Stop};
+use jc_frames::{Exception, FrameExit, Outcome};
 use jc_heap::{Facts, Kind};
 use jc_linker::linked::Linked;
 use jc_memory::Memory;
-use jc_names::ClassWord;
-use jc_transient::Ref;
+use jc_transient::{ClassWord, Ref};
 use jc_words::WordStore;
 
 /// The header of the object behind a reference. Null throws; a reference to nothing is a code fault.
 #[inline(always)]
 #[tactic(auto, unfolding(crate::specs::Objects::object_at))]
-pub fn object<S: WordStore>(reference: Ref, memory: &Memory<S>) -> Result<Facts, Stop>
+pub fn object<S: WordStore>(reference: Ref, memory: &Memory<S>) -> Result<Facts, FrameExit>
     requires up { memory.now.heap.down ≡ false }
     ensures header { result ≡ object_at memory.now reference }
-    ensures there { IfOk result (λ facts. IsObject memory.now.heap.now reference × IsHeaderOf memory.now reference facts) }
+    ensures there { IfOk result (λ facts. IsObject memory.now.heap.now reference
+        × IsHeaderOf memory.now reference facts) }
 {
     if reference.is_null() {
-        return Err(Stop::Throw(Exception::NullPointerException));
+        return Err(FrameExit::Throw(Exception::NullPointerException));
     }
     match memory.header(reference) {
         Some(facts) => Ok(facts),
-        None => Err(Stop::End(Outcome::Fault)),
+        None => Err(FrameExit::End(Outcome::Fault)),
     }
 }
 
@@ -59,7 +59,7 @@ pub fn allow_store<S: WordStore>(
     reference: Ref,
     memory: &Memory<S>,
     linked: &Linked,
-) -> Result<(), Stop>
+) -> Result<(), FrameExit>
     requires up { memory.now.heap.down ≡ false }
     ensures { result ≡ storable_of linked.now memory.now reference }
 {
@@ -68,6 +68,6 @@ pub fn allow_store<S: WordStore>(
     }
     match memory.header(reference) {
         Some(facts) => allow(Access::StoreReference, facts, memory, linked),
-        None => Err(Stop::End(Outcome::Fault)),
+        None => Err(FrameExit::End(Outcome::Fault)),
     }
 }

@@ -1,14 +1,16 @@
 -- What the words of a command line are taken for, from what clap says of a parse.
 use Rattle.std.proofs.Common.{◌≡◌, ◌⊎◌, ◌∙◌, true, List, [], ◌∷◌, Option, None, refl, sym, subst, ap, ap₂, inl, inr, codes}
 use Rattle.std.specs.Prelude.{option_and_then, option_map}
-use Rattle.clap.specs.Words.{App, HasMatchesOf, IsAmong, Kinds, Row, Text, fault_of, first_of, first_value, is_simple, is_simple_and_free, rows_of, subcommand_of, subcommand_rows_of}
+use Rattle.clap.specs.Words.{App, HasMatchesOf, IsAmong, Kinds, Row, Text, fault_of, first_of, first_value, is_simple, is_simple_and_free, rows_of}
+use Rattle.clap.specs.Words.{subcommand_of, subcommand_rows_of}
 use Rattle.clap.specs.declared.error.kind.ErrorKind.{ErrorKind}
 use Rattle.clap.specs.declared.error.kind.ErrorKind.TheVariants.{OutOfMemory}
 use Rattle.clap.specs.declared.parser.matches.ArgMatches.{ArgMatches}
 use Rattle.clap.specs.declared.parser.matches.Found.{Found}
 use Rattle.clap.proofs.OnLiterals.{clap_on_literals}
 use Rattle.clap.proofs.WalkLemmas.{first_value-rows}
-use Rattle.jcard_commands.specs.CommandLine.{Request, ToTell, dump_of, new_by, new_of, program_grammar, request_of, run_by, run_of, taken_for, unless_refused}
+use Rattle.jcard_commands.specs.CommandLine.{CommandLineRequest, ToTell, dump_of, new_by, new_of, program_grammar, request_of, run_by, run_of, request_of_words}
+use Rattle.jcard_commands.specs.CommandLine.{try_by, try_of, unless_refused}
 
 -- what clap asks of a command of which it tells all
 is_told : is_simple program_grammar ≡ true
@@ -19,27 +21,29 @@ is_told_whole : is_simple_and_free program_grammar ≡ true
 unfolding clap_on_literals
 is_told_whole = refl
 
-accepted : (causes : Kinds) (named rows : Option (Text × List Row)) → causes ≡ [] → rows ≡ named → unless_refused causes (option_and_then request_of named) ≡ option_and_then request_of rows
+accepted : (causes : Kinds) (named rows : Option (Text × List Row)) → causes ≡ [] → rows ≡ named
+    → unless_refused causes (option_and_then request_of named) ≡ option_and_then request_of rows
 accepted causes named rows none same = rw (none, same) refl
 
 -- a parse that succeeds gives what the words are taken for
 pub taken_as : (command : App) (words : List Text) (m : ArgMatches) → command ≡ program_grammar → HasMatchesOf command words m
-    → (is_simple_and_free command ≡ true → fault_of command words ≡ []) → taken_for words ≡ option_and_then request_of (subcommand_rows_of m)
-unfolding taken_for
+    → (is_simple_and_free command ≡ true → fault_of command words ≡ []) → request_of_words words ≡ option_and_then request_of (subcommand_rows_of m)
+unfolding request_of_words
 taken_as command words m same matches passes =
     let none : fault_of program_grammar words ≡ [] = ap (λ (a : App). fault_of a words) (sym same) ∙ passes (ap is_simple_and_free same ∙ is_told_whole) in
-    let rows : subcommand_rows_of m ≡ subcommand_of program_grammar words = (matches (ap is_simple same ∙ is_told)).1 ∙ ap (λ (a : App). subcommand_of a words) same in
+    let rows : subcommand_rows_of m ≡ subcommand_of program_grammar words = (matches (ap is_simple same ∙ is_told)).1
+    ∙ ap (λ (a : App). subcommand_of a words) same in
     accepted (fault_of program_grammar words) (subcommand_of program_grammar words) (subcommand_rows_of m) none rows
 
-refused : (causes : Kinds) (kind : ErrorKind) (asked : Option Request) → IsAmong kind causes → unless_refused causes asked ≡ None
+refused : (causes : Kinds) (kind : ErrorKind) (asked : Option CommandLineRequest) → IsAmong kind causes → unless_refused causes asked ≡ None
 refused [] kind asked among = absurd among
 refused (cause ∷ causes) kind asked among = refl
 
 -- a parse that fails does so for memory, or the words are taken for nothing
 pub taken_for_nothing : (command : App) (words : List Text) (kind : ErrorKind) → command ≡ program_grammar
     → (is_simple_and_free command ≡ true → (kind ≡ OutOfMemory) ⊎ IsAmong kind (fault_of command words))
-    → (kind ≡ OutOfMemory) ⊎ (taken_for words ≡ None)
-unfolding taken_for
+    → (kind ≡ OutOfMemory) ⊎ (request_of_words words ≡ None)
+unfolding request_of_words
 taken_for_nothing command words kind same fails =
     elim (fails (ap is_simple_and_free same ∙ is_told_whole)) [
       | inl memory ↦ inl memory
@@ -62,3 +66,10 @@ new_read found image words table i w t =
 -- that of `dump`
 pub dump_read : (found : Found) (image : Option Text) → image ≡ first_value found (codes "image") → option_map ToTell image ≡ dump_of (rows_of found)
 dump_read found image i = ap (option_map ToTell) (i ∙ first_value-rows found (codes "image"))
+
+-- those of `try`
+pub try_read : (found : Found) (script table words : Option Text) → script ≡ first_value found (codes "script") → table ≡ first_value found (codes "table")
+    → words ≡ first_value found (codes "words") → try_by script table words ≡ try_of (rows_of found)
+try_read found script table words s t w =
+    ap (λ (o : Option Text). try_by o table words) (s ∙ first_value-rows found (codes "script"))
+    ∙ ap₂ (try_by (first_of (codes "script") (rows_of found))) (t ∙ first_value-rows found (codes "table")) (w ∙ first_value-rows found (codes "words"))

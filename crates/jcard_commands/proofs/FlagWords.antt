@@ -73,7 +73,8 @@ GoesOn position rows pending word =
     (walked shape.rules [] (stands position rows pending false) word ≡ put word (stands position rows pending false))
     × (turn_fault shape [] (stands position rows pending false) word ≡ step_fault shape position (stands position rows pending false).held value)
 
-lone_hyphen : (position : ℕ) (rows : List Row) (pending : Option (Text × List Text)) (xs : Text) → is_some (slice_get (chars xs) 0) ≡ false → GoesOn position rows pending (45 ∷ xs)
+lone_hyphen : (position : ℕ) (rows : List Row) (pending : Option (Text × List Text)) (xs : Text) → is_some (slice_get (chars xs) 0) ≡ false
+    → GoesOn position rows pending (45 ∷ xs)
 unfolding walked bundle_met flags_fault
 lone_hyphen position rows pending [] none = (refl, refl)
 lone_hyphen position rows pending (y ∷ ys) none = (
@@ -110,7 +111,8 @@ long_full false v held = λ e. cc
 long_full true (Some v) held = λ e. cc
 long_full true None held = help_full held
 
-short_full : (found : Bool) (rest : Text) (held : Held) (next : Held → Kinds) → short_fault shape.rules false (cond found (Some help) None) rest held next ≡ [] → ⊥
+short_full : (found : Bool) (rest : Text) (held : Held) (next : Held → Kinds) → short_fault shape.rules false
+    (cond found (Some help) None) rest held next ≡ [] → ⊥
 short_full false rest held next = λ e. cc
 short_full true rest held next = or_else_full (react_fault shape.rules false help [] held) (next (reacted shape.rules help [] held)) (help_full held)
 
@@ -146,7 +148,8 @@ gated true k e full = λ h. cc
 two_refused : (position : ℕ) (rows : List Row) (pending : Option (Text × List Text)) (ys : Text) → bytes_eq (45 ∷ 45 ∷ ys) (codes "--") ≡ false
     → turn_fault shape [] (stands position rows pending false) (45 ∷ 45 ∷ ys) ≡ [] → ⊥
 two_refused position rows pending [] dashes = cc
-two_refused position rows pending (z ∷ zs) dashes = turn_full position rows pending (45 ∷ 45 ∷ z ∷ zs) (long_refused (stands position rows pending false).held z zs)
+two_refused position rows pending (z ∷ zs) dashes = turn_full position rows pending (45 ∷ 45 ∷ z ∷ zs)
+    (long_refused (stands position rows pending false).held z zs)
 
 hyphen_refused : (position : ℕ) (rows : List Row) (pending : Option (Text × List Text)) (xs : Text) → bytes_eq (45 ∷ xs) (codes "--") ≡ false
     → is_some (slice_get (chars xs) 0) ≡ true → turn_fault shape [] (stands position rows pending false) (45 ∷ xs) ≡ [] → ⊥
@@ -166,11 +169,13 @@ hyphen_refused position rows pending (y ∷ ys) dashes spells = elim (bool_cases
 ]
 
 -- a flag is refused
-pub flag_refused : (position : ℕ) (rows : List Row) (pending : Option (Text × List Text)) (word : Text) → bytes_eq word (codes "--") ≡ false → is_flag word ≡ true
+pub flag_refused : (position : ℕ) (rows : List Row) (pending : Option (Text × List Text)) (word : Text) → bytes_eq word (codes "--") ≡ false
+    → is_flag word ≡ true
     → turn_fault shape [] (stands position rows pending false) word ≡ [] → ⊥
 flag_refused position rows pending [] dashes flag = cc
 flag_refused position rows pending (x ∷ xs) dashes flag =
     let parts = both (nat_eq x 45) (is_some (slice_get (chars xs) 0)) flag in
     let same : x ≡ 45 = eqb-true x 45 parts.0 in
     let hyphen : bytes_eq (45 ∷ xs) (codes "--") ≡ false = subst (λ (k : ℕ). bytes_eq (k ∷ xs) (codes "--") ≡ false) same dashes in
-    subst (λ (k : ℕ). turn_fault shape [] (stands position rows pending false) (k ∷ xs) ≡ [] → ⊥) (sym same) (hyphen_refused position rows pending xs hyphen parts.1)
+    subst (λ (k : ℕ). turn_fault shape [] (stands position rows pending false) (k ∷ xs) ≡ [] → ⊥) (sym same)
+    (hyphen_refused position rows pending xs hyphen parts.1)

@@ -7,3 +7,4 @@ pub mod Listings
 pub mod News
 pub mod RunLines
 pub mod Runs
+pub mod Tries

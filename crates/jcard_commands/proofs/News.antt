@@ -10,7 +10,8 @@ use Rattle.clap.proofs.OnLiterals.{clap_on_literals}
 use Rattle.clap.proofs.WalkLemmas.{walk_stopped}
 use Rattle.clap.proofs.FaultLemmas.{stopped_fault}
 use Rattle.jcard_commands.proofs.Runs.{no_hyphen}
-use Rattle.jcard_commands.specs.CommandLine.{IsNoFlag, Request, TakesNews, ToMake, new_grammar, new_of, program_grammar, request_of, taken_for, unless_refused}
+use Rattle.jcard_commands.specs.CommandLine.{IsNoFlag, CommandLineRequest, TakesNews, ToMake, new_grammar, new_of, program_grammar, request_of}
+use Rattle.jcard_commands.specs.CommandLine.{request_of_words, unless_refused}
 
 -- ---- the words before those of the command
 
@@ -26,7 +27,7 @@ abbrev met : List Text → Walk
 met words = record (walk_from nothing_held) { stopped = Some (codes "new", words) }
 
 -- what the words are taken for, from where the walk over them ends and what it refused
-as_ended : Walk → Kinds → Option Request
+as_ended : Walk → Kinds → Option CommandLineRequest
 as_ended w refused = unless_refused (or_else refused (or_else (entered_fault whole w.stopped)
     (or_else (settle_fault whole.top.rules whole.top.args_override_self w.held) (or_else (defaults_fault (settled whole.top.rules w.held).rows whole.top.rules)
     (check_fault whole.top (finished whole.top.rules w.held) (is_some (entered whole w.stopped)))))))
@@ -41,23 +42,24 @@ abbrev causes_of : Walk → List Text → Kinds
 causes_of w words = or_else (walk_fault shape [] w words) (at_end (fold (walked shape.rules []) w words).held)
 
 -- what the words are taken for, from here on
-after : Walk → List Text → Option Request
+after : Walk → List Text → Option CommandLineRequest
 after w words = unless_refused (causes_of w words) (new_of (finished shape.rules (fold (walked shape.rules []) w words).held))
 
-none_more : (causes : Kinds) (asked : Option Request) → unless_refused (or_else causes []) asked ≡ unless_refused causes asked
+none_more : (causes : Kinds) (asked : Option CommandLineRequest) → unless_refused (or_else causes []) asked ≡ unless_refused causes asked
 none_more [] asked = refl
 none_more (cause ∷ causes) asked = refl
 
-by_walk : (name : Text) (words : List Text) → taken_for (name ∷ codes "new" ∷ words)
+by_walk : (name : Text) (words : List Text) → request_of_words (name ∷ codes "new" ∷ words)
     ≡ as_ended (fold (walked whole.top.rules (names_of whole)) (met []) words) (walk_fault whole.top (names_of whole) (met []) words)
-unfolding taken_for as_ended walked walk_fault
+unfolding request_of_words as_ended walked walk_fault
 by_walk name words = refl
 
 by_command : (words : List Text) → as_ended (met words) [] ≡ after (walk_from nothing_held) words
 unfolding as_ended after defaults_fault
-by_command words = none_more (causes_of (walk_from nothing_held) words) (new_of (finished shape.rules (fold (walked shape.rules []) (walk_from nothing_held) words).held))
+by_command words = none_more (causes_of (walk_from nothing_held) words) (new_of (finished shape.rules
+    (fold (walked shape.rules []) (walk_from nothing_held) words).held))
 
-opened : (name : Text) (words : List Text) → taken_for (name ∷ codes "new" ∷ words) ≡ after (walk_from nothing_held) words
+opened : (name : Text) (words : List Text) → request_of_words (name ∷ codes "new" ∷ words) ≡ after (walk_from nothing_held) words
 opened name words = by_walk name words
     ∙ (ap₂ as_ended (sym (walk_stopped whole.top.rules (names_of whole) (walk_from nothing_held) (codes "new") [] words))
     (stopped_fault whole.top (names_of whole) (walk_from nothing_held) (codes "new", []) words)
@@ -89,7 +91,8 @@ read rows id value = (settled shape.rules (record { rows = rows; pending = Some 
 abbrev image_read : Text → List Row
 image_read image = read [] (codes "image") image
 
-at_image : (image : Text) (words : List Text) → IsNoFlag image → after (walk_from nothing_held) (image ∷ words) ≡ after (reading [] (codes "image") (image ∷ []) idle) words
+at_image : (image : Text) (words : List Text) → IsNoFlag image → after (walk_from nothing_held) (image ∷ words)
+    ≡ after (reading [] (codes "image") (image ∷ []) idle) words
 unfolding clap_on_literals
 at_image [] words h = after_next _ (reading [] (codes "image") ([] ∷ []) idle) [] words refl refl
 at_image (x ∷ xs) words h = after_next _ (reading [] (codes "image") ((x ∷ xs) ∷ []) idle) (x ∷ xs) words (simp (no_hyphen x xs h)) (simp (no_hyphen x xs h))
@@ -98,13 +101,15 @@ at_words_value : (rows : List Row) (value : Text) (words : List Text) → IsNoFl
     → after (reading rows (codes "words") [] (option (codes "words"))) (value ∷ words) ≡ after (reading rows (codes "words") (value ∷ []) idle) words
 unfolding clap_on_literals
 at_words_value rows [] words h = after_next _ (reading rows (codes "words") ([] ∷ []) idle) [] words refl refl
-at_words_value rows (x ∷ xs) words h = after_next _ (reading rows (codes "words") ((x ∷ xs) ∷ []) idle) (x ∷ xs) words (simp (no_hyphen x xs h)) (simp (no_hyphen x xs h))
+at_words_value rows (x ∷ xs) words h = after_next _ (reading rows (codes "words") ((x ∷ xs) ∷ []) idle) (x ∷ xs) words (simp (no_hyphen x xs h))
+    (simp (no_hyphen x xs h))
 
 at_table_value : (rows : List Row) (value : Text) (words : List Text) → IsNoFlag value
     → after (reading rows (codes "table") [] (option (codes "table"))) (value ∷ words) ≡ after (reading rows (codes "table") (value ∷ []) idle) words
 unfolding clap_on_literals
 at_table_value rows [] words h = after_next _ (reading rows (codes "table") ([] ∷ []) idle) [] words refl refl
-at_table_value rows (x ∷ xs) words h = after_next _ (reading rows (codes "table") ((x ∷ xs) ∷ []) idle) (x ∷ xs) words (simp (no_hyphen x xs h)) (simp (no_hyphen x xs h))
+at_table_value rows (x ∷ xs) words h = after_next _ (reading rows (codes "table") ((x ∷ xs) ∷ []) idle) (x ∷ xs) words (simp (no_hyphen x xs h))
+    (simp (no_hyphen x xs h))
 
 words_first : (image : Text) (words : List Text) → after (reading [] (codes "image") (image ∷ []) idle) (codes "--words" ∷ words)
     ≡ after (reading (image_read image) (codes "words") [] (option (codes "words"))) words
@@ -128,11 +133,13 @@ unfolding clap_on_literals
 words_second image value words =
     after_next _ (reading (read (image_read image) (codes "table") value) (codes "words") [] (option (codes "words"))) (codes "--words") words refl refl
 
-table_last : (image words table : Text) → after (reading (read (image_read image) (codes "words") words) (codes "table") (table ∷ []) idle) [] ≡ Some (ToMake image words table)
+table_last : (image words table : Text) → after (reading (read (image_read image) (codes "words") words) (codes "table") (table ∷ []) idle) []
+    ≡ Some (ToMake image words table)
 unfolding after clap_on_literals
 table_last image words table = refl
 
-words_last : (image words table : Text) → after (reading (read (image_read image) (codes "table") table) (codes "words") (words ∷ []) idle) [] ≡ Some (ToMake image words table)
+words_last : (image words table : Text) → after (reading (read (image_read image) (codes "table") table) (codes "words") (words ∷ []) idle) []
+    ≡ Some (ToMake image words table)
 unfolding after clap_on_literals
 words_last image words table = refl
 

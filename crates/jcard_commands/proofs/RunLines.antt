@@ -13,7 +13,8 @@ use Rattle.std.specs.Str.{bytes_eq}
 use Rattle.std.specs.Prelude.{option_map}
 use Rattle.std.proofs.lemmas.Slice.Eq.{bytes_eq-Decides}
 use Rattle.jcard_commands.proofs.FlagWords.{bool_cases, flag_refused, goes_on, shape, stands}
-use Rattle.jcard_commands.specs.CommandLine.{TakesRunLines, is_flag, operands, run_with, Request, program_grammar, request_of, run_of, taken_for, unless_refused}
+use Rattle.jcard_commands.specs.CommandLine.{TakesRunLines, is_flag, operands, run_with, CommandLineRequest, program_grammar, request_of, run_of}
+use Rattle.jcard_commands.specs.CommandLine.{request_of_words, unless_refused}
 
 -- ---- the words before those of the command
 
@@ -25,7 +26,7 @@ abbrev met : List Text → Walk
 met words = record (walk_from nothing_held) { stopped = Some (codes "run", words) }
 
 -- what the words are taken for, from where the walk over them ends and what it refused
-as_ended : Walk → Kinds → Option Request
+as_ended : Walk → Kinds → Option CommandLineRequest
 as_ended w refused = unless_refused (or_else refused (or_else (entered_fault whole w.stopped)
     (or_else (settle_fault whole.top.rules whole.top.args_override_self w.held) (or_else (defaults_fault (settled whole.top.rules w.held).rows whole.top.rules)
     (check_fault whole.top (finished whole.top.rules w.held) (is_some (entered whole w.stopped)))))))
@@ -40,23 +41,24 @@ abbrev causes_of : Walk → List Text → Kinds
 causes_of w words = or_else (walk_fault shape [] w words) (at_end (fold (walked shape.rules []) w words).held)
 
 -- what the words are taken for, from here on
-pub after : Walk → List Text → Option Request
+pub after : Walk → List Text → Option CommandLineRequest
 after w words = unless_refused (causes_of w words) (run_of (finished shape.rules (fold (walked shape.rules []) w words).held))
 
-none_more : (causes : Kinds) (asked : Option Request) → unless_refused (or_else causes []) asked ≡ unless_refused causes asked
+none_more : (causes : Kinds) (asked : Option CommandLineRequest) → unless_refused (or_else causes []) asked ≡ unless_refused causes asked
 none_more [] asked = refl
 none_more (cause ∷ causes) asked = refl
 
-by_walk : (name : Text) (words : List Text) → taken_for (name ∷ codes "run" ∷ words)
+by_walk : (name : Text) (words : List Text) → request_of_words (name ∷ codes "run" ∷ words)
     ≡ as_ended (fold (walked whole.top.rules (names_of whole)) (met []) words) (walk_fault whole.top (names_of whole) (met []) words)
-unfolding taken_for as_ended walked walk_fault
+unfolding request_of_words as_ended walked walk_fault
 by_walk name words = refl
 
 by_command : (words : List Text) → as_ended (met words) [] ≡ after (walk_from nothing_held) words
 unfolding as_ended after defaults_fault
-by_command words = none_more (causes_of (walk_from nothing_held) words) (run_of (finished shape.rules (fold (walked shape.rules []) (walk_from nothing_held) words).held))
+by_command words = none_more (causes_of (walk_from nothing_held) words) (run_of (finished shape.rules
+    (fold (walked shape.rules []) (walk_from nothing_held) words).held))
 
-pub opened : (name : Text) (words : List Text) → taken_for (name ∷ codes "run" ∷ words) ≡ after (walk_from nothing_held) words
+pub opened : (name : Text) (words : List Text) → request_of_words (name ∷ codes "run" ∷ words) ≡ after (walk_from nothing_held) words
 opened name words = by_walk name words
     ∙ (ap₂ as_ended (sym (walk_stopped whole.top.rules (names_of whole) (walk_from nothing_held) (codes "run") [] words))
     (stopped_fault whole.top (names_of whole) (walk_from nothing_held) (codes "run", []) words)
@@ -71,7 +73,7 @@ after_next w next word words fault same = ap₂ (λ (k : Kinds) (v : Walk). unle
     (or_else (or_else k (walk_fault shape [] v words)) (at_end (fold (walked shape.rules []) v words).held))
     (run_of (finished shape.rules (fold (walked shape.rules []) v words).held))) fault same
 
-refuses : (k a b : Kinds) (asked : Option Request) → (k ≡ [] → ⊥) → unless_refused (or_else (or_else k a) b) asked ≡ None
+refuses : (k a b : Kinds) (asked : Option CommandLineRequest) → (k ≡ [] → ⊥) → unless_refused (or_else (or_else k a) b) asked ≡ None
 refuses [] a b asked full = absurd (full refl)
 refuses (c ∷ cs) a b asked full = refl
 
@@ -131,10 +133,10 @@ first_only (image ∷ words) = after_next (first true) (second image true) image
 -- ---- the lines, by what the next word is
 
 -- with these operands before the words
-abbrev with_script : Text → Text → Option (List Text) → Option Request
+abbrev with_script : Text → Text → Option (List Text) → Option CommandLineRequest
 with_script image script rest = run_with (option_map (λ words. image ∷ script ∷ words) rest)
 
-abbrev with_image : Text → Option (List Text) → Option Request
+abbrev with_image : Text → Option (List Text) → Option CommandLineRequest
 with_image image rest = run_with (option_map (λ words. image ∷ words) rest)
 
 too_many : (image script word : Text) (o : Option (List Text)) → None ≡ with_script image script (option_map (λ rest. word ∷ rest) o)
@@ -145,7 +147,8 @@ script_next : (image script : Text) (o : Option (List Text)) → with_script ima
 script_next image script None = refl
 script_next image script (Some rest) = refl
 
-third_flag : (image script word : Text) (words : List Text) → bytes_eq word (codes "--") ≡ false → is_flag word ≡ true → after (third image script false) (word ∷ words) ≡ None
+third_flag : (image script word : Text) (words : List Text) → bytes_eq word (codes "--") ≡ false → is_flag word ≡ true
+    → after (third image script false) (word ∷ words) ≡ None
 third_flag image script word words other flag =
     after_refused (third image script false) word words
     (flag_refused 3 (settled shape.rules (second image false).held).rows (Some (codes "script", script ∷ [])) word other flag)
@@ -168,7 +171,8 @@ at_third image script (word ∷ words) = elim (bool_cases (bytes_eq word (codes 
   ]
 ]
 
-second_plain : (image script : Text) (words : List Text) → is_flag script ≡ false → after (second image false) (script ∷ words) ≡ after (third image script false) words
+second_plain : (image script : Text) (words : List Text) → is_flag script ≡ false
+    → after (second image false) (script ∷ words) ≡ after (third image script false) words
 unfolding clap_on_literals
 second_plain image script words plain =
     let goes = goes_on 2 [] (Some (codes "image", image ∷ [])) script plain in

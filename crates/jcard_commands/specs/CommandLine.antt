@@ -1,21 +1,24 @@
 -- What a command line is taken for: the program's commands, in the grammar that clap's definitions give to them.
-use Rattle.std.specs.Prelude.{◌≡◌, ◌==◌, ◌&&◌, Bool, true, false, is_some, List, [], ◌∷◌, codes, Option, Some, None, if◌then◌else◌, option_map, option_and_then, slice_get, Result, Ok, Err}
+use Rattle.std.specs.Prelude.{◌≡◌, ◌==◌, ◌&&◌, Bool, true, false, is_some, List, [], ◌∷◌, codes, Option, Some, None, if◌then◌else◌, option_map, option_and_then}
+use Rattle.std.specs.Prelude.{slice_get, Result, Ok, Err}
 use Rattle.std.specs.Str.{bytes_eq, chars}
 use Rattle.clap.specs.Words.{App, Kinds, Row, Rule, Text, fault_of, first_of, new_app, new_rule, subcommand_of, with_rule, with_subcommand}
 use Rattle.clap.specs.declared.builder.action.ArgAction.TheVariants.{Set}
 use Rattle.jcard_commands.specs.declared.arguments.Action.{Action}
-use Rattle.jcard_commands.specs.declared.arguments.Action.TheVariants.{New, Run, Dump}
+use Rattle.jcard_commands.specs.declared.arguments.Action.TheVariants.{New, Run, Dump, Try}
 use Rattle.jcard_commands.specs.declared.fault.Fault.{Fault}
 use Rattle.jcard_commands.specs.declared.fault.Fault.TheVariants.{BadCommandLine, NoMemory}
 
 -- what a command line asks for
-pub data Request : Type 0 where
+pub data CommandLineRequest : Type 0 where
   -- an image of this name is made, with so many words, with the platform table of this name
-  ToMake : Text → Text → Text → Request
+  ToMake : Text → Text → Text → CommandLineRequest
   -- the script of the second name is carried out, on the card of the image of the first
-  ToRun : Text → Text → Request
+  ToRun : Text → Text → CommandLineRequest
   -- what the image of this name holds is told
-  ToTell : Text → Request
+  ToTell : Text → CommandLineRequest
+  -- the script of this name is carried out, on a new card in memory of so many words, with the platform table of this name
+  ToTry : Text → Text → Text → CommandLineRequest
 
 -- ---- the grammar
 
@@ -26,6 +29,10 @@ operand name = record (new_rule name) { required = true; action = Some Set }
 -- an option that must be given, once and with one value
 abbrev pub given_option : Text → Rule
 given_option name = record (operand name) { long = Some name }
+
+-- an option that may be given, once and with one value
+abbrev pub free_option : Text → Rule
+free_option name = record (new_rule name) { action = Some Set; long = Some name }
 
 -- `new IMAGE --words N --table FILE`
 abbrev pub new_grammar : App
@@ -39,48 +46,67 @@ run_grammar = with_rule (with_rule (new_app (codes "run")) (operand (codes "imag
 abbrev pub dump_grammar : App
 dump_grammar = with_rule (new_app (codes "dump")) (operand (codes "image"))
 
+-- `try SCRIPT --table FILE [--words N]`
+abbrev pub try_grammar : App
+try_grammar = with_rule (with_rule (with_rule (new_app (codes "try")) (operand (codes "script"))) (given_option (codes "table"))) (free_option (codes "words"))
+
 -- the program's name and one of its commands
 abbrev pub program_grammar : App
-program_grammar = with_subcommand (with_subcommand (with_subcommand (new_app (codes "jcard")) new_grammar.top) run_grammar.top) dump_grammar.top
+program_grammar = with_subcommand (with_subcommand (with_subcommand (with_subcommand (new_app (codes "jcard"))
+    new_grammar.top) run_grammar.top) dump_grammar.top) try_grammar.top
 
 -- ---- what the words are taken for
 
 -- what `new` asks for, with these operands and options
-abbrev pub new_by : Option Text → Option Text → Option Text → Option Request
+abbrev pub new_by : Option Text → Option Text → Option Text → Option CommandLineRequest
 new_by (Some image) (Some words) (Some table) = Some (ToMake image words table)
 new_by image words table = None
 
 -- what `run` asks for, with these operands
-abbrev pub run_by : Option Text → Option Text → Option Request
+abbrev pub run_by : Option Text → Option Text → Option CommandLineRequest
 run_by (Some image) (Some script) = Some (ToRun image script)
 run_by image script = None
 
+-- the number of words of a card that is tried
+abbrev pub tried_words : Option Text → Text
+tried_words (Some words) = words
+tried_words None = codes "8192"
+
+-- what `try` asks for, with this operand and these options
+abbrev pub try_by : Option Text → Option Text → Option Text → Option CommandLineRequest
+try_by (Some script) (Some table) words = Some (ToTry script (tried_words words) table)
+try_by script table words = None
+
 -- the same, with these values of all operands and options
-abbrev pub new_of : List Row → Option Request
+abbrev pub new_of : List Row → Option CommandLineRequest
 new_of rows = new_by (first_of (codes "image") rows) (first_of (codes "words") rows) (first_of (codes "table") rows)
 
-abbrev pub run_of : List Row → Option Request
+abbrev pub run_of : List Row → Option CommandLineRequest
 run_of rows = run_by (first_of (codes "image") rows) (first_of (codes "script") rows)
 
-abbrev pub dump_of : List Row → Option Request
+abbrev pub try_of : List Row → Option CommandLineRequest
+try_of rows = try_by (first_of (codes "script") rows) (first_of (codes "table") rows) (first_of (codes "words") rows)
+
+abbrev pub dump_of : List Row → Option CommandLineRequest
 dump_of rows = option_map ToTell (first_of (codes "image") rows)
 
 -- what the command of this name asks for, with these values of its operands
-abbrev pub request_of : Text × List Row → Option Request
+abbrev pub request_of : Text × List Row → Option CommandLineRequest
 request_of named =
     if bytes_eq named.0 (codes "new") then new_of named.1
     else (if bytes_eq named.0 (codes "run") then run_of named.1
-    else (if bytes_eq named.0 (codes "dump") then dump_of named.1 else None))
+    else (if bytes_eq named.0 (codes "dump") then dump_of named.1
+    else (if bytes_eq named.0 (codes "try") then try_of named.1 else None)))
 
 -- nothing where the words are refused for a cause
-abbrev pub unless_refused : Kinds → Option Request → Option Request
+abbrev pub unless_refused : Kinds → Option CommandLineRequest → Option CommandLineRequest
 unless_refused [] asked = asked
 unless_refused (cause ∷ causes) asked = None
 
 -- what the words are taken for, the program's name among them as the first; nothing where they do not fit the grammar or name no
 -- command
-unfoldable pub taken_for : List Text → Option Request
-taken_for words = unless_refused (fault_of program_grammar words) (option_and_then request_of (subcommand_of program_grammar words))
+unfoldable pub request_of_words : List Text → Option CommandLineRequest
+request_of_words words = unless_refused (fault_of program_grammar words) (option_and_then request_of (subcommand_of program_grammar words))
 
 -- the word is no flag: it does not begin with a hyphen (45)
 abbrev pub IsNoFlag : Text → Type 0
@@ -89,17 +115,25 @@ IsNoFlag word = slice_get word 0 ≡ Some 45 → ⊥
 -- `NAME run IMAGE SCRIPT` asks to run, with exactly these words
 abbrev pub TakesRuns : Type 0
 TakesRuns = (name image script : Text) → IsNoFlag image → IsNoFlag script
-    → taken_for (name ∷ codes "run" ∷ image ∷ script ∷ []) ≡ Some (ToRun image script)
+    → request_of_words (name ∷ codes "run" ∷ image ∷ script ∷ []) ≡ Some (ToRun image script)
 
 -- `NAME dump IMAGE` asks to tell what exactly this image holds
 abbrev pub TakesDumps : Type 0
-TakesDumps = (name image : Text) → IsNoFlag image → taken_for (name ∷ codes "dump" ∷ image ∷ []) ≡ Some (ToTell image)
+TakesDumps = (name image : Text) → IsNoFlag image → request_of_words (name ∷ codes "dump" ∷ image ∷ []) ≡ Some (ToTell image)
 
 -- `NAME new IMAGE --words N --table FILE` asks to make exactly this image, in either order of the options
 abbrev pub TakesNews : Type 0
 TakesNews = (name image words table : Text) → IsNoFlag image → IsNoFlag words → IsNoFlag table
-    → (taken_for (name ∷ codes "new" ∷ image ∷ codes "--words" ∷ words ∷ codes "--table" ∷ table ∷ []) ≡ Some (ToMake image words table))
-    × (taken_for (name ∷ codes "new" ∷ image ∷ codes "--table" ∷ table ∷ codes "--words" ∷ words ∷ []) ≡ Some (ToMake image words table))
+    → (request_of_words (name ∷ codes "new" ∷ image ∷ codes "--words" ∷ words ∷ codes "--table" ∷ table ∷ []) ≡ Some (ToMake image words table))
+    × (request_of_words (name ∷ codes "new" ∷ image ∷ codes "--table" ∷ table ∷ codes "--words" ∷ words ∷ []) ≡ Some (ToMake image words table))
+
+-- `NAME try SCRIPT --table FILE` asks to try exactly this script on a card of 8192 words; with `--words N`, in either order of the
+-- options, on one of N words
+abbrev pub TakesTries : Type 0
+TakesTries = (name script words table : Text) → IsNoFlag script → IsNoFlag words → IsNoFlag table
+    → (request_of_words (name ∷ codes "try" ∷ script ∷ codes "--table" ∷ table ∷ []) ≡ Some (ToTry script (codes "8192") table))
+    × (request_of_words (name ∷ codes "try" ∷ script ∷ codes "--table" ∷ table ∷ codes "--words" ∷ words ∷ []) ≡ Some (ToTry script words table))
+    × (request_of_words (name ∷ codes "try" ∷ script ∷ codes "--words" ∷ words ∷ codes "--table" ∷ table ∷ []) ≡ Some (ToTry script words table))
 
 -- ---- every line of a command
 
@@ -115,7 +149,7 @@ operands (word ∷ words) = if bytes_eq word (codes "--") then Some words
     else (if is_flag word then None else option_map (λ rest. word ∷ rest) (operands words))
 
 -- a run asks for an image and a script
-abbrev pub run_with : Option (List Text) → Option Request
+abbrev pub run_with : Option (List Text) → Option CommandLineRequest
 run_with None = None
 run_with (Some []) = None
 run_with (Some (image ∷ [])) = None
@@ -124,18 +158,19 @@ run_with (Some (image ∷ script ∷ more ∷ words)) = None
 
 -- what follows `NAME run` is taken for a run exactly where its operands are two
 abbrev pub TakesRunLines : Type 0
-TakesRunLines = (name : Text) (words : List Text) → taken_for (name ∷ codes "run" ∷ words) ≡ run_with (operands words)
+TakesRunLines = (name : Text) (words : List Text) → request_of_words (name ∷ codes "run" ∷ words) ≡ run_with (operands words)
 
 -- ---- the parse
 
 -- what the action does
-abbrev pub request_by : Action → Request
+abbrev pub request_by : Action → CommandLineRequest
 request_by (New image words table) = ToMake image.now words.now table.now
 request_by (Run image script) = ToRun image.now script.now
 request_by (Dump image) = ToTell image.now
+request_by (Try script words table) = ToTry script.now words.now table.now
 
 -- the action is the one that is asked for; the command line is bad only where nothing is; else memory was refused
-abbrev pub IsTakenAs : Option Request → Result Action Fault → Type 0
+abbrev pub IsTakenAs : Option CommandLineRequest → Result Action Fault → Type 0
 IsTakenAs asked (Ok action) = asked ≡ Some (request_by action)
 IsTakenAs asked (Err BadCommandLine) = asked ≡ None
 IsTakenAs asked (Err NoMemory) = Unit {0}

@@ -2,11 +2,11 @@
 use Rattle.std.specs.Prelude.{ℕ, ◌≡◌, ◌⊎◌, ◌*◌, true, false, List, [], ◌++◌, codes, length, Result, Ok, Err}
 use Rattle.jc_words.specs.Files.{IsImageSize}
 use Rattle.jc_words.specs.declared.image.ImageFault.{ImageFault}
-use Rattle.jcard_script.specs.jc_card.specs.Inventory.{inventory_of}
-use Rattle.jcard_script.specs.jc_card.specs.PowerUp.{HasHead, Refuses, fault_of}
-use Rattle.jcard_script.specs.jc_card.specs.declared.inventory.Inventory.{Inventory}
+use Rattle.jc_card.specs.Inventory.{inventory_of}
+use Rattle.jc_card.specs.PowerUp.{HasHead, PowerUpRefuses, fault_of}
+use Rattle.jc_card.specs.declared.inventory.Inventory.{Inventory}
 use Rattle.jcard_script.specs.Texts.{IsCutOf}
-use Rattle.jcard_commands.specs.Asked.{Asked, asked}
+use Rattle.jcard_commands.specs.FileRequests.{FileRequests, file_requests}
 use Rattle.jcard_commands.specs.Images.{IsNotOpened, damage_of}
 use Rattle.jcard_commands.specs.Listings.{Lines, count_line, line, listing_of, then_lines}
 use Rattle.jcard_commands.specs.declared.fault.Damage.{Damage}
@@ -19,23 +19,23 @@ abbrev pub lines_of : Inventory → List ℕ
 lines_of found = (count_line (codes "words ") found.words ++ count_line (codes "journal ") found.journal)
     ++ (count_line (codes "packages ") found.packages ++ count_line (codes "applets ") found.applets)
 
--- what is told of an image: its inventory, then its packages and its applets
-abbrev pub told_of : List ℕ → Lines
-told_of w = then_lines (line (lines_of (inventory_of w))) (listing_of w)
+-- jcard dump IMAGE: an inventory, then the packages and the applets
+abbrev pub dump_text : List ℕ → Lines
+dump_text w = then_lines (line (lines_of (inventory_of w))) (listing_of w)
 
 -- the words are no image's, and nothing was told; or all was told up to a line that cannot be read
 abbrev pub IsDamaged : List ℕ → Damage → List ℕ → Type 0
-IsDamaged w damage text = ((text ≡ []) × ((fault : ImageFault) × Refuses (fault_of fault) w × (damage ≡ damage_of fault)))
-    ⊎ (HasHead w × (damage ≡ Package) × ((told_of w).readable ≡ false) × (text ≡ (told_of w).text))
+IsDamaged w damage text = ((text ≡ []) × ((fault : ImageFault) × PowerUpRefuses (fault_of fault) w × (damage ≡ damage_of fault)))
+    ⊎ (HasHead w × (damage ≡ Package) × ((dump_text w).readable ≡ false) × (text ≡ (dump_text w).text))
 
 -- of these words all was told, or the beginning of it where a write failed; or they are damaged
 abbrev pub IsTold : List ℕ → Result Unit Fault → List ℕ → Type 0
-IsTold w (Ok done) text = HasHead w × ((told_of w).readable ≡ true) × (text ≡ (told_of w).text)
-IsTold w (Err WriteFailed) text = HasHead w × IsCutOf (told_of w).text text
+IsTold w (Ok done) text = HasHead w × ((dump_text w).readable ≡ true) × (text ≡ (dump_text w).text)
+IsTold w (Err WriteFailed) text = HasHead w × IsCutOf (dump_text w).text text
 IsTold w (Err (BadImage damage)) text = IsDamaged w damage text
 IsTold w (Err other) text = ⊥
 
--- the image of this name was asked for alone; it could not be opened, and nothing was written, or its words were told
-abbrev pub IsDump : List ℕ → Result Unit Fault → List ℕ → Asked → Type 0
-IsDump image ended text files = (files ≡ asked 1 0) × (((fault : Fault) × (ended ≡ Err fault) × IsNotOpened image fault × (text ≡ []))
+-- the image of this name was asked for, to read it alone; it could not be opened, and nothing was written, or its words were told
+abbrev pub IsDump : List ℕ → Result Unit Fault → List ℕ → FileRequests → Type 0
+IsDump image ended text files = (files ≡ file_requests 1 0 0) × (((fault : Fault) × (ended ≡ Err fault) × IsNotOpened image fault × (text ≡ []))
     ⊎ ((w : List ℕ) × IsImageSize (2 * length w) × IsTold w ended text))

@@ -1,24 +1,31 @@
 -- How the program ends: its exit status and its last line.
-use Rattle.std.specs.Prelude.{ℕ, Bool, true, false, ◌≡◌, ◌⊎◌, ◌*◌, List, [], ◌++◌, length, codes, decimal, Result, Ok, Err, Option, Some, None, MatchBool}
+use Rattle.std.specs.Prelude.{ℕ, Bool, true, false, ◌≡◌, ◌⊎◌, ◌+◌, ◌*◌, ◌<◌, List, [], ◌++◌, length, codes, decimal, Result, Ok, Err, Option, Some, None}
+use Rattle.std.specs.Prelude.{MatchBool}
 use Rattle.std.specs.Borrow.{Bor}
 use Rattle.jc_words.specs.Files.{IsImageSize}
-use Rattle.jc_words.specs.Stores.{Fused}
-use Rattle.jcard_script.specs.Failures.{failures_after}
+use Rattle.jc_words.specs.Stores.{FuseStoreValue}
+use Rattle.jc_words.specs.Count.{failures_after}
+use Rattle.jc_image.specs.Laying.{first_free}
+use Rattle.jc_platform.specs.Table.{Reads}
+use Rattle.jc_platform.specs.declared.fault.TableFault.TheVariants.{BadTable as BadLine}
+use Rattle.jc_card.specs.Fixed.{fixed_size}
 use Rattle.jcard_script.specs.Script.{Ends}
 use Rattle.jcard_script.specs.Texts.{IsCutOf}
 use Rattle.jcard_script.specs.declared.script.ScriptFault.{ScriptFault}
-use Rattle.jcard_script.specs.declared.script.ScriptFault.TheVariants.{ReadFailed, WriteFailed as NotWritten, BadLine, TooLong, PowerFault as NotPoweredUp}
-use Rattle.jcard_script.specs.jc_card.specs.declared.power_up.PowerFault.{PowerFault}
-use Rattle.jcard_script.specs.jc_card.specs.declared.power_up.PowerFault.TheVariants as power
-use Rattle.jcard_commands.specs.CommandLine.{Request, ToMake, ToRun, ToTell, taken_for}
+use Rattle.jcard_script.specs.declared.script.ScriptFault.TheVariants.{ReadFailed, WriteFailed as NotWritten, BadLine as BadScriptLine, TooLong}
+use Rattle.jcard_script.specs.declared.script.ScriptFault.TheVariants.{PowerFault as NotPoweredUp}
+use Rattle.jc_card.specs.declared.power_up.PowerFault.{PowerFault}
+use Rattle.jc_card.specs.declared.power_up.PowerFault.TheVariants as power
+use Rattle.jcard_commands.specs.CommandLine.{CommandLineRequest, ToMake, ToRun, ToTell, ToTry, request_of_words}
 use Rattle.jcard_commands.specs.Dumps.{IsDump}
-use Rattle.jcard_commands.specs.Asked.{Asked, asked}
-use Rattle.jcard_commands.specs.Images.{IsNotOpened, IsNotRead}
-use Rattle.jcard_commands.specs.NewImages.{IsNew}
+use Rattle.jcard_commands.specs.FileRequests.{FileRequests, file_requests}
+use Rattle.jcard_commands.specs.Images.{IsNotOpenedToWrite, IsNotRead}
+use Rattle.jcard_commands.specs.NewImages.{IsNew, IsNewImage, IsTable, IsWordCount}
 use Rattle.jcard_commands.specs.declared.fault.Damage.{Damage}
 use Rattle.jcard_commands.specs.declared.fault.Damage.TheVariants.{Magic, Version, Size, Log, Table, Package}
 use Rattle.jcard_commands.specs.declared.fault.Fault.{Fault}
-use Rattle.jcard_commands.specs.declared.fault.Fault.TheVariants.{BadCommandLine, NoMemory, BadWords, BadTable, ImageTooSmall, CannotRead, CannotWrite, BadImage, BadCommand, ScriptTooLong, WriteFailed}
+use Rattle.jcard_commands.specs.declared.fault.Fault.TheVariants.{BadCommandLine, NoMemory, BadWords, BadTable, ImageTooSmall, CannotRead, CannotOpenToWrite}
+use Rattle.jcard_commands.specs.declared.fault.Fault.TheVariants.{CannotWrite, ImageInUse, BadImage, BadCommand, ScriptTooLong, WriteFailed}
 
 -- the exit status
 abbrev pub status_of : Result Unit Fault → ℕ
@@ -29,7 +36,9 @@ status_of (Err BadWords) = 1
 status_of (Err (BadTable line)) = 1
 status_of (Err ImageTooSmall) = 1
 status_of (Err (CannotRead path)) = 1
+status_of (Err (CannotOpenToWrite path)) = 1
 status_of (Err (CannotWrite path)) = 1
+status_of (Err ImageInUse) = 1
 status_of (Err (BadImage damage)) = 1
 status_of (Err (BadCommand n)) = 1
 status_of (Err ScriptTooLong) = 1
@@ -52,7 +61,9 @@ line_of BadWords = codes "jcard: words must be 4096 to 65535\n"
 line_of (BadTable line) = codes "jcard: bad table line " ++ decimal line ++ codes "\n"
 line_of ImageTooSmall = codes "jcard: image too small\n"
 line_of (CannotRead path) = codes "jcard: cannot read " ++ path.now ++ codes "\n"
+line_of (CannotOpenToWrite path) = codes "jcard: cannot read " ++ path.now ++ codes "\n"
 line_of (CannotWrite path) = codes "jcard: cannot write " ++ path.now ++ codes "\n"
+line_of ImageInUse = codes "jcard: image in use\n"
 line_of (BadImage damage) = codes "jcard: bad image " ++ decimal (check_of damage) ++ codes "\n"
 line_of (BadCommand n) = codes "jcard: line " ++ decimal n ++ codes ": bad command\n"
 line_of ScriptTooLong = codes "jcard: script too long\n"
@@ -82,14 +93,14 @@ IsUnpowered image power.StoreDown fault = (path : Bor (List ℕ)) × (fault ≡ 
 -- how the carrying out of the script in the file of the second name ended, over the image of the first
 abbrev pub IsOutcomeOf : List ℕ → List ℕ → Result Unit ScriptFault → Result Unit Fault → Type 0
 IsOutcomeOf image script (Ok done) result = result ≡ Ok done
-IsOutcomeOf image script (Err (BadLine n)) result = result ≡ Err (BadCommand n)
+IsOutcomeOf image script (Err (BadScriptLine n)) result = result ≡ Err (BadCommand n)
 IsOutcomeOf image script (Err TooLong) result = result ≡ Err ScriptTooLong
 IsOutcomeOf image script (Err NotWritten) result = result ≡ Err WriteFailed
 IsOutcomeOf image script (Err ReadFailed) result = (path : Bor (List ℕ)) × (result ≡ Err (CannotRead path)) × (path.now ≡ script)
 IsOutcomeOf image script (Err (NotPoweredUp cause)) result = (fault : Fault) × (result ≡ Err fault) × IsUnpowered image cause fault
 
 -- the power of these words was not cut before, and no write of them passed
-pub record IsFresh (store : Fused) : Type 0 where
+pub record IsFresh (store : FuseStoreValue) : Type 0 where
   pub size : IsImageSize (2 * length store.words)
   pub unarmed : store.fuse ≡ None
   pub passed : store.passed_below ≡ 0
@@ -97,31 +108,56 @@ pub record IsFresh (store : Fused) : Type 0 where
 
 -- the image could not be opened, and the script was not asked for; or after it the script could not, and nothing was written; or the
 -- script was carried out to this end over the image's words, and this text was written
-abbrev pub IsRun : List ℕ → List ℕ → Result Unit Fault → List ℕ → Asked → Type 0
-IsRun image script ended text files = ((fault : Fault) × (ended ≡ Err fault) × IsNotOpened image fault × (text ≡ []) × (files ≡ asked 1 0))
-    ⊎ ((fault : Fault) × (ended ≡ Err fault) × IsNotRead script fault × (text ≡ []) × (files ≡ asked 2 0))
-    ⊎ ((bytes : List ℕ) × (before after : Fused) × (at_end : Bool) × (carried : Result Unit ScriptFault) × IsFresh before
-    × Ends carried before after at_end bytes text × IsOutcomeOf image script carried ended × (files ≡ asked 2 0))
+abbrev pub IsRun : List ℕ → List ℕ → Result Unit Fault → List ℕ → FileRequests → Type 0
+IsRun image script ended text files = ((fault : Fault) × (ended ≡ Err fault) × IsNotOpenedToWrite image fault × (text ≡ []) × (files ≡ file_requests 0 1 0))
+    ⊎ ((fault : Fault) × (ended ≡ Err fault) × IsNotRead script fault × (text ≡ []) × (files ≡ file_requests 1 1 0))
+    ⊎ ((bytes : List ℕ) × (before after : FuseStoreValue) × (at_end : Bool) × (carried : Result Unit ScriptFault) × IsFresh before
+    × Ends carried before after at_end bytes text × IsOutcomeOf image script carried ended × (files ≡ file_requests 1 1 0))
+
+-- the script in the file of this name was tried on a new card of n words with the platform table of this text: it could not be opened,
+-- or memory was refused; or the table and the objects of the runtime environment do not fit, and nothing was written; or it was carried
+-- out to this end over the words of a new image, and this text was written
+abbrev pub IsTriedOn : List ℕ → ℕ → List ℕ → Result Unit Fault → List ℕ → Type 0
+IsTriedOn script n table ended text = ((fault : Fault) × (ended ≡ Err fault) × IsNotRead script fault × (text ≡ []))
+    ⊎ ((ended ≡ Err ImageTooSmall) × (n < first_free (length table) + fixed_size) × (text ≡ []))
+    ⊎ ((bytes : List ℕ) × (before after : FuseStoreValue) × (at_end : Bool) × (carried : Result Unit ScriptFault) × IsFresh before
+    × IsNewImage n table before.words × Ends carried before after at_end bytes text × IsOutcomeOf (codes "memory") script carried ended)
+
+-- a script was tried: an image cannot have so many words, and no file was asked for; or after that the table was not read, or it is
+-- none, and no other file was asked for; or the script was tried, and its file was the only other
+abbrev pub IsTrial : List ℕ → List ℕ → List ℕ → Result Unit Fault → List ℕ → FileRequests → Type 0
+IsTrial script words table ended text files =
+    ((ended ≡ Err BadWords) × ((n : ℕ) → IsWordCount words n → ⊥) × (text ≡ []) × (files ≡ file_requests 0 0 0))
+    ⊎ ((fault : Fault) × (ended ≡ Err fault) × IsNotRead table fault × (text ≡ []) × (files ≡ file_requests 1 0 0))
+    ⊎ ((platform : List ℕ) × (line : ℕ) × (ended ≡ Err (BadTable line)) × Reads platform (Err (BadLine line)) × (text ≡ []) × (files ≡ file_requests 1 0 0))
+    ⊎ ((n : ℕ) × (platform : List ℕ) × IsWordCount words n × IsTable platform × IsTriedOn script n platform ended text × (files ≡ file_requests 2 0 0))
 
 -- what is asked for was done to this end, this text was written, and these files were asked for; where nothing is, the command line
 -- is bad
-abbrev pub IsDone : Option Request → Result Unit Fault → List ℕ → Asked → Type 0
-IsDone None ended text files = (ended ≡ Err BadCommandLine) × (text ≡ []) × (files ≡ asked 0 0)
+abbrev pub IsDone : Option CommandLineRequest → Result Unit Fault → List ℕ → FileRequests → Type 0
+IsDone None ended text files = (ended ≡ Err BadCommandLine) × (text ≡ []) × (files ≡ file_requests 0 0 0)
 IsDone (Some (ToMake image words table)) ended text files = IsNew image words table ended files × (text ≡ [])
 IsDone (Some (ToRun image script)) ended text files = IsRun image script ended text files
 IsDone (Some (ToTell image)) ended text files = IsDump image ended text files
+IsDone (Some (ToTry script words table)) ended text files = IsTrial script words table ended text files
 
 -- on these words the program came to this end, wrote this text and asked for these files: memory was refused before anything was
 -- done, or what the words are taken for was done
-abbrev pub IsPerformed : List (List ℕ) → Result Unit Fault → List ℕ → Asked → Type 0
-IsPerformed words ended text files = ((ended ≡ Err NoMemory) × (text ≡ []) × (files ≡ asked 0 0)) ⊎ IsDone (taken_for words) ended text files
+abbrev pub IsPerformed : List (List ℕ) → Result Unit Fault → List ℕ → FileRequests → Type 0
+IsPerformed words ended text files = ((ended ≡ Err NoMemory) × (text ≡ []) × (files ≡ file_requests 0 0 0)) ⊎ IsDone (request_of_words words) ended text files
 
 -- a writer's count of failures rises by one for each of these
 abbrev pub failures_of : ℕ → Result Unit Fault → Bool → ℕ
 failures_of count ended failed = failures_after (failures_after count (is_unwritten ended)) failed
 
--- on the program's arguments it came to this end and wrote this text: they are texts, and it did what they ask for; or memory was
--- refused or an argument is no text, and nothing was done
-abbrev pub IsStarted : Result Unit Fault → List ℕ → Asked → Type 0
+-- why nothing was begun: memory was refused, an argument is no text, or the folder that closed standard streams are opened on cannot be
+abbrev pub IsUnbegun : Result Unit Fault → Type 0
+IsUnbegun (Err NoMemory) = Unit {0}
+IsUnbegun (Err BadCommandLine) = Unit {0}
+IsUnbegun (Err (CannotRead path)) = path.now ≡ codes "/"
+IsUnbegun other = ⊥
+
+-- on the program's arguments it came to this end and wrote this text: they are texts, and it did what they ask for; or nothing was begun
+abbrev pub IsStarted : Result Unit Fault → List ℕ → FileRequests → Type 0
 IsStarted ended text files = ((words : List (List ℕ)) × IsPerformed words ended text files)
-    ⊎ (((ended ≡ Err NoMemory) ⊎ (ended ≡ Err BadCommandLine)) × (text ≡ []) × (files ≡ asked 0 0))
+    ⊎ (IsUnbegun ended × (text ≡ []) × (files ≡ file_requests 0 0 0))

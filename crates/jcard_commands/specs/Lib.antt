@@ -1,4 +1,4 @@
-pub mod Asked
+pub mod FileRequests
 pub mod CommandLine
 pub mod Dumps
 pub mod Faults

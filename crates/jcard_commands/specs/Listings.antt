@@ -1,15 +1,16 @@
 -- The lines that list an image's packages and applets.
-use Rattle.std.specs.Prelude.{ℕ, zero, suc, ◌≡◌, Bool, true, false, List, [], ◌++◌, codes, decimal, slice_index, Option, Some, None, Result, Ok, Err, if◌then◌else◌}
+use Rattle.std.specs.Prelude.{ℕ, zero, suc, ◌≡◌, Bool, true, false, List, [], ◌++◌, codes, decimal, slice_index, Option, Some, None, Result, Ok, Err}
+use Rattle.std.specs.Prelude.{if◌then◌else◌}
 use Rattle.std.specs.Option.{option_map}
 use Rattle.std.specs.Io.KnownBytes.{Appends}
 use Rattle.hex.specs.Hex.{encode_upper}
 use Rattle.jc_words.specs.Layout.{packages_address, applets_address}
-use Rattle.jc_cap_fields.specs.Packages.{NamedPackage}
-use Rattle.jc_listing.specs.Listed.{NamedApplet}
-use Rattle.jc_listing.specs.Listing.{package_at, applet_at}
+use Rattle.jc_cap_linkage.specs.Packages.{NamedPackage}
+use Rattle.jc_image.specs.Listed.{NamedApplet}
+use Rattle.jc_image.specs.Listing.{package_at, applet_at}
 use Rattle.jcard_script.specs.Texts.{AppendsCut}
-use Rattle.jcard_commands.specs.declared.listing.Stop.{Stop}
-use Rattle.jcard_commands.specs.declared.listing.Stop.TheVariants.{Unreadable, NotWritten}
+use Rattle.jcard_commands.specs.declared.listing.ListingFault.{ListingFault}
+use Rattle.jcard_commands.specs.declared.listing.ListingFault.TheVariants.{Unreadable, NotWritten}
 
 -- the line of a count: its name and the count in decimal digits
 abbrev pub count_line : List ℕ → ℕ → List ℕ
@@ -46,9 +47,9 @@ unfoldable pub then_lines : Lines → Lines → Lines
 then_lines first next = if first.readable then record { text = first.text ++ next.text; readable = next.readable } else first
 
 -- the lines of so many, by their numbers from 1 on
-unfoldable pub numbered : (ℕ → Option (List ℕ)) → ℕ → Lines
-numbered one zero = line []
-numbered one (suc n) = then_lines (numbered one n) (line_if (one (suc n)))
+unfoldable pub numbered_lines : (ℕ → Option (List ℕ)) → ℕ → Lines
+numbered_lines one zero = line []
+numbered_lines one (suc n) = then_lines (numbered_lines one n) (line_if (one (suc n)))
 
 -- the line of the package with a number in an image
 abbrev pub package_text : List ℕ → ℕ → Option (List ℕ)
@@ -59,15 +60,15 @@ applet_text w n = option_map (applet_line n) (applet_at w n)
 
 -- the lines of the packages and the applets that an image counts
 abbrev pub listing_of : List ℕ → Lines
-listing_of w = then_lines (numbered (package_text w) (slice_index w packages_address)) (numbered (applet_text w) (slice_index w applets_address))
+listing_of w = then_lines (numbered_lines (package_text w) (slice_index w packages_address)) (numbered_lines (applet_text w) (slice_index w applets_address))
 
 -- known bytes grew by the lines, or by those before the first that cannot be read; or a write failed
-abbrev pub Tells : Option (List ℕ) → Option (List ℕ) → Lines → Result Unit Stop → Type 0
+abbrev pub Tells : Option (List ℕ) → Option (List ℕ) → Lines → Result Unit ListingFault → Type 0
 Tells old new l (Ok done) = (l.readable ≡ true) × Appends old new l.text
 Tells old new l (Err Unreadable) = (l.readable ≡ false) × Appends old new l.text
 Tells old new l (Err NotWritten) = AppendsCut old new l.text
 
 -- whether a write failed
-abbrev pub is_unwritten : Result Unit Stop → Bool
+abbrev pub is_unwritten : Result Unit ListingFault → Bool
 is_unwritten (Err NotWritten) = true
 is_unwritten _ = false

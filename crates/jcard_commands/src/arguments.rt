@@ -2,7 +2,9 @@
 ghost use Rattle.std.specs.Prelude.{◌≡◌, ◌⊎◌, None, false, true, map, option_map, option_and_then, IfErr, IfOk};
 ghost use Rattle.std.specs.String.{string_bytes};
 ghost use Rattle.clap.specs.Words.{app_of, found_of, kind_of, rows_of, rule_of, subcommand_rows_of, with_subcommand};
-ghost use Rattle.jcard_commands.specs.CommandLine.{IsTakenAs, TakesDumps, TakesNews, TakesRunLines, TakesRuns, dump_grammar, dump_of, given_option, new_grammar, new_of, operand, program_grammar, request_by, request_of, run_grammar, run_of, taken_for};
+ghost use Rattle.jcard_commands.specs.CommandLine.{IsTakenAs, TakesDumps, TakesNews, TakesRunLines, TakesRuns, TakesTries, dump_grammar, dump_of, free_option};
+ghost use Rattle.jcard_commands.specs.CommandLine.{given_option, new_grammar, new_of, operand, program_grammar, request_by, request_of, run_grammar, run_of};
+ghost use Rattle.jcard_commands.specs.CommandLine.{request_of_words, try_grammar, try_of};
 
 use crate::fault::Fault;
 use clap::error::ErrorKind;
@@ -27,19 +29,27 @@ pub enum Action<'a> {
     Dump {
         image: &'a str,
     },
+    /// The script is carried out, on a new card in memory of so many words, with the platform table of
+    /// this name.
+    Try {
+        script: &'a str,
+        words: &'a str,
+        table: &'a str,
+    },
 }
 
 /// What the words ask for, the program's name among them as the first. BadCommandLine comes only for
 /// words that ask for nothing, and NoMemory where memory was refused.
 #[tactic(auto, using(crate::proofs::RunLines::run_lines, crate::proofs::Runs::runs, crate::proofs::Dumps::dumps))]
 pub fn parse(alloc: Global, words: &[String]) -> Result<Action<'_>, Fault<'_>>
-    ensures taken { IsTakenAs (taken_for (map string_bytes words.now)) result }
+    ensures taken { IsTakenAs (request_of_words (map string_bytes words.now)) result }
     ensures run_lines { TakesRunLines }
     ensures plain_runs { TakesRuns }
     ensures plain_dumps { TakesDumps }
     ensures plain_news { TakesNews }
+    ensures plain_tries { TakesTries }
 {
-    match matched(alloc, words) {
+    match request_by_clap(alloc, words) {
         Ok(Some(action)) => Ok(action),
         Ok(None) => Err(Fault::BadCommandLine),
         Err(error) => Err(match error.kind() {
@@ -50,12 +60,14 @@ pub fn parse(alloc: Global, words: &[String]) -> Result<Action<'_>, Fault<'_>>
 }
 
 // What the words ask for, by clap; nothing where they fit the grammar and name no command.
-fn matched(alloc: Global, words: &[String]) -> Result<Option<Action<'_>>, Error>
-    ensures found { IfOk result (λ found. taken_for (map string_bytes words.now) ≡ option_map request_by found) }
-    ensures refused { IfErr result (λ e. (kind_of e ≡ ErrorKind.OutOfMemory) ⊎ (taken_for (map string_bytes words.now) ≡ None)) }
+fn request_by_clap(alloc: Global, words: &[String]) -> Result<Option<Action<'_>>, Error>
+    ensures found { IfOk result (λ found. request_of_words (map string_bytes words.now)
+        ≡ option_map request_by found) }
+    ensures refused { IfErr result (λ e. (kind_of e ≡ ErrorKind.OutOfMemory)
+        ⊎ (request_of_words (map string_bytes words.now) ≡ None)) }
 {
     let matches = commands(alloc)?.try_get_matches_from(words)?;
-    Ok(asked(&matches))
+    Ok(request_of(&matches))
 }
 
 // The program's commands.
@@ -65,15 +77,18 @@ fn commands<'a>(alloc: Global) -> Result<Command<'a>, AllocError>
     let new = new_command(alloc)?;
     let run = run_command(alloc)?;
     let dump = dump_command(alloc)?;
+    let trial = try_command(alloc)?;
     let program = with_command(Command::new(alloc, "jcard"), new)?;
     let program = with_command(program, run)?;
-    with_command(program, dump)
+    let program = with_command(program, dump)?;
+    with_command(program, trial)
 }
 
 // The program with one command more.
 fn with_command<'a>(program: Command<'a>, command: Command<'a>) -> Result<Command<'a>, AllocError>
     requires { (app_of command).top.is_plain ≡ true }
-    ensures { IfOk result (λ c. app_of c ≡ with_subcommand (app_of program.entry) (app_of command.entry).top) }
+    ensures { IfOk result (λ c. app_of c ≡ with_subcommand (app_of program.entry)
+        (app_of command.entry).top) }
 {
     program.subcommand(command)
 }
@@ -83,9 +98,9 @@ fn new_command<'a>(alloc: Global) -> Result<Command<'a>, AllocError>
     ensures { IfOk result (λ c. app_of c ≡ new_grammar) }
 {
     Command::new(alloc, "new")
-        .arg(required(alloc, "image"))?
-        .arg(given(alloc, "words"))?
-        .arg(given(alloc, "table"))
+        .arg(operand(alloc, "image"))?
+        .arg(given_option(alloc, "words"))?
+        .arg(given_option(alloc, "table"))
 }
 
 // `run IMAGE SCRIPT`.
@@ -93,40 +108,59 @@ fn run_command<'a>(alloc: Global) -> Result<Command<'a>, AllocError>
     ensures { IfOk result (λ c. app_of c ≡ run_grammar) }
 {
     Command::new(alloc, "run")
-        .arg(required(alloc, "image"))?
-        .arg(required(alloc, "script"))
+        .arg(operand(alloc, "image"))?
+        .arg(operand(alloc, "script"))
 }
 
 // `dump IMAGE`.
 fn dump_command<'a>(alloc: Global) -> Result<Command<'a>, AllocError>
     ensures { IfOk result (λ c. app_of c ≡ dump_grammar) }
 {
-    Command::new(alloc, "dump").arg(required(alloc, "image"))
+    Command::new(alloc, "dump").arg(operand(alloc, "image"))
 }
 
-fn required<'a>(alloc: Global, name: &'a str) -> Arg<'a>
+// `try SCRIPT --table FILE [--words N]`.
+fn try_command<'a>(alloc: Global) -> Result<Command<'a>, AllocError>
+    ensures { IfOk result (λ c. app_of c ≡ try_grammar) }
+{
+    Command::new(alloc, "try")
+        .arg(operand(alloc, "script"))?
+        .arg(given_option(alloc, "table"))?
+        .arg(free_option(alloc, "words"))
+}
+
+fn operand<'a>(alloc: Global, name: &'a str) -> Arg<'a>
     ensures rule { rule_of result ≡ operand name.entry.now }
     ensures local { result.global ≡ false }
 {
     Arg::new(alloc, name).required(true).action(ArgAction::Set)
 }
 
-fn given<'a>(alloc: Global, name: &'a str) -> Arg<'a>
+fn given_option<'a>(alloc: Global, name: &'a str) -> Arg<'a>
     ensures rule { rule_of result ≡ given_option name.entry.now }
     ensures local { result.global ≡ false }
 {
-    required(alloc, name).long(name)
+    operand(alloc, name).long(name)
+}
+
+fn free_option<'a>(alloc: Global, name: &'a str) -> Arg<'a>
+    ensures rule { rule_of result ≡ free_option name.entry.now }
+    ensures local { result.global ≡ false }
+{
+    Arg::new(alloc, name).action(ArgAction::Set).long(name)
 }
 
 // What the matches ask for.
-fn asked<'a>(matches: &ArgMatches<'a>) -> Option<Action<'a>>
-    ensures { option_map request_by result ≡ option_and_then request_of (subcommand_rows_of matches.now) }
+fn request_of<'a>(matches: &ArgMatches<'a>) -> Option<Action<'a>>
+    ensures { option_map request_by result ≡ option_and_then request_of
+        (subcommand_rows_of matches.now) }
 {
     let (name, operands) = matches.subcommand()?;
     match name {
         "new" => new_asked(operands),
         "run" => run_asked(operands),
         "dump" => dump_asked(operands),
+        "try" => try_asked(operands),
         _ => None,
     }
 }
@@ -157,4 +191,20 @@ fn dump_asked<'a>(operands: &ArgMatches<'a>) -> Option<Action<'a>>
 {
     let image = operands.get_str("image")?;
     Some(Action::Dump { image })
+}
+
+fn try_asked<'a>(operands: &ArgMatches<'a>) -> Option<Action<'a>>
+    ensures { option_map request_by result ≡ try_of (rows_of (found_of operands.now)) }
+{
+    let script = operands.get_str("script")?;
+    let table = operands.get_str("table")?;
+    let words = match operands.get_str("words") {
+        Some(words) => words,
+        None => "8192",
+    };
+    Some(Action::Try {
+        script,
+        words,
+        table,
+    })
 }

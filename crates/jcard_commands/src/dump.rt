@@ -3,18 +3,18 @@ ghost use Rattle.std.specs.Prelude.{◌≡◌, ◌≤◌, ◌++◌, ℕ, List, i
 ghost use Rattle.jc_words.specs.Layout.{text_start};
 ghost use Rattle.std.specs.Io.KnownBytes.{Appends};
 ghost use Rattle.jcard_script.specs.Texts.{AppendsCut};
-ghost use Rattle.jcard_script.specs.Failures.{failures_after};
-ghost use Rattle.jcard_commands.specs.Asked.{Asked, more};
+ghost use Rattle.jc_words.specs.Count.{failures_after};
+ghost use Rattle.jcard_commands.specs.FileRequests.{FileRequests, with_more_requests};
 ghost use Rattle.jcard_commands.specs.Faults.{is_unwritten};
 ghost use Rattle.jcard_commands.specs.Dumps.{IsDump, IsTold, lines_of};
-ghost use Rattle.jcard_commands.specs.Listings.{Tells, applet_text, count_line, line, numbered, package_text, then_lines};
+ghost use Rattle.jcard_commands.specs.Listings.{Tells, applet_text, count_line, line, numbered_lines, package_text, then_lines};
 ghost use Rattle.jcard_commands.specs.Listings.{is_unwritten as is_not_written};
 ghost use Rattle.jcard_commands.specs.Images.{damage_of};
 
 use crate::disk::Disk;
 use crate::fault::{Damage, Fault};
-use crate::listing::{Stop, write_applets, write_count, write_packages};
-use jc_words::{ImageFault, WordStore};
+use crate::listing::{ListingFault, write_applets, write_count, write_packages};
+use jc_words::{ImageFault, LockFile, WordStore};
 use jcard_script::card::inventory::Inventory;
 use jcard_script::streams::{TextOut, WriteFailed};
 use std::rt::Files;
@@ -22,18 +22,22 @@ use std::rt::Files;
 /// A count and what stands before it in its line.
 type Count<'a> = (&'a [u8], u16);
 
-/// Writes what the image of this name holds: how many words, entries of its journal, packages and
-/// applets, a line each, and then a line of each package and of each applet. Nothing is recovered.
+/// `jcard dump IMAGE`: prints what the image of this name holds: how many words, entries of its journal,
+/// packages and applets, a line each, and then a line of each package and of each applet. Nothing is recovered.
 pub fn dump_image<'n, R: Files + AllocGlobal, W: TextOut>(
     disk: &mut Disk<R>,
     image: &'n str,
     out: &mut W,
 ) -> Result<(), Fault<'n>>
-    ensures told { (text : List ℕ) × (files : Asked) × Appends (W.contents out.old) (W.contents out.new) text
-        × IsDump image.now result text files × (disk.new ≡ more files disk.old) }
-    ensures writes { W.failures out.new ≡ failures_after (W.failures out.old) (is_unwritten result) }
+where
+    R::File: LockFile,
+    ensures told { (text : List ℕ) × (files : FileRequests)
+        × Appends (W.contents out.old) (W.contents out.new) text
+        × IsDump image.now result text files × (disk.new ≡ with_more_requests files disk.old) }
+    ensures writes { W.failures out.new ≡ failures_after (W.failures out.old)
+        (is_unwritten result) }
 {
-    match disk.open_image(image) {
+    match disk.open_image_to_read(image) {
         Ok(store) => dump_store(&store, out),
         Err(fault) => Err(fault),
     }
@@ -41,14 +45,16 @@ pub fn dump_image<'n, R: Files + AllocGlobal, W: TextOut>(
 
 // Writes what the words of a store hold.
 fn dump_store<'a, S: WordStore, W: TextOut>(store: &S, out: &mut W) -> Result<(), Fault<'a>>
-    ensures told { (text : List ℕ) × Appends (W.contents out.old) (W.contents out.new) text × IsTold (S.words store.now) result text }
-    ensures writes { W.failures out.new ≡ failures_after (W.failures out.old) (is_unwritten result) }
+    ensures told { (text : List ℕ) × Appends (W.contents out.old) (W.contents out.new) text
+        × IsTold (S.words store.now) result text }
+    ensures writes { W.failures out.new ≡ failures_after (W.failures out.old)
+        (is_unwritten result) }
 {
     match Inventory::of(store) {
         Ok(found) => match write_all_lines(store, found, out) {
             Ok(()) => Ok(()),
-            Err(Stop::NotWritten) => Err(Fault::WriteFailed),
-            Err(Stop::Unreadable) => Err(Fault::BadImage(Damage::Package)),
+            Err(ListingFault::NotWritten) => Err(Fault::WriteFailed),
+            Err(ListingFault::Unreadable) => Err(Fault::BadImage(Damage::Package)),
         },
         Err(fault) => Err(Fault::BadImage(damage_by(fault))),
     }
@@ -59,11 +65,14 @@ fn write_all_lines<S: WordStore, W: TextOut>(
     store: &S,
     found: Inventory,
     out: &mut W,
-) -> Result<(), Stop>
+) -> Result<(), ListingFault>
     requires { text_start ≤ length (S.words store.now) }
     ensures text { Tells (W.contents out.old) (W.contents out.new)
-        (then_lines (line (lines_of found)) (then_lines (numbered (package_text (S.words store.now)) found.packages) (numbered (applet_text (S.words store.now)) found.applets))) result }
-    ensures writes { W.failures out.new ≡ failures_after (W.failures out.old) (is_not_written result) }
+        (then_lines (line (lines_of found)) (then_lines
+        (numbered_lines (package_text (S.words store.now)) found.packages)
+        (numbered_lines (applet_text (S.words store.now)) found.applets))) result }
+    ensures writes { W.failures out.new ≡ failures_after (W.failures out.old)
+        (is_not_written result) }
 {
     write_inventory(found, out)?;
     write_packages(store, found.packages, out)?;
@@ -98,8 +107,12 @@ fn write_inventory<W: TextOut>(found: Inventory, out: &mut W) -> Result<(), Writ
 // Writes the lines of two counts.
 fn write_counts<W: TextOut>(out: &mut W, first: Count, second: Count) -> Result<(), WriteFailed>
     ensures text { MatchResult result
-        (λ _. Appends (W.contents out.old) (W.contents out.new) (count_line first.entry.0.now first.entry.1 ++ count_line second.entry.0.now second.entry.1))
-        (λ _. AppendsCut (W.contents out.old) (W.contents out.new) (count_line first.entry.0.now first.entry.1 ++ count_line second.entry.0.now second.entry.1)) }
+        (λ _. Appends (W.contents out.old) (W.contents out.new)
+        (count_line first.entry.0.now first.entry.1 ++ count_line second.entry.0.now
+        second.entry.1))
+        (λ _. AppendsCut (W.contents out.old) (W.contents out.new)
+        (count_line first.entry.0.now first.entry.1 ++ count_line second.entry.0.now
+        second.entry.1)) }
     ensures count { W.failures out.new ≡ failures_after (W.failures out.old) (is_err result) }
 {
     write_count(out, first.0, first.1)?;

@@ -2,7 +2,7 @@
 ghost use Rattle.std.specs.Prelude.{◌≡◌, ℕ, List, Bool, is_err, MatchResult};
 ghost use Rattle.std.specs.Io.KnownBytes.{Appends};
 ghost use Rattle.jcard_script.specs.Texts.{AppendsCut};
-ghost use Rattle.jcard_script.specs.Failures.{failures_after};
+ghost use Rattle.jc_words.specs.Count.{failures_after};
 ghost use Rattle.jcard_commands.specs.Faults.{check_of, status_of, line_of, IsLastLine};
 
 use itoa::Buffer;
@@ -40,8 +40,12 @@ pub enum Fault<'a> {
     ImageTooSmall,
     /// This file cannot be opened or read.
     CannotRead(&'a str),
+    /// This image cannot be opened to write to it.
+    CannotOpenToWrite(&'a str),
     /// This file cannot be made or written.
     CannotWrite(&'a str),
+    /// Another program has the image open.
+    ImageInUse,
     /// The image is damaged.
     BadImage(Damage),
     /// This line of the script, counted from 1, has no form.
@@ -56,8 +60,10 @@ pub enum Fault<'a> {
 /// a bad command line, 1 for every other fault.
 pub fn tell<W: TextOut>(ended: Result<(), Fault>, out: &mut W) -> u8
     ensures status { result ≡ status_of ended.entry }
-    ensures line { (text : List ℕ) × (failed : Bool) × Appends (W.contents out.old) (W.contents out.new) text
-        × IsLastLine ended.entry failed text × (W.failures out.new ≡ failures_after (W.failures out.old) failed) }
+    ensures line { (text : List ℕ) × (failed : Bool)
+        × Appends (W.contents out.old) (W.contents out.new) text
+        × IsLastLine ended.entry failed text × (W.failures out.new
+        ≡ failures_after (W.failures out.old) failed) }
 {
     let Err(fault) = ended else {
         return 0;
@@ -87,10 +93,13 @@ fn write_line<W: TextOut>(fault: Fault, out: &mut W) -> Result<(), WriteFailed>
             b"\n",
         ),
         Fault::ImageTooSmall => write_all(out, b"jcard: image too small\n"),
-        Fault::CannotRead(path) => write_parts(out, b"jcard: cannot read ", path.as_bytes(), b"\n"),
+        Fault::CannotRead(path) | Fault::CannotOpenToWrite(path) => {
+            write_parts(out, b"jcard: cannot read ", path.as_bytes(), b"\n")
+        }
         Fault::CannotWrite(path) => {
             write_parts(out, b"jcard: cannot write ", path.as_bytes(), b"\n")
         }
+        Fault::ImageInUse => write_all(out, b"jcard: image in use\n"),
         Fault::BadImage(damage) => write_parts(
             out,
             b"jcard: bad image ",

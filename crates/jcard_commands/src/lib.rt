@@ -9,3 +9,4 @@ mod listing;
 pub mod new_image;
 pub mod program;
 pub mod run;
+pub mod trial;

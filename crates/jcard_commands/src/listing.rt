@@ -3,13 +3,14 @@ ghost use Rattle.std.specs.Prelude.{◌≡◌, ◌+◌, ◌*◌, ◌≤◌, ◌+
 ghost use Rattle.std.specs.Io.KnownBytes.{Appends};
 ghost use Rattle.hex.specs.Hex.{encode_upper};
 ghost use Rattle.jc_words.specs.Layout.{text_start};
-ghost use Rattle.jcard_script.specs.Failures.{failures_after};
+ghost use Rattle.jc_words.specs.Count.{failures_after};
 ghost use Rattle.jcard_script.specs.Texts.{AppendsCut};
-ghost use Rattle.jcard_commands.specs.Listings.{Tells, applet_line, applet_text, count_line, is_unwritten, line_if, name_text, numbered, package_line, package_text, version_line};
-ghost use Rattle.jcard_commands.specs.declared.listing.Stop.TheVariants.{NotWritten};
+ghost use Rattle.jcard_commands.specs.Listings.{Tells, applet_line, applet_text, count_line, is_unwritten, line_if, name_text, numbered_lines, package_line};
+ghost use Rattle.jcard_commands.specs.Listings.{package_text, version_line};
+ghost use Rattle.jcard_commands.specs.declared.listing.ListingFault.TheVariants.{NotWritten};
 
 use itoa::Buffer;
-use jc_listing::{AppletName, PackageName, applet_at, package_at};
+use jc_image::{AppletName, PackageName, applet_at, package_at};
 use jc_words::WordStore;
 use jcard_script::streams::{TextOut, WriteFailed, write_all, write_parts};
 
@@ -18,18 +19,18 @@ const MOST_AID: usize = 26;
 
 /// Why lines end early.
 #[derive(Clone, Copy, Debug, PartialEq, Eq, Drop)]
-pub(crate) enum Stop {
+pub(crate) enum ListingFault {
     /// The words tell no such package or applet.
     Unreadable,
     /// A write failed.
     NotWritten,
 }
 
-impl From<WriteFailed> for Stop {
+impl From<WriteFailed> for ListingFault {
     ghost from_gives = { λ e stop. stop ≡ NotWritten };
 
     fn from(_: WriteFailed) -> Self {
-        Stop::NotWritten
+        ListingFault::NotWritten
     }
 }
 
@@ -38,10 +39,12 @@ pub(crate) fn write_packages<S: WordStore, W: TextOut>(
     store: &S,
     count: u16,
     out: &mut W,
-) -> Result<(), Stop>
+) -> Result<(), ListingFault>
     requires { text_start ≤ length (S.words store.now) }
-    ensures text { Tells (W.contents out.old) (W.contents out.new) (numbered (package_text (S.words store.now)) count) result }
-    ensures writes { W.failures out.new ≡ failures_after (W.failures out.old) (is_unwritten result) }
+    ensures text { Tells (W.contents out.old) (W.contents out.new)
+        (numbered_lines (package_text (S.words store.now)) count) result }
+    ensures writes { W.failures out.new ≡ failures_after (W.failures out.old)
+        (is_unwritten result) }
 {
     for i in 0..count {
         write_package_at(store, i + 1, out)?;
@@ -54,10 +57,12 @@ pub(crate) fn write_applets<S: WordStore, W: TextOut>(
     store: &S,
     count: u16,
     out: &mut W,
-) -> Result<(), Stop>
+) -> Result<(), ListingFault>
     requires { text_start ≤ length (S.words store.now) }
-    ensures text { Tells (W.contents out.old) (W.contents out.new) (numbered (applet_text (S.words store.now)) count) result }
-    ensures writes { W.failures out.new ≡ failures_after (W.failures out.old) (is_unwritten result) }
+    ensures text { Tells (W.contents out.old) (W.contents out.new)
+        (numbered_lines (applet_text (S.words store.now)) count) result }
+    ensures writes { W.failures out.new ≡ failures_after (W.failures out.old)
+        (is_unwritten result) }
 {
     for i in 0..count {
         write_applet_at(store, i + 1, out)?;
@@ -70,13 +75,15 @@ fn write_package_at<S: WordStore, W: TextOut>(
     store: &S,
     number: u16,
     out: &mut W,
-) -> Result<(), Stop>
+) -> Result<(), ListingFault>
     requires { text_start ≤ length (S.words store.now) }
-    ensures text { Tells (W.contents out.old) (W.contents out.new) (line_if (package_text (S.words store.now) number)) result }
-    ensures writes { W.failures out.new ≡ failures_after (W.failures out.old) (is_unwritten result) }
+    ensures text { Tells (W.contents out.old) (W.contents out.new)
+        (line_if (package_text (S.words store.now) number)) result }
+    ensures writes { W.failures out.new ≡ failures_after (W.failures out.old)
+        (is_unwritten result) }
 {
     let Some(named) = package_at(store, number) else {
-        return Err(Stop::Unreadable);
+        return Err(ListingFault::Unreadable);
     };
     write_package(&named, number, out)?;
     Ok(())
@@ -87,13 +94,15 @@ fn write_applet_at<S: WordStore, W: TextOut>(
     store: &S,
     number: u16,
     out: &mut W,
-) -> Result<(), Stop>
+) -> Result<(), ListingFault>
     requires { text_start ≤ length (S.words store.now) }
-    ensures text { Tells (W.contents out.old) (W.contents out.new) (line_if (applet_text (S.words store.now) number)) result }
-    ensures writes { W.failures out.new ≡ failures_after (W.failures out.old) (is_unwritten result) }
+    ensures text { Tells (W.contents out.old) (W.contents out.new)
+        (line_if (applet_text (S.words store.now) number)) result }
+    ensures writes { W.failures out.new ≡ failures_after (W.failures out.old)
+        (is_unwritten result) }
 {
     let Some(named) = applet_at(store, number) else {
-        return Err(Stop::Unreadable);
+        return Err(ListingFault::Unreadable);
     };
     write_applet(&named, number, out)?;
     Ok(())
@@ -106,7 +115,8 @@ fn write_package<W: TextOut>(
 ) -> Result<(), WriteFailed>
     ensures text { MatchResult result
         (λ _. Appends (W.contents out.old) (W.contents out.new) (package_line number named.now))
-        (λ _. AppendsCut (W.contents out.old) (W.contents out.new) (package_line number named.now)) }
+        (λ _. AppendsCut (W.contents out.old) (W.contents out.new)
+        (package_line number named.now)) }
     ensures count { W.failures out.new ≡ failures_after (W.failures out.old) (is_err result) }
 {
     write_name(out, b"package ", number, named.aid())?;
@@ -133,7 +143,8 @@ fn write_name<W: TextOut>(
     requires { length aid.now ≤ 26 }
     ensures text { MatchResult result
         (λ _. Appends (W.contents out.old) (W.contents out.new) (name_text name.now number aid.now))
-        (λ _. AppendsCut (W.contents out.old) (W.contents out.new) (name_text name.now number aid.now)) }
+        (λ _. AppendsCut (W.contents out.old) (W.contents out.new)
+        (name_text name.now number aid.now)) }
     ensures count { W.failures out.new ≡ failures_after (W.failures out.old) (is_err result) }
 {
     let mut digits = Buffer::new();
@@ -146,7 +157,8 @@ fn write_aid<W: TextOut>(out: &mut W, aid: &[u8]) -> Result<(), WriteFailed>
     requires { length aid.now ≤ 26 }
     ensures text { MatchResult result
         (λ _. Appends (W.contents out.old) (W.contents out.new) (encode_upper aid.now ++ codes " "))
-        (λ _. AppendsCut (W.contents out.old) (W.contents out.new) (encode_upper aid.now ++ codes " ")) }
+        (λ _. AppendsCut (W.contents out.old) (W.contents out.new)
+        (encode_upper aid.now ++ codes " ")) }
     ensures count { W.failures out.new ≡ failures_after (W.failures out.old) (is_err result) }
 {
     let mut text = [0u8; 2 * MOST_AID + 1];

@@ -1,7 +1,7 @@
 //! Making an image.
 ghost use Rattle.std.specs.Prelude.{ℕ, ◌≡◌, ◌≤◌, None, IfOk, IfErr, IfSome, length, take};
 ghost use Rattle.jc_words.specs.Layout.{least_size};
-ghost use Rattle.jcard_commands.specs.Asked.{Asked, asked, more};
+ghost use Rattle.jcard_commands.specs.FileRequests.{FileRequests, file_requests, with_more_requests};
 ghost use Rattle.jcard_commands.specs.Images.{IsNotRead};
 ghost use Rattle.jcard_commands.specs.NewImages.{IsMadeFrom, IsNew, IsTable, IsWordCount};
 
@@ -9,8 +9,8 @@ use crate::disk::Disk;
 use crate::fault::Fault;
 use jc_platform::fault::TableFault;
 use jc_platform::read::read_table;
-use jc_words::WordStore;
 use jc_words::layout::LEAST_SIZE;
+use jc_words::{LockFile, WordStore};
 use jcard_script::card::formatting::{FormatFault, format};
 use std::alloc::Global;
 use std::io::Read;
@@ -21,14 +21,17 @@ const READ_LIMIT: u64 = 16_385;
 
 /// Makes an image of this name with so many words, a decimal number, from the platform table in
 /// the file of the last name. A file that is there is replaced, but only where the number and the
-/// table are good.
+/// table are good and nobody has it open.
 pub fn make_image<'n, R: Files + AllocGlobal>(
     disk: &mut Disk<R>,
     image: &'n str,
     words: &str,
     table: &'n str,
 ) -> Result<(), Fault<'n>>
-    ensures { (files : Asked) × IsNew image.now words.now table.now result files × (disk.new ≡ more files disk.old) }
+where
+    R::File: LockFile,
+    ensures { (files : FileRequests) × IsNew image.now words.now table.now result files
+        × (disk.new ≡ with_more_requests files disk.old) }
 {
     let Some(count) = word_count(words) else {
         return Err(Fault::BadWords);
@@ -39,8 +42,8 @@ pub fn make_image<'n, R: Files + AllocGlobal>(
     }
 }
 
-// The number of words that a text tells, if an image can have so many.
-fn word_count(text: &str) -> Option<u16>
+/// The number of words that a text tells, if an image can have so many.
+pub(crate) fn word_count(text: &str) -> Option<u16>
     ensures some { IfSome result (λ count. IsWordCount text.now count) }
     ensures none { result ≡ None → (count : ℕ) → IsWordCount text.now count → ⊥ }
 {
@@ -53,13 +56,15 @@ fn word_count(text: &str) -> Option<u16>
     }
 }
 
-// What the file of this name holds, up to the limit.
-fn text_of<'n, R: Files + AllocGlobal>(
+/// What the file of this name holds, up to the limit.
+pub(crate) fn text_of<'n, R: Files + AllocGlobal>(
     disk: &mut Disk<R>,
     name: &'n str,
 ) -> Result<Vec<u8>, Fault<'n>>
+where
+    R::File: LockFile,
     ensures refused { IfErr result (λ fault. IsNotRead name.now fault) }
-    ensures counted { disk.new ≡ more (asked 1 0) disk.old }
+    ensures counted { disk.new ≡ with_more_requests (file_requests 1 0 0) disk.old }
 {
     match disk.open_text(name) {
         Ok(mut file) => read_text(disk.alloc(), name, &mut file),
@@ -69,7 +74,8 @@ fn text_of<'n, R: Files + AllocGlobal>(
 
 // What is left in the file of this name, up to the limit.
 fn read_text<'a, F: Read>(alloc: Global, path: &'a str, file: &mut F) -> Result<Vec<u8>, Fault<'a>>
-    ensures bytes { IfOk result (λ text. IfSome (F.remaining file.old) (λ bytes. text.items ≡ take 16385 bytes)) }
+    ensures bytes { IfOk result (λ text. IfSome (F.remaining file.old)
+        (λ bytes. text.items ≡ take 16385 bytes)) }
     ensures refused { IfErr result (λ fault. IsNotRead path.now fault) }
 {
     let Ok(mut text) = Vec::with_capacity(alloc, READ_LIMIT as usize + 1) else {
@@ -88,8 +94,11 @@ fn make_from<'n, R: Files + AllocGlobal>(
     count: u16,
     text: &[u8],
 ) -> Result<(), Fault<'n>>
+where
+    R::File: LockFile,
     requires { least_size ≤ count }
-    ensures { (files : Asked) × IsMadeFrom image.now count text.now result files × (disk.new ≡ more files disk.old) }
+    ensures { (files : FileRequests) × IsMadeFrom image.now count text.now result files
+        × (disk.new ≡ with_more_requests files disk.old) }
 {
     match read_table(text) {
         Ok(_) => (),
@@ -109,7 +118,7 @@ fn lay_image<'a, S: WordStore + Drop>(
 ) -> Result<(), Fault<'a>>
     requires enough { least_size ≤ length (S.words store) }
     requires table { IsTable text.now }
-    ensures { IsMadeFrom image.now (length (S.words store)) text.now result (asked 0 1) }
+    ensures { IsMadeFrom image.now (length (S.words store)) text.now result (file_requests 0 0 1) }
 {
     let (_store, made) = format(store, text);
     match made {

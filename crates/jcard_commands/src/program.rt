@@ -1,32 +1,71 @@
 //! The program, from its arguments to its exit status.
-ghost use Rattle.std.specs.Prelude.{◌≡◌, ◌⊎◌, ◌++◌, ℕ, List, Bool, Result};
+ghost use Rattle.std.specs.Prelude.{◌≡◌, ◌⊎◌, ◌++◌, ℕ, List, Bool, Result, Err};
 ghost use Rattle.std.specs.Io.KnownBytes.{Appends};
-ghost use Rattle.jcard_commands.specs.Asked.{Asked};
-ghost use Rattle.jcard_commands.specs.Faults.{failures_of, status_of, IsLastLine, IsStarted};
+ghost use Rattle.jcard_commands.specs.FileRequests.{FileRequests};
+ghost use Rattle.jcard_commands.specs.Faults.{failures_of, status_of, IsLastLine, IsStarted, IsUnbegun};
 ghost use Rattle.jcard_commands.specs.declared.fault.Fault.{Fault};
 
 use crate::disk::Disk;
 use crate::fault::{Fault, tell};
-use crate::run::run_words;
+use crate::run::perform;
+use jc_words::LockFile;
 use jcard_script::streams::TextOut;
 use std::env::{self, Env};
-use std::io::ErrorKind;
+use std::fs;
+use std::io::{self, ErrorKind};
 use std::rt::Files;
 
+// A folder that is opened in the place of closed standard streams: reads and writes of it fail.
+const FOLDER: &str = "/";
+
 /// Does what the program's arguments ask for, and answers the exit status. Arguments that are no
-/// text are a bad command line.
-pub fn run_program<R: Env + Files + AllocGlobal, W: TextOut>(rt: &R, out: &mut W) -> u8
-    ensures { (text last : List ℕ) × (ended : Result Unit Fault) × (files : Asked) × (failed : Bool)
+/// text are a bad command line. Before any other file is opened, standard streams that are closed
+/// are opened on a folder, so that none of these files stands in their place.
+pub fn run_program<R: Env + Files + Eprint + AllocGlobal, W: TextOut>(rt: &R, out: &mut W) -> u8
+where
+    R::File: LockFile,
+    ensures { (text last : List ℕ) × (ended : Result Unit Fault) × (files : FileRequests)
+        × (failed : Bool)
         × Appends (W.contents out.old) (W.contents out.new) (text ++ last)
         × IsStarted ended text files × IsLastLine ended failed last
-        × (W.failures out.new ≡ failures_of (W.failures out.old) ended failed) × (result ≡ status_of ended) }
+        × (W.failures out.new ≡ failures_of (W.failures out.old) ended failed)
+        × (result ≡ status_of ended) }
 {
+    let Ok(_streams) = opened_streams(rt) else {
+        return tell(Err(folder_fault()), out);
+    };
     match env::args(rt) {
         Ok(args) => match args.collect::<Vec<String>>(rt.alloc()) {
-            Ok(words) => run_words(&mut Disk::new(rt), &words, out),
+            Ok(words) => {
+                let ended = perform(&mut Disk::new(rt), &words, out);
+                explain(rt, ended);
+                tell(ended, out)
+            }
             Err(_) => tell(Err(Fault::NoMemory), out),
         },
         Err(error) => tell(Err(fault_of(error.kind())), out),
+    }
+}
+
+// As many openings of a folder as there are standard streams. The closed ones are the first to be taken.
+fn opened_streams<R: Files>(rt: &R) -> io::Result<(R::File, R::File, R::File)> {
+    let first = fs::open(rt, FOLDER)?;
+    let second = fs::open(rt, FOLDER)?;
+    let third = fs::open(rt, FOLDER)?;
+    Ok((first, second, third))
+}
+
+// The folder cannot be opened.
+fn folder_fault() -> Fault<'static>
+    ensures { IsUnbegun (Err result) }
+{
+    Fault::CannotRead(FOLDER)
+}
+
+// Says on standard error what the last line leaves open.
+fn explain<R: Eprint>(rt: &R, ended: Result<(), Fault>) {
+    if let Err(Fault::CannotOpenToWrite(path)) = ended {
+        let _ = eprintln!(rt; "jcard: {path} cannot be opened for writing");
     }
 }
 

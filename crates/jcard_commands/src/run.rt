@@ -4,12 +4,12 @@ ghost use Rattle.std.specs.Bool.{OnTrue};
 ghost use Rattle.std.specs.String.{string_bytes};
 ghost use Rattle.std.specs.Io.KnownBytes.{Appends, Consumes};
 ghost use Rattle.jc_words.specs.Files.{IsImageSize};
-ghost use Rattle.jc_words.specs.Stores.{Fused};
-ghost use Rattle.jcard_script.specs.Failures.{failures_after};
+ghost use Rattle.jc_words.specs.Stores.{FuseStoreValue};
+ghost use Rattle.jc_words.specs.Count.{failures_after};
 ghost use Rattle.jcard_script.specs.Script.{Ends, IsWholeScript, is_write_failed};
 ghost use Rattle.jcard_script.specs.declared.script.ScriptFault.{ScriptFault};
 ghost use Rattle.jcard_commands.specs.CommandLine.{request_by};
-ghost use Rattle.jcard_commands.specs.Asked.{Asked, more};
+ghost use Rattle.jcard_commands.specs.FileRequests.{FileRequests, with_more_requests};
 ghost use Rattle.jcard_commands.specs.Faults.{status_of, failures_of, is_unwritten, IsDone, IsFresh, IsLastLine, IsOutcomeOf, IsPerformed, IsRun, IsUnpowered};
 ghost use Rattle.jcard_commands.specs.declared.fault.Fault.{Fault};
 
@@ -18,7 +18,8 @@ use crate::disk::Disk;
 use crate::dump::dump_image;
 use crate::fault::{Damage, Fault, tell};
 use crate::new_image::make_image;
-use jc_words::{FuseStore, WordStore};
+use crate::trial::try_script;
+use jc_words::{FuseStore, LockFile, WordStore};
 use jcard_script::card::power_up::PowerFault;
 use jcard_script::script::{ScriptFault, run_script};
 use jcard_script::std_text::StdText;
@@ -33,24 +34,33 @@ pub fn run_words<R: Files + AllocGlobal, W: TextOut>(
     words: &[String],
     out: &mut W,
 ) -> u8
-    ensures { (text last : List ℕ) × (ended : Result Unit Fault) × (files : Asked) × (failed : Bool)
+where
+    R::File: LockFile,
+    ensures { (text last : List ℕ) × (ended : Result Unit Fault) × (files : FileRequests)
+        × (failed : Bool)
         × Appends (W.contents out.old) (W.contents out.new) (text ++ last)
         × IsPerformed (map string_bytes words.now) ended text files × IsLastLine ended failed last
         × (W.failures out.new ≡ failures_of (W.failures out.old) ended failed)
-        × (disk.new ≡ more files disk.old) × (result ≡ status_of ended) }
+        × (disk.new ≡ with_more_requests files disk.old) × (result ≡ status_of ended) }
 {
     let ended = perform(disk, words, out);
     tell(ended, out)
 }
 
-fn perform<'n, R: Files + AllocGlobal, W: TextOut>(
+/// Does what the words ask for.
+pub(crate) fn perform<'n, R: Files + AllocGlobal, W: TextOut>(
     disk: &mut Disk<R>,
     words: &'n [String],
     out: &mut W,
 ) -> Result<(), Fault<'n>>
-    ensures done { (text : List ℕ) × (files : Asked) × Appends (W.contents out.old) (W.contents out.new) text
-        × IsPerformed (map string_bytes words.now) result text files × (disk.new ≡ more files disk.old) }
-    ensures writes { W.failures out.new ≡ failures_after (W.failures out.old) (is_unwritten result) }
+where
+    R::File: LockFile,
+    ensures done { (text : List ℕ) × (files : FileRequests)
+        × Appends (W.contents out.old) (W.contents out.new) text
+        × IsPerformed (map string_bytes words.now) result text files
+        × (disk.new ≡ with_more_requests files disk.old) }
+    ensures writes { W.failures out.new ≡ failures_after (W.failures out.old)
+        (is_unwritten result) }
 {
     match parse(disk.alloc(), words) {
         Ok(action) => act(disk, action, out),
@@ -63,9 +73,14 @@ fn act<'n, R: Files + AllocGlobal, W: TextOut>(
     action: Action<'n>,
     out: &mut W,
 ) -> Result<(), Fault<'n>>
-    ensures done { (text : List ℕ) × (files : Asked) × Appends (W.contents out.old) (W.contents out.new) text
-        × IsDone (Some (request_by action.entry)) result text files × (disk.new ≡ more files disk.old) }
-    ensures writes { W.failures out.new ≡ failures_after (W.failures out.old) (is_unwritten result) }
+where
+    R::File: LockFile,
+    ensures done { (text : List ℕ) × (files : FileRequests)
+        × Appends (W.contents out.old) (W.contents out.new) text
+        × IsDone (Some (request_by action.entry)) result text files
+        × (disk.new ≡ with_more_requests files disk.old) }
+    ensures writes { W.failures out.new ≡ failures_after (W.failures out.old)
+        (is_unwritten result) }
 {
     match action {
         Action::New {
@@ -75,6 +90,11 @@ fn act<'n, R: Files + AllocGlobal, W: TextOut>(
         } => make_image(disk, image, words, table),
         Action::Run { image, script } => run_file(disk, image, script, out),
         Action::Dump { image } => dump_image(disk, image, out),
+        Action::Try {
+            script,
+            words,
+            table,
+        } => try_script(disk, script, words, table, out),
     }
 }
 
@@ -85,9 +105,14 @@ fn run_file<'n, R: Files + AllocGlobal, W: TextOut>(
     script: &'n str,
     out: &mut W,
 ) -> Result<(), Fault<'n>>
-    ensures done { (text : List ℕ) × (files : Asked) × Appends (W.contents out.old) (W.contents out.new) text
-        × IsRun image.now script.now result text files × (disk.new ≡ more files disk.old) }
-    ensures writes { W.failures out.new ≡ failures_after (W.failures out.old) (is_unwritten result) }
+where
+    R::File: LockFile,
+    ensures done { (text : List ℕ) × (files : FileRequests)
+        × Appends (W.contents out.old) (W.contents out.new) text
+        × IsRun image.now script.now result text files
+        × (disk.new ≡ with_more_requests files disk.old) }
+    ensures writes { W.failures out.new ≡ failures_after (W.failures out.old)
+        (is_unwritten result) }
 {
     let store = match disk.open_image(image) {
         Ok(store) => store,
@@ -101,15 +126,15 @@ fn run_file<'n, R: Files + AllocGlobal, W: TextOut>(
     run_named(disk.alloc(), names, store, &mut StdText::new(file), out)
 }
 
-// The names of the files of a run.
+/// The names of an image and of a script.
 #[derive(Clone, Copy, Drop)]
-struct Names<'a> {
-    image: &'a str,
-    script: &'a str,
+pub(crate) struct Names<'a> {
+    pub(crate) image: &'a str,
+    pub(crate) script: &'a str,
 }
 
-// Carries out the script on the card of this store.
-fn run_named<'a, S: WordStore + Drop, I: TextIn, W: TextOut>(
+/// Carries out the script on the card of this store.
+pub(crate) fn run_named<'a, S: WordStore + Drop, I: TextIn, W: TextOut>(
     alloc: Global,
     names: Names<'a>,
     store: S,
@@ -119,12 +144,16 @@ fn run_named<'a, S: WordStore + Drop, I: TextIn, W: TextOut>(
     requires size { IsImageSize (2 * length (S.words store)) }
     requires fresh { S.passed store ≡ 0 }
     requires unrefused { S.refused store ≡ 0 }
-    ensures done { (bytes text : List ℕ) × (before after : Fused) × (at_end : Bool) × (ended : Result Unit ScriptFault)
+    ensures done { (bytes text : List ℕ) × (before after : FuseStoreValue) × (at_end : Bool)
+        × (ended : Result Unit ScriptFault)
         × Consumes (I.remaining script.old) (I.remaining script.new) bytes
         × Appends (W.contents out.old) (W.contents out.new) text
         × OnTrue at_end (IsWholeScript (I.remaining script.new) bytes)
-        × IsFresh before × Ends ended before after at_end bytes text × IsOutcomeOf names.entry.image.now names.entry.script.now ended result }
-    ensures writes { W.failures out.new ≡ failures_after (W.failures out.old) (is_unwritten result) }
+        × IsFresh before × Ends ended before after at_end bytes text
+        × IsOutcomeOf names.entry.image.now names.entry.script.now ended result
+        × (before.words ≡ S.words store) }
+    ensures writes { W.failures out.new ≡ failures_after (W.failures out.old)
+        (is_unwritten result) }
 {
     match run_on(alloc, store, script, out) {
         Ok(()) => Ok(()),
@@ -132,7 +161,7 @@ fn run_named<'a, S: WordStore + Drop, I: TextIn, W: TextOut>(
         Err(ScriptFault::WriteFailed) => Err(Fault::WriteFailed),
         Err(ScriptFault::BadLine(n)) => Err(Fault::BadCommand(n)),
         Err(ScriptFault::TooLong) => Err(Fault::ScriptTooLong),
-        Err(ScriptFault::PowerFault(cause)) => Err(unpowered(names.image, cause)),
+        Err(ScriptFault::PowerFault(cause)) => Err(power_up_fault(names.image, cause)),
     }
 }
 
@@ -146,19 +175,21 @@ fn run_on<S: WordStore + Drop, I: TextIn, W: TextOut>(
     requires size { IsImageSize (2 * length (S.words store)) }
     requires fresh { S.passed store ≡ 0 }
     requires unrefused { S.refused store ≡ 0 }
-    ensures done { (bytes text : List ℕ) × (before after : Fused) × (at_end : Bool)
+    ensures done { (bytes text : List ℕ) × (before after : FuseStoreValue) × (at_end : Bool)
         × Consumes (I.remaining script.old) (I.remaining script.new) bytes
         × Appends (W.contents out.old) (W.contents out.new) text
         × OnTrue at_end (IsWholeScript (I.remaining script.new) bytes)
-        × IsFresh before × Ends result before after at_end bytes text }
-    ensures writes { W.failures out.new ≡ failures_after (W.failures out.old) (is_write_failed result) }
+        × IsFresh before × Ends result before after at_end bytes text
+        × (before.words ≡ S.words store) }
+    ensures writes { W.failures out.new ≡ failures_after (W.failures out.old)
+        (is_write_failed result) }
 {
     let (_store, ended) = run_script(alloc, FuseStore::new(store), script, out);
     ended
 }
 
 // What it means that the card of the image of this name does not power up.
-fn unpowered(image: &str, cause: PowerFault) -> Fault<'_>
+fn power_up_fault(image: &str, cause: PowerFault) -> Fault<'_>
     ensures { IsUnpowered image.now cause result }
 {
     match cause {

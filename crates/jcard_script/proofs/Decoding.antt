@@ -1,13 +1,14 @@
 -- What the kept digits of a line spell.
-use Rattle.std.proofs.Common.{◌≡◌, ℕ, zero, suc, ◌+◌, ◌*◌, ◌%◌, ◌==◌, Bool, true, false, if◌then◌else◌, List, [], ◌∷◌, length, take, Result, Ok, Err, refl, sym, ◌∙◌, ap, arith, length-take}
+use Rattle.std.proofs.Common.{◌≡◌, ℕ, zero, suc, ◌+◌, ◌*◌, ◌%◌, ◌==◌, Bool, true, false, if◌then◌else◌, List, [], ◌∷◌, length, take, Result, Ok, Err, refl, sym}
+use Rattle.std.proofs.Common.{◌∙◌, ap, arith, length-take}
 use Rattle.std.specs.List.{list_all}
 use Rattle.std.specs.Result.{result_unwrap_or}
 use Rattle.std.proofs.lemmas.List.Sums.{AllPass-from_list_all, list_all-from_AllPass}
-use Rattle.std.proofs.lemmas.Bool.{eqb-true, eqb-false}
+use Rattle.std.proofs.lemmas.Bool.{eqb-false}
 use Rattle.hex.specs.Hex.{decode_of, decode_pairs, is_hex_digit, pair_value, IsBytes, ◌>>=◌}
 use Rattle.hex.specs.declared.error.FromHexError.{FromHexError}
-use Rattle.hex.proofs.HexLemmas.{decode_of-ok, decode_of-odd, decode_of-even, decode_of-digits, decode_of-same}
-use Rattle.jcard_script.specs.Script.{Command, Skipped, Bad, plain_form_of, form_of_decoded, spaceless}
+use Rattle.hex.proofs.HexLemmas.{decode_of-ok, decode_of-even, decode_of-digits, decode_of-same}
+use Rattle.jcard_script.specs.Script.{Command, Skipped, Bad, plain_form_of, form_of_decoded, without_spaces}
 use Rattle.jcard_script.specs.Line.{IsPlain}
 
 step : (p : Result ℕ FromHexError) (r s : Result (List ℕ) FromHexError) (n : ℕ) (bytes : List ℕ)
@@ -33,7 +34,7 @@ take_pairs (suc n) i (a ∷ b ∷ rest) bytes h =
     let two : 2 * suc n ≡ suc (suc (2 * n)) = omega arith in
     rw two (step (pair_value a b i) (decode_pairs (i + 2) rest) (decode_pairs (i + 2) (take (2 * n) rest)) n bytes h (λ bs e. take_pairs n (i + 2) rest bs e))
 
-form_plain : (line : List ℕ) → IsPlain line → plain_form_of line ≡ form_of_decoded (decode_of (spaceless line))
+form_plain : (line : List ℕ) → IsPlain line → plain_form_of line ≡ form_of_decoded (decode_of (without_spaces line))
 form_plain [] h = absurd h
 form_plain (x ∷ line) h = rw h refl
 
@@ -42,21 +43,19 @@ bad_err (Ok bytes) h = absurd (h bytes refl)
 bad_err (Err e) h = refl
 
 -- a line with anything but digits and spaces
-pub bad_digits : (line : List ℕ) → IsPlain line → list_all is_hex_digit (spaceless line) ≡ false → plain_form_of line ≡ Bad
+pub bad_digits : (line : List ℕ) → IsPlain line → list_all is_hex_digit (without_spaces line) ≡ false → plain_form_of line ≡ Bad
 bad_digits line plain h =
     form_plain line plain
-    ∙ bad_err (decode_of (spaceless line)) (λ bytes e. let all = list_all-from_AllPass is_hex_digit (spaceless line) (decode_of-ok (spaceless line) bytes e).1 in cc (sym h ∙ all))
-
--- an odd number of digits
-pub bad_odd : (line : List ℕ) → IsPlain line → (length (spaceless line) % 2 == 1) ≡ true → plain_form_of line ≡ Bad
-bad_odd line plain h = form_plain line plain ∙ ap form_of_decoded (decode_of-odd (spaceless line) (eqb-true (length (spaceless line) % 2) 1 h))
+    ∙ bad_err (decode_of (without_spaces line))
+    (λ bytes e. let all = list_all-from_AllPass is_hex_digit (without_spaces line) (decode_of-ok (without_spaces line) bytes e).1 in cc (sym h ∙ all))
 
 -- the digits that are kept spell the first bytes of the command
-pub good_digits : (line digits command : List ℕ) → IsPlain line → list_all is_hex_digit (spaceless line) ≡ true → (length (spaceless line) % 2 == 1) ≡ false
-    → digits ≡ take 524 (spaceless line) → decode_of digits ≡ Ok command
+pub good_digits : (line digits command : List ℕ) → IsPlain line → list_all is_hex_digit (without_spaces line) ≡ true
+    → (length (without_spaces line) % 2 == 1) ≡ false
+    → digits ≡ take 524 (without_spaces line) → decode_of digits ≡ Ok command
     → (bytes : List ℕ) × (plain_form_of line ≡ Command bytes) × (command ≡ take 262 bytes)
 good_digits line digits command plain all even kept e =
-    let s = spaceless line in
+    let s = without_spaces line in
     let ne = eqb-false (length s % 2) 1 even in
     let two : length s % 2 ≡ 0 = omega (arith, ne) in
     let whole = decode_of-digits s two (AllPass-from_list_all is_hex_digit s all) in
@@ -71,10 +70,10 @@ good_digits line digits command plain all even kept e =
 
 -- ---- so they do not spell nothing
 
-pub some_digits : (line digits : List ℕ) → list_all is_hex_digit (spaceless line) ≡ true → (length (spaceless line) % 2 == 1) ≡ false
-    → digits ≡ take 524 (spaceless line) → (command : List ℕ) × (decode_of digits ≡ Ok command)
+pub some_digits : (line digits : List ℕ) → list_all is_hex_digit (without_spaces line) ≡ true → (length (without_spaces line) % 2 == 1) ≡ false
+    → digits ≡ take 524 (without_spaces line) → (command : List ℕ) × (decode_of digits ≡ Ok command)
 some_digits line digits all even kept =
-    let s = spaceless line in
+    let s = without_spaces line in
     let ne = eqb-false (length s % 2) 1 even in
     let two : length s % 2 ≡ 0 = omega (arith, ne) in
     let whole = decode_of-digits s two (AllPass-from_list_all is_hex_digit s all) in
@@ -92,5 +91,5 @@ decoded_command false (Err e) bytes h = cc h
 pub command_bytes : (line bytes : List ℕ) → plain_form_of line ≡ Command bytes → IsBytes bytes
 command_bytes [] bytes h = cc h
 command_bytes (x ∷ line) bytes h =
-    let s = spaceless (x ∷ line) in
+    let s = without_spaces (x ∷ line) in
     (decode_of-ok s bytes (decoded_command (x == 35) (decode_of s) bytes h)).3

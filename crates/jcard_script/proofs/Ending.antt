@@ -1,38 +1,42 @@
 -- How lines and scripts end.
-use Rattle.std.proofs.Common.{◌≡◌, ℕ, ◌+◌, ◌<◌, true, false, List, [], ◌∷◌, ◌++◌, length, take, Result, Ok, Err, refl, sym, ◌∙◌, ap, subst, arith, append_assoc, append-nil, length-append, get_or, drop, take-append-drop}
+use Rattle.std.proofs.Common.{◌≡◌, ℕ, ◌+◌, ◌<◌, true, false, List, [], ◌∷◌, ◌++◌, length, take, Result, Ok, Err, refl, sym, ◌∙◌, ap, subst, arith, append_assoc}
+use Rattle.std.proofs.Common.{append-nil, length-append, get_or, drop, take-append-drop}
 use Rattle.std.proofs.lemmas.List.{take_more}
 use Rattle.std.specs.Prelude.{OnOk}
 use Rattle.std.specs.Str.Lines.{lines}
-use Rattle.jcard_script.specs.Standing.{Standing}
-use Rattle.jcard_script.specs.Script.{Form, form_of, AreCarriedOut, StopsAtBad, StopsAtReset, StopsInside, EndsFrom, ended_lines, bound}
-use Rattle.jcard_script.specs.Session.{LineEnds, LineFails, LinesEnd, begun_line}
+use Rattle.jcard_script.specs.ScriptStates.{ScriptState}
+use Rattle.jcard_script.specs.Script.{Form, form_of, AreCarriedOut, FailsAtBadLine, FailsAtReset, EndsInsideLine, EndsFrom, ended_lines, bound}
+use Rattle.jcard_script.specs.Session.{LineEnds, LineFails, LinesEnd, unfinished_line}
 use Rattle.jcard_script.specs.declared.script.ScriptFault.{ScriptFault}
 use Rattle.jcard_script.specs.declared.script.ScriptFault.TheVariants.{ReadFailed, WriteFailed, BadLine, TooLong, PowerFault}
 use Rattle.jcard_script.proofs.Carried.{carried_more, bad_more, reset_more, cut_more, bad_then, reset_then, cut_then}
 use Rattle.jcard_script.proofs.Parts.{last_line, lines_whole, ended_more}
 
 -- one more line after those that were carried out
-pub line_done : (r : Result Unit ScriptFault) (n : ℕ) (all : List (List ℕ)) (line text more : List ℕ) (s t u : Standing) → AreCarriedOut all s t text → n ≡ length all + 1
+pub line_done : (r : Result Unit ScriptFault) (n : ℕ) (all : List (List ℕ)) (line text more : List ℕ) (s t u : ScriptState) → AreCarriedOut all s t text
+    → n ≡ length all + 1
     → LineEnds r n (form_of line) t u more → LinesEnd r (all ++ line ∷ []) s u (text ++ more)
 line_done (Ok done) n all line text more s t u h number k = carried_more all line text more s t u h k
 line_done (Err (BadLine b)) n all line text more s t u h number k =
     let same : text ++ more ≡ text = ap (λ l. text ++ l) k.3 ∙ append-nil text in
-    subst (λ x. StopsAtBad b (all ++ line ∷ []) s x (text ++ more)) (sym k.2)
-    (subst (StopsAtBad b (all ++ line ∷ []) s t) (sym same) (bad_more b all line text s t h k.0 (k.1 ∙ number)))
+    subst (λ x. FailsAtBadLine b (all ++ line ∷ []) s x (text ++ more)) (sym k.2)
+    (subst (FailsAtBadLine b (all ++ line ∷ []) s t) (sym same) (bad_more b all line text s t h k.0 (k.1 ∙ number)))
 line_done (Err (PowerFault f)) n all line text more s t u h number k =
     let same : text ++ more ≡ text = ap (λ l. text ++ l) k.2 ∙ append-nil text in
-    subst (StopsAtReset f (all ++ line ∷ []) s u) (sym same) (reset_more f all line text s t u h k.0 k.1)
+    subst (FailsAtReset f (all ++ line ∷ []) s u) (sym same) (reset_more f all line text s t u h k.0 k.1)
 line_done (Err WriteFailed) n all line text more s t u h number k = cut_more all line text k.0 more s t u h k.1 k.2
 line_done (Err ReadFailed) n all line text more s t u h number k = absurd k
 line_done (Err TooLong) n all line text more s t u h number k = absurd k
 
 -- the end of a script ends its last line, if it has a byte
-pub script_done : (r : Result Unit ScriptFault) (n : ℕ) (script text more : List ℕ) (s t u : Standing) → AreCarriedOut (ended_lines script) s t text → n ≡ length (ended_lines script) + 1
-    → LineEnds r n (form_of (begun_line script)) t u more → LinesEnd r (lines script) s u (text ++ more)
+pub script_done : (r : Result Unit ScriptFault) (n : ℕ) (script text more : List ℕ) (s t u : ScriptState) → AreCarriedOut (ended_lines script) s t text
+    → n ≡ length (ended_lines script) + 1
+    → LineEnds r n (form_of (unfinished_line script)) t u more → LinesEnd r (lines script) s u (text ++ more)
 script_done r n script text more s t u h number k =
-    subst (λ all. LinesEnd r all s u (text ++ more)) (sym (lines_whole script)) (last_done r n (begun_line script) (ended_lines script) text more s t u h number k)
+    subst (λ all. LinesEnd r all s u (text ++ more)) (sym (lines_whole script)) (last_done r n (unfinished_line script)
+    (ended_lines script) text more s t u h number k)
   where
-    none_done : (r : Result Unit ScriptFault) (n : ℕ) (all : List (List ℕ)) (text more : List ℕ) (s t u : Standing) → AreCarriedOut all s t text
+    none_done : (r : Result Unit ScriptFault) (n : ℕ) (all : List (List ℕ)) (text more : List ℕ) (s t u : ScriptState) → AreCarriedOut all s t text
         → LineEnds r n (form_of []) t u more → LinesEnd r (all ++ []) s u (text ++ more)
     none_done (Ok done) n all text more s t u h k =
         let same : text ++ more ≡ text = ap (λ l. text ++ l) k.1 ∙ append-nil text in
@@ -48,24 +52,27 @@ script_done r n script text more s t u h number k =
     none_done (Err ReadFailed) n all text more s t u h k = absurd k
     none_done (Err TooLong) n all text more s t u h k = absurd k
 
-    last_done : (r : Result Unit ScriptFault) (n : ℕ) (begun : List ℕ) (all : List (List ℕ)) (text more : List ℕ) (s t u : Standing) → AreCarriedOut all s t text → n ≡ length all + 1
+    last_done : (r : Result Unit ScriptFault) (n : ℕ) (begun : List ℕ) (all : List (List ℕ)) (text more : List ℕ) (s t u : ScriptState)
+        → AreCarriedOut all s t text → n ≡ length all + 1
         → LineEnds r n (form_of begun) t u more → LinesEnd r (all ++ last_line begun) s u (text ++ more)
     last_done r n [] all text more s t u h number k = none_done r n all text more s t u h k
     last_done r n (b ∷ begun) all text more s t u h number k = line_done r n all (b ∷ begun) text more s t u h number k
 
 -- lines that were not all carried out, and more lines
-pub ended_then : (fault : ScriptFault) (script rest text : List ℕ) (s t : Standing) → LinesEnd (Err fault) (ended_lines script) s t text → LinesEnd (Err fault) (ended_lines (script ++ rest)) s t text
+pub ended_then : (fault : ScriptFault) (script rest text : List ℕ) (s t : ScriptState) → LinesEnd (Err fault) (ended_lines script) s t text
+    → LinesEnd (Err fault) (ended_lines (script ++ rest)) s t text
 ended_then (BadLine n) script rest text s t h =
-    let more = ended_more script rest in subst (λ all. StopsAtBad n all s t text) (sym more.1) (bad_then n (ended_lines script) more.0 text s t h)
+    let more = ended_more script rest in subst (λ all. FailsAtBadLine n all s t text) (sym more.1) (bad_then n (ended_lines script) more.0 text s t h)
 ended_then (PowerFault f) script rest text s t h =
-    let more = ended_more script rest in subst (λ all. StopsAtReset f all s t text) (sym more.1) (reset_then f (ended_lines script) more.0 text s t h)
+    let more = ended_more script rest in subst (λ all. FailsAtReset f all s t text) (sym more.1) (reset_then f (ended_lines script) more.0 text s t h)
 ended_then WriteFailed script rest text s t h =
-    let more = ended_more script rest in subst (λ all. StopsInside all s t text) (sym more.1) (cut_then (ended_lines script) more.0 text s t h)
+    let more = ended_more script rest in subst (λ all. EndsInsideLine all s t text) (sym more.1) (cut_then (ended_lines script) more.0 text s t h)
 ended_then ReadFailed script rest text s t h = absurd h
 ended_then TooLong script rest text s t h = absurd h
 
 -- the end of the script
-pub ends_at_end : (r : Result Unit ScriptFault) (script text : List ℕ) (s t : Standing) → LinesEnd r (lines script) s t text → EndsFrom r true script s t text
+pub ends_at_end : (r : Result Unit ScriptFault) (script text : List ℕ) (s t : ScriptState) → LinesEnd r (lines script) s t text
+    → EndsFrom r true script s t text
 ends_at_end (Ok done) script text s t k = (refl, k)
 ends_at_end (Err (BadLine n)) script text s t k = k
 ends_at_end (Err (PowerFault f)) script text s t k = k
@@ -74,7 +81,8 @@ ends_at_end (Err ReadFailed) script text s t k = absurd k
 ends_at_end (Err TooLong) script text s t k = absurd k
 
 -- before the end
-pub ends_before : (fault : ScriptFault) (script text : List ℕ) (s t : Standing) → LinesEnd (Err fault) (ended_lines (take bound script)) s t text → EndsFrom (Err fault) false script s t text
+pub ends_before : (fault : ScriptFault) (script text : List ℕ) (s t : ScriptState) → LinesEnd (Err fault) (ended_lines (take bound script)) s t text
+    → EndsFrom (Err fault) false script s t text
 ends_before (BadLine n) script text s t k = k
 ends_before (PowerFault f) script text s t k = k
 ends_before WriteFailed script text s t k = k
@@ -82,19 +90,21 @@ ends_before ReadFailed script text s t k = absurd k
 ends_before TooLong script text s t k = absurd k
 
 -- where all lines were carried out
-pub if_carried : (r : Result Unit ScriptFault) (all : List (List ℕ)) (text : List ℕ) (s t : Standing) (P : Type 0) → LinesEnd r all s t text → (AreCarriedOut all s t text → P) → OnOk r P
+pub if_carried : (r : Result Unit ScriptFault) (all : List (List ℕ)) (text : List ℕ) (s t : ScriptState) (P : Type 0) → LinesEnd r all s t text
+    → (AreCarriedOut all s t text → P) → OnOk r P
 if_carried (Ok done) all text s t P h f = f h
 if_carried (Err fault) all text s t P h f = tt
 
 -- a byte of a piece after those before it, and the rest of the piece
-piece_whole : (script piece : List ℕ) (i b : ℕ) → i < length piece → get_or piece i 0 ≡ b → ((script ++ take i piece) ++ b ∷ []) ++ drop (i + 1) piece ≡ script ++ piece
+piece_whole : (script piece : List ℕ) (i b : ℕ) → i < length piece → get_or piece i 0 ≡ b
+    → ((script ++ take i piece) ++ b ∷ []) ++ drop (i + 1) piece ≡ script ++ piece
 piece_whole script piece i b h e =
     let one : take (i + 1) piece ≡ take i piece ++ b ∷ [] = take_more piece i 0 h ∙ ap (λ n. take i piece ++ n ∷ []) e in
     ap (λ l. l ++ drop (i + 1) piece) (append_assoc script (take i piece) (b ∷ []) ∙ ap (λ l. script ++ l) (sym one))
     ∙ append_assoc script (take (i + 1) piece) (drop (i + 1) piece) ∙ ap (λ l. script ++ l) (take-append-drop (i + 1) piece)
 
 -- a fault at a byte of a piece
-pub fault_inside : (fault : ScriptFault) (script text piece more next : List ℕ) (i b : ℕ) (s t : Standing) → i < length piece → get_or piece i 0 ≡ b
+pub fault_inside : (fault : ScriptFault) (script text piece more next : List ℕ) (i b : ℕ) (s t : ScriptState) → i < length piece → get_or piece i 0 ≡ b
     → LinesEnd (Err fault) (ended_lines ((script ++ take i piece) ++ b ∷ [])) s t ((text ++ more) ++ next)
     → LinesEnd (Err fault) (ended_lines (script ++ piece)) s t (text ++ (more ++ next))
 fault_inside fault script text piece more next i b s t h e k =
@@ -103,7 +113,7 @@ fault_inside fault script text piece more next i b s t h e k =
     (subst (λ x. LinesEnd (Err fault) (ended_lines x) s t ((text ++ more) ++ next)) (piece_whole script piece i b h e) all)
 
 -- a line for which nothing is written
-pub failed_line : (fault : ScriptFault) (n : ℕ) (form : Form) (s t : Standing) → LineFails fault n form s t → LineEnds (Err fault) n form s t []
+pub failed_line : (fault : ScriptFault) (n : ℕ) (form : Form) (s t : ScriptState) → LineFails fault n form s t → LineEnds (Err fault) n form s t []
 failed_line (BadLine b) n form s t h = (h.0, h.1, h.2, refl)
 failed_line (PowerFault f) n form s t h = (h.0, h.1, refl)
 failed_line ReadFailed n form s t h = absurd h

@@ -1,32 +1,15 @@
 -- Bytes that are known, over several calls.
-use Rattle.std.proofs.Common.{◌≡◌, ℕ, ◌+◌, ◌-◌, ◌<◌, ◌≤◌, List, [], ◌++◌, length, take, drop, refl, sym, ◌∙◌, ap, arith, Option, Some, None, Result, Ok, Err, append_assoc, append-nil, length-append, take-append-drop, take-add, length-drop}
+use Rattle.std.proofs.Common.{◌≡◌, ℕ, ◌+◌, ◌-◌, ◌≤◌, List, [], ◌++◌, length, take, drop, refl, sym, ◌∙◌, ap, arith, Option, Some, None, Result, Ok, Err}
+use Rattle.std.proofs.Common.{append_assoc, append-nil, length-append, take-add}
 use Rattle.std.specs.Prelude.{MatchResult}
 use Rattle.std.specs.Io.KnownBytes.{Keeps, Appends, Consumes}
 use Rattle.std.proofs.Math.Seq.{take-append-add}
 use Rattle.std.proofs.lemmas.Grind.{common_steps}
-use Rattle.jcard_script.specs.Texts.{AppendsCut, IsCutOf}
+use Rattle.jcard_script.specs.Texts.{AppendsCut}
 
 pub keeps_same : (a : Option (List ℕ)) → Keeps a a
 keeps_same None = tt
 keeps_same (Some x) = refl
-
-pub keeps_then_keeps : (a b c : Option (List ℕ)) → Keeps a b → Keeps b c → Keeps a c
-keeps_then_keeps None b c h k = tt
-keeps_then_keeps (Some x) None c h k = absurd h
-keeps_then_keeps (Some x) (Some y) None h k = absurd k
-keeps_then_keeps (Some x) (Some y) (Some z) h k = k ∙ h
-
-pub keeps_then_consumes : (a b c : Option (List ℕ)) (bs : List ℕ) → Keeps a b → Consumes b c bs → Consumes a c bs
-keeps_then_consumes None b c bs h k = tt
-keeps_then_consumes (Some x) None c bs h k = absurd h
-keeps_then_consumes (Some x) (Some y) None bs h k = absurd k
-keeps_then_consumes (Some x) (Some y) (Some z) bs h k = sym h ∙ k
-
-pub keeps_then_appends : (a b c : Option (List ℕ)) (bs : List ℕ) → Keeps a b → Appends b c bs → Appends a c bs
-keeps_then_appends None b c bs h k = tt
-keeps_then_appends (Some x) None c bs h k = absurd h
-keeps_then_appends (Some x) (Some y) None bs h k = absurd k
-keeps_then_appends (Some x) (Some y) (Some z) bs h k = k ∙ ap (λ l. l ++ bs) h
 
 pub consumes_then_consumes : (a b c : Option (List ℕ)) (bs cs : List ℕ) → Consumes a b bs → Consumes b c cs → Consumes a c (bs ++ cs)
 consumes_then_consumes None b c bs cs h k = tt
@@ -63,14 +46,9 @@ pub whole_rest : (n : ℕ) (xs : List ℕ) → take (length xs - n) (drop n xs) 
 whole_rest n xs = grind (arith, common_steps)
 
 -- what was written so far, and one more piece
-pub one_piece : (a b : ℕ) (xs : List ℕ) (old now next : Option (List ℕ)) → Appends old now (take a xs) → Appends now next (take b (drop a xs)) → Appends old next (take (a + b) xs)
+pub one_piece : (a b : ℕ) (xs : List ℕ) (old now next : Option (List ℕ)) → Appends old now (take a xs) → Appends now next (take b (drop a xs))
+    → Appends old next (take (a + b) xs)
 one_piece a b xs old now next h k = rw (take-add a b xs) (appends_then_appends old now next (take a xs) (take b (drop a xs)) h k)
-
--- a failed write leaves what was written so far
-pub cut_there : (a : ℕ) (xs : List ℕ) (old now next : Option (List ℕ)) → a < length xs → Appends old now (take a xs) → Keeps now next → AppendsCut old next xs
-cut_there a xs old now next lt h k =
-    let cut : IsCutOf xs (take a xs) = (drop a xs, sym (take-append-drop a xs), omega (arith, length-drop a xs)) in
-    (take a xs, rw append-nil at (appends_then_appends old now next (take a xs) [] h (keeps_appends_none now next k)), cut)
 
 -- ---- a script in pieces
 

@@ -1,30 +1,21 @@
 -- What is kept of a line, with one more byte.
-use Rattle.std.proofs.Common.{◌≡◌, ℕ, ◌+◌, ◌-◌, ◌%◌, ◌<◌, ◌≤◌, ◌==◌, Bool, true, false, not, ◌&&◌, if◌then◌else◌, List, [], ◌∷◌, ◌++◌, length, take, slice_index, refl, sym, ◌∙◌, ap, arith, append-nil, length-append, length-take, inl, inr, Result, Ok, Err}
+use Rattle.std.proofs.Common.{◌≡◌, ℕ, ◌+◌, ◌-◌, ◌%◌, ◌<◌, ◌≤◌, ◌==◌, Bool, true, false, not, ◌&&◌, if◌then◌else◌, List, [], ◌∷◌, ◌++◌, length, take}
+use Rattle.std.proofs.Common.{slice_index, refl, sym, ◌∙◌, ap, arith, length-append, length-take, inl, inr, Result, Ok, Err}
 use Rattle.std.specs.Prelude.{IsOk, OnOk, OnErr, ◌↔◌}
 use Rattle.std.specs.List.{list_all}
 use Rattle.std.specs.Str.Lines.{strip_carriage_return}
-use Rattle.std.proofs.lemmas.Bool.{eqb-true, cases_lt}
+use Rattle.std.proofs.lemmas.Bool.{cases_lt}
 use Rattle.std.proofs.lemmas.List.{take_all, take-append-le}
 use Rattle.std.proofs.lemmas.List.Elements.{filter-append}
 use Rattle.std.proofs.lemmas.List.Folds.{list_all-append}
 use Rattle.std.proofs.lemmas.Grind.{common_steps}
 use Rattle.hex.specs.Hex.{is_hex_digit}
-use Rattle.jcard_script.specs.Script.{spaceless}
-use Rattle.jcard_script.specs.Line.{IsPlain, HasDigits, ends_in_return}
-
-pub plain_more : (line : List ℕ) (b : ℕ) → IsPlain line → IsPlain (line ++ b ∷ [])
-plain_more [] b h = absurd h
-plain_more (x ∷ line) b h = h
+use Rattle.jcard_script.specs.Script.{without_spaces}
+use Rattle.jcard_script.specs.Line.{HasDigits, ends_in_return}
 
 -- a byte that is no space
-pub spaceless_other : (line : List ℕ) (b : ℕ) → (b == 32) ≡ false → spaceless (line ++ b ∷ []) ≡ spaceless line ++ b ∷ []
-spaceless_other line b h = filter-append (λ c. not (c == 32)) line (b ∷ []) ∙ ap (λ t. spaceless line ++ (if not t then b ∷ [] else [])) h
-
-pub spaceless_space : (line : List ℕ) → spaceless (line ++ 32 ∷ []) ≡ spaceless line
-spaceless_space line = filter-append (λ c. not (c == 32)) line (32 ∷ []) ∙ append-nil (spaceless line)
-
-pub space_step : (digits line : List ℕ) (odd : Bool) → HasDigits digits odd line → HasDigits digits odd (line ++ 32 ∷ [])
-space_step digits line odd h = rw (spaceless_space line) h
+pub spaceless_other : (line : List ℕ) (b : ℕ) → (b == 32) ≡ false → without_spaces (line ++ b ∷ []) ≡ without_spaces line ++ b ∷ []
+spaceless_other line b h = filter-append (λ c. not (c == 32)) line (b ∷ []) ∙ ap (λ t. without_spaces line ++ (if not t then b ∷ [] else [])) h
 
 all_more : (s : List ℕ) (b : ℕ) → list_all is_hex_digit (s ++ b ∷ []) ≡ (list_all is_hex_digit s && (is_hex_digit b && true))
 all_more s b = list_all-append is_hex_digit s (b ∷ [])
@@ -32,19 +23,12 @@ all_more s b = list_all-append is_hex_digit s (b ∷ [])
 all_true : (s : List ℕ) (b : ℕ) → list_all is_hex_digit s ≡ true → is_hex_digit b ≡ true → list_all is_hex_digit (s ++ b ∷ []) ≡ true
 all_true s b h k = all_more s b ∙ ap (λ t. t && (is_hex_digit b && true)) h ∙ ap (λ t. t && true) k
 
-all_false : (s : List ℕ) (b : ℕ) → list_all is_hex_digit s ≡ true → is_hex_digit b ≡ false → list_all is_hex_digit (s ++ b ∷ []) ≡ false
-all_false s b h k = all_more s b ∙ ap (λ t. t && (is_hex_digit b && true)) h ∙ ap (λ t. t && true) k
-
-pub still_false : (line : List ℕ) (b : ℕ) → list_all is_hex_digit (spaceless line) ≡ false → list_all is_hex_digit (spaceless (line ++ b ∷ [])) ≡ false
-still_false line b h =
-    ap (list_all is_hex_digit) (filter-append (λ c. not (c == 32)) line (b ∷ [])) ∙ list_all-append is_hex_digit (spaceless line) (spaceless (b ∷ []))
-    ∙ ap (λ t. t && list_all is_hex_digit (spaceless (b ∷ []))) h
-
 odd_more : (n : ℕ) → ((n + 1) % 2 == 1) ≡ not (n % 2 == 1)
 odd_more n = grind arith
 
 -- at most m are kept
-pub take_step : (m : ℕ) (digits next s : List ℕ) (b : ℕ) → digits ≡ take m s → (length digits < m → next ≡ digits ++ b ∷ []) → (m ≤ length digits → next ≡ digits)
+pub take_step : (m : ℕ) (digits next s : List ℕ) (b : ℕ) → digits ≡ take m s → (length digits < m → next ≡ digits ++ b ∷ [])
+    → (m ≤ length digits → next ≡ digits)
     → next ≡ take m (s ++ b ∷ [])
 take_step m digits next s b h room full =
     elim (cases_lt (length s) m) [
@@ -61,16 +45,12 @@ take_step m digits next s b h room full =
 pub digit_step : (digits next line : List ℕ) (odd : Bool) (b : ℕ) → HasDigits digits odd line → (b == 32) ≡ false → is_hex_digit b ≡ true
     → (length digits < 524 → next ≡ digits ++ b ∷ []) → (524 ≤ length digits → next ≡ digits) → HasDigits next (not odd) (line ++ b ∷ [])
 digit_step digits next line odd b h other digit room full =
-    let s = spaceless line in
+    let s = without_spaces line in
     let e = spaceless_other line b other in
     let count : length (s ++ b ∷ []) ≡ length s + 1 = length-append s (b ∷ []) in
     let parity : not odd ≡ (length (s ++ b ∷ []) % 2 == 1) = ap not h.2 ∙ sym (odd_more (length s)) ∙ ap (λ n. n % 2 == 1) (sym count) in
     let kept : next ≡ take 524 (s ++ b ∷ []) = take_step 524 digits next s b h.1 room full in
     rw e (all_true s b h.0 digit, kept, parity)
-
-pub bad_step : (line : List ℕ) (b : ℕ) → list_all is_hex_digit (spaceless line) ≡ true → (b == 32) ≡ false → is_hex_digit b ≡ false
-    → list_all is_hex_digit (spaceless (line ++ b ∷ [])) ≡ false
-bad_step line b h other bad = ap (list_all is_hex_digit) (spaceless_other line b other) ∙ all_false (spaceless line) b h bad
 
 -- ---- a carriage return at the end
 
@@ -80,30 +60,17 @@ last_of line b = grind (arith, common_steps)
 pub return_last : (line : List ℕ) (b : ℕ) → ends_in_return (line ++ b ∷ []) ≡ (b == 13)
 return_last line b = ap (λ n. n == 13) (last_of line b)
 
-pub strip_return : (line : List ℕ) (b : ℕ) → (b == 13) ≡ true → strip_carriage_return (line ++ b ∷ []) ≡ line
-strip_return line b h = ap (λ t. if t then take (length (line ++ b ∷ []) - 1) (line ++ b ∷ []) else (line ++ b ∷ [])) (return_last line b ∙ h) ∙ front line b
-  where
-    front : (line : List ℕ) (b : ℕ) → take (length (line ++ b ∷ []) - 1) (line ++ b ∷ []) ≡ line
-    front line b = grind (arith, common_steps)
-
 pub strip_other : (line : List ℕ) (b : ℕ) → (b == 13) ≡ false → strip_carriage_return (line ++ b ∷ []) ≡ line ++ b ∷ []
 strip_other line b h = ap (λ t. if t then take (length (line ++ b ∷ []) - 1) (line ++ b ∷ []) else (line ++ b ∷ [])) (return_last line b ∙ h)
 
-pub strip_kept : (line : List ℕ) → ends_in_return line ≡ false → strip_carriage_return line ≡ line
-strip_kept line h = ap (λ t. if t then take (length line - 1) line else line) h
-
-pub strip_back : (line : List ℕ) → ends_in_return line ≡ true → strip_carriage_return line ++ 13 ∷ [] ≡ line
-strip_back line h = ap (λ t. (if t then take (length line - 1) line else line) ++ 13 ∷ []) h ∙ back line (eqb-true (slice_index line (length line - 1)) 13 h)
-  where
-    back : (line : List ℕ) → slice_index line (length line - 1) ≡ 13 → take (length line - 1) line ++ 13 ∷ [] ≡ line
-    back line e = grind (arith, common_steps)
-
 -- ---- a push that may find no room
 
-pub pushed_room : {E : Type 0} (r : Result Unit E) (old new : List ℕ) (m b : ℕ) → (IsOk r ↔ (length old < m)) → OnOk r (new ≡ old ++ b ∷ []) → length old < m → new ≡ old ++ b ∷ []
+pub pushed_room : {E : Type 0} (r : Result Unit E) (old new : List ℕ) (m b : ℕ) → (IsOk r ↔ (length old < m)) → OnOk r (new ≡ old ++ b ∷ []) → length old < m
+    → new ≡ old ++ b ∷ []
 pushed_room (Ok done) old new m b v h lt = h
 pushed_room (Err e) old new m b v h lt = let bad = v.1 lt in cc bad
 
-pub pushed_full : {E : Type 0} (r : Result Unit E) (old new : List ℕ) (m : ℕ) (P : Type 0) → (IsOk r ↔ (length old < m)) → OnErr r P → (P → new ≡ old) → m ≤ length old → new ≡ old
+pub pushed_full : {E : Type 0} (r : Result Unit E) (old new : List ℕ) (m : ℕ) (P : Type 0) → (IsOk r ↔ (length old < m)) → OnErr r P → (P → new ≡ old)
+    → m ≤ length old → new ≡ old
 pushed_full (Ok done) old new m P v h f le = let lt = v.0 refl in absurd (omega arith)
 pushed_full (Err e) old new m P v h f le = f h

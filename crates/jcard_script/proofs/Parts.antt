@@ -1,10 +1,11 @@
 -- The lines of a text that grows by a byte.
-use Rattle.std.proofs.Common.{◌≡◌, ℕ, ◌<◌, ◌≤◌, ◌==◌, Bool, true, false, cond, List, [], ◌∷◌, ◌++◌, length, refl, sym, ◌∙◌, ap, arith, append_assoc, append-nil, length-append}
+use Rattle.std.proofs.Common.{◌≡◌, ℕ, ◌<◌, ◌≤◌, ◌==◌, Bool, true, false, cond, List, [], ◌∷◌, ◌++◌, length, refl, sym, ◌∙◌, ap, arith, append_assoc, append-nil}
+use Rattle.std.proofs.Common.{length-append}
 use Rattle.std.specs.List.{slice_split, onto_first}
 use Rattle.std.proofs.lemmas.Bool.{ne_eqb}
 use Rattle.std.specs.Str.Lines.{lines, lines_of_parts, strip_carriage_return}
 use Rattle.jcard_script.specs.Script.{ended_lines, ended_parts}
-use Rattle.jcard_script.specs.Session.{begun_line, last_part}
+use Rattle.jcard_script.specs.Session.{unfinished_line, last_part}
 
 -- the parts between line feeds
 abbrev pub parts : List ℕ → List (List ℕ)
@@ -79,13 +80,13 @@ last_next (x ∷ y ∷ ps) = last_next (y ∷ ps)
 pub ended_other : (s : List ℕ) (b : ℕ) → (b == 10) ≡ false → ended_lines (s ++ b ∷ []) ≡ ended_lines s
 ended_other s b h = ap ended_parts (parts_other s b h) ∙ ended_grown (parts s) b
 
-pub begun_other : (s : List ℕ) (b : ℕ) → (b == 10) ≡ false → begun_line (s ++ b ∷ []) ≡ begun_line s ++ b ∷ []
+pub begun_other : (s : List ℕ) (b : ℕ) → (b == 10) ≡ false → unfinished_line (s ++ b ∷ []) ≡ unfinished_line s ++ b ∷ []
 begun_other s b h = ap last_part (parts_other s b h) ∙ last_grown (parts s) b
 
-pub ended_feed : (s : List ℕ) → ended_lines (s ++ 10 ∷ []) ≡ ended_lines s ++ strip_carriage_return (begun_line s) ∷ []
+pub ended_feed : (s : List ℕ) → ended_lines (s ++ 10 ∷ []) ≡ ended_lines s ++ strip_carriage_return (unfinished_line s) ∷ []
 ended_feed s = ap ended_parts (parts_feed s) ∙ ended_next (parts s) (parts_some s)
 
-pub begun_feed : (s : List ℕ) → begun_line (s ++ 10 ∷ []) ≡ []
+pub begun_feed : (s : List ℕ) → unfinished_line (s ++ 10 ∷ []) ≡ []
 begun_feed s = ap last_part (parts_feed s) ∙ last_next (parts s)
 
 -- the line that the end of a text ends
@@ -100,13 +101,13 @@ lines_last ((c ∷ x) ∷ []) = let some : (length (c ∷ x) == 0) ≡ false = n
 lines_last (x ∷ y ∷ ps) = ap (λ l. strip_carriage_return x ∷ l) (lines_last (y ∷ ps))
 
 -- the lines are those that a line feed ends, and the last, if it has a byte
-pub lines_whole : (s : List ℕ) → lines s ≡ ended_lines s ++ last_line (begun_line s)
+pub lines_whole : (s : List ℕ) → lines s ≡ ended_lines s ++ last_line (unfinished_line s)
 lines_whole s = lines_last (parts s)
 
 ended_byte : (s : List ℕ) (c : ℕ) (t : Bool) → (c == 10) ≡ t → (rest : List (List ℕ)) × (ended_lines (s ++ c ∷ []) ≡ ended_lines s ++ rest) × (length rest ≤ 1)
 ended_byte s c true h =
     let e : c ≡ 10 = grind arith in
-    (strip_carriage_return (begun_line s) ∷ [], rw e (ended_feed s), omega arith)
+    (strip_carriage_return (unfinished_line s) ∷ [], rw e (ended_feed s), omega arith)
 ended_byte s c false h = ([], ended_other s c h ∙ sym (append-nil (ended_lines s)), omega arith)
 
 -- more bytes end more lines, at most one each

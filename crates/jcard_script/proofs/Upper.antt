@@ -5,7 +5,9 @@ use Rattle.std.proofs.Math.ListN.{get_or-map}
 use Rattle.hex.specs.Hex.{encode_lower, encode_upper, encode_with, lower_digits, upper_digits}
 
 digit_upper : (k : ℕ) → to_ascii_uppercase (slice_index lower_digits k) ≡ slice_index upper_digits k
-digit_upper k = let e : get_or (map to_ascii_uppercase lower_digits) k 0 ≡ to_ascii_uppercase (get_or lower_digits k 0) = get_or-map to_ascii_uppercase lower_digits k 0 in sym e
+digit_upper k =
+    let e : get_or (map to_ascii_uppercase lower_digits) k 0 ≡ to_ascii_uppercase (get_or lower_digits k 0) = get_or-map to_ascii_uppercase lower_digits k 0 in
+    sym e
 
 upper : (xs : List ℕ) → map to_ascii_uppercase (encode_with lower_digits xs) ≡ encode_with upper_digits xs
 unfolding encode_with

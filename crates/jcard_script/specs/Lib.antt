@@ -1,10 +1,8 @@
-pub mod Failures
-pub mod Held
+pub mod CardOrStore
 pub mod Line
 pub mod Reply
 pub mod Script
 pub mod Session
-pub mod Standing
+pub mod ScriptStates
 pub mod Texts
 pub mod Word
-pub use Rattle.jc_card as jc_card

@@ -2,11 +2,11 @@
 use Rattle.std.specs.Prelude.{ℕ, ◌≡◌, ◌==◌, ◌-◌, ◌%◌, Bool, true, false, List, [], ◌∷◌, length, take, slice_index}
 use Rattle.std.specs.List.{list_all}
 use Rattle.hex.specs.Hex.{is_hex_digit}
-use Rattle.jcard_script.specs.Script.{Form, Skipped, Command, Resets, Stops, Bad, form_of, plain_form_of, spaceless}
+use Rattle.jcard_script.specs.Script.{Form, Skipped, Command, Resets, ArmsFuse, Bad, form_of, plain_form_of, without_spaces}
 use Rattle.jcard_script.specs.declared.line.Kind.{Kind}
 use Rattle.jcard_script.specs.declared.line.Kind.TheVariants.{Empty, Comment, Digits, Nonsense}
-use Rattle.jcard_script.specs.declared.line.Asked.{Asked}
-use Rattle.jcard_script.specs.declared.line.Asked.TheVariants.{Nothing, Exchange, Reset, Stop, Refused}
+use Rattle.jcard_script.specs.declared.line.LineRequest.{LineRequest}
+use Rattle.jcard_script.specs.declared.line.LineRequest.TheVariants.{Nothing, Exchange, Reset, ArmFuse, Refused}
 
 -- the line is neither empty nor a comment
 abbrev pub IsPlain : List ℕ → Type 0
@@ -15,31 +15,32 @@ IsPlain (first ∷ rest) = (first == 35) ≡ false
 
 -- the line has digits and spaces alone, these are its first 524 digits, and their number is odd or not
 abbrev pub HasDigits : List ℕ → Bool → List ℕ → Type 0
-HasDigits digits odd line = (list_all is_hex_digit (spaceless line) ≡ true) × (digits ≡ take 524 (spaceless line)) × (odd ≡ (length (spaceless line) % 2 == 1))
+HasDigits digits odd line = (list_all is_hex_digit (without_spaces line) ≡ true) × (digits ≡ take 524 (without_spaces line))
+    × (odd ≡ (length (without_spaces line) % 2 == 1))
 
 -- a line of this kind
 abbrev pub IsLineOf : Kind → List ℕ → Bool → List ℕ → Type 0
 IsLineOf Empty digits odd line = (line ≡ []) × HasDigits digits odd line
 IsLineOf Comment digits odd line = (rest : List ℕ) × (line ≡ 35 ∷ rest)
 IsLineOf Digits digits odd line = IsPlain line × HasDigits digits odd line
-IsLineOf Nonsense digits odd line = IsPlain line × (list_all is_hex_digit (spaceless line) ≡ false)
+IsLineOf Nonsense digits odd line = IsPlain line × (list_all is_hex_digit (without_spaces line) ≡ false)
 
 -- whether the last byte is a carriage return
 abbrev pub ends_in_return : List ℕ → Bool
 ends_in_return line = slice_index line (length line - 1) == 13
 
 -- what is asked for is a form; of a command the first 262 bytes are told, more than any command has
-abbrev pub IsAsked : Asked → Form → Type 0
+abbrev pub IsAsked : LineRequest → Form → Type 0
 IsAsked Nothing form = form ≡ Skipped
 IsAsked (Exchange command) form = (bytes : List ℕ) × (form ≡ Command bytes) × (command.items ≡ take 262 bytes)
 IsAsked Reset form = form ≡ Resets
-IsAsked (Stop k) form = form ≡ Stops k
+IsAsked (ArmFuse k) form = form ≡ ArmsFuse k
 IsAsked Refused form = form ≡ Bad
 
 -- what a line asks for
-abbrev pub AsksFor : Asked → List ℕ → Type 0
+abbrev pub AsksFor : LineRequest → List ℕ → Type 0
 AsksFor asked line = IsAsked asked (form_of line)
 
 -- what a line asks for that is no word
-abbrev pub PlainlyAsksFor : Asked → List ℕ → Type 0
+abbrev pub PlainlyAsksFor : LineRequest → List ℕ → Type 0
 PlainlyAsksFor asked line = IsAsked asked (plain_form_of line)

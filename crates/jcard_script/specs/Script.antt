@@ -1,5 +1,6 @@
 -- Scripts: their lines, what the lines ask for, and what is written for them.
-use Rattle.std.specs.Prelude.{ℕ, ◌+◌, ◌≡◌, ◌≤◌, ◌<◌, ◌==◌, Bool, true, false, not, if◌then◌else◌, IsTrue, List, [], ◌∷◌, ◌++◌, length, take, drop, filter, nat_le, nat_lt, nat_eq, ◌&&◌, ◌⊎◌, MatchBool, codes, decimal, Option, Result, Ok, Err}
+use Rattle.std.specs.Prelude.{ℕ, ◌+◌, ◌≡◌, ◌≤◌, ◌<◌, ◌==◌, Bool, true, false, not, if◌then◌else◌, IsTrue, List, [], ◌∷◌, ◌++◌, length, take, drop, filter}
+use Rattle.std.specs.Prelude.{nat_le, nat_lt, nat_eq, ◌&&◌, ◌⊎◌, MatchBool, codes, decimal, Option, Result, Ok, Err}
 use Rattle.std.specs.Io.KnownBytes.{IsAtEnd}
 use Rattle.std.specs.List.{slice_split, starts_with}
 use Rattle.std.specs.Str.{bytes_eq, all_ascii_digits}
@@ -7,11 +8,12 @@ use Rattle.std.specs.Str.Parse.{digits_value}
 use Rattle.std.specs.Str.Lines.{lines, strip_carriage_return}
 use Rattle.hex.specs.Hex.{decode_of, encode_upper}
 use Rattle.hex.specs.declared.error.FromHexError.{FromHexError}
-use Rattle.jc_words.specs.Stores.{Fused}
-use Rattle.jc_memory.specs.Doing.{After, Made, Cut}
-use Rattle.jc_card.specs.Loads.{Answered}
+use Rattle.jc_words.specs.Stores.{FuseStoreValue}
+use Rattle.jc_memory.specs.State.{MemoryState}
+use Rattle.jc_heap.specs.Completions.{Completion, Completed, Torn}
+use Rattle.jc_card.specs.Loads.{LoadResponse}
 use Rattle.jc_card.specs.declared.power_up.PowerFault.{PowerFault as Fault}
-use Rattle.jcard_script.specs.Standing.{Standing, Up, Down, Exchanges, Holds, IsStoreOf, PowersUp, FailsUp, IsReset, FailsReset, armed}
+use Rattle.jcard_script.specs.ScriptStates.{ScriptState, Up, Down, Exchanges, IsSessionStore, IsStoreOf, PowersUp, FailsUp, IsReset, FailsReset, with_fuse}
 use Rattle.jcard_script.specs.Texts.{IsCutOf}
 use Rattle.jcard_script.specs.declared.script.ScriptFault.{ScriptFault}
 use Rattle.jcard_script.specs.declared.script.ScriptFault.TheVariants.{ReadFailed, WriteFailed, BadLine, TooLong, PowerFault}
@@ -47,12 +49,12 @@ pub data Form : Type 0 where
   Skipped : Form
   Command : List ℕ → Form
   Resets : Form
-  Stops : ℕ → Form
+  ArmsFuse : ℕ → Form
   Bad : Form
 
 -- a line without its spaces
-abbrev pub spaceless : List ℕ → List ℕ
-spaceless line = filter (λ c. not (c == 32)) line
+abbrev pub without_spaces : List ℕ → List ℕ
+without_spaces line = filter (λ c. not (c == 32)) line
 
 -- what hexadecimal text asks for
 abbrev pub form_of_decoded : Result (List ℕ) FromHexError → Form
@@ -62,19 +64,20 @@ form_of_decoded (Err e) = Bad
 -- what a line asks for that is no word: nothing if it is empty or begins with '#', else the command that its digits spell
 abbrev pub plain_form_of : List ℕ → Form
 plain_form_of [] = Skipped
-plain_form_of (first ∷ rest) = if first == 35 then Skipped else form_of_decoded (decode_of (spaceless (first ∷ rest)))
+plain_form_of (first ∷ rest) = if first == 35 then Skipped else form_of_decoded (decode_of (without_spaces (first ∷ rest)))
 
 -- one or more decimal digits, of a number up to 65535
 abbrev pub is_number : List ℕ → Bool
 is_number digits = nat_lt 0 (length digits) && (all_ascii_digits digits && nat_le (digits_value 10 digits) 65535)
 
--- what the bytes behind "stop " ask for
-abbrev pub stop_of : List ℕ → Form
-stop_of digits = if is_number digits then Stops (digits_value 10 digits) else Bad
+-- Script line stop K: K, in decimal digits
+abbrev pub fuse_form_of : List ℕ → Form
+fuse_form_of digits = if is_number digits then ArmsFuse (digits_value 10 digits) else Bad
 
 -- what a line asks for: "reset" and "stop " with a number are words, any other line is plain
 abbrev pub form_of : List ℕ → Form
-form_of line = if bytes_eq line (codes "reset") then Resets else (if starts_with nat_eq line (codes "stop ") then stop_of (drop 5 line) else plain_form_of line)
+form_of line = if bytes_eq line (codes "reset") then Resets else (if starts_with nat_eq line (codes "stop ") then fuse_form_of
+    (drop 5 line) else plain_form_of line)
 
 -- ---- what is written
 
@@ -93,68 +96,73 @@ abbrev pub armed_text : ℕ → List ℕ
 armed_text k = codes "armed " ++ decimal k ++ codes "\n"
 
 -- what is told after a power up
-abbrev pub power_text : Standing → List ℕ
+abbrev pub power_text : ScriptState → List ℕ
 power_text (Up card) = ready_text
 power_text (Down store) = down_text
 
 -- what is written for a command that ended so, and how the session stands after it: the text of the response; or, where the
 -- store refused a write, that the card is down
-abbrev pub IsToldOf : After Answered → Standing → List ℕ → Type 0
-IsToldOf (Made a memory) t text = (text ≡ text_of a.response) × (t ≡ Up (record { memory = memory; packages = a.packages; load = a.load }))
-IsToldOf (Cut memory) t text = (text ≡ down_text) × (store : Fused) × IsStoreOf memory.heap store × (t ≡ Down store)
+abbrev pub IsToldOf : Completion MemoryState LoadResponse → ScriptState → List ℕ → Type 0
+IsToldOf (Completed a memory) t text = (text ≡ text_of a.response) × (t ≡ Up (record { memory = memory; packages = a.packages; load = a.load }))
+IsToldOf (Torn memory) t text = (text ≡ down_text) × (store : FuseStoreValue) × IsStoreOf memory.heap store × (t ≡ Down store)
 
 -- what is written for a command, and how the session stands before and after it
-abbrev pub IsAnswered : List ℕ → Standing → Standing → List ℕ → Type 0
-IsAnswered bytes (Up card) t text = (after : After Answered) × Exchanges bytes card after × IsToldOf after t text
+abbrev pub IsAnswered : List ℕ → ScriptState → ScriptState → List ℕ → Type 0
+IsAnswered bytes (Up card) t text = (after : Completion MemoryState LoadResponse) × Exchanges bytes card after × IsToldOf after t text
 IsAnswered bytes (Down store) t text = (text ≡ down_text) × (t ≡ Down store)
 
 -- what is written for a line, and how the session stands before and after it
-abbrev pub IsWrittenFor : Form → Standing → Standing → List ℕ → Type 0
+abbrev pub IsWrittenFor : Form → ScriptState → ScriptState → List ℕ → Type 0
 IsWrittenFor Skipped s t text = (t ≡ s) × (text ≡ [])
 IsWrittenFor (Command bytes) s t text = IsAnswered bytes s t text
 IsWrittenFor Resets s t text = IsReset s t × (text ≡ power_text t)
-IsWrittenFor (Stops k) s t text = (t ≡ armed k s) × (text ≡ armed_text k)
+IsWrittenFor (ArmsFuse k) s t text = (t ≡ with_fuse k s) × (text ≡ armed_text k)
 IsWrittenFor Bad s t text = ⊥
 
 -- the lines are carried out one after another, from one standing to the other, and this is what is written for them
-abbrev pub AreCarriedOut : List (List ℕ) → Standing → Standing → List ℕ → Type 0
+abbrev pub AreCarriedOut : List (List ℕ) → ScriptState → ScriptState → List ℕ → Type 0
 AreCarriedOut [] s t text = (t ≡ s) × (text ≡ [])
-AreCarriedOut (line ∷ more) s t text = (first rest : List ℕ) × (between : Standing) × (text ≡ first ++ rest) × IsWrittenFor (form_of line) s between first × AreCarriedOut more between t rest
+AreCarriedOut (line ∷ more) s t text = (first rest : List ℕ) × (between : ScriptState) × (text ≡ first ++ rest) × IsWrittenFor (form_of line) s between first
+    × AreCarriedOut more between t rest
 
 -- line n, counted from 1, has no form, and those before it were carried out
-abbrev pub StopsAtBad : ℕ → List (List ℕ) → Standing → Standing → List ℕ → Type 0
-StopsAtBad n all s t text = (before : List (List ℕ)) × (line : List ℕ) × (after : List (List ℕ)) × (all ≡ before ++ line ∷ after) × (n ≡ length before + 1) × (form_of line ≡ Bad) × AreCarriedOut before s t text
+abbrev pub FailsAtBadLine : ℕ → List (List ℕ) → ScriptState → ScriptState → List ℕ → Type 0
+FailsAtBadLine n all s t text = (before : List (List ℕ)) × (line : List ℕ) × (after : List (List ℕ)) × (all ≡ before ++ line ∷ after) × (n ≡ length before + 1)
+    × (form_of line ≡ Bad) × AreCarriedOut before s t text
 
 -- a reset found this fault, and the lines before it were carried out
-abbrev pub StopsAtReset : Fault → List (List ℕ) → Standing → Standing → List ℕ → Type 0
-StopsAtReset fault all s t text = (before : List (List ℕ)) × (line : List ℕ) × (after : List (List ℕ)) × (all ≡ before ++ line ∷ after) × (form_of line ≡ Resets)
-    × ((u : Standing) × AreCarriedOut before s u text × FailsReset fault u t)
+abbrev pub FailsAtReset : Fault → List (List ℕ) → ScriptState → ScriptState → List ℕ → Type 0
+FailsAtReset fault all s t text = (before : List (List ℕ)) × (line : List ℕ) × (after : List (List ℕ)) × (all ≡ before ++ line ∷ after)
+    × (form_of line ≡ Resets)
+    × ((u : ScriptState) × AreCarriedOut before s u text × FailsReset fault u t)
 
 -- some first lines were carried out, and of what is to be written for the next only a beginning was written
-abbrev pub StopsInside : List (List ℕ) → Standing → Standing → List ℕ → Type 0
-StopsInside all s t text = (before : List (List ℕ)) × (line : List ℕ) × (after : List (List ℕ)) × (all ≡ before ++ line ∷ after)
-    × ((whole answer part : List ℕ) × (between : Standing) × (text ≡ whole ++ part) × AreCarriedOut before s between whole × IsWrittenFor (form_of line) between t answer × IsCutOf answer part)
+abbrev pub EndsInsideLine : List (List ℕ) → ScriptState → ScriptState → List ℕ → Type 0
+EndsInsideLine all s t text = (before : List (List ℕ)) × (line : List ℕ) × (after : List (List ℕ)) × (all ≡ before ++ line ∷ after)
+    × ((whole answer part : List ℕ) × (between : ScriptState) × (text ≡ whole ++ part) × AreCarriedOut before s between whole
+    × IsWrittenFor (form_of line) between t answer × IsCutOf answer part)
 
 -- ---- how a script ends
 
 -- these bytes of a script were read, the whole of it or not, this text was written, and so it ended, from one standing to the other
-abbrev pub EndsFrom : Result Unit ScriptFault → Bool → List ℕ → Standing → Standing → List ℕ → Type 0
+abbrev pub EndsFrom : Result Unit ScriptFault → Bool → List ℕ → ScriptState → ScriptState → List ℕ → Type 0
 EndsFrom (Ok done) at_end script s t text = IsTrue at_end × AreCarriedOut (lines script) s t text
-EndsFrom (Err (BadLine n)) at_end script s t text = StopsAtBad n (lines_so_far at_end script) s t text
-EndsFrom (Err (PowerFault fault)) at_end script s t text = StopsAtReset fault (lines_so_far at_end script) s t text
+EndsFrom (Err (BadLine n)) at_end script s t text = FailsAtBadLine n (lines_so_far at_end script) s t text
+EndsFrom (Err (PowerFault fault)) at_end script s t text = FailsAtReset fault (lines_so_far at_end script) s t text
 EndsFrom (Err TooLong) at_end script s t text = (bound < length script) × AreCarriedOut (lines_so_far false script) s t text
 EndsFrom (Err ReadFailed) at_end script s t text = (length script ≤ bound) × AreCarriedOut (lines_so_far false script) s t text
-EndsFrom (Err WriteFailed) at_end script s t text = StopsInside (lines_so_far at_end script) s t text
+EndsFrom (Err WriteFailed) at_end script s t text = EndsInsideLine (lines_so_far at_end script) s t text
 
 -- the first power up found a fault: nothing was read or written
-abbrev pub FailsAtOnce : Result Unit ScriptFault → Fused → Fused → List ℕ → List ℕ → Type 0
+abbrev pub FailsAtOnce : Result Unit ScriptFault → FuseStoreValue → FuseStoreValue → List ℕ → List ℕ → Type 0
 FailsAtOnce (Err (PowerFault fault)) before after script text = FailsUp before fault after × (script ≡ []) × (text ≡ [])
 FailsAtOnce _ before after script text = ⊥
 
 -- a script on a store that was so before and is so after: it failed at once, or it was carried out from a power up on
-abbrev pub Ends : Result Unit ScriptFault → Fused → Fused → Bool → List ℕ → List ℕ → Type 0
+abbrev pub Ends : Result Unit ScriptFault → FuseStoreValue → FuseStoreValue → Bool → List ℕ → List ℕ → Type 0
 Ends result before after at_end script text =
-    FailsAtOnce result before after script text ⊎ ((first last : Standing) × PowersUp before first × Holds last after × EndsFrom result at_end script first last text)
+    FailsAtOnce result before after script text ⊎ ((first last : ScriptState) × PowersUp before first × IsSessionStore last after
+    × EndsFrom result at_end script first last text)
 
 -- whether a read failed
 abbrev pub is_read_failed : Result Unit ScriptFault → Bool

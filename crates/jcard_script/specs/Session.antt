@@ -2,10 +2,10 @@
 use Rattle.std.specs.Prelude.{ℕ, ◌≡◌, ◌==◌, List, [], ◌∷◌, length, Result, Ok, Err}
 use Rattle.std.specs.List.{slice_split}
 use Rattle.std.specs.Str.Lines.{strip_carriage_return}
-use Rattle.jcard_script.specs.Held.{standing_in}
+use Rattle.jcard_script.specs.CardOrStore.{state_of_held}
 use Rattle.jcard_script.specs.Line.{IsLineOf, ends_in_return}
-use Rattle.jcard_script.specs.Standing.{Standing, FailsReset}
-use Rattle.jcard_script.specs.Script.{Form, Resets, Bad, IsWrittenFor, AreCarriedOut, StopsAtBad, StopsAtReset, StopsInside, ended_lines}
+use Rattle.jcard_script.specs.ScriptStates.{ScriptState, FailsReset}
+use Rattle.jcard_script.specs.Script.{Form, Resets, Bad, IsWrittenFor, AreCarriedOut, FailsAtBadLine, FailsAtReset, EndsInsideLine, ended_lines}
 use Rattle.jcard_script.specs.Texts.{IsCutOf}
 use Rattle.jcard_script.specs.Word.{IsWordOf}
 use Rattle.jcard_script.specs.declared.line.Line.{Line}
@@ -20,19 +20,21 @@ last_part (x ∷ []) = x
 last_part (x ∷ y ∷ more) = last_part (y ∷ more)
 
 -- what stands after the last line feed
-abbrev pub begun_line : List ℕ → List ℕ
-begun_line text = last_part (slice_split (λ b. b == 10) text)
+abbrev pub unfinished_line : List ℕ → List ℕ
+unfinished_line text = last_part (slice_split (λ b. b == 10) text)
 
 -- what is kept of a line of which these bytes have come
 abbrev pub IsKeptOf : Line → List ℕ → Type 0
-IsKeptOf kept line = (kept.carriage_return ≡ ends_in_return line) × IsLineOf kept.content.kind kept.content.digits.items kept.content.is_odd (strip_carriage_return line) × IsWordOf kept.word (strip_carriage_return line)
+IsKeptOf kept line = (kept.carriage_return ≡ ends_in_return line) × IsLineOf kept.content.kind kept.content.digits.items kept.content.is_odd
+    (strip_carriage_return line) × IsWordOf kept.word (strip_carriage_return line)
 
 -- these bytes of the script have come since the session stood so, and this text was written for their lines
-abbrev pub StandsAt : {S : Type 0} → Session S → Standing → List ℕ → List ℕ → Type 0
-StandsAt s first script text = IsKeptOf s.line (begun_line script) × (s.number ≡ length (ended_lines script)) × AreCarriedOut (ended_lines script) first (standing_in s.held) text
+abbrev pub StandsAt : {S : Type 0} → Session S → ScriptState → List ℕ → List ℕ → Type 0
+StandsAt s first script text = IsKeptOf s.line (unfinished_line script) × (s.number ≡ length (ended_lines script))
+    × AreCarriedOut (ended_lines script) first (state_of_held s.held) text
 
 -- why nothing is written for line n: it has no form, or it is a reset that found a fault
-abbrev pub LineFails : ScriptFault → ℕ → Form → Standing → Standing → Type 0
+abbrev pub LineFails : ScriptFault → ℕ → Form → ScriptState → ScriptState → Type 0
 LineFails (BadLine k) n form s t = (form ≡ Bad) × (k ≡ n) × (t ≡ s)
 LineFails (PowerFault fault) n form s t = (form ≡ Resets) × FailsReset fault s t
 LineFails ReadFailed n form s t = ⊥
@@ -40,7 +42,7 @@ LineFails WriteFailed n form s t = ⊥
 LineFails TooLong n form s t = ⊥
 
 -- how carrying out line n ended
-abbrev pub LineEnds : Result Unit ScriptFault → ℕ → Form → Standing → Standing → List ℕ → Type 0
+abbrev pub LineEnds : Result Unit ScriptFault → ℕ → Form → ScriptState → ScriptState → List ℕ → Type 0
 LineEnds (Ok done) n form s t text = IsWrittenFor form s t text
 LineEnds (Err (BadLine k)) n form s t text = (form ≡ Bad) × (k ≡ n) × (t ≡ s) × (text ≡ [])
 LineEnds (Err (PowerFault fault)) n form s t text = (form ≡ Resets) × FailsReset fault s t × (text ≡ [])
@@ -49,10 +51,10 @@ LineEnds (Err ReadFailed) n form s t text = ⊥
 LineEnds (Err TooLong) n form s t text = ⊥
 
 -- how carrying out some lines ended
-abbrev pub LinesEnd : Result Unit ScriptFault → List (List ℕ) → Standing → Standing → List ℕ → Type 0
+abbrev pub LinesEnd : Result Unit ScriptFault → List (List ℕ) → ScriptState → ScriptState → List ℕ → Type 0
 LinesEnd (Ok done) all s t text = AreCarriedOut all s t text
-LinesEnd (Err (BadLine n)) all s t text = StopsAtBad n all s t text
-LinesEnd (Err (PowerFault fault)) all s t text = StopsAtReset fault all s t text
-LinesEnd (Err WriteFailed) all s t text = StopsInside all s t text
+LinesEnd (Err (BadLine n)) all s t text = FailsAtBadLine n all s t text
+LinesEnd (Err (PowerFault fault)) all s t text = FailsAtReset fault all s t text
+LinesEnd (Err WriteFailed) all s t text = EndsInsideLine all s t text
 LinesEnd (Err ReadFailed) all s t text = ⊥
 LinesEnd (Err TooLong) all s t text = ⊥

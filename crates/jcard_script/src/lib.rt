@@ -1,7 +1,7 @@
 //! Scripts: lines that are carried out on a card, over any reader and writer.
 #![tactic(auto)]
 
-mod held;
+mod card_or_store;
 mod line;
 pub mod mem_text;
 mod reply;

@@ -30,7 +30,7 @@ pub(crate) enum Kind {
 
 /// What a line asks for.
 #[derive(Drop)]
-pub(crate) enum Asked {
+pub(crate) enum LineRequest {
     /// Nothing: it is empty or a comment.
     Nothing,
     /// The command of these bytes, of which 262 at most are told.
@@ -38,7 +38,7 @@ pub(crate) enum Asked {
     /// A reset.
     Reset,
     /// To let so many writes pass.
-    Stop(u16),
+    ArmFuse(u16),
     /// It has no form.
     Refused,
 }
@@ -81,7 +81,8 @@ impl Content {
 
     // One more byte.
     fn push(&mut self, byte: u8)
-        ensures { (line : List ℕ) → IsLineOf self.old.kind self.old.digits.items self.old.is_odd line
+        ensures { (line : List ℕ) → IsLineOf self.old.kind self.old.digits.items
+            self.old.is_odd line
             → IsLineOf self.new.kind self.new.digits.items self.new.is_odd (line ++ byte ∷ []) }
     {
         match self.kind {
@@ -99,7 +100,8 @@ impl Content {
 
     // One more byte of a line that is no comment.
     fn push_digit(&mut self, byte: u8)
-        ensures { (line : List ℕ) → HasDigits self.old.digits.items self.old.is_odd line → IsPlain (line ++ byte ∷ [])
+        ensures { (line : List ℕ) → HasDigits self.old.digits.items self.old.is_odd line
+            → IsPlain (line ++ byte ∷ [])
             → IsLineOf self.new.kind self.new.digits.items self.new.is_odd (line ++ byte ∷ []) }
     {
         if byte == b' ' {
@@ -114,19 +116,20 @@ impl Content {
     }
 
     // What a line of these bytes asks for that is no word.
-    fn asked(&self) -> Asked
-        ensures { (line : List ℕ) → IsLineOf self.now.kind self.now.digits.items self.now.is_odd line → PlainlyAsksFor result line }
+    fn asked(&self) -> LineRequest
+        ensures { (line : List ℕ) → IsLineOf self.now.kind self.now.digits.items self.now.is_odd
+            line → PlainlyAsksFor result line }
     {
         match self.kind {
-            Kind::Empty | Kind::Comment => Asked::Nothing,
-            Kind::Nonsense => Asked::Refused,
+            Kind::Empty | Kind::Comment => LineRequest::Nothing,
+            Kind::Nonsense => LineRequest::Refused,
             Kind::Digits => {
                 if self.is_odd {
-                    return Asked::Refused;
+                    return LineRequest::Refused;
                 }
                 match command_of(self.digits.as_slice()) {
-                    Some(command) => Asked::Exchange(command),
-                    None => Asked::Refused,
+                    Some(command) => LineRequest::Exchange(command),
+                    None => LineRequest::Refused,
                 }
             }
         }
@@ -167,14 +170,15 @@ impl Line {
     }
 
     /// What the line asks for if a line feed follows.
-    pub(crate) fn ended(&self) -> Asked
-        ensures { (line : List ℕ) → IsKeptOf self.now line → AsksFor result (strip_carriage_return line) }
+    pub(crate) fn ended(&self) -> LineRequest
+        ensures { (line : List ℕ) → IsKeptOf self.now line
+            → AsksFor result (strip_carriage_return line) }
     {
         asked_by(&self.content, &self.word)
     }
 
     /// What the line asks for if it is the script's last, which no line feed ends.
-    pub(crate) fn last(&mut self) -> Asked
+    pub(crate) fn last(&mut self) -> LineRequest
         ensures { (line : List ℕ) → IsKeptOf self.old line → AsksFor result line }
     {
         self.settle();
@@ -184,7 +188,8 @@ impl Line {
     // A carriage return at the end belongs to the line.
     fn settle(&mut self)
         ensures { (line : List ℕ) → IsKeptOf self.old line
-            → IsLineOf self.new.content.kind self.new.content.digits.items self.new.content.is_odd line × IsWordOf self.new.word line }
+            → IsLineOf self.new.content.kind self.new.content.digits.items self.new.content.is_odd
+            line × IsWordOf self.new.word line }
     {
         if self.carriage_return {
             self.content.push(b'\r');
@@ -194,8 +199,9 @@ impl Line {
 }
 
 // What a line asks for of which this is kept.
-fn asked_by(content: &Content, word: &Word) -> Asked
-    ensures { (line : List ℕ) → IsLineOf content.now.kind content.now.digits.items content.now.is_odd line → IsWordOf word.now line → AsksFor result line }
+fn asked_by(content: &Content, word: &Word) -> LineRequest
+    ensures { (line : List ℕ) → IsLineOf content.now.kind content.now.digits.items
+        content.now.is_odd line → IsWordOf word.now line → AsksFor result line }
 {
     match word.asked() {
         Some(asked) => asked,
@@ -212,7 +218,8 @@ fn is_digit(byte: u8) -> bool
 // The bytes that so many digits spell.
 fn command_of(digits: &[u8]) -> Option<ArrayVec<u8, 262>>
     requires { length digits.now ≤ 524 }
-    ensures { MatchOption result (IsErr (decode_of digits.now)) (λ command. decode_of digits.now ≡ Ok command.items) }
+    ensures { MatchOption result (IsErr (decode_of digits.now))
+        (λ command. decode_of digits.now ≡ Ok command.items) }
 {
     let mut bytes = [0u8; BYTES];
     let count = digits.len() / 2;

@@ -2,7 +2,7 @@
 ghost use Rattle.std.specs.Prelude.{◌≡◌, ◌<◌, ◌≤◌, ℕ, List, [], Some, length, is_err, IfOk, IsOk, OnErr, vec_len, vec_capacity};
 ghost use Rattle.std.specs.Io.{ReadsAtMost};
 ghost use Rattle.std.specs.Io.KnownBytes.{ReadConsumes, WriteAppends};
-ghost use Rattle.jcard_script.specs.Failures.{failures_after};
+ghost use Rattle.jc_words.specs.Count.{failures_after};
 
 use crate::streams::{ReadFailed, TextIn, TextOut, WriteFailed};
 use std::alloc::{AllocError, Global};
@@ -46,7 +46,8 @@ impl<'a> TextIn for MemText<'a> {
 
     fn read(&mut self, buffer: &mut [u8]) -> Result<usize, ReadFailed>
         ensures within { ReadsAtMost result buffer.new }
-        ensures bytes { ReadConsumes (Some self.old.input.now) (Some self.new.input.now) result buffer.new }
+        ensures bytes { ReadConsumes (Some self.old.input.now)
+            (Some self.new.input.now) result buffer.new }
         ensures count { self.new.failures ≡ failures_after self.old.failures (is_err result) }
         ensures never_fails { IsOk result }
     {
@@ -66,7 +67,8 @@ impl<'a> TextOut for MemText<'a> {
         requires { 0 < length bytes.now }
         ensures some { IfOk result (λ n. 0 < n) }
         ensures within { IfOk result (λ n. n ≤ length bytes.now) }
-        ensures bytes { WriteAppends (Some self.old.output.items) (Some self.new.output.items) result bytes.now }
+        ensures bytes { WriteAppends (Some self.old.output.items)
+            (Some self.new.output.items) result bytes.now }
         ensures count { self.new.failures ≡ failures_after self.old.failures (is_err result) }
         ensures full { OnErr result (vec_capacity self.old.output ≤ vec_len self.old.output) }
     {

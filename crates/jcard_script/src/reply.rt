@@ -2,7 +2,7 @@
 ghost use Rattle.std.specs.Prelude.{◌≡◌, ◌*◌, length, is_err, MatchResult};
 ghost use Rattle.std.specs.Io.KnownBytes.{Appends};
 ghost use Rattle.hex.specs.Hex.{encode_upper};
-ghost use Rattle.jcard_script.specs.Failures.{failures_after};
+ghost use Rattle.jc_words.specs.Count.{failures_after};
 ghost use Rattle.jcard_script.specs.Texts.{AppendsCut};
 ghost use Rattle.jcard_script.specs.Script.{text_of, armed_text};
 ghost use Rattle.jcard_script.specs.Reply.{text_of_reply};
@@ -26,11 +26,12 @@ pub(crate) enum Reply {
     Armed(u16),
 }
 
-/// Writes a reply.
+/// Writes a reply as its line of text; nothing for a silent one.
 pub(crate) fn write_reply<W: TextOut>(reply: &Reply, writer: &mut W) -> Result<(), WriteFailed>
     ensures text { MatchResult result
         (λ _. Appends (W.contents writer.old) (W.contents writer.new) (text_of_reply reply.now))
-        (λ _. AppendsCut (W.contents writer.old) (W.contents writer.new) (text_of_reply reply.now)) }
+        (λ _. AppendsCut (W.contents writer.old) (W.contents writer.new)
+        (text_of_reply reply.now)) }
     ensures count { W.failures writer.new ≡ failures_after (W.failures writer.old) (is_err result) }
 {
     match reply {

@@ -2,7 +2,7 @@
 ghost use Rattle.std.specs.Prelude.{◌≡◌, ℕ, List, Bool};
 ghost use Rattle.std.specs.Bool.{OnTrue};
 ghost use Rattle.std.specs.Io.KnownBytes.{Appends, Consumes};
-ghost use Rattle.jcard_script.specs.Failures.{failures_after};
+ghost use Rattle.jc_words.specs.Count.{failures_after};
 ghost use Rattle.jcard_script.specs.Script.{Ends, IsWholeScript, is_read_failed, is_write_failed};
 
 use crate::session::Session;
@@ -43,7 +43,7 @@ pub enum ScriptFault {
 ///
 /// A line ends at a line feed, which the last may lack; a carriage return before a line feed
 /// belongs to neither line. A line that is empty or begins with '#' is skipped. `reset` brings the
-/// power back and powers up; `stop` with a number from 0 to 65,535 arms the fuse. Any other line is
+/// power back and powers up; `arm_fuse` with a number from 0 to 65,535 arms the fuse. Any other line is
 /// a command in hexadecimal, in either case, with spaces anywhere, and its response is written in
 /// upper case, with a line feed. Where the store refuses a write, the session is down until a
 /// reset, and a command is answered `down`.
@@ -58,8 +58,10 @@ pub fn run_script<S: WordStore + Drop, R: TextIn, W: TextOut>(
         × Appends (W.contents writer.old) (W.contents writer.new) text
         × OnTrue at_end (IsWholeScript (R.remaining reader.new) script)
         × Ends result.1 fuse result.0 at_end script text }
-    ensures reads { R.failures reader.new ≡ failures_after (R.failures reader.old) (is_read_failed result.1) }
-    ensures writes { W.failures writer.new ≡ failures_after (W.failures writer.old) (is_write_failed result.1) }
+    ensures reads { R.failures reader.new ≡ failures_after (R.failures reader.old)
+        (is_read_failed result.1) }
+    ensures writes { W.failures writer.new ≡ failures_after (W.failures writer.old)
+        (is_write_failed result.1) }
 {
     let (mut session, started) = Session::start(alloc, fuse);
     if let Err(fault) = started {

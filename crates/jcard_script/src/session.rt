@@ -3,17 +3,18 @@ ghost use Rattle.std.specs.Prelude.{◌≡◌, ◌+◌, ◌-◌, ◌^◌, ◌<�
 ghost use Rattle.std.specs.Bool.{OnTrue};
 ghost use Rattle.std.specs.Io.KnownBytes.{Appends, Consumes};
 ghost use Rattle.std.specs.Str.Lines.{lines};
-ghost use Rattle.jc_words.specs.Stores.{Fused};
-ghost use Rattle.jcard_script.specs.Failures.{failures_after};
-ghost use Rattle.jcard_script.specs.Held.{IsHeld, standing_in};
+ghost use Rattle.jc_words.specs.Stores.{FuseStoreValue};
+ghost use Rattle.jc_words.specs.Count.{failures_after};
+ghost use Rattle.jcard_script.specs.CardOrStore.{IsState, state_of_held};
 ghost use Rattle.jcard_script.specs.Line.{AsksFor};
 ghost use Rattle.jcard_script.specs.Reply.{text_of_reply};
-ghost use Rattle.jcard_script.specs.Script.{EndsFrom, IsAnswered, IsWholeScript, IsWrittenFor, armed_text, form_of, power_text, is_read_failed, is_write_failed, ended_lines};
-ghost use Rattle.jcard_script.specs.Standing.{Standing, Down, Holds, PowersUp, FailsUp, IsReset, FailsReset, armed};
+ghost use Rattle.jcard_script.specs.Script.{EndsFrom, IsAnswered, IsWholeScript, IsWrittenFor, armed_text, form_of, power_text, is_read_failed};
+ghost use Rattle.jcard_script.specs.Script.{is_write_failed, ended_lines};
+ghost use Rattle.jcard_script.specs.ScriptStates.{ScriptState, Down, IsSessionStore, PowersUp, FailsUp, IsReset, FailsReset, with_fuse};
 ghost use Rattle.jcard_script.specs.Session.{StandsAt, LineEnds, LineFails, LinesEnd};
 
-use crate::held::Held;
-use crate::line::{Asked, Line};
+use crate::card_or_store::CardOrStore;
+use crate::line::{Line, LineRequest};
 use crate::reply::{Reply, write_reply};
 use crate::script::{BOUND, ScriptFault};
 use crate::streams::{TextIn, TextOut, WriteFailed};
@@ -26,7 +27,7 @@ use std::alloc::Global;
 pub(crate) struct Session<S: WordStore> {
     alloc: Global,
     // Nothing only while a reset is carried out or the fuse is armed.
-    held: Option<Held<S>>,
+    held: Option<CardOrStore<S>>,
     line: Line,
     number: u32,
 }
@@ -34,12 +35,13 @@ pub(crate) struct Session<S: WordStore> {
 impl<S: WordStore + Drop> Session<S> {
     /// Before the first line: brings the power back and powers up.
     pub(crate) fn start(alloc: Global, fuse: FuseStore<S>) -> (Session<S>, Result<(), PowerFault>)
-        ensures held { IsHeld result.0.held }
-        ensures stands { StandsAt result.0 (standing_in result.0.held) [] [] }
-        ensures powered { OnOk result.1 (PowersUp fuse (standing_in result.0.held)) }
-        ensures fault { IfErr result.1 (λ fault. (after : Fused) × FailsUp fuse fault after × (standing_in result.0.held ≡ Down after)) }
+        ensures held { IsState result.0.held }
+        ensures stands { StandsAt result.0 (state_of_held result.0.held) [] [] }
+        ensures powered { OnOk result.1 (PowersUp fuse (state_of_held result.0.held)) }
+        ensures fault { IfErr result.1 (λ fault. (after : FuseStoreValue) × FailsUp fuse fault after
+            × (state_of_held result.0.held ≡ Down after)) }
     {
-        let (held, started) = Held::power_up(alloc, fuse);
+        let (held, started) = CardOrStore::power_up(alloc, fuse);
         let session = Session {
             alloc,
             held: Some(held),
@@ -49,10 +51,10 @@ impl<S: WordStore + Drop> Session<S> {
         (session, started)
     }
 
-    /// The store.
+    /// The store of the card, without power.
     pub(crate) fn into_store(self) -> FuseStore<S>
-        requires { IsHeld self.held }
-        ensures { Holds (standing_in self.held) result }
+        requires { IsState self.held }
+        ensures { IsSessionStore (state_of_held self.held) result }
     {
         let Session {
             alloc: _,
@@ -69,16 +71,19 @@ impl<S: WordStore + Drop> Session<S> {
         reader: &mut R,
         writer: &mut W,
     ) -> Result<(), ScriptFault>
-        requires held { IsHeld self.old.held }
-        requires stands { StandsAt self.old (standing_in self.old.held) [] [] }
-        ensures held { IsHeld self.new.held }
+        requires held { IsState self.old.held }
+        requires stands { StandsAt self.old (state_of_held self.old.held) [] [] }
+        ensures held { IsState self.new.held }
         ensures script { (script text : List ℕ) × (at_end : Bool)
             × Consumes (R.remaining reader.old) (R.remaining reader.new) script
             × Appends (W.contents writer.old) (W.contents writer.new) text
             × OnTrue at_end (IsWholeScript (R.remaining reader.new) script)
-            × EndsFrom result at_end script (standing_in self.old.held) (standing_in self.new.held) text }
-        ensures reads { R.failures reader.new ≡ failures_after (R.failures reader.old) (is_read_failed result) }
-        ensures writes { W.failures writer.new ≡ failures_after (W.failures writer.old) (is_write_failed result) }
+            × EndsFrom result at_end script (state_of_held self.old.held)
+            (state_of_held self.new.held) text }
+        ensures reads { R.failures reader.new ≡ failures_after (R.failures reader.old)
+            (is_read_failed result) }
+        ensures writes { W.failures writer.new ≡ failures_after (W.failures writer.old)
+            (is_write_failed result) }
     {
         let mut piece = [0u8; 4096];
         let mut left = BOUND;
@@ -101,13 +106,16 @@ impl<S: WordStore + Drop> Session<S> {
     // The next bytes of the script.
     fn feed<W: TextOut>(&mut self, piece: &[u8], writer: &mut W) -> Result<(), ScriptFault>
         requires number { self.old.number + length piece.now < 2 ^ 32 }
-        requires held { IsHeld self.old.held }
-        ensures held { IsHeld self.new.held }
-        ensures goes { (script text : List ℕ) → (first : Standing) → StandsAt self.old first script text
+        requires held { IsState self.old.held }
+        ensures held { IsState self.new.held }
+        ensures goes { (script text : List ℕ) → (first : ScriptState)
+            → StandsAt self.old first script text
             → (more : List ℕ) × Appends (W.contents writer.old) (W.contents writer.new) more
             × OnOk result (StandsAt self.new first (script ++ piece.now) (text ++ more))
-            × LinesEnd result (ended_lines (script ++ piece.now)) first (standing_in self.new.held) (text ++ more) }
-        ensures writes { W.failures writer.new ≡ failures_after (W.failures writer.old) (is_write_failed result) }
+            × LinesEnd result (ended_lines (script ++ piece.now)) first
+            (state_of_held self.new.held) (text ++ more) }
+        ensures writes { W.failures writer.new ≡ failures_after (W.failures writer.old)
+            (is_write_failed result) }
     {
         for byte in piece {
             self.push(*byte, writer)?;
@@ -118,14 +126,17 @@ impl<S: WordStore + Drop> Session<S> {
     // The next byte.
     fn push<W: TextOut>(&mut self, byte: u8, writer: &mut W) -> Result<(), ScriptFault>
         requires number { self.old.number < 2 ^ 32 - 1 }
-        requires held { IsHeld self.old.held }
-        ensures held { IsHeld self.new.held }
+        requires held { IsState self.old.held }
+        ensures held { IsState self.new.held }
         ensures number { OnOk result (self.new.number ≤ self.old.number + 1) }
-        ensures goes { (script text : List ℕ) → (first : Standing) → StandsAt self.old first script text
+        ensures goes { (script text : List ℕ) → (first : ScriptState)
+            → StandsAt self.old first script text
             → (more : List ℕ) × Appends (W.contents writer.old) (W.contents writer.new) more
             × OnOk result (StandsAt self.new first (script ++ byte ∷ []) (text ++ more))
-            × LinesEnd result (ended_lines (script ++ byte ∷ [])) first (standing_in self.new.held) (text ++ more) }
-        ensures writes { W.failures writer.new ≡ failures_after (W.failures writer.old) (is_write_failed result) }
+            × LinesEnd result (ended_lines (script ++ byte ∷ [])) first
+            (state_of_held self.new.held) (text ++ more) }
+        ensures writes { W.failures writer.new ≡ failures_after (W.failures writer.old)
+            (is_write_failed result) }
     {
         if byte == b'\n' {
             return self.end_line(writer);
@@ -134,17 +145,20 @@ impl<S: WordStore + Drop> Session<S> {
         Ok(())
     }
 
-    // A line feed.
+    // Carries out the line that a line feed ends, and begins the next.
     fn end_line<W: TextOut>(&mut self, writer: &mut W) -> Result<(), ScriptFault>
         requires number { self.old.number < 2 ^ 32 - 1 }
-        requires held { IsHeld self.old.held }
-        ensures held { IsHeld self.new.held }
+        requires held { IsState self.old.held }
+        ensures held { IsState self.new.held }
         ensures number { OnOk result (self.new.number ≡ self.old.number + 1) }
-        ensures goes { (script text : List ℕ) → (first : Standing) → StandsAt self.old first script text
+        ensures goes { (script text : List ℕ) → (first : ScriptState)
+            → StandsAt self.old first script text
             → (more : List ℕ) × Appends (W.contents writer.old) (W.contents writer.new) more
             × OnOk result (StandsAt self.new first (script ++ 10 ∷ []) (text ++ more))
-            × LinesEnd result (ended_lines (script ++ 10 ∷ [])) first (standing_in self.new.held) (text ++ more) }
-        ensures writes { W.failures writer.new ≡ failures_after (W.failures writer.old) (is_write_failed result) }
+            × LinesEnd result (ended_lines (script ++ 10 ∷ [])) first (state_of_held self.new.held)
+            (text ++ more) }
+        ensures writes { W.failures writer.new ≡ failures_after (W.failures writer.old)
+            (is_write_failed result) }
     {
         let asked = self.line.ended();
         self.number += 1;
@@ -153,15 +167,17 @@ impl<S: WordStore + Drop> Session<S> {
         result
     }
 
-    // The end of the script.
+    // Carries out the last line, which no line feed ends.
     fn finish<W: TextOut>(&mut self, writer: &mut W) -> Result<(), ScriptFault>
         requires number { self.old.number < 2 ^ 32 - 1 }
-        requires held { IsHeld self.old.held }
-        ensures held { IsHeld self.new.held }
-        ensures goes { (script text : List ℕ) → (first : Standing) → StandsAt self.old first script text
+        requires held { IsState self.old.held }
+        ensures held { IsState self.new.held }
+        ensures goes { (script text : List ℕ) → (first : ScriptState)
+            → StandsAt self.old first script text
             → (more : List ℕ) × Appends (W.contents writer.old) (W.contents writer.new) more
-            × LinesEnd result (lines script) first (standing_in self.new.held) (text ++ more) }
-        ensures writes { W.failures writer.new ≡ failures_after (W.failures writer.old) (is_write_failed result) }
+            × LinesEnd result (lines script) first (state_of_held self.new.held) (text ++ more) }
+        ensures writes { W.failures writer.new ≡ failures_after (W.failures writer.old)
+            (is_write_failed result) }
     {
         let asked = self.line.last();
         self.number += 1;
@@ -169,14 +185,20 @@ impl<S: WordStore + Drop> Session<S> {
     }
 
     // Answers the line with the session's number.
-    fn answer_line<W: TextOut>(&mut self, asked: Asked, writer: &mut W) -> Result<(), ScriptFault>
-        requires held { IsHeld self.old.held }
-        ensures held { IsHeld self.new.held }
+    fn answer_line<W: TextOut>(
+        &mut self,
+        asked: LineRequest,
+        writer: &mut W,
+    ) -> Result<(), ScriptFault>
+        requires held { IsState self.old.held }
+        ensures held { IsState self.new.held }
         ensures number { self.new.number ≡ self.old.number }
         ensures goes { (line : List ℕ) → AsksFor asked line
             → (more : List ℕ) × Appends (W.contents writer.old) (W.contents writer.new) more
-            × LineEnds result self.old.number (form_of line) (standing_in self.old.held) (standing_in self.new.held) more }
-        ensures writes { W.failures writer.new ≡ failures_after (W.failures writer.old) (is_write_failed result) }
+            × LineEnds result self.old.number (form_of line) (state_of_held self.old.held)
+            (state_of_held self.new.held) more }
+        ensures writes { W.failures writer.new ≡ failures_after (W.failures writer.old)
+            (is_write_failed result) }
     {
         match self.reply(asked) {
             Ok(reply) => match write_reply(&reply, writer) {
@@ -188,33 +210,36 @@ impl<S: WordStore + Drop> Session<S> {
     }
 
     // What is to be written for the line with the session's number.
-    fn reply(&mut self, asked: Asked) -> Result<Reply, ScriptFault>
-        requires held { IsHeld self.old.held }
-        ensures held { IsHeld self.new.held }
+    fn reply(&mut self, asked: LineRequest) -> Result<Reply, ScriptFault>
+        requires held { IsState self.old.held }
+        ensures held { IsState self.new.held }
         ensures number { self.new.number ≡ self.old.number }
         ensures goes { (line : List ℕ) → AsksFor asked line → MatchResult result
-            (λ reply. IsWrittenFor (form_of line) (standing_in self.old.held) (standing_in self.new.held) (text_of_reply reply))
-            (λ fault. LineFails fault self.old.number (form_of line) (standing_in self.old.held) (standing_in self.new.held)) }
+            (λ reply. IsWrittenFor (form_of line) (state_of_held self.old.held)
+            (state_of_held self.new.held) (text_of_reply reply))
+            (λ fault. LineFails fault self.old.number (form_of line) (state_of_held self.old.held)
+            (state_of_held self.new.held)) }
         ensures unwritten { IfErr result (λ fault. is_write_failed (Err fault) ≡ false) }
     {
         match asked {
-            Asked::Nothing => Ok(Reply::Silent),
-            Asked::Refused => Err(ScriptFault::BadLine(self.number)),
-            Asked::Exchange(command) => Ok(self.exchange(command.as_slice())),
-            Asked::Reset => match self.reset() {
+            LineRequest::Nothing => Ok(Reply::Silent),
+            LineRequest::Refused => Err(ScriptFault::BadLine(self.number)),
+            LineRequest::Exchange(command) => Ok(self.exchange(command.as_slice())),
+            LineRequest::Reset => match self.reset() {
                 Ok(reply) => Ok(reply),
                 Err(fault) => Err(ScriptFault::PowerFault(fault)),
             },
-            Asked::Stop(k) => Ok(self.stop(k)),
+            LineRequest::ArmFuse(k) => Ok(self.arm_fuse(k)),
         }
     }
 
-    // A command.
+    // The card's response to a command; `down` where the card is down, or goes down at it.
     fn exchange(&mut self, command: &[u8]) -> Reply
-        requires held { IsHeld self.old.held }
-        ensures held { IsHeld self.new.held }
+        requires held { IsState self.old.held }
+        ensures held { IsState self.new.held }
         ensures number { self.new.number ≡ self.old.number }
-        ensures answer { IsAnswered command.now (standing_in self.old.held) (standing_in self.new.held) (text_of_reply result) }
+        ensures answer { IsAnswered command.now (state_of_held self.old.held)
+            (state_of_held self.new.held) (text_of_reply result) }
     {
         if let Some(held) = &mut self.held {
             if let Some(response) = held.exchange(command) {
@@ -222,22 +247,24 @@ impl<S: WordStore + Drop> Session<S> {
             }
         }
         let left = self.held.take().unwrap().into_store();
-        self.held = Some(Held::Store(left));
+        self.held = Some(CardOrStore::Store(left));
         Reply::Down
     }
 
-    // A reset.
+    // Takes the power from the card and powers it up again over its store.
     fn reset(&mut self) -> Result<Reply, PowerFault>
-        requires held { IsHeld self.old.held }
-        ensures held { IsHeld self.new.held }
+        requires held { IsState self.old.held }
+        ensures held { IsState self.new.held }
         ensures number { self.new.number ≡ self.old.number }
-        ensures powered { IfOk result (λ reply. IsReset (standing_in self.old.held) (standing_in self.new.held)
-            × (text_of_reply reply ≡ power_text (standing_in self.new.held))) }
-        ensures fault { IfErr result (λ fault. FailsReset fault (standing_in self.old.held) (standing_in self.new.held)) }
+        ensures powered { IfOk result (λ reply. IsReset (state_of_held self.old.held)
+            (state_of_held self.new.held)
+            × (text_of_reply reply ≡ power_text (state_of_held self.new.held))) }
+        ensures fault { IfErr result (λ fault. FailsReset fault (state_of_held self.old.held)
+            (state_of_held self.new.held)) }
     {
         let store = self.held.take().unwrap().into_store();
-        let (held, result) = Held::power_up(self.alloc, store);
-        let reply = held.told();
+        let (held, result) = CardOrStore::power_up(self.alloc, store);
+        let reply = held.power_up_answer();
         self.held = Some(held);
         match result {
             Ok(()) => Ok(reply),
@@ -245,16 +272,16 @@ impl<S: WordStore + Drop> Session<S> {
         }
     }
 
-    // Arms the fuse.
-    fn stop(&mut self, k: u16) -> Reply
-        requires held { IsHeld self.old.held }
-        ensures held { IsHeld self.new.held }
+    // Script line `stop K`: lets K writes pass and refuses the next.
+    fn arm_fuse(&mut self, k: u16) -> Reply
+        requires held { IsState self.old.held }
+        ensures held { IsState self.new.held }
         ensures number { self.new.number ≡ self.old.number }
         ensures armed { text_of_reply result ≡ armed_text k }
-        ensures standing { standing_in self.new.held ≡ armed k (standing_in self.old.held) }
+        ensures standing { state_of_held self.new.held ≡ with_fuse k (state_of_held self.old.held) }
     {
         let held = self.held.take().unwrap();
-        self.held = Some(held.armed(u64::from(k)));
+        self.held = Some(held.with_fuse(u64::from(k)));
         Reply::Armed(k)
     }
 }

@@ -2,7 +2,7 @@
 ghost use Rattle.std.specs.Prelude.{◌≡◌, ◌<◌, ◌≤◌, ◌++◌, ℕ, List, Option, length, is_err, MatchResult, IfOk};
 ghost use Rattle.std.specs.Io.{ReadsAtMost};
 ghost use Rattle.std.specs.Io.KnownBytes.{Appends, ReadConsumes, WriteAppends};
-ghost use Rattle.jcard_script.specs.Failures.{failures_after};
+ghost use Rattle.jc_words.specs.Count.{failures_after};
 ghost use Rattle.jcard_script.specs.Texts.{AppendsCut};
 
 use thiserror::Error;
@@ -17,7 +17,7 @@ pub struct ReadFailed;
 #[error("a write failed")]
 pub struct WriteFailed;
 
-/// A text that comes in.
+/// Where a script is read from.
 pub trait TextIn {
     // the bytes that are left, where they are known
     ghost remaining: { Self → Option (List ℕ) };
@@ -33,7 +33,7 @@ pub trait TextIn {
         ensures count { failures self.new ≡ failures_after (failures self.old) (is_err result) };
 }
 
-/// A text that goes out.
+/// Where responses and reports are written to.
 pub trait TextOut {
     // the bytes that were written, where they are known
     ghost contents: { Self → Option (List ℕ) };
@@ -72,8 +72,10 @@ pub fn write_parts<W: TextOut>(
     third: &[u8],
 ) -> Result<(), WriteFailed>
     ensures text { MatchResult result
-        (λ _. Appends (W.contents writer.old) (W.contents writer.new) (first.now ++ second.now ++ third.now))
-        (λ _. AppendsCut (W.contents writer.old) (W.contents writer.new) (first.now ++ second.now ++ third.now)) }
+        (λ _. Appends (W.contents writer.old) (W.contents writer.new)
+        (first.now ++ second.now ++ third.now))
+        (λ _. AppendsCut (W.contents writer.old) (W.contents writer.new)
+        (first.now ++ second.now ++ third.now)) }
     ensures count { W.failures writer.new ≡ failures_after (W.failures writer.old) (is_err result) }
 {
     write_all(writer, first)?;

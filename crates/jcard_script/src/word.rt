@@ -1,10 +1,10 @@
-//! The words that a line may be: `reset`, and `stop` with a number.
+//! The words that a line may be: `reset`, and `arm_fuse` with a number.
 ghost use Rattle.std.specs.Prelude.{◌≡◌, ◌++◌, ◌∷◌, ℕ, List, [], MatchOption};
 ghost use Rattle.jcard_script.specs.Script.{form_of, plain_form_of};
 ghost use Rattle.jcard_script.specs.Line.{AsksFor};
 ghost use Rattle.jcard_script.specs.Word.{IsWordOf, next_number};
 
-use crate::line::Asked;
+use crate::line::LineRequest;
 use arrayvec::ArrayVec;
 
 /// How many bytes of a line are kept for its words: one more than stand before the number.
@@ -49,23 +49,23 @@ impl Word {
     }
 
     /// What a line asks for that is a word, or seems to begin one.
-    pub(crate) fn asked(&self) -> Option<Asked>
+    pub(crate) fn asked(&self) -> Option<LineRequest>
         ensures { (line : List ℕ) → IsWordOf self.now line
             → MatchOption result (form_of line ≡ plain_form_of line) (λ asked. AsksFor asked line) }
     {
         let head = self.head.as_slice();
         if head == b"reset".as_slice() {
-            return Some(Asked::Reset);
+            return Some(LineRequest::Reset);
         }
         if !head.starts_with(b"stop ") {
             return None;
         }
         if head.len() < HEAD {
-            return Some(Asked::Refused);
+            return Some(LineRequest::Refused);
         }
         match self.number {
-            Some(k) => Some(Asked::Stop(k)),
-            None => Some(Asked::Refused),
+            Some(k) => Some(LineRequest::ArmFuse(k)),
+            None => Some(LineRequest::Refused),
         }
     }
 }

@@ -1,5 +1,5 @@
 use Rattle.jc_cap_code.specs.Implemented.{implemented_at}
-use Rattle.jc_cap_fields.proofs.Lent.{is_list}
+use Rattle.jc_cap_linkage.proofs.Lent.{is_list}
 use Rattle.jc_cap_code.proofs.class_lists.read_interfaces.Goals as goal
 
 pub invariant_of-result : goal.invariant_of-result

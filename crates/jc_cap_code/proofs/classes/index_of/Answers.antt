@@ -9,8 +9,10 @@ loop-i-init c = record { ahead = refl; none = refl }
 
 pub loop-i-preserved : goal.loop-i-preserved
 loop-i-preserved c = record {
-  ahead = among_goes_on c.args.offset c.args.offsets.now c.loop-i.i c.offset_at-here.result (is_among c.args.offset c.args.offsets.now) c.offset_at-here.ensures c.if-here-offset.false c.loop-i.invariant.ahead;
-  none = none_before c.args.offset c.args.offsets.now c.loop-i.i c.offset_at-here.result c.offset_at-here.ensures c.if-here-offset.false c.loop-i.invariant.none;
+  ahead = among_goes_on c.args.offset c.args.offsets.now c.loop-i.i c.offset_at-here.result
+      (is_among c.args.offset c.args.offsets.now) c.offset_at-here.ensures c.if-here-offset.false c.loop-i.invariant.ahead;
+  none = none_before c.args.offset c.args.offsets.now c.loop-i.i c.offset_at-here.result c.offset_at-here.ensures c.if-here-offset.false
+      c.loop-i.invariant.none;
 }
 
 pub returns : goal.returns

@@ -1,6 +1,6 @@
 use Rattle.std.proofs.Common.{◌-◌, ◌∙◌, length, arith, ap, sym, refl}
 use Rattle.std.proofs.lemmas.Result.{err_from_is_err_and}
-use Rattle.jc_cap_code.specs.ClassReading.{is_earlier, record_at, classes_of, placed_offsets}
+use Rattle.jc_cap_code.specs.ClassReading.{is_earlier, record_at, classes_of, record_offsets_or_none}
 use Rattle.jc_cap_code.proofs.RecordWalk.{walk_init, walk_next, walk_fails, walk_is_full, walk_done, start_fails, start_long, no_longer, some_bytes, no_bytes}
 use Rattle.jc_cap_code.proofs.classes.record_offsets.Goals as goal
 
@@ -17,22 +17,39 @@ loop-rest-init c = record {
 }
 
 pub returns-then-len-eq256 : goal.returns-then-len-eq256
-returns-then-len-eq256 c = walk_is_full (length c.loop-rest.before.items) (length c.args.info.now) c.loop-rest.before.items c.loop-rest.rest.now (placed_offsets (classes_of c.args.format c.args.info.now)) (sym c.len.ensures.value ∙ c.if-len-eq256.true) (some_bytes _ c.loop-rest-test.ensures) c.loop-rest.invariant.going
+returns-then-len-eq256 c = walk_is_full (length c.loop-rest.before.items) (length c.args.info.now) c.loop-rest.before.items c.loop-rest.rest.now
+    (record_offsets_or_none (classes_of c.args.format c.args.info.now)) (sym c.len.ensures.value ∙ c.if-len-eq256.true)
+    (some_bytes _ c.loop-rest-test.ensures) c.loop-rest.invariant.going
 
 pub returns-in_err-next : goal.returns-in_err-next
 returns-in_err-next c =
     let p = err_from_is_err_and c.from_residual-in_err-next.result c.from_residual-in_err-next.ensures.1 in
     let h = ap (λ b. record_at (is_earlier b) c.loop-rest.rest.now) (sym c.as_slice.ensures.value) ∙ c.in_err-next.ensures in
-    rw (p.1, p.2) (walk_fails (length c.loop-rest.before.items) (length c.args.info.now) c.loop-rest.before.items c.loop-rest.rest.now c.in_err-next.field-0.0 (placed_offsets (classes_of c.args.format c.args.info.now)) (omega (arith, c.loop-rest.invariant.within, c.if-len-eq256.false, c.len.ensures.value)) (some_bytes _ c.loop-rest-test.ensures) h c.loop-rest.invariant.going)
+    rw (p.1, p.2) (walk_fails (length c.loop-rest.before.items) (length c.args.info.now) c.loop-rest.before.items c.loop-rest.rest.now c.in_err-next.field-0.0
+    (record_offsets_or_none (classes_of c.args.format c.args.info.now)) (omega (
+      arith,
+      c.loop-rest.invariant.within,
+      c.if-len-eq256.false,
+      c.len.ensures.value,
+    )) (some_bytes _ c.loop-rest-test.ensures) h c.loop-rest.invariant.going)
 
 pub loop-rest-preserved : goal.loop-rest-preserved
 loop-rest-preserved c =
     let h = ap (λ b. record_at (is_earlier b) c.loop-rest.rest.now) (sym c.as_slice.ensures.value) ∙ c.in_ok-next.ensures in
     record {
       within = omega (arith, c.push.ensures.len, c.loop-rest.invariant.within, c.if-len-eq256.false, c.len.ensures.value);
-      inside = omega (arith, c.loop-rest.invariant.inside, no_longer (is_earlier c.loop-rest.before.items) c.loop-rest.rest.now c.in_ok-next.next.now c.in_ok-next.field-0-0 h);
-      going = walk_next (length c.args.info.now) (length c.args.info.now - length c.loop-rest.rest.now) c.loop-rest.before.items c.push.new.self.items c.loop-rest.rest.now c.in_ok-next.next.now c.in_ok-next.field-0-0 (placed_offsets (classes_of c.args.format c.args.info.now)) c.push.ensures.items (omega (arith, c.loop-rest.invariant.within, c.if-len-eq256.false, c.len.ensures.value)) (some_bytes _ c.loop-rest-test.ensures) refl h c.loop-rest.invariant.going;
+      inside = omega (
+        arith,
+        c.loop-rest.invariant.inside,
+        no_longer (is_earlier c.loop-rest.before.items) c.loop-rest.rest.now c.in_ok-next.next.now
+            c.in_ok-next.field-0-0 h,
+      );
+      going = walk_next (length c.args.info.now) (length c.args.info.now - length c.loop-rest.rest.now) c.loop-rest.before.items c.push.new.self.items
+          c.loop-rest.rest.now c.in_ok-next.next.now c.in_ok-next.field-0-0 (record_offsets_or_none (classes_of c.args.format c.args.info.now))
+          c.push.ensures.items (omega (arith, c.loop-rest.invariant.within, c.if-len-eq256.false, c.len.ensures.value))
+          (some_bytes _ c.loop-rest-test.ensures) refl h c.loop-rest.invariant.going;
     }
 
 pub returns : goal.returns
-returns c = walk_done _ (length c.args.info.now) c.loop-rest.before.items c.loop-rest.rest.now (placed_offsets (classes_of c.args.format c.args.info.now)) (no_bytes _ c.loop-rest-test.ensures) c.loop-rest.invariant.going
+returns c = walk_done _ (length c.args.info.now) c.loop-rest.before.items c.loop-rest.rest.now
+    (record_offsets_or_none (classes_of c.args.format c.args.info.now)) (no_bytes _ c.loop-rest-test.ensures) c.loop-rest.invariant.going

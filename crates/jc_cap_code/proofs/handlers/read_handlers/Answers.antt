@@ -1,5 +1,5 @@
 use Rattle.jc_cap_code.specs.MethodReading.{handler_at}
-use Rattle.jc_cap_fields.proofs.Lent.{is_list}
+use Rattle.jc_cap_linkage.proofs.Lent.{is_list}
 use Rattle.jc_cap_code.proofs.handlers.read_handlers.Goals as goal
 
 pub invariant_of-result : goal.invariant_of-result

@@ -1,5 +1,5 @@
 use Rattle.jc_cap_code.specs.StaticReading.{static_array_at}
-use Rattle.jc_cap_fields.proofs.Lent.{is_list}
+use Rattle.jc_cap_linkage.proofs.Lent.{is_list}
 use Rattle.jc_cap_code.proofs.static_arrays.read_arrays.Goals as goal
 
 pub invariant_of-result : goal.invariant_of-result

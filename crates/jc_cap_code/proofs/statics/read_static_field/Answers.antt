@@ -1,4 +1,4 @@
-use Rattle.jc_cap_fields.proofs.Wholes.{is_found, is_only}
+use Rattle.jc_cap_linkage.proofs.Wholes.{is_found, is_only}
 use Rattle.jc_cap_code.specs.StaticReading.{statics_at}
 use Rattle.jc_cap_code.specs.StaticGrammar.{AreStatics}
 use Rattle.jc_cap_code.specs.StaticViews.{static_parts}

@@ -15,4 +15,5 @@ returns-in-Ok-clause-top g c =
 
 pub returns-in-Ok-clause-end : goal.returns-in-Ok-clause-end
 returns-in-Ok-clause-end g c =
-    ap (λ v. area_end (v.now) Reset) c.in-Ok.ensures.moves.2 ∙ end-add c.args.heap.now.now c.args.object.now.kind c.class_number-class.result 0 c.args.object.now.cells
+    ap (λ v. area_end (v.now) Reset) c.in-Ok.ensures.moves.2 ∙ end-add c.args.heap.now.now c.args.object.now.kind c.class_number-class.result 0
+    c.args.object.now.cells

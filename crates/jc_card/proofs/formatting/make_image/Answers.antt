@@ -1,21 +1,23 @@
 use Rattle.std.proofs.Common.{◌≡◌, length, ap, subst, sym, ◌∙◌}
 use Rattle.jc_heap.specs.Stored.{HoldsHeap}
-use Rattle.jc_image.specs.Laying.{sealed, sealed_view}
+use Rattle.jc_image.specs.Laying.{sealed_heap, sealed_view}
 use Rattle.jc_card.specs.Fixed.{fixed_objects, with_objects}
-use Rattle.jc_card.specs.Made.{formatted}
+use Rattle.jc_card.specs.Made.{new_card_heap}
 use Rattle.jc_card.proofs.MadeImages.{made_if, mapped_if}
 use Rattle.jc_card.proofs.formatting.make_image.Goals as goal
 
 pub returns-clause-size : goal.returns-clause-size
 returns-clause-size g c =
     let S = g.S.WordStore in
-    mapped_if c.seal.result (λ s. HoldsHeap (S.words s) (S.down s) (S.passed s) (S.refused s) (sealed_view c.make_fixed.new.heap)) (λ s. length (S.words s) ≡ length (S.words c.args.store))
+    mapped_if c.seal.result (λ s. HoldsHeap (S.words s) (S.down s) (S.passed s) (S.refused s) (sealed_view c.make_fixed.new.heap))
+    (λ s. length (S.words s) ≡ length (S.words c.args.store))
     (λ s h. h.size ∙ c.in-Ok.ensures.size ∙ ap (λ v. v.size) c.in_ok-heap.ensures.done) c.seal.ensures.sealed
 
 pub returns-clause-made : goal.returns-clause-made
 returns-clause-made g c =
     let S = g.S.WordStore in
-    made_if S.words S.down S.passed S.refused c.seal.result (sealed_view c.make_fixed.new.heap) (length (S.words c.args.store)) c.args.text.now c.args.table.now c.seal.ensures.sealed
-    (ap sealed c.in-Ok.ensures.made ∙ ap (λ v. sealed (with_objects c.args.table.now (v.now) fixed_objects)) c.in_ok-heap.ensures.done)
+    made_if S.words S.down S.passed S.refused c.seal.result (sealed_view c.make_fixed.new.heap)
+    (length (S.words c.args.store)) c.args.text.now c.args.table.now c.seal.ensures.sealed
+    (ap sealed_heap c.in-Ok.ensures.made ∙ ap (λ v. sealed_heap (with_objects c.args.table.now (v.now) fixed_objects)) c.in_ok-heap.ensures.done)
     (c.in-Ok.ensures.size ∙ ap (λ v. v.size) c.in_ok-heap.ensures.done)
     c.requires.enough c.requires.reads

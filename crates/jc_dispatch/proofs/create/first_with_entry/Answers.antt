@@ -1,5 +1,5 @@
 use Rattle.std.proofs.Common.{◌∙◌, sym, ap, is_some}
-use Rattle.jc_packages.specs.Lookups.{entry_with_aid}
+use Rattle.jc_linker.specs.Lookups.{entry_with_aid}
 use Rattle.jc_dispatch.proofs.Searching.{find_next}
 use Rattle.jc_dispatch.proofs.create.first_with_entry.Goals as goal
 

@@ -1,5 +1,5 @@
 use Rattle.std.proofs.Common.{◌≡◌, ◌+◌, ◌∙◌, length, refl, sym, ap, arith}
-use Rattle.jc_heap.specs.Packages.{parts, initials, package_record, package_size, arrays_words}
+use Rattle.jc_heap.specs.Packages.{parts, array_inits, package_record, package_size, arrays_words}
 use Rattle.jc_heap.proofs.Packing.{length-arrays_words}
 use Rattle.jc_heap.proofs.NewPackages.{length-package_record}
 use Rattle.jc_heap.proofs.Streams.{Stands, first_piece, next_piece, stands_below, stands_free}
@@ -7,30 +7,51 @@ use Rattle.jc_heap.proofs.adding.write_package.Goals as goal
 
 pub write_arrays-requires : goal.write_arrays-requires
 write_arrays-requires g c =
-    let rec = package_record c.args.at (parts c.args.components.now) (initials c.args.arrays.now) c.args.image.now in
-    let size : c.args.at + c.args.size ≡ c.args.at + length rec = ap (λ n. c.args.at + n) (c.requires.size ∙ sym (length-package_record c.args.at (parts c.args.components.now) (initials c.args.arrays.now) c.args.image.now)) in
-    let s1 : Stands c.args.at (c.args.at + c.args.size) rec c.args.journal.now c.write_package_record.new.journal = first_piece c.args.at (c.args.at + c.args.size) rec c.args.journal.now c.write_package_record.new.journal c.write_package_record.ensures.below c.in_ok-write_package_record.ensures.done size in
-    stands_free c.args.at (c.args.at + c.args.size) (package_size (parts c.args.components.now) (initials c.args.arrays.now) c.args.image.now) (length (arrays_words (256 + c.args.number) (initials c.args.arrays.now))) rec c.args.journal.now c.write_package_record.new.journal c.requires.free s1
-    (omega (arith, length-arrays_words (256 + c.args.number) (initials c.args.arrays.now), length-package_record c.args.at (parts c.args.components.now) (initials c.args.arrays.now) c.args.image.now))
+    let rec = package_record c.args.at (parts c.args.components.now) (array_inits c.args.arrays.now) c.args.image.now in
+    let size : c.args.at + c.args.size ≡ c.args.at + length rec = ap (λ n. c.args.at + n)
+    (c.requires.size ∙ sym (length-package_record c.args.at (parts c.args.components.now) (array_inits c.args.arrays.now) c.args.image.now)) in
+    let s1 : Stands c.args.at (c.args.at + c.args.size) rec c.args.journal.now c.write_package_record.new.journal =
+    first_piece c.args.at (c.args.at + c.args.size) rec c.args.journal.now c.write_package_record.new.journal c.write_package_record.ensures.below
+    c.in_ok-write_package_record.ensures.done size in
+    stands_free c.args.at (c.args.at + c.args.size) (package_size (parts c.args.components.now) (array_inits c.args.arrays.now) c.args.image.now)
+    (length (arrays_words (256 + c.args.number) (array_inits c.args.arrays.now))) rec c.args.journal.now c.write_package_record.new.journal c.requires.free
+    s1
+    (omega (
+      arith,
+      length-arrays_words (256 + c.args.number) (array_inits c.args.arrays.now),
+      length-package_record c.args.at (parts c.args.components.now) (array_inits c.args.arrays.now) c.args.image.now,
+    ))
 
 pub returns-in_err-write_arrays-clause-below : goal.returns-in_err-write_arrays-clause-below
 returns-in_err-write_arrays-clause-below g c =
-    let rec = package_record c.args.at (parts c.args.components.now) (initials c.args.arrays.now) c.args.image.now in
-    let size : c.args.at + c.args.size ≡ c.args.at + length rec = ap (λ n. c.args.at + n) (c.requires.size ∙ sym (length-package_record c.args.at (parts c.args.components.now) (initials c.args.arrays.now) c.args.image.now)) in
-    let s1 : Stands c.args.at (c.args.at + c.args.size) rec c.args.journal.now c.write_package_record.new.journal = first_piece c.args.at (c.args.at + c.args.size) rec c.args.journal.now c.write_package_record.new.journal c.write_package_record.ensures.below c.in_ok-write_package_record.ensures.done size in
-    stands_below c.args.at (c.args.at + c.args.size) rec c.args.journal.now c.write_package_record.new.journal c.write_arrays.new.journal s1 c.write_arrays.ensures.below
+    let rec = package_record c.args.at (parts c.args.components.now) (array_inits c.args.arrays.now) c.args.image.now in
+    let size : c.args.at + c.args.size ≡ c.args.at + length rec = ap (λ n. c.args.at + n)
+    (c.requires.size ∙ sym (length-package_record c.args.at (parts c.args.components.now) (array_inits c.args.arrays.now) c.args.image.now)) in
+    let s1 : Stands c.args.at (c.args.at + c.args.size) rec c.args.journal.now c.write_package_record.new.journal =
+    first_piece c.args.at (c.args.at + c.args.size) rec c.args.journal.now c.write_package_record.new.journal c.write_package_record.ensures.below
+    c.in_ok-write_package_record.ensures.done size in
+    stands_below c.args.at (c.args.at + c.args.size) rec c.args.journal.now c.write_package_record.new.journal c.write_arrays.new.journal s1
+    c.write_arrays.ensures.below
 
 pub returns-clause-below : goal.returns-clause-below
 returns-clause-below g c =
-    let rec = package_record c.args.at (parts c.args.components.now) (initials c.args.arrays.now) c.args.image.now in
-    let size : c.args.at + c.args.size ≡ c.args.at + length rec = ap (λ n. c.args.at + n) (c.requires.size ∙ sym (length-package_record c.args.at (parts c.args.components.now) (initials c.args.arrays.now) c.args.image.now)) in
-    let s1 : Stands c.args.at (c.args.at + c.args.size) rec c.args.journal.now c.write_package_record.new.journal = first_piece c.args.at (c.args.at + c.args.size) rec c.args.journal.now c.write_package_record.new.journal c.write_package_record.ensures.below c.in_ok-write_package_record.ensures.done size in
-    stands_below c.args.at (c.args.at + c.args.size) rec c.args.journal.now c.write_package_record.new.journal c.write_arrays.new.journal s1 c.write_arrays.ensures.below
+    let rec = package_record c.args.at (parts c.args.components.now) (array_inits c.args.arrays.now) c.args.image.now in
+    let size : c.args.at + c.args.size ≡ c.args.at + length rec = ap (λ n. c.args.at + n)
+    (c.requires.size ∙ sym (length-package_record c.args.at (parts c.args.components.now) (array_inits c.args.arrays.now) c.args.image.now)) in
+    let s1 : Stands c.args.at (c.args.at + c.args.size) rec c.args.journal.now c.write_package_record.new.journal =
+    first_piece c.args.at (c.args.at + c.args.size) rec c.args.journal.now c.write_package_record.new.journal c.write_package_record.ensures.below
+    c.in_ok-write_package_record.ensures.done size in
+    stands_below c.args.at (c.args.at + c.args.size) rec c.args.journal.now c.write_package_record.new.journal c.write_arrays.new.journal s1
+    c.write_arrays.ensures.below
 
 pub returns-clause-done : goal.returns-clause-done
 returns-clause-done g c =
-    let rec = package_record c.args.at (parts c.args.components.now) (initials c.args.arrays.now) c.args.image.now in
-    let arrays = arrays_words (256 + c.args.number) (initials c.args.arrays.now) in
-    let size : c.args.at + c.args.size ≡ c.args.at + length rec = ap (λ n. c.args.at + n) (c.requires.size ∙ sym (length-package_record c.args.at (parts c.args.components.now) (initials c.args.arrays.now) c.args.image.now)) in
-    let s1 : Stands c.args.at (c.args.at + c.args.size) rec c.args.journal.now c.write_package_record.new.journal = first_piece c.args.at (c.args.at + c.args.size) rec c.args.journal.now c.write_package_record.new.journal c.write_package_record.ensures.below c.in_ok-write_package_record.ensures.done size in
-    (next_piece c.args.at (c.args.at + c.args.size) (c.args.at + c.args.size + length arrays) rec arrays c.args.journal.now c.write_package_record.new.journal c.write_arrays.new.journal s1 c.write_arrays.ensures.below c.in_ok-write_arrays.ensures.done refl).words
+    let rec = package_record c.args.at (parts c.args.components.now) (array_inits c.args.arrays.now) c.args.image.now in
+    let arrays = arrays_words (256 + c.args.number) (array_inits c.args.arrays.now) in
+    let size : c.args.at + c.args.size ≡ c.args.at + length rec = ap (λ n. c.args.at + n)
+    (c.requires.size ∙ sym (length-package_record c.args.at (parts c.args.components.now) (array_inits c.args.arrays.now) c.args.image.now)) in
+    let s1 : Stands c.args.at (c.args.at + c.args.size) rec c.args.journal.now c.write_package_record.new.journal =
+    first_piece c.args.at (c.args.at + c.args.size) rec c.args.journal.now c.write_package_record.new.journal c.write_package_record.ensures.below
+    c.in_ok-write_package_record.ensures.done size in
+    (next_piece c.args.at (c.args.at + c.args.size) (c.args.at + c.args.size + length arrays) rec arrays c.args.journal.now c.write_package_record.new.journal
+    c.write_arrays.new.journal s1 c.write_arrays.ensures.below c.in_ok-write_arrays.ensures.done refl).words

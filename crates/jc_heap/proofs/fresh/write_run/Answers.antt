@@ -1,6 +1,6 @@
 use Rattle.std.proofs.Common.{◌≡◌, ◌+◌, ◌<◌, ◌++◌, [], ◌∷◌, length, take, get_or, subst, arith}
 use Rattle.std.proofs.lemmas.List.{take_more, length-take-le}
-use Rattle.jc_commit.specs.State.{written_in_place}
+use Rattle.jc_commit.specs.State.{after_write_in_place}
 use Rattle.jc_heap.specs.Fresh.{Fills}
 use Rattle.jc_heap.proofs.FreshRuns.{keeps_more, fills_more}
 use Rattle.jc_heap.proofs.fresh.write_run.Goals as goal
@@ -16,5 +16,7 @@ loop-k-preserved g c =
     let within : c.args.at + length (take k words) < length j.plain = omega (arith, c.requires.fits, c.loop-k.invariant.below.size, c.loop-k-test.true) in
     record {
       below = rw c.in_ok-write_fresh.ensures.ok (keeps_more c.args.at old j (c.args.at + k) (get_or words k 0) c.loop-k.invariant.below (omega arith));
-      done = rw (c.in_ok-write_fresh.ensures.ok, more) (subst (λ n. Fills c.args.at (take k words ++ get_or words k 0 ∷ []) old (written_in_place j (c.args.at + n) (get_or words k 0))) long (fills_more c.args.at (take k words) old j (get_or words k 0) c.loop-k.invariant.done within));
+      done = rw (c.in_ok-write_fresh.ensures.ok, more) (subst (λ n. Fills c.args.at (take k words ++ get_or words k 0 ∷ []) old
+          (after_write_in_place j (c.args.at + n) (get_or words k 0))) long (fills_more c.args.at (take k words) old j
+          (get_or words k 0) c.loop-k.invariant.done within));
     }

@@ -9,7 +9,12 @@ pub overflow_add-size : goal.overflow_add-size
 overflow_add-size c = omega (arith, c.cell_count.ensures, values_small c.args.arrays.now c.loop-array.array-index c.requires.arrays c.loop-array-test.true)
 
 pub overflow_add-size-in-loop-array : goal.overflow_add-size-in-loop-array
-overflow_add-size-in-loop-array c = omega (arith, c.cell_count.ensures, values_small c.args.arrays.now c.loop-array.array-index c.requires.arrays c.loop-array-test.true)
+overflow_add-size-in-loop-array c = omega (
+  arith,
+  c.cell_count.ensures,
+  values_small c.args.arrays.now c.loop-array.array-index c.requires.arrays
+      c.loop-array-test.true,
+)
 
 pub loop-array-preserved : goal.loop-array-preserved
 loop-array-preserved c = record {

@@ -1,26 +1,37 @@
 use Rattle.std.proofs.Common.{◌≡◌, ◌+◌, length, take, get_or, sym, arith}
 use Rattle.jc_heap.specs.Fresh.{Fills}
-use Rattle.jc_heap.specs.Packages.{initial, initials, array_words, arrays_words}
+use Rattle.jc_heap.specs.Packages.{array_init, array_inits, array_words, arrays_words}
 use Rattle.jc_heap.proofs.Packing.{no_array, arrays-step, arrays-within}
 use Rattle.jc_heap.proofs.Streams.{piece_below, piece_more, free_left}
 use Rattle.jc_heap.proofs.record.write_arrays.Goals as goal
 
 pub write_array-requires : goal.write_array-requires
-write_array-requires g c = free_left c.args.at c.loop-array.next (length (arrays_words c.args.owner (initials c.args.arrays.now))) (length (array_words c.args.owner (initial (get_or c.args.arrays.now c.loop-array.array-index no_array))))
-    (arrays_words c.args.owner (initials (take c.loop-array.array-index c.args.arrays.now))) c.args.journal.now c.loop-array.journal c.requires c.loop-array.invariant.below c.loop-array.invariant.done c.loop-array.invariant.behind
+write_array-requires g c = free_left c.args.at c.loop-array.next (length (arrays_words c.args.owner (array_inits c.args.arrays.now)))
+    (length (array_words c.args.owner (array_init (get_or c.args.arrays.now c.loop-array.array-index no_array))))
+    (arrays_words c.args.owner (array_inits (take c.loop-array.array-index c.args.arrays.now))) c.args.journal.now c.loop-array.journal c.requires
+    c.loop-array.invariant.below c.loop-array.invariant.done c.loop-array.invariant.behind
     (arrays-within c.args.owner c.args.arrays.now c.loop-array.array-index c.loop-array-test.true)
 
 pub returns-in_err-write_array-clause-below : goal.returns-in_err-write_array-clause-below
-returns-in_err-write_array-clause-below g c = piece_below c.args.at c.loop-array.next (arrays_words c.args.owner (initials (take c.loop-array.array-index c.args.arrays.now))) c.args.journal.now c.loop-array.journal c.write_array.new.journal c.loop-array.invariant.below c.loop-array.invariant.behind c.write_array.ensures.below
+returns-in_err-write_array-clause-below g c = piece_below c.args.at c.loop-array.next
+    (arrays_words c.args.owner (array_inits (take c.loop-array.array-index c.args.arrays.now))) c.args.journal.now c.loop-array.journal
+    c.write_array.new.journal c.loop-array.invariant.below c.loop-array.invariant.behind c.write_array.ensures.below
 
 pub loop-array-preserved : goal.loop-array-preserved
 loop-array-preserved g c =
     let here = get_or c.args.arrays.now c.loop-array.array-index no_array in
-    let done : Fills c.args.at (arrays_words c.args.owner (initials (take (c.loop-array.array-index + 1) c.args.arrays.now))) c.args.journal.now c.write_array.new.journal × (c.loop-array.next + length (array_words c.args.owner (initial here)) ≡ c.args.at + length (arrays_words c.args.owner (initials (take (c.loop-array.array-index + 1) c.args.arrays.now)))) =
-    piece_more c.args.at c.loop-array.next (arrays_words c.args.owner (initials (take c.loop-array.array-index c.args.arrays.now))) (array_words c.args.owner (initial here)) (arrays_words c.args.owner (initials (take (c.loop-array.array-index + 1) c.args.arrays.now))) c.args.journal.now c.loop-array.journal c.write_array.new.journal
-    c.loop-array.invariant.done c.loop-array.invariant.behind c.in_ok-write_array.ensures.done (sym (arrays-step c.args.owner c.args.arrays.now c.loop-array.array-index c.loop-array-test.true)) in
+    let done : Fills c.args.at (arrays_words c.args.owner (array_inits (take (c.loop-array.array-index + 1) c.args.arrays.now))) c.args.journal.now
+    c.write_array.new.journal × (c.loop-array.next + length (array_words c.args.owner (array_init here)) ≡ c.args.at
+    + length (arrays_words c.args.owner (array_inits (take (c.loop-array.array-index + 1) c.args.arrays.now)))) =
+    piece_more c.args.at c.loop-array.next (arrays_words c.args.owner (array_inits (take c.loop-array.array-index c.args.arrays.now)))
+    (array_words c.args.owner (array_init here)) (arrays_words c.args.owner (array_inits (take (c.loop-array.array-index + 1) c.args.arrays.now)))
+    c.args.journal.now c.loop-array.journal c.write_array.new.journal
+    c.loop-array.invariant.done c.loop-array.invariant.behind c.in_ok-write_array.ensures.done
+    (sym (arrays-step c.args.owner c.args.arrays.now c.loop-array.array-index c.loop-array-test.true)) in
     record {
       behind = omega (arith, done.1, c.cell_count.ensures);
-      below = piece_below c.args.at c.loop-array.next (arrays_words c.args.owner (initials (take c.loop-array.array-index c.args.arrays.now))) c.args.journal.now c.loop-array.journal c.write_array.new.journal c.loop-array.invariant.below c.loop-array.invariant.behind c.write_array.ensures.below;
+      below = piece_below c.args.at c.loop-array.next (arrays_words c.args.owner (array_inits (take c.loop-array.array-index c.args.arrays.now)))
+          c.args.journal.now c.loop-array.journal c.write_array.new.journal c.loop-array.invariant.below c.loop-array.invariant.behind
+          c.write_array.ensures.below;
       done = done.0;
     }

@@ -1,9 +1,9 @@
 use Rattle.std.proofs.Common.{◌+◌, List, ℕ, [], ◌∷◌, ◌++◌, length, refl, ◌∙◌, ap, subst, arith, append_assoc}
 use Rattle.std.proofs.lemmas.List.{length-append}
 use Rattle.jc_heap.specs.Fresh.{Fills}
-use Rattle.jc_heap.specs.Packages.{parts, initials, components_words, image_words, record_size, package_record}
-use Rattle.jc_heap.specs.Packed.{packed}
-use Rattle.jc_heap.proofs.Packing.{length-initials}
+use Rattle.jc_heap.specs.Packages.{parts, array_inits, components_words, image_words, record_size, package_record}
+use Rattle.jc_heap.specs.Packed.{packed_words}
+use Rattle.jc_heap.proofs.Packing.{length-array_inits}
 use Rattle.jc_heap.proofs.Streams.{Stands, first_piece, next_piece, stands_below, stands_free, free_fewer}
 use Rattle.jc_heap.proofs.record.write_package_record.Goals as goal
 
@@ -14,64 +14,115 @@ write_run-requires g c = free_fewer c.args.at c.args.size 1 c.args.journal.now c
 pub write_components-requires-clause-free : goal.write_components-requires-clause-free
 unfolding record_size
 write_components-requires-clause-free g c =
-    let s1 : Stands c.args.at (c.args.at + 1) (c.args.size ∷ []) c.args.journal.now c.write_run.new.journal = first_piece c.args.at (c.args.at + 1) (c.args.size ∷ []) c.args.journal.now c.write_run.new.journal c.write_run.ensures.below c.in_ok-write_run.ensures.done refl in
-    stands_free c.args.at (c.args.at + 1) c.args.size (length (components_words (parts c.args.components.now))) (c.args.size ∷ []) c.args.journal.now c.write_run.new.journal c.requires.free s1 (omega (arith, c.requires.size))
+    let s1 : Stands c.args.at (c.args.at + 1) (c.args.size ∷ []) c.args.journal.now c.write_run.new.journal =
+    first_piece c.args.at (c.args.at + 1) (c.args.size ∷ []) c.args.journal.now c.write_run.new.journal c.write_run.ensures.below
+    c.in_ok-write_run.ensures.done refl in
+    stands_free c.args.at (c.args.at + 1) c.args.size (length (components_words (parts c.args.components.now)))
+    (c.args.size ∷ []) c.args.journal.now c.write_run.new.journal c.requires.free s1 (omega (arith, c.requires.size))
 
 pub returns-in_err-next-clause-below : goal.returns-in_err-next-clause-below
 returns-in_err-next-clause-below g c =
-    let s1 : Stands c.args.at (c.args.at + 1) (c.args.size ∷ []) c.args.journal.now c.write_run.new.journal = first_piece c.args.at (c.args.at + 1) (c.args.size ∷ []) c.args.journal.now c.write_run.new.journal c.write_run.ensures.below c.in_ok-write_run.ensures.done refl in
-    stands_below c.args.at (c.args.at + 1) (c.args.size ∷ []) c.args.journal.now c.write_run.new.journal c.write_components.new.journal s1 c.write_components.ensures.below
+    let s1 : Stands c.args.at (c.args.at + 1) (c.args.size ∷ []) c.args.journal.now c.write_run.new.journal =
+    first_piece c.args.at (c.args.at + 1) (c.args.size ∷ []) c.args.journal.now c.write_run.new.journal c.write_run.ensures.below
+    c.in_ok-write_run.ensures.done refl in
+    stands_below c.args.at (c.args.at + 1) (c.args.size ∷ []) c.args.journal.now c.write_run.new.journal c.write_components.new.journal s1
+    c.write_components.ensures.below
 
 pub write_run-requires-2 : goal.write_run-requires-2
 unfolding record_size
 write_run-requires-2 g c =
     let comps : List ℕ = components_words (parts c.args.components.now) in
-    let s1 : Stands c.args.at (c.args.at + 1) (c.args.size ∷ []) c.args.journal.now c.write_run.new.journal = first_piece c.args.at (c.args.at + 1) (c.args.size ∷ []) c.args.journal.now c.write_run.new.journal c.write_run.ensures.below c.in_ok-write_run.ensures.done refl in
-    let s2 : Stands c.args.at c.in_ok-next.next (c.args.size ∷ comps) c.args.journal.now c.write_components.new.journal = next_piece c.args.at (c.args.at + 1) c.in_ok-next.next (c.args.size ∷ []) comps c.args.journal.now c.write_run.new.journal c.write_components.new.journal s1 c.write_components.ensures.below c.in_ok-next.ensures.done c.in_ok-next.ensures.behind in
-    stands_free c.args.at c.in_ok-next.next c.args.size 1 (c.args.size ∷ comps) c.args.journal.now c.write_components.new.journal c.requires.free s2 (omega (arith, c.requires.size))
+    let s1 : Stands c.args.at (c.args.at + 1) (c.args.size ∷ []) c.args.journal.now c.write_run.new.journal =
+    first_piece c.args.at (c.args.at + 1) (c.args.size ∷ []) c.args.journal.now c.write_run.new.journal c.write_run.ensures.below
+    c.in_ok-write_run.ensures.done refl in
+    let s2 : Stands c.args.at c.in_ok-next.next (c.args.size ∷ comps) c.args.journal.now c.write_components.new.journal =
+    next_piece c.args.at (c.args.at + 1) c.in_ok-next.next (c.args.size ∷ []) comps c.args.journal.now c.write_run.new.journal
+    c.write_components.new.journal s1 c.write_components.ensures.below c.in_ok-next.ensures.done c.in_ok-next.ensures.behind in
+    stands_free c.args.at c.in_ok-next.next c.args.size 1 (c.args.size ∷ comps) c.args.journal.now c.write_components.new.journal c.requires.free s2
+    (omega (arith, c.requires.size))
 
 pub returns-in_err-write_run-2-clause-below : goal.returns-in_err-write_run-2-clause-below
 returns-in_err-write_run-2-clause-below g c =
     let comps : List ℕ = components_words (parts c.args.components.now) in
-    let s1 : Stands c.args.at (c.args.at + 1) (c.args.size ∷ []) c.args.journal.now c.write_run.new.journal = first_piece c.args.at (c.args.at + 1) (c.args.size ∷ []) c.args.journal.now c.write_run.new.journal c.write_run.ensures.below c.in_ok-write_run.ensures.done refl in
-    let s2 : Stands c.args.at c.in_ok-next.next (c.args.size ∷ comps) c.args.journal.now c.write_components.new.journal = next_piece c.args.at (c.args.at + 1) c.in_ok-next.next (c.args.size ∷ []) comps c.args.journal.now c.write_run.new.journal c.write_components.new.journal s1 c.write_components.ensures.below c.in_ok-next.ensures.done c.in_ok-next.ensures.behind in
-    stands_below c.args.at c.in_ok-next.next (c.args.size ∷ comps) c.args.journal.now c.write_components.new.journal c.write_run-2.new.journal s2 c.write_run-2.ensures.below
+    let s1 : Stands c.args.at (c.args.at + 1) (c.args.size ∷ []) c.args.journal.now c.write_run.new.journal =
+    first_piece c.args.at (c.args.at + 1) (c.args.size ∷ []) c.args.journal.now c.write_run.new.journal c.write_run.ensures.below
+    c.in_ok-write_run.ensures.done refl in
+    let s2 : Stands c.args.at c.in_ok-next.next (c.args.size ∷ comps) c.args.journal.now c.write_components.new.journal =
+    next_piece c.args.at (c.args.at + 1) c.in_ok-next.next (c.args.size ∷ []) comps c.args.journal.now c.write_run.new.journal
+    c.write_components.new.journal s1 c.write_components.ensures.below c.in_ok-next.ensures.done c.in_ok-next.ensures.behind in
+    stands_below c.args.at c.in_ok-next.next (c.args.size ∷ comps) c.args.journal.now c.write_components.new.journal c.write_run-2.new.journal s2
+    c.write_run-2.ensures.below
 
 pub write_static_image-requires-clause-free : goal.write_static_image-requires-clause-free
 unfolding record_size
 write_static_image-requires-clause-free g c =
     let comps : List ℕ = components_words (parts c.args.components.now) in
-    let s1 : Stands c.args.at (c.args.at + 1) (c.args.size ∷ []) c.args.journal.now c.write_run.new.journal = first_piece c.args.at (c.args.at + 1) (c.args.size ∷ []) c.args.journal.now c.write_run.new.journal c.write_run.ensures.below c.in_ok-write_run.ensures.done refl in
-    let s2 : Stands c.args.at c.in_ok-next.next (c.args.size ∷ comps) c.args.journal.now c.write_components.new.journal = next_piece c.args.at (c.args.at + 1) c.in_ok-next.next (c.args.size ∷ []) comps c.args.journal.now c.write_run.new.journal c.write_components.new.journal s1 c.write_components.ensures.below c.in_ok-next.ensures.done c.in_ok-next.ensures.behind in
-    let s3 : Stands c.args.at (c.in_ok-next.next + 1) ((c.args.size ∷ comps) ++ 0 ∷ []) c.args.journal.now c.write_run-2.new.journal = next_piece c.args.at c.in_ok-next.next (c.in_ok-next.next + 1) (c.args.size ∷ comps) (0 ∷ []) c.args.journal.now c.write_components.new.journal c.write_run-2.new.journal s2 c.write_run-2.ensures.below c.in_ok-write_run-2.ensures.done refl in
-    stands_free c.args.at (c.in_ok-next.next + 1) c.args.size (length c.args.arrays.now + length (packed c.args.image.now)) ((c.args.size ∷ comps) ++ 0 ∷ []) c.args.journal.now c.write_run-2.new.journal c.requires.free s3
-    (omega (arith, c.requires.size, length-append (c.args.size ∷ comps) (0 ∷ []), length-initials c.args.arrays.now))
+    let s1 : Stands c.args.at (c.args.at + 1) (c.args.size ∷ []) c.args.journal.now c.write_run.new.journal =
+    first_piece c.args.at (c.args.at + 1) (c.args.size ∷ []) c.args.journal.now c.write_run.new.journal c.write_run.ensures.below
+    c.in_ok-write_run.ensures.done refl in
+    let s2 : Stands c.args.at c.in_ok-next.next (c.args.size ∷ comps) c.args.journal.now c.write_components.new.journal =
+    next_piece c.args.at (c.args.at + 1) c.in_ok-next.next (c.args.size ∷ []) comps c.args.journal.now c.write_run.new.journal
+    c.write_components.new.journal s1 c.write_components.ensures.below c.in_ok-next.ensures.done c.in_ok-next.ensures.behind in
+    let s3 : Stands c.args.at (c.in_ok-next.next + 1) ((c.args.size ∷ comps) ++ 0 ∷ []) c.args.journal.now c.write_run-2.new.journal =
+    next_piece c.args.at c.in_ok-next.next (c.in_ok-next.next + 1) (c.args.size ∷ comps)
+    (0 ∷ []) c.args.journal.now c.write_components.new.journal c.write_run-2.new.journal s2 c.write_run-2.ensures.below c.in_ok-write_run-2.ensures.done
+    refl in
+    stands_free c.args.at (c.in_ok-next.next + 1) c.args.size (length c.args.arrays.now + length (packed_words c.args.image.now))
+    ((c.args.size ∷ comps) ++ 0 ∷ []) c.args.journal.now c.write_run-2.new.journal c.requires.free s3
+    (omega (arith, c.requires.size, length-append (c.args.size ∷ comps) (0 ∷ []), length-array_inits c.args.arrays.now))
 
 pub returns-in_err-write_static_image-clause-below : goal.returns-in_err-write_static_image-clause-below
 returns-in_err-write_static_image-clause-below g c =
     let comps : List ℕ = components_words (parts c.args.components.now) in
-    let s1 : Stands c.args.at (c.args.at + 1) (c.args.size ∷ []) c.args.journal.now c.write_run.new.journal = first_piece c.args.at (c.args.at + 1) (c.args.size ∷ []) c.args.journal.now c.write_run.new.journal c.write_run.ensures.below c.in_ok-write_run.ensures.done refl in
-    let s2 : Stands c.args.at c.in_ok-next.next (c.args.size ∷ comps) c.args.journal.now c.write_components.new.journal = next_piece c.args.at (c.args.at + 1) c.in_ok-next.next (c.args.size ∷ []) comps c.args.journal.now c.write_run.new.journal c.write_components.new.journal s1 c.write_components.ensures.below c.in_ok-next.ensures.done c.in_ok-next.ensures.behind in
-    let s3 : Stands c.args.at (c.in_ok-next.next + 1) ((c.args.size ∷ comps) ++ 0 ∷ []) c.args.journal.now c.write_run-2.new.journal = next_piece c.args.at c.in_ok-next.next (c.in_ok-next.next + 1) (c.args.size ∷ comps) (0 ∷ []) c.args.journal.now c.write_components.new.journal c.write_run-2.new.journal s2 c.write_run-2.ensures.below c.in_ok-write_run-2.ensures.done refl in
-    stands_below c.args.at (c.in_ok-next.next + 1) ((c.args.size ∷ comps) ++ 0 ∷ []) c.args.journal.now c.write_run-2.new.journal c.write_static_image.new.journal s3 c.write_static_image.ensures.below
+    let s1 : Stands c.args.at (c.args.at + 1) (c.args.size ∷ []) c.args.journal.now c.write_run.new.journal =
+    first_piece c.args.at (c.args.at + 1) (c.args.size ∷ []) c.args.journal.now c.write_run.new.journal c.write_run.ensures.below
+    c.in_ok-write_run.ensures.done refl in
+    let s2 : Stands c.args.at c.in_ok-next.next (c.args.size ∷ comps) c.args.journal.now c.write_components.new.journal =
+    next_piece c.args.at (c.args.at + 1) c.in_ok-next.next (c.args.size ∷ []) comps c.args.journal.now c.write_run.new.journal
+    c.write_components.new.journal s1 c.write_components.ensures.below c.in_ok-next.ensures.done c.in_ok-next.ensures.behind in
+    let s3 : Stands c.args.at (c.in_ok-next.next + 1) ((c.args.size ∷ comps) ++ 0 ∷ []) c.args.journal.now c.write_run-2.new.journal =
+    next_piece c.args.at c.in_ok-next.next (c.in_ok-next.next + 1) (c.args.size ∷ comps)
+    (0 ∷ []) c.args.journal.now c.write_components.new.journal c.write_run-2.new.journal s2 c.write_run-2.ensures.below c.in_ok-write_run-2.ensures.done
+    refl in
+    stands_below c.args.at (c.in_ok-next.next + 1) ((c.args.size ∷ comps) ++ 0 ∷ []) c.args.journal.now c.write_run-2.new.journal
+    c.write_static_image.new.journal s3 c.write_static_image.ensures.below
 
 pub returns-clause-below : goal.returns-clause-below
 returns-clause-below g c =
     let comps : List ℕ = components_words (parts c.args.components.now) in
-    let s1 : Stands c.args.at (c.args.at + 1) (c.args.size ∷ []) c.args.journal.now c.write_run.new.journal = first_piece c.args.at (c.args.at + 1) (c.args.size ∷ []) c.args.journal.now c.write_run.new.journal c.write_run.ensures.below c.in_ok-write_run.ensures.done refl in
-    let s2 : Stands c.args.at c.in_ok-next.next (c.args.size ∷ comps) c.args.journal.now c.write_components.new.journal = next_piece c.args.at (c.args.at + 1) c.in_ok-next.next (c.args.size ∷ []) comps c.args.journal.now c.write_run.new.journal c.write_components.new.journal s1 c.write_components.ensures.below c.in_ok-next.ensures.done c.in_ok-next.ensures.behind in
-    let s3 : Stands c.args.at (c.in_ok-next.next + 1) ((c.args.size ∷ comps) ++ 0 ∷ []) c.args.journal.now c.write_run-2.new.journal = next_piece c.args.at c.in_ok-next.next (c.in_ok-next.next + 1) (c.args.size ∷ comps) (0 ∷ []) c.args.journal.now c.write_components.new.journal c.write_run-2.new.journal s2 c.write_run-2.ensures.below c.in_ok-write_run-2.ensures.done refl in
-    stands_below c.args.at (c.in_ok-next.next + 1) ((c.args.size ∷ comps) ++ 0 ∷ []) c.args.journal.now c.write_run-2.new.journal c.write_static_image.new.journal s3 c.write_static_image.ensures.below
+    let s1 : Stands c.args.at (c.args.at + 1) (c.args.size ∷ []) c.args.journal.now c.write_run.new.journal =
+    first_piece c.args.at (c.args.at + 1) (c.args.size ∷ []) c.args.journal.now c.write_run.new.journal c.write_run.ensures.below
+    c.in_ok-write_run.ensures.done refl in
+    let s2 : Stands c.args.at c.in_ok-next.next (c.args.size ∷ comps) c.args.journal.now c.write_components.new.journal =
+    next_piece c.args.at (c.args.at + 1) c.in_ok-next.next (c.args.size ∷ []) comps c.args.journal.now c.write_run.new.journal
+    c.write_components.new.journal s1 c.write_components.ensures.below c.in_ok-next.ensures.done c.in_ok-next.ensures.behind in
+    let s3 : Stands c.args.at (c.in_ok-next.next + 1) ((c.args.size ∷ comps) ++ 0 ∷ []) c.args.journal.now c.write_run-2.new.journal =
+    next_piece c.args.at c.in_ok-next.next (c.in_ok-next.next + 1) (c.args.size ∷ comps)
+    (0 ∷ []) c.args.journal.now c.write_components.new.journal c.write_run-2.new.journal s2 c.write_run-2.ensures.below c.in_ok-write_run-2.ensures.done
+    refl in
+    stands_below c.args.at (c.in_ok-next.next + 1) ((c.args.size ∷ comps) ++ 0 ∷ []) c.args.journal.now c.write_run-2.new.journal
+    c.write_static_image.new.journal s3 c.write_static_image.ensures.below
 
 pub returns-clause-done : goal.returns-clause-done
 unfolding package_record
 returns-clause-done g c =
     let comps : List ℕ = components_words (parts c.args.components.now) in
-    let img : List ℕ = image_words (c.args.at + c.args.size) (initials c.args.arrays.now) c.args.image.now in
-    let s1 : Stands c.args.at (c.args.at + 1) (c.args.size ∷ []) c.args.journal.now c.write_run.new.journal = first_piece c.args.at (c.args.at + 1) (c.args.size ∷ []) c.args.journal.now c.write_run.new.journal c.write_run.ensures.below c.in_ok-write_run.ensures.done refl in
-    let s2 : Stands c.args.at c.in_ok-next.next (c.args.size ∷ comps) c.args.journal.now c.write_components.new.journal = next_piece c.args.at (c.args.at + 1) c.in_ok-next.next (c.args.size ∷ []) comps c.args.journal.now c.write_run.new.journal c.write_components.new.journal s1 c.write_components.ensures.below c.in_ok-next.ensures.done c.in_ok-next.ensures.behind in
-    let s3 : Stands c.args.at (c.in_ok-next.next + 1) ((c.args.size ∷ comps) ++ 0 ∷ []) c.args.journal.now c.write_run-2.new.journal = next_piece c.args.at c.in_ok-next.next (c.in_ok-next.next + 1) (c.args.size ∷ comps) (0 ∷ []) c.args.journal.now c.write_components.new.journal c.write_run-2.new.journal s2 c.write_run-2.ensures.below c.in_ok-write_run-2.ensures.done refl in
-    let s4 : Stands c.args.at (c.in_ok-next.next + 1 + length img) (((c.args.size ∷ comps) ++ 0 ∷ []) ++ img) c.args.journal.now c.write_static_image.new.journal = next_piece c.args.at (c.in_ok-next.next + 1) (c.in_ok-next.next + 1 + length img) ((c.args.size ∷ comps) ++ 0 ∷ []) img c.args.journal.now c.write_run-2.new.journal c.write_static_image.new.journal s3 c.write_static_image.ensures.below c.in_ok-write_static_image.ensures.done refl in
+    let img : List ℕ = image_words (c.args.at + c.args.size) (array_inits c.args.arrays.now) c.args.image.now in
+    let s1 : Stands c.args.at (c.args.at + 1) (c.args.size ∷ []) c.args.journal.now c.write_run.new.journal =
+    first_piece c.args.at (c.args.at + 1) (c.args.size ∷ []) c.args.journal.now c.write_run.new.journal c.write_run.ensures.below
+    c.in_ok-write_run.ensures.done refl in
+    let s2 : Stands c.args.at c.in_ok-next.next (c.args.size ∷ comps) c.args.journal.now c.write_components.new.journal =
+    next_piece c.args.at (c.args.at + 1) c.in_ok-next.next (c.args.size ∷ []) comps c.args.journal.now c.write_run.new.journal
+    c.write_components.new.journal s1 c.write_components.ensures.below c.in_ok-next.ensures.done c.in_ok-next.ensures.behind in
+    let s3 : Stands c.args.at (c.in_ok-next.next + 1) ((c.args.size ∷ comps) ++ 0 ∷ []) c.args.journal.now c.write_run-2.new.journal =
+    next_piece c.args.at c.in_ok-next.next (c.in_ok-next.next + 1) (c.args.size ∷ comps)
+    (0 ∷ []) c.args.journal.now c.write_components.new.journal c.write_run-2.new.journal s2 c.write_run-2.ensures.below c.in_ok-write_run-2.ensures.done
+    refl in
+    let s4 : Stands c.args.at (c.in_ok-next.next + 1 + length img) (((c.args.size ∷ comps) ++ 0 ∷ []) ++ img) c.args.journal.now
+    c.write_static_image.new.journal = next_piece c.args.at (c.in_ok-next.next + 1) (c.in_ok-next.next + 1 + length img)
+    ((c.args.size ∷ comps) ++ 0 ∷ []) img c.args.journal.now c.write_run-2.new.journal c.write_static_image.new.journal s3
+    c.write_static_image.ensures.below c.in_ok-write_static_image.ensures.done refl in
     subst (λ l. Fills c.args.at l c.args.journal.now c.write_static_image.new.journal)
-    (append_assoc (c.args.size ∷ comps) (0 ∷ []) img ∙ ap (λ n. n ∷ (comps ++ 0 ∷ image_words (c.args.at + n) (initials c.args.arrays.now) c.args.image.now)) c.requires.size)
+    (append_assoc (c.args.size ∷ comps) (0 ∷ []) img ∙ ap (λ n. n ∷ (comps ++ 0 ∷ image_words (c.args.at + n) (array_inits c.args.arrays.now) c.args.image.now))
+    c.requires.size)
     s4.words

@@ -1,26 +1,50 @@
 use Rattle.std.proofs.Common.{◌+◌, ◌++◌, [], ◌∷◌, take, sym, subst, arith}
 use Rattle.jc_heap.specs.Fresh.{KeepsBelow, Fills}
-use Rattle.jc_heap.specs.Packages.{initials, array_addresses}
+use Rattle.jc_heap.specs.Packages.{array_inits, array_addresses}
 use Rattle.jc_heap.proofs.Packing.{arrays-counted, arrays-below, addresses-step, length-addresses_taken}
 use Rattle.jc_heap.proofs.Streams.{word_push}
 use Rattle.jc_heap.proofs.record.write_references.Goals as goal
 
 pub overflow_cast-address : goal.overflow_cast-address
-overflow_cast-address g c = omega (arith, c.cell_count.ensures, arrays-counted c.args.arrays.now c.loop-k.k c.loop-k-test.true, arrays-below c.args.arrays.now (c.loop-k.k + 1), c.requires.small)
+overflow_cast-address g c = omega (
+  arith,
+  c.cell_count.ensures,
+  arrays-counted c.args.arrays.now c.loop-k.k c.loop-k-test.true,
+  arrays-below c.args.arrays.now (c.loop-k.k + 1),
+  c.requires.small,
+)
 
 pub overflow_add-address : goal.overflow_add-address
-overflow_add-address g c = omega (arith, c.cell_count.ensures, arrays-counted c.args.arrays.now c.loop-k.k c.loop-k-test.true, arrays-below c.args.arrays.now (c.loop-k.k + 1), c.requires.small)
+overflow_add-address g c = omega (
+  arith,
+  c.cell_count.ensures,
+  arrays-counted c.args.arrays.now c.loop-k.k c.loop-k-test.true,
+  arrays-below c.args.arrays.now (c.loop-k.k + 1),
+  c.requires.small,
+)
 
 pub overflow_add-address-in-loop-k : goal.overflow_add-address-in-loop-k
-overflow_add-address-in-loop-k g c = omega (arith, c.cell_count.ensures, c.loop-k.invariant.address, arrays-counted c.args.arrays.now c.loop-k.k c.loop-k-test.true, arrays-below c.args.arrays.now (c.loop-k.k + 1), c.requires.small)
+overflow_add-address-in-loop-k g c = omega (
+  arith,
+  c.cell_count.ensures,
+  c.loop-k.invariant.address,
+  arrays-counted c.args.arrays.now c.loop-k.k c.loop-k-test.true,
+  arrays-below c.args.arrays.now (c.loop-k.k + 1),
+  c.requires.small,
+)
 
 pub loop-k-preserved : goal.loop-k-preserved
 loop-k-preserved g c =
     let long = length-addresses_taken c.args.first c.args.arrays.now c.loop-k.k c.loop-k-test.true in
-    let p : KeepsBelow c.args.at c.args.journal.now c.write_fresh.new.self × Fills c.args.at (array_addresses c.args.first (initials (take c.loop-k.k c.args.arrays.now)) ++ c.loop-k.address ∷ []) c.args.journal.now c.write_fresh.new.self =
-    word_push c.args.at c.loop-k.k c.loop-k.address (array_addresses c.args.first (initials (take c.loop-k.k c.args.arrays.now))) c.args.journal.now c.loop-k.journal c.write_fresh.new.self c.loop-k.invariant.below c.loop-k.invariant.done long (omega (arith, c.requires.free.fits, c.loop-k-test.true)) c.in_ok-write_fresh.ensures.ok in
+    let p : KeepsBelow c.args.at c.args.journal.now c.write_fresh.new.self × Fills c.args.at
+    (array_addresses c.args.first (array_inits (take c.loop-k.k c.args.arrays.now)) ++ c.loop-k.address ∷ []) c.args.journal.now
+    c.write_fresh.new.self =
+    word_push c.args.at c.loop-k.k c.loop-k.address (array_addresses c.args.first (array_inits (take c.loop-k.k c.args.arrays.now))) c.args.journal.now
+    c.loop-k.journal c.write_fresh.new.self c.loop-k.invariant.below c.loop-k.invariant.done long
+    (omega (arith, c.requires.free.fits, c.loop-k-test.true)) c.in_ok-write_fresh.ensures.ok in
     record {
       address = omega (arith, c.cell_count.ensures, c.loop-k.invariant.address, arrays-counted c.args.arrays.now c.loop-k.k c.loop-k-test.true);
       below = p.0;
-      done = subst (λ l. Fills c.args.at l c.args.journal.now c.write_fresh.new.self) (sym (addresses-step c.args.first c.loop-k.address c.args.arrays.now c.loop-k.k c.loop-k-test.true c.loop-k.invariant.address)) p.1;
+      done = subst (λ l. Fills c.args.at l c.args.journal.now c.write_fresh.new.self)
+          (sym (addresses-step c.args.first c.loop-k.address c.args.arrays.now c.loop-k.k c.loop-k-test.true c.loop-k.invariant.address)) p.1;
     }

@@ -1,6 +1,6 @@
 -- What is left of the walk has the answer.
 use Rattle.std.proofs.Common.{◌≡◌, ◌≤◌, ◌-◌, drop, take}
-use Rattle.jc_heap.specs.Cut.{cut}
+use Rattle.jc_heap.specs.Cut.{records_from}
 use Rattle.jc_heap.specs.Components.{part_sizes, record_parts}
 use Rattle.jc_heap.specs.Statics.{image_from}
 use Rattle.jc_heap.proofs.statics.find_image.Given as goal
@@ -9,7 +9,8 @@ abbrev pub invariant-loop-at : goal.invariant-loop-at
 invariant-loop-at g l = record {
   low : 1 ≤ l.at;
   high : l.at ≤ 131072;
-  left : image_from (cut part_sizes 0 l.at (drop l.at (take l.long (drop l.base l.journal.plain)))) ≡ image_from (record_parts (take l.long (drop l.base l.journal.plain)));
+  left : image_from (records_from part_sizes 0 l.at (drop l.at (take l.long (drop l.base l.journal.plain))))
+      ≡ image_from (record_parts (take l.long (drop l.base l.journal.plain)));
 }
 
 abbrev pub decreases-loop-at : goal.decreases-loop-at

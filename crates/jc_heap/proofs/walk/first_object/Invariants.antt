@@ -1,7 +1,7 @@
 -- What is left of the walk has the answer, and it is whole.
 use Rattle.std.proofs.Common.{◌≡◌, ◌≤◌, ◌-◌, drop, map}
 use Rattle.jc_words.specs.Layout.{text_start}
-use Rattle.jc_heap.specs.Cut.{cut, lacking}
+use Rattle.jc_heap.specs.Cut.{records_from, missing_words}
 use Rattle.jc_heap.specs.Image.{image, package_addresses, sizes, item_entry}
 use Rattle.jc_heap.specs.Heap.{first_above}
 use Rattle.jc_heap.proofs.walk.first_object.Given as goal
@@ -10,9 +10,11 @@ abbrev pub invariant-loop-at : goal.invariant-loop-at
 invariant-loop-at g l = record {
   low : text_start ≤ l.at;
   high : l.at ≤ l.top;
-  whole : lacking (sizes (package_addresses (image l.journal.plain))) 0 l.at (drop l.at (image l.journal.plain)) ≡ 0;
-  left : first_above (map (item_entry (package_addresses (image l.journal.plain))) (cut (sizes (package_addresses (image l.journal.plain))) 0 l.at (drop l.at (image l.journal.plain)))) l.above
-      ≡ first_above (map (item_entry (package_addresses (image l.journal.plain))) (cut (sizes (package_addresses (image l.journal.plain))) 0 l.from (drop l.from (image l.journal.plain)))) l.above;
+  whole : missing_words (sizes (package_addresses (image l.journal.plain))) 0 l.at (drop l.at (image l.journal.plain)) ≡ 0;
+  left : first_above (map (item_entry (package_addresses (image l.journal.plain)))
+      (records_from (sizes (package_addresses (image l.journal.plain))) 0 l.at (drop l.at (image l.journal.plain)))) l.above
+      ≡ first_above (map (item_entry (package_addresses (image l.journal.plain))) (records_from (sizes (package_addresses (image l.journal.plain))) 0 l.from
+      (drop l.from (image l.journal.plain)))) l.above;
 }
 
 abbrev pub decreases-loop-at : goal.decreases-loop-at

@@ -15,32 +15,49 @@ returns-then-begins_package g c =
 pub returns-then-not-begins_header : goal.returns-then-not-begins_header
 returns-then-not-begins_header g c =
     let is : is_package (package_addresses (image c.args.journal.now.plain)) c.args.at ≡ false = sym c.begins_package.ensures ∙ c.if-begins_package.false in
-    let word : c.read-word.result ≡ get_or (drop c.args.at (image c.args.journal.now.plain)) 0 0 = c.read-word.ensures ∙ sym (word_at c.args.journal.now.plain c.args.at c.requires.inside) in
-    let none : is_header (get_or (drop c.args.at (image c.args.journal.now.plain)) 0 0) ≡ false = ap is_header (sym word) ∙ sym c.begins_header.ensures ∙ c.if-not-begins_header.true in
+    let word : c.read-word.result ≡ get_or (drop c.args.at (image c.args.journal.now.plain)) 0 0 = c.read-word.ensures
+    ∙ sym (word_at c.args.journal.now.plain c.args.at c.requires.inside) in
+    let none : is_header (get_or (drop c.args.at (image c.args.journal.now.plain)) 0 0) ≡ false = ap is_header (sym word) ∙ sym c.begins_header.ensures
+    ∙ c.if-not-begins_header.true in
     rw (is, none) refl
 
 pub returns-then-word-ne0 : goal.returns-then-word-ne0
 returns-then-word-ne0 g c =
     let is : is_package (package_addresses (image c.args.journal.now.plain)) c.args.at ≡ false = sym c.begins_package.ensures ∙ c.if-begins_package.false in
-    let word : c.read-word.result ≡ get_or (drop c.args.at (image c.args.journal.now.plain)) 0 0 = c.read-word.ensures ∙ sym (word_at c.args.journal.now.plain c.args.at c.requires.inside) in
-    let header : is_header (get_or (drop c.args.at (image c.args.journal.now.plain)) 0 0) ≡ true = ap is_header (sym word) ∙ sym c.begins_header.ensures ∙ c.if-not-begins_header.false in
-    let transient : (get_or (drop c.args.at (image c.args.journal.now.plain)) 0 0 / 256 == 0) ≡ false = ne_eqb _ _ (λ e. c.if-word-ne0.true (ap (λ w. w / 256) word ∙ e)) in
+    let word : c.read-word.result ≡ get_or (drop c.args.at (image c.args.journal.now.plain)) 0 0 = c.read-word.ensures
+    ∙ sym (word_at c.args.journal.now.plain c.args.at c.requires.inside) in
+    let header : is_header (get_or (drop c.args.at (image c.args.journal.now.plain)) 0 0) ≡ true = ap is_header (sym word) ∙ sym c.begins_header.ensures
+    ∙ c.if-not-begins_header.false in
+    let transient : (get_or (drop c.args.at (image c.args.journal.now.plain)) 0 0 / 256 == 0) ≡ false =
+    ne_eqb _ _ (λ e. c.if-word-ne0.true (ap (λ w. w / 256) word ∙ e)) in
     rw (is, header, transient) (omega arith)
 
 pub returns-then-top-at-lt-HEADER : goal.returns-then-top-at-lt-HEADER
 returns-then-top-at-lt-HEADER g c =
     let is : is_package (package_addresses (image c.args.journal.now.plain)) c.args.at ≡ false = sym c.begins_package.ensures ∙ c.if-begins_package.false in
-    let word : c.read-word.result ≡ get_or (drop c.args.at (image c.args.journal.now.plain)) 0 0 = c.read-word.ensures ∙ sym (word_at c.args.journal.now.plain c.args.at c.requires.inside) in
-    let header : is_header (get_or (drop c.args.at (image c.args.journal.now.plain)) 0 0) ≡ true = ap is_header (sym word) ∙ sym c.begins_header.ensures ∙ c.if-not-begins_header.false in
-    let persistent : (get_or (drop c.args.at (image c.args.journal.now.plain)) 0 0 / 256 == 0) ≡ true = eq-eqb _ _ (ap (λ w. w / 256) (sym word) ∙ (omega arith)) in
-    let behind : get_or (drop c.args.at (image c.args.journal.now.plain)) 3 0 ≡ 0 = get_or_past (drop c.args.at (image c.args.journal.now.plain)) 3 0 (omega (arith, length-drop c.args.at (image c.args.journal.now.plain), length-take (get_or c.args.journal.now.plain top_address 0) c.args.journal.now.plain)) in
+    let word : c.read-word.result ≡ get_or (drop c.args.at (image c.args.journal.now.plain)) 0 0 = c.read-word.ensures
+    ∙ sym (word_at c.args.journal.now.plain c.args.at c.requires.inside) in
+    let header : is_header (get_or (drop c.args.at (image c.args.journal.now.plain)) 0 0) ≡ true = ap is_header (sym word) ∙ sym c.begins_header.ensures
+    ∙ c.if-not-begins_header.false in
+    let persistent : (get_or (drop c.args.at (image c.args.journal.now.plain)) 0 0 / 256 == 0) ≡ true =
+    eq-eqb _ _ (ap (λ w. w / 256) (sym word) ∙ (omega arith)) in
+    let behind : get_or (drop c.args.at (image c.args.journal.now.plain)) 3 0 ≡ 0 =
+    get_or_past (drop c.args.at (image c.args.journal.now.plain)) 3 0 (omega (
+      arith,
+      length-drop c.args.at (image c.args.journal.now.plain),
+      length-take (get_or c.args.journal.now.plain top_address 0) c.args.journal.now.plain,
+    )) in
     rw (is, header, persistent, behind) (omega arith)
 
 pub returns : goal.returns
 returns g c =
     let is : is_package (package_addresses (image c.args.journal.now.plain)) c.args.at ≡ false = sym c.begins_package.ensures ∙ c.if-begins_package.false in
-    let word : c.read-word.result ≡ get_or (drop c.args.at (image c.args.journal.now.plain)) 0 0 = c.read-word.ensures ∙ sym (word_at c.args.journal.now.plain c.args.at c.requires.inside) in
-    let header : is_header (get_or (drop c.args.at (image c.args.journal.now.plain)) 0 0) ≡ true = ap is_header (sym word) ∙ sym c.begins_header.ensures ∙ c.if-not-begins_header.false in
-    let persistent : (get_or (drop c.args.at (image c.args.journal.now.plain)) 0 0 / 256 == 0) ≡ true = eq-eqb _ _ (ap (λ w. w / 256) (sym word) ∙ (omega arith)) in
-    let fourth : get_or (drop c.args.at (image c.args.journal.now.plain)) 3 0 ≡ get_or c.args.journal.now.plain (c.args.at + 3) 0 = word_from c.args.journal.now.plain c.args.at 3 (omega arith) in
+    let word : c.read-word.result ≡ get_or (drop c.args.at (image c.args.journal.now.plain)) 0 0 = c.read-word.ensures
+    ∙ sym (word_at c.args.journal.now.plain c.args.at c.requires.inside) in
+    let header : is_header (get_or (drop c.args.at (image c.args.journal.now.plain)) 0 0) ≡ true = ap is_header (sym word) ∙ sym c.begins_header.ensures
+    ∙ c.if-not-begins_header.false in
+    let persistent : (get_or (drop c.args.at (image c.args.journal.now.plain)) 0 0 / 256 == 0) ≡ true =
+    eq-eqb _ _ (ap (λ w. w / 256) (sym word) ∙ (omega arith)) in
+    let fourth : get_or (drop c.args.at (image c.args.journal.now.plain)) 3 0 ≡ get_or c.args.journal.now.plain (c.args.at + 3) 0 =
+    word_from c.args.journal.now.plain c.args.at 3 (omega arith) in
     rw (is, header, persistent, fourth) (omega arith)

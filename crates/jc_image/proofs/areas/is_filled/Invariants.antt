@@ -10,7 +10,8 @@ abbrev pub invariant-loop-at : goal.invariant-loop-at
 invariant-loop-at g l = record {
   at : IsAt l.journal.plain l.at;
   room : l.place ≤ area_size;
-  run : Run l.event l.place (items_from l.journal.plain l.at) (area_end (heap_of l.journal.plain) l.event) ↔ Run l.event 0 ((heap_of l.journal.plain).items) (area_end (heap_of l.journal.plain) l.event);
+  run : Run l.event l.place (items_from l.journal.plain l.at) (area_end (heap_of l.journal.plain) l.event)
+      ↔ Run l.event 0 ((heap_of l.journal.plain).items) (area_end (heap_of l.journal.plain) l.event);
 }
 
 abbrev pub decreases-loop-at : goal.decreases-loop-at

@@ -1,30 +1,38 @@
 use Rattle.std.proofs.Common.{◌≡◌, ◌∙◌, sym, ap, subst, length, arith}
-use Rattle.jc_words.specs.Count.{raised}
+use Rattle.jc_words.specs.Count.{saturating_count}
 use Rattle.jc_commit.specs.Image.{recovered_of, IsGoodLog}
-use Rattle.jc_commit.specs.State.{State, opened}
+use Rattle.jc_commit.specs.State.{State, recovered_journal}
 use Rattle.jc_commit.specs.declared.refusal.OpenRefusal.TheVariants.{StoreDown}
-use Rattle.jc_heap.specs.Image.{IsLaid}
+use Rattle.jc_heap.specs.Image.{IsWellFormed}
 use Rattle.jc_heap.specs.Heap.{heap_view}
-use Rattle.jc_image.specs.Laying.{laid_view, first_free}
+use Rattle.jc_image.specs.Laying.{unsealed_view, first_free}
 use Rattle.jc_image.proofs.LaidStores.{unmarked, only_down, length_all, good_all, laid_all, recovered_long, view_all, part_after}
 use Rattle.jc_image.proofs.laying.lay.Goals as goal
 
 pub returns-in_default-clause-unmarked : goal.returns-in_default-clause-unmarked
-returns-in_default-clause-unmarked g c = unmarked c.args.text.now (g.S.WordStore.words c.args.store) (g.S.WordStore.words c.write_image.new.store) c.write_image.ensures.part
+returns-in_default-clause-unmarked g c = unmarked c.args.text.now (g.S.WordStore.words c.args.store)
+    (g.S.WordStore.words c.write_image.new.store) c.write_image.ensures.part
 
 pub open-requires : goal.open-requires
-open-requires g c = omega (arith, length_all c.args.text.now (g.S.WordStore.words c.args.store) (g.S.WordStore.words c.write_image.new.store) c.in-Ok.ensures.bytes c.requires.fits c.in-Ok.ensures.done)
+open-requires g c = omega (
+  arith,
+  length_all c.args.text.now (g.S.WordStore.words c.args.store)
+      (g.S.WordStore.words c.write_image.new.store) c.in-Ok.ensures.bytes c.requires.fits c.in-Ok.ensures.done,
+)
 
 pub of_journal-requires-clause-size : goal.of_journal-requires-clause-size
 of_journal-requires-clause-size g c =
     c.size-size.ensures
-    ∙ sym (recovered_long c.args.text.now (g.S.WordStore.words c.args.store) (g.S.WordStore.words c.write_image.new.store) c.in-Ok.ensures.bytes c.requires.fits c.in-Ok.ensures.done)
+    ∙ sym (recovered_long c.args.text.now (g.S.WordStore.words c.args.store) (g.S.WordStore.words c.write_image.new.store) c.in-Ok.ensures.bytes c.requires.fits
+    c.in-Ok.ensures.done)
     ∙ ap (λ (j : State). length j.plain) (sym c.in-Ok-open.ensures.ok)
 
 pub of_journal-requires-clause-laid : goal.of_journal-requires-clause-laid
 of_journal-requires-clause-laid g c =
-    let laid : IsLaid (recovered_of (g.S.WordStore.words c.write_image.new.store)) = laid_all c.args.text.now (g.S.WordStore.words c.args.store) (g.S.WordStore.words c.write_image.new.store) c.in-Ok.ensures.bytes c.requires.fits c.in-Ok.ensures.done in
-    subst (λ (j : State). IsLaid j.plain) (sym c.in-Ok-open.ensures.ok) laid
+    let laid : IsWellFormed (recovered_of (g.S.WordStore.words c.write_image.new.store)) =
+    laid_all c.args.text.now (g.S.WordStore.words c.args.store) (g.S.WordStore.words c.write_image.new.store) c.in-Ok.ensures.bytes c.requires.fits
+    c.in-Ok.ensures.done in
+    subst (λ (j : State). IsWellFormed j.plain) (sym c.in-Ok-open.ensures.ok) laid
 
 pub returns-in-Ok-open-clause-done : goal.returns-in-Ok-open-clause-done
 returns-in-Ok-open-clause-done g c =
@@ -32,38 +40,52 @@ returns-in-Ok-open-clause-done g c =
     let old = g.S.WordStore.words c.args.store in
     c.of_journal.ensures
     ∙ ap (λ (j : State). heap_view j c.size-size.result) c.in-Ok-open.ensures.ok
-    ∙ ap (heap_view (opened w (g.S.WordStore.passed c.write_image.new.store) (g.S.WordStore.refused c.write_image.new.store))) c.size-size.ensures
-    ∙ view_all c.args.text.now old w c.in-Ok.ensures.bytes c.requires.fits c.in-Ok.ensures.done (g.S.WordStore.passed c.write_image.new.store) (g.S.WordStore.refused c.write_image.new.store)
-    ∙ ap (λ p. laid_view (length old) c.args.text.now p (g.S.WordStore.refused c.write_image.new.store)) c.in-Ok.ensures.passed
-    ∙ ap (laid_view (length old) c.args.text.now (raised (g.S.WordStore.passed c.args.store) (first_free (length c.args.text.now)))) c.in-Ok.ensures.refused
+    ∙ ap (heap_view (recovered_journal w (g.S.WordStore.passed c.write_image.new.store) (g.S.WordStore.refused c.write_image.new.store))) c.size-size.ensures
+    ∙ view_all c.args.text.now old w c.in-Ok.ensures.bytes c.requires.fits c.in-Ok.ensures.done (g.S.WordStore.passed c.write_image.new.store)
+    (g.S.WordStore.refused c.write_image.new.store)
+    ∙ ap (λ p. unsealed_view (length old) c.args.text.now p (g.S.WordStore.refused c.write_image.new.store)) c.in-Ok.ensures.passed
+    ∙ ap (unsealed_view (length old) c.args.text.now (saturating_count (g.S.WordStore.passed c.args.store) (first_free (length c.args.text.now))))
+    c.in-Ok.ensures.refused
 
 pub returns-in-Err-clause-down : goal.returns-in-Err-clause-down
 returns-in-Err-clause-down g c =
-    let good : IsGoodLog (g.S.WordStore.words c.write_image.new.store) = good_all c.args.text.now (g.S.WordStore.words c.args.store) (g.S.WordStore.words c.write_image.new.store) c.in-Ok.ensures.bytes c.requires.fits c.in-Ok.ensures.done in
-    let down : c.in-Err.field-0-0 ≡ StoreDown = only_down (g.S.WordStore.words c.write_image.new.store) c.in-Err.field-0-0 good (λ e. (c.in-Err.ensures.bad_log e).0) in
+    let good : IsGoodLog (g.S.WordStore.words c.write_image.new.store) = good_all c.args.text.now (g.S.WordStore.words c.args.store)
+    (g.S.WordStore.words c.write_image.new.store) c.in-Ok.ensures.bytes c.requires.fits c.in-Ok.ensures.done in
+    let down : c.in-Err.field-0-0 ≡ StoreDown = only_down (g.S.WordStore.words c.write_image.new.store) c.in-Err.field-0-0 good
+    (λ e. (c.in-Err.ensures.bad_log e).0) in
     (c.in-Err.ensures.stopped down).2
 
 pub returns-in-Err-clause-refused : goal.returns-in-Err-clause-refused
 returns-in-Err-clause-refused g c =
-    let good : IsGoodLog (g.S.WordStore.words c.write_image.new.store) = good_all c.args.text.now (g.S.WordStore.words c.args.store) (g.S.WordStore.words c.write_image.new.store) c.in-Ok.ensures.bytes c.requires.fits c.in-Ok.ensures.done in
-    let down : c.in-Err.field-0-0 ≡ StoreDown = only_down (g.S.WordStore.words c.write_image.new.store) c.in-Err.field-0-0 good (λ e. (c.in-Err.ensures.bad_log e).0) in
-    c.in-Err.ensures.refused down c.in-Ok.ensures.up ∙ ap (λ r. raised r 1) c.in-Ok.ensures.refused
+    let good : IsGoodLog (g.S.WordStore.words c.write_image.new.store) = good_all c.args.text.now (g.S.WordStore.words c.args.store)
+    (g.S.WordStore.words c.write_image.new.store) c.in-Ok.ensures.bytes c.requires.fits c.in-Ok.ensures.done in
+    let down : c.in-Err.field-0-0 ≡ StoreDown = only_down (g.S.WordStore.words c.write_image.new.store) c.in-Err.field-0-0 good
+    (λ e. (c.in-Err.ensures.bad_log e).0) in
+    c.in-Err.ensures.refused down c.in-Ok.ensures.up ∙ ap (λ r. saturating_count r 1) c.in-Ok.ensures.refused
 
 pub returns-in-Err-clause-part : goal.returns-in-Err-clause-part
 returns-in-Err-clause-part g c =
-    let good : IsGoodLog (g.S.WordStore.words c.write_image.new.store) = good_all c.args.text.now (g.S.WordStore.words c.args.store) (g.S.WordStore.words c.write_image.new.store) c.in-Ok.ensures.bytes c.requires.fits c.in-Ok.ensures.done in
-    let down : c.in-Err.field-0-0 ≡ StoreDown = only_down (g.S.WordStore.words c.write_image.new.store) c.in-Err.field-0-0 good (λ e. (c.in-Err.ensures.bad_log e).0) in
-    part_after c.args.text.now (g.S.WordStore.words c.args.store) (g.S.WordStore.words c.write_image.new.store) c.in-Ok.ensures.bytes c.requires.fits c.in-Ok.ensures.done (g.S.WordStore.words c.in-Err.store) (c.in-Err.ensures.part down).0 (c.in-Err.ensures.part down).2
+    let good : IsGoodLog (g.S.WordStore.words c.write_image.new.store) = good_all c.args.text.now (g.S.WordStore.words c.args.store)
+    (g.S.WordStore.words c.write_image.new.store) c.in-Ok.ensures.bytes c.requires.fits c.in-Ok.ensures.done in
+    let down : c.in-Err.field-0-0 ≡ StoreDown = only_down (g.S.WordStore.words c.write_image.new.store) c.in-Err.field-0-0 good
+    (λ e. (c.in-Err.ensures.bad_log e).0) in
+    part_after c.args.text.now (g.S.WordStore.words c.args.store) (g.S.WordStore.words c.write_image.new.store) c.in-Ok.ensures.bytes c.requires.fits
+    c.in-Ok.ensures.done (g.S.WordStore.words c.in-Err.store) (c.in-Err.ensures.part down).0 (c.in-Err.ensures.part down).2
 
 pub returns-in-Err-clause-unmarked : goal.returns-in-Err-clause-unmarked
 returns-in-Err-clause-unmarked g c =
-    let good : IsGoodLog (g.S.WordStore.words c.write_image.new.store) = good_all c.args.text.now (g.S.WordStore.words c.args.store) (g.S.WordStore.words c.write_image.new.store) c.in-Ok.ensures.bytes c.requires.fits c.in-Ok.ensures.done in
-    let down : c.in-Err.field-0-0 ≡ StoreDown = only_down (g.S.WordStore.words c.write_image.new.store) c.in-Err.field-0-0 good (λ e. (c.in-Err.ensures.bad_log e).0) in
+    let good : IsGoodLog (g.S.WordStore.words c.write_image.new.store) = good_all c.args.text.now (g.S.WordStore.words c.args.store)
+    (g.S.WordStore.words c.write_image.new.store) c.in-Ok.ensures.bytes c.requires.fits c.in-Ok.ensures.done in
+    let down : c.in-Err.field-0-0 ≡ StoreDown = only_down (g.S.WordStore.words c.write_image.new.store) c.in-Err.field-0-0 good
+    (λ e. (c.in-Err.ensures.bad_log e).0) in
     unmarked c.args.text.now (g.S.WordStore.words c.args.store) (g.S.WordStore.words c.in-Err.store)
-    (part_after c.args.text.now (g.S.WordStore.words c.args.store) (g.S.WordStore.words c.write_image.new.store) c.in-Ok.ensures.bytes c.requires.fits c.in-Ok.ensures.done (g.S.WordStore.words c.in-Err.store) (c.in-Err.ensures.part down).0 (c.in-Err.ensures.part down).2)
+    (part_after c.args.text.now (g.S.WordStore.words c.args.store) (g.S.WordStore.words c.write_image.new.store) c.in-Ok.ensures.bytes c.requires.fits
+    c.in-Ok.ensures.done (g.S.WordStore.words c.in-Err.store) (c.in-Err.ensures.part down).0 (c.in-Err.ensures.part down).2)
 
 pub returns-in-Err-clause-size : goal.returns-in-Err-clause-size
 returns-in-Err-clause-size g c =
-    let good : IsGoodLog (g.S.WordStore.words c.write_image.new.store) = good_all c.args.text.now (g.S.WordStore.words c.args.store) (g.S.WordStore.words c.write_image.new.store) c.in-Ok.ensures.bytes c.requires.fits c.in-Ok.ensures.done in
-    let down : c.in-Err.field-0-0 ≡ StoreDown = only_down (g.S.WordStore.words c.write_image.new.store) c.in-Err.field-0-0 good (λ e. (c.in-Err.ensures.bad_log e).0) in
+    let good : IsGoodLog (g.S.WordStore.words c.write_image.new.store) = good_all c.args.text.now (g.S.WordStore.words c.args.store)
+    (g.S.WordStore.words c.write_image.new.store) c.in-Ok.ensures.bytes c.requires.fits c.in-Ok.ensures.done in
+    let down : c.in-Err.field-0-0 ≡ StoreDown = only_down (g.S.WordStore.words c.write_image.new.store) c.in-Err.field-0-0 good
+    (λ e. (c.in-Err.ensures.bad_log e).0) in
     (c.in-Err.ensures.stopped down).1.size ∙ c.write_image.ensures.size

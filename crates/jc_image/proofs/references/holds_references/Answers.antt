@@ -15,44 +15,71 @@ use Rattle.jc_image.proofs.references.holds_references.Goals as goal
 
 pub returns-then-not-has_references : goal.returns-then-not-has_references
 returns-then-not-has_references g c =
-    let holds : HoldsReferences (heap_of c.args.journal.now.plain) (item_from c.args.journal.now.plain c.args.at) = elim (cases_Bool (is_package (package_addresses (image c.args.journal.now.plain)) c.args.at)) [
+    let holds : HoldsReferences (heap_of c.args.journal.now.plain) (item_from c.args.journal.now.plain c.args.at) =
+    elim (cases_Bool (is_package (package_addresses (image c.args.journal.now.plain)) c.args.at)) [
       | inl e ↦ holds_package (heap_of c.args.journal.now.plain) c.args.journal.now.plain c.args.at c.requires.laid c.requires.begins c.requires.inside e
-      | inr e ↦ holds_other (heap_of c.args.journal.now.plain) c.args.journal.now.plain c.args.at c.requires.laid c.requires.begins c.requires.inside c.requires.small e (λ five. false≢true (sym c.if-not-has_references.true ∙ c.has_references.ensures.1 (e, five)))
+      | inr e ↦ holds_other (heap_of c.args.journal.now.plain) c.args.journal.now.plain c.args.at c.requires.laid c.requires.begins c.requires.inside
+          c.requires.small e (λ five. false≢true (sym c.if-not-has_references.true ∙ c.has_references.ensures.1 (e, five)))
     ] in ((λ _. holds), λ _. refl)
 
 pub overflow_add-at : goal.overflow_add-at
 overflow_add-at g c =
-    let array : (is_package (package_addresses (image c.args.journal.now.plain)) c.args.at ≡ false) × (slice_index c.args.journal.now.plain c.args.at ≡ kind_number ReferenceArray) = c.has_references.ensures.0 c.if-not-has_references.false in
-    omega (arith, header_within c.args.journal.now.plain c.args.at c.requires.laid c.requires.begins c.requires.inside c.requires.small array.0, c.requires.laid.fits, c.requires.small)
+    let array : (is_package (package_addresses (image c.args.journal.now.plain)) c.args.at ≡ false)
+    × (slice_index c.args.journal.now.plain c.args.at ≡ kind_number ReferenceArray) = c.has_references.ensures.0 c.if-not-has_references.false in
+    omega (
+      arith,
+      header_within c.args.journal.now.plain c.args.at c.requires.laid c.requires.begins c.requires.inside c.requires.small array.0,
+      c.requires.laid.fits,
+      c.requires.small,
+    )
 
 pub read-count-requires : goal.read-count-requires
 read-count-requires g c =
-    let array : (is_package (package_addresses (image c.args.journal.now.plain)) c.args.at ≡ false) × (slice_index c.args.journal.now.plain c.args.at ≡ kind_number ReferenceArray) = c.has_references.ensures.0 c.if-not-has_references.false in
-    readable (length c.args.journal.now.plain) (c.args.at + 3) (omega (arith, header_within c.args.journal.now.plain c.args.at c.requires.laid c.requires.begins c.requires.inside c.requires.small array.0, c.requires.laid.fits)) (omega (arith, c.requires.begins.low))
+    let array : (is_package (package_addresses (image c.args.journal.now.plain)) c.args.at ≡ false)
+    × (slice_index c.args.journal.now.plain c.args.at ≡ kind_number ReferenceArray) = c.has_references.ensures.0 c.if-not-has_references.false in
+    readable (length c.args.journal.now.plain) (c.args.at + 3) (omega (
+      arith,
+      header_within c.args.journal.now.plain c.args.at c.requires.laid c.requires.begins
+          c.requires.inside c.requires.small array.0,
+      c.requires.laid.fits,
+    )) (omega (arith, c.requires.begins.low))
 
 pub overflow_add-at-in-loop-i : goal.overflow_add-at-in-loop-i
 overflow_add-at-in-loop-i g c =
-    let array : (is_package (package_addresses (image c.args.journal.now.plain)) c.args.at ≡ false) × (slice_index c.args.journal.now.plain c.args.at ≡ kind_number ReferenceArray) = c.has_references.ensures.0 c.if-not-has_references.false in
-    let within : c.args.at + 4 + c.loop-i.i < slice_index c.args.journal.now.plain top_address = cell_within_at (heap_of c.args.journal.now.plain) c.args.journal.now.plain c.args.at c.requires.laid c.requires.begins c.requires.inside c.requires.small array.0 array.1 c.loop-i.i (omega (arith, c.read-count.ensures, c.loop-i-test.true)) in
+    let array : (is_package (package_addresses (image c.args.journal.now.plain)) c.args.at ≡ false)
+    × (slice_index c.args.journal.now.plain c.args.at ≡ kind_number ReferenceArray) = c.has_references.ensures.0 c.if-not-has_references.false in
+    let within : c.args.at + 4 + c.loop-i.i < slice_index c.args.journal.now.plain top_address =
+    cell_within_at (heap_of c.args.journal.now.plain) c.args.journal.now.plain c.args.at c.requires.laid c.requires.begins c.requires.inside
+    c.requires.small array.0 array.1 c.loop-i.i (omega (arith, c.read-count.ensures, c.loop-i-test.true)) in
     omega (arith, within, c.requires.laid.fits, c.requires.small)
 
 pub overflow_add-at-in-loop-i-2 : goal.overflow_add-at-in-loop-i-2
 overflow_add-at-in-loop-i-2 g c =
-    let array : (is_package (package_addresses (image c.args.journal.now.plain)) c.args.at ≡ false) × (slice_index c.args.journal.now.plain c.args.at ≡ kind_number ReferenceArray) = c.has_references.ensures.0 c.if-not-has_references.false in
-    let within : c.args.at + 4 + c.loop-i.i < slice_index c.args.journal.now.plain top_address = cell_within_at (heap_of c.args.journal.now.plain) c.args.journal.now.plain c.args.at c.requires.laid c.requires.begins c.requires.inside c.requires.small array.0 array.1 c.loop-i.i (omega (arith, c.read-count.ensures, c.loop-i-test.true)) in
+    let array : (is_package (package_addresses (image c.args.journal.now.plain)) c.args.at ≡ false)
+    × (slice_index c.args.journal.now.plain c.args.at ≡ kind_number ReferenceArray) = c.has_references.ensures.0 c.if-not-has_references.false in
+    let within : c.args.at + 4 + c.loop-i.i < slice_index c.args.journal.now.plain top_address =
+    cell_within_at (heap_of c.args.journal.now.plain) c.args.journal.now.plain c.args.at c.requires.laid c.requires.begins c.requires.inside
+    c.requires.small array.0 array.1 c.loop-i.i (omega (arith, c.read-count.ensures, c.loop-i-test.true)) in
     omega (arith, within, c.requires.laid.fits, c.requires.small)
 
 pub read-word-requires : goal.read-word-requires
 read-word-requires g c =
-    let array : (is_package (package_addresses (image c.args.journal.now.plain)) c.args.at ≡ false) × (slice_index c.args.journal.now.plain c.args.at ≡ kind_number ReferenceArray) = c.has_references.ensures.0 c.if-not-has_references.false in
-    let within : c.args.at + 4 + c.loop-i.i < slice_index c.args.journal.now.plain top_address = cell_within_at (heap_of c.args.journal.now.plain) c.args.journal.now.plain c.args.at c.requires.laid c.requires.begins c.requires.inside c.requires.small array.0 array.1 c.loop-i.i (omega (arith, c.read-count.ensures, c.loop-i-test.true)) in
+    let array : (is_package (package_addresses (image c.args.journal.now.plain)) c.args.at ≡ false)
+    × (slice_index c.args.journal.now.plain c.args.at ≡ kind_number ReferenceArray) = c.has_references.ensures.0 c.if-not-has_references.false in
+    let within : c.args.at + 4 + c.loop-i.i < slice_index c.args.journal.now.plain top_address =
+    cell_within_at (heap_of c.args.journal.now.plain) c.args.journal.now.plain c.args.at c.requires.laid c.requires.begins c.requires.inside
+    c.requires.small array.0 array.1 c.loop-i.i (omega (arith, c.read-count.ensures, c.loop-i-test.true)) in
     readable (length c.args.journal.now.plain) (c.args.at + 4 + c.loop-i.i) (omega (arith, within, c.requires.laid.fits)) (omega (arith, c.requires.begins.low))
 
 pub returns-then-not-is_reference : goal.returns-then-not-is_reference
 returns-then-not-is_reference g c =
-    let array : (is_package (package_addresses (image c.args.journal.now.plain)) c.args.at ≡ false) × (slice_index c.args.journal.now.plain c.args.at ≡ kind_number ReferenceArray) = c.has_references.ensures.0 c.if-not-has_references.false in (
+    let array : (is_package (package_addresses (image c.args.journal.now.plain)) c.args.at ≡ false)
+    × (slice_index c.args.journal.now.plain c.args.at ≡ kind_number ReferenceArray) = c.has_references.ensures.0 c.if-not-has_references.false in (
       (λ t. absurd (false≢true t)),
-      λ holds. absurd (false≢true (sym c.if-not-is_reference.true ∙ c.is_reference.ensures.1 (subst (IsReference (heap_of c.args.journal.now.plain)) (sym c.read-word.ensures) (of_holds (heap_of c.args.journal.now.plain) c.args.journal.now.plain c.args.at c.requires.laid c.requires.begins c.requires.inside c.requires.small array.0 array.1 holds c.loop-i.i (omega (arith, c.read-count.ensures, c.loop-i-test.true)))))),
+      λ holds. absurd (false≢true (sym c.if-not-is_reference.true ∙ c.is_reference.ensures.1
+          (subst (IsReference (heap_of c.args.journal.now.plain)) (sym c.read-word.ensures)
+          (of_holds (heap_of c.args.journal.now.plain) c.args.journal.now.plain c.args.at c.requires.laid c.requires.begins c.requires.inside c.requires.small
+          array.0 array.1 holds c.loop-i.i (omega (arith, c.read-count.ensures, c.loop-i-test.true)))))),
     )
 
 pub loop-i-preserved : goal.loop-i-preserved
@@ -62,5 +89,9 @@ loop-i-preserved g c =
 
 pub returns : goal.returns
 returns g c =
-    let array : (is_package (package_addresses (image c.args.journal.now.plain)) c.args.at ≡ false) × (slice_index c.args.journal.now.plain c.args.at ≡ kind_number ReferenceArray) = c.has_references.ensures.0 c.if-not-has_references.false in
-    ((λ _. holds_of (heap_of c.args.journal.now.plain) c.args.journal.now.plain c.args.at c.requires.laid c.requires.begins c.requires.inside c.requires.small array.0 array.1 (λ i lt. c.loop-i.invariant i (omega (arith, c.read-count.ensures)))), λ _. refl)
+    let array : (is_package (package_addresses (image c.args.journal.now.plain)) c.args.at ≡ false)
+    × (slice_index c.args.journal.now.plain c.args.at ≡ kind_number ReferenceArray) = c.has_references.ensures.0 c.if-not-has_references.false in (
+      (λ _. holds_of (heap_of c.args.journal.now.plain) c.args.journal.now.plain c.args.at c.requires.laid c.requires.begins c.requires.inside c.requires.small
+          array.0 array.1 (λ i lt. c.loop-i.invariant i (omega (arith, c.read-count.ensures)))),
+      λ _. refl,
+    )

@@ -11,6 +11,7 @@ returns-clause-unset c r = elim (cases_lt r (length c.loop-place.marks)) [
 
 pub loop-place-preserved : goal.loop-place-preserved
 loop-place-preserved c r below = elim (cases_eq r c.loop-place.place) [
-  | inl same ↦ ap (λ q. get_or (set c.loop-place.marks c.loop-place.place false) q false) same ∙ get_or-set_same c.loop-place.marks c.loop-place.place false false (omega (arith, c.loop-place-test.true))
+  | inl same ↦ ap (λ q. get_or (set c.loop-place.marks c.loop-place.place false) q false) same
+      ∙ get_or-set_same c.loop-place.marks c.loop-place.place false false (omega (arith, c.loop-place-test.true))
   | inr other ↦ get_or-set_other c.loop-place.marks c.loop-place.place r false false other ∙ c.loop-place.invariant r (omega (arith, below, other))
 ]

@@ -8,7 +8,8 @@ loop-place-init c r marked = (marked, cases_lt r c.args.from)
 
 pub loop-place-preserved : goal.loop-place-preserved
 loop-place-preserved c r marked = elim (cases_eq r c.loop-place.place) [
-  | inl same ↦ absurd (true≢false (sym marked ∙ ap (λ q. get_or (set c.loop-place.marks c.loop-place.place false) q false) same ∙ get_or-set_same c.loop-place.marks c.loop-place.place false false (omega arith)))
+  | inl same ↦ absurd (true≢false (sym marked ∙ ap (λ q. get_or (set c.loop-place.marks c.loop-place.place false) q false) same
+      ∙ get_or-set_same c.loop-place.marks c.loop-place.place false false (omega arith)))
   | inr other ↦
       let before = c.loop-place.invariant r (sym (get_or-set_other c.loop-place.marks c.loop-place.place r false false other) ∙ marked) in (
         before.0,

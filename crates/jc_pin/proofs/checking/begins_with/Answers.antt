@@ -6,5 +6,6 @@ use Rattle.jc_pin.proofs.checking.begins_with.Goals as goal
 
 pub loop-k-preserved : goal.loop-k-preserved
 loop-k-preserved g c =
-    same_more (byte_at c.args.memory.now c.args.array) c.args.bytes.now c.loop-k.k c.loop-k.same (c.loop-k.same && nat_eq (slice_index c.args.bytes.now c.loop-k.k) c.byte.result)
+    same_more (byte_at c.args.memory.now c.args.array) c.args.bytes.now c.loop-k.k c.loop-k.same
+    (c.loop-k.same && nat_eq (slice_index c.args.bytes.now c.loop-k.k) c.byte.result)
     c.loop-k-test.true c.loop-k.invariant (ap (λ v. c.loop-k.same && nat_eq (slice_index c.args.bytes.now c.loop-k.k) v) c.byte.ensures)

@@ -12,8 +12,10 @@ returns-in_default-row c =
     let above = above_of c.loop-rest.reading in
     let line = c.in-Some.line.now in
     let more = c.in-Some.more.now in
-    bad_line c.args.text.now c.loop-rest.rest.now line (parts_at 10 more) c.loop-rest.number above c.loop-rest.invariant c.in-Some.ensures.parts (bad_row above line more (sym c.row.ensures ∙ c.in_default-row.is))
+    bad_line c.args.text.now c.loop-rest.rest.now line (parts_at 10 more) c.loop-rest.number above c.loop-rest.invariant c.in-Some.ensures.parts
+    (bad_row above line more (sym c.row.ensures ∙ c.in_default-row.is))
 
 pub loop-rest-preserved : goal.loop-rest-preserved
 loop-rest-preserved c =
-    after_line c.args.text.now c.loop-rest.rest.now c.in-Some.line.now c.in-Some.more.now c.loop-rest.number c.in-Some-row.row (above_of c.loop-rest.reading) (above_of c.put.new.self) c.loop-rest.invariant c.in-Some.ensures.parts c.in-Some.ensures.shorter (sym c.row.ensures ∙ c.in-Some-row.is) c.put.ensures
+    after_line c.args.text.now c.loop-rest.rest.now c.in-Some.line.now c.in-Some.more.now c.loop-rest.number c.in-Some-row.row (above_of c.loop-rest.reading)
+    (above_of c.put.new.self) c.loop-rest.invariant c.in-Some.ensures.parts c.in-Some.ensures.shorter (sym c.row.ensures ∙ c.in-Some-row.is) c.put.ensures

@@ -8,12 +8,16 @@ use Rattle.jc_platform.proofs.words.split_once.Goals as goal
 
 pub returns-in_err-at-clause-parts : goal.returns-in_err-at-clause-parts
 returns-in_err-at-clause-parts c =
-    let at : c.position.result ≡ position (λ b. b == c.args.separator) c.args.bytes.now = position_from_yields_List (λ b. b == c.args.separator) _ _ c.position.result c.position.ensures.ran (YieldsList-from_slice c.args.bytes.now cc) (λ x b q k. search (rules, tests)) in
+    let at : c.position.result ≡ position (λ b. b == c.args.separator) c.args.bytes.now =
+    position_from_yields_List (λ b. b == c.args.separator) _ _ c.position.result c.position.ensures.ran (YieldsList-from_slice c.args.bytes.now cc)
+    (λ x b q k. search (rules, tests)) in
     let none : c.from_residual.result ≡ None = search rules in
     rw none (parts_uncut c.args.separator c.args.bytes.now c.position.result at c.in_err-at.was)
 
 pub returns-clause-parts : goal.returns-clause-parts
 returns-clause-parts c =
-    let at : c.position.result ≡ position (λ b. b == c.args.separator) c.args.bytes.now = position_from_yields_List (λ b. b == c.args.separator) _ _ c.position.result c.position.ensures.ran (YieldsList-from_slice c.args.bytes.now cc) (λ x b q k. search (rules, tests)) in
+    let at : c.position.result ≡ position (λ b. b == c.args.separator) c.args.bytes.now =
+    position_from_yields_List (λ b. b == c.args.separator) _ _ c.position.result c.position.ensures.ran (YieldsList-from_slice c.args.bytes.now cc)
+    (λ x b q k. search (rules, tests)) in
     parts_cut c.args.separator c.args.bytes.now c.position.result c.in_ok-at.at at c.in_ok-at.was
     ∙ ap (λ xs. take c.in_ok-at.at c.args.bytes.now ∷ parts_at c.args.separator xs) (sym (take_rest (c.in_ok-at.at + 1) c.args.bytes.now))

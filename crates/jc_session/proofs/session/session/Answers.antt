@@ -1,6 +1,6 @@
 use Rattle.std.proofs.Common.{◌<◌, ◌≤◌, ◌+◌, ◌++◌, ◌∷◌, [], ◌∙◌, length, take, inr, sym, ap, arith}
 use Rattle.std.proofs.lemmas.List.{take_more}
-use Rattle.jc_session.specs.Held.{power_of}
+use Rattle.jc_session.specs.SessionStates.{power_of}
 use Rattle.jc_session.specs.Power.{StoreState}
 use Rattle.jc_session.proofs.SessionRuns.{session_ended, session_more, stops_at_reset}
 use Rattle.jc_session.proofs.WholeSessions.{are_whole}
@@ -11,10 +11,16 @@ loop-event-preserved g c =
     let i = c.loop-event.invariant in
     let n = c.loop-event.event-index in
     let below : c.loop-event.event-index < length c.args.events.now = omega arith in
-    let before : StoreState = record { words = g.S.WordStore.words c.args.store; down = g.S.WordStore.down c.args.store; refused = g.S.WordStore.refused c.args.store } in
+    let before : StoreState = record {
+      words = g.S.WordStore.words c.args.store;
+      down = g.S.WordStore.down c.args.store;
+      refused = g.S.WordStore.refused c.args.store;
+    } in
     record {
-      session = session_more before (take n c.args.events.now) (take (n + 1) c.args.events.now) c.loop-event.answers.items c.push.new.self.items (power_of c.loop-event.held) (power_of c.in-Ok-serve.next) c.event-item.result c.in-Ok-serve.answer
-          (take_more c.args.events.now n c.event-item.result below ∙ ap (λ x. take n c.args.events.now ++ x ∷ []) (sym c.event-item.is)) c.in-Ok-push.ensures.items i.session c.in-Ok-serve.ensures.served;
+      session = session_more before (take n c.args.events.now) (take (n + 1) c.args.events.now) c.loop-event.answers.items c.push.new.self.items
+          (power_of c.loop-event.held) (power_of c.in-Ok-serve.next) c.event-item.result c.in-Ok-serve.answer
+          (take_more c.args.events.now n c.event-item.result below ∙ ap (λ x. take n c.args.events.now ++ x ∷ []) (sym c.event-item.is))
+          c.in-Ok-push.ensures.items i.session c.in-Ok-serve.ensures.served;
       count = omega (arith, c.in-Ok-push.ensures.len);
       room = omega (arith, c.in-Ok-push.ensures.capacity);
     }
@@ -23,20 +29,46 @@ pub returns-in-Err-serve-clause-session : goal.returns-in-Err-serve-clause-sessi
 returns-in-Err-serve-clause-session g c =
     let n = c.loop-event.event-index in
     let below : c.loop-event.event-index < length c.args.events.now = omega arith in
-    let before : StoreState = record { words = g.S.WordStore.words c.args.store; down = g.S.WordStore.down c.args.store; refused = g.S.WordStore.refused c.args.store } in
-    let after : StoreState = record { words = g.S.WordStore.words c.in-Err-serve.store; down = g.S.WordStore.down c.in-Err-serve.store; refused = g.S.WordStore.refused c.in-Err-serve.store } in
-    inr (stops_at_reset before after c.args.events.now c.loop-event.answers.items (power_of c.loop-event.held) n c.event-item.result c.in-Err-serve.fault below c.event-item.is c.loop-event.invariant.session c.in-Err-serve.ensures.fault)
+    let before : StoreState = record {
+      words = g.S.WordStore.words c.args.store;
+      down = g.S.WordStore.down c.args.store;
+      refused = g.S.WordStore.refused c.args.store;
+    } in
+    let after : StoreState = record {
+      words = g.S.WordStore.words c.in-Err-serve.store;
+      down = g.S.WordStore.down c.in-Err-serve.store;
+      refused = g.S.WordStore.refused c.in-Err-serve.store;
+    } in
+    inr (stops_at_reset before after c.args.events.now c.loop-event.answers.items (power_of c.loop-event.held) n c.event-item.result c.in-Err-serve.fault below
+    c.event-item.is c.loop-event.invariant.session c.in-Err-serve.ensures.fault)
 
 pub returns-clause-session : goal.returns-clause-session
 returns-clause-session g c =
-    let before : StoreState = record { words = g.S.WordStore.words c.args.store; down = g.S.WordStore.down c.args.store; refused = g.S.WordStore.refused c.args.store } in
-    let over : length c.args.events.now ≤ c.loop-event.event-index = omega arith in
-    (power_of c.loop-event.held, session_ended before c.args.events.now c.loop-event.answers.items (power_of c.loop-event.held) c.loop-event.event-index over c.loop-event.invariant.session, c.into_store-2.ensures)
+    let before : StoreState = record {
+      words = g.S.WordStore.words c.args.store;
+      down = g.S.WordStore.down c.args.store;
+      refused = g.S.WordStore.refused c.args.store;
+    } in
+    let over : length c.args.events.now ≤ c.loop-event.event-index = omega arith in (
+      power_of c.loop-event.held,
+      session_ended before c.args.events.now c.loop-event.answers.items
+          (power_of c.loop-event.held) c.loop-event.event-index over c.loop-event.invariant.session,
+      c.into_store-2.ensures,
+    )
 
 pub returns-clause-whole : goal.returns-clause-whole
 returns-clause-whole g c = λ none.
-    let before : StoreState = record { words = g.S.WordStore.words c.args.store; down = g.S.WordStore.down c.args.store; refused = g.S.WordStore.refused c.args.store } in
-    let after : StoreState = record { words = g.S.WordStore.words c.into_store-2.result; down = g.S.WordStore.down c.into_store-2.result; refused = g.S.WordStore.refused c.into_store-2.result } in
+    let before : StoreState = record {
+      words = g.S.WordStore.words c.args.store;
+      down = g.S.WordStore.down c.args.store;
+      refused = g.S.WordStore.refused c.args.store;
+    } in
+    let after : StoreState = record {
+      words = g.S.WordStore.words c.into_store-2.result;
+      down = g.S.WordStore.down c.into_store-2.result;
+      refused = g.S.WordStore.refused c.into_store-2.result;
+    } in
     let over : length c.args.events.now ≤ c.loop-event.event-index = omega arith in
     are_whole before after c.args.events.now c.loop-event.answers.items (power_of c.loop-event.held)
-    (session_ended before c.args.events.now c.loop-event.answers.items (power_of c.loop-event.held) c.loop-event.event-index over c.loop-event.invariant.session) c.into_store-2.ensures none
+    (session_ended before c.args.events.now c.loop-event.answers.items (power_of c.loop-event.held) c.loop-event.event-index over
+    c.loop-event.invariant.session) c.into_store-2.ensures none

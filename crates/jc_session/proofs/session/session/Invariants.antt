@@ -1,11 +1,12 @@
 use Rattle.std.proofs.Common.{◌≡◌, ◌≤◌, take, length, vec_len, vec_capacity}
-use Rattle.jc_session.specs.Held.{power_of}
+use Rattle.jc_session.specs.SessionStates.{power_of}
 use Rattle.jc_session.specs.Sessions.{IsSession}
 use Rattle.jc_session.proofs.session.session.Given as goal
 
 abbrev pub invariant-loop-event : goal.invariant-loop-event
 invariant-loop-event g l = record {
-  session : IsSession (record { words = g.S.WordStore.words l.fn.store; down = g.S.WordStore.down l.fn.store; refused = g.S.WordStore.refused l.fn.store }) (take l.event-index l.events) l.answers.items (power_of l.held);
+  session : IsSession (record { words = g.S.WordStore.words l.fn.store; down = g.S.WordStore.down l.fn.store; refused = g.S.WordStore.refused l.fn.store })
+      (take l.event-index l.events) l.answers.items (power_of l.held);
   count : vec_len l.answers ≡ l.event-index;
   room : length l.events ≤ vec_capacity l.answers;
 }

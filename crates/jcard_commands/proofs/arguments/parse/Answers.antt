@@ -1,4 +1,5 @@
 use Rattle.jcard_commands.proofs.News.{news}
+use Rattle.jcard_commands.proofs.Tries.{tries}
 use Rattle.jcard_commands.proofs.arguments.parse.Goals as goal
 
 pub returns-in-Ok-Some-clause-plain_news : goal.returns-in-Ok-Some-clause-plain_news
@@ -9,3 +10,12 @@ returns-in-Ok-None-clause-plain_news c = news
 
 pub returns-after-kind-clause-plain_news : goal.returns-after-kind-clause-plain_news
 returns-after-kind-clause-plain_news c = news
+
+pub returns-in-Ok-Some-clause-plain_tries : goal.returns-in-Ok-Some-clause-plain_tries
+returns-in-Ok-Some-clause-plain_tries c = tries
+
+pub returns-in-Ok-None-clause-plain_tries : goal.returns-in-Ok-None-clause-plain_tries
+returns-in-Ok-None-clause-plain_tries c = tries
+
+pub returns-after-kind-clause-plain_tries : goal.returns-after-kind-clause-plain_tries
+returns-after-kind-clause-plain_tries c = tries

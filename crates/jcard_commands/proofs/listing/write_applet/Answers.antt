@@ -8,7 +8,8 @@ pub returns-in_err-write_name-clause-text : goal.returns-in_err-write_name-claus
 returns-in_err-write_name-clause-text g c =
     let p = err_from_is_err_and c.from_residual.result c.from_residual.ensures.1 in
     let v = c.args.named.now in
-    rw p.1 (cut_first _ _ (name_text (codes "applet ") c.args.number v.aid) (count_line (codes "package ") v.package_number) (rw c.aid.ensures.value at c.in_err-write_name.ensures.text))
+    rw p.1 (cut_first _ _ (name_text (codes "applet ") c.args.number v.aid) (count_line (codes "package ") v.package_number)
+    (rw c.aid.ensures.value at c.in_err-write_name.ensures.text))
 
 pub returns-clause-text : goal.returns-clause-text
 returns-clause-text g c =

@@ -9,4 +9,5 @@ pub returns-in-Ok-read_to_end-clause-bytes : goal.returns-in-Ok-read_to_end-clau
 returns-in-Ok-read_to_end-clause-bytes g c =
     let same : g.F.Read.remaining c.take.result.inner.now ≡ g.F.Read.remaining c.args.file.now = ap (λ b. g.F.Read.remaining b.now) c.take.ensures.inner in
     read_whole (g.F.Read.remaining c.args.file.now) _ _ _ _ c.in-Ok.ensures.items c.take.ensures.limit
-    (subst (λ (known : Option (List ℕ)). IfSome (option_map (take c.take.result.limit) known) (λ xs. c.read_to_end.new.buf.items ≡ c.in-Ok.text.items ++ xs)) same c.in-Ok-read_to_end.ensures.bytes)
+    (subst (λ (known : Option (List ℕ)). IfSome (option_map (take c.take.result.limit) known) (λ xs. c.read_to_end.new.buf.items ≡ c.in-Ok.text.items ++ xs))
+    same c.in-Ok-read_to_end.ensures.bytes)

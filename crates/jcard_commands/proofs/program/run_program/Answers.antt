@@ -1,22 +1,46 @@
-use Rattle.std.proofs.Common.{[], Err, refl, inl, inr}
-use Rattle.jcard_commands.specs.Asked.{asked}
+use Rattle.std.proofs.Common.{Err, ◌∙◌, ap, inl, inr}
+use Rattle.jc_words.specs.Count.{failures_after}
+use Rattle.jcard_script.proofs.Known.{appends_then_appends}
 use Rattle.jcard_commands.specs.declared.fault.Fault.TheVariants.{BadCommandLine, NoMemory}
+use Rattle.jcard_commands.proofs.Ends.{unbegun_told}
 use Rattle.jcard_commands.proofs.program.run_program.Goals as goal
 
-pub returns-in-Err-collect : goal.returns-in-Err-collect
-returns-in-Err-collect g c =
+pub returns-in_default : goal.returns-in_default
+returns-in_default g c =
     let told = c.tell.ensures.line in
-    ([], told.0, Err NoMemory, asked 0 0, told.1, told.2, inr (inl refl, refl, refl), told.3, told.4, c.tell.ensures.status)
+    unbegun_told _ _ _ _ _ told.0 told.1 (Err c.folder_fault.result) told.3 c.folder_fault.ensures told.2 told.4 c.tell.ensures.status
 
-pub returns-in-Err : goal.returns-in-Err
-returns-in-Err g c =
+pub returns-in-Ok-collect : goal.returns-in-Ok-collect
+returns-in-Ok-collect g c =
+    let done = c.perform-ended.ensures.done in
+    let told = c.tell-in-Ok-collect.ensures.line in
+    let failures = told.4 ∙ ap (λ n. failures_after n told.1) c.perform-ended.ensures.writes in (
+      done.0,
+      told.0,
+      c.perform-ended.result,
+      done.1,
+      told.1,
+      appends_then_appends _ _ _ done.0 told.0 done.2 told.2,
+      inl (_, done.3),
+      told.3,
+      failures,
+      c.tell-in-Ok-collect.ensures.status,
+    )
+
+pub returns-in-Ok-args : goal.returns-in-Ok-args
+returns-in-Ok-args g c =
+    let told = c.tell-in-Err-collect.ensures.line in
+    unbegun_told _ _ _ _ _ told.0 told.1 (Err NoMemory) told.3 tt told.2 told.4 c.tell-in-Err-collect.ensures.status
+
+pub returns : goal.returns
+returns g c =
     elim c.fault_of.ensures [
       | inl e ↦
           let told = rw e at c.tell-in-Err.ensures.line in
           let status = rw e at c.tell-in-Err.ensures.status in
-          ([], told.0, Err NoMemory, asked 0 0, told.1, told.2, inr (inl refl, refl, refl), told.3, told.4, status)
+          unbegun_told _ _ _ _ _ told.0 told.1 (Err NoMemory) told.3 tt told.2 told.4 status
       | inr e ↦
           let told = rw e at c.tell-in-Err.ensures.line in
           let status = rw e at c.tell-in-Err.ensures.status in
-          ([], told.0, Err BadCommandLine, asked 0 0, told.1, told.2, inr (inr refl, refl, refl), told.3, told.4, status)
+          unbegun_told _ _ _ _ _ told.0 told.1 (Err BadCommandLine) told.3 tt told.2 told.4 status
     ]

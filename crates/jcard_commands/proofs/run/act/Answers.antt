@@ -11,3 +11,8 @@ pub returns-in-Run-clause-done : goal.returns-in-Run-clause-done
 returns-in-Run-clause-done g c =
     let done = c.run_file.ensures.done in
     (done.0, done.1, done.2, rw c.in-Run.is done.3, done.4)
+
+pub returns-in-Try-clause-done : goal.returns-in-Try-clause-done
+returns-in-Try-clause-done g c =
+    let done = c.try_script.ensures.done in
+    (done.0, done.1, done.2, rw c.in-Try.is done.3, done.4)

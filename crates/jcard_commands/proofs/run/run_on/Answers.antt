@@ -11,4 +11,4 @@ returns-clause-done g c =
       passed = rw c.new.ensures c.requires.fresh;
       refused = rw c.new.ensures c.requires.unrefused;
     } in
-    (done.0, done.1, c.new.result, c.run_script-store.result.0, done.2, done.3, done.4, done.5, fresh, done.6)
+    (done.0, done.1, c.new.result, c.run_script-store.result.0, done.2, done.3, done.4, done.5, fresh, done.6, rw c.new.ensures refl)

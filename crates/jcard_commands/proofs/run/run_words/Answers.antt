@@ -1,5 +1,5 @@
 use Rattle.std.proofs.Common.{◌∙◌, ap}
-use Rattle.jcard_script.specs.Failures.{failures_after}
+use Rattle.jc_words.specs.Count.{failures_after}
 use Rattle.jcard_script.proofs.Known.{appends_then_appends}
 use Rattle.jcard_commands.proofs.run.run_words.Goals as goal
 

@@ -1,5 +1,5 @@
-use Rattle.jc_cap_fields.specs.ClassRefs.{class_ref_at}
-use Rattle.jc_cap_fields.proofs.Lent.{count_is}
+use Rattle.jc_cap_linkage.specs.ClassRefs.{class_ref_at}
+use Rattle.jc_cap_linkage.proofs.Lent.{count_is}
 use Rattle.jc_cap_code.proofs.class_lists.ClassRefs.count.Goals as goal
 
 pub returns : goal.returns

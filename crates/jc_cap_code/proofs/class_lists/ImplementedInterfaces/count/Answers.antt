@@ -1,5 +1,5 @@
 use Rattle.jc_cap_code.specs.Implemented.{implemented_at}
-use Rattle.jc_cap_fields.proofs.Lent.{count_is}
+use Rattle.jc_cap_linkage.proofs.Lent.{count_is}
 use Rattle.jc_cap_code.proofs.class_lists.ImplementedInterfaces.count.Goals as goal
 
 pub returns : goal.returns

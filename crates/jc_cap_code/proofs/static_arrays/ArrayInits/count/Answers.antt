@@ -1,5 +1,5 @@
 use Rattle.jc_cap_code.specs.StaticReading.{static_array_at}
-use Rattle.jc_cap_fields.proofs.Lent.{count_is}
+use Rattle.jc_cap_linkage.proofs.Lent.{count_is}
 use Rattle.jc_cap_code.proofs.static_arrays.ArrayInits.count.Goals as goal
 
 pub returns : goal.returns

@@ -1,8 +1,8 @@
 use Rattle.std.proofs.Common.{ap, subst, ◌∙◌}
-use Rattle.jc_memory.specs.Doing.{Makes}
-use Rattle.jc_card_load.specs.Ending.{package_ended}
+use Rattle.jc_memory.specs.Programs.{Executes}
+use Rattle.jc_card_load.specs.Ending.{end_of_load}
 use Rattle.jc_card.specs.CardState.{CardState}
-use Rattle.jc_card.specs.Loads.{load_ends}
+use Rattle.jc_card.specs.Loads.{end_load}
 use Rattle.jc_card.specs.Answers.{after_exchange}
 use Rattle.jc_card.proofs.Loaded.{ends_outside, ends_so}
 use Rattle.jc_card.proofs.card.Card.end_load.Goals as goal
@@ -14,5 +14,7 @@ invariant_of-self g c =
 
 pub returns : goal.returns
 returns g c =
-    subst (λ (v : CardState). Makes (load_ends v) v.memory (after_exchange c.said_of.result (record { memory = c.end_package-ended.new.memory; packages = c.end_package-ended.new.linked; load = c.end_package-ended.new.load }))) c.self.view_is
-    (ends_so (package_ended c.self.inside.linked c.self.inside.memory c.self.inside.load) c.self.inside.memory _ c.end_package-ended.result _ _ c.said_of.result c.said_of.ensures c.end_package-ended.ensures)
+    subst (λ (v : CardState). Executes (end_load v) v.memory (after_exchange c.response_of_end.result
+    (record { memory = c.end_package-ended.new.memory; packages = c.end_package-ended.new.linked; load = c.end_package-ended.new.load }))) c.self.view_is
+    (ends_so (end_of_load c.self.inside.linked c.self.inside.memory c.self.inside.load) c.self.inside.memory _ c.end_package-ended.result _ _
+    c.response_of_end.result c.response_of_end.ensures c.end_package-ended.ensures)

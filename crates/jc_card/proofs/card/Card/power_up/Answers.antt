@@ -2,8 +2,8 @@ use Rattle.std.proofs.Common.{◌≡◌, ◌∙◌, ap, subst, length}
 use Rattle.jc_commit.specs.Image.{recovered_of}
 use Rattle.jc_platform.specs.Tokens.{Tokens}
 use Rattle.jc_card.specs.Made.{IsMade}
-use Rattle.jc_card.specs.PowerUp.{HasHead, HasTable, HasHeap, Refuses, Fails}
-use Rattle.jc_commit.specs.State.{opened}
+use Rattle.jc_card.specs.PowerUp.{HasHead, HasTable, HasHeap, PowerUpRefuses, RecoveredWordsFail}
+use Rattle.jc_commit.specs.State.{recovered_journal}
 use Rattle.jc_commit.proofs.InPlace.{length-recovered}
 use Rattle.jc_heap.specs.Heap.{heap_of, heap_view}
 use Rattle.jc_card.specs.CardState.{CardState}
@@ -17,17 +17,21 @@ returns-in-Ok-clause-made g c =
     let w = g.S.WordStore.words c.args.store in
     let head : HasHead w = head_found c.check_image.result w c.in_default.not-Err c.check_image.ensures.ok.0 in
     mapped_on c.start.result ((t : Tokens) × HasTable c.in-Ok.image.plain t × HasHeap t c.in-Ok.image.plain) (IsMade w)
-    (λ found. let there : (t : Tokens) × HasTable (recovered_of w) t × HasHeap t (recovered_of w) = subst (λ l. (t : Tokens) × HasTable l t × HasHeap t l) (ap (λ j. j.plain) c.in-Ok.ensures.ok) found in
+    (λ found.
+    let there : (t : Tokens) × HasTable (recovered_of w) t × HasHeap t (recovered_of w)
+    = subst (λ l. (t : Tokens) × HasTable l t × HasHeap t l) (ap (λ j. j.plain) c.in-Ok.ensures.ok) found in
     made_found w head c.in-Ok.ensures.good there.0 there.1 there.2) c.start.ensures.ok
 
 pub returns-in-Err-clause-of_made : goal.returns-in-Err-clause-of_made
-returns-in-Err-clause-of_made g c = λ made. absurd (no_image_fault c.check_image.result c.in-Err.fault (g.S.WordStore.words c.args.store) c.in-Err.is c.check_image.ensures.ok.1 made)
+returns-in-Err-clause-of_made g c = λ made. absurd (no_image_fault c.check_image.result c.in-Err.fault
+    (g.S.WordStore.words c.args.store) c.in-Err.is c.check_image.ensures.ok.1 made)
 
 pub returns-in-Ok-clause-heap : goal.returns-in-Ok-clause-heap
 returns-in-Ok-clause-heap g c =
     let w = g.S.WordStore.words c.args.store in
-    let state = opened w (g.S.WordStore.passed c.args.store) (g.S.WordStore.refused c.args.store) in
-    mapped_if c.start.result (λ card. card.memory.heap ≡ heap_view c.in-Ok.image (length c.in-Ok.image.plain)) (λ card. card.memory.heap ≡ heap_view state (length w))
+    let state = recovered_journal w (g.S.WordStore.passed c.args.store) (g.S.WordStore.refused c.args.store) in
+    mapped_if c.start.result (λ card. card.memory.heap ≡ heap_view c.in-Ok.image (length c.in-Ok.image.plain))
+    (λ card. card.memory.heap ≡ heap_view state (length w))
     (λ card e. e ∙ ap (λ j. heap_view j (length (j.plain))) c.in-Ok.ensures.ok ∙ ap (heap_view state) (length-recovered w)) c.start.ensures.heap
 
 pub returns-in-Ok-clause-size : goal.returns-in-Ok-clause-size
@@ -40,18 +44,19 @@ pub returns-in-Ok-clause-cause : goal.returns-in-Ok-clause-cause
 returns-in-Ok-clause-cause g c =
     let w = g.S.WordStore.words c.args.store in
     let head : HasHead w = head_found c.check_image.result w c.in_default.not-Err c.check_image.ensures.ok.0 in
-    mapped_err c.start.result (λ e. Fails e.0 c.in-Ok.image.plain) (λ e. Refuses e.0 w)
-    (λ e f. refuses_from w e.0 head c.in-Ok.ensures.good (subst (Fails e.0) (ap (λ j. j.plain) c.in-Ok.ensures.ok) f)) c.start.ensures.cause
+    mapped_err c.start.result (λ e. RecoveredWordsFail e.0 c.in-Ok.image.plain) (λ e. PowerUpRefuses e.0 w)
+    (λ e f. refuses_from w e.0 head c.in-Ok.ensures.good (subst (RecoveredWordsFail e.0) (ap (λ j. j.plain) c.in-Ok.ensures.ok) f)) c.start.ensures.cause
 
 pub returns-in-Ok-clause-of_made : goal.returns-in-Ok-clause-of_made
 returns-in-Ok-clause-of_made g c =
     let w = g.S.WordStore.words c.args.store in
     let head : HasHead w = head_found c.check_image.result w c.in_default.not-Err c.check_image.ensures.ok.0 in
     λ made. refused_if c.start.result (λ e. e.0) w made
-    (mapped_err c.start.result (λ e. Fails e.0 c.in-Ok.image.plain) (λ e. Refuses e.0 w)
-    (λ e f. refuses_from w e.0 head c.in-Ok.ensures.good (subst (Fails e.0) (ap (λ j. j.plain) c.in-Ok.ensures.ok) f)) c.start.ensures.cause)
+    (mapped_err c.start.result (λ e. RecoveredWordsFail e.0 c.in-Ok.image.plain) (λ e. PowerUpRefuses e.0 w)
+    (λ e f. refuses_from w e.0 head c.in-Ok.ensures.good (subst (RecoveredWordsFail e.0) (ap (λ j. j.plain) c.in-Ok.ensures.ok) f)) c.start.ensures.cause)
 
 pub returns-in-Ok-clause-reset : goal.returns-in-Ok-clause-reset
 returns-in-Ok-clause-reset g c =
-    mapped_if c.start.result (λ card. IsAtReset (heap_of c.in-Ok.image.plain) card) (λ card. IsAtReset (heap_of (recovered_of (g.S.WordStore.words c.args.store))) card)
+    mapped_if c.start.result (λ card. IsAtReset (heap_of c.in-Ok.image.plain) card)
+    (λ card. IsAtReset (heap_of (recovered_of (g.S.WordStore.words c.args.store))) card)
     (λ card e. subst (λ l. IsAtReset (heap_of l) card) (ap (λ j. j.plain) c.in-Ok.ensures.ok) e) c.start.ensures.reset

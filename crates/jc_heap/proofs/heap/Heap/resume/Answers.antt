@@ -1,6 +1,6 @@
 use Rattle.std.proofs.Common.{◌∙◌, ap, sym, arith}
 use Rattle.jc_commit.specs.Image.{recovered_of}
-use Rattle.jc_commit.specs.State.{State, resumed}
+use Rattle.jc_commit.specs.State.{State, resumed_journal}
 use Rattle.jc_heap.specs.Heap.{heap_view}
 use Rattle.jc_heap.proofs.Changing.{same_sound}
 use Rattle.jc_heap.proofs.heap.Heap.resume.Goals as goal
@@ -19,4 +19,4 @@ pub returns : goal.returns
 returns g c =
     let w = g.S.WordStore.words c.args.store in
     ap (λ (j : State). heap_view j c.size-size.result) c.resume.ensures.state
-    ∙ ap (heap_view (resumed w (g.S.WordStore.passed c.args.store) (g.S.WordStore.refused c.args.store))) c.size-size.ensures
+    ∙ ap (heap_view (resumed_journal w (g.S.WordStore.passed c.args.store) (g.S.WordStore.refused c.args.store))) c.size-size.ensures

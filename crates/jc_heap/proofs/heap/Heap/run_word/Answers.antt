@@ -42,6 +42,9 @@ returns-clause-fits g c =
       | inr n ↦ omega (arith, n)
     ] in
     let last : c.args.i + (length c.args.values.now - 1) < length (cells c.args.self.now.now c.args.object) = omega (arith, some, c.requires.cells) in
-    let spot : (c.args.object + (4 + (c.args.i + (length c.args.values.now - 1))) < length c.self.inside.journal.plain) × (text_start ≤ c.args.object + (4 + (c.args.i + (length c.args.values.now - 1)))) = cell_spot c.self.inside.journal c.args.self.now c.self.inside.size c.args.object (c.args.i + (length c.args.values.now - 1)) c.self.view_is last in
-    let size : length c.self.inside.journal.plain ≡ c.self.inside.size = c.self.invariant.size_now (up_is c.self.inside.journal c.args.self.now c.self.inside.size c.self.view_is c.requires.up) in
+    let spot : (c.args.object + (4 + (c.args.i + (length c.args.values.now - 1))) < length c.self.inside.journal.plain)
+    × (text_start ≤ c.args.object + (4 + (c.args.i + (length c.args.values.now - 1)))) =
+    cell_spot c.self.inside.journal c.args.self.now c.self.inside.size c.args.object (c.args.i + (length c.args.values.now - 1)) c.self.view_is last in
+    let size : length c.self.inside.journal.plain ≡ c.self.inside.size = c.self.invariant.size_now
+    (up_is c.self.inside.journal c.args.self.now c.self.inside.size c.self.view_is c.requires.up) in
     omega (arith, spot.0, size, c.self.invariant.small, c.cell_word.ensures, some)

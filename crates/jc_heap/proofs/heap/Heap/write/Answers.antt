@@ -1,7 +1,7 @@
 use Rattle.std.proofs.Common.{◌≡◌, ◌∙◌, [], ◌∷◌, length, refl, subst, sym, ap, inl, inr, Err, true}
 use Rattle.jc_commit.specs.State.{Changes, has_room_for as journal_room}
 use Rattle.jc_heap.specs.Heap.{IsSound, heap_view, has_room_for}
-use Rattle.jc_heap.specs.Moves.{Write, full_at}
+use Rattle.jc_heap.specs.Moves.{Write, refusal_at}
 use Rattle.jc_heap.specs.Places.{place_word}
 use Rattle.jc_heap.proofs.Changing.{up_is, refusal_cases, journal_stopped_sound}
 use Rattle.jc_heap.proofs.Calls.{ok_not_err, not_false, room_is, not_full, unless_done}
@@ -10,7 +10,9 @@ use Rattle.jc_heap.proofs.heap.Heap.write.Goals as goal
 
 pub write-requires-clause-place : goal.write-requires-clause-place
 write-requires-clause-place g c =
-    let spot : PlaceSpot (length c.self.inside.journal.plain) (place_word c.args.place) = place_spot c.self.inside.journal c.args.self.now c.self.inside.size c.args.place c.self.view_is (c.self.invariant.now (up_is c.self.inside.journal c.args.self.now c.self.inside.size c.self.view_is c.requires.up)) c.requires.there in
+    let spot : PlaceSpot (length c.self.inside.journal.plain) (place_word c.args.place) =
+    place_spot c.self.inside.journal c.args.self.now c.self.inside.size c.args.place c.self.view_is
+    (c.self.invariant.now (up_is c.self.inside.journal c.args.self.now c.self.inside.size c.self.view_is c.requires.up)) c.requires.there in
     rw c.place_word-word.ensures (place_logged (length c.self.inside.journal.plain) (place_word c.args.place) spot)
 
 pub invariant_of-self : goal.invariant_of-self
@@ -23,13 +25,18 @@ pub invariant_of-self-2 : goal.invariant_of-self-2
 invariant_of-self-2 g c =
     let there : Changes ((place_word c.args.place, c.args.v) ∷ []) c.self.inside.journal c.write.new.self =
     subst (λ a. Changes ((a, c.args.v) ∷ []) c.self.inside.journal c.write.new.self) c.place_word-word.ensures c.in_ok-write.ensures.ok in
-    place_sound c.self.inside.journal c.write.new.self c.args.self.now c.self.inside.size c.args.place c.args.v c.self.view_is c.requires.there (up_is c.self.inside.journal c.args.self.now c.self.inside.size c.self.view_is c.requires.up) c.self.invariant there
+    place_sound c.self.inside.journal c.write.new.self c.args.self.now c.self.inside.size c.args.place c.args.v c.self.view_is c.requires.there
+    (up_is c.self.inside.journal c.args.self.now c.self.inside.size c.self.view_is c.requires.up) c.self.invariant there
 
 pub returns : goal.returns
 returns g c =
     let there : Changes ((place_word c.args.place, c.args.v) ∷ []) c.self.inside.journal c.write.new.self =
     subst (λ a. Changes ((a, c.args.v) ∷ []) c.self.inside.journal c.write.new.self) c.place_word-word.ensures c.in_ok-write.ensures.ok in
     let room : has_room_for c.args.self.now (place_word c.args.place ∷ []) ≡ true =
-    not_false _ (λ f. ok_not_err _ _ (c.in_ok-write.ensures.full.1 (ap (λ a. journal_room c.self.inside.journal.in_transaction c.self.inside.journal.touched (a ∷ [])) c.place_word-word.ensures ∙ sym (room_is c.self.inside.journal c.args.self.now c.self.inside.size (place_word c.args.place ∷ []) c.self.view_is) ∙ f))) in
-    unless_done (full_at c.args.self.now (place_word c.args.place ∷ [])) c.args.self.now (heap_view c.write.new.self c.self.inside.size) (Write c.args.place c.args.v) tt tt (not_full c.args.self.now (place_word c.args.place ∷ []) room) refl
-    (place_view c.self.inside.journal c.write.new.self c.args.self.now c.self.inside.size c.args.place c.args.v c.self.view_is (c.self.invariant.now (up_is c.self.inside.journal c.args.self.now c.self.inside.size c.self.view_is c.requires.up)) c.requires.there there)
+    not_false _ (λ f. ok_not_err _ _ (c.in_ok-write.ensures.full.1 (ap (λ a. journal_room c.self.inside.journal.in_transaction c.self.inside.journal.touched
+    (a ∷ [])) c.place_word-word.ensures ∙ sym (room_is c.self.inside.journal c.args.self.now c.self.inside.size
+    (place_word c.args.place ∷ []) c.self.view_is) ∙ f))) in
+    unless_done (refusal_at c.args.self.now (place_word c.args.place ∷ [])) c.args.self.now (heap_view c.write.new.self c.self.inside.size)
+    (Write c.args.place c.args.v) tt tt (not_full c.args.self.now (place_word c.args.place ∷ []) room) refl
+    (place_view c.self.inside.journal c.write.new.self c.args.self.now c.self.inside.size c.args.place c.args.v c.self.view_is
+    (c.self.invariant.now (up_is c.self.inside.journal c.args.self.now c.self.inside.size c.self.view_is c.requires.up)) c.requires.there there)

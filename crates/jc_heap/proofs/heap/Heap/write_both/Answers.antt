@@ -6,13 +6,20 @@ use Rattle.jc_heap.proofs.heap.Heap.write_both.Goals as goal
 
 pub write_both-requires-clause-place : goal.write_both-requires-clause-place
 write_both-requires-clause-place g c =
-    let spot : PlaceSpot (length c.self.inside.journal.plain) (place_word c.args.place) = place_spot c.self.inside.journal c.args.self.now c.self.inside.size c.args.place c.self.view_is (c.self.invariant.now (up_is c.self.inside.journal c.args.self.now c.self.inside.size c.self.view_is c.requires.up)) c.requires.there in
+    let spot : PlaceSpot (length c.self.inside.journal.plain) (place_word c.args.place) =
+    place_spot c.self.inside.journal c.args.self.now c.self.inside.size c.args.place c.self.view_is
+    (c.self.invariant.now (up_is c.self.inside.journal c.args.self.now c.self.inside.size c.self.view_is c.requires.up)) c.requires.there in
     rw c.place_word-word.ensures (place_unlogged (length c.self.inside.journal.plain) (place_word c.args.place) spot)
 
 pub invariant_of-self-2 : goal.invariant_of-self-2
 invariant_of-self-2 g c =
-    rw (c.in_ok-write_both.ensures.ok, c.place_word-word.ensures) (both_sound c.self.inside.journal c.args.self.now c.self.inside.size c.args.place c.args.v c.self.view_is c.requires.there (up_is c.self.inside.journal c.args.self.now c.self.inside.size c.self.view_is c.requires.up) c.self.invariant)
+    rw (c.in_ok-write_both.ensures.ok, c.place_word-word.ensures) (both_sound c.self.inside.journal c.args.self.now c.self.inside.size c.args.place c.args.v
+    c.self.view_is c.requires.there (up_is c.self.inside.journal c.args.self.now c.self.inside.size c.self.view_is c.requires.up) c.self.invariant)
 
 pub returns : goal.returns
-returns g c =
-    (refl, rw (c.in_ok-write_both.ensures.ok, c.place_word-word.ensures) (both_view c.self.inside.journal c.args.self.now c.self.inside.size c.args.place c.args.v c.self.view_is c.requires.there (up_is c.self.inside.journal c.args.self.now c.self.inside.size c.self.view_is c.requires.up) c.self.invariant))
+returns g c = (
+  refl,
+  rw (c.in_ok-write_both.ensures.ok, c.place_word-word.ensures) (both_view c.self.inside.journal c.args.self.now c.self.inside.size c.args.place
+      c.args.v c.self.view_is c.requires.there (up_is c.self.inside.journal c.args.self.now c.self.inside.size c.self.view_is c.requires.up)
+      c.self.invariant),
+)

@@ -9,7 +9,16 @@ returns-then-not-is_heap-clause-store g c =
     let e = c.into_store.ensures in
     subst (HoldsImage (g.S.WordStore.words s) (g.S.WordStore.down s) (g.S.WordStore.passed s) (g.S.WordStore.refused s)) c.self.view_is
     (holds_image _ _ _ _ c.self.inside.journal c.self.inside.size
-    (record { good = e.good; plain = e.plain; recovered = e.recovered; size = e.size; down = e.down; passed = e.passed; refused = e.refused; closed = e.closed })
+    (record {
+      good = e.good;
+      plain = e.plain;
+      recovered = e.recovered;
+      size = e.size;
+      down = e.down;
+      passed = e.passed;
+      refused = e.refused;
+      closed = e.closed;
+    })
     c.self.invariant)
 
 pub returns-then-not-begins_with-clause-store : goal.returns-then-not-begins_with-clause-store
@@ -18,5 +27,14 @@ returns-then-not-begins_with-clause-store g c =
     let e = c.into_store-then-not-begins_with.ensures in
     subst (HoldsImage (g.S.WordStore.words s) (g.S.WordStore.down s) (g.S.WordStore.passed s) (g.S.WordStore.refused s)) c.self.view_is
     (holds_image _ _ _ _ c.self.inside.journal c.self.inside.size
-    (record { good = e.good; plain = e.plain; recovered = e.recovered; size = e.size; down = e.down; passed = e.passed; refused = e.refused; closed = e.closed })
+    (record {
+      good = e.good;
+      plain = e.plain;
+      recovered = e.recovered;
+      size = e.size;
+      down = e.down;
+      passed = e.passed;
+      refused = e.refused;
+      closed = e.closed;
+    })
     c.self.invariant)

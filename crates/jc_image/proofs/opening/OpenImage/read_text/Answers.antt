@@ -16,7 +16,8 @@ loop-i-preserved g c =
     let whole : length (table_text ws) ≡ get_or ws text_length_address 0 = length-table_text ws in
     record {
       long = length-set into i c.text_byte.result ∙ inv.long;
-      done = take_more_same (set into i c.text_byte.result) (table_text ws) i 0 (omega (arith, within, length-set into i c.text_byte.result)) (omega (arith, near, whole))
+      done = take_more_same (set into i c.text_byte.result) (table_text ws) i 0 (omega (arith, within, length-set into i c.text_byte.result))
+          (omega (arith, near, whole))
           (take-set into i c.text_byte.result ∙ inv.done)
           (get_or-set_same into i c.text_byte.result 0 within ∙ c.text_byte.ensures ∙ sym (table_text-byte ws i near));
     }

@@ -1,5 +1,5 @@
 use Rattle.std.proofs.Common.{◌≡◌, ℕ, length}
-use Rattle.jc_packages.specs.Classes.{any_is, lineage}
+use Rattle.jc_linker.specs.Classes.{any_is, lineage}
 use Rattle.jc_linker.proofs.scope.Scope.is_below.Given as goal
 
 abbrev pub invariant-loop-above : goal.invariant-loop-above

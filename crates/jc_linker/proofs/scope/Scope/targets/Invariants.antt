@@ -1,7 +1,7 @@
 use Rattle.std.proofs.Common.{◌≡◌, ◌≤◌, ◌++◌, ℕ, List, [], ◌∷◌, Ok, length, take, drop, map}
-use Rattle.jc_linker.specs.Answers.{onto}
+use Rattle.jc_linker.specs.Answers.{list_append}
 use Rattle.jc_linker.specs.Linking.{targets_from}
 use Rattle.jc_linker.proofs.scope.Scope.targets.Given as goal
 
 abbrev pub invariant-loop-index : goal.invariant-loop-index
-invariant-loop-index l = targets_from l.self l.number 0 l.pool ≡ onto l.targets.items (targets_from l.self l.number l.index (drop l.index l.pool))
+invariant-loop-index l = targets_from l.self l.number 0 l.pool ≡ list_append l.targets.items (targets_from l.self l.number l.index (drop l.index l.pool))

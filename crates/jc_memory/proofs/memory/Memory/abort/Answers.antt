@@ -5,5 +5,9 @@ use Rattle.jc_memory.proofs.memory.Memory.abort.Goals as goal
 
 pub invariant_of-self-2 : goal.invariant_of-self-2
 invariant_of-self-2 g c =
-    let up = ap (λ s. s.heap.down) c.self.view_is ∙ c.requires.up in
-    (search rules, still_marked c.self.inside.marks c.forget.new.self c.self.inside.heap c.abort.new.self c.top-before.result (c.self.invariant.0.heap up) c.top-before.ensures.top (c.self.invariant.1 up) (c.in_ok-abort.ensures.moves.1) (λ r marked. let left = c.forget.ensures r marked in (left.0, subst (λ n. (r < n) ⊎ (c.top-before.result ≤ r)) c.top-top.ensures.top left.1)))
+    let up = ap (λ s. s.heap.down) c.self.view_is ∙ c.requires.up in (
+      search rules,
+      still_marked c.self.inside.marks c.forget.new.self c.self.inside.heap c.abort.new.self c.top-before.result
+          (c.self.invariant.0.heap up) c.top-before.ensures.top (c.self.invariant.1 up) (c.in_ok-abort.ensures.moves.1)
+          (λ r marked. let left = c.forget.ensures r marked in (left.0, subst (λ n. (r < n) ⊎ (c.top-before.result ≤ r)) c.top-top.ensures.top left.1)),
+    )

@@ -9,4 +9,5 @@ loop-k-preserved g c =
     read_more (byte_at c.args.self.now c.args.object) c.loop-k.out c.args.i c.loop-k.k c.byte.result within c.byte.ensures c.loop-k.invariant
 
 pub returns : goal.returns
-returns g c = read_all (byte_at c.args.self.now c.args.object) c.loop-k.out c.args.i c.loop-k.k (length c.args.out.now) (omega arith) (omega arith) c.loop-k.invariant
+returns g c = read_all (byte_at c.args.self.now c.args.object) c.loop-k.out c.args.i c.loop-k.k (length c.args.out.now) (omega arith)
+    (omega arith) c.loop-k.invariant

@@ -9,7 +9,11 @@ pub returns : goal.returns
 returns g c =
     let ram = ap (λ s. s.ram) c.self.view_is in
     let is = c.facts-place.ensures.is in
-    let fits : c.facts-place.result.place + length c.args.bytes.now ≤ area_size = omega (arith, c.facts-place.ensures.transient c.args.event (ap (λ f. f.event) is ∙ c.requires.transient), ap (λ f. f.length) is, c.requires.cells) in
-    let mid = c.put_bytes.ensures.done ∙ ap (λ r. with_area r c.args.event (with_cells (area r c.args.event) c.facts-place.result.place (map number_of c.args.bytes.now))) ram in
+    let fits : c.facts-place.result.place + length c.args.bytes.now ≤ area_size = omega
+    (arith, c.facts-place.ensures.transient c.args.event (ap (λ f. f.event) is ∙ c.requires.transient), ap (λ f. f.length) is, c.requires.cells) in
+    let mid = c.put_bytes.ensures.done ∙ ap (λ r. with_area r c.args.event (with_cells (area r c.args.event) c.facts-place.result.place
+    (map number_of c.args.bytes.now))) ram in
     ap {A = MemoryState} (λ s. record s { ram = c.fill.new.self }) c.self.view_is
-    ∙ ap {A = RamState} (λ r. record c.args.self.now { ram = r }) (filled_from c.args.event c.args.self.now c.put_bytes.new.self c.fill.new.self c.args.object c.facts-place.result.place c.args.zeros c.args.bytes.now (subst HasSizes ram c.self.invariant.0.ram) c.requires.transient (ap (λ f. f.place) is) fits mid c.fill.ensures.done)
+    ∙ ap {A = RamState} (λ r. record c.args.self.now { ram = r }) (filled_from c.args.event c.args.self.now c.put_bytes.new.self c.fill.new.self c.args.object
+    c.facts-place.result.place c.args.zeros c.args.bytes.now (subst HasSizes ram c.self.invariant.0.ram) c.requires.transient
+    (ap (λ f. f.place) is) fits mid c.fill.ensures.done)

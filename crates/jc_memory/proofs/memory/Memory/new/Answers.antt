@@ -5,7 +5,8 @@ use Rattle.jc_memory.proofs.memory.Memory.new.Goals as goal
 pub invariant_of-result : goal.invariant_of-result
 invariant_of-result g c = (
   record {
-    heap = λ up. at_rest c.args.heap c.requires.whole c.top.ensures.end (subst (λ n. 0 < n) c.top.ensures.top c.top.ensures.some) (c.is_open.ensures.settled c.requires.up (c.is_open.ensures.open ∙ c.requires.rests));
+    heap = λ up. at_rest c.args.heap c.requires.whole c.top.ensures.end (subst (λ n. 0 < n) c.top.ensures.top c.top.ensures.some)
+        (c.is_open.ensures.settled c.requires.up (c.is_open.ensures.open ∙ c.requires.rests));
     ram = c.requires.sizes;
   },
   c.scan.ensures,

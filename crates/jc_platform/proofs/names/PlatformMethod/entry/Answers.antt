@@ -5,18 +5,18 @@ use Rattle.jc_platform.specs.declared.names.PlatformClass.TheVariants.{Object}
 use Rattle.jc_platform.specs.declared.names.PlatformMethod.TheVariants.{ObjectInit}
 use Rattle.jc_platform.specs.Names.{MethodEntry, method_entry, methods}
 use Rattle.jc_platform.specs.Numbers.{method_number}
-use Rattle.jc_platform.specs.Seen.{seen_method}
+use Rattle.jc_platform.specs.Seen.{method_value}
 use Rattle.jc_platform.proofs.Distinct.{method_places}
 use Rattle.jc_platform.proofs.names.PlatformMethod.entry.Goals as goal
 
 pub bounds-all_methods-index : goal.bounds-all_methods-index
 bounds-all_methods-index c =
     let names = c.all_methods.result.now in
-    let many : length names ≡ 83 = sym (length-map names seen_method) ∙ ap length c.all_methods.ensures ∙ method_places in
+    let many : length names ≡ 83 = sym (length-map names method_value) ∙ ap length c.all_methods.ensures ∙ method_places in
     omega (arith, c.index.ensures.bound, many)
 
 pub returns : goal.returns
 returns c =
     let none : MethodEntry = method_entry Object Static ObjectInit 1 [] in
-    let seen = sym (get_or-map seen_method c.all_methods.result.now c.index.result _ none (bounds-all_methods-index c)) in
+    let seen = sym (get_or-map method_value c.all_methods.result.now c.index.result _ none (bounds-all_methods-index c)) in
     seen ∙ ap (λ l. get_or l c.index.result none) c.all_methods.ensures ∙ ap (λ (n : ℕ). get_or methods n none) c.index.ensures.place

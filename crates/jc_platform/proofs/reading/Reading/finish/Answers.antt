@@ -33,4 +33,5 @@ returns c =
     let framework = c.in_ok-framework.framework in
     let versions = versions_are r java_lang framework (sym c.version.ensures ∙ c.in_ok-java_lang.was) (sym c.version-2.ensures ∙ c.in_ok-framework.was) in
     subst (λ (t : Tokens). AreThoseOf (above_of r) t) (sym c.new.ensures)
-    (those_of r c.in_ok-first.first (java_lang ∷ framework ∷ []) c.copy_tokens.new.all c.copy_tokens-2.new.all c.in_ok-first.was versions refl (omega arith) (omega arith) (omega arith) c.in_ok-copy_tokens.ensures (omega arith) c.in_ok-copy_tokens-2.ensures)
+    (those_of r c.in_ok-first.first (java_lang ∷ framework ∷ []) c.copy_tokens.new.all c.copy_tokens-2.new.all c.in_ok-first.was versions refl (omega arith)
+    (omega arith) (omega arith) c.in_ok-copy_tokens.ensures (omega arith) c.in_ok-copy_tokens-2.ensures)

@@ -5,12 +5,14 @@ use Rattle.jc_platform.specs.Names.{methods}
 use Rattle.jc_platform.specs.Numbers.{same_class, same_kind}
 use Rattle.jc_platform.specs.Reading.{above_of}
 use Rattle.jc_platform.specs.Rows.{is_token}
-use Rattle.jc_platform.specs.Seen.{seen_method}
+use Rattle.jc_platform.specs.Seen.{method_value}
 use Rattle.jc_platform.proofs.Lists.{any_through}
 use Rattle.jc_platform.proofs.reading.Reading.has_method_token.Goals as goal
 
 pub returns : goal.returns
 returns c =
     let above = above_of c.args.self.now in
-    any_through (λ e. same_class e.class c.args.class && same_kind e.kind c.args.kind && is_token (above.method_token e.method) c.args.token) seen_method c.all_methods.result.now methods c.any.result c.all_methods.ensures
-    (any_from_yields_List (λ e. same_class e.class c.args.class && same_kind e.kind c.args.kind && is_token (above.method_token e.method) c.args.token) _ _ _ c.any.ensures.ran (YieldsList-from_slice c.all_methods.result.now cc) (λ x b q k. search (rules, tests)))
+    any_through (λ e. same_class e.class c.args.class && same_kind e.kind c.args.kind && is_token (above.method_token e.method) c.args.token) method_value
+    c.all_methods.result.now methods c.any.result c.all_methods.ensures
+    (any_from_yields_List (λ e. same_class e.class c.args.class && same_kind e.kind c.args.kind && is_token (above.method_token e.method) c.args.token) _ _ _
+    c.any.ensures.ran (YieldsList-from_slice c.all_methods.result.now cc) (λ x b q k. search (rules, tests)))

@@ -1,13 +1,16 @@
 use Rattle.std.proofs.Common.{◌∙◌, ◌∙◌, ap, map}
-use Rattle.jc_transient.specs.Cells.{cleared}
+use Rattle.jc_transient.specs.Cells.{default_value}
 use Rattle.jc_transient.proofs.Clearing.{cleared_in, keeps_cleared, lent_done}
 use Rattle.jc_transient.proofs.area.Area.clear.Goals as goal
 
 pub invariant_of-self : goal.invariant_of-self
 invariant_of-self c =
-    cleared_in c.self.inside.cells.items _ (lent_done cleared keeps_cleared c.self.inside.used c.self.inside.cells.len c.self.inside.cells.items c.as_mut_slice.result.now c.clear_cells.new.cells c.self.inside.cells.ok.0 c.as_mut_slice.ensures.value c.clear_cells.ensures c.clear_cells.auto.cells c.self.invariant).0
+    cleared_in c.self.inside.cells.items _ (lent_done default_value keeps_cleared c.self.inside.used c.self.inside.cells.len c.self.inside.cells.items
+    c.as_mut_slice.result.now c.clear_cells.new.cells c.self.inside.cells.ok.0 c.as_mut_slice.ensures.value c.clear_cells.ensures c.clear_cells.auto.cells
+    c.self.invariant).0
 
 pub returns : goal.returns
 returns c =
-    (lent_done cleared keeps_cleared c.self.inside.used c.self.inside.cells.len c.self.inside.cells.items c.as_mut_slice.result.now c.clear_cells.new.cells c.self.inside.cells.ok.0 c.as_mut_slice.ensures.value c.clear_cells.ensures c.clear_cells.auto.cells c.self.invariant).0
-    ∙ ap (map cleared) c.self.view_is
+    (lent_done default_value keeps_cleared c.self.inside.used c.self.inside.cells.len c.self.inside.cells.items c.as_mut_slice.result.now
+    c.clear_cells.new.cells c.self.inside.cells.ok.0 c.as_mut_slice.ensures.value c.clear_cells.ensures c.clear_cells.auto.cells c.self.invariant).0
+    ∙ ap (map default_value) c.self.view_is

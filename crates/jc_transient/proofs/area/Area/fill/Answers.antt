@@ -5,4 +5,7 @@ use Rattle.jc_transient.proofs.area.Area.fill.Goals as goal
 
 pub invariant_of-self : goal.invariant_of-self
 invariant_of-self c =
-    lent_put c.self.inside.used c.max-self-inside.result c.args.place c.self.inside.cells.len c.self.inside.cells.items c.as_mut_slice.result.now _ c.fill_cells.new.cells c.self.inside.cells.ok.0 c.as_mut_slice.ensures.value c.fill_cells.ensures c.fill_cells.auto.cells (omega (arith, length-replicate c.args.count c.args.value, ap length c.as_mut_slice.ensures.value, ap length c.self.view_is, c.requires)) (c.max-self-inside.ensures ∙ ap (λ k. max c.self.inside.used (c.args.place + k)) (sym (length-replicate c.args.count c.args.value))) c.self.invariant
+    lent_put c.self.inside.used c.max-self-inside.result c.args.place c.self.inside.cells.len c.self.inside.cells.items c.as_mut_slice.result.now _
+    c.fill_cells.new.cells c.self.inside.cells.ok.0 c.as_mut_slice.ensures.value c.fill_cells.ensures c.fill_cells.auto.cells
+    (omega (arith, length-replicate c.args.count c.args.value, ap length c.as_mut_slice.ensures.value, ap length c.self.view_is, c.requires))
+    (c.max-self-inside.ensures ∙ ap (λ k. max c.self.inside.used (c.args.place + k)) (sym (length-replicate c.args.count c.args.value))) c.self.invariant

@@ -22,6 +22,10 @@ loop-byte-init g c = record {
   number = omega arith;
   held = c.requires.held;
   failures = refl;
-  goes = λ script text first h.
-      ([], appends_same _, subst (λ l. StandsAt c.args.self.now first l (text ++ [])) (sym (append-nil script)) (subst (λ t. StandsAt c.args.self.now first script t) (sym (append-nil text)) h));
+  goes = λ script text first h. (
+    [],
+    appends_same _,
+    subst (λ l. StandsAt c.args.self.now first l (text ++ [])) (sym (append-nil script))
+        (subst (λ t. StandsAt c.args.self.now first script t) (sym (append-nil text)) h),
+  );
 }

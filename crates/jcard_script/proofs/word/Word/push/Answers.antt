@@ -12,5 +12,6 @@ returns c = λ line w.
       take_step 6 old new line c.args.byte w.0
           (λ room. pushed_room c.try_push.result old new 6 c.args.byte c.try_push.ensures.variant c.try_push.ensures.ok room)
           (λ full. pushed_full c.try_push.result old new 6 _ c.try_push.ensures.variant c.try_push.ensures.err (λ e. cc e) full),
-      c.with_digit-self.ensures ∙ ap (λ n. next_number n c.args.byte) w.1 ∙ sym (ap number_so_far (drop_long line c.args.byte fit) ∙ number_push (drop 5 line) c.args.byte),
+      c.with_digit-self.ensures ∙ ap (λ n. next_number n c.args.byte) w.1 ∙ sym (ap number_so_far (drop_long line c.args.byte fit)
+          ∙ number_push (drop 5 line) c.args.byte),
     )

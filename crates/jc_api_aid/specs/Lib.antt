@@ -1,2 +1,0 @@
-pub mod AidCells
-pub mod AidCalls

@@ -1,2 +1,0 @@
-pub mod Register
-pub mod Applet

@@ -1,8 +1,0 @@
-//! The calls of `Applet` (API specification).
-#![tactic(auto)]
-
-mod applet;
-mod asking;
-mod registering;
-
-pub use applet::call_applet;

@@ -1,4 +1,0 @@
-pub mod Numbers
-pub mod Answers
-pub mod Arrays
-pub mod Instances

@@ -1,0 +1,4 @@
+pub mod Runs
+pub mod Orders
+pub mod InARow
+pub mod Settling

@@ -1,0 +1,139 @@
+-- APDU (API specification): how far the command has come, and what its methods do.
+use Rattle.std.specs.Prelude.{ℕ, ℤ, pos, negsuc, ◌+◌, ◌-◌, ◌==◌, ◌||◌, nat_lt, nat_le, Bool, false, List, length, if◌then◌else◌, Result, Ok, Err}
+use Rattle.std.specs.Int.{w16, cast_signed}
+use Rattle.jc_frames.specs.declared.cell.Cell.{Cell}
+use Rattle.jc_frames.specs.declared.cell.Cell.TheVariants.{Short, Reference}
+use Rattle.jc_frames.specs.Reasons.{bad_length, buffer_bounds, illegal_use}
+use Rattle.jc_frames.specs.declared.outcome.FrameExit.{FrameExit}
+use Rattle.jc_frames.specs.declared.outcome.FrameExit.TheVariants.{Throw}
+use Rattle.jc_memory.specs.declared.registers.ApduPhase.{ApduPhase}
+use Rattle.jc_memory.specs.declared.registers.ApduPhase.TheVariants.{Waiting, Received, Outgoing, Sending}
+use Rattle.jc_memory.specs.declared.registers.Registers.{Registers}
+use Rattle.jc_memory.specs.State.{MemoryState, SetRegisters, SendBytes}
+use Rattle.jc_memory.specs.Programs.{Perform, bind}
+use Rattle.jc_memory.specs.Cells.{bytes_at, cells_refusal, cells_effect}
+use Rattle.jc_platform.specs.declared.names.PlatformMethod.{PlatformMethod}
+use Rattle.jc_platform.specs.declared.names.PlatformMethod.TheVariants.{ApduGetBuffer, ApduReceiveBytes, ApduSendBytes, ApduSetIncomingAndReceive}
+use Rattle.jc_platform.specs.declared.names.PlatformMethod.TheVariants.{ApduSetOutgoing, ApduSetOutgoingAndSend, ApduSetOutgoingLength}
+use Rattle.jc_world.specs.declared.native_result.NativeResult.TheVariants.{ReturnVoid, ReturnValue}
+use Rattle.jc_world.specs.NativeCalls.{NativeProgram, return_value, throw_exception, code_fault, if_some, if_ok, unless}
+use Rattle.jc_world.specs.Objects.{short_argument}
+use Rattle.jc_api_data.specs.declared.apdu_send.Piece.{Piece}
+use Rattle.jc_api_data.specs.ApduBuffer.{buffer_size, buffer_of, data_of}
+
+abbrev pub phase_of : MemoryState → ApduPhase
+phase_of m = m.registers.apdu.phase
+
+-- the registers of a command that has come so far
+abbrev pub with_phase : MemoryState → ApduPhase → Registers
+with_phase m phase = record m.registers { apdu = record m.registers.apdu { phase = phase } }
+
+abbrev pub with_phase_set : MemoryState → ApduPhase → NativeProgram → NativeProgram
+with_phase_set m phase rest = Perform (SetRegisters (with_phase m phase)) rest
+
+abbrev pub returns_short : ℤ → NativeProgram
+returns_short v = return_value (ReturnValue (Short v))
+
+-- APDU.getBuffer: the APDU buffer
+abbrev pub apdu_get_buffer : MemoryState → NativeProgram
+apdu_get_buffer m = if_some (buffer_of m) (λ buffer. return_value (ReturnValue (Reference buffer)))
+
+-- setIncomingAndReceive, by how far the command has come
+abbrev pub receive_in_phase : MemoryState → ApduPhase → NativeProgram
+receive_in_phase m Waiting = if_some (buffer_of m) (λ buffer.
+    unless (cells_refusal m buffer 5 (data_of m.command)) (Perform (cells_effect m buffer 5 (data_of m.command))
+    (with_phase_set m Received (returns_short (cast_signed w16 (length (data_of m.command)))))))
+receive_in_phase m Received = throw_exception illegal_use
+receive_in_phase m Outgoing = throw_exception illegal_use
+receive_in_phase m (Sending left) = throw_exception illegal_use
+
+-- APDU.setIncomingAndReceive: the data stand in the buffer behind the header, and their number is returned;
+-- once, and before anything is sent
+unfoldable pub apdu_set_incoming_and_receive : MemoryState → NativeProgram
+apdu_set_incoming_and_receive m = receive_in_phase m (phase_of m)
+
+-- APDU.receiveBytes: 0, since all data were received at once
+abbrev pub apdu_receive_bytes : ApduPhase → NativeProgram
+apdu_receive_bytes Waiting = throw_exception illegal_use
+apdu_receive_bytes Received = returns_short (pos 0)
+apdu_receive_bytes Outgoing = throw_exception illegal_use
+apdu_receive_bytes (Sending left) = throw_exception illegal_use
+
+-- how many bytes the command expects: 256 where it says 0 or nothing
+abbrev pub expected_of : MemoryState → ℕ
+expected_of m = if m.registers.apdu.expected == 0 then 256 else m.registers.apdu.expected
+
+-- setOutgoing, by how far the command has come
+abbrev pub set_outgoing_in_phase : MemoryState → ApduPhase → NativeProgram
+set_outgoing_in_phase m Waiting = with_phase_set m Outgoing (returns_short (cast_signed w16 (expected_of m)))
+set_outgoing_in_phase m Received = with_phase_set m Outgoing (returns_short (cast_signed w16 (expected_of m)))
+set_outgoing_in_phase m Outgoing = throw_exception illegal_use
+set_outgoing_in_phase m (Sending left) = throw_exception illegal_use
+
+-- APDU.setOutgoing: the number of bytes that the command expects, 256 where it says 0 or nothing; once
+unfoldable pub apdu_set_outgoing : MemoryState → NativeProgram
+apdu_set_outgoing m = set_outgoing_in_phase m (phase_of m)
+
+-- a number of bytes that may be sent: 256 at most
+abbrev pub length_of : ℤ → Result ℕ FrameExit
+length_of (pos n) = if nat_le n 256 then Ok n else Err (Throw bad_length)
+length_of (negsuc n) = Err (Throw bad_length)
+
+-- setOutgoingLength, by how far the command has come
+abbrev pub set_length_in_phase : MemoryState → ApduPhase → ℤ → NativeProgram
+set_length_in_phase m Waiting count = throw_exception illegal_use
+set_length_in_phase m Received count = throw_exception illegal_use
+set_length_in_phase m Outgoing count = if_ok (length_of count) (λ n. with_phase_set m (Sending n) (return_value ReturnVoid))
+set_length_in_phase m (Sending left) count = throw_exception illegal_use
+
+-- APDU.setOutgoingLength: the number of bytes that are going to be sent, 256 at most; once, after setOutgoing
+unfoldable pub apdu_set_outgoing_length : ℤ → MemoryState → NativeProgram
+apdu_set_outgoing_length count m = set_length_in_phase m (phase_of m) count
+
+-- more bytes than are left, or than an answer has
+abbrev pub is_too_much : MemoryState → ℕ → ℤ → Bool
+is_too_much m left (pos n) = nat_lt left n || nat_lt 256 (length m.sent + n)
+is_too_much m left (negsuc n) = false
+
+-- so many bytes of the buffer, from one on
+abbrev pub buffer_piece : ℤ → ℤ → Result Piece FrameExit
+buffer_piece (pos start) (pos count) = if nat_le (start + count) buffer_size then Ok (record { start = start; count = count }) else Err (Throw buffer_bounds)
+buffer_piece (pos start) (negsuc n) = Err (Throw buffer_bounds)
+buffer_piece (negsuc n) count = Err (Throw buffer_bounds)
+
+-- what sendBytes may send
+unfoldable pub piece_of : MemoryState → ℕ → ℤ → ℤ → Result Piece FrameExit
+piece_of m left start count = if is_too_much m left count then Err (Throw illegal_use) else buffer_piece start count
+
+-- sendBytes, by how far the command has come
+abbrev pub send_in_phase : MemoryState → ApduPhase → ℤ → ℤ → NativeProgram
+send_in_phase m Waiting start count = throw_exception illegal_use
+send_in_phase m Received start count = throw_exception illegal_use
+send_in_phase m Outgoing start count = throw_exception illegal_use
+send_in_phase m (Sending left) start count = if_ok (piece_of m left start count) (λ piece. if_some (buffer_of m) (λ buffer.
+    Perform (SendBytes (bytes_at m buffer piece.start piece.count)) (with_phase_set m (Sending (left - piece.count)) (return_value ReturnVoid))))
+
+-- APDU.sendBytes: bytes of the buffer are sent, no more than are left
+unfoldable pub apdu_send_bytes : ℤ → ℤ → MemoryState → NativeProgram
+apdu_send_bytes start count m = send_in_phase m (phase_of m) start count
+
+-- first this, and then that, unless this throws
+abbrev pub and_then : MemoryState → (MemoryState → NativeProgram) → (MemoryState → NativeProgram) → NativeProgram
+and_then m first next = bind (first m) m (λ answer v. if_ok answer (λ a. next v))
+
+-- APDU.setOutgoingAndSend: setOutgoing, setOutgoingLength and sendBytes in a row; what passed before one of
+-- them throws stays
+unfoldable pub apdu_set_outgoing_and_send : ℤ → ℤ → MemoryState → NativeProgram
+apdu_set_outgoing_and_send start count m = and_then m apdu_set_outgoing (λ v. and_then v (apdu_set_outgoing_length count) (apdu_send_bytes start count))
+
+-- what a call of a method of APDU may do
+unfoldable pub apdu_call : PlatformMethod → List Cell → MemoryState → NativeProgram
+apdu_call ApduGetBuffer args m = apdu_get_buffer m
+apdu_call ApduReceiveBytes args m = if_some (short_argument args 1) (λ start. apdu_receive_bytes (phase_of m))
+apdu_call ApduSendBytes args m = if_some (short_argument args 1) (λ start. if_some (short_argument args 2) (λ count. apdu_send_bytes start count m))
+apdu_call ApduSetIncomingAndReceive args m = apdu_set_incoming_and_receive m
+apdu_call ApduSetOutgoing args m = apdu_set_outgoing m
+apdu_call ApduSetOutgoingAndSend args m = if_some (short_argument args 1) (λ start. if_some (short_argument args 2)
+    (λ count. apdu_set_outgoing_and_send start count m))
+apdu_call ApduSetOutgoingLength args m = if_some (short_argument args 1) (λ count. apdu_set_outgoing_length count m)
+apdu_call _ args m = code_fault

@@ -1,0 +1,140 @@
+//! `<init>` and `update` of `OwnerPIN`.
+ghost use Rattle.std.specs.Prelude.{◌≡◌, false, nat_lt, if◌then◌else◌};
+ghost use Rattle.jc_memory.specs.Programs.{Executes};
+ghost use Rattle.jc_world.specs.NativeCalls.{after_call};
+ghost use Rattle.jc_pin.specs.Pins.{IsPin, record_of};
+ghost use Rattle.jc_pin.specs.PinInit.{pin_init};
+ghost use Rattle.jc_pin.specs.Updating.{after_pin, pin_update};
+ghost use Rattle.jc_world.specs.Arrays.{IsInArray};
+ghost use Rattle.jc_api_data.specs.OwnerPin.{answer_of, bytes_in, owner_pin_init, changed_or_thrown, owner_pin_update};
+
+use crate::owner_pin_arguments::{
+    argument_bytes, array_arguments, at_least_1, is_own_value, receiver,
+};
+use jc_frames::Cell;
+use jc_frames::reasons::{BUFFER_FULL, ILLEGAL_PIN_VALUE, NO_RESOURCE};
+use jc_linker::linked::Linked;
+use jc_memory::Memory;
+use jc_pin::{PinRefusal, init, record, update};
+use jc_transient::Ref;
+use jc_words::WordStore;
+use jc_world::arguments::short_argument;
+use jc_world::{NativeResult, StepExit, Stretch};
+
+/// How many bytes an update can set at most.
+pub(crate) const MOST_VALUE: u16 = 254;
+
+// What a call answers that changes a PIN.
+fn answer_of(change: Result<(), PinRefusal>) -> Result<NativeResult, StepExit>
+    ensures { result ≡ answer_of change }
+{
+    match change {
+        Ok(()) => Ok(NativeResult::ReturnVoid),
+        Err(PinRefusal::StoreDown) => Err(StepExit::Down),
+        Err(PinRefusal::CommitFull) => Err(StepExit::Throw(BUFFER_FULL)),
+        Err(PinRefusal::IllegalValue) => Err(StepExit::Throw(ILLEGAL_PIN_VALUE)),
+        Err(PinRefusal::HeapFull) => Err(StepExit::Throw(NO_RESOURCE)),
+    }
+}
+
+// Sets a PIN up with this limit and this maximum.
+fn set_up<S: WordStore>(
+    memory: &mut Memory<S>,
+    pin: Ref,
+    limit: u16,
+    maximum: u16,
+) -> Result<NativeResult, StepExit>
+    requires up { memory.old.heap.down ≡ false }
+    requires pin { IsPin memory.old pin }
+    ensures { Executes (changed_or_thrown (pin_init memory.old pin limit maximum) memory.old)
+        memory.old (after_call result memory.new) }
+{
+    answer_of(init(memory, pin, limit, maximum))
+}
+
+/// `OwnerPIN.<init>`: sets a PIN up with a try limit and a maximum length.
+#[tactic(auto, unfolding(crate::specs::OwnerPin::owner_pin_init))]
+pub(crate) fn owner_pin_init<S: WordStore>(
+    args: &[Cell],
+    memory: &mut Memory<S>,
+) -> Result<NativeResult, StepExit>
+    requires up { memory.old.heap.down ≡ false }
+    ensures { Executes (owner_pin_init args.now memory.old) memory.old
+        (after_call result memory.new) }
+{
+    let pin = receiver(args, memory)?;
+    let limit = short_argument(args, 1)?;
+    let maximum = short_argument(args, 2)?;
+    let limit = at_least_1(limit)?;
+    let maximum = at_least_1(maximum)?;
+    set_up(memory, pin, limit, maximum)
+}
+
+// Why bytes are refused of which there are more than an update can set.
+fn refusal_of<S: WordStore>(memory: &Memory<S>, pin: Ref, count: u16) -> PinRefusal
+    requires up { memory.now.heap.down ≡ false }
+    requires pin { IsPin memory.now pin }
+    ensures { result ≡ (if nat_lt (record_of memory.now pin).maximum count then
+        PinRefusal.IllegalValue else PinRefusal.CommitFull) }
+{
+    if count > record(memory, pin).maximum {
+        PinRefusal::IllegalValue
+    } else {
+        PinRefusal::CommitFull
+    }
+}
+
+// Gives a PIN bytes of an array as its value.
+fn set_bytes<S: WordStore>(
+    memory: &mut Memory<S>,
+    pin: Ref,
+    bytes: Stretch,
+) -> Result<(), PinRefusal>
+    requires up { memory.old.heap.down ≡ false }
+    requires pin { IsPin memory.old pin }
+    requires bytes { IsInArray memory.old bytes }
+    ensures { Executes (pin_update memory.old pin (bytes_in memory.old bytes)) memory.old
+        (after_pin result memory.new) }
+{
+    if bytes.count > MOST_VALUE {
+        return Err(refusal_of(memory, pin, bytes.count));
+    }
+    let mut value = [0; MOST_VALUE as usize];
+    let value = &mut value[..bytes.count as usize];
+    memory.bytes(bytes.array, bytes.start, value);
+    update(memory, pin, value)
+}
+
+// The same, as a call answers it.
+fn set_named<S: WordStore>(
+    memory: &mut Memory<S>,
+    pin: Ref,
+    bytes: Stretch,
+) -> Result<NativeResult, StepExit>
+    requires up { memory.old.heap.down ≡ false }
+    requires pin { IsPin memory.old pin }
+    requires bytes { IsInArray memory.old bytes }
+    ensures { Executes (changed_or_thrown (pin_update memory.old pin (bytes_in memory.old bytes))
+        memory.old) memory.old (after_call result memory.new) }
+{
+    answer_of(set_bytes(memory, pin, bytes))
+}
+
+/// `OwnerPIN.update`: sets value and length and gives all tries back, as one change. The value is in an array
+/// of the PIN's own context.
+#[tactic(auto, unfolding(crate::specs::OwnerPin::owner_pin_update))]
+pub(crate) fn owner_pin_update<S: WordStore>(
+    args: &[Cell],
+    memory: &mut Memory<S>,
+    linked: &Linked,
+) -> Result<NativeResult, StepExit>
+    requires up { memory.old.heap.down ≡ false }
+    ensures { Executes (owner_pin_update args.now linked.now memory.old) memory.old
+        (after_call result memory.new) }
+{
+    let pin = receiver(args, memory)?;
+    let given = array_arguments(args, memory)?;
+    let bytes = argument_bytes(&given, memory, linked)?;
+    is_own_value(pin, memory)?;
+    set_named(memory, pin, bytes)
+}

@@ -1,0 +1,55 @@
+-- Applet (API specification).
+use Rattle.std.specs.Prelude.{ℕ, nat_le, true, List, length, if◌then◌else◌, Option, Some, None}
+use Rattle.std.specs.Option.{option_map}
+use Rattle.jc_frames.specs.declared.cell.Cell.{Cell}
+use Rattle.jc_frames.specs.declared.cell.Cell.TheVariants.{Reference}
+use Rattle.jc_frames.specs.Reasons.{illegal_aid, illegal_value}
+use Rattle.jc_memory.specs.declared.registers.Installation.{Installation}
+use Rattle.jc_memory.specs.declared.registers.Installation.TheVariants.{Idle, Open, Registered}
+use Rattle.jc_memory.specs.State.{MemoryState}
+use Rattle.jc_linker.specs.Values.{Packages}
+use Rattle.jc_linker.specs.Lookups.{applet_entry}
+use Rattle.jc_platform.specs.declared.names.PlatformMethod.{PlatformMethod}
+use Rattle.jc_platform.specs.declared.names.PlatformMethod.TheVariants.{AppletDeselect, AppletGetShareableInterfaceObject, AppletRegister, AppletRegisterBytes}
+use Rattle.jc_platform.specs.declared.names.PlatformMethod.TheVariants.{AppletSelect, AppletSelectingApplet}
+use Rattle.jc_world.specs.declared.native_result.NativeResult.TheVariants.{ReturnVoid, ReturnValue}
+use Rattle.jc_world.specs.NativeCalls.{NativeProgram, return_value, throw_exception, code_fault, if_some, if_ok}
+use Rattle.jc_world.specs.Objects.{short_argument, reference_argument}
+use Rattle.jc_world.specs.Answers.{returns_bool}
+use Rattle.jc_world.specs.Arrays.{bytes_argument, bytes_in, elements_of}
+use Rattle.jc_api_runtime.specs.AidCells.{is_aid_length}
+use Rattle.jc_api_runtime.specs.Register.{registration}
+
+-- the AID of the entry in the Applet component whose install runs; none outside an installation
+abbrev pub install_aid : Packages → Installation → Option (List ℕ)
+install_aid p Idle = None
+install_aid p (Open k entry) = option_map (λ a. a.aid) (applet_entry p k.0 entry)
+install_aid p (Registered k) = None
+
+-- an instance is registered with the AID of its entry, if there is one and it is short enough
+abbrev pub register_with : ℕ → Packages → MemoryState → Option (List ℕ) → NativeProgram
+register_with instance p m None = throw_exception illegal_aid
+register_with instance p m (Some aid) = if nat_le (length aid) 16 then registration aid instance p m else throw_exception illegal_aid
+
+-- Applet.register: the instance is registered with the AID of its entry
+unfoldable pub applet_register : List Cell → Packages → MemoryState → NativeProgram
+applet_register args p m = if_some (reference_argument args 0) (λ instance. register_with instance p m (install_aid p m.registers.installation))
+
+-- Applet.register(byte[], short, byte): the instance is registered with the AID that is given
+unfoldable pub applet_register_bytes : List Cell → Packages → MemoryState → NativeProgram
+applet_register_bytes args p m =
+    if_some (reference_argument args 0) (λ instance. if_some (reference_argument args 1)
+    (λ array. if_some (short_argument args 2) (λ start. if_some (short_argument args 3) (λ count.
+    if_ok (bytes_argument m array) (λ header. if_ok (elements_of p m array header start count) (λ e.
+    if is_aid_length e.count then registration (bytes_in m e) instance p m else throw_exception illegal_value))))))
+
+-- Applet.select, Applet.deselect, Applet.getShareableInterfaceObject, Applet.selectingApplet: true, nothing,
+-- null and the selecting flag, where no class below overrides them; register is called too
+unfoldable pub applet_call : PlatformMethod → List Cell → Packages → MemoryState → NativeProgram
+applet_call AppletSelect args p m = returns_bool true
+applet_call AppletDeselect args p m = return_value ReturnVoid
+applet_call AppletGetShareableInterfaceObject args p m = return_value (ReturnValue (Reference 0))
+applet_call AppletSelectingApplet args p m = returns_bool m.registers.selecting
+applet_call AppletRegister args p m = applet_register args p m
+applet_call AppletRegisterBytes args p m = applet_register_bytes args p m
+applet_call _ args p m = code_fault

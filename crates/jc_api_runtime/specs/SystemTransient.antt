@@ -1,0 +1,87 @@
+-- JCSystem's transient arrays (API specification).
+use Rattle.std.specs.Ordering.{int_eq}
+use Rattle.std.specs.Prelude.{ℕ, ℤ, pos, ◌==◌, if◌then◌else◌, true, false, List, Option, Some, None, Result, Ok, Err}
+use Rattle.jc_transient.specs.declared.cell.ClearEvent.{ClearEvent}
+use Rattle.jc_transient.specs.declared.cell.ClearEvent.TheVariants.{Reset, Deselect}
+use Rattle.jc_heap.specs.declared.object.Kind.{Kind}
+use Rattle.jc_heap.specs.declared.object.Kind.TheVariants.{Instance, BooleanArray, ByteArray, ShortArray, ReferenceArray}
+use Rattle.jc_firewall.specs.declared.access.Access.TheVariants.{ArrayElement}
+use Rattle.jc_firewall.specs.declared.decide.Decision.{Decision}
+use Rattle.jc_firewall.specs.declared.decide.Decision.TheVariants.{Allow, Switch, Deny}
+use Rattle.jc_firewall.specs.declared.subject.Designation.TheVariants.{Ordinary}
+use Rattle.jc_heap.specs.Object.{event_number}
+use Rattle.jc_firewall.specs.declared.subject.Situation.{Situation}
+use Rattle.jc_firewall.specs.Table.{decision}
+use Rattle.jc_frames.specs.declared.cell.Cell.{Cell}
+use Rattle.jc_frames.specs.declared.cell.Cell.TheVariants.{Reference}
+use Rattle.jc_frames.specs.Reasons.{illegal_transient, illegal_value}
+use Rattle.jc_frames.specs.declared.outcome.Exception.TheVariants.{NegativeArraySizeException}
+use Rattle.jc_frames.specs.declared.outcome.FrameExit.{FrameExit}
+use Rattle.jc_frames.specs.declared.outcome.FrameExit.TheVariants.{Throw}
+use Rattle.jc_memory.specs.declared.making.NewObject.{NewObject}
+use Rattle.jc_memory.specs.State.{MemoryState}
+use Rattle.jc_memory.specs.Making.{object_creation, creation_refusal}
+use Rattle.jc_memory.specs.Cells.{header_at}
+use Rattle.jc_platform.specs.declared.names.PlatformClass.TheVariants.{Object}
+use Rattle.jc_platform.specs.Distinct.{class_word}
+use Rattle.jc_linker.specs.Values.{Packages}
+use Rattle.jc_world.specs.declared.native_result.NativeResult.TheVariants.{ReturnValue}
+use Rattle.jc_world.specs.NativeCalls.{NativeProgram, return_value, if_some, if_ok, unless}
+use Rattle.jc_world.specs.Contexts.{context_of, selected_context}
+use Rattle.jc_world.specs.Objects.{short_argument, reference_argument}
+use Rattle.jc_world.specs.Answers.{and_then, returns_short}
+use Rattle.jc_world.specs.Numbers.{not_negative}
+
+-- the length of a new array
+abbrev pub length_in : Option ℕ → Result ℕ FrameExit
+length_in None = Err (Throw NegativeArraySizeException)
+length_in (Some n) = Ok n
+
+-- CLEAR_ON_RESET and CLEAR_ON_DESELECT by their numbers
+abbrev pub event_named : ℤ → Result ClearEvent FrameExit
+event_named v = if int_eq v (pos 1) then Ok Reset else if int_eq v (pos 2) then Ok Deselect else Err (Throw illegal_value)
+
+-- an array of the code that runs, cleared as its applet is deselected
+abbrev pub own_array : MemoryState → Situation
+own_array m = record {
+  active = context_of m m.registers.active;
+  selected = selected_context m;
+  object = record { owner = context_of m m.registers.active; designation = Ordinary; has_shareable_interface = false; is_clear_on_deselect = true };
+}
+
+abbrev pub if_usable : Decision → Result (Unit {0}) FrameExit
+if_usable Allow = Ok tt
+if_usable (Switch c) = Ok tt
+if_usable (Deny rule) = Err (Throw illegal_transient)
+
+-- the code that runs may use what it makes: an array that is cleared at a deselection only while its applet is selected
+abbrev pub allowed_event : ClearEvent → MemoryState → Result (Unit {0}) FrameExit
+allowed_event Reset m = Ok tt
+allowed_event Deselect m = if_usable (decision ArrayElement (own_array m))
+
+-- arrays of references are of Object
+abbrev pub class_for : Kind → Packages → ℕ
+class_for Instance p = 0
+class_for BooleanArray p = 0
+class_for ByteArray p = 0
+class_for ShortArray p = 0
+class_for ReferenceArray p = class_word p.platform Object
+
+-- the array that is asked for: its length, then its event, then whether it may be made
+unfoldable pub requested_array : Kind → ℤ → ℤ → Packages → MemoryState → Result NewObject FrameExit
+requested_array kind count event p m =
+    and_then (length_in (not_negative count)) (λ length. and_then (event_named event) (λ named. and_then (allowed_event named m) (λ u.
+    Ok (record { kind = kind; event = Some named; class = class_for kind p; owner = m.registers.active; length = length }))))
+
+-- JCSystem.makeTransientBooleanArray, JCSystem.makeTransientByteArray, JCSystem.makeTransientShortArray,
+-- JCSystem.makeTransientObjectArray: a transient array of the kind that the method names, owned by whom the
+-- code runs for
+unfoldable pub jc_system_make_transient_array : Kind → List Cell → Packages → MemoryState → NativeProgram
+jc_system_make_transient_array kind args p m = if_some (short_argument args 0) (λ count. if_some (short_argument args 1)
+    (λ event. if_ok (requested_array kind count event p m) (λ o.
+    unless (creation_refusal m o) (object_creation o (λ r. return_value (ReturnValue (Reference r)))))))
+
+-- JCSystem.isTransient: the event; NOT_A_TRANSIENT_OBJECT for null and for persistent objects
+unfoldable pub jc_system_is_transient : List Cell → MemoryState → NativeProgram
+jc_system_is_transient args m = if_some (reference_argument args 0) (λ r. if r == 0 then returns_short (pos 0) else if_some (header_at m r)
+    (λ f. returns_short (pos (event_number f.event))))

@@ -1,0 +1,195 @@
+//! `AID` (API specification).
+ghost use Rattle.std.specs.Prelude.{◌≡◌, ◌≤◌, false, length, Some};
+ghost use Rattle.jc_memory.specs.Programs.{Executes};
+ghost use Rattle.jc_heap.specs.Completions.{after_change};
+ghost use Rattle.jc_memory.specs.Cells.{cells_store};
+ghost use Rattle.jc_world.specs.NativeCalls.{after_call};
+ghost use Rattle.jc_registry.specs.Registry.{is_aid};
+ghost use Rattle.jc_world.specs.Arrays.{IsInArray, bytes_in};
+ghost use Rattle.jc_world.specs.Instances.{IsInstanceWith};
+ghost use Rattle.jc_api_runtime.specs.AidCells.{cells_of_aid};
+ghost use Rattle.jc_api_runtime.specs.AidCalls.{aid_of_object, aid_init, aid_equals, aid_equals_bytes, aid_get_bytes, aid_call};
+
+use crate::cells::{cells_of_aid, is_aid_length};
+use jc_frames::reasons::ILLEGAL_VALUE;
+use jc_frames::{Cell, Outcome};
+use jc_heap::ChangeRefusal;
+use jc_linker::linked::Linked;
+use jc_memory::Memory;
+use jc_platform::names::{PlatformClass, PlatformMethod};
+use jc_registry::{Aid, MOST_AID, aid_at};
+use jc_transient::Ref;
+use jc_words::WordStore;
+use jc_world::arguments::{reference_argument, short_argument};
+use jc_world::objects::is_instance_of;
+use jc_world::{
+    NativeResult, StepExit, Stretch, boolean, bytes_argument, elements, instance, put, short,
+};
+
+// The AID of an instance of `AID`.
+fn aid_of_object<S: WordStore>(object: Ref, memory: &Memory<S>, linked: &Linked) -> Option<Aid>
+    requires up { memory.now.heap.down ≡ false }
+    ensures { result ≡ aid_of_object linked.now memory.now object }
+{
+    if object.is_null() {
+        return None;
+    }
+    let facts = memory.header(object)?;
+    let class = linked.platform().class_word(PlatformClass::Aid);
+    if is_instance_of(facts, class, linked) {
+        aid_at(memory, object)
+    } else {
+        None
+    }
+}
+
+// Whether elements of an array are the bytes of an AID.
+fn are_aid<S: WordStore>(aid: &[u8], e: Stretch, memory: &Memory<S>) -> bool
+    requires up { memory.now.heap.down ≡ false }
+    requires there { IsInArray memory.now e }
+    requires few { length aid.now ≤ MOST_AID }
+    ensures { result ≡ is_aid aid.now (Some (bytes_in memory.now e)) }
+{
+    let count = e.count as usize;
+    if count != aid.len() {
+        return false;
+    }
+    let mut bytes = [0; MOST_AID];
+    memory.bytes(e.array, e.start, &mut bytes[..count]);
+    let held = &bytes[..count];
+    held == aid
+}
+
+// Sets the cells of an AID object to those of as many bytes of an array as an AID has.
+fn set_aid<S: WordStore>(memory: &mut Memory<S>, own: Ref, e: Stretch) -> Result<(), ChangeRefusal>
+    requires up { memory.old.heap.down ≡ false }
+    requires own { IsInstanceWith memory.old own 9 }
+    requires there { IsInArray memory.old e }
+    requires few { e.count ≤ MOST_AID }
+    ensures { Executes (cells_store memory.old own 0 (cells_of_aid (bytes_in memory.old e)))
+        memory.old (after_change result memory.new) }
+{
+    let count = e.count as usize;
+    let mut bytes = [0; MOST_AID];
+    memory.bytes(e.array, e.start, &mut bytes[..count]);
+    let cells = cells_of_aid(&bytes[..count]);
+    memory.set_run(own, 0, &cells)
+}
+
+// `AID.<init>`: sets the cells of an AID, as one change.
+#[tactic(auto, unfolding(crate::specs::AidCalls::aid_init))]
+fn aid_init<S: WordStore>(
+    args: &[Cell],
+    memory: &mut Memory<S>,
+    linked: &Linked,
+) -> Result<NativeResult, StepExit>
+    requires up { memory.old.heap.down ≡ false }
+    ensures { Executes (aid_init args.now linked.now memory.old) memory.old
+        (after_call result memory.new) }
+{
+    let own = reference_argument(args, 0)?;
+    let array = reference_argument(args, 1)?;
+    let start = short_argument(args, 2)?;
+    let count = short_argument(args, 3)?;
+    let argument = bytes_argument(array, memory)?;
+    let _facts = instance(own, 9, memory)?;
+    let e = elements(array, argument, start, count, memory, linked)?;
+    if !is_aid_length(e.count) {
+        return Err(StepExit::Throw(ILLEGAL_VALUE));
+    }
+    set_aid(memory, own, e)?;
+    Ok(NativeResult::ReturnVoid)
+}
+
+// `AID.equals`: whether the other is an AID of the same bytes.
+#[tactic(auto, unfolding(crate::specs::AidCalls::aid_equals))]
+fn aid_equals<S: WordStore>(
+    args: &[Cell],
+    memory: &Memory<S>,
+    linked: &Linked,
+) -> Result<NativeResult, StepExit>
+    requires up { memory.now.heap.down ≡ false }
+    ensures { Executes (aid_equals args.now linked.now memory.now) memory.now
+        (after_call result memory.now) }
+{
+    let own = reference_argument(args, 0)?;
+    let other = reference_argument(args, 1)?;
+    let Some(aid) = aid_at(memory, own) else {
+        return Err(StepExit::End(Outcome::Fault));
+    };
+    match aid_of_object(other, memory, linked) {
+        Some(held) => Ok(boolean(held.bytes() == aid.bytes())),
+        None => Ok(boolean(false)),
+    }
+}
+
+// `AID.equals(byte[], short, byte)`: whether these bytes are the AID's; false for null.
+#[tactic(auto, unfolding(crate::specs::AidCalls::aid_equals_bytes))]
+fn aid_equals_bytes<S: WordStore>(
+    args: &[Cell],
+    memory: &Memory<S>,
+    linked: &Linked,
+) -> Result<NativeResult, StepExit>
+    requires up { memory.now.heap.down ≡ false }
+    ensures { Executes (aid_equals_bytes args.now linked.now memory.now) memory.now
+        (after_call result memory.now) }
+{
+    let own = reference_argument(args, 0)?;
+    let array = reference_argument(args, 1)?;
+    let start = short_argument(args, 2)?;
+    let count = short_argument(args, 3)?;
+    let Some(aid) = aid_at(memory, own) else {
+        return Err(StepExit::End(Outcome::Fault));
+    };
+    let argument = bytes_argument(array, memory)?;
+    if array.is_null() {
+        return Ok(boolean(false));
+    }
+    let e = elements(array, argument, start, count, memory, linked)?;
+    Ok(boolean(are_aid(aid.bytes(), e, memory)))
+}
+
+// `AID.getBytes`: copies the bytes, as one change; returns their number.
+#[tactic(auto, unfolding(crate::specs::AidCalls::aid_get_bytes))]
+fn aid_get_bytes<S: WordStore>(
+    args: &[Cell],
+    memory: &mut Memory<S>,
+    linked: &Linked,
+) -> Result<NativeResult, StepExit>
+    requires up { memory.old.heap.down ≡ false }
+    ensures { Executes (aid_get_bytes args.now linked.now memory.old) memory.old
+        (after_call result memory.new) }
+{
+    let own = reference_argument(args, 0)?;
+    let array = reference_argument(args, 1)?;
+    let start = short_argument(args, 2)?;
+    let Some(aid) = aid_at(memory, own) else {
+        return Err(StepExit::End(Outcome::Fault));
+    };
+    let argument = bytes_argument(array, memory)?;
+    let count = aid.bytes().len() as i16;
+    let e = elements(array, argument, start, count, memory, linked)?;
+    put(memory, e, aid.bytes())?;
+    Ok(short(count))
+}
+
+/// A call of a method of `AID`; a method of another class is a code fault.
+#[tactic(auto, unfolding(crate::specs::AidCalls::aid_call))]
+pub fn call_aid<S: WordStore>(
+    method: PlatformMethod,
+    args: &[Cell],
+    memory: &mut Memory<S>,
+    linked: &Linked,
+) -> Result<NativeResult, StepExit>
+    requires up { memory.old.heap.down ≡ false }
+    ensures { Executes (aid_call method args.now linked.now memory.old) memory.old
+        (after_call result memory.new) }
+{
+    match method {
+        PlatformMethod::AidInit => aid_init(args, memory, linked),
+        PlatformMethod::AidEquals => aid_equals(args, memory, linked),
+        PlatformMethod::AidEqualsBytes => aid_equals_bytes(args, memory, linked),
+        PlatformMethod::AidGetBytes => aid_get_bytes(args, memory, linked),
+        _ => Err(StepExit::End(Outcome::Fault)),
+    }
+}

@@ -1,0 +1,87 @@
+//! `JCSystem` (API specification).
+ghost use Rattle.std.specs.Prelude.{◌≡◌, false};
+ghost use Rattle.jc_memory.specs.Programs.{Executes};
+ghost use Rattle.jc_world.specs.NativeCalls.{after_call};
+ghost use Rattle.jc_api_runtime.specs.System.{system_call};
+
+use crate::system_sharing::{
+    jc_system_get_aid, jc_system_get_applet_shareable_interface_object,
+    jc_system_get_previous_context_aid, jc_system_lookup_aid,
+};
+use crate::system_transactions::{
+    jc_system_abort_transaction, jc_system_begin_transaction, jc_system_commit_transaction,
+    jc_system_get_transaction_depth, jc_system_get_unused_commit_capacity,
+};
+use crate::system_transient::{jc_system_is_transient, jc_system_make_transient_array};
+use jc_frames::{Cell, Outcome};
+use jc_heap::Kind;
+use jc_linker::linked::Linked;
+use jc_memory::Memory;
+use jc_platform::names::PlatformMethod::{
+    self, JcSystemAbortTransaction, JcSystemBeginTransaction, JcSystemCommitTransaction,
+    JcSystemGetAid, JcSystemGetAppletShareableInterfaceObject, JcSystemGetMaxCommitCapacity,
+    JcSystemGetPreviousContextAid, JcSystemGetTransactionDepth, JcSystemGetUnusedCommitCapacity,
+    JcSystemIsTransient, JcSystemLookupAid, JcSystemMakeTransientBooleanArray,
+    JcSystemMakeTransientByteArray, JcSystemMakeTransientObjectArray,
+    JcSystemMakeTransientShortArray,
+};
+use jc_words::WordStore;
+use jc_world::{NativeResult, StepExit, short};
+
+/// `JCSystem.getMaxCommitCapacity`: returns 1,024 bytes; each other method of `JCSystem` is called here too. A
+/// method of another class is a code fault.
+#[tactic(auto, unfolding(crate::specs::System::system_call))]
+pub fn call_system<S: WordStore>(
+    method: PlatformMethod,
+    args: &[Cell],
+    memory: &mut Memory<S>,
+    linked: &Linked,
+) -> Result<NativeResult, StepExit>
+    requires up { memory.old.heap.down ≡ false }
+    ensures { Executes (system_call method args.now linked.now memory.old) memory.old
+        (after_call result memory.new) }
+{
+    match method {
+        JcSystemAbortTransaction => jc_system_abort_transaction(memory),
+        JcSystemBeginTransaction => jc_system_begin_transaction(memory),
+        JcSystemCommitTransaction => jc_system_commit_transaction(memory),
+        JcSystemGetAid => Ok(NativeResult::ReturnValue(Cell::Reference(jc_system_get_aid(memory)))),
+        JcSystemGetAppletShareableInterfaceObject =>
+            jc_system_get_applet_shareable_interface_object(args, memory, linked),
+        JcSystemGetMaxCommitCapacity => Ok(short(1024)),
+        JcSystemGetPreviousContextAid => Ok(NativeResult::ReturnValue(Cell::Reference(
+            jc_system_get_previous_context_aid(memory),
+        ))),
+        JcSystemGetTransactionDepth => Ok(short(jc_system_get_transaction_depth(
+            memory.registers().depth,
+        ))),
+        JcSystemGetUnusedCommitCapacity => Ok(short(jc_system_get_unused_commit_capacity(memory))),
+        JcSystemIsTransient => jc_system_is_transient(args, memory),
+        JcSystemLookupAid => jc_system_lookup_aid(args, memory, linked),
+        JcSystemMakeTransientBooleanArray => jc_system_make_transient_array(
+            Kind::BooleanArray,
+            args,
+            memory,
+            linked,
+        ),
+        JcSystemMakeTransientByteArray => jc_system_make_transient_array(
+            Kind::ByteArray,
+            args,
+            memory,
+            linked,
+        ),
+        JcSystemMakeTransientObjectArray => jc_system_make_transient_array(
+            Kind::ReferenceArray,
+            args,
+            memory,
+            linked,
+        ),
+        JcSystemMakeTransientShortArray => jc_system_make_transient_array(
+            Kind::ShortArray,
+            args,
+            memory,
+            linked,
+        ),
+        _ => Err(StepExit::End(Outcome::Fault)),
+    }
+}

@@ -1,4 +1,0 @@
-pub mod Transactions
-pub mod Transient
-pub mod Sharing
-pub mod System

@@ -1,4 +1,0 @@
-pub mod Pairs
-pub mod Util
-pub mod Objects
-pub mod Exceptions

@@ -1,5 +1,0 @@
-pub mod Many
-pub mod Telling
-pub mod Wholes
-pub mod Walk
-pub mod Lent

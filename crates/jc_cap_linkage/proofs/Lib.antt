@@ -1,0 +1,11 @@
+pub mod Many
+pub mod Telling
+pub mod Wholes
+pub mod Walk
+pub mod Lent
+pub mod CountedLists
+pub mod ToldHeader
+pub mod ToldLists
+pub mod ToldDirectory
+pub mod ToldPool
+pub mod ToldEnvelope

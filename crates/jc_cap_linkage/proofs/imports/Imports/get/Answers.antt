@@ -1,0 +1,14 @@
+use Rattle.std.proofs.Common.{arith}
+use Rattle.jc_cap_linkage.specs.Packages.{package_at}
+use Rattle.jc_cap_linkage.proofs.Lent.{count_is, value_sought}
+use Rattle.jc_cap_linkage.proofs.Walk.{place_reads}
+use Rattle.jc_cap_linkage.specs.FieldViews.{package_info}
+use Rattle.jc_cap_linkage.proofs.imports.Imports.get.Goals as goal
+
+pub seek-place-requires-clause-within : goal.seek-place-requires-clause-within
+seek-place-requires-clause-within c = omega (
+  arith,
+  c.requires,
+  count_is package_at c.self.inside.count c.self.inside.bytes.now c.args.self.now c.self.invariant
+      c.self.view_is,
+)

@@ -1,9 +1,0 @@
-use Rattle.std.proofs.Common.{arith}
-use Rattle.jc_cap_fields.specs.Packages.{package_at}
-use Rattle.jc_cap_fields.proofs.Lent.{count_is, value_sought}
-use Rattle.jc_cap_fields.proofs.Walk.{place_reads}
-use Rattle.jc_cap_fields.specs.Views.{package_info}
-use Rattle.jc_cap_text.proofs.imports.Imports.get.Goals as goal
-
-pub seek-place-requires-clause-within : goal.seek-place-requires-clause-within
-seek-place-requires-clause-within c = omega (arith, c.requires, count_is package_at c.self.inside.count c.self.inside.bytes.now c.args.self.now c.self.invariant c.self.view_is)

@@ -1,6 +1,0 @@
-use Rattle.jc_cap_text.specs.Pool.{entry_at}
-use Rattle.jc_cap_fields.proofs.Lent.{count_is}
-use Rattle.jc_cap_text.proofs.pool.ConstantPool.count.Goals as goal
-
-pub returns : goal.returns
-returns c = count_is entry_at c.self.inside.count c.self.inside.bytes.now c.args.self.now c.self.invariant c.self.view_is

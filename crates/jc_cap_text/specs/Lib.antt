@@ -1,9 +1,0 @@
-pub mod Envelope
-pub mod Header
-pub mod Customs
-pub mod Directory
-pub mod Applets
-pub mod Imports
-pub mod Pool
-pub mod Exports
-pub mod Views

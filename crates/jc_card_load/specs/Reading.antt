@@ -1,0 +1,54 @@
+-- Packages as the records of a heap have them.
+use Rattle.std.specs.Prelude.{ℕ, ◌/◌, ◌%◌, List, [], ◌∷◌, drop, map, Option, Some, None, Result, Ok, Err}
+use Rattle.std.specs.Option.{option_and_then, option_map}
+use Rattle.jc_cap_linkage.specs.declared.formats.Format.TheVariants.{V2_1}
+use Rattle.jc_cap_linkage.specs.Tags.{header_tag, directory_tag, applet_tag, import_tag, constant_pool_tag, class_tag, method_tag, static_field_tag, export_tag}
+use Rattle.jc_cap.specs.declared.texts.LoadedComponents.{LoadedComponents}
+use Rattle.jc_heap.specs.declared.component.Span.{Span}
+use Rattle.jc_heap.specs.Components.{info_of, record_of}
+use Rattle.jc_heap.specs.Heap.{HeapState}
+use Rattle.jc_heap.specs.Image.{bytes_of_packed}
+use Rattle.jc_linker.specs.Values.{Packages}
+use Rattle.jc_platform.specs.Tokens.{Tokens}
+use Rattle.jc_linker.specs.Linking.{with_package}
+use Rattle.jc_card_load.specs.declared.package_refusal.PackageRefusal.{PackageRefusal}
+use Rattle.jc_card_load.specs.PendingPackages.{PendingPackageValue, linked_components}
+
+-- the bytes of a component whose info stands there in a record, with its tag and its size in front
+abbrev pub text_at : ℕ → List ℕ → Span → List ℕ
+text_at tag words span = tag ∷ span.size / 256 ∷ span.size % 256 ∷ bytes_of_packed span.size (drop span.at words)
+
+-- the bytes of a record's component with this tag, if there is one
+abbrev pub text_in : List ℕ → ℕ → Option (List ℕ)
+text_in words tag = option_map (text_at tag words) (info_of words tag)
+
+-- the components of a record
+abbrev pub load_of : List ℕ → LoadedComponents
+load_of words = record {
+  format = V2_1;
+  header = text_in words header_tag;
+  directory = text_in words directory_tag;
+  applets = text_in words applet_tag;
+  imports = text_in words import_tag;
+  pool = text_in words constant_pool_tag;
+  classes = text_in words class_tag;
+  methods = text_in words method_tag;
+  statics = text_in words static_field_tag;
+  exports = text_in words export_tag;
+  reference_location = None;
+  descriptor = None;
+}
+
+-- the packages with the one that was prepared, if it was
+abbrev pub with_prepared : Packages → Result PendingPackageValue PackageRefusal → Option Packages
+with_prepared p (Err refusal) = None
+with_prepared p (Ok q) = Some (with_package p q.linked)
+
+-- with the packages of these records behind them, each linked against those before it; none, where one does not link
+abbrev pub with_records : Packages → List (List ℕ) → Option Packages
+with_records p [] = Some p
+with_records p (words ∷ more) = option_and_then (λ q. with_records q more) (with_prepared p (linked_components p (load_of words)))
+
+-- the packages of a heap, behind those of a platform
+unfoldable pub packages_of : Tokens → HeapState → Option Packages
+packages_of t h = with_records (record { platform = t; loaded = [] }) (map (record_of h) h.packages)

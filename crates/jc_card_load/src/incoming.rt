@@ -1,0 +1,78 @@
+//! A component that is coming.
+ghost use Rattle.std.specs.Prelude.{◌≡◌, ◌⊎◌, ◌<◌, length, Err};
+ghost use Rattle.jc_card_load.specs.Loading.{empty_component, component_with_bytes, no_memory, command_result};
+
+use crate::load_refusal::LoadRefusal;
+use crate::package_refusal::PackageRefusal;
+use jc_cap_linkage::fault::CapFault;
+use std::alloc::Global;
+use std::marker::Model;
+
+/// The most bytes of a component: its tag, its size, and as many bytes as that can tell.
+const MOST_BYTES: usize = 65_538;
+
+/// A component that is coming: its tag, and the bytes that came.
+#[derive(Drop)]
+pub struct IncomingComponent {
+    tag: u8,
+    bytes: Vec<u8>,
+}
+
+impl Model for IncomingComponent {
+    ghost use Rattle.std.specs.Prelude.{◌≤◌, length};
+    ghost use Rattle.jc_card_load.specs.Incoming.{IncomingValue};
+
+    ghost Value = { IncomingValue };
+
+    ghost view = { λ c. record { tag = c.tag; bytes = c.bytes.items } };
+
+    ghost invariant = { λ c. length c.bytes.items ≤ 65538 };
+}
+
+impl IncomingComponent {
+    /// Nothing has come yet.
+    pub(crate) fn new(alloc: Global, tag: u8) -> IncomingComponent
+        ensures { result ≡ empty_component tag }
+    {
+        IncomingComponent {
+            tag,
+            bytes: Vec::new(alloc),
+        }
+    }
+
+    /// More bytes: Trailing, where they are more than any component has. Where memory is refused, none are taken.
+    pub(crate) fn append(&mut self, more: &[u8]) -> Result<(), LoadRefusal>
+        ensures { (command_result result self.new ≡ component_with_bytes more.now self.old)
+            ⊎ (command_result result self.new ≡ command_result (Err no_memory) self.old) }
+    {
+        if self.bytes.len() + more.len() > MOST_BYTES {
+            return Err(LoadRefusal::Refused(PackageRefusal::BadComponents(CapFault::Trailing)));
+        }
+        match self.bytes.extend_from_slice(more) {
+            Ok(()) => Ok(()),
+            Err(_) => Err(LoadRefusal::Refused(PackageRefusal::BadComponents(CapFault::NoMemory))),
+        }
+    }
+
+    /// Its tag.
+    pub(crate) fn tag(&self) -> u8
+        ensures { result ≡ self.now.tag }
+    {
+        self.tag
+    }
+
+    /// The bytes that came.
+    pub(crate) fn bytes(&self) -> &[u8]
+        ensures { result.now ≡ self.now.bytes }
+    {
+        self.bytes.as_slice()
+    }
+
+    /// The bytes that came.
+    pub(crate) fn into_bytes(self) -> Vec<u8>
+        ensures bytes { result.items ≡ self.bytes }
+        ensures small { length result.items < 65539 }
+    {
+        self.bytes
+    }
+}

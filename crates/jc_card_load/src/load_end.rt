@@ -1,0 +1,119 @@
+//! The end of a load: the package comes in.
+ghost use Rattle.std.specs.Prelude.{◌≡◌, ◌<◌, false, length, None};
+ghost use Rattle.jc_memory.specs.Programs.{Executes, Either};
+ghost use Rattle.jc_linker.specs.declared.fault.LinkFault.TheVariants.{NoMemory};
+ghost use Rattle.jc_card_load.specs.declared.package_refusal.PackageRefusal.TheVariants.{LinkFailed};
+ghost use Rattle.jc_card_load.specs.declared.load_refusal.LoadRefusal.TheVariants.{Refused};
+ghost use Rattle.jc_card_load.specs.Ending.{package_entry, after_end, assembly_result, with_dropped_load, end_of_load};
+
+use crate::load::OpenLoad;
+use crate::load_refusal::LoadRefusal;
+use crate::package_refusal::PackageRefusal;
+use crate::pending_package::{PendingPackage, assemble_and_link};
+use crate::record_contents::record_contents_of;
+use jc_cap::texts::LoadedComponents;
+use jc_heap::HeapRefusal;
+use jc_linker::fault::LinkFault;
+use jc_linker::linked::Linked;
+use jc_memory::Memory;
+use jc_words::WordStore;
+use jc_words::layout::MOST_PACKAGES;
+use std::alloc::Global;
+use thiserror::Error;
+
+/// Why the end of a load brings no package in.
+#[derive(Clone, Copy, PartialEq, Eq, Debug, Error)]
+pub enum EndFault {
+    /// It is refused.
+    #[error("the package is refused")]
+    Refused(LoadRefusal),
+    /// The store refused a write.
+    #[error("the store is down")]
+    Down,
+}
+
+impl From<PackageRefusal> for EndFault {
+    ghost use Rattle.std.specs.Prelude.{◌≡◌};
+    ghost use Rattle.jc_card_load.specs.declared.load_end.EndFault.TheVariants.{Refused};
+    ghost use Rattle.jc_card_load.specs.declared.load_refusal.LoadRefusal.TheVariants.{Refused};
+
+    ghost from_gives = { λ refusal fault. fault ≡ Refused (Refused refusal) };
+
+    fn from(refusal: PackageRefusal) -> Self {
+        EndFault::Refused(LoadRefusal::Refused(refusal))
+    }
+}
+
+/// Ends a load: its components are put together and linked, and the package is written. A refusal drops the load,
+/// but where no load is open or a component still is.
+pub fn end_package<S: WordStore>(
+    alloc: Global,
+    memory: &mut Memory<S>,
+    linked: &mut Linked,
+    load: &mut Option<OpenLoad>,
+) -> Result<(), EndFault>
+    requires up { memory.old.heap.down ≡ false }
+    ensures { Executes (end_of_load linked.old memory.old load.old) memory.old
+        (after_end result linked.new load.new memory.new) }
+{
+    match load.take() {
+        None => Err(EndFault::Refused(LoadRefusal::OutOfSequence)),
+        Some(open) => {
+            if open.coming.is_some() {
+                *load = Some(open);
+                return Err(EndFault::Refused(LoadRefusal::OutOfSequence));
+            }
+            assemble_and_add(alloc, memory, linked, open.texts)
+        }
+    }
+}
+
+// Brings the package of these components in.
+#[tactic(auto, unfolding(crate::specs::Ending::assembly_result))]
+fn assemble_and_add<S: WordStore>(
+    alloc: Global,
+    memory: &mut Memory<S>,
+    linked: &mut Linked,
+    texts: LoadedComponents,
+) -> Result<(), EndFault>
+    requires up { memory.old.heap.down ≡ false }
+    ensures { Executes (assembly_result linked.old memory.old texts) memory.old
+        (after_end result linked.new None memory.new) }
+{
+    match assemble_and_link(alloc, linked, texts) {
+        Ok(prepared) => add(alloc, memory, linked, prepared),
+        Err(refusal) => Err(EndFault::Refused(LoadRefusal::Refused(refusal))),
+    }
+}
+
+// Writes a package that is prepared, and adds it to those that are linked.
+fn add<S: WordStore>(
+    alloc: Global,
+    memory: &mut Memory<S>,
+    linked: &mut Linked,
+    prepared: PendingPackage,
+) -> Result<(), EndFault>
+    requires up { memory.old.heap.down ≡ false }
+    requires room { length linked.old.loaded < 32 }
+    ensures { Executes (Either (package_entry linked.old prepared memory.old)
+        (with_dropped_load linked.old (Refused (LinkFailed NoMemory)))) memory.old
+        (after_end result linked.new None memory.new) }
+{
+    if memory.heap().packages() >= MOST_PACKAGES {
+        return Err(EndFault::Refused(LoadRefusal::Refused(PackageRefusal::Full)));
+    }
+    let PendingPackage { whole, addition } = prepared;
+    let Ok(material) = record_contents_of(alloc, &whole) else {
+        return Err(EndFault::Refused(LoadRefusal::Refused(PackageRefusal::LinkFailed(
+            LinkFault::NoMemory,
+        ))));
+    };
+    match memory.add_package(&material.components, &material.arrays, &material.image) {
+        Ok(_) => {
+            linked.add(addition);
+            Ok(())
+        }
+        Err(HeapRefusal::StoreDown) => Err(EndFault::Down),
+        Err(_) => Err(EndFault::Refused(LoadRefusal::HeapFull)),
+    }
+}

@@ -1,4 +1,0 @@
-pub mod Fit
-pub mod Statics
-pub mod Records
-pub mod Linkings

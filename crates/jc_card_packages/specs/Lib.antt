@@ -1,4 +1,0 @@
-pub mod Told
-pub mod Prepared
-pub mod Material
-pub mod Reading

@@ -1,8 +1,0 @@
-//! Laws of calls and returns.
-ghost use Rattle.jc_frames.specs.Laws.{ComesBack};
-
-/// A call and its return leave the caller, and all below it, as they were, but for the arguments,
-/// whatever the called method did in its own frame; and they come back to what the call said.
-pub fn a_return_comes_back_to_the_caller()
-    ensures { ComesBack }
-{}

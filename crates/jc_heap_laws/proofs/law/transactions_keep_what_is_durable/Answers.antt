@@ -1,5 +1,0 @@
-use Rattle.jc_heap.proofs.MoveLaws.{keeps_durable}
-use Rattle.jc_heap_laws.proofs.law.transactions_keep_what_is_durable.Goals as goal
-
-pub returns : goal.returns
-returns c = keeps_durable

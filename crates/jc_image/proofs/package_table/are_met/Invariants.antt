@@ -1,6 +1,0 @@
-use Rattle.std.proofs.Common.{ℕ, ◌≡◌, ◌<◌, true, slice_index}
-use Rattle.jc_heap.specs.Heap.{heap_of, names}
-use Rattle.jc_image.proofs.package_table.are_met.Given as goal
-
-abbrev pub invariant-loop-k : goal.invariant-loop-k
-invariant-loop-k g l = (j : ℕ) → j < l.k → names (heap_of l.journal.plain) (slice_index ((heap_of l.journal.plain).packages) j) ≡ true

@@ -1,0 +1,52 @@
+-- Pauses: where instructions that need nothing but frames do not go on, and what is left to do then.
+use Rattle.std.specs.Prelude.{ℕ, List, Option, Some, None, Result, Ok, Err}
+use Rattle.jc_memory.specs.State.{MemoryState}
+use Rattle.jc_memory.specs.Programs.{Program, Finish, bind}
+use Rattle.jc_linker.specs.Values.{Packages}
+use Rattle.jc_frames.specs.declared.outcome.Outcome.{Outcome}
+use Rattle.jc_frames.specs.declared.outcome.Outcome.TheVariants.{Fault}
+use Rattle.jc_frames.specs.Frames.{Frames, Next}
+use Rattle.jc_interp_objects.specs.FieldOps.{field_instruction}
+use Rattle.jc_interp_objects.specs.ArrayOps.{array_instruction}
+use Rattle.jc_interp_calls.specs.MethodReturn.{method_return}
+use Rattle.jc_world.specs.Instructions.{continue_with, exit_of}
+use Rattle.jc_interp.specs.declared.frames_only.PausedStep.{PausedStep}
+use Rattle.jc_interp.specs.declared.frames_only.MemoryInstr.{MemoryInstr}
+use Rattle.jc_interp.specs.declared.frames_only.MemoryInstr.TheVariants.{Return, Field, Array, Object, Invoke}
+use Rattle.jc_interp.specs.declared.frames_only.FramesExit.{FramesExit}
+use Rattle.jc_interp.specs.declared.frames_only.FramesExit.TheVariants.{Exit, Needs}
+use Rattle.jc_interp.specs.Calling.{invoke_instruction}
+use Rattle.jc_interp.specs.Stepping.{throw_from, object_instruction}
+use Rattle.jc_interp.specs.Running.{or_end, run_of}
+
+-- what an instruction at a place may do that needs more than frames, with the next instruction behind it
+abbrev pub memory_instruction : MemoryInstr → ℕ → Packages → Frames → MemoryState → Program (Next Frames)
+memory_instruction (Return how) place p s m = method_return how s m
+memory_instruction (Field field) place p s m = field_instruction field p s m
+memory_instruction (Array operation) place p s m = array_instruction operation p s m
+memory_instruction (Object operation) place p s m = object_instruction operation place p s m
+memory_instruction (Invoke method) place p s m = invoke_instruction method place p s m
+
+-- what is left of an instruction at a place
+abbrev pub paused_rest : FramesExit → ℕ → Packages → Frames → MemoryState → Program (Next Frames)
+paused_rest (Exit stop) place p s m = exit_of s stop
+paused_rest (Needs request) place p s m = memory_instruction request place p s m
+
+-- an instruction at a place, of which frames did what they can
+abbrev pub after_part : Result (Unit {0}) FramesExit → ℕ → Packages → Frames → MemoryState → Program (Next Frames)
+after_part (Ok u) place p s m = continue_with s
+after_part (Err why) place p s m = paused_rest why place p s m
+
+-- the instruction at the frame's place, of which frames did what they can
+abbrev pub after_frames_step : Result (Unit {0}) PausedStep → Packages → Frames → MemoryState → Program (Next Frames)
+after_frames_step (Ok u) p s m = continue_with s
+after_frames_step (Err pause) p s m = paused_rest pause.why pause.place p s m
+
+-- what is left of a step
+abbrev pub step_rest : PausedStep → Packages → Frames → MemoryState → Program (Next Frames)
+step_rest pause p s m = bind (paused_rest pause.why pause.place p s m) m (λ next v. throw_from pause.place p next v)
+
+-- what is left of a run of which so many steps are left behind a pause; without one, no step is left
+abbrev pub run_rest : Option (ℕ × PausedStep) → List ℕ → Packages → Frames → MemoryState → Program (ℕ × Outcome)
+run_rest None lent p s m = Finish (0, Fault)
+run_rest (Some r) lent p s m = bind (step_rest r.1 p s m) m (λ next v. or_end r.0 next (λ t. run_of r.0 lent p t v))

@@ -1,0 +1,163 @@
+//! Turns: instructions that need nothing but the frames are carried out one after the other, up to one that
+//! needs more.
+ghost use Rattle.std.specs.Prelude.{◌≡◌, ◌<◌, ◌^◌, ℕ, List, length, IfErr, IfSome, OnOk};
+ghost use Rattle.jc_opcodes.specs.Table.{HasListedOperands};
+ghost use Rattle.jc_linker.specs.Values.{Packages};
+ghost use Rattle.jc_memory.specs.State.{MemoryState};
+ghost use Rattle.jc_interp.specs.Stepping.{code_of, instruction_at, instruction_step, is_plain};
+ghost use Rattle.jc_interp.specs.Running.{run_of};
+ghost use Rattle.jc_interp.specs.PausedSteps.{after_part, after_frames_step, run_rest};
+
+use jc_frames::arithmetic_ops::arithmetic_instruction;
+use jc_frames::branch_ops::branch_instruction;
+use jc_frames::constant_ops::constant_instruction;
+use jc_frames::local_ops::local_instruction;
+use jc_frames::stack_ops::stack_instruction;
+use jc_frames::{CodeFault, FrameExit, Frames, Outcome};
+use jc_opcodes::decode::decode;
+use jc_opcodes::instr::{ArrayOp, FieldOp, Instr, InvokeOp, ObjectOp, ReturnOp};
+
+/// An instruction that needs more than frames.
+#[derive(Clone, Copy)]
+pub(crate) enum MemoryInstr {
+    Return(ReturnOp),
+    Field(FieldOp),
+    Array(ArrayOp),
+    Object(ObjectOp),
+    Invoke(InvokeOp),
+}
+
+/// Why frames alone do not go on.
+#[derive(Clone, Copy)]
+pub(crate) enum FramesExit {
+    /// The runtime environment throws, or the run ends.
+    Exit(FrameExit),
+    /// This instruction is to be carried out.
+    Needs(MemoryInstr),
+}
+
+impl From<CodeFault> for FramesExit {
+    ghost use Rattle.std.specs.Prelude.{◌≡◌};
+    ghost use Rattle.jc_frames.specs.declared.outcome.FrameExit.TheVariants.{End};
+    ghost use Rattle.jc_frames.specs.declared.outcome.Outcome.TheVariants.{Fault};
+    ghost use Rattle.jc_interp.specs.declared.frames_only.FramesExit.TheVariants.{Exit};
+
+    ghost from_gives = { λ _ why. why ≡ Exit (End Fault) };
+
+    #[inline(always)]
+    fn from(_: CodeFault) -> Self {
+        FramesExit::Exit(FrameExit::End(Outcome::Fault))
+    }
+}
+
+impl From<FrameExit> for FramesExit {
+    ghost use Rattle.std.specs.Prelude.{◌≡◌};
+    ghost use Rattle.jc_interp.specs.declared.frames_only.FramesExit.TheVariants.{Exit};
+
+    ghost from_gives = { λ stop why. why ≡ Exit stop };
+
+    #[inline(always)]
+    fn from(stop: FrameExit) -> Self {
+        FramesExit::Exit(stop)
+    }
+}
+
+/// Where frames alone do not go on: the place of an instruction, behind which the next one stands.
+#[derive(Clone, Copy)]
+pub(crate) struct PausedStep {
+    pub(crate) place: u16,
+    pub(crate) why: FramesExit,
+}
+
+// Whether code that was lent has the instruction.
+const fn is_plain(instr: Instr) -> bool
+    ensures { result ≡ is_plain instr }
+{
+    match instr {
+        Instr::Return(ReturnOp::Areturn)
+        | Instr::Field(_)
+        | Instr::Array(_)
+        | Instr::Object(_)
+        | Instr::Invoke(_) => false,
+        _ => true,
+    }
+}
+
+// `nop`: goes on. An instruction at a place, with the next one behind it, is carried out here if it needs
+// nothing but frames; else the exit says what it needs.
+#[tactic(auto, unfolding(crate::specs::Stepping::instruction_at))]
+#[inline(always)]
+fn carry_out(instr: Instr, code: &[u8], place: u16, frames: &mut Frames) -> Result<(), FramesExit>
+    requires short { length code.now < 2 ^ 16 }
+    requires at { place < length code.now }
+    requires listed { HasListedOperands instr }
+    ensures same { (p : Packages) (m : MemoryState) → after_part result place p frames.new m
+        ≡ instruction_at instr code.now place p frames.old m }
+    ensures origin { OnOk result (frames.new.current.origin ≡ frames.old.current.origin) }
+{
+    match instr {
+        Instr::Nop => {}
+        Instr::Constant(constant) => constant_instruction(constant, frames)?,
+        Instr::Local(local) => local_instruction(local, frames)?,
+        Instr::Stack(stack) => stack_instruction(stack, frames)?,
+        Instr::Arithmetic(arithmetic) => arithmetic_instruction(arithmetic, frames)?,
+        Instr::Branch(to) => branch_instruction(to, code, usize::from(place), frames)?,
+        Instr::Return(how) => return Err(FramesExit::Needs(MemoryInstr::Return(how))),
+        Instr::Field(field) => return Err(FramesExit::Needs(MemoryInstr::Field(field))),
+        Instr::Array(operation) => return Err(FramesExit::Needs(MemoryInstr::Array(operation))),
+        Instr::Object(operation) => return Err(FramesExit::Needs(MemoryInstr::Object(operation))),
+        Instr::Invoke(call) => return Err(FramesExit::Needs(MemoryInstr::Invoke(call))),
+    }
+    Ok(())
+}
+
+// Carries out the instruction at the frame's place, if it needs nothing but frames.
+#[tactic(auto, unfolding(crate::specs::Stepping::instruction_step))]
+#[inline(always)]
+fn step_in_frames(code: &[u8], frames: &mut Frames) -> Result<(), PausedStep>
+    requires short { length code.now < 2 ^ 16 }
+    ensures same { (p : Packages) (m : MemoryState) → after_frames_step result p frames.new m
+        ≡ instruction_step code.now p frames.old m }
+    ensures place { IfErr result (λ pause. pause.place ≡ frames.old.current.place) }
+    ensures origin { OnOk result (frames.new.current.origin ≡ frames.old.current.origin) }
+{
+    let place = frames.place();
+    let Some((instr, next)) = decode(code, usize::from(place)) else {
+        return Err(PausedStep {
+            place,
+            why: FramesExit::from(CodeFault),
+        });
+    };
+    if !is_plain(instr) && frames.origin().package_number == 0 {
+        return Err(PausedStep {
+            place,
+            why: FramesExit::from(CodeFault),
+        });
+    }
+    frames.set_place(next as u16);
+    match carry_out(instr, code, place, frames) {
+        Ok(()) => Ok(()),
+        Err(why) => Err(PausedStep { place, why }),
+    }
+}
+
+/// Carries out instructions that need nothing but frames, as many at most: `None` once they are used up, else
+/// how many are left and where something else is to be done.
+pub(crate) fn run_in_frames(
+    code: &[u8],
+    budget: u32,
+    frames: &mut Frames,
+) -> Option<(u32, PausedStep)>
+    requires short { length code.now < 2 ^ 16 }
+    ensures same { (lent : List ℕ) (p : Packages) (m : MemoryState)
+        → code.now ≡ code_of lent p frames.old.current.origin.package_number
+        → run_of budget lent p frames.old m ≡ run_rest result lent p frames.new m }
+    ensures fewer { IfSome result (λ r. r.0 < budget) }
+{
+    for turns in 0..budget {
+        if let Err(pause) = step_in_frames(code, frames) {
+            return Some((budget - (turns + 1), pause));
+        }
+    }
+    None
+}

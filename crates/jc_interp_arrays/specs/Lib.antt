@@ -1,4 +1,0 @@
-pub mod Elements
-pub mod Loads
-pub mod Making
-pub mod Group

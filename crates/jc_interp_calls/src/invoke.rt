@@ -1,0 +1,483 @@
+//! Which method a call runs, and for whom.
+ghost use Rattle.std.specs.Prelude.{◌≡◌, false, true, IfSome, None, option_copied};
+ghost use Rattle.std.specs.Option.{option_map};
+ghost use Rattle.jc_linker.specs.Classes.{is_below};
+ghost use Rattle.jc_world.specs.Objects.{check_or_fault};
+ghost use Rattle.jc_interp_calls.specs.Invoke.{arguments_of, invokeinterface, invokespecial, invokestatic, invokevirtual, call_of, method_selection};
+ghost use Rattle.jc_interp_calls.specs.Invoke.{static_selection, class_of, fits_at_null, header_of, interface_access, interface_by, is_native_constructor};
+ghost use Rattle.jc_interp_calls.specs.Invoke.{is_null_on, is_of_any, call_decision, receiver_of, receiver_on, special_by, virtual_by, with_header};
+
+use crate::method_component::method_component_of;
+use crate::parameters::fits;
+use jc_cap_linkage::pool::VirtualToken;
+use jc_firewall::access::Access;
+use jc_firewall::decide::Decision;
+use jc_frames::{Cell, Exception, FrameExit, Frames, Outcome};
+use jc_heap::Facts;
+use jc_linker::linked::Linked;
+use jc_linker::target::{Method, Target};
+use jc_memory::{Memory, Owner};
+use jc_opcodes::instr::InvokeOp;
+use jc_opcodes::{Header, header_at};
+use jc_platform::names::PlatformClass;
+use jc_transient::{ClassWord, Ref};
+use jc_words::WordStore;
+use jc_world::contexts::{allow, firewall_decision};
+use jc_world::objects::{is_instance, object};
+
+/// A call whose method was found.
+#[derive(Clone, Copy, PartialEq, Eq, Debug)]
+pub struct MethodCall {
+    pub method: Method,
+    /// How many cells its arguments have.
+    pub arguments: u8,
+    /// The owner that is active while it runs, where that is another one than the caller's.
+    pub switches_to: Option<Owner>,
+}
+
+/// A call, and what the header of its method says, if that is in bytecode and its header is not cut.
+#[derive(Clone, Copy, PartialEq, Eq, Debug)]
+pub struct SelectedCall {
+    pub call: MethodCall,
+    pub header: Option<Header>,
+}
+
+impl MethodCall {
+    // A call in the caller's context.
+    #[inline(always)]
+    const fn of(method: Method, arguments: u8) -> MethodCall
+        ensures { result ≡ call_of method arguments None }
+    {
+        MethodCall {
+            method,
+            arguments,
+            switches_to: None,
+        }
+    }
+}
+
+// It holds, or a code fault.
+#[inline(always)]
+const fn check(holds: bool) -> Result<(), FrameExit>
+    ensures { result ≡ check_or_fault holds }
+{
+    if holds {
+        Ok(())
+    } else {
+        Err(FrameExit::End(Outcome::Fault))
+    }
+}
+
+// What the header of a method in bytecode says, if it is not cut.
+#[tactic(auto, unfolding(crate::specs::Invoke::header_of))]
+#[inline(always)]
+fn header_of(method: Method, linked: &Linked) -> Option<Header>
+    ensures { result ≡ header_of linked.now method }
+{
+    match method {
+        Method::Code {
+            package_number,
+            offset,
+        } => header_at(method_component_of(package_number, linked), offset),
+        Method::Native(_) => None,
+    }
+}
+
+// How many cells the arguments of a method have, and its header; none where its header is cut.
+#[tactic(auto, unfolding(crate::specs::Invoke::arguments_of, crate::specs::Invoke::header_of))]
+#[inline(always)]
+fn arguments_of(method: Method, linked: &Linked) -> Option<(u8, Option<Header>)>
+    ensures count { option_map (λ r. r.0) result ≡ arguments_of linked.now method }
+    ensures header { IfSome result (λ r. r.1 ≡ header_of linked.now method) }
+{
+    match method {
+        Method::Code { .. } => {
+            let header = header_of(method, linked)?;
+            Some((header.arguments, Some(header)))
+        }
+        Method::Native(method) => Some((method.argument_cells(), None)),
+    }
+}
+
+// The two are one method in bytecode.
+#[inline(always)]
+fn is_same(one: Method, other: Method) -> bool
+    ensures { result ≡ true → one ≡ other }
+{
+    match (one, other) {
+        (
+            Method::Code {
+                package_number,
+                offset,
+            },
+            Method::Code {
+                package_number: number,
+                offset: place,
+            },
+        ) => package_number == number && offset == place,
+        _ => false,
+    }
+}
+
+// The header of a method, where that of another one is known.
+#[inline(always)]
+fn header_by(
+    found: Method,
+    method: Method,
+    header: Option<Header>,
+    linked: &Linked,
+) -> Option<Header>
+    requires { header ≡ header_of linked.now method }
+    ensures { result ≡ header_of linked.now found }
+{
+    if is_same(found, method) {
+        header
+    } else {
+        header_of(found, linked)
+    }
+}
+
+// The reference below the other arguments, of which there are so many with it.
+#[inline(always)]
+fn receiver_on(arguments: u8, frames: &Frames) -> Option<Ref>
+    ensures { result ≡ receiver_on arguments frames.now.current.stack }
+{
+    if arguments == 0 {
+        return None;
+    }
+    match frames.peek(arguments - 1)? {
+        Cell::Reference(receiver) => Some(receiver),
+        _ => None,
+    }
+}
+
+// The header of the receiver of a method with so many arguments.
+#[tactic(auto, unfolding(crate::specs::Invoke::receiver_of))]
+#[inline(always)]
+fn receiver_of<S: WordStore>(
+    arguments: u8,
+    frames: &Frames,
+    memory: &Memory<S>,
+) -> Result<Facts, FrameExit>
+    requires up { memory.now.heap.down ≡ false }
+    ensures { result ≡ receiver_of arguments frames.now.current.stack memory.now }
+{
+    let receiver = receiver_on(arguments, frames).ok_or(FrameExit::End(Outcome::Fault))?;
+    object(receiver, memory)
+}
+
+fn is_null_on(arguments: u8, frames: &Frames) -> bool
+    ensures { result ≡ is_null_on arguments frames.now.current.stack }
+{
+    match receiver_on(arguments, frames) {
+        Some(receiver) => receiver.is_null(),
+        None => false,
+    }
+}
+
+// Behind a null receiver the arguments have the kinds that the method of the entry wants.
+fn fits_at_null<S: WordStore>(
+    arguments: u8,
+    method: Method,
+    frames: &Frames,
+    memory: &Memory<S>,
+    linked: &Linked,
+) -> bool
+    requires up { memory.now.heap.down ≡ false }
+    ensures { result ≡ fits_at_null arguments method linked.now frames.now.current.stack
+        memory.now }
+{
+    !is_null_on(arguments, frames) || fits(method, frames, memory, linked)
+}
+
+// An object's class. Arrays are instances of `Object`.
+#[inline(always)]
+fn class_of(facts: Facts, linked: &Linked) -> ClassWord
+    ensures { result ≡ class_of linked.now facts }
+{
+    if is_instance(facts.kind) {
+        facts.class()
+    } else {
+        linked.platform().class_word(PlatformClass::Object)
+    }
+}
+
+// The class is the other, below it, or implements it.
+#[tactic(auto, using(jc_world::proofs::Below::below_same))]
+#[inline(always)]
+fn is_below(own: ClassWord, class: ClassWord, linked: &Linked) -> bool
+    ensures { result ≡ is_below linked.now own class }
+{
+    own == class || linked.is_below(own, class)
+}
+
+// What the firewall says of a call on an object.
+#[inline(always)]
+fn call_decision(
+    decision: Decision,
+    facts: Facts,
+    method: Method,
+    arguments: u8,
+) -> Result<MethodCall, FrameExit>
+    ensures { result ≡ call_decision decision facts method arguments }
+{
+    match decision {
+        Decision::Allow => Ok(MethodCall::of(method, arguments)),
+        Decision::Switch(_) => Ok(MethodCall {
+            method,
+            arguments,
+            switches_to: Some(Owner::of(facts.owner())),
+        }),
+        Decision::Deny(_) => Err(FrameExit::Throw(Exception::SecurityException)),
+    }
+}
+
+// `invokevirtual`: selects the method by the receiver's class.
+#[tactic(auto, unfolding(crate::specs::Invoke::invokevirtual))]
+fn invokevirtual<S: WordStore>(
+    class: ClassWord,
+    token: VirtualToken,
+    method: Method,
+    frames: &Frames,
+    memory: &Memory<S>,
+    linked: &Linked,
+) -> Result<SelectedCall, FrameExit>
+    requires up { memory.now.heap.down ≡ false }
+    ensures { result ≡ with_header linked.now (invokevirtual class token method linked.now
+        frames.now.current.stack memory.now) }
+{
+    let (arguments, header) = arguments_of(method, linked).ok_or(FrameExit::End(Outcome::Fault))?;
+    check(fits_at_null(arguments, method, frames, memory, linked))?;
+    let facts = receiver_of(arguments, frames, memory)?;
+    let own = class_of(facts, linked);
+    check(is_below(own, class, linked))?;
+    let found = linked
+        .method_at(own, (class.0 / 256) as u8, token)
+        .ok_or(FrameExit::End(Outcome::Fault))?;
+    check(fits(found, frames, memory, linked))?;
+    let decision = firewall_decision(Access::VirtualCall, facts, memory, linked);
+    let call = call_decision(decision, facts, found, arguments)?;
+    let header = header_by(found, method, header, linked);
+    Ok(SelectedCall { call, header })
+}
+
+// The receiver is of the class, where one is asked for.
+fn is_of_any(facts: Facts, class: Option<ClassWord>, linked: &Linked) -> bool
+    ensures { result ≡ is_of_any linked.now facts class }
+{
+    match class {
+        None => true,
+        Some(class) => linked.is_below(class_of(facts, linked), class),
+    }
+}
+
+// `invokespecial`: selects the method that the entry names: a constructor, a private method, or one of a
+// superclass.
+#[tactic(auto, unfolding(crate::specs::Invoke::invokespecial))]
+fn invokespecial<S: WordStore>(
+    class: Option<ClassWord>,
+    method: Method,
+    frames: &Frames,
+    memory: &Memory<S>,
+    linked: &Linked,
+) -> Result<SelectedCall, FrameExit>
+    requires up { memory.now.heap.down ≡ false }
+    ensures { result ≡ with_header linked.now (invokespecial class method linked.now
+        frames.now.current.stack memory.now) }
+{
+    let (arguments, header) = arguments_of(method, linked).ok_or(FrameExit::End(Outcome::Fault))?;
+    check(fits_at_null(arguments, method, frames, memory, linked))?;
+    let facts = receiver_of(arguments, frames, memory)?;
+    check(is_of_any(facts, class, linked))?;
+    check(fits(method, frames, memory, linked))?;
+    allow(Access::InstanceField, facts, memory, linked)?;
+    let call = MethodCall::of(method, arguments);
+    Ok(SelectedCall { call, header })
+}
+
+#[inline(never)]
+fn is_native_constructor(method: Method) -> bool
+    ensures { result ≡ is_native_constructor method }
+{
+    match method {
+        Method::Code { .. } => false,
+        Method::Native(method) => method.is_constructor(),
+    }
+}
+
+// `invokestatic`: selects the static method that the entry names.
+#[tactic(auto, unfolding(crate::specs::Invoke::invokestatic))]
+#[inline(always)]
+fn invokestatic(method: Method, linked: &Linked) -> Result<SelectedCall, FrameExit>
+    ensures { result ≡ with_header linked.now (invokestatic method linked.now) }
+{
+    check(!is_native_constructor(method))?;
+    let (arguments, header) = arguments_of(method, linked).ok_or(FrameExit::End(Outcome::Fault))?;
+    let call = MethodCall::of(method, arguments);
+    Ok(SelectedCall { call, header })
+}
+
+// A call of an interface's method, as the firewall sees it.
+fn interface_access(interface: ClassWord, linked: &Linked) -> Access
+    ensures { result ≡ interface_access linked.now interface }
+{
+    if linked.is_shareable(interface) {
+        Access::ShareableInterfaceCall
+    } else {
+        Access::StandardInterfaceCall
+    }
+}
+
+// `invokeinterface`: selects the method of the receiver's class that implements an interface's.
+#[tactic(auto, unfolding(crate::specs::Invoke::invokeinterface))]
+fn invokeinterface<S: WordStore>(
+    interface: ClassWord,
+    arguments: u8,
+    token: u8,
+    frames: &Frames,
+    memory: &Memory<S>,
+    linked: &Linked,
+) -> Result<SelectedCall, FrameExit>
+    requires up { memory.now.heap.down ≡ false }
+    ensures { result ≡ with_header linked.now (invokeinterface interface arguments token linked.now
+        frames.now.current.stack memory.now) }
+{
+    let facts = receiver_of(arguments, frames, memory)?;
+    let own = class_of(facts, linked);
+    check(linked.is_below(own, interface))?;
+    let found = linked
+        .interface_method_at(own, interface, token)
+        .ok_or(FrameExit::End(Outcome::Fault))?;
+    check(fits(found, frames, memory, linked))?;
+    let decision = firewall_decision(interface_access(interface, linked), facts, memory, linked);
+    let call = call_decision(decision, facts, found, arguments)?;
+    let header = header_of(found, linked);
+    Ok(SelectedCall { call, header })
+}
+
+/// Which method a static call runs, as `select_method` says it, and what the method's header says.
+#[inline(always)]
+pub fn select_static_method(
+    index: u16,
+    frames: &Frames,
+    linked: &Linked,
+) -> Result<SelectedCall, FrameExit>
+    ensures { result ≡ with_header linked.now (static_selection index linked.now frames.now) }
+{
+    match linked.target_at(frames.origin().package_number, index) {
+        Some(Target::StaticMethod { class: _, method }) => invokestatic(*method, linked),
+        _ => Err(FrameExit::End(Outcome::Fault)),
+    }
+}
+
+// The virtual method that an entry names.
+#[inline(always)]
+fn virtual_by<S: WordStore>(
+    entry: Option<&Target>,
+    frames: &Frames,
+    memory: &Memory<S>,
+    linked: &Linked,
+) -> Result<SelectedCall, FrameExit>
+    requires up { memory.now.heap.down ≡ false }
+    ensures { result ≡ with_header linked.now (virtual_by
+        (option_copied entry.entry) linked.now frames.now.current.stack memory.now) }
+{
+    match entry {
+        Some(
+            Target::VirtualMethod {
+                class,
+                token,
+                method,
+            },
+        ) => invokevirtual(*class, *token, *method, frames, memory, linked),
+        _ => Err(FrameExit::End(Outcome::Fault)),
+    }
+}
+
+// The constructor, the private method or the method of a superclass that an entry names.
+#[inline(never)]
+fn special_by<S: WordStore>(
+    entry: Option<&Target>,
+    frames: &Frames,
+    memory: &Memory<S>,
+    linked: &Linked,
+) -> Result<SelectedCall, FrameExit>
+    requires up { memory.now.heap.down ≡ false }
+    ensures { result ≡ with_header linked.now (special_by
+        (option_copied entry.entry) linked.now frames.now.current.stack memory.now) }
+{
+    match entry {
+        Some(Target::StaticMethod { class, method }) => {
+            invokespecial(*class, *method, frames, memory, linked)
+        }
+        Some(Target::SuperMethod { class, method }) => {
+            invokespecial(Some(*class), *method, frames, memory, linked)
+        }
+        _ => Err(FrameExit::End(Outcome::Fault)),
+    }
+}
+
+// The method with a token of the interface that an entry names.
+#[inline(never)]
+fn interface_by<S: WordStore>(
+    entry: Option<&Target>,
+    arguments: u8,
+    token: u8,
+    frames: &Frames,
+    memory: &Memory<S>,
+    linked: &Linked,
+) -> Result<SelectedCall, FrameExit>
+    requires up { memory.now.heap.down ≡ false }
+    ensures { result ≡ with_header linked.now (interface_by
+        (option_copied entry.entry) arguments token linked.now frames.now.current.stack
+        memory.now) }
+{
+    match entry {
+        Some(Target::Class(class)) => {
+            invokeinterface(*class, arguments, token, frames, memory, linked)
+        }
+        _ => Err(FrameExit::End(Outcome::Fault)),
+    }
+}
+
+/// Which method a call runs, with how many arguments, and for whom; and what the method's header says.
+///
+/// A code fault where the entry of the constant pool is another one, where the receiver is no reference
+/// or no instance of the class that the entry names, where its class has no such method, or where an
+/// argument of a method of the platform is of another kind; else a null receiver throws, and then a
+/// refused access does.
+#[tactic(auto, unfolding(crate::specs::Invoke::method_selection))]
+#[inline(always)]
+pub fn select_method<S: WordStore>(
+    invoke: InvokeOp,
+    frames: &Frames,
+    memory: &Memory<S>,
+    linked: &Linked,
+) -> Result<SelectedCall, FrameExit>
+    requires up { memory.now.heap.down ≡ false }
+    ensures { result ≡ with_header linked.now (method_selection invoke linked.now frames.now
+        memory.now) }
+{
+    let number = frames.origin().package_number;
+    match invoke {
+        InvokeOp::Virtual(index) => {
+            virtual_by(linked.target_at(number, index), frames, memory, linked)
+        }
+        InvokeOp::Special(index) => {
+            special_by(linked.target_at(number, index), frames, memory, linked)
+        }
+        InvokeOp::Static(index) => select_static_method(index, frames, linked),
+        InvokeOp::Interface {
+            arguments,
+            index,
+            token,
+        } => interface_by(
+            linked.target_at(number, index),
+            arguments,
+            token,
+            frames,
+            memory,
+            linked,
+        ),
+    }
+}

@@ -1,6 +1,0 @@
-pub mod Constants
-pub mod Locals
-pub mod Stack
-pub mod Arithmetic
-pub mod Branches
-pub mod Returns

@@ -1,9 +1,0 @@
-pub mod Lists
-pub mod Alike
-pub mod Entries
-pub mod Numbers
-pub mod Closed
-pub mod Linking
-pub mod Laws
-pub mod Entered
-pub mod Fields

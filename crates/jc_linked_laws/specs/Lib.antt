@@ -1,4 +1,0 @@
-pub mod Linked
-pub mod Staying
-pub mod Resolving
-pub mod Fields

@@ -1,6 +1,0 @@
-use Rattle.std.proofs.Common.{◌≡◌, ◌≤◌, ◌++◌, ℕ, List, [], ◌∷◌, Ok, length, take, drop, map}
-use Rattle.jc_loaded.specs.Outlines.{applet_of}
-use Rattle.jc_loaded.proofs.copies.copied_applets.Given as goal
-
-abbrev pub invariant-loop-entry : goal.invariant-loop-entry
-invariant-loop-entry l = l.copy.items ≡ map applet_of (take l.entry l.applets)

@@ -1,7 +1,0 @@
-use Rattle.std.proofs.Common.{◌≡◌, ◌∙◌, ◌++◌, ◌+◌, ◌*◌, ◌≤◌, [], ◌∷◌, ap, sym, arith, length, length-append, map}
-use Rattle.jc_loaded.proofs.Walks.{taken_map}
-use Rattle.jc_loaded.specs.Outlines.{export_of}
-use Rattle.jc_loaded.proofs.copies.copied_exports.Goals as goal
-
-pub loop-token-preserved : goal.loop-token-preserved
-loop-token-preserved c = cc (taken_map export_of c.args.exports.now c.loop-token.token c.get.result c.get.ensures, c.in_ok-push.ensures.items, c.in_ok-export.ensures, c.loop-token.invariant)

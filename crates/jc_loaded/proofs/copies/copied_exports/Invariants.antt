@@ -1,6 +1,0 @@
-use Rattle.std.proofs.Common.{◌≡◌, ◌≤◌, ◌++◌, ℕ, List, [], ◌∷◌, Ok, length, take, drop, map}
-use Rattle.jc_loaded.specs.Outlines.{export_of}
-use Rattle.jc_loaded.proofs.copies.copied_exports.Given as goal
-
-abbrev pub invariant-loop-token : goal.invariant-loop-token
-invariant-loop-token l = l.copy.items ≡ map export_of (take l.token l.exports)

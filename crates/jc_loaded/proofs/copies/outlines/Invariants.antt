@@ -1,7 +1,0 @@
-use Rattle.std.proofs.Common.{◌≡◌, ◌≤◌, ◌++◌, ℕ, List, [], ◌∷◌, Ok, length, take, drop, map}
-use Rattle.jc_cap_code.specs.ClassValues.{offsets_of}
-use Rattle.jc_loaded.specs.Outlines.{outline_of}
-use Rattle.jc_loaded.proofs.copies.outlines.Given as goal
-
-abbrev pub invariant-loop-number : goal.invariant-loop-number
-invariant-loop-number l = (l.copy.items ≡ map outline_of (take l.number (offsets_of l.classes))) × (length l.copy.items ≡ l.number)

@@ -1,0 +1,18 @@
+use Rattle.jc_memory.specs.Making.{creation_refusal}
+use Rattle.jc_memory.proofs.Room.{made_object}
+use Rattle.jc_memory.proofs.commit_capacity.make_within_capacity.Goals as goal
+
+pub returns-in-Ok-clause-new : goal.returns-in-Ok-clause-new
+returns-in-Ok-clause-new g c =
+    (made_object (creation_refusal c.args.memory.now c.args.object) c.args.memory.now c.make.new.self c.args.object c.in-Ok.made c.requires.persistent
+    c.in-Ok.ensures).0
+
+pub returns-in-Ok-clause-kept : goal.returns-in-Ok-clause-kept
+returns-in-Ok-clause-kept g c =
+    (made_object (creation_refusal c.args.memory.now c.args.object) c.args.memory.now c.make.new.self c.args.object c.in-Ok.made c.requires.persistent
+    c.in-Ok.ensures).1
+
+pub returns-in-Ok-clause-rest : goal.returns-in-Ok-clause-rest
+returns-in-Ok-clause-rest g c =
+    (made_object (creation_refusal c.args.memory.now c.args.object) c.args.memory.now c.make.new.self c.args.object c.in-Ok.made c.requires.persistent
+    c.in-Ok.ensures).2

@@ -1,5 +1,0 @@
-//! The methods of the platform: which part has each, and one call for all.
-#![tactic(auto)]
-
-pub mod natives;
-pub mod parts;

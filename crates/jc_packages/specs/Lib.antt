@@ -1,5 +1,0 @@
-pub mod Values
-pub mod Classes
-pub mod Methods
-pub mod Lookups
-pub mod Resolves

@@ -1,0 +1,16 @@
+-- What a session holds.
+use Rattle.jc_session.specs.Power.{PowerState, Up, Off}
+use Rattle.jc_session.specs.declared.event.Answer.{Answer}
+use Rattle.jc_session.specs.declared.event.Answer.TheVariants.{Ready, Down}
+use Rattle.jc_session.specs.declared.state.SessionState.{SessionState}
+use Rattle.jc_session.specs.declared.state.SessionState.TheVariants.{Card, Store}
+
+-- it is up where there is a card
+abbrev pub power_of : {S : Type 0} → SessionState S → PowerState
+power_of (Card card) = Up card
+power_of (Store kept) = Off kept
+
+-- what is answered after a power up
+abbrev pub answer_of_power_up : PowerState → Answer
+answer_of_power_up (Up card) = Ready
+answer_of_power_up (Off k) = Down

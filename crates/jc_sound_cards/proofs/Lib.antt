@@ -1,6 +1,0 @@
-pub mod Heaps
-pub mod Commands
-pub mod Loads
-pub mod Sessions
-pub mod Images
-pub mod Faults

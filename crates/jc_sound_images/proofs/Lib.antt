@@ -1,4 +1,0 @@
-pub mod Finding
-pub mod Beginnings
-pub mod Effects
-pub mod NewImages

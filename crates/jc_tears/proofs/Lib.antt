@@ -1,4 +1,0 @@
-pub mod Plain
-pub mod Pins
-pub mod Torn
-pub mod Same

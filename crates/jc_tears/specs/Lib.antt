@@ -1,3 +1,0 @@
-pub mod Orderly
-pub mod Tears
-pub mod Same

@@ -1,3 +1,0 @@
-pub mod Leaving
-pub mod Laws
-pub mod Staying

@@ -1,2 +1,0 @@
-pub mod Changed
-pub mod Guesses

@@ -1,0 +1,15 @@
+use Rattle.std.proofs.Common.{◌∙◌, ap₂}
+use Rattle.std.proofs.lemmas.Result.{IfOk-weaker}
+use Rattle.clap.specs.Words.{App, with_subcommand}
+use Rattle.jcard_commands.proofs.arguments.commands.Goals as goal
+
+-- an application with one command more
+abbrev with_top : App → App → App
+with_top program command = with_subcommand program command.top
+
+pub returns : goal.returns
+returns c =
+    let one = c.in_ok-program.ensures ∙ ap₂ with_top c.new.ensures.app c.in_ok-new.ensures in
+    let two = c.in_ok-program-2.ensures ∙ ap₂ with_top one c.in_ok-run.ensures in
+    let three = c.in_ok-program-3.ensures ∙ ap₂ with_top two c.in_ok-dump.ensures in
+    IfOk-weaker c.with_command-4.result _ _ (λ r h. h ∙ ap₂ with_top three c.in_ok-trial.ensures) c.with_command-4.ensures

@@ -1,0 +1,107 @@
+//! Trying a script on a new card in memory.
+ghost use Rattle.std.specs.Prelude.{◌≡◌, ◌≤◌, ◌<◌, ◌+◌, ◌*◌, ℕ, List, IfOk, length};
+ghost use Rattle.std.specs.Io.KnownBytes.{Appends};
+ghost use Rattle.jc_words.specs.Count.{failures_after};
+ghost use Rattle.jc_words.specs.Layout.{least_size};
+ghost use Rattle.jcard_commands.specs.Faults.{IsTrial, IsTriedOn, is_unwritten};
+ghost use Rattle.jcard_commands.specs.FileRequests.{FileRequests, file_requests, with_more_requests};
+ghost use Rattle.jcard_commands.specs.NewImages.{IsNewImageInMemory, IsTable};
+
+use crate::disk::Disk;
+use crate::fault::Fault;
+use crate::new_image::{text_of, word_count};
+use crate::run::{Names, run_named};
+use jc_platform::fault::TableFault;
+use jc_platform::read::read_table;
+use jc_words::{LockFile, MemStore};
+use jcard_script::card::formatting::{FormatFault, format};
+use jcard_script::std_text::StdText;
+use jcard_script::streams::TextOut;
+use std::alloc::Global;
+use std::rt::Files;
+
+/// Carries out the script in the file of the first name, on a new card in memory of so many words, a
+/// decimal number, with the platform table in the file of the last name. No file is changed.
+pub fn try_script<'n, R: Files + AllocGlobal, W: TextOut>(
+    disk: &mut Disk<R>,
+    script: &'n str,
+    words: &str,
+    table: &'n str,
+    out: &mut W,
+) -> Result<(), Fault<'n>>
+where
+    R::File: LockFile,
+    ensures done { (text : List ℕ) × (files : FileRequests)
+        × Appends (W.contents out.old) (W.contents out.new) text
+        × IsTrial script.now words.now table.now result text files
+        × (disk.new ≡ with_more_requests files disk.old) }
+    ensures writes { W.failures out.new ≡ failures_after (W.failures out.old)
+        (is_unwritten result) }
+{
+    let Some(count) = word_count(words) else {
+        return Err(Fault::BadWords);
+    };
+    let text = match text_of(disk, table) {
+        Ok(text) => text,
+        Err(fault) => return Err(fault),
+    };
+    match read_table(&text) {
+        Ok(_) => try_on(disk, script, count, &text, out),
+        Err(TableFault::BadTable(line)) => Err(Fault::BadTable(line)),
+    }
+}
+
+// Carries out the script in the file of this name, on a new card of so many words with this platform table.
+fn try_on<'n, R: Files + AllocGlobal, W: TextOut>(
+    disk: &mut Disk<R>,
+    script: &'n str,
+    count: u16,
+    table: &[u8],
+    out: &mut W,
+) -> Result<(), Fault<'n>>
+where
+    R::File: LockFile,
+    requires enough { least_size ≤ count }
+    requires table { IsTable table.now }
+    ensures done { (text : List ℕ) × Appends (W.contents out.old) (W.contents out.new) text
+        × IsTriedOn script.now count table.now result text }
+    ensures counted { disk.new ≡ with_more_requests (file_requests 1 0 0) disk.old }
+    ensures writes { W.failures out.new ≡ failures_after (W.failures out.old)
+        (is_unwritten result) }
+{
+    let file = match disk.open_text(script) {
+        Ok(file) => file,
+        Err(fault) => return Err(fault),
+    };
+    let store = match new_image(disk.alloc(), count, table) {
+        Ok(store) => store,
+        Err(fault) => return Err(fault),
+    };
+    // A store in memory refuses no write, so no line tells the name of its image.
+    let names = Names {
+        image: "memory",
+        script,
+    };
+    run_named(disk.alloc(), names, store, &mut StdText::new(file), out)
+}
+
+// A new image in memory.
+fn new_image<'a>(alloc: Global, count: u16, table: &[u8]) -> Result<MemStore, Fault<'a>>
+    requires enough { least_size ≤ count }
+    requires table { IsTable table.now }
+    ensures { IsNewImageInMemory count table.now result }
+{
+    let Ok(store) = MemStore::new(alloc, count) else {
+        return Err(Fault::NoMemory);
+    };
+    let (store, made) = format(store, table);
+    match made {
+        // What it took to make the image does not count as writes of the card.
+        Ok(()) => Ok(MemStore::of(store.into_words())),
+        Err(FormatFault::TooSmall) => Err(Fault::ImageTooSmall),
+        // The number and the table are good, and a store in memory refuses no write.
+        Err(FormatFault::BadSize) => Err(Fault::ImageTooSmall),
+        Err(FormatFault::BadTable(line)) => Err(Fault::BadTable(line)),
+        Err(FormatFault::StoreDown) => Err(Fault::NoMemory),
+    }
+}

@@ -1,0 +1,89 @@
+-- How a session stands, and what a power up makes of it.
+use Rattle.std.specs.Prelude.{ℕ, ◌≡◌, List, length, true, false, Some, None}
+use Rattle.jc_words.specs.Count.{saturating_count}
+use Rattle.jc_words.specs.Stores.{FuseStoreValue}
+use Rattle.jc_commit.specs.Image.{IsGoodLog, StillRecovers, recovered_of}
+use Rattle.jc_commit.specs.Replay.{IsPartOfReplay}
+use Rattle.jc_commit.specs.State.{recovered_journal}
+use Rattle.jc_heap.specs.Heap.{HeapView, heap_of, heap_view, heap_at_rest}
+use Rattle.jc_heap.specs.Image.{IsWellFormed}
+use Rattle.jc_transient.specs.State.{IsCleared}
+use Rattle.jc_memory.specs.Programs.{Executes}
+use Rattle.jc_memory.specs.State.{MemoryState}
+use Rattle.jc_heap.specs.Completions.{Completion}
+use Rattle.jc_card.specs.Answers.{exchange}
+use Rattle.jc_card.specs.CardState.{CardState}
+use Rattle.jc_card.specs.Loads.{LoadResponse}
+use Rattle.jc_card.specs.Made.{IsMade}
+use Rattle.jc_card.specs.PowerUp.{PowerUpRefuses, RefusalLeaves, IsFoundFirst, IsFoundAfter}
+use Rattle.jc_card.specs.Reset.{IsAtReset}
+use Rattle.jc_card.specs.declared.power_up.PowerFault.{PowerFault as Fault}
+use Rattle.jc_card.specs.declared.power_up.PowerFault.TheVariants.{StoreDown}
+
+-- the card is up, in this state; or it is down, and its store is so
+pub data ScriptState : Type 0 where
+  Up : CardState → ScriptState
+  Down : FuseStoreValue → ScriptState
+
+-- a card may carry a command of these bytes out so
+abbrev pub Exchanges : List ℕ → CardState → Completion MemoryState LoadResponse → Type 0
+Exchanges bytes card after = Executes (exchange bytes card) card.memory after
+
+-- the store of a heap: its words stand for the durable heap, and its counts are the heap's
+pub record IsStoreOf (heap : HeapView) (store : FuseStoreValue) : Type 0 where
+  pub good : IsGoodLog store.words
+  pub laid : IsWellFormed (recovered_of store.words)
+  pub durable : heap_of (recovered_of store.words) ≡ heap.durable
+  pub size : length store.words ≡ heap.size
+  pub down : store.down ≡ heap.down
+  pub passed : store.passed ≡ heap.passed
+  pub refused : store.refused ≡ heap.refused
+
+-- the session's store is so
+abbrev pub IsSessionStore : ScriptState → FuseStoreValue → Type 0
+IsSessionStore (Up card) store = IsStoreOf card.memory.heap store
+IsSessionStore (Down held) store = store ≡ held
+
+-- a power up over a store that was so ends so: the card is up, with the heap of the recovered words, blank memory and no open
+-- load, as after a reset, and no write was refused; or one was, and a part of the recovery was done, so that another leaves what
+-- this one would have left
+abbrev pub PowersUp : FuseStoreValue → ScriptState → Type 0
+PowersUp before (Up card) = IsMade before.words × (card.memory.heap ≡ heap_view (recovered_journal before.words before.passed before.refused)
+    (length before.words)) × IsCleared card.memory.ram × (card.load ≡ None)
+    × IsAtReset (heap_of (recovered_of before.words)) card
+PowersUp before (Down after) = PowerUpRefuses StoreDown before.words × StillRecovers before.words after.words × (after.down ≡ true)
+    × (after.refused ≡ saturating_count before.refused 1)
+    × IsPartOfReplay before.words after.words before.passed after.passed
+
+-- the power is back, in the store below too
+abbrev pub with_power : FuseStoreValue → FuseStoreValue
+with_power f = record f { down = false; down_below = false }
+
+-- a power up over a store that was so finds this fault, which these words have and which is not that a write was refused, and
+-- leaves the store so: no write was refused, and none passed but those of a recovery
+pub record FailsUp (before : FuseStoreValue) (fault : Fault) (after : FuseStoreValue) : Type 0 where
+  pub cause : PowerUpRefuses fault before.words
+  pub other : fault ≡ StoreDown → ⊥
+  pub stands : RefusalLeaves fault before.words after.words
+  pub size : length after.words ≡ length before.words
+  pub up : after.down ≡ false
+  pub refused : after.refused ≡ before.refused
+  pub untouched : IsFoundFirst fault → after ≡ with_power before
+  pub recovered : IsFoundAfter fault → after.passed ≡ (recovered_journal before.words before.passed before.refused).passed
+
+-- a reset: the power comes back to the session's store, and the card powers up
+abbrev pub IsReset : ScriptState → ScriptState → Type 0
+IsReset s t = (store : FuseStoreValue) × IsSessionStore s store × PowersUp store t
+
+-- a reset that finds a fault
+abbrev pub FailsReset : Fault → ScriptState → ScriptState → Type 0
+FailsReset fault s t = (before after : FuseStoreValue) × IsSessionStore s before × FailsUp before fault after × (t ≡ Down after)
+
+-- the fuse is armed with k. The state of a card that is up does not tell its fuse: the card is as it was, at rest
+abbrev pub with_fuse : ℕ → ScriptState → ScriptState
+with_fuse k (Up card) = Up (record card {
+  memory = record card.memory {
+    heap = heap_at_rest card.memory.heap.durable card.memory.heap.passed card.memory.heap.refused card.memory.heap.size;
+  };
+})
+with_fuse k (Down store) = Down (record store { fuse = Some k })

@@ -1,0 +1,103 @@
+//! A card, or the store of a card that does not power up.
+ghost use Rattle.std.specs.Prelude.{◌≡◌, OnOk, OnSome, IfErr, IfSome, IsNone};
+ghost use Rattle.jc_words.specs.Stores.{FuseStoreValue};
+ghost use Rattle.jcard_script.specs.ScriptStates.{Down, IsSessionStore, PowersUp, FailsUp, with_fuse};
+ghost use Rattle.jcard_script.specs.CardOrStore.{IsUp, state_of_card};
+ghost use Rattle.jcard_script.specs.Reply.{text_of_reply};
+ghost use Rattle.jcard_script.specs.Script.{IsAnswered, down_text, power_text, text_of};
+
+use crate::reply::Reply;
+use jc_card::card::Card;
+use jc_card::power_up::PowerFault;
+use jc_card::response::Response;
+use jc_words::{FuseStore, StoreDown, WordStore};
+use std::alloc::Global;
+
+/// What a session holds.
+#[derive(Drop)]
+pub(crate) enum CardOrStore<S: WordStore> {
+    /// A card that is powered up.
+    Card(Card<FuseStore<S>>),
+    /// The store of a card that is down.
+    Store(FuseStore<S>),
+}
+
+impl<S: WordStore> CardOrStore<S> {
+    /// Brings the power back and powers up. A refused write leaves the store; any other fault is
+    /// told too.
+    pub(crate) fn power_up(
+        alloc: Global,
+        mut store: FuseStore<S>,
+    ) -> (CardOrStore<S>, Result<(), PowerFault>)
+        ensures up { IsUp result.0 }
+        ensures powered { OnOk result.1 (PowersUp store (state_of_card result.0)) }
+        ensures fault { IfErr result.1 (λ fault. (after : FuseStoreValue)
+            × FailsUp store fault after × (state_of_card result.0 ≡ Down after)) }
+    {
+        store.power_on();
+        match Card::power_up(alloc, store) {
+            Ok(card) => (CardOrStore::Card(card), Ok(())),
+            Err((PowerFault::StoreDown, store)) => (CardOrStore::Store(store), Ok(())),
+            Err((fault, store)) => (CardOrStore::Store(store), Err(fault)),
+        }
+    }
+
+    /// The store of the card, without power.
+    pub(crate) fn into_store(self) -> FuseStore<S>
+        ensures { IsSessionStore (state_of_card self) result }
+    {
+        match self {
+            CardOrStore::Card(card) => card.into_store(),
+            CardOrStore::Store(store) => store,
+        }
+    }
+
+    /// With the store's fuse armed: `k` further writes pass, and the next is refused.
+    pub(crate) fn with_fuse(self, k: u64) -> CardOrStore<S>
+        requires up { IsUp self }
+        ensures up { IsUp result }
+        ensures armed { state_of_card result ≡ with_fuse k (state_of_card self) }
+    {
+        match self {
+            CardOrStore::Card(card) => {
+                let (mut store, rest) = card.into_parts();
+                store.arm(k);
+                CardOrStore::Card(Card::of_parts(store, rest))
+            }
+            CardOrStore::Store(mut store) => {
+                store.arm(k);
+                CardOrStore::Store(store)
+            }
+        }
+    }
+
+    /// Carries a command out: the card's response. `None` where there is no card, or where its store refuses a
+    /// write, which then is all that is left of it.
+    pub(crate) fn exchange(&mut self, command: &[u8]) -> Option<Response>
+        requires up { IsUp self.old }
+        ensures up { OnSome result (IsUp self.new) }
+        ensures answer { IfSome result (λ response. IsAnswered command.now (state_of_card self.old)
+            (state_of_card self.new) (text_of response)) }
+        ensures down { IsNone result → (store : FuseStoreValue)
+            → IsSessionStore (state_of_card self.new) store
+            → IsAnswered command.now (state_of_card self.old) (Down store) down_text }
+    {
+        match self {
+            CardOrStore::Card(card) => match card.exchange(command) {
+                Ok(response) => Some(response),
+                Err(StoreDown) => None,
+            },
+            CardOrStore::Store(_) => None,
+        }
+    }
+
+    /// What is told after a power up.
+    pub(crate) fn power_up_answer(&self) -> Reply
+        ensures { text_of_reply result ≡ power_text (state_of_card self.now) }
+    {
+        match self {
+            CardOrStore::Card(_) => Reply::Ready,
+            CardOrStore::Store(_) => Reply::Down,
+        }
+    }
+}

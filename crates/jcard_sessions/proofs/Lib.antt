@@ -1,4 +1,0 @@
-pub mod Shut
-pub mod Rest
-pub mod Steps
-pub mod Scripts

@@ -1,8 +1,0 @@
-use Rattle.jcard_sessions.proofs.Scripts.{are_sessions, are_whole_sessions}
-use Rattle.jcard_sessions.proofs.law.scripts_are_sessions.Goals as goal
-
-pub returns-clause-sessions : goal.returns-clause-sessions
-returns-clause-sessions c = are_sessions
-
-pub returns-clause-whole : goal.returns-clause-whole
-returns-clause-whole c = are_whole_sessions

@@ -1,0 +1,11 @@
+pub mod Orderly
+pub mod Tears
+pub mod Same
+pub mod Changed
+pub mod Guesses
+pub mod Calls
+pub mod Runs
+pub mod Commands
+pub mod Leaving
+pub mod CounterLaws
+pub mod Staying

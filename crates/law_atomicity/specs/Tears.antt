@@ -1,0 +1,55 @@
+-- What a loss of power, or an abort, leaves.
+use Rattle.std.specs.Prelude.{ℕ, ◌≡◌, ◌⊎◌, ◌++◌, true, false, List, [], ◌∷◌, slice_index, if◌then◌else◌}
+use Rattle.jc_heap.specs.Object.{header_only}
+use Rattle.jc_heap.specs.Heap.{HeapState, cells, is_touched, heap_item_at, is_allocated}
+use Rattle.jc_heap.specs.Places.{place_word, set_place}
+use Rattle.jc_heap.specs.Moves.{WriteNonAtomic, Begin, Abort, IsInside}
+use Rattle.jc_memory.specs.State.{MemoryState, Effect, HeapMove, apply_effect, apply_effects, moves_of}
+use Rattle.jc_memory.specs.Programs.{Program, Completes, TearLeaves}
+use Rattle.jc_memory.specs.Reading.{AllDue, HasTracePrefix, HasTrace}
+use Rattle.law_atomicity.specs.Orderly.{IsCounter, KeepsTransactionOrder}
+
+-- these effects make of one saved heap the other: a PIN's counter is set where one of them counts its tries, until the
+-- transaction has changed the counter itself, as an update and a second constructor do; all else stays
+abbrev pub SavedHeapAfter : List Effect → MemoryState → HeapState → HeapState → Type 0
+SavedHeapAfter [] s old new = new ≡ old
+SavedHeapAfter (HeapMove (WriteNonAtomic place v) ∷ es) s old new =
+    IsCounter s place × SavedHeapAfter es (apply_effect (HeapMove (WriteNonAtomic place v)) s)
+    (if is_touched s.heap (place_word place) then old else set_place old place v) new
+SavedHeapAfter (e ∷ es) s old new = SavedHeapAfter es (apply_effect e s) old new
+
+-- with these effects a transaction began, which they leave open: the heap is the one that it found, but for tries
+abbrev pub IsHeapFound : List Effect → MemoryState → HeapState → Type 0
+IsHeapFound es s h = (before : List Effect) × (during : List Effect) × (es ≡ before ++ (HeapMove Begin ∷ during)) × IsInside (moves_of during) ×
+    ((apply_effects before s).heap.begun ≡ false) × SavedHeapAfter during (apply_effect (HeapMove Begin) (apply_effects before s))
+    (apply_effects before s).heap.now h
+
+-- the transaction was open before these effects, which stay within it: the heap is the one that was saved, but for tries
+abbrev pub IsHeapSaved : List Effect → MemoryState → HeapState → Type 0
+IsHeapSaved es s h = IsInside (moves_of es) × SavedHeapAfter es s s.heap.durable h
+
+-- behind these effects a loss leaves this heap: the one that the open transaction found, but for tries; the heap as it
+-- is, where none is open
+abbrev pub TearLeavesAfter : List Effect → MemoryState → HeapState → Type 0
+TearLeavesAfter es s h =
+    let end = apply_effects es s in
+    ((end.heap.begun ≡ false) × (h ≡ end.heap.now)) ⊎ ((end.heap.begun ≡ true) × (IsHeapSaved es s h ⊎ IsHeapFound es s h))
+
+-- where no transaction is open a loss leaves the heap as it is
+abbrev pub IsDurableOutside : MemoryState → Type 0
+IsDurableOutside s = s.heap.begun ≡ false → s.heap.durable ≡ s.heap.now
+
+-- the first law, of all that is done by orderly effects: within the open transaction what was saved stays, but for tries;
+-- what a loss leaves behind each beginning of it; that an abort leaves the same; and that a loss within it is one behind
+-- such a beginning
+pub record TransactionsAreAtomic (A : Type 0) : Type 0 where
+  pub within : (d : Program A) (s : MemoryState) (es : List Effect) → AllDue KeepsTransactionOrder d s → s.heap.begun ≡ true → HasTracePrefix d s es
+      → IsInside (moves_of es) →
+      SavedHeapAfter es s s.heap.durable (apply_effects es s).heap.durable
+  pub behind : (d : Program A) (s : MemoryState) (es : List Effect) → AllDue KeepsTransactionOrder d s → IsDurableOutside s → HasTracePrefix d s es
+      → TearLeavesAfter es s (apply_effects es s).heap.durable
+  pub aborted : (s : MemoryState) → (apply_effect (HeapMove Abort) s).heap.now ≡ s.heap.durable
+  pub lost : (d : Program A) (s : MemoryState) (h : HeapState) → AllDue KeepsTransactionOrder d s → IsDurableOutside s → TearLeaves d s h
+      → (es : List Effect) × HasTracePrefix d s es × TearLeavesAfter es s h
+  pub done : (d : Program A) (s new : MemoryState) (a : A) → AllDue KeepsTransactionOrder d s → IsDurableOutside s → Completes d s a new →
+      (es : List Effect) × HasTrace d s es a × (new ≡ apply_effects es s) × TearLeavesAfter es s new.heap.durable

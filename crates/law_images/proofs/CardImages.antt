@@ -1,0 +1,81 @@
+-- An image that commands made powers up again.
+use Rattle.std.proofs.Common.{◌≡◌, ℕ, Bool, List, [], length, refl, sym, ◌∙◌, ap, subst}
+use Rattle.std.specs.Prelude.{Ok}
+use Rattle.std.proofs.lemmas.Option.{none-some}
+use Rattle.jc_commit.specs.Image.{recovered_of}
+use Rattle.jc_heap.specs.Heap.{HeapState, heap_of}
+use Rattle.jc_heap.specs.Stored.{HoldsHeap}
+use Rattle.jc_image.specs.Laying.{unsealed_heap}
+use Rattle.jc_linker.specs.Values.{Packages}
+use Rattle.law_linking.proofs.Bytes.{have_bytes}
+use Rattle.jc_platform.proofs.NamesTold.{names_told}
+use Rattle.jc_platform.specs.Table.{Reads}
+use Rattle.jc_platform.specs.Tokens.{Tokens}
+use Rattle.jc_card.specs.CardState.{CardState}
+use Rattle.jc_card.specs.Fixed.{fixed_objects, last_fixed}
+use Rattle.jc_card.specs.Made.{IsCardHeap, IsMade, new_card_heap}
+use Rattle.jc_card.proofs.FittingImages.{counts_add, packages_add}
+use Rattle.jc_card_checks.specs.Sound.{IsSound}
+use Rattle.jc_session.specs.Power.{KeptState, Up, durable_rest}
+use Rattle.law_soundness.specs.State.{IsFitObject}
+use Rattle.law_images.specs.Loads.{CountsPackages}
+use Rattle.law_images.specs.Heaps.{IsOwnHeap}
+use Rattle.law_images.proofs.NewImages.{new_images}
+use Rattle.law_images.specs.Cards.{IsOwnCard, IsOwnKept}
+use Rattle.law_images.specs.CardImages.{ImagesStayMade, Keeps}
+use Rattle.law_images.proofs.Sessions.{kept_own}
+
+found : (n : ℕ) (t : Tokens) (p : Packages) (h : HeapState) → IsOwnHeap n t p h → IsSound p h (last_fixed h)
+found n t p h own = record {
+  objects = λ r above there.
+      let o : IsFitObject h.counts.1 p h r = own.fits.objects r above there in record { class = o.class; owner = o.owner; values = o.values };
+  statics = own.fits.statics;
+  applets = own.fits.applets;
+  distinct = own.fits.distinct;
+}
+
+card_heap : (n : ℕ) (t : Tokens) (p : Packages) (h : HeapState) → IsOwnHeap n t p h → IsCardHeap n h
+card_heap n t p h own = record {
+  head = own.beginning.head;
+  enough = own.beginning.enough;
+  platform = (t, own.beginning.table, own.beginning.begins, (p, own.packages, found n t p h own));
+  whole = own.stands.whole;
+}
+
+kept_made : (t : Tokens) (words : List ℕ) (k : KeptState) → IsOwnKept t k → Keeps words k → IsMade words
+kept_made t words k own keeps = record {
+  log = keeps.good;
+  laid = keeps.laid;
+  heap = subst (λ n. IsCardHeap n (heap_of (recovered_of words))) (sym keeps.size)
+      (subst (IsCardHeap k.size) (sym keeps.durable) (card_heap k.size t own.packages k.durable own.heap));
+}
+
+-- a new image has no packages
+new_counted : (n : ℕ) (text : List ℕ) (t : Tokens) → CountsPackages (new_card_heap n text t)
+new_counted n text t = ap (λ c. c.0) (counts_add t (unsealed_heap n text) fixed_objects) ∙ ap length (sym (packages_add t (unsealed_heap n text) fixed_objects))
+
+new_kept : (t : Tokens) (text words : List ℕ) (k : KeptState) → IsMade words → Reads text (Ok t)
+    → heap_of (recovered_of words) ≡ new_card_heap (length words) text t → Keeps words k → IsOwnKept t k
+new_kept t text words k made reads is keeps =
+    let same : new_card_heap (length words) text t ≡ k.durable = sym is ∙ keeps.durable in
+    let fits = new_images (length words) text t made.heap.enough reads in
+    record {
+      packages = record { platform = t; loaded = [] };
+      linked = record {
+        components = [];
+        read = record { names = names_told text t reads; bytes = have_bytes text t reads; classes = λ i c e. absurd (none-some c e); linked = refl };
+        applets = λ i c e. absurd (none-some c e);
+      };
+      heap = subst (λ n. IsOwnHeap n t (record { platform = t; loaded = [] }) k.durable) keeps.size
+          (subst (IsOwnHeap (length words) t (record { platform = t; loaded = [] })) same fits);
+      counted = subst CountsPackages same (new_counted (length words) text t);
+    }
+
+card_made : (t : Tokens) (words : List ℕ) (down : Bool) (passed refused : ℕ) (card : CardState) → IsOwnCard t card
+    → HoldsHeap words down passed refused card.memory.heap → IsMade words
+card_made t words down passed refused card own holds =
+    kept_made t words (durable_rest card.memory.heap) (kept_own t (Up card) own) (record
+    { good = holds.good; laid = holds.laid; durable = holds.durable; size = holds.size })
+
+pub images_made : ImagesStayMade
+images_made = record { new = new_kept; kept = kept_made; card = card_made }

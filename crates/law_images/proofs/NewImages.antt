@@ -1,0 +1,209 @@
+-- The heap of a new image fits its packages.
+use Rattle.std.proofs.Common.{◌≡◌, ℕ, zero, suc, ◌<◌, ◌≤◌, ◌&&◌, ◌==◌, not, Bool, true, false, inl, inr, List, [], ◌∷◌, ◌++◌, length, Option, Some, None, Ok}
+use Rattle.std.proofs.Common.{refl, sym, ◌∙◌, ap, subst, arith, if◌then◌else◌}
+use Rattle.std.specs.Prelude.{unwrap_or}
+use Rattle.std.proofs.lemmas.Bool.{cases_lt, false≢true}
+use Rattle.std.proofs.lemmas.List.{length-replicate}
+use Rattle.jc_words.specs.Layout.{least_size, registry_length}
+use Rattle.jc_transient.specs.declared.cell.ClearEvent.TheVariants.{Reset}
+use Rattle.jc_heap.specs.declared.object.Kind.{Kind}
+use Rattle.jc_heap.specs.Object.{AnObject, APackage, Item, facts_of, is_object, new_transient}
+use Rattle.jc_heap.specs.Table.{entry_or}
+use Rattle.jc_heap.specs.Heap.{HeapState, add_object, add_transient, area_end, heap_item_at, is_allocated, next_object}
+use Rattle.jc_heap.specs.Keeping.{IsConsistentHeap}
+use Rattle.jc_image.specs.Laying.{unsealed_heap, sealed_heap}
+use Rattle.jc_platform.specs.declared.names.PlatformClass.{PlatformClass}
+use Rattle.jc_platform.specs.Hierarchy.{is_interface}
+use Rattle.jc_platform.specs.Table.{Reads}
+use Rattle.jc_platform.specs.Tokens.{Tokens}
+use Rattle.jc_linker.specs.Values.{Packages}
+use Rattle.jc_card_checks.specs.Objects.{is_instance, is_persistent_instance}
+use Rattle.jc_card.specs.Fixed.{class_number_of, fixed_objects, last_fixed, next_or_null, object_number, with_objects}
+use Rattle.jc_card.specs.Made.{new_card_heap}
+use Rattle.jc_card.proofs.FittingImages.{alone, counts_add, no_packages, number_suc, packages_add}
+use Rattle.jc_card.proofs.FixedObjects.{IsBelow, begins-new_card_heap, below-one, head-new_card_heap, items-one, next_is, text-new_card_heap, top-add}
+use Rattle.jc_card.proofs.FixedObjects.{whole-new_card_heap, with_one}
+use Rattle.law_soundness.specs.Environment.{AreEnvironmentObjects}
+use Rattle.law_soundness.specs.Fit.{IsPlatformClass}
+use Rattle.law_soundness.specs.State.{IsSoundUpTo}
+use Rattle.law_images.specs.Heaps.{HasBeginning, IsOwnHeap}
+use Rattle.law_images.specs.NewImages.{NewImagesFit}
+use Rattle.law_images.proofs.Finding.{found_there}
+
+-- the platform alone
+abbrev alone_with : Tokens → Packages
+alone_with t = record { platform = t; loaded = [] }
+
+-- what the list of the runtime environment's objects has
+abbrev element_of : {A : Type 0} → List A → Type 0
+element_of {A} xs = A
+
+abbrev FixedObject : Type 0
+FixedObject = element_of fixed_objects
+
+-- ---- what stands in a new image's heap
+
+-- an item is no object, or one of the runtime environment's that is cleared at an event
+record IsFixed (t : Tokens) (x : Item) : Type 0 where
+  owner : (facts_of x).owner ≡ 0
+  kept : is_object x ≡ true → is_persistent_instance (facts_of x) ≡ false
+  class : is_object x ≡ true → is_instance (facts_of x).kind ≡ true → IsPlatformClass (alone_with t) (facts_of x).class
+
+and_false : (b : Bool) → (b && false) ≡ false
+and_false true = refl
+and_false false = refl
+
+not_true : (b : Bool) → not b ≡ true → b ≡ false
+not_true true e = absurd (false≢true e)
+not_true false e = refl
+
+parts : (a b : Bool) → (a && b) ≡ true → (a ≡ true) × (b ≡ true)
+parts true b e = (refl, e)
+parts false b e = absurd (false≢true e)
+
+-- an instance has a class of the platform that is no interface
+abbrev fits_kind : Kind → Option PlatformClass → Bool
+fits_kind kind None = not (is_instance kind)
+fits_kind kind (Some of) = not (is_interface of)
+
+abbrev all_fit : List FixedObject → Bool
+all_fit [] = true
+all_fit (o ∷ os) = fits_kind o.kind o.class && all_fit os
+
+fixed_fit : all_fit fixed_objects ≡ true
+unfolding fixed_objects is_interface
+fixed_fit = refl
+
+class_fits : (t : Tokens) (kind : Kind) (class : Option PlatformClass) → fits_kind kind class ≡ true → is_instance kind ≡ true
+    → IsPlatformClass (alone_with t) (class_number_of t class)
+class_fits t kind None fits instance = absurd (false≢true (sym (ap not instance) ∙ fits))
+class_fits t kind (Some of) fits instance = (of, not_true (is_interface of) fits, refl)
+
+absent_fixed : (t : Tokens) → IsFixed t (APackage [])
+absent_fixed t = record { owner = refl; kept = λ there. absurd (false≢true there); class = λ there instance. absurd (false≢true there) }
+
+object_fixed : (t : Tokens) (o : FixedObject) (place : ℕ) → fits_kind o.kind o.class ≡ true
+    → IsFixed t (AnObject (new_transient o.kind Reset (class_number_of t o.class) 0 o.cells place))
+object_fixed t o place fits = record {
+  owner = refl;
+  kept = λ there. and_false (is_instance o.kind);
+  class = λ there instance. class_fits t o.kind o.class fits instance;
+}
+
+-- behind items of which this is so, one more
+pushed_fixed : (t : Tokens) (es : List (ℕ × Item)) (q : ℕ) (x : Item) (r : ℕ) → IsFixed t (entry_or (APackage []) es r) → IsFixed t x
+    → IsFixed t (entry_or (APackage []) (es ++ (q, x) ∷ []) r)
+pushed_fixed t [] q x r old new = go (q == r)
+  where
+    go : (b : Bool) → IsFixed t (if b then x else APackage [])
+    go true = new
+    go false = old
+pushed_fixed t (d ∷ es) q x r old new = go (d.0 == r) old (λ f. pushed_fixed t es q x r f new)
+  where
+    go : (b : Bool) → IsFixed t (if b then d.1 else entry_or (APackage []) es r) →
+        (IsFixed t (entry_or (APackage []) es r) → IsFixed t (entry_or (APackage []) (es ++ (q, x) ∷ []) r)) →
+        IsFixed t (if b then d.1 else entry_or (APackage []) (es ++ (q, x) ∷ []) r)
+    go true f rest = f
+    go false f rest = rest f
+
+all_fixed : (t : Tokens) (h : HeapState) (os : List FixedObject) → all_fit os ≡ true → ((r : ℕ) → IsFixed t (entry_or (APackage []) h.items r)) → (r : ℕ)
+    → IsFixed t (entry_or (APackage []) (with_objects t h os).items r)
+all_fixed t h [] fit old r = old r
+all_fixed t h (o ∷ os) fit old r =
+    let both : (fits_kind o.kind o.class ≡ true) × (all_fit os ≡ true) = parts (fits_kind o.kind o.class) (all_fit os) fit in
+    all_fixed t (with_one t h o) os both.1
+    (λ q. subst (λ l. IsFixed t (entry_or (APackage []) l q)) (sym (items-one t h o))
+    (pushed_fixed t h.items h.top _ q (old q) (object_fixed t o (area_end h Reset) both.0))) r
+
+-- ---- where it ends
+
+below_all : (t : Tokens) (h : HeapState) (os : List FixedObject) → IsBelow h → IsBelow (with_objects t h os)
+below_all t h [] b = b
+below_all t h (o ∷ os) b = below_all t (with_one t h o) os (below-one t h o b)
+
+top_all : (t : Tokens) (h : HeapState) (os : List FixedObject) → h.top ≤ (with_objects t h os).top
+top_all t h [] = omega arith
+top_all t h (o ∷ os) = let more = top_all t (with_one t h o) os in omega (arith, more, top-add h o.kind (class_number_of t o.class) 0 o.cells)
+
+applets_all : (t : Tokens) (h : HeapState) (os : List FixedObject) → (with_objects t h os).applets ≡ h.applets
+unfolding add_transient add_object
+applets_all t h [] = refl
+applets_all t h (o ∷ os) = applets_all t (with_one t h o) os
+
+next_below : (h : HeapState) (r : ℕ) → IsBelow h → 0 < h.top → next_or_null h r < h.top
+next_below h r b some = go (next_object h r) refl
+  where
+    go : (o : Option ℕ) → next_object h r ≡ o → unwrap_or o 0 < h.top
+    go None e = some
+    go (Some q) e = elim (cases_lt q h.top) [
+      | inl low ↦ low
+      | inr high ↦ absurd (false≢true (sym (b.absent q high) ∙ found_there h.items r q (sym (next_is h r) ∙ e)))
+    ]
+
+number_below : (h : HeapState) (k : ℕ) → IsBelow h → 0 < h.top → object_number h (suc k) < h.top
+number_below h k b some = subst (λ q. q < h.top) (sym (number_suc h k)) (next_below h (object_number h k) b some)
+
+module _ (n : ℕ) (text : List ℕ) (t : Tokens) where
+  abbrev made : HeapState
+  made = with_objects t (unsealed_heap n text) fixed_objects
+
+  below : IsBelow (new_card_heap n text t)
+  below =
+      let b : IsBelow made = below_all t (unsealed_heap n text) fixed_objects (record { absent = λ q le. refl; none = λ q le. refl }) in
+      record { absent = b.absent; none = b.none }
+
+  some : 0 < (new_card_heap n text t).top
+  some = let more = top_all t (unsealed_heap n text) fixed_objects in omega (arith, more)
+
+  stands_whole : IsConsistentHeap (new_card_heap n text t)
+  unfolding is_allocated
+  stands_whole = record { whole = whole-new_card_heap n text t; end = λ r high. below.absent r high; some = some }
+
+  fixed_items : (r : ℕ) → IsFixed t (heap_item_at (new_card_heap n text t) r)
+  unfolding heap_item_at
+  fixed_items r = all_fixed t (unsealed_heap n text) fixed_objects fixed_fit (λ q. absent_fixed t) r
+
+  no_package : (new_card_heap n text t).packages ≡ []
+  no_package = packages_add t (unsealed_heap n text) fixed_objects
+
+  no_applet : (new_card_heap n text t).counts ≡ (0, 0)
+  no_applet = counts_add t (unsealed_heap n text) fixed_objects
+
+  nothing_above : IsSoundUpTo (new_card_heap n text t).counts.1 (alone_with t) (new_card_heap n text t) (last_fixed (new_card_heap n text t))
+  nothing_above = record {
+    objects = λ r above object. absurd (alone n text t r above object);
+    statics = λ k low. absurd (omega (arith, low, ap length no_package));
+    applets = λ a low. absurd (omega (arith, low, ap (λ c. c.1) no_applet));
+    distinct = λ b low. absurd (omega (arith, low, ap (λ c. c.1) no_applet));
+    aids = λ a low. absurd (omega (arith, low, ap (λ c. c.1) no_applet));
+  }
+
+  environments : AreEnvironmentObjects (alone_with t) (new_card_heap n text t) (last_fixed (new_card_heap n text t))
+  environments = record {
+    first = λ r low. (fixed_items r).owner;
+    classes = λ r there instance zero. (fixed_items r).class there instance;
+  }
+
+  begins : least_size ≤ n → Reads text (Ok t) → HasBeginning n t (new_card_heap n text t)
+  begins enough reads = record {
+    head = head-new_card_heap n text t;
+    enough = enough;
+    table = subst (λ l. Reads l (Ok t)) (sym (text-new_card_heap n text t)) reads;
+    begins = begins-new_card_heap n text t;
+  }
+
+  own_heap : least_size ≤ n → Reads text (Ok t) → IsOwnHeap n t (alone_with t) (new_card_heap n text t)
+  own_heap enough reads = record {
+    beginning = begins enough reads;
+    packages = no_packages t (new_card_heap n text t) no_package;
+    stands = stands_whole;
+    registry = ap length (applets_all t (unsealed_heap n text) fixed_objects) ∙ length-replicate {A = ℕ} registry_length 0;
+    loaded = ap length no_package;
+    fits = nothing_above;
+    environment = environments;
+    behind = number_below (new_card_heap n text t) 16 below some;
+    own = λ r low there. (fixed_items r).kept there;
+  }
+
+pub new_images : NewImagesFit
+new_images = λ n text t enough reads. own_heap n text t enough reads

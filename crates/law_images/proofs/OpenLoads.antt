@@ -1,0 +1,241 @@
+-- Open loads stay readable.
+use Rattle.std.proofs.Common.{ℕ, ◌+◌, ◌-◌, ◌==◌, ◌<◌, false, List, length, refl, Option, Some, None, Result, Ok, Err, nat_lt}
+use Rattle.std.specs.Prelude.{IfSome, is_some, slice_index_or}
+use Rattle.std.proofs.lemmas.List.Elements.{All-append, All-nil}
+use Rattle.jc_cap_linkage.specs.declared.fault.CapFault.{CapFault}
+use Rattle.jc_cap_linkage.specs.declared.formats.Format.TheVariants.{V2_1}
+use Rattle.jc_cap.specs.declared.texts.LoadedComponents.{LoadedComponents}
+use Rattle.jc_cap.specs.Components.{component_at}
+use Rattle.jc_cap.specs.Contents.{Content}
+use Rattle.jc_card_load.specs.declared.load.OpenLoad.{OpenLoad}
+use Rattle.jc_card_load.specs.Incoming.{IncomingValue}
+use Rattle.jc_cap.specs.Texts.{with_component}
+use Rattle.jc_card_load.specs.Loading.{CommandResult, empty_load, component_begin, is_tag, load_with, more_of, read_of}
+use Rattle.law_soundness.proofs.Memories.{choose}
+use Rattle.law_images.specs.Loaded.{AreBytes, IsReadable}
+use Rattle.law_images.specs.ReadingLoads.{IsOpenReadable, LoadsAreReadable}
+
+-- ---- the components that came
+
+module _ (texts : LoadedComponents) (bytes : List ℕ) (r : IsReadable texts) (b : AreBytes bytes) where
+  with_header : IsReadable (record texts { header = Some bytes })
+  with_header = record {
+    format = r.format;
+    header = b;
+    directory = r.directory;
+    applets = r.applets;
+    imports = r.imports;
+    pool = r.pool;
+    classes = r.classes;
+    methods = r.methods;
+    statics = r.statics;
+    exports = r.exports;
+  }
+
+  with_directory : IsReadable (record texts { directory = Some bytes })
+  with_directory = record {
+    format = r.format;
+    header = r.header;
+    directory = b;
+    applets = r.applets;
+    imports = r.imports;
+    pool = r.pool;
+    classes = r.classes;
+    methods = r.methods;
+    statics = r.statics;
+    exports = r.exports;
+  }
+
+  with_applets : IsReadable (record texts { applets = Some bytes })
+  with_applets = record {
+    format = r.format;
+    header = r.header;
+    directory = r.directory;
+    applets = b;
+    imports = r.imports;
+    pool = r.pool;
+    classes = r.classes;
+    methods = r.methods;
+    statics = r.statics;
+    exports = r.exports;
+  }
+
+  with_imports : IsReadable (record texts { imports = Some bytes })
+  with_imports = record {
+    format = r.format;
+    header = r.header;
+    directory = r.directory;
+    applets = r.applets;
+    imports = b;
+    pool = r.pool;
+    classes = r.classes;
+    methods = r.methods;
+    statics = r.statics;
+    exports = r.exports;
+  }
+
+  with_pool : IsReadable (record texts { pool = Some bytes })
+  with_pool = record {
+    format = r.format;
+    header = r.header;
+    directory = r.directory;
+    applets = r.applets;
+    imports = r.imports;
+    pool = b;
+    classes = r.classes;
+    methods = r.methods;
+    statics = r.statics;
+    exports = r.exports;
+  }
+
+  with_classes : IsReadable (record texts { classes = Some bytes })
+  with_classes = record {
+    format = r.format;
+    header = r.header;
+    directory = r.directory;
+    applets = r.applets;
+    imports = r.imports;
+    pool = r.pool;
+    classes = b;
+    methods = r.methods;
+    statics = r.statics;
+    exports = r.exports;
+  }
+
+  with_methods : IsReadable (record texts { methods = Some bytes })
+  with_methods = record {
+    format = r.format;
+    header = r.header;
+    directory = r.directory;
+    applets = r.applets;
+    imports = r.imports;
+    pool = r.pool;
+    classes = r.classes;
+    methods = b;
+    statics = r.statics;
+    exports = r.exports;
+  }
+
+  with_statics : IsReadable (record texts { statics = Some bytes })
+  with_statics = record {
+    format = r.format;
+    header = r.header;
+    directory = r.directory;
+    applets = r.applets;
+    imports = r.imports;
+    pool = r.pool;
+    classes = r.classes;
+    methods = r.methods;
+    statics = b;
+    exports = r.exports;
+  }
+
+  with_reference_location : IsReadable (record texts { reference_location = Some (length bytes - 3) })
+  with_reference_location = record {
+    format = r.format;
+    header = r.header;
+    directory = r.directory;
+    applets = r.applets;
+    imports = r.imports;
+    pool = r.pool;
+    classes = r.classes;
+    methods = r.methods;
+    statics = r.statics;
+    exports = r.exports;
+  }
+
+  with_exports : IsReadable (record texts { exports = Some bytes })
+  with_exports = record {
+    format = r.format;
+    header = r.header;
+    directory = r.directory;
+    applets = r.applets;
+    imports = r.imports;
+    pool = r.pool;
+    classes = r.classes;
+    methods = r.methods;
+    statics = r.statics;
+    exports = b;
+  }
+
+  with_descriptor : IsReadable (record texts { descriptor = Some (length bytes - 3) })
+  with_descriptor = record {
+    format = r.format;
+    header = r.header;
+    directory = r.directory;
+    applets = r.applets;
+    imports = r.imports;
+    pool = r.pool;
+    classes = r.classes;
+    methods = r.methods;
+    statics = r.statics;
+    exports = r.exports;
+  }
+
+  text_kept : (tag : ℕ) → IsReadable (with_component texts tag bytes)
+  unfolding with_component
+  text_kept tag =
+      choose IsReadable (tag == 1) _ _ (λ on. with_header) (λ off1.
+      choose IsReadable (tag == 2) _ _ (λ on. with_directory) (λ off2.
+      choose IsReadable (tag == 3) _ _ (λ on. with_applets) (λ off3.
+      choose IsReadable (tag == 4) _ _ (λ on. with_imports) (λ off4.
+      choose IsReadable (tag == 5) _ _ (λ on. with_pool) (λ off5.
+      choose IsReadable (tag == 6) _ _ (λ on. with_classes) (λ off6.
+      choose IsReadable (tag == 7) _ _ (λ on. with_methods) (λ off7.
+      choose IsReadable (tag == 8) _ _ (λ on. with_statics) (λ off8.
+      choose IsReadable (tag == 9) _ _ (λ on. with_reference_location) (λ off9.
+      choose IsReadable (tag == 10) _ _ (λ on. with_exports) (λ off10.
+      choose IsReadable (tag == 11) _ _ (λ on. with_descriptor) (λ off11.
+      r)))))))))))
+
+-- ---- a component that comes
+
+module _ (load : OpenLoad) (r : IsOpenReadable load) where
+  begins : (tag : ℕ) → IsOpenReadable (component_begin tag load).1
+  begins tag =
+      choose (λ (x : CommandResult × OpenLoad). IsOpenReadable x.1) (is_some load.coming) _ _ (λ on. r)
+      (λ off. choose (λ (x : CommandResult × OpenLoad). IsOpenReadable x.1) (is_tag tag) _ _
+      (λ good. choose (λ (x : CommandResult × OpenLoad). IsOpenReadable x.1) (slice_index_or load.came tag false) _ _ (λ on. r)
+      (λ new. record { texts = r.texts; coming = All-nil (λ b. b < 256) })) (λ bad. r))
+
+  grows_so : (more : List ℕ) (o : Option IncomingValue) → AreBytes more → IfSome o (λ c. AreBytes c.bytes) → IsOpenReadable (more_of more load o).1
+  grows_so more None bytes came = r
+  grows_so more (Some c) bytes came = record {
+    texts = r.texts;
+    coming = choose (λ (x : CommandResult × IncomingValue). AreBytes x.1.bytes) (nat_lt 65538 (length c.bytes + length more)) _ _ (λ long. came)
+        (λ fits. All-append (λ b. b < 256) c.bytes more came bytes);
+  }
+
+  ends_as : (c : IncomingValue) (said : Result Content CapFault) → AreBytes c.bytes → IsOpenReadable (load_with load c said).1
+  ends_as c (Err fault) bytes = record { texts = r.texts; coming = tt }
+  ends_as c (Ok x) bytes = record { texts = text_kept load.texts c.bytes r.texts bytes c.tag; coming = tt }
+
+  ends_so : (o : Option IncomingValue) → IfSome o (λ c. AreBytes c.bytes) → IsOpenReadable (read_of load o).1
+  ends_so None came = r
+  ends_so (Some c) came = ends_as c (component_at V2_1 c.tag c.bytes) came
+
+new : IsOpenReadable empty_load
+unfolding empty_load
+new = record {
+  texts = record {
+    format = refl;
+    header = tt;
+    directory = tt;
+    applets = tt;
+    imports = tt;
+    pool = tt;
+    classes = tt;
+    methods = tt;
+    statics = tt;
+    exports = tt;
+  };
+  coming = tt;
+}
+
+pub are_readable : LoadsAreReadable
+are_readable = record {
+  new = new;
+  begins = λ tag load r. begins load r tag;
+  grows = λ more load bytes r. grows_so load r more load.coming bytes r.coming;
+  ends = λ load r. ends_so load r load.coming r.coming;
+}

@@ -1,0 +1,265 @@
+-- Sessions leave a card as it should be.
+use Rattle.std.proofs.Common.{◌≡◌, ℕ, ◌+◌, ◌<◌, ◌==◌, ◌||◌, nat_le, nat_lt, Bool, true, false, inl, inr, List, [], ◌∷◌, length, drop, take, Option, Some, None}
+use Rattle.std.proofs.Common.{refl, sym, ◌∙◌, ap, subst, arith, if◌then◌else◌}
+use Rattle.std.specs.Prelude.{IfSome, Ok, is_some, slice_index}
+use Rattle.std.specs.Option.{option_map}
+use Rattle.std.proofs.lemmas.List.Elements.{All-drop, All-nil, All-take}
+use Rattle.std.proofs.lemmas.Option.{none-some, same_Some}
+use Rattle.jc_heap.specs.Heap.{HeapState, HeapView, heap_at_rest}
+use Rattle.jc_heap.specs.Keeping.{AreConsistent}
+use Rattle.jc_heap.proofs.Changing.{shape-same}
+use Rattle.jc_memory.specs.Owners.{at_reset}
+use Rattle.jc_memory.specs.State.{MemoryState}
+use Rattle.jc_memory.specs.Programs.{Program, Completes, TearLeaves}
+use Rattle.jc_linker.specs.Values.{Packages}
+use Rattle.jc_platform.specs.Table.{Reads}
+use Rattle.jc_platform.specs.Tokens.{Tokens}
+use Rattle.jc_card_load.specs.Reading.{packages_of}
+use Rattle.jc_card_load.specs.Loading.{empty_load, component_begin, component_end as ended_component}
+use Rattle.jc_card.specs.Answers.{respond_with, manager_command, exchange, exchange_of_apdu, is_dispatched, manager_response, run_code}
+use Rattle.jc_card.specs.Apdu.{Apdu, apdu_of, data_of}
+use Rattle.jc_card.specs.CardState.{CardState}
+use Rattle.jc_card.specs.Dispatching.{with_response, create_applet, dispatch}
+use Rattle.jc_card.specs.Fixed.{fixed_of}
+use Rattle.jc_card.specs.Loads.{LoadResponse, begin_component, end_component, append_component, begin_load}
+use Rattle.jc_card.specs.StatusWord.{cla_not_supported, ins_not_supported, status_bytes, wrong_length}
+use Rattle.jc_session.specs.declared.event.Answer.{Answer}
+use Rattle.jc_session.specs.declared.event.Answer.TheVariants.{Response, Ready, Down}
+use Rattle.jc_session.specs.declared.event.Event.{Event}
+use Rattle.jc_session.specs.declared.event.Event.TheVariants.{Command, Reset}
+use Rattle.jc_session.specs.Power.{KeptState, PowerState, Up, Off, durable_state}
+use Rattle.jc_session.specs.Serving.{AnswersCommand, AnswersReset, Serves, SessionRun}
+use Rattle.jc_session.specs.Starting.{IsPoweredUp}
+use Rattle.law_linking.proofs.Aids.{have_aids}
+use Rattle.law_linking.proofs.ClassLaws.{have_classes}
+use Rattle.law_linking.proofs.MethodLaws.{have_methods, have_no_code}
+use Rattle.law_images.specs.Loaded.{AreBytes}
+use Rattle.law_images.proofs.OpenLoads.{are_readable}
+use Rattle.law_soundness.specs.State.{IsSoundMemory}
+use Rattle.law_soundness.specs.Soundness.{AreKnown}
+use Rattle.law_soundness.proofs.CommandLaws.{commands_are_sound}
+use Rattle.law_soundness.proofs.Phases.{Good}
+use Rattle.law_images.specs.Heaps.{IsOwnHeap}
+use Rattle.law_images.proofs.Memories.{loads_are_sound}
+use Rattle.law_images.proofs.ImageEffects.{effects_keep}
+use Rattle.law_images.specs.Cards.{AreLinkedWell, AreOfBytes, IsOfBytes, IsOwnCard, IsOwnKept, IsOwnPower, StaysOwn}
+use Rattle.law_images.specs.Loads.{CountsPackages}
+use Rattle.law_images.proofs.Commands.{IsAnswered, answers_good, creates_good, did_own, dispatched_good, grows_good, loads_good, lost_own, on_load_good}
+use Rattle.law_images.proofs.Commands.{own_memory, runs_good}
+use Rattle.law_images.proofs.CardHeaps.{IsLeft, left_own}
+use Rattle.law_images.proofs.Loads.{ends_lost, ends_own}
+
+-- packages that were linked well are known
+linked_known : (p : Packages) → AreLinkedWell p → AreKnown p
+linked_known p l = record {
+  classes = have_classes l.components p l.read;
+  aids = have_aids l.components p l.read.linked l.applets;
+  methods = have_methods l.components p l.read;
+  platform = have_no_code l.components p l.read.linked;
+}
+
+-- a text is read as one table
+abbrev pub OneTable : Type 0
+OneTable = (text : List ℕ) (t u : Tokens) → Reads text (Ok t) → Reads text (Ok u) → t ≡ u
+
+-- ---- the data of a command
+
+data_bytes : (a b c d e : Bool) (n : ℕ) (bytes content : List ℕ) → AreBytes bytes
+    → (if a then None else if b then Some [] else if c then None else if d then Some (drop 5 bytes) else if e then Some (take n (drop 5 bytes)) else None)
+    ≡ Some content → AreBytes content
+data_bytes true b c d e n bytes content are is = absurd (none-some content is)
+data_bytes false true c d e n bytes content are is = subst AreBytes (same_Some [] content is) (All-nil (λ b. b < 256))
+data_bytes false false true d e n bytes content are is = absurd (none-some content is)
+data_bytes false false false true e n bytes content are is = subst AreBytes (same_Some (drop 5 bytes) content is) (All-drop (λ b. b < 256) 5 bytes are)
+data_bytes false false false false true n bytes content are is = subst AreBytes (same_Some (take n (drop 5 bytes)) content is)
+    (All-take (λ b. b < 256) n (drop 5 bytes) (All-drop (λ b. b < 256) 5 bytes are))
+data_bytes false false false false false n bytes content are is = absurd (none-some content is)
+
+content_of : (bytes : List ℕ) (o : Option (List ℕ)) (c : Apdu) → data_of bytes ≡ o → AreBytes bytes
+    → option_map (λ d. record {
+      class = slice_index bytes 0;
+      instruction = slice_index bytes 1;
+      p1 = slice_index bytes 2;
+      p2 = slice_index bytes 3;
+      content = d;
+    }) o ≡ Some c → AreBytes c.content
+content_of bytes None c is are e = absurd (none-some c e)
+content_of bytes (Some d) c is are e = subst AreBytes (ap (λ x. x.content) (same_Some _ c e))
+    (data_bytes (nat_lt (length bytes) 4) (nat_le (length bytes) 5) (slice_index bytes 4 == 0) (length bytes == 5 + slice_index bytes 4)
+    (length bytes == 6 + slice_index bytes 4) (slice_index bytes 4) bytes d are is)
+
+-- ---- a command
+
+module _ (t : Tokens) (card : CardState) (own : IsOwnCard t card) where
+  -- wherever a command ends, or the power is lost within it
+  record Does (d : Program LoadResponse) : Type 0 where
+    did : (ans : LoadResponse) (new : MemoryState) → Completes d card.memory ans new
+        → IsOwnCard t (record { memory = new; packages = ans.packages; load = ans.load })
+    lost : (h : HeapState) → TearLeaves d card.memory h → IsLeft card.memory.heap.size t card.packages h
+
+  are_known : AreKnown card.packages
+  are_known = linked_known card.packages own.linked
+
+  does : (d : Program LoadResponse) → Good card.packages d card.memory (IsAnswered card.packages) → Does d
+  does d good = record { did = did_own effects_keep t card own d good; lost = lost_own effects_keep t card own d good }
+
+  does_if : (b : Bool) (x y : Program LoadResponse) → Does x → Does y → Does (if b then x else y)
+  does_if true x y first second = first
+  does_if false x y first second = second
+
+  commanded_does : (c : Apdu) → AreBytes c.content → Does (manager_command c card)
+  unfolding manager_command
+  commanded_does c are =
+      does_if (c.instruction == 0x10) _ _ (does (run_code c.p1 c.p2 c.content card) (runs_good commands_are_sound t card own are_known c.p1 c.p2 c.content))
+      (does_if (c.instruction == 0xB0) _ _ (does (begin_load card) (loads_good commands_are_sound t card own are_known (Ok tt)
+      (Some empty_load) are_readable.new))
+      (does_if (c.instruction == 0xB2) _ _ (does (begin_component c.p1 card) (on_load_good commands_are_sound t card own are_known (component_begin c.p1)
+      (are_readable.begins c.p1) card.load own.load))
+      (does_if (c.instruction == 0xB4) _ _ (does (append_component c.content card) (grows_good commands_are_sound t card own are_known c.content are))
+      (does_if (c.instruction == 0xBC) _ _ (does (end_component card) (on_load_good commands_are_sound t card own are_known ended_component are_readable.ends
+      card.load own.load))
+      (does_if (c.instruction == 0xBA) _ _ (record {
+        did = ends_own effects_keep loads_are_sound t card own;
+        lost = ends_lost effects_keep loads_are_sound t card own;
+      })
+      (does_if (c.instruction == 0xB8) _ _ (does (create_applet c.content card) (creates_good commands_are_sound t card own are_known c.content))
+      (does (respond_with card (status_bytes ins_not_supported)) (answers_good commands_are_sound t card own are_known (status_bytes ins_not_supported)))))))))
+
+  managed_does : (c : Apdu) → AreBytes c.content → Does (manager_response c card)
+  managed_does c are = does_if (c.class == 0x80) _ _ (commanded_does c are) (does (respond_with card (status_bytes cla_not_supported))
+      (answers_good commands_are_sound t card own are_known (status_bytes cla_not_supported)))
+
+  apdu_does : (bytes : List ℕ) (o : Option Apdu) → ((c : Apdu) → o ≡ Some c → AreBytes c.content) → Does (exchange_of_apdu bytes o card)
+  apdu_does bytes None are = does (respond_with card (status_bytes wrong_length))
+      (answers_good commands_are_sound t card own are_known (status_bytes wrong_length))
+  apdu_does bytes (Some c) are = does_if (is_dispatched card c) _ _ (does (dispatch bytes c card)
+      (dispatched_good commands_are_sound t card own are_known bytes c)) (managed_does c (are c refl))
+
+  exchanging_does : (bytes : List ℕ) → AreBytes bytes → Does (exchange bytes card)
+  unfolding exchange
+  exchanging_does bytes are = apdu_does bytes (apdu_of bytes) (λ c is. content_of bytes (data_of bytes) c refl are is)
+
+  pub command_own : (bytes : List ℕ) (answer : Answer) (next : PowerState) → AreBytes bytes → AnswersCommand (Up card) bytes answer next → IsOwnPower t next
+  command_own bytes (Response r) (Up next) are did = (exchanging_does bytes are).did (with_response next r) next.memory did
+  command_own bytes Down (Off k) are lost = record {
+    packages = card.packages;
+    linked = own.linked;
+    heap = subst (λ n. IsOwnHeap n t card.packages k.durable) (sym lost.3) ((exchanging_does bytes are).lost k.durable lost.0).heap;
+    counted =
+        ((exchanging_does bytes are).lost k.durable lost.0).counted;
+  }
+  command_own bytes (Response r) (Off k) are none = absurd none
+  command_own bytes Ready next are none = absurd none
+  command_own bytes Down (Up next) are none = absurd none
+
+-- ---- a reset
+
+pub kept_own : (t : Tokens) (s : PowerState) → IsOwnPower t s → IsOwnKept t (durable_state s)
+kept_own t (Up card) own = record {
+  packages = card.packages;
+  linked = own.linked;
+  heap = (left_own card.memory.heap.size t card.packages card.memory (own_memory t card own)).heap;
+  counted = own.counted.durable;
+}
+kept_own t (Off k) own = own
+
+module _ (n : ℕ) (t : Tokens) (p : Packages) (h : HeapState) (own : IsOwnHeap n t p h) (linked : AreLinkedWell p) (counted : CountsPackages h)
+    (passed refused : ℕ) (m : MemoryState) where
+  abbrev reset_memory : MemoryState
+  reset_memory = record m { heap = heap_at_rest h passed refused n; fixed = fixed_of h; registers = at_reset }
+
+  reset_whole : AreConsistent (heap_at_rest h passed refused n)
+  reset_whole = record { now = own.stands; durable = own.stands; shape = shape-same h; order = omega arith }
+
+  reset_sound : IsSoundMemory p reset_memory
+  reset_sound = record {
+    whole = reset_whole;
+    registry = own.registry;
+    registry_kept = own.registry;
+    now = own.fits;
+    durable = own.fits;
+    settled = λ off. refl;
+    packages = refl;
+    loaded = own.loaded;
+    counts = λ closed. refl;
+    active = refl;
+    behind = own.behind;
+    own = own.own;
+    home = refl;
+    selected = λ a e. absurd (none-some a e);
+  }
+
+  reset_own : IsOwnCard t (record { memory = reset_memory; packages = p; load = None })
+  reset_own = record {
+    linked = linked;
+    ready = record { sound = reset_sound; environment = record { now = own.environment; durable = own.environment }; closed = refl; idle = refl };
+    reading = record { now = own.packages; durable = own.packages };
+    beginning = record { now = own.beginning; durable = own.beginning; fixed = refl; same = refl };
+    counted = record { now = counted; durable = counted };
+    load = tt;
+  }
+
+pub powered_own : OneTable → (t : Tokens) (k : KeptState) (card : CardState) → IsOwnKept t k → IsPoweredUp k card → IsOwnCard t card
+powered_own g t k card own up =
+    let table : up.reset.packages.0 ≡ t = g k.durable.text up.reset.packages.0 t up.reset.packages.1 own.heap.beginning.table in
+    let read : packages_of t k.durable ≡ Some card.packages = subst (λ u. packages_of u k.durable ≡ Some card.packages) table up.reset.packages.2 in
+    let same : card.packages ≡ own.packages = same_Some card.packages own.packages (sym read ∙ own.heap.packages) in
+    let reset = reset_own k.size t own.packages k.durable own.heap own.linked own.counted card.memory.heap.passed k.refused card.memory in
+    let path : card ≡ record {
+      memory = record card.memory {
+        heap = heap_at_rest k.durable card.memory.heap.passed k.refused k.size;
+        fixed = fixed_of k.durable;
+        registers = at_reset;
+      };
+      packages = own.packages;
+      load = None;
+    } =
+    λ i. record {
+      memory = record {
+        heap = up.heap i;
+        ram = card.memory.ram;
+        fixed = up.reset.fixed i;
+        registers = up.reset.registers i;
+        command = card.memory.command;
+        sent = card.memory.sent;
+      };
+      packages = same i;
+      load = up.reset.load i;
+    } in
+    subst (IsOwnCard t) (sym path) reset
+
+reset_answered : OneTable → (t : Tokens) (s : PowerState) (answer : Answer) (next : PowerState) → IsOwnPower t s → AnswersReset s answer next
+    → IsOwnPower t next
+reset_answered g t s Ready (Up card) own up = powered_own g t (durable_state s) card (kept_own t s own) up
+reset_answered g t s Down (Off k) own same =
+    let old = kept_own t s own in
+    subst (IsOwnKept t) (sym same) (record { packages = old.packages; linked = old.linked; heap = old.heap; counted = old.counted })
+reset_answered g t s Ready (Off k) own none = absurd none
+reset_answered g t s Down (Up card) own none = absurd none
+reset_answered g t s (Response r) next own none = absurd none
+
+-- ---- sessions
+
+command_answered : (t : Tokens) (s : PowerState) (bytes : List ℕ) (answer : Answer) (next : PowerState) → AreBytes bytes → IsOwnPower t s
+    → AnswersCommand s bytes answer next → IsOwnPower t next
+command_answered t (Up card) bytes answer next are own served = command_own t card own bytes answer next are served
+command_answered t (Off k) bytes Down (Off l) are own same = subst (IsOwnKept t) (sym same) own
+command_answered t (Off k) bytes (Response r) next are own none = absurd none
+command_answered t (Off k) bytes Ready next are own none = absurd none
+command_answered t (Off k) bytes Down (Up next) are own none = absurd none
+
+event_own : OneTable → (t : Tokens) (s : PowerState) (event : Event) (answer : Answer) (next : PowerState) → IsOfBytes event → IsOwnPower t s
+    → Serves s event answer next → IsOwnPower t next
+event_own g t s (Command bytes) answer next are own served = command_answered t s bytes.items answer next are own served
+event_own g t s Reset answer next are own served = reset_answered g t s answer next own served
+
+session_own : OneTable → (t : Tokens) (s : PowerState) (events : List Event) (respond_with : List Answer) (last : PowerState) → AreOfBytes events
+    → IsOwnPower t s → SessionRun s events respond_with last → IsOwnPower t last
+session_own g t s [] [] last are own same = subst (IsOwnPower t) (sym same) own
+session_own g t s (event ∷ events) (answer ∷ respond_with) last are own run = session_own g t run.0 events respond_with last are.1
+    (event_own g t s event answer run.0 are.0 own run.1) run.2
+session_own g t s [] (answer ∷ respond_with) last are own none = absurd none
+session_own g t s (event ∷ events) [] last are own none = absurd none
+
+pub stays_own : OneTable → StaysOwn
+stays_own g = record { event = event_own g; session = session_own g }

@@ -1,0 +1,13 @@
+pub mod Kept
+pub mod Loaded
+pub mod ReadingLoads
+pub mod Growth
+pub mod GrowthRecords
+pub mod Loads
+pub mod Heaps
+pub mod NewImages
+pub mod Cards
+pub mod CardImages
+pub mod Faults
+pub mod Rest
+pub mod Scripts

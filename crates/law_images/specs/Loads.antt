@@ -1,0 +1,64 @@
+-- A load's package in the memory.
+use Rattle.std.specs.Prelude.{ℕ, ◌≡◌, ◌<◌, ◌≤◌, false, List, length, Ok}
+use Rattle.jc_cap.specs.declared.texts.LoadedComponents.{LoadedComponents}
+use Rattle.jc_cap.specs.declared.texts.PackageBytes.{PackageBytes}
+use Rattle.jc_words.specs.Layout.{most_packages}
+use Rattle.jc_heap.specs.Heap.{HeapState, heap_of}
+use Rattle.jc_heap.specs.Image.{IsWellFormed}
+use Rattle.jc_heap.specs.Keeping.{IsConsistentHeap}
+use Rattle.jc_heap.specs.Moves.{Move, AddPackage}
+use Rattle.jc_heap.specs.Packages.{add_package}
+use Rattle.jc_memory.specs.State.{MemoryState, Effect, HeapMove, apply_effect}
+use Rattle.jc_linker.specs.Values.{Packages}
+use Rattle.jc_linker.specs.declared.components.LinkerComponents.{LinkerComponents}
+use Rattle.jc_linker.specs.Linking.{with_package}
+use Rattle.law_linking.specs.Linked.{AreLinked}
+use Rattle.jc_card_load.specs.RecordContents.{arrays_of, image_of, parts_of, statics_of}
+use Rattle.jc_card_load.specs.PendingPackages.{PendingPackageValue, linked_components}
+use Rattle.law_soundness.specs.Environment.{HasEnvironment}
+use Rattle.law_soundness.specs.State.{IsSoundMemory, IsSoundUpTo, is_open}
+
+-- the heap counts its packages
+abbrev pub CountsPackages : HeapState → Type 0
+CountsPackages h = h.counts.0 ≡ length h.packages
+
+-- the heap with the record and the arrays of a package that is put together of these components
+abbrev pub with_record : HeapState → PackageBytes → HeapState
+with_record h t = add_package h (parts_of t) (arrays_of (statics_of t)) (image_of (statics_of t))
+
+-- the move that adds it
+abbrev pub load_move : PackageBytes → Move
+load_move t = AddPackage (parts_of t) (arrays_of (statics_of t)) (image_of (statics_of t))
+
+-- a heap that fits the packages and the one that a load brings fits them as before with that package's record behind the others
+abbrev pub RecordsFit : Type 0
+RecordsFit = (most : ℕ) (p : Packages) (load : LoadedComponents) (q : PendingPackageValue) (h : HeapState) (own : ℕ) → linked_components p load ≡ Ok q
+    → length h.packages ≡ length p.loaded → CountsPackages h → IsConsistentHeap h → own < h.top →
+    IsSoundUpTo most (with_package p q.linked) h own → IsSoundUpTo most (with_package p q.linked) (with_record h q.texts) own
+
+-- both heaps of the memory do
+pub record CountPackages (m : MemoryState) : Type 0 where
+  pub now : CountsPackages m.heap.now
+  pub durable : CountsPackages m.heap.durable
+
+-- each effect leaves it so
+abbrev pub EffectsCount : Type 0
+EffectsCount = (e : Effect) (m : MemoryState) → CountPackages m → CountPackages (apply_effect e m)
+
+-- and the heap of words has it so, if it has no more packages than there are places for
+abbrev pub WordsCount : Type 0
+WordsCount = (words : List ℕ) → IsWellFormed words → (heap_of words).counts.0 ≤ most_packages → CountsPackages (heap_of words)
+
+-- the memory is sound, the objects with which it begins are the runtime environment's, and it counts its packages
+pub record IsSoundForLoads (p : Packages) (m : MemoryState) : Type 0 where
+  pub sound : IsSoundMemory p m
+  pub environment : HasEnvironment p m
+  pub counted : CountPackages m
+
+-- while no transaction and no installation is open, all this stays so behind the move that adds the package that a load brings, with
+-- that package linked onto the others
+abbrev pub LoadsKeepSound : Type 0
+LoadsKeepSound = (cs : List LinkerComponents) (p : Packages) (load : LoadedComponents) (q : PendingPackageValue) (m : MemoryState) → AreLinked cs p
+    → linked_components p load ≡ Ok q →
+    m.heap.begun ≡ false → is_open m.registers.installation ≡ false → length m.heap.now.packages < most_packages → IsSoundForLoads p m
+    → IsSoundForLoads (with_package p q.linked) (apply_effect (HeapMove (load_move q.texts)) m)

@@ -1,0 +1,546 @@
+-- What methods of the platform do, for whatever is to hold of each effect.
+use Rattle.std.proofs.Common.{◌≡◌, ℕ, true, false, if◌then◌else◌, List, length, Option, Some, None, Result, Ok, Err, refl, sym, ◌∙◌, ap}
+use Rattle.std.proofs.lemmas.Bool.{ltb-false}
+use Rattle.std.proofs.lemmas.Option.{cond_some, option_and_then_some, same_Some}
+use Rattle.std.specs.Option.{option_and_then}
+use Rattle.std.specs.Prelude.{ℤ, pos, not, nat_le, nat_lt, ◌==◌}
+use Rattle.jc_transient.specs.declared.cell.ClearEvent.{ClearEvent}
+use Rattle.jc_transient.specs.State.{flag_of}
+use Rattle.jc_heap.specs.declared.object.Facts.{Facts}
+use Rattle.jc_heap.specs.declared.object.Kind.{Kind}
+use Rattle.jc_heap.specs.declared.object.Kind.TheVariants.{Instance, BooleanArray, ByteArray, ShortArray, ReferenceArray}
+use Rattle.jc_heap.specs.declared.refusal.HeapRefusal.{HeapRefusal}
+use Rattle.jc_heap.specs.Heap.{facts}
+use Rattle.jc_heap.specs.Moves.{Begin, Commit, Abort, WriteNonAtomic, refusal_of_places}
+use Rattle.jc_heap.specs.Places.{places_of}
+use Rattle.jc_frames.specs.declared.cell.Cell.{Cell}
+use Rattle.jc_frames.specs.declared.outcome.Exception.{Exception}
+use Rattle.jc_frames.specs.declared.outcome.Exception.TheVariants as exception
+use Rattle.jc_frames.specs.declared.outcome.FrameExit.{FrameExit}
+use Rattle.jc_memory.specs.declared.registers.ApduPhase.{ApduPhase}
+use Rattle.jc_memory.specs.declared.registers.ApduPhase.TheVariants.{Waiting, Received, Outgoing, Sending}
+use Rattle.jc_memory.specs.declared.registers.AppletNumber.{AppletNumber}
+use Rattle.jc_memory.specs.declared.registers.Depth.{Depth}
+use Rattle.jc_memory.specs.declared.registers.Depth.TheVariants.{Outside, Inside}
+use Rattle.jc_memory.specs.declared.registers.Installation.{Installation}
+use Rattle.jc_memory.specs.declared.registers.Installation.TheVariants.{Idle, Open, Registered}
+use Rattle.jc_memory.specs.State.{MemoryState, Effect, HeapMove, NullDead, SendBytes, apply_effect}
+use Rattle.jc_memory.specs.Cells.{bytes_at, header_at, cell_refusal, cells_refusal, cells_effect, cells_effect_in}
+use Rattle.jc_memory.specs.Programs.{Program}
+use Rattle.jc_memory.specs.Making.{creation_refusal}
+use Rattle.jc_memory.specs.Reading.{AllDue}
+use Rattle.jc_memory.proofs.ProgramLemmas.{due_bind, each_always, each_more}
+use Rattle.jc_linker.specs.Values.{Packages}
+use Rattle.jc_platform.specs.declared.names.PlatformClass.TheVariants.{Aid, OwnerPin}
+use Rattle.jc_platform.specs.declared.names.PlatformMethod.{PlatformMethod}
+use Rattle.jc_platform.specs.declared.names.PlatformMethod.TheVariants.{AidEquals, AidEqualsBytes, AidGetBytes, AidInit, ApduExceptionInit}
+use Rattle.jc_platform.specs.declared.names.PlatformMethod.TheVariants.{ApduExceptionThrowIt, ApduGetBuffer, ApduReceiveBytes, ApduSendBytes}
+use Rattle.jc_platform.specs.declared.names.PlatformMethod.TheVariants.{ApduSetIncomingAndReceive, ApduSetOutgoing, ApduSetOutgoingAndSend}
+use Rattle.jc_platform.specs.declared.names.PlatformMethod.TheVariants.{ApduSetOutgoingLength, AppletRegister, AppletRegisterBytes, CardExceptionGetReason}
+use Rattle.jc_platform.specs.declared.names.PlatformMethod.TheVariants.{CardExceptionInit, CardExceptionSetReason, CardExceptionThrowIt}
+use Rattle.jc_platform.specs.declared.names.PlatformMethod.TheVariants.{CardRuntimeExceptionGetReason, CardRuntimeExceptionInit, CardRuntimeExceptionSetReason}
+use Rattle.jc_platform.specs.declared.names.PlatformMethod.TheVariants.{CardRuntimeExceptionThrowIt, IsoExceptionInit, IsoExceptionThrowIt}
+use Rattle.jc_platform.specs.declared.names.PlatformMethod.TheVariants.{JcSystemAbortTransaction, JcSystemBeginTransaction, JcSystemCommitTransaction}
+use Rattle.jc_platform.specs.declared.names.PlatformMethod.TheVariants.{JcSystemGetAppletShareableInterfaceObject, JcSystemIsTransient, JcSystemLookupAid}
+use Rattle.jc_platform.specs.declared.names.PlatformMethod.TheVariants.{JcSystemMakeTransientBooleanArray, JcSystemMakeTransientByteArray}
+use Rattle.jc_platform.specs.declared.names.PlatformMethod.TheVariants.{JcSystemMakeTransientObjectArray, JcSystemMakeTransientShortArray, ObjectEquals}
+use Rattle.jc_platform.specs.declared.names.PlatformMethod.TheVariants.{OwnerPinCheck, OwnerPinGetTriesRemaining, OwnerPinInit, OwnerPinIsValidated}
+use Rattle.jc_platform.specs.declared.names.PlatformMethod.TheVariants.{OwnerPinReset, OwnerPinResetAndUnblock, OwnerPinUpdate, PinExceptionInit}
+use Rattle.jc_platform.specs.declared.names.PlatformMethod.TheVariants.{PinExceptionThrowIt, SystemExceptionInit, SystemExceptionThrowIt}
+use Rattle.jc_platform.specs.declared.names.PlatformMethod.TheVariants.{TransactionExceptionInit, TransactionExceptionThrowIt, UserExceptionInit}
+use Rattle.jc_platform.specs.declared.names.PlatformMethod.TheVariants.{UserExceptionThrowIt, UtilArrayCompare, UtilArrayCopy, UtilGetShort, UtilMakeShort}
+use Rattle.jc_platform.specs.declared.names.PlatformMethod.TheVariants.{UtilSetShort}
+use Rattle.jc_platform.specs.Distinct.{class_of, class_word}
+use Rattle.jc_platform.specs.Names.{methods}
+use Rattle.jc_pin.specs.declared.updating.PinRefusal.{PinRefusal}
+use Rattle.jc_pin.specs.Checking.{pin_check, is_value, comparison}
+use Rattle.jc_pin.specs.Pins.{counter, is_pin, record_of}
+use Rattle.jc_pin.specs.Resetting.{pin_reset}
+use Rattle.jc_pin.specs.PinInit.{pin_init}
+use Rattle.jc_pin.specs.Updating.{unless_full, changes_of_update, pin_update}
+use Rattle.jc_registry.specs.Aids.{aid_at}
+use Rattle.jc_registry.specs.Registry.{applet_with_aid, instance_of_applet}
+use Rattle.jc_memory.specs.Room.{has_space, lacks_capacity}
+use Rattle.jc_world.specs.Objects.{is_instance_of, reference_argument, short_argument}
+use Rattle.jc_world.specs.declared.arrays.Stretch.{Stretch}
+use Rattle.jc_world.specs.Arrays.{bytes_argument, bytes_in, elements_of}
+use Rattle.jc_world.specs.Instances.{instance_at}
+use Rattle.jc_api_runtime.specs.AidCalls.{aid_call, aid_equals, aid_equals_bytes, aid_get_bytes, aid_init}
+use Rattle.jc_api_runtime.specs.AidCells.{cells_of_aid, is_aid_length}
+use Rattle.jc_api_data.specs.Apdu.{apdu_set_outgoing_and_send, apdu_call, apdu_send_bytes, send_in_phase, apdu_get_buffer, length_of, apdu_set_outgoing_length}
+use Rattle.jc_api_data.specs.Apdu.{set_length_in_phase, apdu_set_outgoing, set_outgoing_in_phase, phase_of, piece_of, apdu_set_incoming_and_receive}
+use Rattle.jc_api_data.specs.Apdu.{receive_in_phase, apdu_receive_bytes}
+use Rattle.jc_api_data.specs.ApduBuffer.{buffer_of, data_of}
+use Rattle.jc_api_runtime.specs.Applet.{applet_call, applet_register_bytes, install_aid, applet_register, register_with}
+use Rattle.jc_api_runtime.specs.Register.{open_installation}
+use Rattle.jc_api_data.specs.OwnerPinArguments.{at_least_1, array_arguments, argument_bytes, receiver, is_own_value}
+use Rattle.jc_api_data.specs.OwnerPin.{pin_comparison, owner_pin_init, guess_of, pin_call, owner_pin_check, changed_or_thrown, owner_pin_get_tries_remaining}
+use Rattle.jc_api_data.specs.OwnerPin.{unless_refused, owner_pin_is_validated, owner_pin_update, owner_pin_reset, owner_pin_reset_and_unblock}
+use Rattle.jc_api_runtime.specs.SystemSharing.{jc_system_lookup_aid, server_call_result, server_call_by_aid, server_call_if_known}
+use Rattle.jc_api_runtime.specs.SystemSharing.{jc_system_get_applet_shareable_interface_object}
+use Rattle.jc_api_runtime.specs.System.{system_call}
+use Rattle.jc_api_runtime.specs.SystemTransactions.{jc_system_abort_transaction, after_abort, jc_system_begin_transaction, jc_system_commit_transaction}
+use Rattle.jc_api_runtime.specs.SystemTransactions.{commit_of_applet}
+use Rattle.jc_api_runtime.specs.SystemTransient.{jc_system_make_transient_array, jc_system_is_transient, requested_array}
+use Rattle.jc_api_data.specs.Exceptions.{exception_call, exception_get_reason, exception_set_reason, exception_throw_it}
+use Rattle.jc_api_data.specs.Objects.{object_call, object_equals}
+use Rattle.jc_api_data.specs.UtilArguments.{pair_arguments, pair_of, two_of}
+use Rattle.jc_api_data.specs.Util.{util_array_compare, util_array_copy, bytes_of_short, util_get_short, util_make_short, util_set_short, util_call}
+use Rattle.jc_interp.specs.declared.parts.Part.{Part}
+use Rattle.jc_interp.specs.declared.parts.Part.TheVariants.{Objects, CardExceptions, Utilities, System, Aids, Pins, Applets, Apdus}
+use Rattle.jc_interp.specs.Natives.{native_call, native_call_in}
+use Rattle.jc_interp.specs.Parts.{part_of}
+use Rattle.law_isolation.specs.Natives.{sets_receiver}
+use Rattle.law_isolation.proofs.Arguments.{buffer_is, instance_is, length_bytes, pair_is, stretch_is, two_is}
+use Rattle.law_isolation.proofs.Due.{call_ok, call_some, call_unless, due_if, kept_each}
+use Rattle.law_isolation.proofs.Passing.{Bears, IsPinCall, MethodPasses}
+
+-- ---- what only reads
+
+module _ (P : Effect → MemoryState → Type 0) (args : List Cell) (p : Packages) (m : MemoryState) where
+  -- Object and exceptions
+  same_due : AllDue P (object_equals args) m
+  unfolding object_equals
+  same_due = call_some P m (reference_argument args 0) _ (λ own is. call_some P m (reference_argument args 1) _ (λ other there. tt))
+
+  got_due : AllDue P (exception_get_reason args m) m
+  unfolding exception_get_reason
+  got_due = call_some P m (reference_argument args 0) _ (λ own is. call_ok P m (instance_at m own 1) _ (λ f long. tt))
+
+  thrown_due : (of : ℤ → Exception) → AllDue P (exception_throw_it of args) m
+  unfolding exception_throw_it
+  thrown_due of = call_some P m (short_argument args 0) _ (λ reason is. tt)
+
+  -- JCSystem
+  looked_up_due : AllDue P (jc_system_lookup_aid args p m) m
+  unfolding jc_system_lookup_aid
+  looked_up_due = call_some P m (reference_argument args 0) _ (λ array is. call_some P m (short_argument args 1) _
+      (λ start s. call_some P m (short_argument args 2) _ (λ count c.
+      call_ok P m (bytes_argument m array) _ (λ argument there. call_ok P m (elements_of p m array argument start count) _ (λ e fine. tt)))))
+
+  asked_due : (parameter : ℤ) (n : AppletNumber) (server : Option ℕ) → AllDue P (server_call_result m parameter n server) m
+  asked_due parameter n None = tt
+  asked_due parameter n (Some server) = tt
+
+  known_due : (parameter : ℤ) (n : Option AppletNumber) → AllDue P (server_call_if_known m parameter n) m
+  known_due parameter None = tt
+  known_due parameter (Some n) = asked_due parameter n (instance_of_applet m.heap.now n.0)
+
+  asked_by_due : (aid : ℕ) (parameter : ℤ) (f : Facts) → AllDue P (server_call_by_aid p m aid parameter f) m
+  asked_by_due aid parameter f = due_if P m (is_instance_of p f (class_word p.platform Aid)) _ _
+      (λ on. known_due parameter (option_and_then (λ bytes. applet_with_aid m bytes) (aid_at m aid))) (λ off. tt)
+
+  server_due : AllDue P (jc_system_get_applet_shareable_interface_object args p m) m
+  unfolding jc_system_get_applet_shareable_interface_object
+  server_due = call_some P m (reference_argument args 0) _ (λ aid is. call_some P m (short_argument args 1) _ (λ parameter there.
+      due_if P m (aid == 0) _ _ (λ on. tt) (λ off. call_some P m (header_at m aid) _ (λ f found. asked_by_due aid parameter f))))
+
+  event_due : AllDue P (jc_system_is_transient args m) m
+  unfolding jc_system_is_transient
+  event_due = call_some P m (reference_argument args 0) _ (λ r is. due_if P m (r == 0) _ _ (λ on. tt) (λ off. call_some P m (header_at m r) _ (λ f found. tt)))
+
+  -- Util and AID
+  arrays_compared_due : AllDue P (util_array_compare args p m) m
+  unfolding util_array_compare
+  arrays_compared_due = call_ok P m (pair_arguments args) _ (λ n named. call_ok P m (pair_of p m n) _ (λ a fine. tt))
+
+  short_got_due : AllDue P (util_get_short args p m) m
+  unfolding util_get_short
+  short_got_due = call_ok P m (two_of args p m) _ (λ e fine. tt)
+
+  short_made_due : AllDue P (util_make_short args) m
+  unfolding util_make_short
+  short_made_due = call_some P m (short_argument args 0) _ (λ high is. call_some P m (short_argument args 1) _ (λ low there. tt))
+
+  aid_equals_due : AllDue P (aid_equals args p m) m
+  unfolding aid_equals
+  aid_equals_due = call_some P m (reference_argument args 0) _ (λ own is. call_some P m (reference_argument args 1) _
+      (λ other there. call_some P m (aid_at m own) _ (λ aid found. tt)))
+
+  aid_equals_bytes_due : AllDue P (aid_equals_bytes args p m) m
+  unfolding aid_equals_bytes
+  aid_equals_bytes_due = call_some P m (reference_argument args 0) _ (λ own is. call_some P m (reference_argument args 1) _
+      (λ array a. call_some P m (short_argument args 2) _ (λ start s. call_some P m (short_argument args 3) _ (λ count c.
+      call_some P m (aid_at m own) _ (λ aid found. call_ok P m (bytes_argument m array) _ (λ argument there. due_if P m (array == 0) _ _ (λ on. tt) (λ off.
+      call_ok P m (elements_of p m array argument start count) _ (λ e fine. tt))))))))
+
+  -- OwnerPIN
+  tries_due : AllDue P (owner_pin_get_tries_remaining args m) m
+  unfolding owner_pin_get_tries_remaining
+  tries_due = call_some P m (receiver m args) _ (λ pin is. tt)
+
+  validated_due : AllDue P (owner_pin_is_validated args m) m
+  unfolding owner_pin_is_validated
+  validated_due = call_some P m (receiver m args) _ (λ pin is. tt)
+
+  -- APDU
+  buffer_got_due : AllDue P (apdu_get_buffer m) m
+  buffer_got_due = call_some P m (buffer_of m) _ (λ buffer there. tt)
+
+  received_more_due : (phase : ApduPhase) → AllDue P (apdu_receive_bytes phase) m
+  received_more_due Waiting = tt
+  received_more_due _ = tt
+
+-- ---- what sets registers, and begins and ends transactions
+
+module _ (P : Effect → MemoryState → Type 0) (Q : MemoryState → Type 0) (bears : Bears P Q) where
+  -- JCSystem's transactions
+  module _ (m : MemoryState) (so : Q m) where
+    begun_due : (depth : Depth) → AllDue P (jc_system_begin_transaction depth m) m
+    begun_due Inside = tt
+    begun_due Outside = due_if P m m.heap.begun _ _ (λ on. (bears.turns _ m so refl refl refl, tt)) (λ off.
+        (bears.begins m so off, (bears.turns _ _ (bears.keeps (HeapMove Begin) m (bears.begins m so off) so) refl refl refl, tt)))
+
+    -- where no installation is open
+    closed_due : open_installation m.registers.installation ≡ None → AllDue P (commit_of_applet Idle m) m
+    closed_due none = due_if P m m.heap.begun _ _ (λ on. (
+      bears.commits m so none,
+      (bears.turns _ _ (bears.keeps (HeapMove Commit) m (bears.commits m so none) so) refl refl refl, tt),
+    )) (λ off. (bears.turns _ m so refl refl refl, tt))
+
+    committed_in_due : (installation : Installation) → m.registers.installation ≡ installation → AllDue P (commit_of_applet installation m) m
+    committed_in_due (Open home entry) is = (bears.turns _ m so refl refl refl, tt)
+    committed_in_due Idle is = closed_due (ap open_installation is)
+    committed_in_due (Registered home) is = closed_due (ap open_installation is)
+
+    committed_due : (depth : Depth) → AllDue P (jc_system_commit_transaction depth m) m
+    committed_due Outside = tt
+    committed_due Inside = committed_in_due m.registers.installation refl
+
+    after_abort_due : (installation : Installation) (v : MemoryState) → AllDue P (after_abort installation) v
+    after_abort_due Idle v = tt
+    after_abort_due _ v = tt
+
+    aborted_due : (depth : Depth) → AllDue P (jc_system_abort_transaction depth m) m
+    aborted_due Outside = tt
+    aborted_due Inside = due_if P m m.heap.begun _ _
+        (λ on. (
+          bears.aborts m,
+          (
+            bears.buries _,
+            (
+              bears.turns _ _ (bears.keeps NullDead _ (bears.buries _) (bears.keeps (HeapMove Abort) m (bears.aborts m) so))
+                  refl refl refl,
+              after_abort_due m.registers.installation _,
+            ),
+          ),
+        ))
+        (λ off. (bears.turns _ m so refl refl refl, after_abort_due m.registers.installation _))
+
+  -- APDU
+  outgoing_in_due : (m : MemoryState) → Q m → (phase : ApduPhase) → AllDue P (set_outgoing_in_phase m phase) m
+  outgoing_in_due m so Waiting = (bears.turns _ m so refl refl refl, tt)
+  outgoing_in_due m so Received = (bears.turns _ m so refl refl refl, tt)
+  outgoing_in_due m so _ = tt
+
+  outgoing_due : (m : MemoryState) → Q m → AllDue P (apdu_set_outgoing m) m
+  unfolding apdu_set_outgoing
+  outgoing_due m so = outgoing_in_due m so (phase_of m)
+
+  length_in_due : (m : MemoryState) → Q m → (phase : ApduPhase) (count : ℤ) → AllDue P (set_length_in_phase m phase count) m
+  length_in_due m so Outgoing count = call_ok P m (length_of count) _ (λ n is. (bears.turns _ m so refl refl refl, tt))
+  length_in_due m so _ count = tt
+
+  length_due : (m : MemoryState) → Q m → (count : ℤ) → AllDue P (apdu_set_outgoing_length count m) m
+  unfolding apdu_set_outgoing_length
+  length_due m so count = length_in_due m so (phase_of m) count
+
+  sent_in_due : (m : MemoryState) → Q m → (phase : ApduPhase) (start count : ℤ) → AllDue P (send_in_phase m phase start count) m
+  sent_in_due m so (Sending left) start count = call_ok P m (piece_of m left start count) _ (λ piece is. call_some P m (buffer_of m) _ (λ buffer there.
+      let sends = bears.sends (bytes_at m buffer piece.start piece.count) m in
+      (sends, (bears.turns _ _ (bears.keeps (SendBytes (bytes_at m buffer piece.start piece.count)) m sends so) refl refl refl, tt))))
+  sent_in_due m so _ start count = tt
+
+  sent_due : (m : MemoryState) → Q m → (start count : ℤ) → AllDue P (apdu_send_bytes start count m) m
+  unfolding apdu_send_bytes
+  sent_due m so start count = sent_in_due m so (phase_of m) start count
+
+  all_sent_due : (m : MemoryState) → Q m → (start count : ℤ) → AllDue P (apdu_set_outgoing_and_send start count m) m
+  unfolding apdu_set_outgoing_and_send
+  all_sent_due m so start count =
+      due_bind P _ (apdu_set_outgoing m) m (outgoing_due m so) (each_more _ _ (λ answer v next. call_ok P v answer _ (λ a is.
+      due_bind P _ (apdu_set_outgoing_length count v) v (length_due v next count) (each_more _ _
+      (λ more u last. call_ok P u more _ (λ b there. sent_due u last start count)) (apdu_set_outgoing_length count v) v
+      (kept_each P Q bears.keeps (apdu_set_outgoing_length count v) v (length_due v next count) next)))) (apdu_set_outgoing m) m
+      (kept_each P Q bears.keeps (apdu_set_outgoing m) m (outgoing_due m so) so))
+
+-- a run of cells that is set leaves the registers
+same_registers : (event : Option ClearEvent) (r i : ℕ) (words : List ℕ) (m : MemoryState)
+    → (apply_effect (cells_effect_in event r i words) m).registers ≡ m.registers
+same_registers None r i words m = refl
+same_registers (Some event) r i words m = refl
+
+-- ---- what sets cells, and makes objects
+
+module _ (P : Effect → MemoryState → Type 0) (Q : MemoryState → Type 0) (bears : Bears P Q) (method : PlatformMethod) (args : List Cell) (p : Packages)
+    (m : MemoryState) (so : Q m) (pass : MethodPasses P method args p m) where
+  -- exceptions
+  reason_due : part_of method ≡ CardExceptions → sets_receiver method ≡ true → AllDue P (exception_set_reason args m) m
+  unfolding exception_set_reason
+  reason_due part sets = call_some P m (reference_argument args 0) _ (λ own is. call_some P m (short_argument args 1) _
+      (λ reason there. call_ok P m (instance_at m own 1) _ (λ f long.
+      call_unless P m (cell_refusal m own 0) _ (λ room. (pass.reason part sets own reason is (instance_is m own 1 f long), tt)))))
+
+  -- transient arrays
+  transient_due : (kind : Kind) → (kind ≡ Instance → ⊥) → AllDue P (jc_system_make_transient_array kind args p m) m
+  unfolding jc_system_make_transient_array
+  transient_due kind none = call_some P m (short_argument args 0) _ (λ count is. call_some P m (short_argument args 1) _
+      (λ event there. call_ok P m (requested_array kind count event p m) _ (λ o fine.
+      call_unless P m (creation_refusal m o) _ (λ room. pass.transient kind count event o none fine room))))
+
+  -- Util
+  copied_due : AllDue P (util_array_copy args p m) m
+  unfolding util_array_copy
+  copied_due = call_ok P m (pair_arguments args) _ (λ n named. call_ok P m (pair_of p m n) _ (λ a fine. let is = pair_is p m n a fine in
+      call_unless P m (cells_refusal m a.to.array a.to.start (bytes_in m a.from)) _
+      (λ room. (pass.stretch n.destination n.count a.to (bytes_in m a.from) is.0 (length_bytes m a.from ∙ is.1), tt))))
+
+  short_set_due : AllDue P (util_set_short args p m) m
+  unfolding util_set_short
+  short_set_due = call_some P m (short_argument args 2) _ (λ v is. call_ok P m (two_of args p m) _ (λ e fine. let two = two_is args p m e fine in
+      call_unless P m (cells_refusal m e.array e.start (bytes_of_short v)) _ (λ room.
+      (pass.stretch two.0 (pos 2) e (bytes_of_short v) two.1 (same_Some 2 e.count two.1.counted), tt))))
+
+  -- AID
+  aid_made_due : method ≡ AidInit → AllDue P (aid_init args p m) m
+  unfolding aid_init
+  aid_made_due init = call_some P m (reference_argument args 0) _ (λ own is. call_some P m (reference_argument args 1) _
+      (λ array a. call_some P m (short_argument args 2) _ (λ start s. call_some P m (short_argument args 3) _ (λ count c.
+      call_ok P m (bytes_argument m array) _ (λ argument there. call_ok P m (instance_at m own 9) _
+      (λ f long. call_ok P m (elements_of p m array argument start count) _ (λ e fine.
+      due_if P m (is_aid_length e.count) _ _ (λ on. call_unless P m (cells_refusal m own 0 (cells_of_aid (bytes_in m e))) _ (λ room.
+      (pass.aid init own (bytes_in m e) is (instance_is m own 9 f long) (ap is_aid_length (length_bytes m e) ∙ on), tt))) (λ off. tt))))))))
+
+  aid_got_due : AllDue P (aid_get_bytes args p m) m
+  unfolding aid_get_bytes
+  aid_got_due = call_some P m (reference_argument args 0) _ (λ own is. call_some P m (reference_argument args 1) _
+      (λ array a. call_some P m (short_argument args 2) _ (λ start s.
+      call_some P m (aid_at m own) _ (λ aid found. call_ok P m (bytes_argument m array) _
+      (λ argument there. call_ok P m (elements_of p m array argument start (pos (length aid))) _ (λ e fine.
+      let is = stretch_is p m array start (pos (length aid)) e argument there fine in
+      call_unless P m (cells_refusal m e.array e.start aid) _ (λ room. (
+        pass.stretch array (pos (length aid)) e aid is
+            (same_Some (length aid) e.count is.counted),
+        tt,
+      ))))))))
+
+  -- APDU
+  received_in_due : (phase : ApduPhase) → AllDue P (receive_in_phase m phase) m
+  received_in_due Waiting = call_some P m (buffer_of m) _ (λ buffer there.
+      let sets = pass.buffer buffer (buffer_is m buffer there) in
+      let same = same_registers (facts m.heap.now buffer).event buffer 5 (data_of m.command) m in
+      call_unless P m (cells_refusal m buffer 5 (data_of m.command)) _ (λ room. (
+        sets,
+        (
+          bears.turns _ _ (bears.keeps (cells_effect m buffer 5 (data_of m.command)) m sets so) (ap (λ g. g.active) (sym same))
+              (ap (λ g. g.installation) (sym same)) (ap (λ g. g.selected) (sym same)),
+          tt,
+        ),
+      )))
+  received_in_due _ = tt
+
+  received_due : AllDue P (apdu_set_incoming_and_receive m) m
+  unfolding apdu_set_incoming_and_receive
+  received_due = received_in_due (phase_of m)
+
+  -- Applet
+  as_due : method ≡ AppletRegister → (instance : ℕ) → reference_argument args 0 ≡ Some instance → (aid : Option (List ℕ))
+      → install_aid p m.registers.installation ≡ aid → AllDue P (register_with instance p m aid) m
+  as_due is instance own None there = tt
+  as_due is instance own (Some aid) there = due_if P m (nat_le (length aid) 16) _ _ (λ on. pass.own_registers is aid instance own there) (λ off. tt)
+
+  own_registered_due : method ≡ AppletRegister → AllDue P (applet_register args p m) m
+  unfolding applet_register
+  own_registered_due is = call_some P m (reference_argument args 0) _ (λ instance own. as_due is instance own (install_aid p m.registers.installation) refl)
+
+  given_registered_due : method ≡ AppletRegisterBytes → AllDue P (applet_register_bytes args p m) m
+  unfolding applet_register_bytes
+  given_registered_due is = call_some P m (reference_argument args 0) _ (λ instance own. call_some P m (reference_argument args 1) _
+      (λ array a. call_some P m (short_argument args 2) _ (λ start s. call_some P m (short_argument args 3) _ (λ count c.
+      call_ok P m (bytes_argument m array) _ (λ header h. call_ok P m (elements_of p m array header start count) _ (λ e fine.
+      due_if P m (is_aid_length e.count) _ _ (λ on. pass.given_registers is e instance own on) (λ off. tt)))))))
+
+  -- OwnerPIN
+  full_due : {A : Type 0} (o : Option HeapRefusal) (d : Program (Result A PinRefusal)) → AllDue P d m → AllDue P (unless_full o d) m
+  full_due None d due = due
+  full_due (Some reason) d due = tt
+
+  refused_due : (result : Result (Unit {0}) PinRefusal) (v : MemoryState) → AllDue P (unless_refused result) v
+  refused_due (Ok u) v = tt
+  refused_due (Err e) v = tt
+
+  settled_due : (change : Program (Result (Unit {0}) PinRefusal)) → AllDue P change m → AllDue P (changed_or_thrown change m) m
+  settled_due change due = due_bind P _ change m due (each_always _ refused_due change m)
+
+  module _ (class : class_of method ≡ OwnerPin) (sets : sets_receiver method ≡ true) where
+    called_pin : (pin : ℕ) → receiver m args ≡ Some pin → IsPinCall method args m pin
+    called_pin pin e = option_and_then_some (λ r. if is_pin m r then Some r else None) (reference_argument args 0) pin e (λ r own is.
+        let held = cond_some (is_pin m r) r pin is in
+        record { class = class; sets = sets; called = own ∙ ap Some held.1; is = ap (is_pin m) (sym held.1) ∙ held.0 })
+
+    started_due : (pin limit maximum : ℕ) → IsPinCall method args m pin → AllDue P (pin_init m pin limit maximum) m
+    unfolding pin_init
+    started_due pin limit maximum is = due_if P m (not (has_space m maximum)) _ _ (λ on. tt)
+        (λ off. due_if P m (lacks_capacity m 6) _ _ (λ on. tt) (λ off. pass.starts pin is limit maximum))
+
+    constructed_due : AllDue P (owner_pin_init args m) m
+    unfolding owner_pin_init
+    constructed_due = call_some P m (receiver m args) _ (λ pin is. call_some P m (short_argument args 1) _
+        (λ limit l. call_some P m (short_argument args 2) _ (λ maximum x.
+        call_ok P m (at_least_1 limit) _ (λ n few. call_ok P m (at_least_1 maximum) _
+        (λ k most. settled_due (pin_init m pin n k) (started_due pin n k (called_pin pin is)))))))
+
+    judged_due : (pin : ℕ) (v : MemoryState) (guess : Option (List ℕ)) → ((limit : ℕ) → P (HeapMove (WriteNonAtomic (counter pin) limit)) v)
+        → AllDue P (comparison v pin guess) v
+    judged_due pin v None refills = tt
+    judged_due pin v (Some bytes) refills = due_if P v (is_value v pin bytes) _ _ (λ on. (refills _, (bears.flags pin true _, tt))) (λ off. tt)
+
+    checked_due : (pin : ℕ) (guess : Option (List ℕ)) → IsPinCall method args m pin → AllDue P (pin_check m pin guess) m
+    unfolding pin_check
+    checked_due pin guess is = due_if P m ((record_of m pin).tries == 0) _ _ (λ on. tt)
+        (λ off. (bears.flags pin false m, (pass.counts pin is _, judged_due pin _ guess (pass.refills pin is _))))
+
+    compared_due : (pin : ℕ) (bytes : Result Stretch FrameExit) → IsPinCall method args m pin → AllDue P (pin_comparison m pin bytes) m
+    unfolding pin_comparison
+    compared_due pin bytes is = due_if P m ((record_of m pin).tries == 0) _ _ (λ on. tt) (λ off.
+        due_bind P _ (pin_check m pin (guess_of m bytes)) m (checked_due pin (guess_of m bytes) is)
+        (each_always _ (λ same v. call_ok P v bytes _ (λ e fine. tt)) (pin_check m pin (guess_of m bytes)) m))
+
+    pin_checked_due : AllDue P (owner_pin_check args p m) m
+    unfolding owner_pin_check
+    pin_checked_due = call_some P m (receiver m args) _ (λ pin is. call_ok P m (array_arguments args m) _
+        (λ given fine. compared_due pin (argument_bytes given p m) (called_pin pin is)))
+
+    reset_due : (pin : ℕ) → IsPinCall method args m pin → AllDue P (pin_reset m pin) m
+    unfolding pin_reset
+    reset_due pin is = due_if P m (flag_of m.ram pin) _ _ (λ on. (bears.flags pin false m, (pass.counts pin is _, tt))) (λ off. tt)
+
+    was_reset_due : AllDue P (owner_pin_reset args m) m
+    unfolding owner_pin_reset
+    was_reset_due = call_some P m (receiver m args) _ (λ pin is. due_bind P _ (pin_reset m pin) m (reset_due pin (called_pin pin is))
+        (each_always _ (λ u v. tt) (pin_reset m pin) m))
+
+    was_unblocked_due : AllDue P (owner_pin_reset_and_unblock args m) m
+    unfolding owner_pin_reset_and_unblock
+    was_unblocked_due = call_some P m (receiver m args) _ (λ pin is. (bears.flags pin false m, (pass.counts pin (called_pin pin is) _, tt)))
+
+    updated_due : (pin : ℕ) (bytes : List ℕ) → IsPinCall method args m pin → is_own_value m pin ≡ Ok tt → AllDue P (pin_update m pin bytes) m
+    unfolding pin_update
+    updated_due pin bytes is owned = due_if P m (nat_lt (record_of m pin).maximum (length bytes)) _ _ (λ on. tt) (λ off.
+        full_due (refusal_of_places m.heap (places_of (changes_of_update (record_of m pin) pin bytes))) _
+        (pass.updates pin is bytes owned (ltb-false (record_of m pin).maximum (length bytes) off), (bears.flags pin false _, tt)))
+
+    value_set_due : AllDue P (owner_pin_update args p m) m
+    unfolding owner_pin_update
+    value_set_due = call_some P m (receiver m args) _ (λ pin is. call_ok P m (array_arguments args m) _
+        (λ given fine. call_ok P m (argument_bytes given p m) _ (λ e there.
+        call_ok P m (is_own_value m pin) _ (λ u owned. settled_due (pin_update m pin (bytes_in m e))
+        (updated_due pin (bytes_in m e) (called_pin pin is) owned)))))
+
+-- ---- part by part
+
+module _ (P : Effect → MemoryState → Type 0) (Q : MemoryState → Type 0) (bears : Bears P Q) (args : List Cell) (p : Packages) (m : MemoryState) (so : Q m) where
+  objects_due : (method : PlatformMethod) → AllDue P (object_call method args) m
+  unfolding object_call
+  objects_due ObjectEquals = same_due P args p m
+  objects_due _ = tt
+
+  exceptions_due : (method : PlatformMethod) → part_of method ≡ CardExceptions → MethodPasses P method args p m → AllDue P (exception_call method args m) m
+  unfolding exception_call sets_receiver
+  exceptions_due CardExceptionInit part pass = reason_due P Q bears CardExceptionInit args p m so pass part refl
+  exceptions_due CardExceptionThrowIt part pass = thrown_due P args p m exception.CardException
+  exceptions_due CardExceptionGetReason part pass = got_due P args p m
+  exceptions_due CardExceptionSetReason part pass = reason_due P Q bears CardExceptionSetReason args p m so pass part refl
+  exceptions_due CardRuntimeExceptionInit part pass = reason_due P Q bears CardRuntimeExceptionInit args p m so pass part refl
+  exceptions_due CardRuntimeExceptionThrowIt part pass = thrown_due P args p m exception.CardRuntimeException
+  exceptions_due CardRuntimeExceptionGetReason part pass = got_due P args p m
+  exceptions_due CardRuntimeExceptionSetReason part pass = reason_due P Q bears CardRuntimeExceptionSetReason args p m so pass part refl
+  exceptions_due IsoExceptionInit part pass = reason_due P Q bears IsoExceptionInit args p m so pass part refl
+  exceptions_due IsoExceptionThrowIt part pass = thrown_due P args p m exception.ISOException
+  exceptions_due PinExceptionInit part pass = reason_due P Q bears PinExceptionInit args p m so pass part refl
+  exceptions_due PinExceptionThrowIt part pass = thrown_due P args p m exception.PINException
+  exceptions_due SystemExceptionInit part pass = reason_due P Q bears SystemExceptionInit args p m so pass part refl
+  exceptions_due SystemExceptionThrowIt part pass = thrown_due P args p m exception.SystemException
+  exceptions_due TransactionExceptionInit part pass = reason_due P Q bears TransactionExceptionInit args p m so pass part refl
+  exceptions_due TransactionExceptionThrowIt part pass = thrown_due P args p m exception.TransactionException
+  exceptions_due ApduExceptionInit part pass = reason_due P Q bears ApduExceptionInit args p m so pass part refl
+  exceptions_due ApduExceptionThrowIt part pass = thrown_due P args p m exception.APDUException
+  exceptions_due UserExceptionInit part pass = reason_due P Q bears UserExceptionInit args p m so pass part refl
+  exceptions_due UserExceptionThrowIt part pass = thrown_due P args p m exception.UserException
+  exceptions_due _ part pass = tt
+
+  util_due : (method : PlatformMethod) → MethodPasses P method args p m → AllDue P (util_call method args p m) m
+  unfolding util_call
+  util_due UtilArrayCompare pass = arrays_compared_due P args p m
+  util_due UtilArrayCopy pass = copied_due P Q bears UtilArrayCopy args p m so pass
+  util_due UtilGetShort pass = short_got_due P args p m
+  util_due UtilMakeShort pass = short_made_due P args p m
+  util_due UtilSetShort pass = short_set_due P Q bears UtilSetShort args p m so pass
+  util_due _ pass = tt
+
+  system_due : (method : PlatformMethod) → MethodPasses P method args p m → AllDue P (system_call method args p m) m
+  unfolding system_call
+  system_due JcSystemAbortTransaction pass = aborted_due P Q bears m so m.registers.depth
+  system_due JcSystemBeginTransaction pass = begun_due P Q bears m so m.registers.depth
+  system_due JcSystemCommitTransaction pass = committed_due P Q bears m so m.registers.depth
+  system_due JcSystemGetAppletShareableInterfaceObject pass = server_due P args p m
+  system_due JcSystemIsTransient pass = event_due P args p m
+  system_due JcSystemLookupAid pass = looked_up_due P args p m
+  system_due JcSystemMakeTransientBooleanArray pass = transient_due P Q bears JcSystemMakeTransientBooleanArray args p m so pass BooleanArray (λ e. cc)
+  system_due JcSystemMakeTransientByteArray pass = transient_due P Q bears JcSystemMakeTransientByteArray args p m so pass ByteArray (λ e. cc)
+  system_due JcSystemMakeTransientObjectArray pass = transient_due P Q bears JcSystemMakeTransientObjectArray args p m so pass ReferenceArray (λ e. cc)
+  system_due JcSystemMakeTransientShortArray pass = transient_due P Q bears JcSystemMakeTransientShortArray args p m so pass ShortArray (λ e. cc)
+  system_due _ pass = tt
+
+  aids_due : (method : PlatformMethod) → MethodPasses P method args p m → AllDue P (aid_call method args p m) m
+  unfolding aid_call
+  aids_due AidInit pass = aid_made_due P Q bears AidInit args p m so pass refl
+  aids_due AidEquals pass = aid_equals_due P args p m
+  aids_due AidEqualsBytes pass = aid_equals_bytes_due P args p m
+  aids_due AidGetBytes pass = aid_got_due P Q bears AidGetBytes args p m so pass
+  aids_due _ pass = tt
+
+  pins_due : (method : PlatformMethod) → MethodPasses P method args p m → AllDue P (pin_call method args p m) m
+  unfolding pin_call sets_receiver methods
+  pins_due OwnerPinInit pass = constructed_due P Q bears OwnerPinInit args p m so pass refl refl
+  pins_due OwnerPinCheck pass = pin_checked_due P Q bears OwnerPinCheck args p m so pass refl refl
+  pins_due OwnerPinGetTriesRemaining pass = tries_due P args p m
+  pins_due OwnerPinIsValidated pass = validated_due P args p m
+  pins_due OwnerPinReset pass = was_reset_due P Q bears OwnerPinReset args p m so pass refl refl
+  pins_due OwnerPinResetAndUnblock pass = was_unblocked_due P Q bears OwnerPinResetAndUnblock args p m so pass refl refl
+  pins_due OwnerPinUpdate pass = value_set_due P Q bears OwnerPinUpdate args p m so pass refl refl
+  pins_due _ pass = tt
+
+  applets_due : (method : PlatformMethod) → MethodPasses P method args p m → AllDue P (applet_call method args p m) m
+  unfolding applet_call
+  applets_due AppletRegister pass = own_registered_due P Q bears AppletRegister args p m so pass refl
+  applets_due AppletRegisterBytes pass = given_registered_due P Q bears AppletRegisterBytes args p m so pass refl
+  applets_due _ pass = tt
+
+  apdus_due : (method : PlatformMethod) → MethodPasses P method args p m → AllDue P (apdu_call method args m) m
+  unfolding apdu_call
+  apdus_due ApduGetBuffer pass = buffer_got_due P args p m
+  apdus_due ApduReceiveBytes pass = call_some P m (short_argument args 1) _ (λ start is. received_more_due P args p m (phase_of m))
+  apdus_due ApduSendBytes pass = call_some P m (short_argument args 1) _ (λ start is. call_some P m (short_argument args 2) _
+      (λ count there. sent_due P Q bears m so start count))
+  apdus_due ApduSetIncomingAndReceive pass = received_due P Q bears ApduSetIncomingAndReceive args p m so pass
+  apdus_due ApduSetOutgoing pass = outgoing_due P Q bears m so
+  apdus_due ApduSetOutgoingAndSend pass = call_some P m (short_argument args 1) _
+      (λ start is. call_some P m (short_argument args 2) _ (λ count there. all_sent_due P Q bears m so start count))
+  apdus_due ApduSetOutgoingLength pass = call_some P m (short_argument args 1) _ (λ count is. length_due P Q bears m so count)
+  apdus_due _ pass = tt
+
+  part_due : (part : Part) (method : PlatformMethod) → part_of method ≡ part → MethodPasses P method args p m → AllDue P (native_call_in part method args p m) m
+  part_due Objects method is pass = objects_due method
+  part_due CardExceptions method is pass = exceptions_due method is pass
+  part_due Utilities method is pass = util_due method pass
+  part_due System method is pass = system_due method pass
+  part_due Aids method is pass = aids_due method pass
+  part_due Pins method is pass = pins_due method pass
+  part_due Applets method is pass = applets_due method pass
+  part_due Apdus method is pass = apdus_due method pass
+
+  -- each effect of a method is due, where those that set cells are
+  pub method_due : (method : PlatformMethod) → MethodPasses P method args p m → AllDue P (native_call method args p m) m
+  unfolding native_call
+  method_due method pass = part_due (part_of method) method refl pass

@@ -1,0 +1,114 @@
+-- Methods of the platform spare what is outside reach.
+use Rattle.std.proofs.Common.{◌≡◌, ℕ, ◌+◌, ◌≤◌, Bool, true, false, inl, inr, List, [], length, Some, Ok, refl, sym, ◌∙◌, ap, subst, arith, if◌then◌else◌}
+use Rattle.std.proofs.lemmas.List.{length-map}
+use Rattle.std.proofs.lemmas.List.FromFn.{length-range_with_len}
+use Rattle.std.proofs.lemmas.List.Edits.{length-between}
+use Rattle.std.specs.List.{range_with_len}
+use Rattle.std.specs.Prelude.{ℤ, min, nat_le, slice_index, slice_range}
+use Rattle.jc_transient.specs.declared.cell.CellValue.TheVariants.{Short}
+use Rattle.jc_heap.specs.Heap.{facts, is_allocated}
+use Rattle.jc_frames.specs.declared.cell.Cell.{Cell}
+use Rattle.jc_memory.specs.State.{MemoryState}
+use Rattle.jc_memory.specs.Cells.{header_at, cells_effect}
+use Rattle.jc_memory.specs.Reading.{AllDue}
+use Rattle.jc_linker.specs.Values.{Packages}
+use Rattle.jc_platform.specs.declared.names.PlatformMethod.{PlatformMethod}
+use Rattle.jc_platform.specs.declared.names.PlatformMethod.TheVariants.{AidInit}
+use Rattle.jc_pin.specs.Pins.{record_of}
+use Rattle.jc_pin.specs.PinInit.{value_array}
+use Rattle.jc_pin.specs.Updating.{byte_changes}
+use Rattle.jc_world.specs.Objects.{reference_argument}
+use Rattle.jc_world.specs.declared.arrays.Stretch.{Stretch}
+use Rattle.jc_world.specs.Arrays.{bytes_in}
+use Rattle.jc_api_runtime.specs.AidCells.{aid_cell, cells_of_aid}
+use Rattle.jc_api_data.specs.ApduBuffer.{data_of}
+use Rattle.jc_api_runtime.specs.Register.{registration}
+use Rattle.jc_api_data.specs.OwnerPinArguments.{is_own_value}
+use Rattle.law_isolation.specs.Natives.{NativesSpare, ReachesCalled, sets_receiver}
+use Rattle.law_isolation.specs.Reach.{IsOutside}
+use Rattle.law_isolation.specs.Sparing.{LeavesObject}
+use Rattle.law_isolation.proofs.Applets.{registered_due}
+use Rattle.law_isolation.proofs.Arguments.{IsStretch}
+use Rattle.law_isolation.proofs.Methods.{method_due}
+use Rattle.law_isolation.proofs.Passing.{Bears, IsPinCall, MethodPasses, recorded}
+use Rattle.law_isolation.proofs.Pins.{beside_append, beside_put, value_inside}
+use Rattle.law_isolation.proofs.Reaching.{not_outside}
+use Rattle.law_isolation.proofs.Setting.{new_other, new_spares, run_spares, set_spares}
+
+-- effects that set no cells spare each object
+bears : (q : ℕ) → Bears (LeavesObject q) (λ m. Unit {0})
+bears q = record {
+  keeps = λ e m due so. tt;
+  turns = λ g m so active installation selected. tt;
+  begins = λ m so off. tt;
+  commits = λ m so none. tt;
+  aborts = λ m. tt;
+  buries = λ m. tt;
+  flags = λ r flag m. tt;
+  sends = λ bytes m. tt;
+}
+
+nine : (aid : List ℕ) → length (cells_of_aid aid) ≡ 9
+nine aid = let l = length-map (range_with_len 0 8) (aid_cell aid) in let n = length-range_with_len 0 8 in omega (arith, l, n)
+
+data_fits : (command : List ℕ) → length command ≤ 261 → 5 + length (data_of command) ≤ 261
+unfolding data_of
+data_fits command few = either (nat_le (length command) 5)
+  where
+    most : (n : ℕ) → n ≤ length command → 5 + length (slice_range command 5 n) ≤ 261
+    most n le = let l = length-between command 5 n le in omega (arith, l, le, few)
+
+    either : (b : Bool) → 5 + length (if b then [] else slice_range command 5 (min (5 + slice_index command 4) (length command))) ≤ 261
+    either true = omega arith
+    either false = most (min (5 + slice_index command 4) (length command)) (omega arith)
+
+module _ (method : PlatformMethod) (args : List Cell) (p : Packages) (m : MemoryState) (q : ℕ) (out : IsOutside p m q) (few : length m.command ≤ 261)
+    (reach : sets_receiver method ≡ true → ReachesCalled args p m) where
+  -- what is called, and sets cells of it, is another object
+  other : sets_receiver method ≡ true → (own : ℕ) → reference_argument args 0 ≡ Some own → own ≡ q → ⊥
+  other sets own is = not_outside p m q own (facts m.heap.now own) out refl (reach sets own is)
+
+  other_pin : (pin : ℕ) → IsPinCall method args m pin → pin ≡ q → ⊥
+  other_pin pin is = other is.sets pin is.called
+
+  other_value : (pin : ℕ) → IsPinCall method args m pin → is_own_value m pin ≡ Ok tt → (record_of m pin).value ≡ q → ⊥
+  other_value pin is owned = value_inside p m q pin out is.is (reach is.sets pin is.called) (record_of m pin).value
+      (header_at m (record_of m pin).value) refl owned
+
+  sets_aid : method ≡ AidInit → sets_receiver method ≡ true
+  unfolding sets_receiver
+  sets_aid is = ap sets_receiver is
+
+  stretch_spares : (r : ℕ) (count : ℤ) (e : Stretch) (words : List ℕ) → IsStretch p m r count e → length words ≡ e.count
+      → LeavesObject q (cells_effect m e.array e.start words) m
+  stretch_spares r count e words is long = subst (λ a. LeavesObject q (cells_effect m a e.start words) m) (sym is.array)
+      (run_spares q m r e.start words (not_outside p m q r (facts m.heap.now r) out refl is.reach) (let w = is.within in omega (arith, w, long)))
+
+  registers : (aid : List ℕ) (instance : ℕ) → AllDue (LeavesObject q) (registration aid instance p m) m
+  registers = registered_due (LeavesObject q) (λ g v. tt) (λ v. tt) p m (λ r words new.
+      ((refl, subst (λ t. is_allocated m.heap.now t ≡ false) new.chosen new.free), (tt, (new_other m q r out.there new, tt)))) (λ entry v is. inr is)
+
+  passes : MethodPasses (LeavesObject q) method args p m
+  passes = record {
+    reason = λ part sets own v is long. set_spares q m own 0 (Short v) (other sets own is) long.cells;
+    stretch = stretch_spares;
+    aid = λ init own bytes is long fine. run_spares q m own 0 (cells_of_aid bytes) (other (sets_aid init) own is)
+        (let l = long.cells in let n = nine bytes in omega (arith, l, n));
+    buffer = λ r is. run_spares q m r 5 (data_of m.command) (λ same. out.others (16, sym same ∙ is.is))
+        (let d = data_fits m.command few in let l = is.long in omega (arith, d, l));
+    transient = λ kind count event o none fine room. new_spares q o _ m out.there (λ r v new. tt);
+    starts = λ pin is limit maximum.
+        let ne = other_pin pin is in
+        new_spares q (value_array m maximum) (recorded pin limit maximum) m out.there (λ value v new. (inl (ne, (ne, (ne, (ne, (ne, tt))))), (tt, tt)));
+    counts = λ pin is n. other_pin pin is;
+    refills = λ pin is n limit. other_pin pin is;
+    updates = λ pin is bytes owned short. let ne = other_pin pin is in
+        inl (beside_append q (byte_changes (record_of m pin).value 0 bytes) _ (beside_put q (record_of m pin).value 0 bytes (other_value pin is owned))
+        (ne, (ne, tt)));
+    own_registers = λ is aid instance own there. registers aid instance;
+    given_registers = λ is e instance own fine. registers (bytes_in m e) instance;
+  }
+
+pub natives_spare : NativesSpare
+natives_spare method args p m q out few reach = method_due (LeavesObject q) (λ m. Unit {0}) (bears q) args p m tt method
+    (passes method args p m q out few reach)

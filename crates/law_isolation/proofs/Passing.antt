@@ -1,0 +1,156 @@
+-- What is to be shown of something that is to hold of each effect: that it holds of those that instructions and methods of the platform
+-- have, behind the checks that precede them.
+use Rattle.std.proofs.Common.{◌≡◌, ℕ, ◌<◌, ◌≤◌, Bool, true, false, List, [], ◌∷◌, length, Some, None, Result, Ok}
+use Rattle.std.specs.Prelude.{ℤ}
+use Rattle.jc_transient.specs.declared.cell.CellValue.{CellValue}
+use Rattle.jc_transient.specs.declared.cell.CellValue.TheVariants.{Short}
+use Rattle.jc_heap.specs.declared.object.Facts.{Facts}
+use Rattle.jc_heap.specs.declared.object.Kind.{Kind}
+use Rattle.jc_heap.specs.declared.object.Kind.TheVariants.{Instance, ReferenceArray}
+use Rattle.jc_heap.specs.Heap.{facts}
+use Rattle.jc_heap.specs.Moves.{SetPlaces, WriteNonAtomic, Begin, Commit, Abort}
+use Rattle.jc_memory.specs.declared.making.NewObject.{NewObject}
+use Rattle.jc_memory.specs.declared.registers.Registers.{Registers}
+use Rattle.jc_memory.specs.State.{MemoryState, Effect, HeapMove, SetTransient, SetFlag, NullDead, SetRegisters, SendBytes, apply_effect}
+use Rattle.jc_memory.specs.Cells.{cell_effect, cells_effect, word_of}
+use Rattle.jc_memory.specs.Programs.{Program, Finish, Perform}
+use Rattle.jc_memory.specs.Making.{object_creation, creation_refusal}
+use Rattle.jc_memory.specs.Reading.{AllDue}
+use Rattle.jc_opcodes.specs.declared.instr.PrimitiveArray.{PrimitiveArray}
+use Rattle.jc_opcodes.specs.declared.instr.ValueType.{ValueType}
+use Rattle.jc_platform.specs.declared.names.PlatformMethod.{PlatformMethod}
+use Rattle.jc_platform.specs.declared.names.PlatformMethod.TheVariants.{AidInit, AppletRegister, AppletRegisterBytes}
+use Rattle.jc_platform.specs.declared.names.PlatformClass.TheVariants.{OwnerPin}
+use Rattle.jc_platform.specs.Distinct.{class_of}
+use Rattle.jc_linker.specs.declared.target.Method.TheVariants.{Native}
+use Rattle.jc_linker.specs.Classes.{size_of}
+use Rattle.jc_linker.specs.Values.{Packages}
+use Rattle.jc_frames.specs.declared.cell.Cell.{Cell}
+use Rattle.jc_frames.specs.declared.cell.Cell.TheVariants.{Reference}
+use Rattle.jc_frames.specs.Calls.{arguments_on}
+use Rattle.jc_frames.specs.Frames.{Frames}
+use Rattle.jc_pin.specs.declared.updating.PinRefusal.{PinRefusal}
+use Rattle.jc_pin.specs.Pins.{counter, is_pin, record_of}
+use Rattle.jc_pin.specs.PinInit.{first_record, value_array}
+use Rattle.jc_pin.specs.Updating.{changes_of_update}
+use Rattle.jc_world.specs.declared.native_result.NativeResult.TheVariants.{ReturnValue}
+use Rattle.jc_world.specs.NativeCalls.{return_value}
+use Rattle.jc_world.specs.Objects.{reference_argument}
+use Rattle.jc_world.specs.declared.arrays.Stretch.{Stretch}
+use Rattle.jc_world.specs.Arrays.{bytes_in}
+use Rattle.jc_world.specs.Instances.{IsInstanceWith}
+use Rattle.jc_world.specs.Making.{new_on_top}
+use Rattle.jc_world.specs.Types.{class_named}
+use Rattle.jc_world.specs.Values.{keepable, value_on}
+use Rattle.jc_api_runtime.specs.AidCells.{cells_of_aid, is_aid_length}
+use Rattle.jc_api_data.specs.ApduBuffer.{data_of}
+use Rattle.jc_api_runtime.specs.Applet.{install_aid}
+use Rattle.jc_api_runtime.specs.Register.{open_installation, registration}
+use Rattle.jc_api_data.specs.OwnerPinArguments.{is_own_value}
+use Rattle.jc_api_runtime.specs.SystemTransient.{requested_array}
+use Rattle.jc_interp_objects.specs.declared.array_elements.Element.{Element}
+use Rattle.jc_interp_objects.specs.ArrayElements.{element_value}
+use Rattle.jc_interp_objects.specs.ArrayCreation.{kind_of}
+use Rattle.jc_interp_calls.specs.declared.invoke.MethodCall.{MethodCall}
+use Rattle.jc_interp_objects.specs.declared.field_names.FieldOfClass.{FieldOfClass}
+use Rattle.jc_interp_objects.specs.declared.field_names.FieldOfImage.{FieldOfImage}
+use Rattle.jc_interp_objects.specs.FieldNames.{static_named}
+use Rattle.jc_interp_objects.specs.StaticFields.{static_write}
+use Rattle.jc_interp_objects.specs.ObjectCreation.{cells_for, instantiable_class}
+use Rattle.jc_interp.specs.declared.parts.Part.TheVariants.{CardExceptions}
+use Rattle.jc_interp.specs.Natives.{native_call}
+use Rattle.jc_interp.specs.Parts.{part_of}
+use Rattle.law_isolation.specs.Natives.{sets_receiver}
+use Rattle.law_isolation.specs.Reach.{IsEnvironmentObject}
+use Rattle.law_isolation.specs.Steps.{IsCalled}
+use Rattle.law_isolation.proofs.Arguments.{IsBuffer, IsStretch}
+use Rattle.law_isolation.proofs.Reached.{IsArray, IsCell, Names}
+
+-- ---- methods of the platform
+
+-- where this is so of a memory, effects that set no cells are due, and each effect that is due leaves it so
+pub record Bears (P : Effect → MemoryState → Type 0) (Q : MemoryState → Type 0) : Type 0 where
+  pub keeps : (e : Effect) (m : MemoryState) → P e m → Q m → Q (apply_effect e m)
+  pub turns : (g : Registers) (m : MemoryState) → Q m → g.active ≡ m.registers.active → g.installation ≡ m.registers.installation
+      → g.selected ≡ m.registers.selected → P (SetRegisters g) m
+  pub begins : (m : MemoryState) → Q m → m.heap.begun ≡ false → P (HeapMove Begin) m
+  pub commits : (m : MemoryState) → Q m → open_installation m.registers.installation ≡ None → P (HeapMove Commit) m
+  pub aborts : (m : MemoryState) → P (HeapMove Abort) m
+  pub buries : (m : MemoryState) → P NullDead m
+  pub flags : (r : ℕ) (flag : Bool) (m : MemoryState) → P (SetFlag r flag) m
+  pub sends : (bytes : List ℕ) (m : MemoryState) → P (SendBytes bytes) m
+
+-- a PIN, on which a method of OwnerPIN is called that sets cells of it
+pub record IsPinCall (method : PlatformMethod) (args : List Cell) (m : MemoryState) (pin : ℕ) : Type 0 where
+  pub class : class_of method ≡ OwnerPin
+  pub sets : sets_receiver method ≡ true
+  pub called : reference_argument args 0 ≡ Some pin
+  pub is : is_pin m pin ≡ true
+
+-- the record of a new PIN is set, with the array for its value
+abbrev pub recorded : ℕ → ℕ → ℕ → ℕ → Program (Result (Unit {0}) PinRefusal)
+recorded pin limit maximum value = Perform (HeapMove (SetPlaces (first_record pin limit maximum value))) (Perform (SetFlag pin false) (Finish (Ok tt)))
+
+-- what a method sets: the reason of an exception; bytes of an array; the cells of an AID; the APDU buffer; a new transient array; the
+-- record of a new PIN; the counter of a PIN; its value; and what registers an applet
+pub record MethodPasses (P : Effect → MemoryState → Type 0) (method : PlatformMethod) (args : List Cell) (p : Packages) (m : MemoryState) : Type 0 where
+  pub reason : part_of method ≡ CardExceptions → sets_receiver method ≡ true → (own : ℕ) (v : ℤ) → reference_argument args 0 ≡ Some own → IsInstanceWith m own 1
+      → P (cell_effect m own 0 (Short v)) m
+  pub stretch : (r : ℕ) (count : ℤ) (e : Stretch) (words : List ℕ) → IsStretch p m r count e → length words ≡ e.count
+      → P (cells_effect m e.array e.start words) m
+  pub aid : method ≡ AidInit → (own : ℕ) (bytes : List ℕ) → reference_argument args 0 ≡ Some own → IsInstanceWith m own 9 → is_aid_length (length bytes) ≡ true
+      → P (cells_effect m own 0 (cells_of_aid bytes)) m
+  pub buffer : (r : ℕ) → IsBuffer m r → P (cells_effect m r 5 (data_of m.command)) m
+  pub transient : (kind : Kind) (count event : ℤ) (o : NewObject) → (kind ≡ Instance → ⊥) → requested_array kind count event p m ≡ Ok o
+      → creation_refusal m o ≡ None → AllDue P (object_creation o (λ r. return_value (ReturnValue (Reference r)))) m
+  pub starts : (pin : ℕ) → IsPinCall method args m pin → (limit maximum : ℕ) → AllDue P (object_creation (value_array m maximum) (recorded pin limit maximum)) m
+  pub counts : (pin : ℕ) → IsPinCall method args m pin → (n : ℕ) → P (HeapMove (WriteNonAtomic (counter pin) n)) (apply_effect (SetFlag pin false) m)
+  pub refills : (pin : ℕ) → IsPinCall method args m pin → (n limit : ℕ) → P (HeapMove (WriteNonAtomic (counter pin) limit))
+      (apply_effect (HeapMove (WriteNonAtomic (counter pin) n)) (apply_effect (SetFlag pin false) m))
+  pub updates : (pin : ℕ) → IsPinCall method args m pin → (bytes : List ℕ) → is_own_value m pin ≡ Ok tt → length bytes ≤ (record_of m pin).maximum
+      → P (HeapMove (SetPlaces (changes_of_update (record_of m pin) pin bytes))) m
+  pub own_registers : method ≡ AppletRegister → (aid : List ℕ) (instance : ℕ) → reference_argument args 0 ≡ Some instance
+      → install_aid p m.registers.installation ≡ Some aid → AllDue P (registration aid instance p m) m
+  pub given_registers : method ≡ AppletRegisterBytes → (e : Stretch) (instance : ℕ) → reference_argument args 0 ≡ Some instance → is_aid_length e.count ≡ true
+      → AllDue P (registration (bytes_in m e) instance p m) m
+
+-- ---- instructions
+
+-- what instructions on fields set: cells of fields within reach, and static fields
+pub record FieldsPass (P : Effect → MemoryState → Type 0) (p : Packages) (m : MemoryState) : Type 0 where
+  pub field : (of_type : ValueType) (number index r i : ℕ) (field : FieldOfClass) (cells : List Cell) (v : CellValue × List Cell) (k : CellValue)
+      → value_on of_type cells ≡ Some v → keepable p m v.0 ≡ Ok k →
+      Names p number index of_type field → IsCell p m field r i → P (cell_effect m r i k) m
+  pub static : (of_type : ValueType) (number index : ℕ) (field : FieldOfImage) (cells : List Cell) (v : CellValue × List Cell) (k : CellValue) (s : Frames)
+      → value_on of_type cells ≡ Some v → keepable p m v.0 ≡ Ok k →
+      static_named of_type p number index ≡ Some field → AllDue P (static_write of_type field (word_of k) s m) m
+
+-- a new object for whom code runs
+abbrev pub new_for : MemoryState → Kind → ℕ → ℕ → NewObject
+new_for m kind class n = record { kind = kind; event = None; class = class; owner = m.registers.active; length = n }
+
+-- what those on arrays set: elements of arrays within reach, and new arrays
+pub record ArraysPass (P : Effect → MemoryState → Type 0) (p : Packages) (m : MemoryState) : Type 0 where
+  pub element : (of_type : ValueType) (r : ℕ) (f : Facts) (e : Element) (cells : List Cell) (v : CellValue × List Cell) (k w : CellValue)
+      → value_on of_type cells ≡ Some v → keepable p m v.0 ≡ Ok k →
+      IsArray p m of_type r f → e.index < f.length → element_value p m e.class k ≡ Ok w → P (cell_effect m r e.index w) m
+  pub numbers : (of_type : PrimitiveArray) (n : ℕ) (s : Frames) → AllDue P (new_on_top (new_for m (kind_of of_type) 0 n) s m) m
+  pub references : (number index class n : ℕ) (s : Frames) → class_named p number index ≡ Some class
+      → AllDue P (new_on_top (new_for m ReferenceArray class n) s m) m
+
+-- new instances
+abbrev pub InstancesPass : (Effect → MemoryState → Type 0) → Packages → MemoryState → Type 0
+InstancesPass P p m = (number index class n : ℕ) (s : Frames) → instantiable_class p number index ≡ Some class → cells_for (size_of p class) ≡ Ok n
+    → AllDue P (new_on_top (new_for m Instance class n) s m) m
+
+-- ---- steps
+
+-- what a step has: those of instructions; registers that are set; the reason of one of the environment's exceptions; and calls
+pub record StepPasses (P : Effect → MemoryState → Type 0) (lent : List ℕ) (p : Packages) (s : Frames) (m : MemoryState) : Type 0 where
+  pub fields : FieldsPass P p m
+  pub arrays : ArraysPass P p m
+  pub instances : InstancesPass P p m
+  pub turns : (g : Registers) (n : MemoryState) → P (SetRegisters g) n
+  pub reasons : (r : ℕ) (v : ℤ) (n : MemoryState) → IsEnvironmentObject m r → 0 < (facts n.heap.now r).length → P (SetTransient r 0 (Short v ∷ [])) n
+  pub calls : (c : MethodCall) (method : PlatformMethod) (args : List Cell) → IsCalled lent p s m c → c.method ≡ Native method
+      → arguments_on c.arguments s.current.stack ≡ Some args → AllDue P (native_call method args p m) m

@@ -1,0 +1,6 @@
+pub mod Reach
+pub mod Sparing
+pub mod Groups
+pub mod Natives
+pub mod Steps
+pub mod Runs

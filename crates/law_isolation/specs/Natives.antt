@@ -1,0 +1,52 @@
+-- Methods of the platform spare what is outside reach and is not what they are called on.
+use Rattle.std.specs.Prelude.{ℕ, ◌≡◌, ◌≤◌, Bool, true, false, List, length, Some}
+use Rattle.jc_frames.specs.declared.cell.Cell.{Cell}
+use Rattle.jc_heap.specs.Heap.{facts}
+use Rattle.jc_memory.specs.State.{MemoryState}
+use Rattle.jc_memory.specs.Reading.{AllDue}
+use Rattle.jc_platform.specs.declared.names.PlatformMethod.{PlatformMethod}
+use Rattle.jc_platform.specs.declared.names.PlatformMethod.TheVariants.{CardExceptionInit, CardExceptionSetReason, CardRuntimeExceptionInit}
+use Rattle.jc_platform.specs.declared.names.PlatformMethod.TheVariants.{CardRuntimeExceptionSetReason, IsoExceptionInit, PinExceptionInit, SystemExceptionInit}
+use Rattle.jc_platform.specs.declared.names.PlatformMethod.TheVariants.{TransactionExceptionInit, ApduExceptionInit, UserExceptionInit, AidInit, OwnerPinInit}
+use Rattle.jc_platform.specs.declared.names.PlatformMethod.TheVariants.{OwnerPinCheck, OwnerPinReset, OwnerPinResetAndUnblock, OwnerPinUpdate}
+use Rattle.jc_linker.specs.Values.{Packages}
+use Rattle.jc_firewall.specs.Reach.{IsInReach}
+use Rattle.jc_world.specs.Contexts.{situation_of}
+use Rattle.jc_world.specs.Objects.{reference_argument}
+use Rattle.jc_interp.specs.Natives.{native_call}
+use Rattle.law_isolation.specs.Reach.{IsOutside}
+use Rattle.law_isolation.specs.Sparing.{LeavesObject}
+
+-- the methods that set cells of the object that they are called on: constructors, setReason, and those of OwnerPIN
+unfoldable pub sets_receiver : PlatformMethod → Bool
+sets_receiver CardExceptionInit = true
+sets_receiver CardExceptionSetReason = true
+sets_receiver CardRuntimeExceptionInit = true
+sets_receiver CardRuntimeExceptionSetReason = true
+sets_receiver IsoExceptionInit = true
+sets_receiver PinExceptionInit = true
+sets_receiver SystemExceptionInit = true
+sets_receiver TransactionExceptionInit = true
+sets_receiver ApduExceptionInit = true
+sets_receiver UserExceptionInit = true
+sets_receiver AidInit = true
+sets_receiver OwnerPinInit = true
+sets_receiver OwnerPinCheck = true
+sets_receiver OwnerPinReset = true
+sets_receiver OwnerPinResetAndUnblock = true
+sets_receiver OwnerPinUpdate = true
+sets_receiver _ = false
+
+-- an object is not the one that a method is called on
+abbrev pub IsNotCalled : ℕ → List Cell → Type 0
+IsNotCalled q args = (own : ℕ) → reference_argument args 0 ≡ Some own → own ≡ q → ⊥
+
+-- the object that a method is called on is within the reach of the code that runs
+abbrev pub ReachesCalled : List Cell → Packages → MemoryState → Type 0
+ReachesCalled args p m = (own : ℕ) → reference_argument args 0 ≡ Some own → IsInReach (situation_of p m (facts m.heap.now own))
+
+-- where a method that sets cells of its receiver is called on an object within reach, each effect of a method of the platform
+-- spares each object outside it: of arrays the firewall is asked
+abbrev pub NativesSpare : Type 0
+NativesSpare = (method : PlatformMethod) (args : List Cell) (p : Packages) (m : MemoryState) (q : ℕ) → IsOutside p m q → length m.command ≤ 261 →
+    (sets_receiver method ≡ true → ReachesCalled args p m) → AllDue (LeavesObject q) (native_call method args p m) m

@@ -1,0 +1,209 @@
+-- Cells of instances: those of the platform's classes, and those of fields that entries name.
+use Rattle.std.proofs.Common.{◌≡◌, ℕ, zero, suc, ◌+◌, ◌-◌, ◌<◌, ◌≤◌, ◌⊎◌, inl, inr, ◌&&◌, ◌||◌, not, Bool, true, false, Option, Some, None, length, refl, sym}
+use Rattle.std.proofs.Common.{subst, ap, ◌∙◌, arith, if◌then◌else◌}
+use Rattle.std.specs.Prelude.{nat_le, nat_lt}
+use Rattle.std.specs.Option.{option_map}
+use Rattle.std.proofs.lemmas.Bool.{and_from, and_parts, cases_Bool, le-leb, ltb-true, or_from}
+use Rattle.std.proofs.lemmas.Option.{none-some, same_Some}
+use Rattle.jc_platform.specs.declared.names.PlatformClass.{PlatformClass}
+use Rattle.jc_platform.specs.Distinct.{class_word}
+use Rattle.jc_platform.specs.Hierarchy.{cells_of, holds_reference, is_interface, superclass_of}
+use Rattle.jc_platform.specs.Platform.{TellNames, class_by_word}
+use Rattle.jc_linker.specs.Classes.{any_reference, class_in, declares_reference, is_below, is_class, lineage_from, most_classes, own_reference, reference_cell}
+use Rattle.jc_linker.specs.Classes.{size_by, size_of, superclass_by, superclass_in}
+use Rattle.jc_linker.specs.Resolves.{interface_by, names_interface}
+use Rattle.jc_linker.specs.Values.{ClassValue, Packages}
+use Rattle.jc_card_checks.specs.Objects.{is_a}
+use Rattle.law_soundness.specs.Classes.{HasPlatformCells, IsPlatformBelow, has_instances}
+use Rattle.law_soundness.specs.Classes.IsPlatformBelow.{Above, Itself}
+use Rattle.law_linking.proofs.Lists.{IfThere}
+use Rattle.law_linking.specs.Given.{HasByteTokens}
+use Rattle.law_linking.proofs.Chains.{Fits, Reaches, below_reached, cell_of_reached, none_behind, one_first, own, reached_size}
+use Rattle.law_linking.proofs.Good.{AllGood}
+use Rattle.law_linking.proofs.Ordered.{above_bare, few_cells, inherited_size, listed, named, not_loaded, ordered, platform_above, platform_interface}
+use Rattle.law_linking.proofs.Ordered.{platform_own, platform_size}
+
+module _ (p : Packages) (few : length p.loaded ≤ 32) (names : TellNames p.platform) (bytes : HasByteTokens p.platform) (good : AllGood p) where
+  abbrev word : PlatformClass → ℕ
+  word c = class_word p.platform c
+
+  fits_of : (class : ℕ) → has_instances p class ≡ true → Fits p class
+  fits_of class has =
+      let a = and_parts (is_class p class) (not (names_interface p class) && nat_lt (size_of p class) 65536) has in
+      ltb-true (size_of p class) 65536 (and_parts (not (names_interface p class)) (nat_lt (size_of p class) 65536) a.1).1
+
+  reached : (class : ℕ) (of : PlatformClass) → is_interface of ≡ false → is_a p class of ≡ true → Reaches p (word of) most_classes (Some class)
+  reached class of class_of below = below_reached p (listed p few names bytes good) (word of) (platform_interface p few names bytes of ∙ class_of) class below
+
+  -- ---- what the platform's classes reach
+
+  same_class : (c d : PlatformClass) → word c ≡ word d → c ≡ d
+  same_class c d e = same_Some c d (sym (named p few names bytes c) ∙ ap (class_by_word p.platform) e ∙ named p few names bytes d)
+
+  abbrev IsAbove : ℕ → PlatformClass → Type 0
+  IsAbove w c = (d : PlatformClass) × (w ≡ word d) × IsPlatformBelow d c
+
+  further : (w n : ℕ) (c : PlatformClass) (o : Option PlatformClass) → superclass_of c ≡ o → ((d : PlatformClass) → Reaches p w n (Some (word d)) → IsAbove w d)
+      → Reaches p w n (option_map (class_word p.platform) o) → IsAbove w c
+  unfolding Reaches
+  further w zero c o is each reaches = absurd reaches
+  further w (suc n) c None is each reaches = absurd reaches
+  further w (suc n) c (Some d) is each reaches = let more = each d reaches in (more.0, more.1, Above c d is more.2)
+
+  from_platform : (w n : ℕ) (c : PlatformClass) → Reaches p w n (Some (word c)) → IsAbove w c
+  unfolding Reaches
+  from_platform w zero c reaches = absurd reaches
+  from_platform w (suc n) c (inl e) = (c, sym e, Itself)
+  from_platform w (suc n) c (inr more) = further w n c (superclass_of c) refl (λ d. from_platform w n d)
+      (subst (Reaches p w n) (platform_above p few names bytes c) more)
+
+  -- ---- cells of the platform
+
+  bare_from : (m k : ℕ) (o : Option PlatformClass) → IfThere (λ d. (j : ℕ) → holds_reference d j ≡ false) o
+      → any_reference p k (lineage_from p m (option_map (class_word p.platform) o)) ≡ false
+  unfolding any_reference lineage_from
+  bare_from zero k o bare = refl
+  bare_from (suc m) k None bare = refl
+  bare_from (suc m) k (Some d) bare =
+      or_from (own p (word d) k) (any_reference p k (lineage_from p m (superclass_in p (word d)))) (platform_own p few names bytes d k ∙ bare k)
+      (ap (λ o. any_reference p k (lineage_from p m o)) (platform_above p few names bytes d) ∙ bare_from m k (superclass_of d) (above_bare d))
+
+  or_none : (a b : Bool) → b ≡ false → (a || b) ≡ a
+  or_none true b e = refl
+  or_none false b e = e
+
+  pub cells_are : (class k : ℕ) (of : PlatformClass) → has_instances p class ≡ true → is_interface of ≡ false → is_a p class of ≡ true → k < cells_of of
+      → reference_cell p class k ≡ holds_reference of k
+  unfolding reference_cell
+  cells_are class k of has class_of below less =
+      let size = platform_size p few names bytes of in
+      let found = cell_of_reached p (ordered p few names bytes good) most_classes (word of) k (Some class) (fits_of class has) (reached class of class_of below)
+      (omega (arith, less, size)) in
+      let none : any_reference p k (lineage_from p found.0 (superclass_in p (word of))) ≡ false =
+      ap (λ o. any_reference p k (lineage_from p found.0 o)) (platform_above p few names bytes of) ∙ bare_from found.0 k (superclass_of of) (above_bare of) in
+      found.1 ∙ or_none (own p (word of) k) (any_reference p k (lineage_from p found.0 (superclass_in p (word of)))) none ∙ platform_own p few names bytes of k
+
+  pub sizes_are : (class : ℕ) (of : PlatformClass) → has_instances p class ≡ true → is_interface of ≡ false → is_a p class of ≡ true
+      → cells_of of ≤ size_of p class
+  sizes_are class of has class_of below =
+      let size = platform_size p few names bytes of in
+      let le = reached_size p (ordered p few names bytes good) most_classes (word of) (Some class) (fits_of class has) (reached class of class_of below) in
+      omega (arith, size, le)
+
+  below_of : (c d : PlatformClass) → IsAbove (word c) d → IsPlatformBelow c d
+  below_of c d above = subst (λ x. IsPlatformBelow x d) (sym (same_class c above.0 above.1)) above.2
+
+  pub in_line : (class : ℕ) (of other : PlatformClass) → has_instances p class ≡ true → is_interface of ≡ false → is_interface other ≡ false
+      → is_a p class of ≡ true → is_a p class other ≡ true → IsPlatformBelow of other ⊎ IsPlatformBelow other of
+  in_line class of other has class_of class_other below also = elim (one_first p (word of) (word other) most_classes (Some class)
+      (reached class of class_of below) (reached class other class_other also)) [
+        | inl first ↦ inr (below_of other of (from_platform (word other) first.0 of first.1))
+        | inr second ↦ inl (below_of of other (from_platform (word of) second.0 other second.1))
+      ]
+
+  pub own_are : (of : PlatformClass) → is_interface of ≡ false → has_instances p (word of) ≡ true
+  unfolding is_class
+  own_are of class =
+      and_from (is_class p (word of)) (not (names_interface p (word of)) && nat_lt (size_of p (word of)) 65536)
+      (rw (not_loaded p few names bytes of, named p few names bytes of) refl)
+      (and_from (not (names_interface p (word of))) (nat_lt (size_of p (word of)) 65536)
+      (ap not (platform_interface p few names bytes of ∙ class)) (ap (λ n. nat_lt n 65536) (platform_size p few names bytes of) ∙ few_cells of))
+
+  pub platform_cells : HasPlatformCells p
+  platform_cells = record { kinds = cells_are; sizes = sizes_are; line = in_line; own = own_are; exact = λ of class. platform_size p few names bytes of }
+
+  -- ---- cells of fields
+
+  -- the class of a field that an entry names is no interface, and a class that is below it reaches it
+  field_class : (of token : ℕ) (c : ClassValue) → class_in p of ≡ Some c → token < c.declared_cells → c.is_interface ≡ false
+  field_class of token c is declared = elim (cases_Bool c.is_interface) [
+    | inl interface ↦ absurd (let none = (good of c is).bare interface in omega (arith, none, declared))
+    | inr class ↦ class
+  ]
+
+  loaded_size : (of : ℕ) (c : ClassValue) → class_in p of ≡ Some c → size_of p of ≡ c.inherited_cells + c.declared_cells
+  unfolding size_of
+  loaded_size of c is = ap (λ o. size_by o (class_by_word p.platform of)) is
+
+  loaded_above : (of : ℕ) (c : ClassValue) → class_in p of ≡ Some c → c.is_interface ≡ false → superclass_in p of ≡ Some c.superclass
+  unfolding superclass_in
+  loaded_above of c is class = ap (λ o. superclass_by p o (class_by_word p.platform of)) is ∙ ap (λ b. if b then None else Some c.superclass) class
+
+  loaded_reached : (of class : ℕ) (c : ClassValue) → class_in p of ≡ Some c → c.is_interface ≡ false → is_below p class of ≡ true
+      → Reaches p of most_classes (Some class)
+  unfolding names_interface
+  loaded_reached of class c is plain below = below_reached p (listed p few names bytes good) of
+      (ap (λ o. interface_by o (class_by_word p.platform of)) is ∙ plain) class below
+
+  -- the class that is below it has no more cells than an object can have, so it has its superclass's cells first
+  above_size : (of class : ℕ) (c : ClassValue) → class_in p of ≡ Some c → c.is_interface ≡ false → Fits p class → Reaches p of most_classes (Some class)
+      → c.inherited_cells ≡ size_of p c.superclass
+  above_size of class c is plain fits reaches =
+      let le = reached_size p (ordered p few names bytes good) most_classes of (Some class) fits reaches in
+      let size = loaded_size of c is in
+      inherited_size p c (good of c is) plain (omega (arith, le, size, fits))
+
+  own_declared : (inherited token : ℕ) (c : ClassValue) → c.inherited_cells ≡ inherited
+      → (nat_le c.inherited_cells (inherited + token) && declares_reference c (inherited + token - c.inherited_cells)) ≡ declares_reference c token
+  own_declared inherited token c is =
+      let low : nat_le c.inherited_cells (inherited + token) ≡ true = le-leb c.inherited_cells (inherited + token) (omega (arith, is)) in
+      let same : inherited + token - c.inherited_cells ≡ token = omega (arith, is) in
+      ap (λ b. b && declares_reference c (inherited + token - c.inherited_cells)) low ∙ ap (declares_reference c) same
+
+  loaded_own : (of token : ℕ) (c : ClassValue) → class_in p of ≡ Some c → own p of (c.inherited_cells + token) ≡ declares_reference c token
+  loaded_own of token c is = ap (λ o. own_reference o (class_by_word p.platform of) (c.inherited_cells + token)) is
+      ∙ own_declared c.inherited_cells token c refl
+
+  pub field_is : (of token class : ℕ) (c : ClassValue) → class_in p of ≡ Some c → token < c.declared_cells → has_instances p class ≡ true
+      → is_below p class of ≡ true → reference_cell p class (c.inherited_cells + token) ≡ declares_reference c token
+  unfolding reference_cell
+  field_is of token class c is declared has below =
+      let plain = field_class of token c is declared in
+      let reaches = loaded_reached of class c is plain below in
+      let size = loaded_size of c is in
+      let found = cell_of_reached p (ordered p few names bytes good) most_classes of (c.inherited_cells + token) (Some class) (fits_of class has) reaches
+      (omega (arith, size, declared)) in
+      let inherited = above_size of class c is plain (fits_of class has) reaches in
+      let le = reached_size p (ordered p few names bytes good) most_classes of (Some class) (fits_of class has) reaches in
+      let few_above = fits_of class has in
+      let none : any_reference p (c.inherited_cells + token) (lineage_from p found.0 (superclass_in p of)) ≡ false =
+      ap (λ o. any_reference p (c.inherited_cells + token) (lineage_from p found.0 o)) (loaded_above of c is plain)
+      ∙ none_behind p (ordered p few names bytes good) found.0 (c.inherited_cells + token) (Some c.superclass) (omega (arith, inherited, le, size, few_above))
+      (omega (arith, inherited)) in
+      found.1 ∙ or_none (own p of (c.inherited_cells + token)) (any_reference p (c.inherited_cells + token) (lineage_from p found.0 (superclass_in p of))) none
+      ∙ loaded_own of token c is
+
+  -- what a loaded class reaches of the platform has no more cells than it inherits
+  above_loaded : (n of token : ℕ) (c : ClassValue) (platform : PlatformClass) → class_in p of ≡ Some c → c.is_interface ≡ false
+      → c.inherited_cells ≡ size_of p c.superclass → Fits p c.superclass → Reaches p (word platform) n (Some of) → cells_of platform ≤ c.inherited_cells + token
+  unfolding Reaches
+  above_loaded zero of token c platform is plain inherited fits reaches = absurd reaches
+  above_loaded (suc n) of token c platform is plain inherited fits (inl e) = absurd
+      (none-some c (sym (ap (class_in p) e ∙ not_loaded p few names bytes platform) ∙ is))
+  above_loaded (suc n) of token c platform is plain inherited fits (inr more) =
+      let le = reached_size p (ordered p few names bytes good) n (word platform) (Some c.superclass) fits
+      (subst (Reaches p (word platform) n) (loaded_above of c is plain) more) in
+      let size = platform_size p few names bytes platform in
+      omega (arith, le, size, inherited)
+
+  -- and none of the platform reaches it
+  behind_platform : (of token : ℕ) (c : ClassValue) (platform : PlatformClass) → class_in p of ≡ Some c → c.is_interface ≡ false
+      → c.inherited_cells ≡ size_of p c.superclass → Fits p c.superclass →
+      ((m : ℕ) × Reaches p (word platform) m (Some of)) ⊎ ((m : ℕ) × Reaches p of m (Some (word platform))) → cells_of platform ≤ c.inherited_cells + token
+  behind_platform of token c platform is plain inherited fits (inl first) = above_loaded first.0 of token c platform is plain inherited fits first.1
+  behind_platform of token c platform is plain inherited fits (inr above) =
+      let other = from_platform of above.0 platform above.1 in
+      absurd (none-some c (sym (ap (class_in p) other.1 ∙ not_loaded p few names bytes other.0) ∙ is))
+
+  pub field_behind : (of token class : ℕ) (c : ClassValue) (platform : PlatformClass) → class_in p of ≡ Some c → token < c.declared_cells
+      → has_instances p class ≡ true → is_interface platform ≡ false → is_below p class of ≡ true → is_a p class platform ≡ true
+      → cells_of platform ≤ c.inherited_cells + token
+  field_behind of token class c platform is declared has class_platform below also =
+      let plain = field_class of token c is declared in
+      let reaches = loaded_reached of class c is plain below in
+      let inherited = above_size of class c is plain (fits_of class has) reaches in
+      let size = loaded_size of c is in
+      let le = reached_size p (ordered p few names bytes good) most_classes of (Some class) (fits_of class has) reaches in
+      let few_above = fits_of class has in
+      behind_platform of token c platform is plain inherited (omega (arith, inherited, le, size, few_above))
+      (one_first p of (word platform) most_classes (Some class) reaches (reached class platform class_platform also))

@@ -1,0 +1,192 @@
+-- Classes have the cells of their superclasses first: those of the platform, and those of linked packages.
+use Rattle.std.proofs.Common.{◌≡◌, ℕ, ◌+◌, ◌-◌, ◌<◌, ◌≤◌, ◌⊎◌, inl, inr, ◌&&◌, Bool, true, false, Option, Some, None, length, refl, ap, ◌∙◌, arith}
+use Rattle.std.proofs.Common.{if◌then◌else◌}
+use Rattle.std.specs.Prelude.{min, nat_le, nat_lt}
+use Rattle.std.specs.Option.{option_map}
+use Rattle.std.proofs.lemmas.Bool.{and_parts, cases_lt, eqb-true, false≢true, leb-true, ltb-true}
+use Rattle.std.proofs.Math.Nat.{min-eq_left, min-eq_right}
+use Rattle.jc_platform.specs.declared.names.PlatformClass.{PlatformClass}
+use Rattle.jc_platform.specs.declared.names.PlatformClass.TheVariants.{Object, OwnerPin, Pin, Shareable}
+use Rattle.jc_platform.specs.Distinct.{class_word}
+use Rattle.jc_platform.specs.Hierarchy.{cells_of, holds_reference, interface_of, is_interface, superclass_of}
+use Rattle.jc_platform.specs.Platform.{TellNames, class_by_word}
+use Rattle.jc_linker.specs.Classes.{class_in, declares_reference, interfaces_by, interfaces_in, platform_interfaces, own_reference, size_by, size_of}
+use Rattle.jc_linker.specs.Classes.{superclass_by, superclass_in}
+use Rattle.jc_linker.specs.Resolves.{interface_by, names_interface}
+use Rattle.jc_linker.specs.Values.{ClassValue, Packages}
+use Rattle.law_linking.proofs.Fields.{no_class}
+use Rattle.law_linking.proofs.Lists.{IfThere, map_there}
+use Rattle.law_linking.proofs.Numbers.{word_high}
+use Rattle.law_linking.specs.Given.{HasByteTokens}
+use Rattle.law_linking.proofs.Chains.{Fits, IsOrdered, own}
+use Rattle.law_linking.proofs.Good.{AllGood, AreInterfaces, IsGood}
+use Rattle.law_linking.proofs.Tokens.{word_told}
+
+-- ---- the platform's classes among each other
+
+-- no superclass has cells that hold references
+pub above_bare : (c : PlatformClass) → IfThere (λ d. (k : ℕ) → holds_reference d k ≡ false) (superclass_of c)
+unfolding superclass_of holds_reference
+above_bare Object = tt
+above_bare Shareable = tt
+above_bare Pin = tt
+above_bare _ = λ k. refl
+
+fewer_above : (c : PlatformClass) → IfThere (λ d. nat_le (cells_of d) (cells_of c) ≡ true) (superclass_of c)
+unfolding superclass_of cells_of
+fewer_above Object = tt
+fewer_above Shareable = tt
+fewer_above Pin = tt
+fewer_above _ = refl
+
+reference_within : (c : PlatformClass) (k : ℕ) → holds_reference c k ≡ true → k < cells_of c
+unfolding holds_reference cells_of
+reference_within OwnerPin k e = let is = eqb-true k 4 e in omega (arith, is)
+reference_within _ k e = absurd (false≢true e)
+
+reference_behind : (c : PlatformClass) (k : ℕ) → holds_reference c k ≡ true → IfThere (λ d. cells_of d ≤ k) (superclass_of c)
+unfolding superclass_of holds_reference cells_of
+reference_behind OwnerPin k e = omega arith
+reference_behind _ k e = absurd (false≢true e)
+
+pub few_cells : (c : PlatformClass) → nat_lt (cells_of c) 65536 ≡ true
+unfolding cells_of
+few_cells Object = refl
+few_cells _ = refl
+
+-- ---- they stand behind their words
+
+pub no_value : (o : Option ClassValue) → ((c : ClassValue) → o ≡ Some c → ⊥) → o ≡ None
+no_value None never = refl
+no_value (Some c) never = absurd (never c refl)
+
+module _ (p : Packages) (few : length p.loaded ≤ 32) (names : TellNames p.platform) (bytes : HasByteTokens p.platform) where
+  abbrev word : PlatformClass → ℕ
+  word c = class_word p.platform c
+
+  pub not_loaded : (c : PlatformClass) → class_in p (word c) ≡ None
+  not_loaded c = no_value (class_in p (word c)) (λ x is. no_class p (word c) few (word_high p.platform c) x is)
+
+  pub named : (c : PlatformClass) → class_by_word p.platform (word c) ≡ Some c
+  named c = word_told p.platform names bytes c
+
+  by_both : {A : Type 0} (f : Option ClassValue → Option PlatformClass → A) (c : PlatformClass)
+      → f (class_in p (word c)) (class_by_word p.platform (word c)) ≡ f None (Some c)
+  by_both f c = ap (λ o. f o (class_by_word p.platform (word c))) (not_loaded c) ∙ ap (f None) (named c)
+
+  pub platform_size : (c : PlatformClass) → size_of p (word c) ≡ cells_of c
+  unfolding size_of
+  platform_size c = by_both size_by c
+
+  pub platform_above : (c : PlatformClass) → superclass_in p (word c) ≡ option_map (class_word p.platform) (superclass_of c)
+  unfolding superclass_in
+  platform_above c = by_both (superclass_by p) c
+
+  pub platform_own : (c : PlatformClass) (k : ℕ) → own p (word c) k ≡ holds_reference c k
+  platform_own c k = by_both (λ o other. own_reference o other k) c
+
+  pub platform_interface : (c : PlatformClass) → names_interface p (word c) ≡ is_interface c
+  unfolding names_interface
+  platform_interface c = by_both interface_by c
+
+  -- the one interface that a class of the platform lists is one
+  named_interface : (o : Option PlatformClass) → IfThere (λ c. is_interface c ≡ true) o → AreInterfaces p (platform_interfaces p o)
+  named_interface None is = tt
+  named_interface (Some c) is = (platform_interface c ∙ is, tt)
+
+  interface_is : (c : PlatformClass) → IfThere (λ d. is_interface d ≡ true) (interface_of c)
+  unfolding interface_of is_interface
+  interface_is OwnerPin = refl
+  interface_is _ = tt
+
+-- ---- all classes
+
+uncapped : (a s : ℕ) → a ≡ min 65536 s → a < 65536 → a ≡ s
+uncapped a s is less = elim (cases_lt s 65536) [
+  | inl low ↦ is ∙ min-eq_right (omega (arith, low))
+  | inr high ↦ absurd (let e : a ≡ 65536 = is ∙ min-eq_left high in omega (arith, e, less))
+]
+
+-- a loaded class that is no interface has its superclass's cells first
+pub inherited_size : (p : Packages) (c : ClassValue) → IsGood p c → c.is_interface ≡ false → c.inherited_cells + c.declared_cells < 65536
+    → c.inherited_cells ≡ size_of p c.superclass
+inherited_size p c good class fits = uncapped c.inherited_cells (size_of p c.superclass) (good.inherits class) (omega (arith, fits))
+
+declared_within : (c : ClassValue) (k : ℕ) → (c.reference_count ≡ 0) ⊎ (c.first_reference + c.reference_count ≤ c.declared_cells)
+    → declares_reference c k ≡ true → k < c.declared_cells
+declared_within c k fits e =
+    let a = and_parts (nat_le c.first_reference k) (nat_lt k (c.first_reference + c.reference_count)) e in
+    let low = leb-true c.first_reference k a.0 in
+    let high = ltb-true k (c.first_reference + c.reference_count) a.1 in
+    elim fits [
+      | inl none ↦ absurd (omega (arith, low, high, none))
+      | inr le ↦ omega (arith, high, le)
+    ]
+
+module _ (p : Packages) (few : length p.loaded ≤ 32) (names : TellNames p.platform) (bytes : HasByteTokens p.platform) (good : AllGood p) where
+  -- ---- superclasses have no more cells
+
+  loaded_above : (P : ℕ → Type 0) (c : ClassValue) (b : Bool) → c.is_interface ≡ b → (c.is_interface ≡ false → P c.superclass)
+      → IfThere P (if b then None else Some c.superclass)
+  loaded_above P c true is class = tt
+  loaded_above P c false is class = class is
+
+  sizes_by : (w : ℕ) (o : Option ClassValue) → class_in p w ≡ o → (other : Option PlatformClass) → size_by o other < 65536
+      → IfThere (λ s. size_of p s ≤ size_by o other) (superclass_by p o other)
+  sizes_by w (Some c) is other fits = loaded_above (λ s. size_of p s ≤ c.inherited_cells + c.declared_cells) c c.is_interface refl
+      (λ class. let same = inherited_size p c (good w c is) class fits in omega (arith, same))
+  sizes_by w None is None fits = tt
+  sizes_by w None is (Some d) fits = map_there (λ e. nat_le (cells_of e) (cells_of d) ≡ true) (λ s. size_of p s ≤ cells_of d) (class_word p.platform)
+      (superclass_of d) (fewer_above d)
+      (λ e le. let same = platform_size p few names bytes e in let less = leb-true (cells_of e) (cells_of d) le in omega (arith, same, less))
+
+  sizes : (w : ℕ) → Fits p w → IfThere (λ s. size_of p s ≤ size_of p w) (superclass_in p w)
+  unfolding size_of superclass_in
+  sizes w fits = sizes_by w (class_in p w) refl (class_by_word p.platform w) fits
+
+  -- ---- a class's own cells stand behind its superclass's, and among its own
+
+  own_parts : (c : ClassValue) (k : ℕ) → IsGood p c → (nat_le c.inherited_cells k && declares_reference c (k - c.inherited_cells)) ≡ true
+      → (c.inherited_cells ≤ k) × (k < c.inherited_cells + c.declared_cells)
+  own_parts c k is e =
+      let a = and_parts (nat_le c.inherited_cells k) (declares_reference c (k - c.inherited_cells)) e in
+      let low = leb-true c.inherited_cells k a.0 in
+      let less = declared_within c (k - c.inherited_cells) is.fits a.1 in
+      (low, omega (arith, low, less))
+
+  within_by : (w k : ℕ) (o : Option ClassValue) → class_in p w ≡ o → (other : Option PlatformClass) → own_reference o other k ≡ true → k < size_by o other
+  within_by w k (Some c) is other e = (own_parts c k (good w c is) e).1
+  within_by w k None is None e = absurd (false≢true e)
+  within_by w k None is (Some d) e = reference_within d k e
+
+  within : (w k : ℕ) → own p w k ≡ true → k < size_of p w
+  unfolding size_of
+  within w k e = within_by w k (class_in p w) refl (class_by_word p.platform w) e
+
+  behind_by : (w k : ℕ) (o : Option ClassValue) → class_in p w ≡ o → (other : Option PlatformClass) → size_by o other < 65536 → own_reference o other k ≡ true
+      → IfThere (λ s. size_of p s ≤ k) (superclass_by p o other)
+  behind_by w k (Some c) is other fits e = loaded_above (λ s. size_of p s ≤ k) c c.is_interface refl
+      (λ class. let same = inherited_size p c (good w c is) class fits in let parts = own_parts c k (good w c is) e in let low = parts.0 in omega
+      (arith, same, low))
+  behind_by w k None is None fits e = tt
+  behind_by w k None is (Some d) fits e = map_there (λ x. cells_of x ≤ k) (λ s. size_of p s ≤ k) (class_word p.platform) (superclass_of d)
+      (reference_behind d k e)
+      (λ x le. let same = platform_size p few names bytes x in omega (arith, same, le))
+
+  behind : (w k : ℕ) → Fits p w → own p w k ≡ true → IfThere (λ s. size_of p s ≤ k) (superclass_in p w)
+  unfolding size_of superclass_in
+  behind w k fits e = behind_by w k (class_in p w) refl (class_by_word p.platform w) fits e
+
+  pub ordered : IsOrdered p
+  ordered = record { sizes = sizes; within = within; behind = behind }
+
+  -- ---- what classes list are interfaces
+
+  listed_by : (w : ℕ) (o : Option ClassValue) → class_in p w ≡ o → (other : Option PlatformClass) → AreInterfaces p (interfaces_by p o other)
+  listed_by w (Some c) is other = (good w c is).interfaces
+  listed_by w None is None = tt
+  listed_by w None is (Some d) = named_interface p few names bytes (interface_of d) (interface_is p few names bytes d)
+
+  pub listed : (w : ℕ) → AreInterfaces p (interfaces_in p w)
+  unfolding interfaces_in
+  listed w = listed_by w (class_in p w) refl (class_by_word p.platform w)

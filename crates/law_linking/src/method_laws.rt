@@ -1,0 +1,20 @@
+//! Laws of the definitions of methods, and of the platform's tokens.
+ghost use Rattle.law_linking.specs.MethodLaws.{HaveBytes, HaveMethods, HaveNoCode};
+
+/// Among packages that were linked, each onto those before it, what a call by token, one by interface and one
+/// of a superclass's method find of the platform is a method of the receiver's class, by the first two no
+/// static one; above Object is no class; and there are no more packages than a card can have.
+pub fn linked_packages_know_their_methods()
+    ensures { HaveMethods }
+{}
+
+/// Among packages that were linked, each onto those before it, a call on an instance of one of the platform's
+/// classes, by token or by interface, finds no method in bytecode.
+pub fn classes_of_the_platform_have_no_code()
+    ensures { HaveNoCode }
+{}
+
+/// Where reading a text answers a platform table, the token of each class is one byte.
+pub fn platform_tokens_are_bytes()
+    ensures { HaveBytes }
+{}

@@ -1,0 +1,83 @@
+-- How calls leave a memory: those that are still, and the words in which calls are defined.
+use Rattle.std.proofs.Common.{◌≡◌, ℕ, Bool, true, false, List, [], ◌∷◌, Option, Some, None, Result, Ok, Err, refl, sym, subst, if◌then◌else◌}
+use Rattle.jc_heap.specs.Heap.{HeapState}
+use Rattle.jc_frames.specs.declared.outcome.FrameExit.{FrameExit}
+use Rattle.jc_frames.specs.declared.outcome.FrameExit.TheVariants.{Throw, End}
+use Rattle.jc_frames.specs.Frames.{Caller}
+use Rattle.jc_memory.specs.State.{MemoryState, apply_effect}
+use Rattle.jc_memory.specs.Programs.{Finish, Perform, Choose, Either}
+use Rattle.jc_memory.specs.Reading.{AllDue, AllResults}
+use Rattle.jc_linker.specs.Values.{Packages}
+use Rattle.jc_world.specs.declared.native_result.NativeResult.{NativeResult}
+use Rattle.jc_world.specs.declared.native_result.NativeResult.TheVariants.{ReturnVoid, ReturnValue, CallServer, Aborted}
+use Rattle.jc_world.specs.NativeCalls.{NativeProgram, if_some, if_ok}
+use Rattle.law_soundness.specs.Fit.{IsFit, KeepsSound}
+use Rattle.law_soundness.specs.State.{IsSoundMemory, IsSteady, is_owner_up_to, most_owner}
+use Rattle.law_soundness.specs.LocalEffects.{LocalEffectsStay}
+use Rattle.law_soundness.specs.Machines.{KnowOwners}
+use Rattle.law_soundness.specs.Calls.{IsCallResult, IsReadyAgain}
+use Rattle.law_soundness.proofs.Still.{AsksNone, IsLike, IsStillCall, still_calm}
+
+-- owners that were known are known where the packages and the highest number of an owner are the same
+still_known : (most : ℕ) (h k : HeapState) (n : ℕ) → k.packages ≡ h.packages → is_owner_up_to most h n ≡ true → is_owner_up_to most k n ≡ true
+still_known most h k n same known = subst (λ l. is_owner_up_to most (record h { packages = l }) n ≡ true) (sym same) known
+
+pub same_owners : (m n : MemoryState) → n.heap.now.packages ≡ m.heap.now.packages → most_owner n ≡ most_owner m → (callers : List Caller) → KnowOwners callers m
+    → KnowOwners callers n
+same_owners m n packages most [] known = tt
+same_owners m n packages most (c ∷ callers) known = (
+  still_known (most_owner n) m.heap.now n.heap.now c.resume.active packages (subst (λ k. is_owner_up_to k m.heap.now c.resume.active ≡ true)
+      (sym most) known.0),
+  known.1,
+  same_owners m n packages most callers known.2,
+)
+
+-- a memory that is left as it was
+pub stays : (m : MemoryState) → IsSteady m → IsReadyAgain m m
+stays m steady = record { steady = steady; owners = λ callers known. known; active = refl }
+
+-- a memory that was left so after a call that asks no server
+pub left_so : (m n : MemoryState) (answer : Result NativeResult FrameExit) → AsksNone answer → IsReadyAgain m n → IsCallResult m answer n
+left_so m n (Ok ReturnVoid) none stands = (stands, tt)
+left_so m n (Ok (ReturnValue cell)) none stands = (stands, tt)
+left_so m n (Ok (CallServer asked)) none stands = absurd none
+left_so m n (Ok Aborted) none stands = (stands, tt)
+left_so m n (Err (Throw e)) none stands = stands
+left_so m n (Err (End o)) none stands = tt
+
+-- calls that are still
+module _ (keeps : KeepsSound) (calm : LocalEffectsStay) (p : Packages) (m : MemoryState) where
+  still_each : (d : NativeProgram) (v : MemoryState) → IsStillCall m.registers d → AllDue (IsFit p) d v → IsSoundMemory p v → IsLike m.registers v
+      → IsReadyAgain m v → AllResults d v (IsCallResult m)
+  still_each (Finish answer) v still due sound like stands = left_so m v answer still stands
+  still_each (Perform e rest) v still due sound like stands =
+      let now = still_calm m.registers e v still.0 like in
+      still_each rest (apply_effect e v) still.1 due.1 (keeps p e v due.0 sound) now.1
+      (record {
+        steady = calm.steady e v now.0 sound.settled stands.steady;
+        owners = λ callers known. calm.owners e v callers now.0 sound.settled (stands.owners callers known);
+        active = now.1.active;
+      })
+  still_each (Choose choose) v still due sound like stands = λ r new. still_each (choose r) v (still r) (due r new) sound like stands
+  still_each (Either x y) v still due sound like stands = (still_each x v still.0 due.0 sound like stands, still_each y v still.1 due.1 sound like stands)
+
+  pub still_left : IsSoundMemory p m → IsSteady m → (d : NativeProgram) → IsStillCall m.registers d → AllDue (IsFit p) d m → AllResults d m (IsCallResult m)
+  still_left sound steady d still due = still_each d m still due sound (record { active = refl; installation = refl }) (stays m steady)
+
+-- calls, by what their checks give
+module _ (m : MemoryState) where
+  pub left_if : (b : Bool) (x y : NativeProgram) → (b ≡ true → AllResults x m (IsCallResult m)) → (b ≡ false → AllResults y m (IsCallResult m))
+      → AllResults (if b then x else y) m (IsCallResult m)
+  left_if true x y on off = on refl
+  left_if false x y on off = off refl
+
+  pub left_some : {A : Type 0} (o : Option A) (go : A → NativeProgram) → ((a : A) → o ≡ Some a → AllResults (go a) m (IsCallResult m))
+      → AllResults (if_some o go) m (IsCallResult m)
+  left_some None go k = tt
+  left_some (Some a) go k = k a refl
+
+  pub left_ok : {A : Type 0} → IsSteady m → (o : Result A FrameExit) (go : A → NativeProgram) → ((a : A) → o ≡ Ok a → AllResults (go a) m (IsCallResult m))
+      → AllResults (if_ok o go) m (IsCallResult m)
+  left_ok steady (Ok a) go k = k a refl
+  left_ok steady (Err (Throw e)) go k = stays m steady
+  left_ok steady (Err (End o)) go k = tt

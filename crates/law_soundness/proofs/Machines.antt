@@ -1,0 +1,152 @@
+-- What effects leave of a sound machine, and what follows in a method.
+use Rattle.std.proofs.Common.{◌≡◌, Bool, true, false, List, Option, Some, None, Result, Ok, Err, refl, sym, subst, ap, ◌∙◌, if◌then◌else◌}
+use Rattle.std.specs.Prelude.{◌==◌}
+use Rattle.jc_memory.specs.Programs.{Program, Finish, Perform, Choose, Either}
+use Rattle.jc_memory.specs.Owners.{owner_number}
+use Rattle.jc_memory.specs.Reading.{AllDue, AllResults}
+use Rattle.jc_memory.specs.State.{MemoryState, Effect, apply_effect}
+use Rattle.jc_platform.specs.declared.names.PlatformMethod.{PlatformMethod}
+use Rattle.jc_linker.specs.declared.target.Method.TheVariants.{Native}
+use Rattle.jc_linker.specs.Values.{Packages}
+use Rattle.jc_opcodes.specs.declared.instr.InvokeOp.{InvokeOp}
+use Rattle.jc_frames.specs.declared.cell.Cell.{Cell}
+use Rattle.jc_frames.specs.declared.method.Origin.{Origin}
+use Rattle.jc_frames.specs.declared.outcome.FrameExit.{FrameExit}
+use Rattle.jc_frames.specs.declared.outcome.FrameExit.TheVariants as stop
+use Rattle.jc_frames.specs.Calls.{arguments_on}
+use Rattle.jc_frames.specs.Frames.{Caller, Frame, Frames, Next, GoesOn, Throws, Ends, in_frame}
+use Rattle.jc_world.specs.Instructions.{if_ok, if_some, exit_of}
+use Rattle.jc_interp_calls.specs.declared.invoke.MethodCall.{MethodCall}
+use Rattle.jc_interp_calls.specs.Invoke.{method_selection}
+use Rattle.law_soundness.specs.Classes.{KnowsClasses}
+use Rattle.law_soundness.specs.Environment.{HasEnvironment, KeepsEnvironment}
+use Rattle.law_soundness.specs.Fit.{IsFit, KeepsSound}
+use Rattle.law_soundness.specs.State.{IsSoundMemory, IsSteady}
+use Rattle.law_soundness.specs.Natives.{IsReceiver}
+use Rattle.law_soundness.specs.LocalEffects.{LocalEffectsStay, IsLocalEffect}
+use Rattle.law_soundness.specs.Machines.{IsSoundMachine, KnowOwners}
+use Rattle.law_soundness.specs.Methods.{KnowsMethods}
+use Rattle.law_soundness.specs.Steps.{AsksFit, CallsFit, InstructionsFit, LeavesFit}
+use Rattle.law_soundness.specs.Calls.{NativesLeave}
+use Rattle.law_soundness.specs.Soundness.{IsSoundNext}
+use Rattle.law_soundness.proofs.Quiet.{IsWithin, Stays, quiet_calm, quiet_registers}
+
+-- a method of the platform that a package's method calls is called on an object that it may be called on
+abbrev pub CallsReceive : Type 0
+CallsReceive = (i : InvokeOp) (c : MethodCall) (method : PlatformMethod) (args : List Cell) (p : Packages) (s : Frames) (m : MemoryState) → KnowsClasses p
+    → KnowsMethods p → IsSoundMachine p s m → s.current.origin.package_number == 0 ≡ false →
+    method_selection i p s m ≡ Ok c → c.method ≡ Native method → arguments_on c.arguments s.current.stack ≡ Some args → IsReceiver p m method args
+
+-- what effects, instructions and calls are proved to do
+pub record Given : Type 0 where
+  pub sound : KeepsSound
+  pub environment : KeepsEnvironment
+  pub stays : LocalEffectsStay
+  pub calls : CallsFit
+  pub receivers : CallsReceive
+  pub leaves : LeavesFit
+  pub asks : AsksFit
+  pub instructions : InstructionsFit
+  pub natives : NativesLeave
+
+-- a sound machine, but for the code that runs
+pub record IsSoundUnder (p : Packages) (callers : List Caller) (m : MemoryState) : Type 0 where
+  pub sound : IsSoundMemory p m
+  pub steady : IsSteady m
+  pub known : KnowOwners callers m
+  pub environment : HasEnvironment p m
+
+-- the runtime environment is not active
+abbrev pub IsOthers : MemoryState → Type 0
+IsOthers m = owner_number m.registers.active ≡ 0 → ⊥
+
+-- a method with this origin runs for whom it may
+abbrev pub MayRun : Origin → MemoryState → Type 0
+MayRun origin m = origin.package_number == 0 ≡ false → IsOthers m
+
+pub under_of : (p : Packages) (s : Frames) (m : MemoryState) → IsSoundMachine p s m → IsSoundUnder p s.callers m
+under_of p s m machine = record { sound = machine.sound; steady = machine.steady; known = machine.callers; environment = machine.environment }
+
+pub machine_of : (p : Packages) (s : Frames) (m : MemoryState) → IsSoundUnder p s.callers m → MayRun s.current.origin m → IsSoundMachine p s m
+machine_of p s m under may = record { sound = under.sound; steady = under.steady; callers = under.known; environment = under.environment; code = may }
+
+-- a machine with other frames of the same callers and origin
+pub machine_like : (p : Packages) (callers : List Caller) (origin : Origin) (s : Frames) (m : MemoryState) → s.callers ≡ callers → s.current.origin ≡ origin
+    → IsSoundUnder p callers m → MayRun origin m → IsSoundMachine p s m
+machine_like p callers origin s m same here under may =
+    machine_of p s m (subst (λ l. IsSoundUnder p l m) (sym same) under) (subst (λ o. MayRun o m) (sym here) may)
+
+pub within_next : (p : Packages) (callers : List Caller) (origin : Origin) (next : Next Frames) (m : MemoryState) → IsWithin callers origin next
+    → IsSoundUnder p callers m → MayRun origin m → IsSoundNext p next m
+within_next p callers origin (GoesOn s) m within under may = machine_like p callers origin s m within.0 within.1 under may
+within_next p callers origin (Throws e s) m within under may = machine_like p callers origin s m within.0 within.1 under may
+within_next p callers origin (Ends o) m within under may = tt
+
+-- ---- whatever the method
+
+-- what follows has these callers
+abbrev pub HasCallers : List Caller → Next Frames → Type 0
+HasCallers callers (GoesOn s) = s.callers ≡ callers
+HasCallers callers (Throws e s) = s.callers ≡ callers
+HasCallers callers (Ends o) = Unit {0}
+
+pub callers_in_frame : (callers : List Caller) (s : Frames) (next : Next Frame) → s.callers ≡ callers → HasCallers callers (in_frame s next)
+callers_in_frame callers s (GoesOn f) same = same
+callers_in_frame callers s (Throws e f) same = same
+callers_in_frame callers s (Ends o) same = tt
+
+pub callers_next : (p : Packages) (callers : List Caller) (next : Next Frames) (m : MemoryState) → HasCallers callers next → IsSoundUnder p callers m
+    → IsOthers m → IsSoundNext p next m
+callers_next p callers (GoesOn s) m same under others = machine_like p callers s.current.origin s m same refl under (λ code. others)
+callers_next p callers (Throws e s) m same under others = machine_like p callers s.current.origin s m same refl under (λ code. others)
+callers_next p callers (Ends o) m same under others = tt
+
+-- ---- effects
+
+module _ (g : Given) (p : Packages) where
+  -- a calm effect that fits
+  pub under_after : (e : Effect) (callers : List Caller) (m : MemoryState) → IsFit p e m → IsLocalEffect e m → IsSoundUnder p callers m
+      → IsSoundUnder p callers (apply_effect e m)
+  under_after e callers m fit calm under = record {
+    sound = g.sound p e m fit under.sound;
+    steady = g.stays.steady e m calm under.sound.settled under.steady;
+    known = g.stays.owners e m callers calm under.sound.settled under.known;
+    environment = g.environment p e m fit under.sound under.environment;
+  }
+
+  -- what stays in a method leaves a sound machine
+  pub stays_next : (callers : List Caller) (origin : Origin) (d : Program (Next Frames)) (m : MemoryState) → Stays callers origin d → AllDue (IsFit p) d m
+      → IsSoundUnder p callers m → MayRun origin m → AllResults d m (IsSoundNext p)
+  stays_next callers origin (Finish next) m stays due under may = within_next p callers origin next m stays under may
+  stays_next callers origin (Perform e rest) m stays due under may =
+      stays_next callers origin rest (apply_effect e m) stays.1 due.1 (under_after e callers m due.0 (quiet_calm e m stays.0) under)
+      (λ code zero. may code (ap (λ r. owner_number r.active) (sym (quiet_registers e m stays.0)) ∙ zero))
+  stays_next callers origin (Choose choose) m stays due under may = λ r new. stays_next callers origin (choose r) m (stays r) (due r new) under may
+  stays_next callers origin (Either x y) m stays due under may = (
+    stays_next callers origin x m stays.0 due.0 under may,
+    stays_next callers origin y m stays.1 due.1 under may,
+  )
+
+-- ---- tests, where each effect fits
+
+-- what is done leaves a sound machine, where each effect fits
+abbrev pub IsLed : Packages → Program (Next Frames) → MemoryState → Type 0
+IsLed p d m = AllDue (IsFit p) d m → AllResults d m (IsSoundNext p)
+
+module _ (p : Packages) (m : MemoryState) where
+  pub led_if : (b : Bool) (x y : Program (Next Frames)) → (b ≡ true → IsLed p x m) → (b ≡ false → IsLed p y m) → IsLed p (if b then x else y) m
+  led_if true x y on off = on refl
+  led_if false x y on off = off refl
+
+  pub led_some : {A : Type 0} (o : Option A) (go : A → Program (Next Frames)) → ((a : A) → o ≡ Some a → IsLed p (go a) m) → IsLed p (if_some o go) m
+  led_some None go led = λ due. tt
+  led_some (Some a) go led = led a refl
+
+  pub led_stopped : (s : Frames) (e : FrameExit) → IsSoundUnder p s.callers m → MayRun s.current.origin m → IsLed p (exit_of s e) m
+  led_stopped s (stop.Throw e) under may = λ due. machine_like p s.callers s.current.origin _ m refl refl under may
+  led_stopped s (stop.End o) under may = λ due. tt
+
+  pub led_ok : {A : Type 0} (s : Frames) (x : Result A FrameExit) (go : A → Program (Next Frames)) → IsSoundUnder p s.callers m → MayRun s.current.origin m
+      → ((a : A) → x ≡ Ok a → IsLed p (go a) m) → IsLed p (if_ok s x go) m
+  led_ok s (Ok a) go under may led = led a refl
+  led_ok s (Err e) go under may led = led_stopped s e under may

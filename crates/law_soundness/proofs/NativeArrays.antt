@@ -1,0 +1,60 @@
+-- Cells that methods of the platform set: bytes of an array, and those of an AID.
+use Rattle.std.proofs.Common.{◌≡◌, ℕ, Bool, true, false, List, length, Option, Some, None, refl, sym, ◌∙◌, ap}
+use Rattle.std.proofs.lemmas.Bool.{and_parts, false_from_ne_true, true≢false}
+use Rattle.jc_transient.specs.declared.cell.ClearEvent.{ClearEvent}
+use Rattle.jc_heap.specs.declared.object.Kind.{Kind}
+use Rattle.jc_heap.specs.declared.object.Kind.TheVariants.{ByteArray, ReferenceArray}
+use Rattle.jc_heap.specs.Heap.{facts}
+use Rattle.jc_memory.specs.State.{MemoryState}
+use Rattle.jc_memory.specs.Cells.{cells_effect, cells_effect_in}
+use Rattle.jc_linker.specs.Values.{Packages}
+use Rattle.jc_platform.specs.declared.names.PlatformClass.TheVariants.{Aid, OwnerPin}
+use Rattle.jc_platform.specs.Hierarchy.{cells_of, holds_reference, is_interface}
+use Rattle.jc_card_checks.specs.Objects.{is_a, is_instance}
+use Rattle.jc_world.specs.Instances.{IsInstanceWith}
+use Rattle.jc_api_runtime.specs.AidCells.{cells_of_aid, is_aid_length}
+use Rattle.law_soundness.specs.Classes.{KnowsClasses}
+use Rattle.law_soundness.specs.Fit.{FitsRun, IsFit}
+use Rattle.law_soundness.specs.State.{IsSoundMemory}
+use Rattle.law_soundness.proofs.RunObjects.{instance_no_array, kept_fits}
+use Rattle.law_soundness.proofs.Below.{aid_no_pin}
+
+-- bytes of an array of them may be set
+module _ (p : Packages) (m : MemoryState) (r i : ℕ) (words : List ℕ) where
+  pub run_in : (event : Option ClearEvent) → FitsRun p m r i words → IsFit p (cells_effect_in event r i words) m
+  run_in None fits = fits
+  run_in (Some event) fits = tt
+
+  bytes_run : (kind : Kind) → (facts m.heap.now r).kind ≡ kind → kind ≡ ByteArray → FitsRun p m r i words
+  bytes_run kind is bytes = (
+    λ stays. absurd (true≢false (sym (and_parts (is_instance (facts m.heap.now r).kind) _ stays).0 ∙ ap is_instance (is ∙ bytes))),
+    λ array. absurd (not_both (sym array ∙ is ∙ bytes)),
+  )
+    where
+      has_references : Kind → Bool
+      has_references ReferenceArray = true
+      has_references _ = false
+
+      not_both : ReferenceArray ≡ ByteArray → ⊥
+      not_both e = true≢false (ap has_references e)
+
+  pub bytes_fit : (facts m.heap.now r).kind ≡ ByteArray → IsFit p (cells_effect m r i words) m
+  bytes_fit is = run_in (facts m.heap.now r).event (bytes_run (facts m.heap.now r).kind refl is)
+
+-- the constructor of AID, on an instance that is none of the runtime environment's
+module _ (p : Packages) (m : MemoryState) (known : KnowsClasses p) (sound : IsSoundMemory p m) where
+  pub aid_fits : (own : ℕ) (bytes : List ℕ) → is_a p (facts m.heap.now own).class Aid ≡ true → ((facts m.heap.now own).owner ≡ 0 → ⊥) → IsInstanceWith m own 9
+      → is_aid_length (length bytes) ≡ true → FitsRun p m own 0 (cells_of_aid bytes)
+  unfolding cells_of holds_reference is_interface
+  aid_fits own bytes class owned there fine = (
+    λ stays. (let instances = kept_fits p m sound own there.there stays in record {
+      bytes = bytes;
+      first = refl;
+      is = refl;
+      long = fine;
+      numbers = λ k lt. known.platform.kinds (facts m.heap.now own).class k Aid instances refl class lt;
+      pin = false_from_ne_true (is_a p (facts m.heap.now own).class OwnerPin) (aid_no_pin p known (facts m.heap.now own).class instances class);
+      apart = λ a lt same. owned (ap (λ r. (facts m.heap.now r).owner) (sym same) ∙ (sound.now.aids a lt).environments);
+    }),
+    λ array. absurd (instance_no_array (facts m.heap.now own).kind (ap is_instance there.instance) array),
+  )

@@ -1,0 +1,123 @@
+-- Methods of the platform fit.
+use Rattle.std.proofs.Common.{◌≡◌, ℕ, true, false, List, Some, refl, sym, ◌∙◌, ap, subst}
+use Rattle.jc_transient.specs.declared.cell.CellValue.TheVariants.{Short}
+use Rattle.jc_heap.specs.Heap.{facts}
+use Rattle.jc_frames.specs.declared.cell.Cell.{Cell}
+use Rattle.jc_memory.specs.State.{MemoryState}
+use Rattle.jc_memory.specs.Cells.{cells_effect}
+use Rattle.jc_linker.specs.Values.{Packages}
+use Rattle.jc_platform.specs.declared.names.PlatformClass.{PlatformClass}
+use Rattle.jc_platform.specs.declared.names.PlatformClass.TheVariants.{Aid, Applet, ApduException, CardException, CardRuntimeException, IsoException}
+use Rattle.jc_platform.specs.declared.names.PlatformClass.TheVariants.{PinException, SystemException, TransactionException, UserException}
+use Rattle.jc_platform.specs.declared.names.PlatformMethod.{PlatformMethod}
+use Rattle.jc_platform.specs.declared.names.PlatformMethod.TheVariants.{AidInit, AppletInit, AppletRegister, AppletRegisterBytes}
+use Rattle.jc_platform.specs.Distinct.{class_of}
+use Rattle.jc_platform.specs.Hierarchy.{cells_of, holds_reference, is_interface}
+use Rattle.jc_platform.specs.Names.{methods}
+use Rattle.jc_card_checks.specs.Objects.{is_a}
+use Rattle.jc_world.specs.Objects.{reference_argument}
+use Rattle.jc_world.specs.Arrays.{bytes_in}
+use Rattle.jc_api_runtime.specs.AidCells.{cells_of_aid, is_aid_length}
+use Rattle.jc_api_data.specs.ApduBuffer.{data_of}
+use Rattle.jc_interp.specs.declared.parts.Part.TheVariants.{CardExceptions}
+use Rattle.jc_interp.specs.Parts.{part_of, part_of_class}
+use Rattle.law_isolation.specs.Natives.{sets_receiver}
+use Rattle.law_isolation.proofs.Arguments.{length_bytes}
+use Rattle.law_isolation.proofs.Methods.{method_due}
+use Rattle.law_isolation.proofs.Passing.{IsPinCall, MethodPasses}
+use Rattle.law_soundness.specs.Classes.{HasAids, KnowsClasses}
+use Rattle.law_soundness.specs.Fit.{IsFit, IsPinObject, OfValue}
+use Rattle.law_soundness.specs.State.{IsSoundMemory, IsSteady}
+use Rattle.law_soundness.proofs.Effects.{keeps_sound}
+use Rattle.law_soundness.specs.Natives.{IsReceiver, NativesFit, minds_receiver}
+use Rattle.law_soundness.proofs.Applets.{bytes_small, entry_named, registered_due}
+use Rattle.law_soundness.proofs.Below.{HasReason, has_reason}
+use Rattle.law_soundness.proofs.NativeArrays.{aid_fits, bytes_fit, run_in}
+use Rattle.law_soundness.proofs.RunObjects.{set_in}
+use Rattle.law_soundness.proofs.RunPins.{after_count, after_flag, pin_object, starts}
+use Rattle.law_soundness.proofs.Small.{reason_fits, transient_fits}
+use Rattle.law_soundness.proofs.Turning.{bears}
+
+-- exceptions of the card's framework have reasons
+reasoned_class : (of : PlatformClass) → part_of_class of ≡ CardExceptions → HasReason of
+unfolding part_of_class cells_of holds_reference is_interface
+reasoned_class ApduException part = has_reason ApduException refl
+reasoned_class CardException part = has_reason CardException refl
+reasoned_class CardRuntimeException part = has_reason CardRuntimeException refl
+reasoned_class IsoException part = has_reason IsoException refl
+reasoned_class PinException part = has_reason PinException refl
+reasoned_class SystemException part = has_reason SystemException refl
+reasoned_class TransactionException part = has_reason TransactionException refl
+reasoned_class UserException part = has_reason UserException refl
+reasoned_class _ part = absurd cc
+
+reasoned : (method : PlatformMethod) → part_of method ≡ CardExceptions → HasReason (class_of method)
+unfolding part_of
+reasoned AppletInit part = absurd cc
+reasoned method part = reasoned_class (class_of method) part
+
+-- methods that mind the object that they are called on
+minds : (method : PlatformMethod) → sets_receiver method ≡ true → minds_receiver method ≡ true
+unfolding minds_receiver sets_receiver
+minds AppletRegister sets = refl
+minds AppletRegisterBytes sets = refl
+minds method sets = sets
+
+minds_init : (method : PlatformMethod) → method ≡ AidInit → minds_receiver method ≡ true
+unfolding minds_receiver sets_receiver
+minds_init method is = ap minds_receiver is
+
+minds_own : (method : PlatformMethod) → method ≡ AppletRegister → minds_receiver method ≡ true
+unfolding minds_receiver
+minds_own method is = ap minds_receiver is
+
+minds_given : (method : PlatformMethod) → method ≡ AppletRegisterBytes → minds_receiver method ≡ true
+unfolding minds_receiver
+minds_given method is = ap minds_receiver is
+
+class_init : (method : PlatformMethod) → method ≡ AidInit → class_of method ≡ Aid
+unfolding methods
+class_init method is = ap class_of is
+
+class_own : (method : PlatformMethod) → method ≡ AppletRegister → class_of method ≡ Applet
+unfolding methods
+class_own method is = ap class_of is
+
+class_given : (method : PlatformMethod) → method ≡ AppletRegisterBytes → class_of method ≡ Applet
+unfolding methods
+class_given method is = ap class_of is
+
+module _ (method : PlatformMethod) (args : List Cell) (p : Packages) (m : MemoryState) (known : KnowsClasses p) (aids : HasAids p) (sound : IsSoundMemory p m)
+    (steady : IsSteady m) (receiver : IsReceiver p m method args) where
+  -- the receiver is of the class of the method, or of one below it
+  called_on : (of : PlatformClass) → minds_receiver method ≡ true → class_of method ≡ of → (r : ℕ) → reference_argument args 0 ≡ Some r
+      → is_a p (facts m.heap.now r).class of ≡ true
+  called_on of minded is r own = subst (λ c. is_a p (facts m.heap.now r).class c ≡ true) is (receiver.class minded r own)
+
+  object_of : (pin : ℕ) → IsPinCall method args m pin → IsPinObject p m pin
+  object_of pin is = pin_object p m known sound pin is.is (called_on _ (minds method is.sets) is.class pin is.called)
+
+  passes : MethodPasses (IsFit p) method args p m
+  passes = record {
+    reason = λ part sets own v is there. set_in p m (facts m.heap.now own).event own 0 (Short v)
+        (reason_fits p m known sound (class_of method) (reasoned method part) own _ (called_on (class_of method) (minds method sets) refl own is) there);
+    stretch = λ r count e words is long. subst (λ a. IsFit p (cells_effect m a e.start words) m) (sym is.array) (bytes_fit p m r e.start words is.kind);
+    aid = λ init own bytes is there long. run_in p m own 0 (cells_of_aid bytes) (facts m.heap.now own).event
+        (aid_fits p m known sound own bytes (called_on Aid (minds_init method init) (class_init method init) own is) (receiver.owned init own is) there long);
+    buffer = λ r is. bytes_fit p m r 5 (data_of m.command) is.kind;
+    transient = λ kind count event o none fine room. transient_fits p m known sound steady kind count event o _ none fine room (λ r v. tt);
+    starts = λ pin is limit maximum. starts p m sound steady pin limit maximum (object_of pin is);
+    counts = λ pin is n. (pin, refl, after_flag p m pin false (object_of pin is));
+    refills = λ pin is n limit. (pin, refl, after_count p _ pin n (after_flag p m pin false (object_of pin is)));
+    updates = λ pin is bytes owned short. OfValue (record { pin = pin; bytes = bytes; is = refl; object = object_of pin is; short = short });
+    own_registers = λ is aid instance own there. let named = entry_named p aids m.registers.installation aid there in
+        registered_due keeps_sound p m known sound steady aid instance named.0 named.1 (receiver.instance (minds_own method is) instance own)
+        (called_on Applet (minds_own method is) (class_own method is) instance own);
+    given_registers = λ is e instance own long.
+        registered_due keeps_sound p m known sound steady (bytes_in m e) instance (ap is_aid_length (length_bytes m e) ∙ long) (bytes_small m e)
+        (receiver.instance (minds_given method is) instance own) (called_on Applet (minds_given method is) (class_given method is) instance own);
+  }
+
+pub natives_are_fit : NativesFit
+natives_are_fit method args p m known aids sound steady receiver = method_due (IsFit p) (IsSoundMemory p) (bears p) args p m sound method
+    (passes method args p m known aids sound steady receiver)

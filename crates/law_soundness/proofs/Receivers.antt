@@ -1,0 +1,298 @@
+-- What a call is made on: an instance of the method's class; and an owner that it switches to is known.
+use Rattle.std.proofs.Common.{◌≡◌, ℕ, ◌/◌, ◌≤◌, Bool, true, false, inl, inr, List, Option, Some, None, Ok, refl, sym, ◌∙◌, ap, subst, if◌then◌else◌}
+use Rattle.std.proofs.lemmas.Bool.{both_ways, false≢true}
+use Rattle.std.proofs.lemmas.Option.{same_Some}
+use Rattle.std.specs.Prelude.{not, ◌==◌}
+use Rattle.jc_heap.specs.declared.object.Facts.{Facts}
+use Rattle.jc_heap.specs.declared.object.Kind.{Kind}
+use Rattle.jc_heap.specs.declared.object.Kind.TheVariants.{Instance, BooleanArray, ByteArray, ShortArray, ReferenceArray}
+use Rattle.jc_heap.specs.Heap.{facts}
+use Rattle.jc_memory.specs.declared.registers.Owner.{Owner}
+use Rattle.jc_memory.specs.declared.registers.Owner.TheVariants.{Runtime, Applet, Package}
+use Rattle.jc_memory.specs.Owners.{owner_number, owner_of}
+use Rattle.jc_memory.specs.State.{MemoryState}
+use Rattle.jc_cap_linkage.specs.declared.pool.VirtualToken.{VirtualToken}
+use Rattle.jc_linker.specs.declared.target.Method.{Method}
+use Rattle.jc_linker.specs.declared.target.Method.TheVariants.{Native}
+use Rattle.jc_linker.specs.declared.target.Target.{Target}
+use Rattle.jc_linker.specs.declared.target.Target.TheVariants.{Class, VirtualMethod, SuperMethod, StaticMethod, InstanceField, StaticField}
+use Rattle.jc_linker.specs.Classes.{is_below}
+use Rattle.jc_linker.specs.Lookups.{target_at}
+use Rattle.jc_linker.specs.Methods.{interface_method_at, method_at}
+use Rattle.jc_linker.specs.Values.{Packages}
+use Rattle.jc_platform.specs.declared.names.MethodKind.TheVariants.{Static}
+use Rattle.jc_platform.specs.declared.names.PlatformClass.{PlatformClass}
+use Rattle.jc_platform.specs.declared.names.PlatformClass.TheVariants.{Aid, Object}
+use Rattle.jc_platform.specs.declared.names.PlatformMethod.{PlatformMethod}
+use Rattle.jc_platform.specs.declared.names.PlatformMethod.TheVariants.{AidInit}
+use Rattle.jc_platform.specs.Distinct.{class_of as class_of_method, class_word, kind_of_method}
+use Rattle.jc_opcodes.specs.declared.instr.InvokeOp.{InvokeOp}
+use Rattle.jc_opcodes.specs.declared.instr.InvokeOp.TheVariants as invoke
+use Rattle.jc_firewall.specs.declared.access.Access.TheVariants as access
+use Rattle.jc_firewall.specs.declared.decide.Decision.{Decision}
+use Rattle.jc_firewall.specs.declared.decide.Decision.TheVariants.{Allow, Switch, Deny}
+use Rattle.jc_firewall.specs.declared.subject.Context.TheVariants.{Jcre}
+use Rattle.jc_firewall.specs.Reach.{IsInReach}
+use Rattle.jc_firewall.specs.declared.subject.Designation.TheVariants.{Ordinary, PermanentEntryPoint, TemporaryEntryPoint}
+use Rattle.jc_firewall.specs.Situation.{global_array}
+use Rattle.jc_frames.specs.declared.cell.Cell.{Cell}
+use Rattle.jc_frames.specs.Frames.{Frames}
+use Rattle.jc_world.specs.Contexts.{firewall_check, context_of, firewall_decision, designation_of, own_designation, situation_of, subject_of}
+use Rattle.jc_world.specs.Objects.{check_or_fault, object_at, some_or_fault}
+use Rattle.jc_world.specs.Objects as world
+use Rattle.jc_card_checks.specs.Objects.{is_a, is_instance}
+use Rattle.jc_interp_calls.specs.declared.invoke.MethodCall.{MethodCall}
+use Rattle.jc_interp_calls.specs.Invoke.{arguments_of, call_of, invokeinterface, invokespecial, invokestatic, invokevirtual, method_selection, class_of}
+use Rattle.jc_interp_calls.specs.Invoke.{fits_at_null, interface_access, interface_by, is_native_constructor, is_of, is_of_any, call_decision, receiver_of}
+use Rattle.jc_interp_calls.specs.Invoke.{receiver_on, special_by, static_by, virtual_by}
+use Rattle.jc_interp_calls.specs.Parameters.{fits}
+use Rattle.law_isolation.proofs.Reaching.{err_not_ok, field_allowed, object_is, same_Ok}
+use Rattle.law_isolation.proofs.Receivers.{both_fine, is_there}
+use Rattle.law_soundness.specs.Classes.{KnowsClasses}
+use Rattle.law_soundness.specs.State.{IsSoundMemory, is_owner_up_to, last_own, most_owner}
+use Rattle.law_soundness.specs.Natives.{minds_receiver}
+use Rattle.law_soundness.specs.Methods.{IsMethodOf, KnowsMethods}
+use Rattle.law_soundness.proofs.Minding.{aid_static, minds_below, minds_no_static}
+use Rattle.law_soundness.proofs.Owners.{known_again, object_owner}
+
+it_holds : (b : Bool) → (u : Unit {0}) → check_or_fault b ≡ Ok u → b ≡ true
+it_holds true u e = refl
+it_holds false u e = absurd (err_not_ok e)
+
+not_true : (b : Bool) → not b ≡ true → b ≡ false
+not_true false e = refl
+not_true true e = absurd (false≢true e)
+
+owner_none : {o : Owner} → None ≡ Some o → ⊥
+owner_none e = cc
+
+-- ---- the code that runs is a package's
+
+not_jcre : (m : MemoryState) (o : Owner) → (o ≡ Runtime → ⊥) → context_of m o ≡ Jcre → ⊥
+not_jcre m Runtime other e = other refl
+not_jcre m (Applet a) other e = cc
+not_jcre m (Package a) other e = cc
+
+entry_no_global : (b : Bool) → global_array (if b then PermanentEntryPoint else TemporaryEntryPoint) ≡ false
+entry_no_global true = refl
+entry_no_global false = refl
+
+own_no_global : (p : Packages) (k : Kind) (class : ℕ) → is_instance k ≡ true → global_array (own_designation p k class) ≡ false
+own_no_global p Instance class e = entry_no_global (class == class_word p.platform Aid)
+own_no_global p BooleanArray class e = absurd (false≢true e)
+own_no_global p ByteArray class e = absurd (false≢true e)
+own_no_global p ShortArray class e = absurd (false≢true e)
+own_no_global p ReferenceArray class e = absurd (false≢true e)
+
+no_global : (p : Packages) (f : Facts) → is_instance f.kind ≡ true → (b : Bool) → global_array
+    (if b then own_designation p f.kind f.class else Ordinary) ≡ false
+no_global p f instance true = own_no_global p f.kind f.class instance
+no_global p f instance false = refl
+
+-- ---- what a method is called on that minds it
+
+pub record IsOn (p : Packages) (m : MemoryState) (method : PlatformMethod) (r : ℕ) : Type 0 where
+  pub instance : is_instance (facts m.heap.now r).kind ≡ true
+  pub class : is_a p (facts m.heap.now r).class (class_of_method method) ≡ true
+  pub owned : method ≡ AidInit → (facts m.heap.now r).owner ≡ 0 → ⊥
+
+-- a call is on such an object, and the owner that it switches to is known
+pub record IsFitCall (p : Packages) (m : MemoryState) (stack : List Cell) (c : MethodCall) : Type 0 where
+  pub on : (method : PlatformMethod) → c.method ≡ Native method → minds_receiver method ≡ true → (r : ℕ) → receiver_on c.arguments stack ≡ Some r
+      → IsOn p m method r
+  pub switches : (o : Owner) → c.switches_to ≡ Some o → is_owner_up_to (most_owner m) m.heap.now (owner_number o) ≡ true
+
+module _ (p : Packages) (m : MemoryState) (known : KnowsClasses p) (methods : KnowsMethods p) (sound : IsSoundMemory p m)
+    (own : (r : ℕ) → r ≤ last_own m → (facts m.heap.now r).owner ≡ 0) (runs : m.registers.active ≡ Runtime → ⊥) (stack : List Cell) (c : MethodCall) where
+  -- arrays are instances of Object, and of no class that minds
+  of_class : (of : PlatformClass) → (of ≡ Object → ⊥) → (k : Kind) (class : ℕ) → is_below p
+      (if world.is_instance k then class else class_word p.platform Object) (class_word p.platform of) ≡ true
+      → (is_instance k ≡ true) × (is_a p class of ≡ true)
+  of_class of other Instance class e = (refl, e)
+  of_class of other BooleanArray class e = absurd (other (methods.top of e))
+  of_class of other ByteArray class e = absurd (other (methods.top of e))
+  of_class of other ShortArray class e = absurd (other (methods.top of e))
+  of_class of other ReferenceArray class e = absurd (other (methods.top of e))
+
+  -- the receiver whose header was asked for
+  found : (n : ℕ) (f : Facts) → receiver_of n stack m ≡ Ok f → (r : ℕ) → receiver_on n stack ≡ Some r → f ≡ facts m.heap.now r
+  unfolding receiver_of
+  found n f e r on =
+      let b = both_fine (some_or_fault (receiver_on n stack)) (λ r. object_at m r) f e in
+      (object_is m b.0 f b.2).1 ∙ ap (facts m.heap.now) (same_Some b.0 r (sym (is_there (receiver_on n stack) b.0 b.1) ∙ on))
+
+  owner_there : (n : ℕ) (f : Facts) → receiver_of n stack m ≡ Ok f → is_owner_up_to (most_owner m) m.heap.now (owner_number (owner_of f.owner)) ≡ true
+  unfolding receiver_of
+  owner_there n f e =
+      let b = both_fine (some_or_fault (receiver_on n stack)) (λ r. object_at m r) f e in
+      let is = object_is m b.0 f b.2 in
+      known_again p m methods sound f.owner (subst (λ g. is_owner_up_to (most_owner m) m.heap.now g.owner ≡ true) (sym is.1)
+      (object_owner p m methods sound own b.0 is.0))
+
+  -- a method that is reached by token or by interface
+  by_class : (f : Facts) (r : ℕ) (method : PlatformMethod) → f ≡ facts m.heap.now r → minds_receiver method ≡ true → IsMethodOf p (class_of p f) method
+      → IsOn p m method r
+  by_class f r method same minds is =
+      let of = of_class (class_of_method method) (minds_below method minds) f.kind f.class is.0 in
+      record {
+        instance = subst (λ g. is_instance g.kind ≡ true) same of.0;
+        class = subst (λ g. is_a p g.class (class_of_method method) ≡ true) same of.1;
+        owned = λ aid zero. is.1 (subst (λ x. kind_of_method x ≡ Static) (sym aid) aid_static);
+      }
+
+  judged_is : (d : Decision) (f : Facts) (by : Method) (n : ℕ) → is_owner_up_to (most_owner m) m.heap.now (owner_number (owner_of f.owner)) ≡ true
+      → call_decision d f by n ≡ Ok c →
+      (c.method ≡ by) × (c.arguments ≡ n) × ((o : Owner) → c.switches_to ≡ Some o → is_owner_up_to (most_owner m) m.heap.now (owner_number o) ≡ true)
+  judged_is Allow f by n there e =
+      let same = same_Ok (call_of by n None) c e in
+      (ap (λ x. x.method) (sym same), ap (λ x. x.arguments) (sym same), λ o is. absurd (owner_none (ap (λ x. x.switches_to) same ∙ is)))
+  judged_is (Switch context) f by n there e =
+      let same = same_Ok (call_of by n (Some (owner_of f.owner))) c e in (
+        ap (λ x. x.method) (sym same),
+        ap (λ x. x.arguments) (sym same),
+        λ o is. subst (λ x. is_owner_up_to (most_owner m) m.heap.now (owner_number x) ≡ true)
+            (same_Some (owner_of f.owner) o (ap (λ x. x.switches_to) same ∙ is)) there,
+      )
+  judged_is (Deny rule) f by n there e = absurd (err_not_ok e)
+
+  judged_fit : (d : Decision) (f : Facts) (by : Method) (n : ℕ) → receiver_of n stack m ≡ Ok f
+      → ((method : PlatformMethod) → by ≡ Native method → IsMethodOf p (class_of p f) method) → call_decision d f by n ≡ Ok c → IsFitCall p m stack c
+  judged_fit d f by n there is e =
+      let j = judged_is d f by n (owner_there n f there) e in
+      record {
+        on = λ method reached minds r on. by_class f r method (found n f there r (ap (λ k. receiver_on k stack) (sym j.1) ∙ on)) minds
+            (is method (sym j.0 ∙ reached));
+        switches = j.2;
+      }
+
+  virtually_fit : (class : ℕ) (token : VirtualToken) (method : Method) → invokevirtual class token method p stack m ≡ Ok c → IsFitCall p m stack c
+  unfolding invokevirtual
+  virtually_fit class token method e =
+      let one = both_fine (some_or_fault (arguments_of p method)) _ c e in
+      let kinds = both_fine (check_or_fault (fits_at_null one.0 method p stack m)) _ c one.2 in
+      let two = both_fine (receiver_of one.0 stack m) _ c kinds.2 in
+      let three = both_fine (check_or_fault (is_of p two.0 class)) _ c two.2 in
+      let four = both_fine (some_or_fault (method_at p (class_of p two.0) (class / 256) token)) _ c three.2 in
+      let five = both_fine (check_or_fault (fits four.0 p m stack)) _ c four.2 in
+      judged_fit (firewall_decision access.VirtualCall p m two.0) two.0 four.0 one.0 two.1
+      (λ native is. methods.virtually (class_of p two.0) (class / 256) token native
+      (is_there (method_at p (class_of p two.0) (class / 256) token) four.0 four.1 ∙ ap Some is)) five.2
+
+  interface_fit : (interface n token : ℕ) → invokeinterface interface n token p stack m ≡ Ok c → IsFitCall p m stack c
+  unfolding invokeinterface
+  interface_fit interface n token e =
+      let one = both_fine (receiver_of n stack m) _ c e in
+      let two = both_fine (check_or_fault (is_of p one.0 interface)) _ c one.2 in
+      let three = both_fine (some_or_fault (interface_method_at p (class_of p one.0) interface token)) _ c two.2 in
+      let four = both_fine (check_or_fault (fits three.0 p m stack)) _ c three.2 in
+      judged_fit (firewall_decision (interface_access p interface) p m one.0) one.0 three.0 n one.1
+      (λ native is. methods.by_interface (class_of p one.0) interface token native (is_there
+      (interface_method_at p (class_of p one.0) interface token) three.0 three.1 ∙ ap Some is)) four.2
+
+  -- an object whose fields the code may set is none of the runtime environment's
+  not_own : (f : Facts) → is_instance f.kind ≡ true → f.owner ≡ 0 → IsInReach (situation_of p m f) → ⊥
+  unfolding situation_of subject_of
+  not_own f instance zero (inl environment) = not_jcre m m.registers.active runs environment
+  not_own f instance zero (inr (inl same)) = not_jcre m m.registers.active runs (sym same ∙ ap (λ n. context_of m (owner_of n)) zero)
+  not_own f instance zero (inr (inr global)) = both_ways (global_array (designation_of p f)) (no_global p f instance (f.owner == 0)) global
+
+  specially_fit : (class : Option ℕ) (by : Method) → ((f : Facts) (method : PlatformMethod) → by ≡ Native method → is_of_any p f class ≡ true
+      → is_a p (class_of p f) (class_of_method method) ≡ true) → invokespecial class by p stack m ≡ Ok c → IsFitCall p m stack c
+  unfolding invokespecial
+  specially_fit class by is e =
+      let one = both_fine (some_or_fault (arguments_of p by)) _ c e in
+      let kinds = both_fine (check_or_fault (fits_at_null one.0 by p stack m)) _ c one.2 in
+      let two = both_fine (receiver_of one.0 stack m) _ c kinds.2 in
+      let three = both_fine (check_or_fault (is_of_any p two.0 class)) _ c two.2 in
+      let four = both_fine (check_or_fault (fits by p m stack)) _ c three.2 in
+      let five = both_fine (firewall_check access.InstanceField p m two.0) _ c four.2 in
+      let same = same_Ok (call_of by one.0 None) c five.2 in
+      record {
+        on = λ method reached minds r on. (
+            let at = found one.0 two.0 two.1 r (ap (λ x. receiver_on x.arguments stack) same ∙ on) in
+            let of = of_class (class_of_method method) (minds_below method minds) two.0.kind two.0.class
+            (is two.0 method (ap (λ x. x.method) same ∙ reached) (it_holds (is_of_any p two.0 class) three.0 three.1)) in
+            record {
+              instance = subst (λ g. is_instance g.kind ≡ true) at of.0;
+              class = subst (λ g. is_a p g.class (class_of_method method) ≡ true) at of.1;
+              owned = λ aid zero. not_own two.0 of.0 (ap (λ g. g.owner) at ∙ zero) (field_allowed p m two.0 five.1);
+            });
+        switches = λ o to. absurd (owner_none (ap (λ x. x.switches_to) same ∙ to));
+      }
+
+  statically_fit : (number index : ℕ) (class : Option ℕ) (method : Method) → target_at p number index ≡ Some (StaticMethod class method)
+      → invokestatic method p ≡ Ok c → IsFitCall p m stack c
+  unfolding invokestatic
+  statically_fit number index class method target e =
+      let one = both_fine (check_or_fault (not (is_native_constructor method))) _ c e in
+      let two = both_fine (some_or_fault (arguments_of p method)) _ c one.2 in
+      let same = same_Ok (call_of method two.0 None) c two.2 in
+      record {
+        on = λ native reached minds r on. (
+            let is = ap (λ x. x.method) same ∙ reached in
+            absurd (minds_no_static native minds (known.receivers.statically number index class native (target ∙ ap (λ x. Some (StaticMethod class x)) is)).1
+            (subst (λ x. is_native_constructor x ≡ false) is (not_true (is_native_constructor method)
+            (it_holds (not (is_native_constructor method)) one.0 one.1)))));
+        switches = λ o to. absurd (owner_none (ap (λ x. x.switches_to) same ∙ to));
+      }
+
+  virtual_fit : (o : Option Target) → virtual_by o p stack m ≡ Ok c → IsFitCall p m stack c
+  virtual_fit (Some (VirtualMethod class token method)) e = virtually_fit class token method e
+  virtual_fit (Some (Class class)) e = absurd (err_not_ok e)
+  virtual_fit (Some (InstanceField class cell is_reference)) e = absurd (err_not_ok e)
+  virtual_fit (Some (SuperMethod class method)) e = absurd (err_not_ok e)
+  virtual_fit (Some (StaticField number offset)) e = absurd (err_not_ok e)
+  virtual_fit (Some (StaticMethod class method)) e = absurd (err_not_ok e)
+  virtual_fit None e = absurd (err_not_ok e)
+
+  -- a static entry names the method's own class
+  of_static : (number index : ℕ) (class : Option ℕ) (by : Method) → target_at p number index ≡ Some (StaticMethod class by)
+      → (f : Facts) (method : PlatformMethod) → by ≡ Native method → is_of_any p f class ≡ true → is_a p (class_of p f) (class_of_method method) ≡ true
+  of_static number index class by target f method is below =
+      subst (λ o. is_of_any p f o ≡ true) (known.receivers.statically number index class method (target ∙ ap (λ x. Some (StaticMethod class x)) is)).0 below
+
+  of_above : (number index class : ℕ) (by : Method) → target_at p number index ≡ Some (SuperMethod class by) → (f : Facts) (method : PlatformMethod)
+      → by ≡ Native method → is_of_any p f (Some class) ≡ true → is_a p (class_of p f) (class_of_method method) ≡ true
+  of_above number index class by target f method is below = methods.above number index class (class_of p f) method
+      (target ∙ ap (λ x. Some (SuperMethod class x)) is) below
+
+  special_fit : (number index : ℕ) (o : Option Target) → target_at p number index ≡ o → special_by o p stack m ≡ Ok c → IsFitCall p m stack c
+  special_fit number index (Some (StaticMethod class method)) target e = specially_fit class method (of_static number index class method target) e
+  special_fit number index (Some (SuperMethod class method)) target e = specially_fit (Some class) method (of_above number index class method target) e
+  special_fit number index (Some (VirtualMethod class token method)) target e = absurd (err_not_ok e)
+  special_fit number index (Some (Class class)) target e = absurd (err_not_ok e)
+  special_fit number index (Some (InstanceField class cell is_reference)) target e = absurd (err_not_ok e)
+  special_fit number index (Some (StaticField home offset)) target e = absurd (err_not_ok e)
+  special_fit number index None target e = absurd (err_not_ok e)
+
+  static_fit : (number index : ℕ) (o : Option Target) → target_at p number index ≡ o → static_by o p ≡ Ok c → IsFitCall p m stack c
+  static_fit number index (Some (StaticMethod class method)) target e = statically_fit number index class method target e
+  static_fit number index (Some (SuperMethod class method)) target e = absurd (err_not_ok e)
+  static_fit number index (Some (VirtualMethod class token method)) target e = absurd (err_not_ok e)
+  static_fit number index (Some (Class class)) target e = absurd (err_not_ok e)
+  static_fit number index (Some (InstanceField class cell is_reference)) target e = absurd (err_not_ok e)
+  static_fit number index (Some (StaticField home offset)) target e = absurd (err_not_ok e)
+  static_fit number index None target e = absurd (err_not_ok e)
+
+  by_interface_fit : (o : Option Target) (n token : ℕ) → interface_by o n token p stack m ≡ Ok c → IsFitCall p m stack c
+  by_interface_fit (Some (Class class)) n token e = interface_fit class n token e
+  by_interface_fit (Some (VirtualMethod class t method)) n token e = absurd (err_not_ok e)
+  by_interface_fit (Some (SuperMethod class method)) n token e = absurd (err_not_ok e)
+  by_interface_fit (Some (StaticMethod class method)) n token e = absurd (err_not_ok e)
+  by_interface_fit (Some (InstanceField class cell is_reference)) n token e = absurd (err_not_ok e)
+  by_interface_fit (Some (StaticField number offset)) n token e = absurd (err_not_ok e)
+  by_interface_fit None n token e = absurd (err_not_ok e)
+
+-- what a call that was chosen is on
+pub chosen_fit : (p : Packages) (m : MemoryState) (s : Frames) → KnowsClasses p → KnowsMethods p → IsSoundMemory p m
+    → ((r : ℕ) → r ≤ last_own m → (facts m.heap.now r).owner ≡ 0) → (m.registers.active ≡ Runtime → ⊥) → (i : InvokeOp) (c : MethodCall)
+    → method_selection i p s m ≡ Ok c → IsFitCall p m s.current.stack c
+unfolding method_selection
+chosen_fit p m s known methods sound own runs (invoke.Virtual index) c e = virtual_fit p m known methods sound own runs s.current.stack c
+    (target_at p s.current.origin.package_number index) e
+chosen_fit p m s known methods sound own runs (invoke.Special index) c e = special_fit p m known methods sound own runs s.current.stack c
+    s.current.origin.package_number index (target_at p s.current.origin.package_number index) refl e
+chosen_fit p m s known methods sound own runs (invoke.Static index) c e = static_fit p m known methods sound own runs s.current.stack c
+    s.current.origin.package_number index (target_at p s.current.origin.package_number index) refl e
+chosen_fit p m s known methods sound own runs (invoke.Interface n index token) c e =
+    by_interface_fit p m known methods sound own runs s.current.stack c (target_at p s.current.origin.package_number index) n token e

@@ -1,0 +1,111 @@
+-- Instances in a sound memory, and new objects.
+use Rattle.std.proofs.Common.{◌≡◌, ℕ, ◌+◌, ◌<◌, Bool, true, false, inl, inr, Option, Some, None, refl, sym, ◌∙◌, ap, subst, if◌then◌else◌}
+use Rattle.std.proofs.lemmas.Bool.{and_from, and_parts, both_ways, cases_lt, eqb-true, lt-ltb, true≢false}
+use Rattle.std.proofs.lemmas.Option.{same_Some}
+use Rattle.std.specs.Prelude.{◌==◌, not, is_none}
+use Rattle.jc_transient.specs.declared.cell.CellValue.{CellValue}
+use Rattle.jc_transient.specs.declared.cell.ClearEvent.{ClearEvent}
+use Rattle.jc_heap.specs.declared.object.Kind.{Kind}
+use Rattle.jc_heap.specs.declared.object.Kind.TheVariants.{Instance, BooleanArray, ByteArray, ShortArray, ReferenceArray}
+use Rattle.jc_heap.specs.declared.place.Place.TheVariants.{Cell}
+use Rattle.jc_heap.specs.Heap.{IsObject, LacksCells, facts}
+use Rattle.jc_heap.specs.Moves.{new_move}
+use Rattle.jc_memory.specs.declared.making.NewObject.{NewObject}
+use Rattle.jc_memory.specs.Owners.{owner_number}
+use Rattle.jc_memory.specs.State.{MemoryState, HeapMove, SetFlag, IsNew, apply_effect}
+use Rattle.jc_memory.specs.Programs.{Program, Perform}
+use Rattle.jc_memory.specs.Reading.{AllDue}
+use Rattle.jc_memory.specs.Cells.{cell_effect_in, word_of}
+use Rattle.jc_memory.specs.Making.{object_creation, creation_move, zero_cells_in}
+use Rattle.jc_linker.specs.Classes.{is_class, size_of}
+use Rattle.jc_linker.specs.Resolves.{names_interface}
+use Rattle.jc_linker.specs.Values.{Packages}
+use Rattle.jc_card_checks.specs.Objects.{fits_class, is_instance, is_persistent_instance}
+use Rattle.law_soundness.specs.Classes.{has_instances}
+use Rattle.law_soundness.specs.Fit.{FitsNew, FitsPlace, IsFit}
+use Rattle.law_soundness.specs.State.{IsSoundMemory, IsSteady, is_open, is_owner_up_to, last_own, most_new, most_owner}
+
+pub instance_kind : (kind : Kind) → is_instance kind ≡ true → kind ≡ Instance
+instance_kind Instance e = refl
+instance_kind BooleanArray e = absurd cc
+instance_kind ByteArray e = absurd cc
+instance_kind ShortArray e = absurd cc
+instance_kind ReferenceArray e = absurd cc
+
+pub instance_no_array : (kind : Kind) → is_instance kind ≡ true → kind ≡ ReferenceArray → ⊥
+instance_no_array kind e array = true≢false (sym e ∙ ap is_instance array)
+
+-- of a class of which an instance fits there are instances
+pub fits_has_instances : (p : Packages) (kind : Kind) (class long : ℕ) → kind ≡ Instance → fits_class p kind class long ≡ true → long < 65536
+    → has_instances p class ≡ true
+fits_has_instances p kind class long is fits small =
+    let whole : fits_class p Instance class long ≡ true = subst (λ k. fits_class p k class long ≡ true) is fits in
+    let first = and_parts (is_class p class) _ whole in
+    let second = and_parts (not (names_interface p class)) (long == size_of p class) first.1 in
+    let same : long ≡ size_of p class = eqb-true long (size_of p class) second.1 in
+    and_from (is_class p class) _ first.0 (and_from (not (names_interface p class)) _ second.0
+    (lt-ltb (size_of p class) 65536 (subst (λ n. n < 65536) same small)))
+
+module _ (p : Packages) (m : MemoryState) (sound : IsSoundMemory p m) where
+  -- a persistent instance is none of the environment's own objects
+  pub kept_behind : (r : ℕ) → IsObject m.heap.now r → is_persistent_instance (facts m.heap.now r) ≡ true → last_own m < r
+  kept_behind r there kept = elim (cases_lt (last_own m) r) [
+    | inl behind ↦ behind
+    | inr own ↦ absurd (both_ways (is_persistent_instance (facts m.heap.now r)) (sound.own r own there) kept)
+  ]
+
+  -- it fits its class
+  pub kept_fits : (r : ℕ) → IsObject m.heap.now r → is_persistent_instance (facts m.heap.now r) ≡ true → has_instances p (facts m.heap.now r).class ≡ true
+  kept_fits r there kept =
+      let fit = sound.now.objects r (kept_behind r there kept) there in
+      let instance = (and_parts (is_instance (facts m.heap.now r).kind) (is_none (facts m.heap.now r).event) kept).0 in
+      fits_has_instances p (facts m.heap.now r).kind (facts m.heap.now r).class (facts m.heap.now r).length
+      (instance_kind (facts m.heap.now r).kind instance) fit.class (fit.small instance)
+
+  -- for whom code runs may own a new object
+  pub active_known : IsSteady m → is_owner_up_to (most_new m) m.heap.now (owner_number m.registers.active) ≡ true
+  active_known steady = by_transaction m.heap.begun refl
+    where
+      settled : (o : Bool) → is_open m.registers.installation ≡ o → m.heap.begun ≡ false →
+          is_owner_up_to (if o then m.heap.durable.counts.1 + 1 else m.heap.now.counts.1) m.heap.now (owner_number m.registers.active) ≡ true →
+          is_owner_up_to m.heap.now.counts.1 m.heap.now (owner_number m.registers.active) ≡ true
+      settled true opened rests known = absurd (both_ways m.heap.begun rests (steady.begun opened))
+      settled false opened rests known = known
+
+      by_transaction : (b : Bool) → m.heap.begun ≡ b → is_owner_up_to (if b then most_owner m else m.heap.now.counts.1) m.heap.now
+          (owner_number m.registers.active) ≡ true
+      by_transaction true begun = sound.active
+      by_transaction false rests = settled (is_open m.registers.installation) refl rests sound.active
+
+-- a cell that is set, wherever it is kept
+pub set_in : (p : Packages) (m : MemoryState) (event : Option ClearEvent) (r i : ℕ) (v : CellValue) → FitsPlace p m.heap.now (Cell r i) (word_of v)
+    → IsFit p (cell_effect_in event r i v) m
+set_in p m None r i v fits = fits
+set_in p m (Some event) r i v fits = tt
+
+-- a new object, in the memory that it leaves
+module _ {A : Type 0} (p : Packages) (o : NewObject) (rest : ℕ → Program A) (m : MemoryState)
+    (fits : FitsNew p m o.kind o.class (owner_number o.owner) o.length) where
+  abbrev pub with_new : ℕ → MemoryState
+  with_new r = apply_effect (SetFlag r false) (apply_effect (HeapMove (new_move o.kind o.class (owner_number o.owner) o.length)) m)
+
+  kept_in : (event : Option ClearEvent) → event ≡ None → (r : ℕ) → AllDue (IsFit p) (rest r) (with_new r)
+      → AllDue (IsFit p) (Perform (HeapMove (creation_move event o)) (zero_cells_in event o r (Perform (SetFlag r false) (rest r)))) m
+  kept_in None is r due = (record { kind = o.kind; class = o.class; owner = owner_number o.owner; long = o.length; is = refl; fits = fits }, (tt, due))
+  kept_in (Some event) is r due = absurd cc
+
+  pub new_kept : o.event ≡ None → ((r : ℕ) → IsNew m.heap.now r → AllDue (IsFit p) (rest r) (with_new r)) → AllDue (IsFit p) (object_creation o rest) m
+  new_kept is due = λ r new. kept_in o.event is r (due r new)
+
+  transient_in : (event : ClearEvent) (kept : Option ClearEvent) → kept ≡ Some event → (LacksCells m.heap.now event o.length → ⊥) → (r : ℕ)
+      → ((v : MemoryState) → AllDue (IsFit p) (rest r) v) →
+      AllDue (IsFit p) (Perform (HeapMove (creation_move kept o)) (zero_cells_in kept o r (Perform (SetFlag r false) (rest r)))) m
+  transient_in event None is room r due = absurd cc
+  transient_in event (Some e) is room r due = (
+    (fits, (λ lacks. room (subst (λ x. LacksCells m.heap.now x o.length) (same_Some e event is) lacks))),
+    (tt, (tt, due _)),
+  )
+
+  pub new_transient : (event : ClearEvent) → o.event ≡ Some event → (LacksCells m.heap.now event o.length → ⊥)
+      → ((r : ℕ) (v : MemoryState) → AllDue (IsFit p) (rest r) v) → AllDue (IsFit p) (object_creation o rest) m
+  new_transient event is room due = λ r new. transient_in event o.event is room r (due r)

@@ -1,0 +1,102 @@
+-- Reasons of exceptions, and transient arrays.
+use Rattle.std.proofs.Common.{◌≡◌, ℕ, ◌+◌, Bool, true, false, Option, Some, None, Ok, refl, sym, ◌∙◌, ap, subst, arith, if◌then◌else◌}
+use Rattle.std.proofs.lemmas.Bool.{and_parts, both_ways, ltb-false}
+use Rattle.std.proofs.lemmas.Option.{none-some}
+use Rattle.std.specs.Prelude.{ℤ, nat_lt}
+use Rattle.jc_transient.specs.declared.cell.ClearEvent.{ClearEvent}
+use Rattle.jc_transient.specs.State.{area_size}
+use Rattle.jc_heap.specs.declared.object.Kind.{Kind}
+use Rattle.jc_heap.specs.declared.object.Kind.TheVariants.{Instance, BooleanArray, ByteArray, ShortArray, ReferenceArray}
+use Rattle.jc_heap.specs.declared.place.Place.TheVariants.{Cell}
+use Rattle.jc_heap.specs.declared.refusal.HeapRefusal.{HeapRefusal}
+use Rattle.jc_heap.specs.declared.refusal.HeapRefusal.TheVariants.{NoTransientSpace}
+use Rattle.jc_heap.specs.Heap.{LacksCells, area_end, facts}
+use Rattle.jc_memory.specs.declared.making.NewObject.{NewObject}
+use Rattle.jc_memory.specs.Owners.{owner_number}
+use Rattle.jc_memory.specs.State.{MemoryState}
+use Rattle.jc_memory.specs.Programs.{Program}
+use Rattle.jc_memory.specs.Making.{object_creation, creation_refusal, creation_refusal_in}
+use Rattle.jc_memory.specs.Reading.{AllDue}
+use Rattle.jc_linker.specs.Classes.{is_class, reference_cell}
+use Rattle.jc_linker.specs.Values.{Packages}
+use Rattle.jc_platform.specs.declared.names.PlatformClass.{PlatformClass}
+use Rattle.jc_platform.specs.declared.names.PlatformClass.TheVariants.{Object}
+use Rattle.jc_platform.specs.Distinct.{class_word}
+use Rattle.jc_platform.specs.Hierarchy.{is_interface}
+use Rattle.jc_card_checks.specs.Objects.{fits_class, is_a, is_instance}
+use Rattle.jc_world.specs.Instances.{IsInstanceWith}
+use Rattle.jc_world.specs.Numbers.{not_negative}
+use Rattle.jc_api_runtime.specs.SystemTransient.{class_for, event_named, length_in, allowed_event, requested_array}
+use Rattle.law_soundness.specs.Classes.{KnowsClasses}
+use Rattle.law_soundness.specs.Fit.{FitsNew, FitsPlace, IsFit}
+use Rattle.law_soundness.specs.State.{IsSoundMemory, IsSteady, is_owner_up_to, most_new}
+use Rattle.law_isolation.proofs.Reaching.{same_Ok}
+use Rattle.law_isolation.proofs.Arguments.{both_ok}
+use Rattle.law_soundness.proofs.RunObjects.{active_known, instance_kind, instance_no_array, kept_fits, new_transient}
+use Rattle.law_soundness.proofs.Below.{HasReason, reason_no_aid, reason_no_pin}
+
+-- the reason of an exception
+module _ (p : Packages) (m : MemoryState) (known : KnowsClasses p) (sound : IsSoundMemory p m) where
+  pub reason_fits : (of : PlatformClass) → HasReason of → (own w : ℕ) → is_a p (facts m.heap.now own).class of ≡ true → IsInstanceWith m own 1
+      → FitsPlace p m.heap.now (Cell own 0) w
+  reason_fits of has own w is there = (
+    λ stays. (let instances = kept_fits p m sound own there.there stays in record {
+      reference = λ holds. absurd (both_ways (reference_cell p (facts m.heap.now own).class 0)
+          (known.platform.kinds (facts m.heap.now own).class 0 of instances has.class is has.cells ∙ has.number) holds);
+      aid = λ isnt. absurd (reason_no_aid p known (facts m.heap.now own).class instances of has is isnt);
+      pin = λ isnt. absurd (reason_no_pin p known (facts m.heap.now own).class instances of has is isnt);
+    }),
+    λ array. absurd (instance_no_array (facts m.heap.now own).kind (ap is_instance there.instance) array),
+  )
+
+-- transient arrays: what is asked for
+record IsWanted (p : Packages) (m : MemoryState) (kind : Kind) (o : NewObject) : Type 0 where
+  event : ClearEvent
+  kept : o.event ≡ Some event
+  kind_is : o.kind ≡ kind
+  class : o.class ≡ class_for kind p
+  owner : o.owner ≡ m.registers.active
+
+wanted_is : (kind : Kind) (count event : ℤ) (p : Packages) (m : MemoryState) (o : NewObject) → requested_array kind count event p m ≡ Ok o → IsWanted p m kind o
+unfolding requested_array
+wanted_is kind count event p m o e =
+    let one = both_ok (length_in (not_negative count)) _ o e in
+    let two = both_ok (event_named event) _ o one.2 in
+    let three = both_ok (allowed_event two.0 m) _ o two.2 in
+    let asked : NewObject = record { kind = kind; event = Some two.0; class = class_for kind p; owner = m.registers.active; length = one.0 } in
+    subst (IsWanted p m kind) (same_Ok asked o three.2) (record { event = two.0; kept = refl; kind_is = refl; class = refl; owner = refl })
+
+module _ (p : Packages) (m : MemoryState) (known : KnowsClasses p) (sound : IsSoundMemory p m) (steady : IsSteady m) where
+  -- a cell that there is no space for is refused
+  space_in : (event : ClearEvent) (long : ℕ) (b : Bool) → nat_lt area_size (area_end m.heap.now event + long) ≡ b → (other : Option HeapRefusal)
+      → (if b then Some NoTransientSpace else other) ≡ None → LacksCells m.heap.now event long → ⊥
+  space_in event long true lacks other e more = absurd (none-some NoTransientSpace (sym e))
+  space_in event long false lacks other e more = let le = ltb-false area_size (area_end m.heap.now event + long) lacks in omega (arith, le, more)
+
+  has_space : (o : NewObject) (event : ClearEvent) → o.event ≡ Some event → creation_refusal m o ≡ None → LacksCells m.heap.now event o.length → ⊥
+  has_space o event is room = space_in event o.length (nat_lt area_size (area_end m.heap.now event + o.length)) refl _
+      (subst (λ e. creation_refusal_in e m o ≡ None) is room)
+
+  fits_for : (kind : Kind) (n : ℕ) → (kind ≡ Instance → ⊥) → fits_class p kind (class_for kind p) n ≡ true
+  unfolding is_interface
+  fits_for Instance n none = absurd (none refl)
+  fits_for BooleanArray n none = refl
+  fits_for ByteArray n none = refl
+  fits_for ShortArray n none = refl
+  fits_for ReferenceArray n none = (and_parts (is_class p (class_word p.platform Object)) _ (known.platform.own Object refl)).0
+
+  wanted_fits : (kind : Kind) (o : NewObject) → (kind ≡ Instance → ⊥) → IsWanted p m kind o → FitsNew p m o.kind o.class (owner_number o.owner) o.length
+  wanted_fits kind o none is = record {
+    there = subst (λ k. fits_class p k o.class o.length ≡ true) (sym is.kind_is) (subst (λ c. fits_class p kind c o.length ≡ true) (sym is.class)
+        (fits_for kind o.length none));
+    known = subst (λ a. is_owner_up_to (most_new m) m.heap.now (owner_number a) ≡ true) (sym is.owner) (active_known p m sound steady);
+    small = λ instance. absurd (none (sym is.kind_is ∙ instance_kind o.kind instance));
+    environments = λ instance zero. absurd (none (sym is.kind_is ∙ instance_kind o.kind instance));
+  }
+
+  pub transient_fits : {A : Type 0} (kind : Kind) (count event : ℤ) (o : NewObject) (rest : ℕ → Program A) → (kind ≡ Instance → ⊥)
+      → requested_array kind count event p m ≡ Ok o → creation_refusal m o ≡ None → ((r : ℕ) (v : MemoryState) → AllDue (IsFit p) (rest r) v)
+      → AllDue (IsFit p) (object_creation o rest) m
+  transient_fits kind count event o rest none fine room due =
+      let asked = wanted_is kind count event p m o fine in
+      new_transient p o rest m (wanted_fits kind o none asked) asked.event asked.kept (has_space o asked.event asked.kept room) due

@@ -1,0 +1,254 @@
+-- Calls leave a sound machine: of methods in bytecode, of methods of the platform, and of a server that is asked.
+use Rattle.std.proofs.Common.{◌≡◌, ℕ, Bool, true, false, List, [], ◌∷◌, length, map, drop, Option, Some, None, Result, Ok, Err, refl, sym, ◌∙◌, ap, subst}
+use Rattle.std.proofs.Common.{if◌then◌else◌}
+use Rattle.std.proofs.lemmas.Option.{same_Some}
+use Rattle.std.specs.Prelude.{◌==◌, ◌&&◌, nat_le}
+use Rattle.jc_memory.specs.declared.registers.Owner.{Owner}
+use Rattle.jc_memory.specs.declared.registers.Owner.TheVariants.{Applet}
+use Rattle.jc_memory.specs.Cells.{header_at}
+use Rattle.jc_memory.specs.Programs.{Finish, Perform, Choose, Either}
+use Rattle.jc_memory.specs.Owners.{owner_number}
+use Rattle.jc_memory.specs.Reading.{AllDue, AllResults}
+use Rattle.jc_memory.specs.State.{MemoryState, SetRegisters, apply_effect}
+use Rattle.jc_memory.proofs.ProgramLemmas.{due_bind, each_bind, each_more}
+use Rattle.jc_platform.specs.declared.names.PlatformMethod.{PlatformMethod}
+use Rattle.jc_linker.specs.declared.target.Method.{Method}
+use Rattle.jc_linker.specs.declared.target.Method.TheVariants.{Code, Native}
+use Rattle.jc_linker.specs.Values.{Packages}
+use Rattle.jc_opcodes.specs.declared.instr.InvokeOp.{InvokeOp}
+use Rattle.jc_frames.specs.declared.cell.Cell.{Cell}
+use Rattle.jc_frames.specs.declared.cell.Cell.TheVariants.{Short, Reference}
+use Rattle.jc_frames.specs.declared.method.CallKind.TheVariants.{Instruction}
+use Rattle.jc_frames.specs.declared.method.Entry.{Entry}
+use Rattle.jc_frames.specs.declared.outcome.FrameExit.{FrameExit}
+use Rattle.jc_frames.specs.declared.outcome.FrameExit.TheVariants as stop
+use Rattle.jc_frames.specs.Calls.{arguments_on, frames_without_dead, frames_in_callee as after_call, caller_without_dead, counted_cells, call_or_fault}
+use Rattle.jc_frames.specs.Frames.{Caller, Frames, Next, GoesOn, Throws, Ends, push, store_local, with_stack}
+use Rattle.jc_opcodes.specs.Headers.{header_in}
+use Rattle.jc_world.specs.NativeCalls.{NativeProgram}
+use Rattle.jc_world.specs.declared.native_result.NativeResult.{NativeResult}
+use Rattle.jc_world.specs.declared.native_result.NativeResult.TheVariants.{ReturnVoid, ReturnValue, CallServer, Aborted}
+use Rattle.jc_world.specs.declared.native_result.ServerCall.{ServerCall}
+use Rattle.jc_interp.specs.Natives.{native_call}
+use Rattle.jc_interp_calls.specs.declared.invoke.MethodCall.{MethodCall}
+use Rattle.jc_interp_calls.specs.declared.enter.Callee.{Callee}
+use Rattle.jc_interp_calls.specs.declared.enter.CallSite.{CallSite}
+use Rattle.jc_interp_calls.specs.ServerCalls.{server_call_by, server_callee, server_entry, server_call, sharing_method, takes_server_arguments, with_local}
+use Rattle.jc_interp_calls.specs.ServerCalls.{with_server_arguments}
+use Rattle.jc_interp_calls.specs.Invoke.{method_selection}
+use Rattle.jc_interp_calls.specs.Entering.{method_entry, entry_of, registers_in_callee, context_switch, takes}
+use Rattle.jc_platform.specs.Signatures.{argument_cells}
+use Rattle.jc_interp_calls.specs.MethodComponent.{method_component_of}
+use Rattle.jc_interp.specs.Calling.{after_native, after_native_return, invoke_instruction, invoke_selected, native_invoke}
+use Rattle.law_isolation.proofs.Due.{due_if, due_ok, due_some}
+use Rattle.law_soundness.specs.Environment.{HasEnvironment}
+use Rattle.law_soundness.specs.Fit.{IsFit}
+use Rattle.law_soundness.specs.State.{IsSoundMemory, is_owner_up_to, most_owner}
+use Rattle.law_soundness.specs.Calls.{AnswersWell, IsCallResult}
+use Rattle.law_soundness.specs.Machines.{IsSoundMachine, KnowOwners}
+use Rattle.law_soundness.specs.Soundness.{AreKnown, IsSoundNext}
+use Rattle.law_soundness.proofs.Machines.{Given, HasCallers, IsLed, IsOthers, IsSoundUnder, callers_in_frame, callers_next, led_if, led_ok, led_some}
+use Rattle.law_soundness.proofs.Machines.{machine_like, under_after, under_of}
+use Rattle.law_soundness.proofs.Switches.{chosen_others}
+
+-- ---- frames that begin
+
+has_if : (callers : List Caller) (b : Bool) (x y : Next Frames) → HasCallers callers x → HasCallers callers y → HasCallers callers (if b then x else y)
+has_if callers true x y first second = first
+has_if callers false x y first second = second
+
+entered_has : (e : Entry) (s : Frames) → HasCallers (after_call e s).callers (call_or_fault e s)
+entered_has e s =
+    has_if (after_call e s).callers (nat_le e.arguments (length s.current.stack)) _ _
+    (has_if (after_call e s).callers (nat_le (length (after_call e s).callers) 31 && nat_le (counted_cells (after_call e s)) 512) _ _ refl tt) tt
+
+stored_has : (callers : List Caller) (n : ℕ) (cell : Cell) (next : Next Frames) → HasCallers callers next → HasCallers callers (with_local n cell next)
+stored_has callers n cell (GoesOn s) has = callers_in_frame callers s (store_local n cell s.current) has
+stored_has callers n cell (Throws e s) has = has
+stored_has callers n cell (Ends o) has = tt
+
+asked_has : (callers : List Caller) (asked : ServerCall) (next : Next Frames) → HasCallers callers next → HasCallers callers (with_server_arguments asked next)
+asked_has callers asked next has =
+    let first = stored_has callers 0 (Reference asked.server) next has in
+    let second = stored_has callers 1 (Reference asked.client) _ first in
+    stored_has callers 2 (Short asked.parameter) _ second
+
+-- ---- an abort makes null of dead references alone
+
+buried_known : (top : ℕ) (callers : List Caller) (m : MemoryState) → KnowOwners callers m → KnowOwners (map (caller_without_dead top) callers) m
+buried_known top [] m known = tt
+buried_known top (c ∷ callers) m known = (known.0, known.1, buried_known top callers m known.2)
+
+module _ (g : Given) (p : Packages) where
+  -- ---- methods in bytecode
+
+  -- the caller waits, for whom it runs
+  waiting : (e : Entry) (s : Frames) (m : MemoryState) → e.resume.active ≡ owner_number m.registers.active → IsSoundUnder p s.callers m → IsOthers m
+      → IsSoundUnder p (after_call e s).callers m
+  waiting e s m same under others = record {
+    sound = under.sound;
+    steady = under.steady;
+    known = (subst (λ n. is_owner_up_to (most_owner m) m.heap.now n ≡ true) (sym same) under.sound.active, (λ zero. others (sym same ∙ zero)), under.known);
+    environment = under.environment;
+  }
+
+  switching_led : (owner : Option Owner) (callers : List Caller) (next : Next Frames) (m : MemoryState) → HasCallers callers next → IsSoundUnder p callers m
+      → IsOthers m → ((o : Owner) → owner ≡ Some o → owner_number o ≡ 0 → ⊥) →
+      IsLed p (context_switch owner m.registers next) m
+  switching_led None callers next m has under others to due = callers_next p callers next m has under others
+  switching_led (Some owner) callers (GoesOn s) m has under others to due =
+      callers_next p callers (GoesOn s) _ has (under_after g p (SetRegisters (registers_in_callee (Some owner) m.registers)) callers m due.0 refl under)
+      (to owner refl)
+  switching_led (Some owner) callers (Throws e s) m has under others to due = callers_next p callers (Throws e s) m has under others
+  switching_led (Some owner) callers (Ends o) m has under others to due = tt
+
+  entering_led : (c : Callee) (site : CallSite) (s : Frames) (m : MemoryState) → IsSoundUnder p s.callers m → IsOthers m
+      → ((o : Owner) → c.switches_to ≡ Some o → owner_number o ≡ 0 → ⊥) → IsLed p (method_entry c site p s m) m
+  unfolding method_entry
+  entering_led c site s m under others to = led_some p m (header_in (method_component_of p c.package_number) c.offset) _
+      (λ h there. led_if p m (takes c.arguments h) _ _
+      (λ on. let e = entry_of h c site m.registers in switching_led c.switches_to (after_call e s).callers (call_or_fault e s) m (entered_has e s)
+      (waiting e s m refl under others) others to)
+      (λ off due. tt))
+
+  -- ---- a server that is asked
+
+  module _ (asked : ServerCall) (place : ℕ) (s : Frames) (m : MemoryState) (under : IsSoundUnder p s.callers m) (others : IsOthers m)
+      (server : asked.owner.0 ≡ 0 → ⊥) where
+    to_server : (o : Owner) → Some (Applet asked.owner) ≡ Some o → owner_number o ≡ 0 → ⊥
+    to_server o is zero = server (ap owner_number (same_Some (Applet asked.owner) o is) ∙ zero)
+
+    asked_led : (method : Option Method) → IsLed p (server_call_by method asked place p s m) m
+    asked_led None = λ due. tt
+    asked_led (Some (Native method)) = λ due. callers_next p s.callers _ m (callers_in_frame s.callers s (push (Reference 0) s.current) refl) under others
+    asked_led (Some (Code number offset)) = led_some p m (header_in (method_component_of p number) offset) _
+        (λ h there. led_if p m (takes_server_arguments h) _ _
+        (λ on.
+        let e = server_entry h (server_callee number offset asked) place m.registers in
+        switching_led (Some (Applet asked.owner)) (after_call e s).callers (with_server_arguments asked (call_or_fault e s)) m
+        (asked_has (after_call e s).callers asked (call_or_fault e s) (entered_has e s)) (waiting e s m refl under others) others to_server)
+        (λ off due. tt))
+
+    asking_led : IsLed p (server_call asked place p s m) m
+    unfolding server_call
+    asking_led = led_some p m (header_at m asked.server) _ (λ f there. asked_led (sharing_method p f.class))
+
+  -- ---- methods of the platform
+
+  -- how a method of the platform leaves the machine that called it
+  IsReady : List Caller → Result NativeResult FrameExit → MemoryState → Type 0
+  IsReady callers (Ok answer) v = IsSoundUnder p callers v × IsOthers v × AnswersWell answer v
+  IsReady callers (Err (stop.Throw e)) v = IsSoundUnder p callers v × IsOthers v
+  IsReady callers (Err (stop.End o)) v = Unit {0}
+
+  module _ (callers : List Caller) (m : MemoryState) (known : KnowOwners callers m) (others : IsOthers m) where
+    ready : (result : Result NativeResult FrameExit) (v : MemoryState) → IsCallResult m result v → IsSoundMemory p v → HasEnvironment p v
+        → IsReady callers result v
+    unfolding IsReady
+    ready (Ok answer) v left sound environment = (
+      record { sound = sound; steady = left.0.steady; known = left.0.owners callers known; environment = environment },
+      (λ zero. others (ap owner_number (sym left.0.active) ∙ zero)),
+      left.1,
+    )
+    ready (Err (stop.Throw e)) v left sound environment = (
+      record { sound = sound; steady = left.steady; known = left.owners callers known; environment = environment },
+      (λ zero. others (ap owner_number (sym left.active) ∙ zero)),
+    )
+    ready (Err (stop.End o)) v left sound environment = tt
+
+    each_ready : (d : NativeProgram) (v : MemoryState) → AllDue (IsFit p) d v → AllResults d v (IsCallResult m) → IsSoundMemory p v → HasEnvironment p v
+        → AllResults d v (IsReady callers)
+    each_ready (Finish result) v due left sound environment = ready result v left sound environment
+    each_ready (Perform e rest) v due left sound environment = each_ready rest (apply_effect e v) due.1 left (g.sound p e v due.0 sound)
+        (g.environment p e v due.0 sound environment)
+    each_ready (Choose choose) v due left sound environment = λ r new. each_ready (choose r) v (due r new) (left r new) sound environment
+    each_ready (Either x y) v due left sound environment = (each_ready x v due.0 left.0 sound environment, each_ready y v due.1 left.1 sound environment)
+
+  module _ (known : AreKnown p) (place : ℕ) (s : Frames) where
+    answered_due : (answer : NativeResult) (v : MemoryState) → IsSoundUnder p s.callers v → AnswersWell answer v
+        → AllDue (IsFit p) (after_native_return answer place p s v) v
+    answered_due ReturnVoid v under well = tt
+    answered_due (ReturnValue cell) v under well = tt
+    answered_due (CallServer asked) v under well = g.asks asked place p s v known.methods under.sound well.0
+    answered_due Aborted v under well = tt
+
+    after_due : (result : Result NativeResult FrameExit) (v : MemoryState) → IsReady s.callers result v → AllDue (IsFit p) (after_native result place p s v) v
+    unfolding IsReady
+    after_due (Ok answer) v is = answered_due answer v is.0 is.2
+    after_due (Err (stop.Throw e)) v is = tt
+    after_due (Err (stop.End o)) v is = tt
+
+    answered_next : (answer : NativeResult) (v : MemoryState) → IsSoundUnder p s.callers v → IsOthers v → AnswersWell answer v
+        → AllResults (after_native_return answer place p s v) v (IsSoundNext p)
+    answered_next ReturnVoid v under others well = callers_next p s.callers (GoesOn s) v refl under others
+    answered_next (ReturnValue cell) v under others well = callers_next p s.callers _ v (callers_in_frame s.callers s (push cell s.current) refl) under others
+    answered_next (CallServer asked) v under others well = asking_led asked place s v under others well.1
+        (g.asks asked place p s v known.methods under.sound well.0)
+    answered_next Aborted v under others well =
+        callers_next p (frames_without_dead v.heap.now.top s).callers (GoesOn (frames_without_dead v.heap.now.top s)) v refl
+        (record {
+          sound = under.sound;
+          steady = under.steady;
+          known = buried_known v.heap.now.top s.callers v under.known;
+          environment = under.environment;
+        }) others
+
+    after_next : (result : Result NativeResult FrameExit) (v : MemoryState) → IsReady s.callers result v
+        → AllResults (after_native result place p s v) v (IsSoundNext p)
+    unfolding IsReady
+    after_next (Ok answer) v is = answered_next answer v is.0 is.1 is.2
+    after_next (Err (stop.Throw e)) v is = machine_like p s.callers s.current.origin _ v refl refl is.0 (λ code. is.1)
+    after_next (Err (stop.End o)) v is = tt
+
+  module _ (known : AreKnown p) (i : InvokeOp) (c : MethodCall) (place : ℕ) (s : Frames) (m : MemoryState) (machine : IsSoundMachine p s m)
+      (home : s.current.origin.package_number == 0 ≡ false) (chose : method_selection i p s m ≡ Ok c) where
+    module _ (method : PlatformMethod) (is : c.method ≡ Native method) where
+      rest : Frames
+      rest = with_stack s (drop c.arguments s.current.stack)
+
+      called_due : (args : List Cell) → arguments_on c.arguments s.current.stack ≡ Some args → AllDue (IsFit p) (native_call method args p m) m
+      called_due args are = g.calls.natively i c method args p s m known.classes known.aids known.methods machine home chose is are
+
+      called_ready : (args : List Cell) → arguments_on c.arguments s.current.stack ≡ Some args → AllResults (native_call method args p m) m (IsReady s.callers)
+      called_ready args are = each_ready s.callers m machine.callers (machine.code home) (native_call method args p m) m (called_due args are)
+          (g.natives method args p m known.classes known.aids machine.sound machine.steady
+          (g.receivers i c method args p s m known.classes known.methods machine home chose is are)) machine.sound machine.environment
+
+      natively_due : AllDue (IsFit p) (native_invoke method c.arguments place p s m) m
+      unfolding native_invoke rest
+      natively_due = due_if (IsFit p) m (c.arguments == argument_cells method) _ _
+          (λ on. due_some (IsFit p) m (arguments_on c.arguments s.current.stack) _ (λ args are.
+          due_bind (IsFit p) (λ result v. after_native result place p rest v) (native_call method args p m) m (called_due args are)
+          (each_more (IsReady s.callers) (λ result v. AllDue (IsFit p) (after_native result place p rest v) v) (after_due known place rest)
+          (native_call method args p m) m (called_ready args are))))
+          (λ off. tt)
+
+      natively_led : IsLed p (native_invoke method c.arguments place p s m) m
+      unfolding native_invoke rest
+      natively_led = led_if p m (c.arguments == argument_cells method) _ _
+          (λ on. led_some p m (arguments_on c.arguments s.current.stack) _ (λ args are due.
+          each_bind (IsSoundNext p) (λ result v. after_native result place p rest v) (native_call method args p m) m
+          (each_more (IsReady s.callers) (λ result v. AllResults (after_native result place p rest v) v (IsSoundNext p)) (after_next known place rest)
+          (native_call method args p m) m (called_ready args are))))
+          (λ off due. tt)
+
+    made_due : (method : Method) → c.method ≡ method → AllDue (IsFit p) (invoke_selected method c place p s m) m
+    made_due (Code number offset) is = g.calls.entered i c number offset place p s m known.classes known.aids known.methods machine home chose is
+    made_due (Native method) is = natively_due method is
+
+    made_led : (method : Method) → c.method ≡ method → IsLed p (invoke_selected method c place p s m) m
+    made_led (Code number offset) is = entering_led _ (record { place = place; kind = Instruction }) s m (under_of p s m machine) (machine.code home)
+        (chosen_others p m s known.platform machine.environment i c number offset is chose)
+    made_led (Native method) is = natively_led method is
+
+  pub invoked_due : AreKnown p → (i : InvokeOp) (place : ℕ) (s : Frames) (m : MemoryState) → IsSoundMachine p s m → s.current.origin.package_number == 0 ≡ false
+      → AllDue (IsFit p) (invoke_instruction i place p s m) m
+  unfolding invoke_instruction
+  invoked_due known i place s m machine home = due_ok (IsFit p) m s (method_selection i p s m) _
+      (λ c chose. made_due known i c place s m machine home chose c.method refl)
+
+  pub invoked_led : AreKnown p → (i : InvokeOp) (place : ℕ) (s : Frames) (m : MemoryState) → IsSoundMachine p s m → s.current.origin.package_number == 0 ≡ false
+      → IsLed p (invoke_instruction i place p s m) m
+  unfolding invoke_instruction
+  invoked_led known i place s m machine home = led_ok p m s (method_selection i p s m) _ (under_of p s m machine) machine.code
+      (λ c chose. made_led known i c place s m machine home chose c.method refl)

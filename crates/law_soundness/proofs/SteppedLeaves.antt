@@ -1,0 +1,138 @@
+-- Returns and exceptions leave a sound machine: a caller goes on, for whom it ran before.
+use Rattle.std.proofs.Common.{◌≡◌, ℕ, Bool, true, false, List, [], ◌∷◌, Option, Some, None, refl, arith, if◌then◌else◌}
+use Rattle.std.proofs.lemmas.Bool.{eqb-true}
+use Rattle.std.specs.Prelude.{ℤ, ◌==◌, ◌%◌, nat_lt, slice_index}
+use Rattle.jc_transient.specs.declared.cell.CellValue.TheVariants.{Short}
+use Rattle.jc_memory.specs.declared.registers.Owner.TheVariants.{Runtime, Applet, Package}
+use Rattle.jc_memory.specs.Cells.{header_at}
+use Rattle.jc_memory.specs.Programs.{Program}
+use Rattle.jc_memory.specs.Owners.{owner_number, owner_of}
+use Rattle.jc_memory.specs.State.{MemoryState, SetTransient, SetRegisters, apply_effect}
+use Rattle.jc_platform.specs.declared.names.PlatformClass.TheVariants.{Throwable}
+use Rattle.jc_platform.specs.Distinct.{class_word}
+use Rattle.jc_linker.specs.Values.{Packages}
+use Rattle.jc_firewall.specs.declared.access.Access.TheVariants.{Throw}
+use Rattle.jc_opcodes.specs.declared.instr.ReturnOp.{ReturnOp}
+use Rattle.jc_frames.specs.declared.cell.Cell.{Cell}
+use Rattle.jc_frames.specs.declared.cell.Cell.TheVariants.{Reference}
+use Rattle.jc_frames.specs.declared.method.CallKind.{CallKind}
+use Rattle.jc_frames.specs.declared.method.CallKind.TheVariants.{Instruction, ShareableRequest}
+use Rattle.jc_frames.specs.declared.method.ReturnPoint.{ReturnPoint}
+use Rattle.jc_frames.specs.declared.outcome.Exception.{Exception}
+use Rattle.jc_frames.specs.Calls.{frames_after_return, frames_with_result}
+use Rattle.jc_frames.specs.Cells.{reference_on}
+use Rattle.jc_frames.specs.Frames.{Caller, Frame, Frames, Next, push, with_stack}
+use Rattle.jc_frames.specs.ReturnOps.{returned_cell}
+use Rattle.jc_world.specs.Contexts.{firewall_check}
+use Rattle.jc_world.specs.Objects.{check_or_fault, is_instance_of, object_at}
+use Rattle.jc_interp_calls.specs.declared.catch.HandlerResult.{HandlerResult}
+use Rattle.jc_interp_calls.specs.declared.catch.HandlerResult.TheVariants.{Caught, NotCaught, CodeFault}
+use Rattle.jc_interp_calls.specs.Catching.{catch_in_method}
+use Rattle.jc_interp_calls.specs.MethodReturn.{registers_of_caller, return_to_caller, method_return}
+use Rattle.jc_interp_calls.specs.Throwing.{has_reason_cell, handler_entry, or_thrown_above, caller_unwind, number_of, callers_unwind, reason_of}
+use Rattle.jc_interp_calls.specs.Throwing.{exception_throw, athrow, object_unwind, unwind, with_reason}
+use Rattle.law_soundness.specs.Fit.{IsFit}
+use Rattle.law_soundness.specs.Soundness.{IsSoundNext}
+use Rattle.law_soundness.proofs.Machines.{Given, IsLed, IsOthers, IsSoundUnder, MayRun, callers_in_frame, callers_next, led_if, led_ok, led_some, under_after}
+use Rattle.law_soundness.proofs.Machines.{within_next}
+use Rattle.law_soundness.proofs.Plain.{keeps_pushed}
+use Rattle.law_soundness.proofs.Quiet.{within_frame}
+
+-- ---- owners as numbers
+
+named_zero : (n : ℕ) (a : Bool) → n == 0 ≡ a → (b : Bool) → owner_number (if a then Runtime else
+    (if b then Applet (record { 0 = n }) else Package (record { 0 = n % 256 }))) ≡ 0 → n ≡ 0
+named_zero n true is b zero = eqb-true n 0 is
+named_zero n false is true zero = zero
+named_zero n false is false zero = absurd (omega (arith, zero))
+
+-- only the runtime environment has number 0
+pub owner_zero : (n : ℕ) → owner_number (owner_of n) ≡ 0 → n ≡ 0
+owner_zero n zero = named_zero n (n == 0) refl (nat_lt n 256) zero
+
+module _ (g : Given) (p : Packages) where
+  -- ---- returns
+
+  -- the registers turn back to a caller's
+  back_under : (resume : ReturnPoint) (callers : List Caller) (m : MemoryState) → IsFit p (SetRegisters (registers_of_caller resume m.registers)) m
+      → IsSoundUnder p callers m → IsSoundUnder p callers (apply_effect (SetRegisters (registers_of_caller resume m.registers)) m)
+  back_under resume callers m fit under = under_after g p (SetRegisters (registers_of_caller resume m.registers)) callers m fit refl under
+
+  back_others : (resume : ReturnPoint) (m : MemoryState) → (resume.active ≡ 0 → ⊥)
+      → IsOthers (apply_effect (SetRegisters (registers_of_caller resume m.registers)) m)
+  back_others resume m some zero = some (owner_zero resume.active zero)
+
+  -- without the nearest caller
+  under_rest : (c : Caller) (callers : List Caller) (m : MemoryState) → IsSoundUnder p (c ∷ callers) m → IsSoundUnder p callers m
+  under_rest c callers m under = record { sound = under.sound; steady = under.steady; known = under.known.2; environment = under.environment }
+
+  back_led : (value : Option Cell) (callers : List Caller) (m : MemoryState) → IsSoundUnder p callers m
+      → IsLed p (return_to_caller value (frames_after_return callers) m) m
+  back_led value [] m under due = tt
+  back_led value (c ∷ callers) m under due =
+      callers_next p callers _ _ (callers_in_frame callers (record { current = c.frame; callers = callers })
+      (frames_with_result c.resume.call value c.frame) refl)
+      (back_under c.resume callers m due.0 (under_rest c callers m under)) (back_others c.resume m under.known.1)
+
+  pub returning_led : (how : ReturnOp) (s : Frames) (m : MemoryState) → IsSoundUnder p s.callers m → IsLed p (method_return how s m) m
+  unfolding method_return
+  returning_led how s m under = led_some p m (returned_cell how s.current.stack) _ (λ value there. back_led value s.callers m under)
+
+  -- ---- exceptions
+
+  caught_led : (m : MemoryState) (c : HandlerResult) (go : ℕ → Program (Next Frames)) (above : Program (Next Frames)) → ((t : ℕ) → IsLed p (go t) m)
+      → IsLed p above m → IsLed p (or_thrown_above c go above) m
+  caught_led m (Caught target) go above on off = on target
+  caught_led m NotCaught go above on off = off
+  caught_led m CodeFault go above on off = λ due. tt
+
+  passed_led : (m : MemoryState) (kind : CallKind) (s : Frames) (more : Program (Next Frames)) → IsSoundUnder p s.callers m → IsOthers m → IsLed p more m
+      → IsLed p (caller_unwind kind s more) m
+  passed_led m Instruction s more under others led = led
+  passed_led m ShareableRequest s more under others led = λ due. callers_next p s.callers _ m
+      (callers_in_frame s.callers s (push (Reference 0) s.current) refl) under others
+
+  -- a handler goes on in its own method
+  handled_led : (r target : ℕ) (callers : List Caller) (f : Frame) (m : MemoryState) → IsSoundUnder p callers m → MayRun f.origin m
+      → IsSoundNext p (handler_entry r target callers f) m
+  handled_led r target callers f m under may =
+      within_next p callers f.origin _ m (within_frame (record { current = f; callers = callers }) _
+      (keeps_pushed (Reference r) (record f { stack = []; place = target }))) under may
+
+  on_led : (class r : ℕ) (callers : List Caller) (m : MemoryState) → IsSoundUnder p callers m → IsLed p (callers_unwind p class r callers m) m
+  on_led class r [] m under due = tt
+  on_led class r (c ∷ callers) m under due =
+      let back = back_under c.resume callers m due.0 (under_rest c callers m under) in
+      let others = back_others c.resume m under.known.1 in
+      passed_led (apply_effect (SetRegisters (registers_of_caller c.resume m.registers)) m) c.resume.call
+      (record { current = c.frame; callers = callers }) _ back others
+      (caught_led _ (catch_in_method p class c.frame.origin c.resume.place) _ _ (λ target u. handled_led r target callers c.frame _ back (λ code. others))
+      (on_led class r callers _ back)) due.1
+
+  unwound_led : (class r place : ℕ) (s : Frames) (m : MemoryState) → IsSoundUnder p s.callers m → MayRun s.current.origin m
+      → IsLed p (unwind p class r place s m) m
+  unfolding unwind
+  unwound_led class r place s m under may = caught_led m (catch_in_method p class s.current.origin place) _ _
+      (λ target u. handled_led r target s.callers s.current m under may) (on_led class r s.callers m under)
+
+  unwinding_led : (r place : ℕ) (s : Frames) (m : MemoryState) → IsSoundUnder p s.callers m → MayRun s.current.origin m
+      → IsLed p (object_unwind r place p s m) m
+  unfolding object_unwind
+  unwinding_led r place s m under may = led_some p m (header_at m r) _ (λ f there. unwound_led f.class r place s m under may)
+
+  pub throwing_led : (place : ℕ) (s : Frames) (m : MemoryState) → IsSoundUnder p s.callers m → MayRun s.current.origin m → IsLed p (athrow place p s m) m
+  unfolding athrow
+  throwing_led place s m under may = led_some p m (reference_on s.current.stack) _ (λ top taken. led_ok p m s (object_at m top.0) _ under may (λ f there.
+      led_ok p m s (check_or_fault (is_instance_of p f (class_word p.platform Throwable))) _ under may
+      (λ u is. led_ok p m s (firewall_check Throw p m f) _ under may (λ v fine. unwinding_led top.0 place (with_stack s top.1) m under may))))
+
+  reason_led : (m : MemoryState) (reason : Option ℤ) (r place : ℕ) (s : Frames) → IsSoundUnder p s.callers m → MayRun s.current.origin m
+      → IsLed p (with_reason reason r place p s m) m
+  reason_led m None r place s under may = unwinding_led r place s m under may
+  reason_led m (Some v) r place s under may = led_some p m (header_at m r) _ (λ f there. led_if p m (has_reason_cell f) _ _
+      (λ on due. unwinding_led r place s _ (under_after g p (SetTransient r 0 (Short v ∷ [])) s.callers m tt tt under) may due.1) (λ off due. tt))
+
+  pub thrown_led : (e : Exception) (place : ℕ) (s : Frames) (m : MemoryState) → IsSoundUnder p s.callers m → MayRun s.current.origin m
+      → IsLed p (exception_throw e place p s m) m
+  unfolding exception_throw
+  thrown_led e place s m under may = reason_led m (reason_of e) (slice_index m.fixed (number_of e)) place s under may

@@ -1,0 +1,88 @@
+-- Calls of JCSystem: what is still, and who is asked.
+use Rattle.std.proofs.Common.{◌≡◌, ℕ, ◌+◌, ◌≤◌, Bool, true, false, List, Option, Some, None, refl, ap, arith, if◌then◌else◌}
+use Rattle.std.proofs.lemmas.Bool.{and_parts, le-leb, leb-true, ltb-true, or_left, or_right}
+use Rattle.std.proofs.lemmas.Option.{none-some}
+use Rattle.std.specs.Option.{option_and_then, option_map}
+use Rattle.std.specs.Prelude.{ℤ, ◌==◌, nat_le, nat_lt}
+use Rattle.jc_heap.specs.declared.object.Facts.{Facts}
+use Rattle.jc_heap.specs.declared.object.Kind.{Kind}
+use Rattle.jc_heap.specs.declared.place.AppletEntry.{AppletEntry}
+use Rattle.jc_frames.specs.declared.cell.Cell.{Cell}
+use Rattle.jc_memory.specs.declared.registers.AppletNumber.{AppletNumber}
+use Rattle.jc_memory.specs.declared.registers.Registers.{Registers}
+use Rattle.jc_memory.specs.State.{MemoryState}
+use Rattle.jc_memory.specs.Cells.{header_at}
+use Rattle.jc_memory.specs.Making.{creation_refusal}
+use Rattle.jc_memory.specs.Reading.{AllResults}
+use Rattle.jc_linker.specs.Values.{Packages}
+use Rattle.jc_platform.specs.declared.names.PlatformClass.TheVariants.{Aid}
+use Rattle.jc_platform.specs.Distinct.{class_word}
+use Rattle.jc_registry.specs.Aids.{aid_at}
+use Rattle.jc_registry.specs.Registry.{applet_count, applet_entry, applet_with_aid, instance_of_applet, is_applet}
+use Rattle.jc_world.specs.Objects.{is_instance_of, reference_argument, short_argument}
+use Rattle.jc_world.specs.Arrays.{bytes_argument, elements_of}
+use Rattle.jc_api_runtime.specs.SystemSharing.{jc_system_lookup_aid, server_call_result, server_call_by_aid, server_call_if_known}
+use Rattle.jc_api_runtime.specs.SystemSharing.{jc_system_get_applet_shareable_interface_object}
+use Rattle.jc_api_runtime.specs.SystemTransient.{jc_system_make_transient_array, jc_system_is_transient, requested_array}
+use Rattle.law_soundness.specs.State.{IsSteady, is_open, is_owner_up_to, most_owner}
+use Rattle.law_soundness.specs.Calls.{IsCallResult}
+use Rattle.law_soundness.proofs.Leaving.{left_if, left_some, stays}
+use Rattle.law_soundness.proofs.Still.{AsksNone, IsStillCall, still_if, still_makes_new, still_ok, still_some, still_unless}
+
+module _ (g : Registers) (args : List Cell) (p : Packages) (m : MemoryState) where
+  pub array_still : (kind : Kind) → IsStillCall g (jc_system_make_transient_array kind args p m)
+  unfolding jc_system_make_transient_array
+  array_still kind = still_some g (short_argument args 0) _ (λ count. still_some g (short_argument args 1) _
+      (λ event. still_ok g (requested_array kind count event p m) _ (λ o.
+      still_unless g (creation_refusal m o) _ (still_makes_new g AsksNone o _ (λ r. tt)))))
+
+  pub event_still : IsStillCall g (jc_system_is_transient args m)
+  unfolding jc_system_is_transient
+  event_still = still_some g (reference_argument args 0) _ (λ r. still_if g AsksNone (r == 0) _ _ tt (still_some g (header_at m r) _ (λ f. tt)))
+
+  pub looked_up_still : IsStillCall g (jc_system_lookup_aid args p m)
+  unfolding jc_system_lookup_aid
+  looked_up_still = still_some g (reference_argument args 0) _ (λ array. still_some g (short_argument args 1) _
+      (λ start. still_some g (short_argument args 2) _ (λ count.
+      still_ok g (bytes_argument m array) _ (λ argument. still_ok g (elements_of p m array argument start count) _ (λ e. tt)))))
+
+-- an applet of which there is an instance is there
+entered_in : (b : Bool) (n server : ℕ) (e : AppletEntry) → option_map (λ x. x.instance) (if b then Some e else None) ≡ Some server → b ≡ true
+entered_in true n server e is = refl
+entered_in false n server e is = absurd (none-some server is)
+
+module _ (m : MemoryState) (steady : IsSteady m) where
+  most_in : (b : Bool) (counts durable : ℕ) → counts ≡ durable → counts ≤ (if b then durable + 1 else counts)
+  most_in true counts durable same = omega (arith, same)
+  most_in false counts durable same = omega arith
+
+  server_known : (n server : ℕ) → instance_of_applet m.heap.now n ≡ Some server → (is_owner_up_to (most_owner m) m.heap.now n ≡ true) × (n ≡ 0 → ⊥)
+  unfolding applet_entry
+  server_known n server is =
+      let there : is_applet m.heap.now n ≡ true = entered_in (is_applet m.heap.now n) n server _ is in
+      let parts = and_parts (nat_lt 0 n) (nat_le n (applet_count m.heap.now)) there in
+      let some = ltb-true 0 n parts.0 in
+      let few = leb-true n (applet_count m.heap.now) parts.1 in
+      let most = most_in (is_open m.registers.installation) m.heap.now.counts.1 m.heap.durable.counts.1 (ap (λ c. c.1) steady.counts) in
+      let low : n ≤ most_owner m = omega (arith, few, most) in
+      (or_right (n == 0) _ (or_left (nat_le n (most_owner m)) _ (le-leb n (most_owner m) low)), λ zero. omega (arith, some, zero))
+
+  asked_left : (parameter : ℤ) (n : AppletNumber) (server : Option ℕ) → instance_of_applet m.heap.now n.0 ≡ server
+      → AllResults (server_call_result m parameter n server) m (IsCallResult m)
+  asked_left parameter n None is = (stays m steady, tt)
+  asked_left parameter n (Some server) is = (stays m steady, server_known n.0 server is)
+
+  known_left : (parameter : ℤ) (n : Option AppletNumber) → AllResults (server_call_if_known m parameter n) m (IsCallResult m)
+  known_left parameter None = (stays m steady, tt)
+  known_left parameter (Some n) = asked_left parameter n (instance_of_applet m.heap.now n.0) refl
+
+  asked_by_left : (p : Packages) (aid : ℕ) (parameter : ℤ) (f : Facts) → AllResults (server_call_by_aid p m aid parameter f) m (IsCallResult m)
+  asked_by_left p aid parameter f =
+      left_if m (is_instance_of p f (class_word p.platform Aid)) _ _ (λ on. known_left parameter
+      (option_and_then (λ bytes. applet_with_aid m bytes) (aid_at m aid))) (λ off. tt)
+
+  pub server_left : (args : List Cell) (p : Packages) → AllResults (jc_system_get_applet_shareable_interface_object args p m) m (IsCallResult m)
+  unfolding jc_system_get_applet_shareable_interface_object
+  server_left args p = left_some m (reference_argument args 0) _ (λ aid is. left_some m (short_argument args 1) _ (λ parameter there.
+      left_if m (aid == 0) _ _ (λ on. (stays m steady, tt)) (λ off. left_some m (header_at m aid) (server_call_by_aid p m aid parameter)
+      (λ f found. asked_by_left p aid parameter f))))

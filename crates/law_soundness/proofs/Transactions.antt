@@ -1,0 +1,84 @@
+-- Transactions of JCSystem: one that begins or ends, which that of an installation never does.
+use Rattle.std.proofs.Common.{◌≡◌, ℕ, ◌+◌, false, refl, sym, ◌∙◌, ap, if◌then◌else◌}
+use Rattle.std.proofs.lemmas.Bool.{both_ways, cond-false}
+use Rattle.jc_heap.specs.Moves.{Begin, Commit, Abort}
+use Rattle.jc_memory.specs.declared.registers.Depth.{Depth}
+use Rattle.jc_memory.specs.declared.registers.Depth.TheVariants.{Outside, Inside}
+use Rattle.jc_memory.specs.declared.registers.Installation.{Installation}
+use Rattle.jc_memory.specs.declared.registers.Installation.TheVariants.{Idle, Open, Registered}
+use Rattle.jc_memory.specs.State.{MemoryState, NullDead, HeapMove, apply_effect}
+use Rattle.jc_memory.specs.Reading.{AllResults}
+use Rattle.jc_linker.specs.Values.{Packages}
+use Rattle.jc_api_runtime.specs.SystemTransactions.{jc_system_abort_transaction, after_abort, jc_system_begin_transaction, jc_system_commit_transaction}
+use Rattle.jc_api_runtime.specs.SystemTransactions.{commit_of_applet, set_level}
+use Rattle.law_soundness.specs.State.{IsSoundMemory, IsSteady, is_open}
+use Rattle.law_soundness.specs.Calls.{IsCallResult, IsReadyAgain}
+use Rattle.law_soundness.proofs.Leaving.{left_if, same_owners, stays}
+
+module _ (p : Packages) (m : MemoryState) (sound : IsSoundMemory p m) (steady : IsSteady m) where
+  -- the level alone is set
+  level_set : (depth : Depth) → IsReadyAgain m (apply_effect (set_level m depth) m)
+  level_set depth = record { steady = record { counts = steady.counts; begun = steady.begun }; owners = same_owners m _ refl refl; active = refl }
+
+  -- a transaction begins
+  abbrev begun_now : MemoryState
+  begun_now = apply_effect (set_level m Inside) (apply_effect (HeapMove Begin) m)
+
+  begun_again : IsReadyAgain m begun_now
+  begun_again = record {
+    steady = record { counts = refl; begun = λ on. refl };
+    owners = same_owners m begun_now refl (ap (λ c. if is_open m.registers.installation then c.1 + 1 else m.heap.now.counts.1) steady.counts);
+    active = refl;
+  }
+
+  pub begun_left : (depth : Depth) → AllResults (jc_system_begin_transaction depth m) m (IsCallResult m)
+  begun_left Inside = stays m steady
+  begun_left Outside = left_if m m.heap.begun _ _ (λ on. (level_set Inside, tt)) (λ off. (begun_again, tt))
+
+  -- one ends, outside an installation
+  module _ (closed : is_open m.registers.installation ≡ false) where
+    same_most : (x y z : ℕ) → z ≡ y → (if is_open m.registers.installation then x else z)
+        ≡ (if is_open m.registers.installation then m.heap.durable.counts.1 + 1 else y)
+    same_most x y z same = cond-false (is_open m.registers.installation) x z closed ∙ same
+        ∙ sym (cond-false (is_open m.registers.installation) (m.heap.durable.counts.1 + 1) y closed)
+
+    abbrev committed_now : MemoryState
+    committed_now = apply_effect (set_level m Outside) (apply_effect (HeapMove Commit) m)
+
+    committed_again : IsReadyAgain m committed_now
+    committed_again = record {
+      steady = record { counts = refl; begun = λ on. absurd (both_ways (is_open m.registers.installation) closed on) };
+      owners = same_owners m committed_now refl (same_most _ m.heap.now.counts.1 _ refl);
+      active = refl;
+    }
+
+    abbrev aborted_now : MemoryState
+    aborted_now = apply_effect (set_level m Outside) (apply_effect NullDead (apply_effect (HeapMove Abort) m))
+
+    aborted_again : IsReadyAgain m aborted_now
+    aborted_again = record {
+      steady = record { counts = refl; begun = λ on. absurd (both_ways (is_open m.registers.installation) closed on) };
+      owners = same_owners m aborted_now (sym sound.packages) (same_most _ m.heap.now.counts.1 _ (ap (λ c. c.1) (sym steady.counts)));
+      active = refl;
+    }
+
+  committed_in_left : (installation : Installation) → m.registers.installation ≡ installation → AllResults (commit_of_applet installation m) m (IsCallResult m)
+  committed_in_left (Open home entry) is = (level_set Outside, tt)
+  committed_in_left Idle is = left_if m m.heap.begun _ _ (λ on. (committed_again (ap is_open is), tt)) (λ off. (level_set Outside, tt))
+  committed_in_left (Registered home) is = left_if m m.heap.begun _ _ (λ on. (committed_again (ap is_open is), tt)) (λ off. (level_set Outside, tt))
+
+  pub committed_left : (depth : Depth) → AllResults (jc_system_commit_transaction depth m) m (IsCallResult m)
+  committed_left Outside = stays m steady
+  committed_left Inside = committed_in_left m.registers.installation refl
+
+  -- in an installation the run ends
+  after_left : (installation : Installation) → m.registers.installation ≡ installation → (v : MemoryState)
+      → (is_open m.registers.installation ≡ false → IsReadyAgain m v) → AllResults (after_abort installation) v (IsCallResult m)
+  after_left Idle is v stands = (stands (ap is_open is), tt)
+  after_left (Open home entry) is v stands = tt
+  after_left (Registered home) is v stands = (stands (ap is_open is), tt)
+
+  pub aborted_left : (depth : Depth) → AllResults (jc_system_abort_transaction depth m) m (IsCallResult m)
+  aborted_left Outside = stays m steady
+  aborted_left Inside = left_if m m.heap.begun _ _ (λ on. after_left m.registers.installation refl _ aborted_again)
+      (λ off. after_left m.registers.installation refl _ (λ closed. level_set Outside))

@@ -1,0 +1,41 @@
+-- What calls of the platform's methods leave: a memory between two instructions.
+use Rattle.std.specs.Prelude.{◌≡◌, true, List, Result, Ok, Err}
+use Rattle.jc_frames.specs.declared.cell.Cell.{Cell}
+use Rattle.jc_frames.specs.declared.outcome.FrameExit.{FrameExit}
+use Rattle.jc_frames.specs.declared.outcome.FrameExit.TheVariants.{Throw, End}
+use Rattle.jc_frames.specs.Frames.{Caller}
+use Rattle.jc_memory.specs.State.{MemoryState}
+use Rattle.jc_memory.specs.Reading.{AllResults}
+use Rattle.jc_platform.specs.declared.names.PlatformMethod.{PlatformMethod}
+use Rattle.jc_linker.specs.Values.{Packages}
+use Rattle.jc_world.specs.declared.native_result.NativeResult.{NativeResult}
+use Rattle.jc_world.specs.declared.native_result.NativeResult.TheVariants.{ReturnVoid, ReturnValue, CallServer, Aborted}
+use Rattle.jc_interp.specs.Natives.{native_call}
+use Rattle.law_soundness.specs.Classes.{HasAids, KnowsClasses}
+use Rattle.law_soundness.specs.State.{IsSoundMemory, IsSteady, is_owner_up_to, most_owner}
+use Rattle.law_soundness.specs.Natives.{IsReceiver}
+use Rattle.law_soundness.specs.Machines.{KnowOwners}
+
+-- the new memory stands as between two instructions; for whom callers ran is there, where it was before; code runs for the same owner
+pub record IsReadyAgain (m n : MemoryState) : Type 0 where
+  pub steady : IsSteady n
+  pub owners : (callers : List Caller) → KnowOwners callers m → KnowOwners callers n
+  pub active : n.registers.active ≡ m.registers.active
+
+-- and a server that is to be asked is an applet that is there
+abbrev pub AnswersWell : NativeResult → MemoryState → Type 0
+AnswersWell ReturnVoid n = Unit {0}
+AnswersWell (ReturnValue cell) n = Unit {0}
+AnswersWell (CallServer asked) n = (is_owner_up_to (most_owner n) n.heap.now asked.owner.0 ≡ true) × (asked.owner.0 ≡ 0 → ⊥)
+AnswersWell Aborted n = Unit {0}
+
+-- how a call leaves the memory, unless it ends the run
+abbrev pub IsCallResult : MemoryState → Result NativeResult FrameExit → MemoryState → Type 0
+IsCallResult m (Ok answer) n = IsReadyAgain m n × AnswersWell answer n
+IsCallResult m (Err (Throw e)) n = IsReadyAgain m n
+IsCallResult m (Err (End o)) n = Unit {0}
+
+-- so each call of a method of the platform leaves a sound memory
+abbrev pub NativesLeave : Type 0
+NativesLeave = (method : PlatformMethod) (args : List Cell) (p : Packages) (m : MemoryState) → KnowsClasses p → HasAids p → IsSoundMemory p m → IsSteady m
+    → IsReceiver p m method args → AllResults (native_call method args p m) m (IsCallResult m)

@@ -1,0 +1,15 @@
+pub mod State
+pub mod Fit
+pub mod Classes
+pub mod Environment
+pub mod Methods
+pub mod Platform
+pub mod Groups
+pub mod Natives
+pub mod Machines
+pub mod LocalEffects
+pub mod Steps
+pub mod Calls
+pub mod Soundness
+pub mod Commands
+pub mod OwnerPinLaws

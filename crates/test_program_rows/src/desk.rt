@@ -1,0 +1,157 @@
+//! What rows are told to: the program over the files of its folder, and new cards for scripts.
+//!
+//! `jcard WORDS`                 the program with these words: its exit status, and behind `: ` the lines that it printed
+//! `script TEXT`                 a script on a new card: how it ended, and what it printed
+//! `conversation`                a script of which each line is asked when the one before is answered
+//! `reader MANNER`, `writer MANNER`
+//!                               how scripts come and answers go from now on: `is in memory`, `is steady`, `hesitates`, `is broken`,
+//!                               `is interrupted`, `is idle`, `fails at call N`
+//! `room N`                      how many bytes of answers there is room for
+//! `file NAME TEXT`, `table NAME [SIZE]`, `fill NAME COUNT WORD`, `copy NAME OTHER`, `put NAME PLACE WORDS`
+//!                               a file of a text, of the example of a platform table, of words; a copy; words that are changed
+//! `same NAME OTHER`, `there NAME`
+//!                               whether two files have the same bytes, and whether one is there
+//!
+//! A text is one piece in double quotes or several, each so often as `N times` before it says, with `\n`, `\r`, `\t`, `\s`.
+use crate::card::run_on_new_card;
+use crate::conversation::{Asker, Listener};
+use crate::files;
+use crate::printed::told;
+use crate::stream::{Manner, Stream, manner_of};
+use crate::text::{known, text_of, words_of};
+use jcard_commands::disk::Disk;
+use jcard_commands::run::run_words;
+use jcard_script::mem_text::MemText;
+use jcard_script::script::ScriptFault;
+use jcard_script::std_text::StdText;
+use jcard_script::streams::TextIn;
+use std::alloc::{AllocError, Global};
+use std::cell::Cell;
+use std::fs::File;
+use std::io::{self, ErrorKind};
+use std::rt::Files;
+use test_row_files::subject::FileSubject;
+
+/// How the next program or script is run.
+#[derive(Drop)]
+pub struct Desk {
+    reader: Manner,
+    writer: Manner,
+    room: usize,
+}
+
+impl FileSubject for Desk {
+    fn begin(_alloc: Global) -> Result<Self, AllocError> {
+        Ok(Desk {
+            reader: Manner::Memory,
+            writer: Manner::Memory,
+            room: 10_000,
+        })
+    }
+
+    fn answer<R: Files<File = File> + AllocGlobal>(
+        &mut self,
+        rt: &R,
+        command: &str,
+    ) -> io::Result<String> {
+        match self.carry_out(rt, command) {
+            Err(error) if error.kind() != ErrorKind::OutOfMemory => {
+                Ok(format!(in rt.alloc(); "{error}")?)
+            }
+            answer => answer,
+        }
+    }
+}
+
+impl Desk {
+    /// Carries a command out.
+    fn carry_out<R: Files<File = File> + AllocGlobal>(
+        &mut self,
+        rt: &R,
+        command: &str,
+    ) -> io::Result<String> {
+        let (verb, rest) = command.split_once(' ').unwrap_or((command, ""));
+        match verb {
+            "jcard" => self.run_program(rt, command),
+            "script" => self.run_script(rt.alloc(), text_of(rt.alloc(), rest)?.as_bytes()),
+            "conversation" => converse(rt.alloc()),
+            "room" | "reader" | "writer" => {
+                self.set(verb, rest)?;
+                Ok(String::from_str(rt.alloc(), "ok")?)
+            }
+            _ => {
+                let (name, rest) = rest.split_once(' ').unwrap_or((rest, ""));
+                files::answer(rt, verb, name, rest)
+            }
+        }
+    }
+
+    /// Runs the program with these words: the exit status, and what it printed.
+    fn run_program<R: Files<File = File> + AllocGlobal>(
+        &self,
+        rt: &R,
+        words: &str,
+    ) -> io::Result<String> {
+        let words = words_of(rt.alloc(), words)?;
+        let mut out = MemText::new(rt.alloc(), b"", self.room)?;
+        let status = run_words(&mut Disk::new(rt), words.as_slice(), &mut out);
+        Ok(told(rt.alloc(), status, out.written())?)
+    }
+
+    /// Changes how the next program or script is run.
+    fn set(&mut self, verb: &str, rest: &str) -> io::Result<()> {
+        match verb {
+            "room" => self.room = known(rest.parse::<usize>().ok())?,
+            "reader" => self.reader = known(manner_of(rest))?,
+            "writer" => self.writer = known(manner_of(rest))?,
+            _ => known(None)?,
+        }
+        Ok(())
+    }
+
+    /// Carries a script out, over the reader that was set.
+    fn run_script(&self, alloc: Global, script: &[u8]) -> io::Result<String> {
+        match self.reader {
+            Manner::Memory => self.run_from(alloc, &mut MemText::new(alloc, script, 0)?),
+            manner => {
+                let mut reader = StdText::new(Stream::new(alloc, script, manner));
+                self.run_from(alloc, &mut reader)
+            }
+        }
+    }
+
+    /// Carries out what a reader gives, over the writer that was set.
+    fn run_from<I: TextIn>(&self, alloc: Global, reader: &mut I) -> io::Result<String> {
+        match self.writer {
+            Manner::Memory => {
+                let mut writer = MemText::new(alloc, b"", self.room)?;
+                let ended = run_on_new_card(alloc, reader, &mut writer)?;
+                ended_with(alloc, ended, writer.written())
+            }
+            manner => {
+                let mut stream = Stream::new(alloc, b"", manner);
+                let ended = run_on_new_card(alloc, reader, &mut StdText::new(&mut stream))?;
+                ended_with(alloc, ended, stream.written())
+            }
+        }
+    }
+}
+
+/// Carries out what is asked in a conversation, and tells how many lines were answered.
+fn converse(alloc: Global) -> io::Result<String> {
+    let answered = Cell::new(0);
+    let mut reader = StdText::new(Asker::new(&answered));
+    let mut writer = StdText::new(Listener::new(&answered));
+    let ended = run_on_new_card(alloc, &mut reader, &mut writer)?;
+    let count = answered.get();
+    let count = format!(in alloc; "{count} answers\n")?;
+    ended_with(alloc, ended, count.as_bytes())
+}
+
+/// How a script ended, and what it printed until then.
+fn ended_with(alloc: Global, ended: Result<(), ScriptFault>, printed: &[u8]) -> io::Result<String> {
+    match ended {
+        Ok(()) => Ok(told(alloc, "done", printed)?),
+        Err(fault) => Ok(told(alloc, fault, printed)?),
+    }
+}

@@ -1,0 +1,99 @@
+//! A card with rows that are run.
+use crate::image::Image;
+use crate::order::{Order, read_order};
+use crate::piece::Piece;
+use crate::words::no_store;
+use std::alloc::{AllocError, Global};
+use std::mem;
+use test_row_files::file::Numbered;
+use test_row_files::line::{Line, read_line};
+use test_row_files::report::Wrong;
+
+/// An image, the lines of a script for its card that are not run yet, and how many rows were.
+#[derive(Drop)]
+pub(crate) struct Card {
+    image: Image,
+    piece: Piece,
+    rows: usize,
+}
+
+impl Card {
+    /// A new card of so many words.
+    pub(crate) fn new(alloc: Global, words: u16) -> Result<Card, AllocError> {
+        Ok(Card {
+            image: Image::formatted(alloc, words)?,
+            piece: Piece::new(alloc),
+            rows: 0,
+        })
+    }
+
+    /// How many rows were run.
+    pub(crate) fn rows(&self) -> usize {
+        self.rows
+    }
+
+    /// The next line of a file: a row that is not answered as it says, where one is found. A directive without its form is
+    /// a line of a script, which no card answers.
+    pub(crate) fn take_line(
+        &mut self,
+        alloc: Global,
+        line: &Numbered,
+    ) -> Result<Option<Wrong>, AllocError> {
+        let Line::Row(command, answer) = read_line(line.text.as_str()) else {
+            return Ok(None);
+        };
+        let order = read_order(command);
+        if let Order::Script = order {
+            self.piece
+                .add(line.number, command, answer.unwrap_or("9000"))?;
+            return Ok(None);
+        }
+        if let Order::Session(command) = order {
+            self.piece.tell_session(command)?;
+            return Ok(None);
+        }
+        if let Some(wrong) = self.run_piece(alloc)? {
+            return Ok(Some(wrong));
+        }
+        let Some(told) = self.carry_out(alloc, line.number, order)? else {
+            return Ok(None);
+        };
+        self.rows = self.rows.saturating_add(1);
+        let wanted = answer.unwrap_or("ok");
+        if told.as_str() == wanted {
+            return Ok(None);
+        }
+        let wrong = Wrong::new(alloc, line.number, command, wanted, told.as_str())?;
+        Ok(Some(wrong))
+    }
+
+    /// Carries an order out: what came of it, where that is to be told.
+    fn carry_out(
+        &mut self,
+        alloc: Global,
+        number: usize,
+        order: Order,
+    ) -> Result<Option<String>, AllocError> {
+        match order {
+            Order::Card(words) => self.image = Image::formatted(alloc, words)?,
+            Order::Zeros(words) => self.image = Image::zeros(alloc, words)?,
+            Order::Random(seed, count) => self.piece.add_random(alloc, number, seed, count)?,
+            Order::Image(order) => return Ok(Some(self.image.answer(alloc, order)?)),
+            Order::Session(_) | Order::Script => {}
+        }
+        Ok(None)
+    }
+
+    /// Runs the lines that were not run yet: the first that is not answered as it says.
+    pub(crate) fn run_piece(&mut self, alloc: Global) -> Result<Option<Wrong>, AllocError> {
+        if self.piece.rows() == 0 {
+            return Ok(None);
+        }
+        let piece = mem::replace(&mut self.piece, Piece::new(alloc));
+        let store = mem::replace(&mut self.image.store, no_store(alloc));
+        let (store, wrong) = piece.run(alloc, store)?;
+        self.image.store = store;
+        self.rows = self.rows.saturating_add(piece.rows());
+        Ok(wrong)
+    }
+}
