@@ -1,4 +1,5 @@
 //! The lines of a row file.
+ghost use Rattle.std.specs.Prelude.{◌≡◌, slice_index};
 
 /// What a line says.
 #[derive(Drop)]
@@ -18,7 +19,9 @@ pub enum Line<'a> {
 }
 
 /// Reads a line. What begins with `#`, or follows a ` #`, is a comment.
-pub fn read_line(line: &str) -> Line<'_> {
+pub fn read_line(line: &str) -> Line<'_>
+    ensures comment { slice_index line.now 0 ≡ 35 → result ≡ Line.Nothing }
+{
     if line.starts_with('#') {
         return Line::Nothing;
     }

@@ -1,5 +1,6 @@
 //! What is told of row files.
-ghost use Rattle.std.specs.Prelude.{◌<◌, IfOk};
+ghost use Rattle.std.specs.Prelude.{◌≡◌, ◌<◌, IfOk};
+ghost use Rattle.std.specs.String.{string_bytes};
 
 use crate::file::{Numbered, read_lines};
 use crate::line::{Line, read_line};
@@ -26,7 +27,12 @@ impl Wrong {
         command: &str,
         wanted: &str,
         told: &str,
-    ) -> Result<Wrong, AllocError> {
+    ) -> Result<Wrong, AllocError>
+        ensures number { IfOk result (λ wrong. wrong.number ≡ number) }
+        ensures command { IfOk result (λ wrong. string_bytes wrong.command ≡ command.now) }
+        ensures wanted { IfOk result (λ wrong. string_bytes wrong.wanted ≡ wanted.now) }
+        ensures told { IfOk result (λ wrong. string_bytes wrong.told ≡ told.now) }
+    {
         Ok(Wrong {
             number,
             command: String::from_str(alloc, command)?,

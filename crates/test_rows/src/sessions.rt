@@ -1,4 +1,6 @@
 //! Rows as the events of a session.
+ghost use Rattle.std.specs.Prelude.{◌≡◌, IfOk, None};
+
 use hex::FromHexError;
 use jc_session::event::{Answer, Event};
 use jc_session::session::{SessionFault, session};
@@ -11,7 +13,9 @@ pub fn run_session<S: WordStore + Drop>(
     alloc: Global,
     store: S,
     script: &str,
-) -> Result<(S, Option<String>), AllocError> {
+) -> Result<(S, Option<String>), AllocError>
+    ensures unbegun { IfOk result (λ told. told.1 ≡ None → told.0 ≡ store) }
+{
     let Some(events) = events_of(alloc, script)? else {
         return Ok((store, None));
     };
