@@ -38,9 +38,18 @@ fn of_stores(rt: HostRuntime) {
     check_texts(
         &rt,
         &[
-            (ImageFault::BadMagic, "the image does not begin with its magic word"),
-            (ImageFault::BadVersion, "the image has a version that is not known"),
-            (ImageFault::BadSize, "the image does not tell its own size, or it is too small"),
+            (
+                ImageFault::BadMagic,
+                "the image does not begin with its magic word",
+            ),
+            (
+                ImageFault::BadVersion,
+                "the image has a version that is not known",
+            ),
+            (
+                ImageFault::BadSize,
+                "the image does not tell its own size, or it is too small",
+            ),
         ],
     );
 }
@@ -68,7 +77,10 @@ fn of_files(rt: HostRuntime) {
             (FileOpenFault::CannotOpen, "the file cannot be opened"),
             (FileOpenFault::InUse, "another has the file open"),
             (FileOpenFault::CannotRead, "the file cannot be read"),
-            (FileOpenFault::BadSize, "the file has not the size of an image"),
+            (
+                FileOpenFault::BadSize,
+                "the file has not the size of an image",
+            ),
             (FileOpenFault::NoMemory, "no memory for the words"),
         ],
     );
@@ -102,16 +114,25 @@ fn of_journals_and_heaps(rt: HostRuntime) {
         &rt,
         &[
             (ChangeRefusal::StoreDown, "the store is down"),
-            (ChangeRefusal::CommitFull, "the transaction has no room for the change"),
+            (
+                ChangeRefusal::CommitFull,
+                "the transaction has no room for the change",
+            ),
         ],
     );
     check_texts(
         &rt,
         &[
             (HeapRefusal::StoreDown, "the store is down"),
-            (HeapRefusal::CommitFull, "the transaction has no room for the change"),
+            (
+                HeapRefusal::CommitFull,
+                "the transaction has no room for the change",
+            ),
             (HeapRefusal::HeapFull, "the heap is full"),
-            (HeapRefusal::NoTransientSpace, "the area of transient cells is full"),
+            (
+                HeapRefusal::NoTransientSpace,
+                "the area of transient cells is full",
+            ),
         ],
     );
 }
@@ -125,7 +146,10 @@ fn of_loads(rt: HostRuntime) {
             (CapFault::Truncated, "the component ends too early"),
             (CapFault::Trailing, "bytes stand after the component's end"),
             (CapFault::BadMagic, "the magic number is missing"),
-            (CapFault::BadVersion, "the version of the format is not known"),
+            (
+                CapFault::BadVersion,
+                "the version of the format is not known",
+            ),
             (CapFault::UsesInt, "the package uses int"),
             (CapFault::Remote, "the package has a remote interface"),
             (CapFault::SizesDisagree, "the sizes disagree"),
@@ -139,8 +163,14 @@ fn of_loads(rt: HostRuntime) {
         &rt,
         &[
             (LinkFault::ImportMissing, "an imported package is missing"),
-            (LinkFault::ImportVersion, "an imported package has another version"),
-            (LinkFault::Unresolved(300), "entry 300 of the constant pool does not resolve"),
+            (
+                LinkFault::ImportVersion,
+                "an imported package has another version",
+            ),
+            (
+                LinkFault::Unresolved(300),
+                "entry 300 of the constant pool does not resolve",
+            ),
             (LinkFault::NoMemory, "no memory"),
         ],
     );
@@ -151,7 +181,10 @@ fn of_loads(rt: HostRuntime) {
         &[
             (components, "the components are no package"),
             (PackageRefusal::AidTaken, "a package with this AID is there"),
-            (PackageRefusal::Full, "there are as many packages as there can be"),
+            (
+                PackageRefusal::Full,
+                "there are as many packages as there can be",
+            ),
             (link, "the package does not link"),
         ],
     );
@@ -167,7 +200,10 @@ fn of_loads(rt: HostRuntime) {
     check_texts(
         &rt,
         &[
-            (EndFault::Refused(LoadRefusal::HeapFull), "the package is refused"),
+            (
+                EndFault::Refused(LoadRefusal::HeapFull),
+                "the package is refused",
+            ),
             (EndFault::Down, "the store is down"),
         ],
     );
@@ -175,22 +211,37 @@ fn of_loads(rt: HostRuntime) {
 
 #[test]
 fn of_cards(rt: HostRuntime) {
-    check_texts(&rt, &[(TableFault::BadTable(65535), "bad table line 65535")]);
+    check_texts(
+        &rt,
+        &[(TableFault::BadTable(65535), "bad table line 65535")],
+    );
     check_texts(
         &rt,
         &[
             (FormatFault::StoreDown, "the store is down"),
             (FormatFault::BadSize, "an image has at least 4096 words"),
             (FormatFault::BadTable(7), "line 7 of the table is bad"),
-            (FormatFault::TooSmall, "the image is too small for the table"),
+            (
+                FormatFault::TooSmall,
+                "the image is too small for the table",
+            ),
         ],
     );
     check_texts(
         &rt,
         &[
-            (PowerFault::BadMagic, "the image does not begin with its magic word"),
-            (PowerFault::BadVersion, "the image has a version that is not known"),
-            (PowerFault::BadSize, "the image does not tell its own size, or it is too small"),
+            (
+                PowerFault::BadMagic,
+                "the image does not begin with its magic word",
+            ),
+            (
+                PowerFault::BadVersion,
+                "the image has a version that is not known",
+            ),
+            (
+                PowerFault::BadSize,
+                "the image does not tell its own size, or it is too small",
+            ),
             (PowerFault::BadLog, "the journal is damaged"),
             (PowerFault::BadTable, "the platform table is damaged"),
             (PowerFault::BadPackage, "the heap is damaged"),
@@ -206,7 +257,10 @@ fn of_sessions_and_scripts(rt: HostRuntime) {
         &rt,
         &[
             (SessionFault::NoMemory, "there is no memory for the answers"),
-            (SessionFault::PowerFault(PowerFault::BadLog), "the card does not power up"),
+            (
+                SessionFault::PowerFault(PowerFault::BadLog),
+                "the card does not power up",
+            ),
         ],
     );
     check_texts(&rt, &[(ReadFailed, "a read failed")]);
@@ -218,7 +272,10 @@ fn of_sessions_and_scripts(rt: HostRuntime) {
             (ScriptFault::WriteFailed, "an answer cannot be written"),
             (ScriptFault::BadLine(70000), "line 70000 has no form"),
             (ScriptFault::TooLong, "the script is too long"),
-            (ScriptFault::PowerFault(PowerFault::BadTable), "the card does not power up"),
+            (
+                ScriptFault::PowerFault(PowerFault::BadTable),
+                "the card does not power up",
+            ),
         ],
     );
 }

@@ -124,7 +124,11 @@ fn check_in_use<R: Files<File = File> + AllocGlobal + Abort>(
     path: &str,
 ) -> Result<(), Fail> {
     check_not_opened(rt, FileStore::open(rt, path).err(), FileOpenFault::InUse)?;
-    check_not_made(rt, FileStore::create(rt, path, 5000).err(), FileCreateFault::InUse)?;
+    check_not_made(
+        rt,
+        FileStore::create(rt, path, 5000).err(),
+        FileCreateFault::InUse,
+    )?;
     assert_eq!(rt; bytes_of(rt, path)?.len(), 8192);
     Ok(())
 }
@@ -134,7 +138,11 @@ fn check_not_read<R: Files<File = File> + AllocGlobal + Abort>(
     rt: &R,
     path: &str,
 ) -> Result<(), Fail> {
-    check_not_opened(rt, FileStore::open_to_read(rt, path).err(), FileOpenFault::InUse)
+    check_not_opened(
+        rt,
+        FileStore::open_to_read(rt, path).err(),
+        FileOpenFault::InUse,
+    )
 }
 
 #[test]
