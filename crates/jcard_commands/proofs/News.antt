@@ -11,7 +11,7 @@ use Rattle.clap.proofs.WalkLemmas.{walk_stopped}
 use Rattle.clap.proofs.FaultLemmas.{stopped_fault}
 use Rattle.jcard_commands.proofs.Runs.{no_hyphen}
 use Rattle.jcard_commands.specs.CommandLine.{IsNoFlag, CommandLineRequest, TakesNews, ToMake, new_grammar, new_of, program_grammar, request_of}
-use Rattle.jcard_commands.specs.CommandLine.{request_of_words, unless_refused}
+use Rattle.jcard_commands.specs.CommandLine.{request_of_words, unless_faulty}
 
 -- ---- the words before those of the command
 
@@ -28,7 +28,7 @@ met words = record (walk_from nothing_held) { stopped = Some (codes "new", words
 
 -- what the words are taken for, from where the walk over them ends and what it refused
 as_ended : Walk → Kinds → Option CommandLineRequest
-as_ended w refused = unless_refused (or_else refused (or_else (entered_fault whole w.stopped)
+as_ended w refused = unless_faulty (or_else refused (or_else (entered_fault whole w.stopped)
     (or_else (settle_fault whole.top.rules whole.top.args_override_self w.held) (or_else (defaults_fault (settled whole.top.rules w.held).rows whole.top.rules)
     (check_fault whole.top (finished whole.top.rules w.held) (is_some (entered whole w.stopped)))))))
     (option_and_then request_of (entered whole w.stopped))
@@ -43,9 +43,9 @@ causes_of w words = or_else (walk_fault shape [] w words) (at_end (fold (walked 
 
 -- what the words are taken for, from here on
 after : Walk → List Text → Option CommandLineRequest
-after w words = unless_refused (causes_of w words) (new_of (finished shape.rules (fold (walked shape.rules []) w words).held))
+after w words = unless_faulty (causes_of w words) (new_of (finished shape.rules (fold (walked shape.rules []) w words).held))
 
-none_more : (causes : Kinds) (asked : Option CommandLineRequest) → unless_refused (or_else causes []) asked ≡ unless_refused causes asked
+none_more : (causes : Kinds) (asked : Option CommandLineRequest) → unless_faulty (or_else causes []) asked ≡ unless_faulty causes asked
 none_more [] asked = refl
 none_more (cause ∷ causes) asked = refl
 
@@ -68,7 +68,7 @@ opened name words = by_walk name words
 after_next : (w next : Walk) (word : Text) (words : List Text) → turn_fault shape [] w word ≡ [] → walked shape.rules [] w word ≡ next
     → after w (word ∷ words) ≡ after next words
 unfolding after walk_fault
-after_next w next word words fault same = ap₂ (λ (k : Kinds) (v : Walk). unless_refused
+after_next w next word words fault same = ap₂ (λ (k : Kinds) (v : Walk). unless_faulty
     (or_else (or_else k (walk_fault shape [] v words)) (at_end (fold (walked shape.rules []) v words).held))
     (new_of (finished shape.rules (fold (walked shape.rules []) v words).held))) fault same
 
