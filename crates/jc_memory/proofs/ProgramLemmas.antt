@@ -96,7 +96,12 @@ size_did d s new a did = kept_did (λ v. v.size) (λ m h. size-apply_moves (m �
 
 -- two calls one after the other: the first was cut; the first was made, and the second ends as it ends
 pub bind_cut : {A B : Type 0} (more : A → MemoryState → Program B) (d : Program A) (s new : MemoryState) → IsTornIn d s new → IsTornIn (bind d s more) s new
-bind_cut more d s new cut = record cut { left = left_before more d s new.heap.durable cut.left }
+bind_cut more d s new cut = record {
+  left = left_before more d s new.heap.durable cut.left;
+  down = cut.down;
+  refused = cut.refused;
+  size = cut.size;
+}
 
 pub bind_made : {A B : Type 0} (more : A → MemoryState → Program B) (d : Program A) (s mid : MemoryState) (a : A) (after : Completion MemoryState B)
     → Completes d s a mid → Executes (more a mid) mid after → Executes (bind d s more) s after
