@@ -27,7 +27,8 @@ answered d m new (Err CommitFull) made = bind_made (λ r v. return_unless_refuse
     (Completed (Err (Throw (exception_of CommitFull))) new) made (refl, refl)
 answered d m new (Err IllegalValue) made = bind_made (λ r v. return_unless_refused r) d m new (Err IllegalValue)
     (Completed (Err (Throw (exception_of IllegalValue))) new) made (refl, refl)
-answered d m new (Err HeapFull) made = bind_made (λ r v. return_unless_refused r) d m new (Err HeapFull) (Completed (Err (Throw (exception_of HeapFull))) new) made
+answered d m new (Err HeapFull) made = bind_made (λ r v. return_unless_refused r) d m new (Err HeapFull)
+    (Completed (Err (Throw (exception_of HeapFull))) new) made
     (refl, refl)
 
 module _ (s : MemoryState) (r : ℕ) (bytes : List ℕ) where

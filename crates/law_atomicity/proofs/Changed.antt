@@ -108,7 +108,8 @@ unless_changes (Some reason) s new r before x more begun did = absurd (not_refus
 -- the counter comes behind the value and its length
 behind_value : (s new : MemoryState) (r : ℕ) (bytes : List ℕ) (long : Bool) (limit : ℕ) (reason : Option HeapRefusal) (put : List (Place × ℕ))
     → s.heap.begun ≡ true →
-    Completes (if long then Finish (Err IllegalValue) else unless_no_room reason (sets_and_takes (put ++ (Cell r 3, length bytes) ∷ (counter r, limit) ∷ []) r)) s
+    Completes (if long then Finish (Err IllegalValue) else
+    unless_no_room reason (sets_and_takes (put ++ (Cell r 3, length bytes) ∷ (counter r, limit) ∷ []) r)) s
     (Ok tt) new → IsChanged new r
 behind_value s new r bytes true limit reason put begun did = absurd (not_refused (Ok tt) IllegalValue tt did.0)
 behind_value s new r bytes false limit reason put begun did =

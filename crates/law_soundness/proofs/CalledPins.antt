@@ -59,7 +59,8 @@ module _ (g : Registers) where
       (λ value. Perform (HeapMove (SetPlaces (first_record r limit maximum value))) (Perform (SetFlag r false) (Finish (Ok tt))))
       (λ value. ((tt, (tt, (tt, (tt, (tt, tt))))), (tt, tt)))))
 
-  unless_no_room_still : {A : Type 0} (reason : Option HeapRefusal) (d : Program (Result A PinRefusal)) → AllStill g Any d → AllStill g Any (unless_no_room reason d)
+  unless_no_room_still : {A : Type 0} (reason : Option HeapRefusal) (d : Program (Result A PinRefusal)) → AllStill g Any d
+      → AllStill g Any (unless_no_room reason d)
   unless_no_room_still None d still = still
   unless_no_room_still (Some r) d still = tt
 
