@@ -238,12 +238,7 @@ module _ (p : Packages) (m : MemoryState) (known : KnowsClasses p) (methods : Kn
 
   virtual_fit : (o : Option Target) → virtual_by o p stack m ≡ Ok c → IsFitCall p m stack c
   virtual_fit (Some (VirtualMethod class token method)) e = virtually_fit class token method e
-  virtual_fit (Some (Class class)) e = absurd (err_not_ok e)
-  virtual_fit (Some (InstanceField class cell is_reference)) e = absurd (err_not_ok e)
-  virtual_fit (Some (SuperMethod class method)) e = absurd (err_not_ok e)
-  virtual_fit (Some (StaticField number offset)) e = absurd (err_not_ok e)
-  virtual_fit (Some (StaticMethod class method)) e = absurd (err_not_ok e)
-  virtual_fit None e = absurd (err_not_ok e)
+  virtual_fit _ e = absurd (err_not_ok e)
 
   -- a static entry names the method's own class
   of_static : (number index : ℕ) (class : Option ℕ) (by : Method) → target_at p number index ≡ Some (StaticMethod class by)
@@ -259,29 +254,15 @@ module _ (p : Packages) (m : MemoryState) (known : KnowsClasses p) (methods : Kn
   special_fit : (number index : ℕ) (o : Option Target) → target_at p number index ≡ o → special_by o p stack m ≡ Ok c → IsFitCall p m stack c
   special_fit number index (Some (StaticMethod class method)) target e = specially_fit class method (of_static number index class method target) e
   special_fit number index (Some (SuperMethod class method)) target e = specially_fit (Some class) method (of_above number index class method target) e
-  special_fit number index (Some (VirtualMethod class token method)) target e = absurd (err_not_ok e)
-  special_fit number index (Some (Class class)) target e = absurd (err_not_ok e)
-  special_fit number index (Some (InstanceField class cell is_reference)) target e = absurd (err_not_ok e)
-  special_fit number index (Some (StaticField home offset)) target e = absurd (err_not_ok e)
-  special_fit number index None target e = absurd (err_not_ok e)
+  special_fit number index _ target e = absurd (err_not_ok e)
 
   static_fit : (number index : ℕ) (o : Option Target) → target_at p number index ≡ o → static_by o p ≡ Ok c → IsFitCall p m stack c
   static_fit number index (Some (StaticMethod class method)) target e = statically_fit number index class method target e
-  static_fit number index (Some (SuperMethod class method)) target e = absurd (err_not_ok e)
-  static_fit number index (Some (VirtualMethod class token method)) target e = absurd (err_not_ok e)
-  static_fit number index (Some (Class class)) target e = absurd (err_not_ok e)
-  static_fit number index (Some (InstanceField class cell is_reference)) target e = absurd (err_not_ok e)
-  static_fit number index (Some (StaticField home offset)) target e = absurd (err_not_ok e)
-  static_fit number index None target e = absurd (err_not_ok e)
+  static_fit number index _ target e = absurd (err_not_ok e)
 
   by_interface_fit : (o : Option Target) (n token : ℕ) → interface_by o n token p stack m ≡ Ok c → IsFitCall p m stack c
   by_interface_fit (Some (Class class)) n token e = interface_fit class n token e
-  by_interface_fit (Some (VirtualMethod class t method)) n token e = absurd (err_not_ok e)
-  by_interface_fit (Some (SuperMethod class method)) n token e = absurd (err_not_ok e)
-  by_interface_fit (Some (StaticMethod class method)) n token e = absurd (err_not_ok e)
-  by_interface_fit (Some (InstanceField class cell is_reference)) n token e = absurd (err_not_ok e)
-  by_interface_fit (Some (StaticField number offset)) n token e = absurd (err_not_ok e)
-  by_interface_fit None n token e = absurd (err_not_ok e)
+  by_interface_fit _ n token e = absurd (err_not_ok e)
 
 -- what a call that was chosen is on
 pub chosen_fit : (p : Packages) (m : MemoryState) (s : Frames) → KnowsClasses p → KnowsMethods p → IsSoundMemory p m
