@@ -159,13 +159,7 @@ stays_by (HeapMove (AddPackage components arrays rest)) s r heap_after_change in
 stays_by (HeapMove Begin) s r heap_after_change inside = absurd inside
 stays_by (HeapMove Commit) s r heap_after_change inside = absurd inside
 stays_by (HeapMove Abort) s r heap_after_change inside = absurd inside
-stays_by (SetTransient q i values) s r heap_after_change inside = heap_after_change
-stays_by (SetFlag q flag) s r heap_after_change inside = heap_after_change
-stays_by (ClearTransient event) s r heap_after_change inside = heap_after_change
-stays_by NullDead s r heap_after_change inside = heap_after_change
-stays_by (SetRegisters registers) s r heap_after_change inside = heap_after_change
-stays_by (BeginCommand bytes) s r heap_after_change inside = heap_after_change
-stays_by (SendBytes bytes) s r heap_after_change inside = heap_after_change
+stays_by _ s r heap_after_change inside = heap_after_change
 
 -- effects within are one within and then the rest within
 abbrev AreInside : Effect → List Effect → Type 0
@@ -182,13 +176,7 @@ parted (HeapMove (AddPackage components arrays rest)) es inside = (tt, inside)
 parted (HeapMove Begin) es inside = absurd inside
 parted (HeapMove Commit) es inside = absurd inside
 parted (HeapMove Abort) es inside = absurd inside
-parted (SetTransient q i values) es inside = (tt, inside)
-parted (SetFlag q flag) es inside = (tt, inside)
-parted (ClearTransient event) es inside = (tt, inside)
-parted NullDead es inside = (tt, inside)
-parted (SetRegisters registers) es inside = (tt, inside)
-parted (BeginCommand bytes) es inside = (tt, inside)
-parted (SendBytes bytes) es inside = (tt, inside)
+parted _ es inside = (tt, inside)
 
 pub stays_changed : (es : List Effect) (s : MemoryState) (r : ℕ) → IsChanged s r → IsInside (moves_of es) → IsChanged (apply_effects es s) r
 stays_changed [] s r heap_after_change inside = heap_after_change

@@ -42,6 +42,6 @@ isolated = record {
       let b = behind m q runs.outside.there in
       let st = ran_stands p runs.statics lent m runs.set q runs.outside b.0 b.1 k s m t n runs.steps (stands_first m q b.0 runs.set b.1) in
       let due = due_before (LeavesObject q) during after n
-          (step_taken p runs.statics lent m runs.set q runs.outside b.0 b.1 t n (during ++ after) next st stays takes) in
+      (step_taken p runs.statics lent m runs.set q runs.outside b.0 b.1 t n (during ++ after) next st stays takes) in
       keeps_cells q b.0 m (apply_effects during n) b.1 (stands_after q b.0 m n during due quiet st);
 }

@@ -79,10 +79,7 @@ entry_no_global false = refl
 
 own_no_global : (p : Packages) (k : Kind) (class : ℕ) → is_instance k ≡ true → global_array (own_designation p k class) ≡ false
 own_no_global p Instance class e = entry_no_global (class == class_word p.platform Aid)
-own_no_global p BooleanArray class e = absurd (false≢true e)
-own_no_global p ByteArray class e = absurd (false≢true e)
-own_no_global p ShortArray class e = absurd (false≢true e)
-own_no_global p ReferenceArray class e = absurd (false≢true e)
+own_no_global p _ class e = absurd (false≢true e)
 
 no_global : (p : Packages) (f : Facts) → is_instance f.kind ≡ true → (b : Bool) → global_array
     (if b then own_designation p f.kind f.class else Ordinary) ≡ false
@@ -109,10 +106,7 @@ module _ (p : Packages) (m : MemoryState) (known : KnowsClasses p) (methods : Kn
       (if world.is_instance k then class else class_word p.platform Object) (class_word p.platform of) ≡ true
       → (is_instance k ≡ true) × (is_a p class of ≡ true)
   of_class of other Instance class e = (refl, e)
-  of_class of other BooleanArray class e = absurd (other (methods.top of e))
-  of_class of other ByteArray class e = absurd (other (methods.top of e))
-  of_class of other ShortArray class e = absurd (other (methods.top of e))
-  of_class of other ReferenceArray class e = absurd (other (methods.top of e))
+  of_class of other _ class e = absurd (other (methods.top of e))
 
   -- the receiver whose header was asked for
   found : (n : ℕ) (f : Facts) → receiver_of n stack m ≡ Ok f → (r : ℕ) → receiver_on n stack ≡ Some r → f ≡ facts m.heap.now r

@@ -60,10 +60,7 @@ to_others c none o is zero = none_some (none ∙ is)
 platform_class : (p : Packages) (k : Kind) (class : ℕ) → (is_instance k ≡ true → IsPlatformClass p class)
     → IsOfPlatform p (if world.is_instance k then class else class_word p.platform Object)
 platform_class p Instance class is = let found = is refl in (found.0, found.2)
-platform_class p BooleanArray class is = (Object, refl)
-platform_class p ByteArray class is = (Object, refl)
-platform_class p ShortArray class is = (Object, refl)
-platform_class p ReferenceArray class is = (Object, refl)
+platform_class p _ class is = (Object, refl)
 
 module _ (p : Packages) (m : MemoryState) (platform : KeepsPlatform p) (environment : HasEnvironment p m) (stack : List Cell) (c : MethodCall)
     (number offset : ℕ) (code : c.method ≡ Code number offset) where
