@@ -12,22 +12,23 @@ use Rattle.jc_memory.proofs.ProgramLemmas.{bind_made, bind_cut}
 use Rattle.jc_pin.specs.declared.updating.PinRefusal.{PinRefusal}
 use Rattle.jc_pin.specs.declared.updating.PinRefusal.TheVariants.{StoreDown, CommitFull, IllegalValue, HeapFull}
 use Rattle.jc_pin.specs.Pins.{record_of}
-use Rattle.jc_pin.specs.Updating.{after_pin, unless_full, changes_of_update, pin_update}
+use Rattle.jc_pin.specs.Updating.{after_pin, unless_no_room, changes_of_update, pin_update}
 use Rattle.jc_pin.proofs.Updates.{too_long}
 use Rattle.jc_frames.specs.declared.outcome.FrameExit.TheVariants.{Throw}
 use Rattle.jc_world.specs.declared.native_result.NativeResult.TheVariants.{ReturnVoid}
 use Rattle.jc_world.specs.NativeCalls.{after_call}
-use Rattle.jc_api_data.specs.OwnerPin.{answer_of, exception_of, changed_or_thrown, unless_refused}
+use Rattle.jc_api_data.specs.OwnerPin.{answer_of, exception_of, changed_or_thrown, return_unless_refused}
 
 pub answered : (d : Program (Result (Unit {0}) PinRefusal)) (m new : MemoryState) (change : Result (Unit {0}) PinRefusal) → Executes d m (after_pin change new)
     → Executes (changed_or_thrown d m) m (after_call (answer_of change) new)
-answered d m new (Ok u) made = bind_made (λ r v. unless_refused r) d m new (Ok u) (Completed (Ok ReturnVoid) new) made (refl, refl)
-answered d m new (Err StoreDown) made = bind_cut (λ r v. unless_refused r) d m new made
-answered d m new (Err CommitFull) made = bind_made (λ r v. unless_refused r) d m new (Err CommitFull)
+answered d m new (Ok u) made = bind_made (λ r v. return_unless_refused r) d m new (Ok u) (Completed (Ok ReturnVoid) new) made (refl, refl)
+answered d m new (Err StoreDown) made = bind_cut (λ r v. return_unless_refused r) d m new made
+answered d m new (Err CommitFull) made = bind_made (λ r v. return_unless_refused r) d m new (Err CommitFull)
     (Completed (Err (Throw (exception_of CommitFull))) new) made (refl, refl)
-answered d m new (Err IllegalValue) made = bind_made (λ r v. unless_refused r) d m new (Err IllegalValue)
+answered d m new (Err IllegalValue) made = bind_made (λ r v. return_unless_refused r) d m new (Err IllegalValue)
     (Completed (Err (Throw (exception_of IllegalValue))) new) made (refl, refl)
-answered d m new (Err HeapFull) made = bind_made (λ r v. unless_refused r) d m new (Err HeapFull) (Completed (Err (Throw (exception_of HeapFull))) new) made
+answered d m new (Err HeapFull) made = bind_made (λ r v. return_unless_refused r) d m new (Err HeapFull)
+    (Completed (Err (Throw (exception_of HeapFull))) new) made
     (refl, refl)
 
 module _ (s : MemoryState) (r : ℕ) (bytes : List ℕ) where
@@ -42,7 +43,7 @@ module _ (s : MemoryState) (r : ℕ) (bytes : List ℕ) where
   above long =
       let change = changes_of_update (record_of s r) r bytes in
       ap (λ b. if b then Finish (Err IllegalValue) else
-      unless_full (refusal_of_places s.heap (places_of change)) (Perform (HeapMove (SetPlaces change)) (Perform (SetFlag r false) (Finish (Ok tt))))) long
+      unless_no_room (refusal_of_places s.heap (places_of change)) (Perform (HeapMove (SetPlaces change)) (Perform (SetFlag r false) (Finish (Ok tt))))) long
 
   -- more bytes than an update can set
   pub long_update : (n : ℕ) (e : PinRefusal) → length bytes ≡ n → 254 < n → e ≡ (if nat_lt (record_of s r).maximum n then IllegalValue else CommitFull)

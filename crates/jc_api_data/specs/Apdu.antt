@@ -2,7 +2,7 @@
 use Rattle.std.specs.Prelude.{ℕ, ℤ, pos, negsuc, ◌+◌, ◌-◌, ◌==◌, ◌||◌, nat_lt, nat_le, Bool, false, List, length, if◌then◌else◌, Result, Ok, Err}
 use Rattle.std.specs.Int.{w16, cast_signed}
 use Rattle.jc_frames.specs.declared.cell.Cell.{Cell}
-use Rattle.jc_frames.specs.declared.cell.Cell.TheVariants.{Short, Reference}
+use Rattle.jc_frames.specs.declared.cell.Cell.TheVariants.{Reference}
 use Rattle.jc_frames.specs.Reasons.{bad_length, buffer_bounds, illegal_use}
 use Rattle.jc_frames.specs.declared.outcome.FrameExit.{FrameExit}
 use Rattle.jc_frames.specs.declared.outcome.FrameExit.TheVariants.{Throw}
@@ -18,6 +18,7 @@ use Rattle.jc_platform.specs.declared.names.PlatformMethod.TheVariants.{ApduSetO
 use Rattle.jc_world.specs.declared.native_result.NativeResult.TheVariants.{ReturnVoid, ReturnValue}
 use Rattle.jc_world.specs.NativeCalls.{NativeProgram, return_value, throw_exception, code_fault, if_some, if_ok, unless}
 use Rattle.jc_world.specs.Objects.{short_argument}
+use Rattle.jc_world.specs.Answers.{returns_short}
 use Rattle.jc_api_data.specs.declared.apdu_send.Piece.{Piece}
 use Rattle.jc_api_data.specs.ApduBuffer.{buffer_size, buffer_of, data_of}
 
@@ -30,9 +31,6 @@ with_phase m phase = record m.registers { apdu = record m.registers.apdu { phase
 
 abbrev pub with_phase_set : MemoryState → ApduPhase → NativeProgram → NativeProgram
 with_phase_set m phase rest = Perform (SetRegisters (with_phase m phase)) rest
-
-abbrev pub returns_short : ℤ → NativeProgram
-returns_short v = return_value (ReturnValue (Short v))
 
 -- APDU.getBuffer: the APDU buffer
 abbrev pub apdu_get_buffer : MemoryState → NativeProgram
@@ -118,13 +116,13 @@ unfoldable pub apdu_send_bytes : ℤ → ℤ → MemoryState → NativeProgram
 apdu_send_bytes start count m = send_in_phase m (phase_of m) start count
 
 -- first this, and then that, unless this throws
-abbrev pub and_then : MemoryState → (MemoryState → NativeProgram) → (MemoryState → NativeProgram) → NativeProgram
-and_then m first next = bind (first m) m (λ answer v. if_ok answer (λ a. next v))
+abbrev pub then_call : MemoryState → (MemoryState → NativeProgram) → (MemoryState → NativeProgram) → NativeProgram
+then_call m first next = bind (first m) m (λ answer v. if_ok answer (λ a. next v))
 
 -- APDU.setOutgoingAndSend: setOutgoing, setOutgoingLength and sendBytes in a row; what passed before one of
 -- them throws stays
 unfoldable pub apdu_set_outgoing_and_send : ℤ → ℤ → MemoryState → NativeProgram
-apdu_set_outgoing_and_send start count m = and_then m apdu_set_outgoing (λ v. and_then v (apdu_set_outgoing_length count) (apdu_send_bytes start count))
+apdu_set_outgoing_and_send start count m = then_call m apdu_set_outgoing (λ v. then_call v (apdu_set_outgoing_length count) (apdu_send_bytes start count))
 
 -- what a call of a method of APDU may do
 unfoldable pub apdu_call : PlatformMethod → List Cell → MemoryState → NativeProgram

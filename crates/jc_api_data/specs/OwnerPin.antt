@@ -41,13 +41,14 @@ exception_of CommitFull = buffer_full
 exception_of IllegalValue = illegal_pin_value
 exception_of HeapFull = no_resource
 
-abbrev pub unless_refused : Result (Unit {0}) PinRefusal → NativeProgram
-unless_refused (Ok u) = return_value ReturnVoid
-unless_refused (Err e) = throw_exception (exception_of e)
+-- the call returns, unless the change was refused: then it throws
+abbrev pub return_unless_refused : Result (Unit {0}) PinRefusal → NativeProgram
+return_unless_refused (Ok u) = return_value ReturnVoid
+return_unless_refused (Err e) = throw_exception (exception_of e)
 
 -- a PIN is changed, and the call returns, unless this is refused
 abbrev pub changed_or_thrown : Program (Result (Unit {0}) PinRefusal) → MemoryState → NativeProgram
-changed_or_thrown change m = bind change m (λ result v. unless_refused result)
+changed_or_thrown change m = bind change m (λ result v. return_unless_refused result)
 
 -- how the code says it
 abbrev pub answer_of : Result (Unit {0}) PinRefusal → Result NativeResult StepExit

@@ -65,7 +65,7 @@ pub ends_outside : (p q : Packages) (s new : MemoryState) (load kept : Option Op
     → Executes (end_of_load p s load) s (after_end r q kept new) → new.heap.down ≡ false → new.heap.begun ≡ false
 ends_outside p q s new load kept (Ok done) rests made up = (ended_rests p s new _ load made).0 ∙ rests
 ends_outside p q s new load kept (Err (Refused refusal)) rests made up = (ended_rests p s new _ load made).0 ∙ rests
-ends_outside p q s new load kept (Err Down) rests cut up = absurd (true≢false (sym cut.1 ∙ up))
+ends_outside p q s new load kept (Err Down) rests cut up = absurd (true≢false (sym cut.down ∙ up))
 
 -- the response to the end of a load
 pub ends_so : (d : Program LoadResult) (s new : MemoryState) (r : Result (Unit {0}) EndFault) (q : Packages) (kept : Option OpenLoad)

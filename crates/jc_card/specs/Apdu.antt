@@ -1,7 +1,6 @@
 -- Command APDUs in the short form (ISO/IEC 7816-4).
 use Rattle.std.specs.Prelude.{ℕ, ◌+◌, ◌==◌, nat_lt, nat_le, if◌then◌else◌, List, [], length, take, drop, slice_index, Option, Some, None}
 use Rattle.std.specs.Option.{option_map}
-use Rattle.std.specs.Borrow.{Bor}
 
 -- a command: its class, its instruction, two parameters and its data
 pub record Apdu : Type 0 where
@@ -26,7 +25,3 @@ data_of c =
 abbrev pub apdu_of : List ℕ → Option Apdu
 apdu_of c = option_map (λ d. record { class = slice_index c 0; instruction = slice_index c 1; p1 = slice_index c 2; p2 = slice_index c 3; content = d })
     (data_of c)
-
--- the bytes that a slice lends
-abbrev pub slice_bytes : Bor (List ℕ) → List ℕ
-slice_bytes s = s.now

@@ -1,8 +1,9 @@
 //! Commands.
 ghost use Rattle.std.specs.Prelude.{◌≡◌, ◌<◌, ◌≤◌, IfSome, length};
 ghost use Rattle.std.specs.Option.{option_map};
-ghost use Rattle.jc_card.specs.Apdu.{apdu_of, data_of, slice_bytes};
+ghost use Rattle.jc_card.specs.Apdu.{apdu_of, data_of};
 ghost use Rattle.jc_card.specs.Commands.{apdu_value};
+ghost use Rattle.jc_dispatch.specs.Slices.{slice_bytes};
 
 /// A command APDU in its short form (ISO/IEC 7816-4).
 #[derive(Clone, Copy, Debug)]

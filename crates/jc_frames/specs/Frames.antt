@@ -37,12 +37,23 @@ pub data Next (S : Type 0) : Type 0 where
   Throws : Exception → S → Next S
   Ends : Outcome → Next S
 
+-- ---- what follows of a check, whatever goes on
+
+-- goes on with what is there; where nothing is, this follows
+abbrev pub if_some_else : {A B : Type 0} → B → Option A → (A → B) → B
+if_some_else other None go = other
+if_some_else other (Some a) go = go a
+
+-- goes on with what a check gave; where it refused, this follows of its reason
+abbrev pub if_ok_else : {A E B : Type 0} → (E → B) → Result A E → (A → B) → B
+if_ok_else other (Ok a) go = go a
+if_ok_else other (Err e) go = other e
+
 -- ---- changes of a frame
 
 -- goes on with a value, or a code fault where there is none
 abbrev pub if_some : {A S : Type 0} → Option A → (A → Next S) → Next S
-if_some None go = Ends Fault
-if_some (Some a) go = go a
+if_some o go = if_some_else (Ends Fault) o go
 
 -- an exception is thrown: the stack is lost
 abbrev pub thrown_at : Exception → Frame → Next Frame

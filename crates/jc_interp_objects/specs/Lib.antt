@@ -1,3 +1,4 @@
+pub mod StackRoom
 pub mod StaticImages
 pub mod FieldNames
 pub mod Fields

@@ -5,7 +5,7 @@ use Rattle.jc_heap.specs.declared.object.Kind.TheVariants.{Instance}
 use Rattle.jc_frames.specs.Reasons.{no_resource}
 use Rattle.jc_frames.specs.declared.outcome.FrameExit.{FrameExit}
 use Rattle.jc_frames.specs.declared.outcome.FrameExit.TheVariants.{Throw}
-use Rattle.jc_frames.specs.Frames.{Frames, Next, has_room}
+use Rattle.jc_frames.specs.Frames.{Frames, Next}
 use Rattle.jc_memory.specs.State.{MemoryState}
 use Rattle.jc_memory.specs.Programs.{Program}
 use Rattle.jc_linker.specs.Classes.{is_instantiable_class, size_of}
@@ -13,6 +13,7 @@ use Rattle.jc_linker.specs.Values.{Packages}
 use Rattle.jc_world.specs.Instructions.{if_ok, if_some}
 use Rattle.jc_world.specs.Making.{new_on_top}
 use Rattle.jc_world.specs.Types.{class_named}
+use Rattle.jc_interp_objects.specs.StackRoom.{if_room}
 
 -- the class, where it has instances that code may make
 abbrev pub instantiable_or_none : Packages → ℕ → Option ℕ
@@ -25,10 +26,6 @@ instantiable_class p package_number index = option_and_then (instantiable_or_non
 -- how many cells an instance gets: for more than an object can have there is no space
 abbrev pub cells_for : ℕ → Result ℕ FrameExit
 cells_for size = if nat_lt size (2 ^ 16) then Ok size else Err (Throw no_resource)
-
--- where the stack has room
-abbrev pub if_room : Frames → Option ℕ → Option ℕ
-if_room s class = if has_room s.current then class else None
 
 -- new: a new instance, which belongs to the owner for whom code runs, is pushed
 unfoldable pub new_instance : ℕ → Packages → Frames → MemoryState → Program (Next Frames)

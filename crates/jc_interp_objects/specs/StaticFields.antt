@@ -1,5 +1,5 @@
 -- Static fields: `getstatic` and `putstatic`. The firewall lets all code reach them.
-use Rattle.std.specs.Prelude.{ℕ, ◌+◌, ◌/◌, ◌%◌, ◌==◌, List, [], ◌∷◌, Option, None, if◌then◌else◌}
+use Rattle.std.specs.Prelude.{ℕ, ◌+◌, ◌/◌, ◌%◌, ◌==◌, List, [], ◌∷◌, Option, if◌then◌else◌}
 use Rattle.std.specs.Option.{option_map}
 use Rattle.std.specs.Int.{w16, cast_signed}
 use Rattle.jc_heap.specs.declared.place.Place.{Place}
@@ -10,7 +10,7 @@ use Rattle.jc_opcodes.specs.declared.instr.ValueType.{ValueType}
 use Rattle.jc_opcodes.specs.declared.instr.ValueType.TheVariants as types
 use Rattle.jc_frames.specs.declared.cell.Cell.{Cell}
 use Rattle.jc_frames.specs.declared.cell.Cell.TheVariants.{Short, Reference}
-use Rattle.jc_frames.specs.Frames.{Frames, Next, has_room, with_stack}
+use Rattle.jc_frames.specs.Frames.{Frames, Next, with_stack}
 use Rattle.jc_memory.specs.State.{MemoryState, HeapMove}
 use Rattle.jc_memory.specs.Cells.{word_of}
 use Rattle.jc_memory.specs.Programs.{Program, Perform}
@@ -21,6 +21,7 @@ use Rattle.jc_interp_objects.specs.declared.static_images.ImageWord.{ImageWord}
 use Rattle.jc_interp_objects.specs.declared.field_names.FieldOfImage.{FieldOfImage}
 use Rattle.jc_interp_objects.specs.StaticImages.{word_value, image_byte, image_pair, image_word, next_word, place_of, with_byte}
 use Rattle.jc_interp_objects.specs.FieldNames.{static_named}
+use Rattle.jc_interp_objects.specs.StackRoom.{if_room}
 
 -- the static field that an entry of the pool of the package that runs names
 abbrev pub own_static : ValueType → ℕ → Packages → Frames → Option FieldOfImage
@@ -32,10 +33,6 @@ abbrev pub static_value : ValueType → HeapState → FieldOfImage → Option Ce
 static_value types.Reference h field = option_map Reference (image_pair h field.package_number field.offset)
 static_value types.Byte h field = option_map (λ b. Short (signed_byte b)) (image_byte h field.package_number field.offset)
 static_value types.Short h field = option_map (λ w. Short (cast_signed w16 w)) (image_pair h field.package_number field.offset)
-
--- where there is room for it on the stack
-abbrev pub if_room : Frames → Option Cell → Option Cell
-if_room s value = if has_room s.current then value else None
 
 -- getstatic_a, getstatic_b, getstatic_s: a static field is pushed
 unfoldable pub getstatic : ValueType → ℕ → Packages → Frames → MemoryState → Program (Next Frames)

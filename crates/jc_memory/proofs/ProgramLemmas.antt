@@ -96,18 +96,23 @@ size_did d s new a did = kept_did (λ v. v.size) (λ m h. size-apply_moves (m �
 
 -- two calls one after the other: the first was cut; the first was made, and the second ends as it ends
 pub bind_cut : {A B : Type 0} (more : A → MemoryState → Program B) (d : Program A) (s new : MemoryState) → IsTornIn d s new → IsTornIn (bind d s more) s new
-bind_cut more d s new cut = (left_before more d s new.heap.durable cut.0, cut.1, cut.2, cut.3)
+bind_cut more d s new cut = record {
+  left = left_before more d s new.heap.durable cut.left;
+  down = cut.down;
+  refused = cut.refused;
+  size = cut.size;
+}
 
 pub bind_made : {A B : Type 0} (more : A → MemoryState → Program B) (d : Program A) (s mid : MemoryState) (a : A) (after : Completion MemoryState B)
     → Completes d s a mid → Executes (more a mid) mid after → Executes (bind d s more) s after
 bind_made more d s mid a (Completed b new) first second = bind_did more d s mid new a b first second
-bind_made more d s mid a (Torn new) first second = (
-  left_after more d s mid a new.heap.durable first second.0,
-  second.1,
-  second.2
-      ∙ ap (λ n. saturating_count n 1) (refused_did d s mid a first),
-  second.3 ∙ size_did d s mid a first,
-)
+bind_made more d s mid a (Torn new) first second = record {
+  left = left_after more d s mid a new.heap.durable first second.left;
+  down = second.down;
+  refused = second.refused
+      ∙ ap (λ n. saturating_count n 1) (refused_did d s mid a first);
+  size = second.size ∙ size_did d s mid a first;
+}
 
 -- the steps by which a call of two parts is seen to end as its definition says: both were made, or one was cut
 pub ruleset in_two_steps = (bind_did, left_before, left_after, refused_did, size_did, down_did)

@@ -1,9 +1,9 @@
 -- What may be done, as data, and how it ends: the form of instructions, calls, runs and commands.
-use Rattle.std.specs.Prelude.{ℕ, ◌≡◌, ◌⊎◌, true, Option, Some, None}
-use Rattle.jc_words.specs.Count.{saturating_count}
+use Rattle.std.specs.Prelude.{ℕ, ◌≡◌, ◌⊎◌, Option, Some, None}
 use Rattle.jc_heap.specs.declared.refusal.HeapRefusal.{HeapRefusal}
 use Rattle.jc_heap.specs.Heap.{HeapState}
-use Rattle.jc_heap.specs.Completions.{Completion, Completed, Torn, Attempt, Refused}
+use Rattle.jc_heap.specs.Moves.{IsTorn}
+use Rattle.jc_heap.specs.Completions.{Completion, EndsAs, Attempt, Refused}
 use Rattle.jc_memory.specs.State.{MemoryState, Effect, HeapMove, apply_effect, IsNew}
 
 -- what may be done: nothing more, with this answer; an effect and then the rest; a new reference chosen and
@@ -29,15 +29,13 @@ TearLeaves (Perform e rest) s h = TearLeaves rest (apply_effect e s) h
 TearLeaves (Choose choose) s h = (r : ℕ) × IsNew s.heap.now r × TearLeaves (choose r) s h
 TearLeaves (Either x y) s h = TearLeaves x s h ⊎ TearLeaves y s h
 
--- the store, which keeps its size, refused a write within it
+-- the store refused a write within it
 abbrev pub IsTornIn : {A : Type 0} → Program A → MemoryState → MemoryState → Type 0
-IsTornIn d s new = TearLeaves d s new.heap.durable × (new.heap.down ≡ true) × (new.heap.refused ≡ saturating_count s.heap.refused 1)
-    × (new.heap.size ≡ s.heap.size)
+IsTornIn d s new = IsTorn (TearLeaves d s) s.heap new.heap
 
 -- a call that may do this ends so: the clause of every layer
 abbrev pub Executes : {A : Type 0} → Program A → MemoryState → Completion MemoryState A → Type 0
-Executes d s (Completed answer new) = Completes d s answer new
-Executes d s (Torn new) = IsTornIn d s new
+Executes d s completion = EndsAs (Completes d s) (IsTornIn d s) completion
 
 -- first this, and then what its answer and the memory then ask for
 abbrev pub bind : {A B : Type 0} → Program A → MemoryState → (A → MemoryState → Program B) → Program B
@@ -53,7 +51,11 @@ map_result f (Perform e rest) = Perform e (map_result f rest)
 map_result f (Choose choose) = Choose (λ r. map_result f (choose r))
 map_result f (Either x y) = Either (map_result f x) (map_result f y)
 
--- this, unless there is a reason against it
+-- this, unless there is a reason against it: then what follows of the reason
+abbrev pub unless_else : {R B : Type 0} → (R → B) → Option R → B → B
+unless_else other None d = d
+unless_else other (Some reason) d = other reason
+
+-- this, unless there is a reason against it, which is then the answer
 abbrev pub unless_refused : {A : Type 0} → Option HeapRefusal → Program (Attempt A) → Program (Attempt A)
-unless_refused None d = d
-unless_refused (Some reason) d = Finish (Refused reason)
+unless_refused refusal d = unless_else (λ reason. Finish (Refused reason)) refusal d

@@ -20,7 +20,7 @@ use Rattle.jc_memory.specs.Programs.{Program, Finish, Perform}
 use Rattle.jc_pin.specs.declared.updating.PinRefusal.{PinRefusal}
 use Rattle.jc_pin.specs.declared.updating.PinRefusal.TheVariants.{CommitFull, IllegalValue}
 use Rattle.jc_pin.specs.Pins.{IsPersistentWith, IsPin, record_of}
-use Rattle.jc_pin.specs.Updating.{byte_changes, changes_of_update, pin_update, unless_full}
+use Rattle.jc_pin.specs.Updating.{byte_changes, changes_of_update, pin_update, unless_no_room}
 use Rattle.jc_pin.proofs.Putting.{puts_there, puts_stand, puts_apart}
 
 no_bytes : (k : Kind) → k ≡ Instance → has_bytes k ≡ true → ⊥
@@ -91,9 +91,9 @@ length-puts array i (b ∷ bs) = ap suc (length-puts array (suc i) bs)
 pub too_long : (s : MemoryState) (r : ℕ) (bytes : List ℕ) → length bytes ≤ word_at s r 1 → 254 < length bytes → pin_update s r bytes ≡ Finish (Err CommitFull)
 unfolding pin_update
 too_long s r bytes within long =
-    ap (λ b. if b then Finish (Err IllegalValue) else unless_full (refusal_of_places s.heap (places_of change)) rest)
+    ap (λ b. if b then Finish (Err IllegalValue) else unless_no_room (refusal_of_places s.heap (places_of change)) rest)
     (le-ltb (word_at s r 1) (length bytes) within)
-    ∙ ap (λ b. unless_full (if b then None else Some making.CommitFull) rest) (too_many s.heap (map place_word (places_of change)) many)
+    ∙ ap (λ b. unless_no_room (if b then None else Some making.CommitFull) rest) (too_many s.heap (map place_word (places_of change)) many)
   where
     change : List (Place × ℕ)
     change = changes_of_update (record_of s r) r bytes

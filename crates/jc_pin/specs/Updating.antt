@@ -1,5 +1,5 @@
 -- A PIN gets another value.
-use Rattle.std.specs.Prelude.{ℕ, suc, nat_lt, false, List, [], ◌∷◌, ◌++◌, length, if◌then◌else◌, Option, Some, None, Result, Ok, Err}
+use Rattle.std.specs.Prelude.{ℕ, suc, nat_lt, false, List, [], ◌∷◌, ◌++◌, length, if◌then◌else◌, Option, Result, Ok, Err}
 use Rattle.jc_heap.specs.declared.place.Place.{Place}
 use Rattle.jc_heap.specs.declared.place.Place.TheVariants.{Cell}
 use Rattle.jc_heap.specs.declared.refusal.HeapRefusal.{HeapRefusal}
@@ -8,7 +8,7 @@ use Rattle.jc_heap.specs.declared.refusal.ChangeRefusal.TheVariants as change
 use Rattle.jc_heap.specs.Moves.{SetPlaces, refusal_of_places}
 use Rattle.jc_heap.specs.Places.{places_of}
 use Rattle.jc_memory.specs.State.{MemoryState, HeapMove, SetFlag}
-use Rattle.jc_memory.specs.Programs.{Program, Finish, Perform}
+use Rattle.jc_memory.specs.Programs.{Program, Finish, Perform, unless_else}
 use Rattle.jc_heap.specs.Completions.{Completion, Completed, Torn}
 use Rattle.jc_pin.specs.declared.updating.PinRefusal.{PinRefusal}
 use Rattle.jc_pin.specs.declared.updating.PinRefusal.TheVariants.{StoreDown, CommitFull, IllegalValue, HeapFull}
@@ -37,14 +37,13 @@ byte_changes array i (b ∷ bs) = (Cell array i, b) ∷ byte_changes array (suc 
 abbrev pub changes_of_update : PinRecord → ℕ → List ℕ → List (Place × ℕ)
 changes_of_update pin r bytes = byte_changes pin.value 0 bytes ++ (Cell r length_cell, length bytes) ∷ (counter r, pin.limit) ∷ []
 
--- unless the transaction has no room for the change
-abbrev pub unless_full : {A : Type 0} → Option HeapRefusal → Program (Result A PinRefusal) → Program (Result A PinRefusal)
-unless_full None d = d
-unless_full (Some reason) d = Finish (Err CommitFull)
+-- this, unless the transaction has no room for the change
+abbrev pub unless_no_room : {A : Type 0} → Option HeapRefusal → Program (Result A PinRefusal) → Program (Result A PinRefusal)
+unless_no_room refusal d = unless_else (λ reason. Finish (Err CommitFull)) refusal d
 
 -- the value, its length and all tries are set as one change, and the flag is taken away; a value above the maximum is refused
 unfoldable pub pin_update : MemoryState → ℕ → List ℕ → Program (Result (Unit {0}) PinRefusal)
 pin_update s r bytes =
     let change = changes_of_update (record_of s r) r bytes in
     if nat_lt (record_of s r).maximum (length bytes) then Finish (Err IllegalValue) else
-    unless_full (refusal_of_places s.heap (places_of change)) (Perform (HeapMove (SetPlaces change)) (Perform (SetFlag r false) (Finish (Ok tt))))
+    unless_no_room (refusal_of_places s.heap (places_of change)) (Perform (HeapMove (SetPlaces change)) (Perform (SetFlag r false) (Finish (Ok tt))))

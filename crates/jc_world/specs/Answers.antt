@@ -1,7 +1,8 @@
 -- What methods return, and checks in a row.
-use Rattle.std.specs.Prelude.{ℤ, pos, Bool, Result, Ok, Err, if◌then◌else◌}
+use Rattle.std.specs.Prelude.{ℤ, pos, Bool, Result, Err, if◌then◌else◌}
 use Rattle.jc_frames.specs.declared.cell.Cell.TheVariants.{Short}
 use Rattle.jc_frames.specs.declared.outcome.FrameExit.{FrameExit}
+use Rattle.jc_frames.specs.Frames.{if_ok_else}
 use Rattle.jc_world.specs.declared.native_result.NativeResult.{NativeResult}
 use Rattle.jc_world.specs.declared.native_result.NativeResult.TheVariants.{ReturnValue}
 use Rattle.jc_world.specs.NativeCalls.{NativeProgram, return_value}
@@ -23,5 +24,4 @@ returns_bool b = return_value (bool_value b)
 
 -- with what a check gave, the next
 abbrev pub and_then : {A B : Type 0} → Result A FrameExit → (A → Result B FrameExit) → Result B FrameExit
-and_then (Ok a) go = go a
-and_then (Err e) go = Err e
+and_then check go = if_ok_else Err check go

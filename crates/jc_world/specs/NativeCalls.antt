@@ -1,13 +1,14 @@
 -- How calls of the platform's methods are defined: what they may do, and what they answer.
-use Rattle.std.specs.Prelude.{Option, Some, None, Result, Ok, Err}
+use Rattle.std.specs.Prelude.{Option, Result, Ok, Err}
 use Rattle.jc_heap.specs.declared.refusal.HeapRefusal.{HeapRefusal}
 use Rattle.jc_frames.specs.declared.cell.Cell.{Cell}
 use Rattle.jc_frames.specs.declared.outcome.Exception.{Exception}
 use Rattle.jc_frames.specs.declared.outcome.Outcome.TheVariants.{Fault}
 use Rattle.jc_frames.specs.declared.outcome.FrameExit.{FrameExit}
 use Rattle.jc_frames.specs.declared.outcome.FrameExit.TheVariants as stop
+use Rattle.jc_frames.specs.Frames.{if_some_else, if_ok_else}
 use Rattle.jc_memory.specs.State.{MemoryState}
-use Rattle.jc_memory.specs.Programs.{Program, Finish}
+use Rattle.jc_memory.specs.Programs.{Program, Finish, unless_else}
 use Rattle.jc_heap.specs.Completions.{Completion, Completed, Torn}
 use Rattle.jc_world.specs.declared.native_result.NativeResult.{NativeResult}
 use Rattle.jc_world.specs.declared.native_result.NativeResult.TheVariants.{ReturnVoid, ReturnValue}
@@ -31,18 +32,15 @@ code_fault = Finish (Err (stop.End Fault))
 
 -- with what is there; a code fault where nothing is
 abbrev pub if_some : {A : Type 0} → Option A → (A → NativeProgram) → NativeProgram
-if_some None go = code_fault
-if_some (Some a) go = go a
+if_some o go = if_some_else code_fault o go
 
 -- with what a check gave; else it throws or ends the run
 abbrev pub if_ok : {A : Type 0} → Result A FrameExit → (A → NativeProgram) → NativeProgram
-if_ok (Ok a) go = go a
-if_ok (Err e) go = Finish (Err e)
+if_ok check go = if_ok_else (λ e. Finish (Err e)) check go
 
 -- unless there is a reason against a change, which is thrown
 abbrev pub unless : Option HeapRefusal → NativeProgram → NativeProgram
-unless None d = d
-unless (Some reason) d = throw_exception (exception_of reason)
+unless refusal d = unless_else (λ reason. throw_exception (exception_of reason)) refusal d
 
 -- how a call ends
 abbrev pub after_call : Result NativeResult StepExit → MemoryState → Completion MemoryState (Result NativeResult FrameExit)

@@ -10,7 +10,7 @@ use Rattle.clap.specs.declared.parser.matches.Found.{Found}
 use Rattle.clap.proofs.OnLiterals.{clap_on_literals}
 use Rattle.clap.proofs.WalkLemmas.{first_value-rows}
 use Rattle.jcard_commands.specs.CommandLine.{CommandLineRequest, ToTell, dump_of, new_by, new_of, program_grammar, request_of, run_by, run_of, request_of_words}
-use Rattle.jcard_commands.specs.CommandLine.{try_by, try_of, unless_refused}
+use Rattle.jcard_commands.specs.CommandLine.{try_by, try_of, unless_faulty}
 
 -- what clap asks of a command of which it tells all
 is_told : is_simple program_grammar ≡ true
@@ -22,7 +22,7 @@ unfolding clap_on_literals
 is_told_whole = refl
 
 accepted : (causes : Kinds) (named rows : Option (Text × List Row)) → causes ≡ [] → rows ≡ named
-    → unless_refused causes (option_and_then request_of named) ≡ option_and_then request_of rows
+    → unless_faulty causes (option_and_then request_of named) ≡ option_and_then request_of rows
 accepted causes named rows none same = rw (none, same) refl
 
 -- a parse that succeeds gives what the words are taken for
@@ -35,7 +35,7 @@ taken_as command words m same matches passes =
     ∙ ap (λ (a : App). subcommand_of a words) same in
     accepted (fault_of program_grammar words) (subcommand_of program_grammar words) (subcommand_rows_of m) none rows
 
-refused : (causes : Kinds) (kind : ErrorKind) (asked : Option CommandLineRequest) → IsAmong kind causes → unless_refused causes asked ≡ None
+refused : (causes : Kinds) (kind : ErrorKind) (asked : Option CommandLineRequest) → IsAmong kind causes → unless_faulty causes asked ≡ None
 refused [] kind asked among = absurd among
 refused (cause ∷ causes) kind asked among = refl
 

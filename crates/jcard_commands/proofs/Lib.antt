@@ -1,10 +1,10 @@
 pub mod Asking
 pub mod CommandLine
+pub mod CommandWalk
 pub mod Dumps
 pub mod Ends
 pub mod FlagWords
 pub mod Listings
-pub mod News
+pub mod OptionLines
 pub mod RunLines
 pub mod Runs
-pub mod Tries

@@ -1,86 +1,53 @@
 -- Every line of the command `run`.
-use Rattle.std.proofs.Common.{◌≡◌, ◌∙◌, inl, inr, ℕ, Bool, true, false, List, [], ◌∷◌, Option, Some, None, refl, sym, ap, ap₂, is_some, codes}
-use Rattle.std.specs.Prelude.{fold, option_and_then}
+use Rattle.std.proofs.Common.{◌≡◌, ◌∙◌, inl, inr, ℕ, Bool, true, false, List, [], ◌∷◌, Option, Some, None, refl, sym, ap, codes}
+use Rattle.std.specs.Prelude.{fold, option_map}
+use Rattle.std.specs.Str.{bytes_eq}
+use Rattle.std.proofs.lemmas.Slice.Eq.{bytes_eq-Decides}
 use Rattle.clap.specs.Words.{Kinds, Row, Text}
 use Rattle.clap.specs.Kinds.{or_else}
-use Rattle.clap.specs.Walk.{Held, Walk, finished, nothing_held, settled, value, walk_from, walked}
-use Rattle.clap.specs.Simple.{App, built, entered, names_of}
-use Rattle.clap.specs.Faults.{check_fault, defaults_fault, entered_fault, settle_fault, step_fault, turn_fault, walk_fault}
+use Rattle.clap.specs.Walk.{Walk, finished, nothing_held, settled, value, walk_from, walked}
+use Rattle.clap.specs.Simple.{names_of}
+use Rattle.clap.specs.Faults.{defaults_fault, step_fault, turn_fault, walk_fault}
 use Rattle.clap.proofs.OnLiterals.{clap_on_literals}
-use Rattle.clap.proofs.WalkLemmas.{walk_stopped}
-use Rattle.clap.proofs.FaultLemmas.{stopped_fault}
-use Rattle.std.specs.Str.{bytes_eq}
-use Rattle.std.specs.Prelude.{option_map}
-use Rattle.std.proofs.lemmas.Slice.Eq.{bytes_eq-Decides}
+use Rattle.jcard_commands.proofs.CommandWalk.{as_ended, at_end, causes_of, met, none_more, opened_by, request_after, whole}
+use Rattle.jcard_commands.proofs.CommandWalk.{after_next as one_more}
 use Rattle.jcard_commands.proofs.FlagWords.{bool_cases, flag_refused, goes_on, shape, stands}
-use Rattle.jcard_commands.specs.CommandLine.{TakesRunLines, is_flag, operands, run_with, CommandLineRequest, program_grammar, request_of, run_of}
-use Rattle.jcard_commands.specs.CommandLine.{request_of_words, unless_refused}
+use Rattle.jcard_commands.specs.CommandLine.{TakesRunLines, is_flag, operands, run_with, CommandLineRequest, run_of}
+use Rattle.jcard_commands.specs.CommandLine.{request_of_words, unless_faulty}
 
 -- ---- the words before those of the command
 
-abbrev whole : App
-whole = built program_grammar
-
--- where the walk stands after `run`
-abbrev met : List Text → Walk
-met words = record (walk_from nothing_held) { stopped = Some (codes "run", words) }
-
--- what the words are taken for, from where the walk over them ends and what it refused
-as_ended : Walk → Kinds → Option CommandLineRequest
-as_ended w refused = unless_refused (or_else refused (or_else (entered_fault whole w.stopped)
-    (or_else (settle_fault whole.top.rules whole.top.args_override_self w.held) (or_else (defaults_fault (settled whole.top.rules w.held).rows whole.top.rules)
-    (check_fault whole.top (finished whole.top.rules w.held) (is_some (entered whole w.stopped)))))))
-    (option_and_then request_of (entered whole w.stopped))
-
--- what is refused after the last word
-abbrev at_end : Held → Kinds
-at_end end = or_else (settle_fault shape.rules shape.args_override_self end)
-    (or_else (defaults_fault (settled shape.rules end).rows shape.rules) (check_fault shape (finished shape.rules end) false))
-
-abbrev causes_of : Walk → List Text → Kinds
-causes_of w words = or_else (walk_fault shape [] w words) (at_end (fold (walked shape.rules []) w words).held)
-
 -- what the words are taken for, from here on
-pub after : Walk → List Text → Option CommandLineRequest
-after w words = unless_refused (causes_of w words) (run_of (finished shape.rules (fold (walked shape.rules []) w words).held))
-
-none_more : (causes : Kinds) (asked : Option CommandLineRequest) → unless_refused (or_else causes []) asked ≡ unless_refused causes asked
-none_more [] asked = refl
-none_more (cause ∷ causes) asked = refl
+abbrev pub after : Walk → List Text → Option CommandLineRequest
+after w words = request_after shape run_of w words
 
 by_walk : (name : Text) (words : List Text) → request_of_words (name ∷ codes "run" ∷ words)
-    ≡ as_ended (fold (walked whole.top.rules (names_of whole)) (met []) words) (walk_fault whole.top (names_of whole) (met []) words)
+    ≡ as_ended (fold (walked whole.top.rules (names_of whole)) (met (codes "run") []) words) (walk_fault whole.top (names_of whole) (met (codes "run") []) words)
 unfolding request_of_words as_ended walked walk_fault
 by_walk name words = refl
 
-by_command : (words : List Text) → as_ended (met words) [] ≡ after (walk_from nothing_held) words
-unfolding as_ended after defaults_fault
-by_command words = none_more (causes_of (walk_from nothing_held) words) (run_of (finished shape.rules
+by_command : (words : List Text) → as_ended (met (codes "run") words) [] ≡ after (walk_from nothing_held) words
+unfolding as_ended request_after defaults_fault
+by_command words = none_more (causes_of shape run_of (walk_from nothing_held) words) (run_of (finished shape.rules
     (fold (walked shape.rules []) (walk_from nothing_held) words).held))
 
 pub opened : (name : Text) (words : List Text) → request_of_words (name ∷ codes "run" ∷ words) ≡ after (walk_from nothing_held) words
-opened name words = by_walk name words
-    ∙ (ap₂ as_ended (sym (walk_stopped whole.top.rules (names_of whole) (walk_from nothing_held) (codes "run") [] words))
-    (stopped_fault whole.top (names_of whole) (walk_from nothing_held) (codes "run", []) words)
-    ∙ by_command words)
+opened name words = opened_by shape run_of (codes "run") (request_of_words (name ∷ codes "run" ∷ words)) words (by_walk name words) (by_command words)
 
 -- ---- one word more
 
 after_next : (w next : Walk) (word : Text) (words : List Text) → turn_fault shape [] w word ≡ [] → walked shape.rules [] w word ≡ next
     → after w (word ∷ words) ≡ after next words
-unfolding after walk_fault
-after_next w next word words fault same = ap₂ (λ (k : Kinds) (v : Walk). unless_refused
-    (or_else (or_else k (walk_fault shape [] v words)) (at_end (fold (walked shape.rules []) v words).held))
-    (run_of (finished shape.rules (fold (walked shape.rules []) v words).held))) fault same
+after_next w next word words fault same = one_more shape run_of w next word words fault same
 
-refuses : (k a b : Kinds) (asked : Option CommandLineRequest) → (k ≡ [] → ⊥) → unless_refused (or_else (or_else k a) b) asked ≡ None
+refuses : (k a b : Kinds) (asked : Option CommandLineRequest) → (k ≡ [] → ⊥) → unless_faulty (or_else (or_else k a) b) asked ≡ None
 refuses [] a b asked full = absurd (full refl)
 refuses (c ∷ cs) a b asked full = refl
 
 after_refused : (w : Walk) (word : Text) (words : List Text) → (turn_fault shape [] w word ≡ [] → ⊥) → after w (word ∷ words) ≡ None
-unfolding after walk_fault
+unfolding request_after walk_fault
 after_refused w word words full = refuses (turn_fault shape [] w word) (walk_fault shape [] (walked shape.rules [] w word) words)
-    (at_end (fold (walked shape.rules []) (walked shape.rules [] w word) words).held)
+    (at_end shape run_of (fold (walked shape.rules []) (walked shape.rules [] w word) words).held)
     (run_of (finished shape.rules (fold (walked shape.rules []) (walked shape.rules [] w word) words).held)) full
 
 -- `--` ends the flags
@@ -116,17 +83,17 @@ abbrev third : Text → Text → Bool → Walk
 third image script t = stands 3 (settled shape.rules (second image t).held).rows (Some (codes "script", script ∷ [])) t
 
 third_only : (image script : Text) (words : List Text) → after (third image script true) words ≡ run_with (Some (image ∷ script ∷ words))
-unfolding after clap_on_literals
+unfolding request_after clap_on_literals
 third_only image script [] = refl
 third_only image script (more ∷ words) = after_refused (third image script true) more words (λ e. cc)
 
 second_only : (image : Text) (words : List Text) → after (second image true) words ≡ run_with (Some (image ∷ words))
-unfolding after clap_on_literals
+unfolding request_after clap_on_literals
 second_only image [] = refl
 second_only image (script ∷ words) = after_next (second image true) (third image script true) script words refl refl ∙ third_only image script words
 
 first_only : (words : List Text) → after (first true) words ≡ run_with (Some words)
-unfolding after clap_on_literals
+unfolding request_after clap_on_literals
 first_only [] = refl
 first_only (image ∷ words) = after_next (first true) (second image true) image words refl refl ∙ second_only image words
 
@@ -159,7 +126,7 @@ third_plain image script word words plain =
     after_refused (third image script false) word words (λ e. let bad : step_fault shape 3 (third image script false).held value ≡ [] = sym goes.1 ∙ e in cc)
 
 at_third : (image script : Text) (words : List Text) → after (third image script false) words ≡ with_script image script (operands words)
-unfolding after clap_on_literals
+unfolding request_after clap_on_literals
 at_third image script [] = refl
 at_third image script (word ∷ words) = elim (bool_cases (bytes_eq word (codes "--"))) [
   | inl dashes ↦ after_dashes 3 (settled shape.rules (second image false).held).rows (Some (codes "script", script ∷ [])) word words dashes
@@ -179,7 +146,7 @@ second_plain image script words plain =
     after_next (second image false) (third image script false) script words goes.1 goes.0
 
 at_second : (image : Text) (words : List Text) → after (second image false) words ≡ with_image image (operands words)
-unfolding after clap_on_literals
+unfolding request_after clap_on_literals
 at_second image [] = refl
 at_second image (word ∷ words) = elim (bool_cases (bytes_eq word (codes "--"))) [
   | inl dashes ↦ after_dashes 2 [] (Some (codes "image", image ∷ [])) word words dashes
@@ -199,7 +166,7 @@ first_plain image words plain =
     after_next (first false) (second image false) image words goes.1 goes.0
 
 at_first : (words : List Text) → after (first false) words ≡ run_with (operands words)
-unfolding after clap_on_literals
+unfolding request_after clap_on_literals
 at_first [] = refl
 at_first (word ∷ words) = elim (bool_cases (bytes_eq word (codes "--"))) [
   | inl dashes ↦ after_dashes 1 [] None word words dashes ∙ (first_only words ∙ ap run_with (sym (operands_dashes word words dashes)))

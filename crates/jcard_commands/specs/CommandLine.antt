@@ -99,14 +99,14 @@ request_of named =
     else (if bytes_eq named.0 (codes "try") then try_of named.1 else None)))
 
 -- nothing where the words are refused for a cause
-abbrev pub unless_refused : Kinds → Option CommandLineRequest → Option CommandLineRequest
-unless_refused [] asked = asked
-unless_refused (cause ∷ causes) asked = None
+abbrev pub unless_faulty : Kinds → Option CommandLineRequest → Option CommandLineRequest
+unless_faulty [] asked = asked
+unless_faulty (cause ∷ causes) asked = None
 
 -- what the words are taken for, the program's name among them as the first; nothing where they do not fit the grammar or name no
 -- command
 unfoldable pub request_of_words : List Text → Option CommandLineRequest
-request_of_words words = unless_refused (fault_of program_grammar words) (option_and_then request_of (subcommand_of program_grammar words))
+request_of_words words = unless_faulty (fault_of program_grammar words) (option_and_then request_of (subcommand_of program_grammar words))
 
 -- the word is no flag: it does not begin with a hyphen (45)
 abbrev pub IsNoFlag : Text → Type 0

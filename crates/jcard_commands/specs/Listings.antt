@@ -69,6 +69,6 @@ Tells old new l (Err Unreadable) = (l.readable ≡ false) × Appends old new l.t
 Tells old new l (Err NotWritten) = AppendsCut old new l.text
 
 -- whether a write failed
-abbrev pub is_unwritten : Result Unit ListingFault → Bool
-is_unwritten (Err NotWritten) = true
-is_unwritten _ = false
+abbrev pub is_not_written : Result Unit ListingFault → Bool
+is_not_written (Err NotWritten) = true
+is_not_written _ = false

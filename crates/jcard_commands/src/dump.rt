@@ -8,7 +8,7 @@ ghost use Rattle.jcard_commands.specs.FileRequests.{FileRequests, with_more_requ
 ghost use Rattle.jcard_commands.specs.Faults.{is_unwritten};
 ghost use Rattle.jcard_commands.specs.Dumps.{IsDump, IsTold, lines_of};
 ghost use Rattle.jcard_commands.specs.Listings.{Tells, applet_text, count_line, line, numbered_lines, package_text, then_lines};
-ghost use Rattle.jcard_commands.specs.Listings.{is_unwritten as is_not_written};
+ghost use Rattle.jcard_commands.specs.Listings.{is_not_written};
 ghost use Rattle.jcard_commands.specs.Images.{damage_of};
 
 use crate::disk::Disk;

@@ -5,7 +5,7 @@ ghost use Rattle.hex.specs.Hex.{encode_upper};
 ghost use Rattle.jc_words.specs.Layout.{text_start};
 ghost use Rattle.jc_words.specs.Count.{failures_after};
 ghost use Rattle.jcard_script.specs.Texts.{AppendsCut};
-ghost use Rattle.jcard_commands.specs.Listings.{Tells, applet_line, applet_text, count_line, is_unwritten, line_if, name_text, numbered_lines, package_line};
+ghost use Rattle.jcard_commands.specs.Listings.{Tells, applet_line, applet_text, count_line, is_not_written, line_if, name_text, numbered_lines, package_line};
 ghost use Rattle.jcard_commands.specs.Listings.{package_text, version_line};
 ghost use Rattle.jcard_commands.specs.declared.listing.ListingFault.TheVariants.{NotWritten};
 
@@ -44,7 +44,7 @@ pub(crate) fn write_packages<S: WordStore, W: TextOut>(
     ensures text { Tells (W.contents out.old) (W.contents out.new)
         (numbered_lines (package_text (S.words store.now)) count) result }
     ensures writes { W.failures out.new ≡ failures_after (W.failures out.old)
-        (is_unwritten result) }
+        (is_not_written result) }
 {
     for i in 0..count {
         write_package_at(store, i + 1, out)?;
@@ -62,7 +62,7 @@ pub(crate) fn write_applets<S: WordStore, W: TextOut>(
     ensures text { Tells (W.contents out.old) (W.contents out.new)
         (numbered_lines (applet_text (S.words store.now)) count) result }
     ensures writes { W.failures out.new ≡ failures_after (W.failures out.old)
-        (is_unwritten result) }
+        (is_not_written result) }
 {
     for i in 0..count {
         write_applet_at(store, i + 1, out)?;
@@ -80,7 +80,7 @@ fn write_package_at<S: WordStore, W: TextOut>(
     ensures text { Tells (W.contents out.old) (W.contents out.new)
         (line_if (package_text (S.words store.now) number)) result }
     ensures writes { W.failures out.new ≡ failures_after (W.failures out.old)
-        (is_unwritten result) }
+        (is_not_written result) }
 {
     let Some(named) = package_at(store, number) else {
         return Err(ListingFault::Unreadable);
@@ -99,7 +99,7 @@ fn write_applet_at<S: WordStore, W: TextOut>(
     ensures text { Tells (W.contents out.old) (W.contents out.new)
         (line_if (applet_text (S.words store.now) number)) result }
     ensures writes { W.failures out.new ≡ failures_after (W.failures out.old)
-        (is_unwritten result) }
+        (is_not_written result) }
 {
     let Some(named) = applet_at(store, number) else {
         return Err(ListingFault::Unreadable);

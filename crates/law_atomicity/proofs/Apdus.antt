@@ -11,7 +11,7 @@ use Rattle.jc_platform.specs.declared.names.PlatformMethod.TheVariants.{ApduSetO
 use Rattle.jc_world.specs.NativeCalls.{NativeProgram}
 use Rattle.jc_world.specs.Objects.{short_argument}
 use Rattle.jc_api_data.specs.ApduBuffer.{buffer_of, data_of}
-use Rattle.jc_api_data.specs.Apdu.{and_then, apdu_call, apdu_set_outgoing_and_send, apdu_get_buffer, apdu_send_bytes, send_in_phase, length_of}
+use Rattle.jc_api_data.specs.Apdu.{then_call, apdu_call, apdu_set_outgoing_and_send, apdu_get_buffer, apdu_send_bytes, send_in_phase, length_of}
 use Rattle.jc_api_data.specs.Apdu.{apdu_set_outgoing_length, set_length_in_phase, apdu_set_outgoing, set_outgoing_in_phase, phase_of, piece_of}
 use Rattle.jc_api_data.specs.Apdu.{apdu_set_incoming_and_receive, receive_in_phase, apdu_receive_bytes}
 use Rattle.law_atomicity.proofs.Plain.{AllPlain, plain_bind, plain_sets_run}
@@ -65,13 +65,13 @@ unfolding apdu_send_bytes
 sent_plain start count m = sent_in_plain m (phase_of m) start count
 
 then_plain : (m : MemoryState) (first next : MemoryState → NativeProgram) → AllPlain (first m) → ((v : MemoryState) → AllPlain (next v))
-    → AllPlain (and_then m first next)
+    → AllPlain (then_call m first next)
 then_plain m first next plain rest = plain_bind _ (first m) m plain (λ answer v. plain_ok answer _ (λ a. rest v))
 
 all_plain : (start count : ℤ) (m : MemoryState) → AllPlain (apdu_set_outgoing_and_send start count m)
 unfolding apdu_set_outgoing_and_send
 all_plain start count m =
-    then_plain m apdu_set_outgoing (λ v. and_then v (apdu_set_outgoing_length count) (apdu_send_bytes start count)) (outgoing_plain m)
+    then_plain m apdu_set_outgoing (λ v. then_call v (apdu_set_outgoing_length count) (apdu_send_bytes start count)) (outgoing_plain m)
     (λ v. then_plain v (apdu_set_outgoing_length count) (apdu_send_bytes start count) (length_plain count v) (λ w. sent_plain start count w))
 
 pub apdu_plain : (method : PlatformMethod) (args : List Cell) (m : MemoryState) → AllPlain (apdu_call method args m)

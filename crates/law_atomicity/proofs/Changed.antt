@@ -22,7 +22,7 @@ use Rattle.jc_pin.specs.declared.updating.PinRefusal.{PinRefusal}
 use Rattle.jc_pin.specs.declared.updating.PinRefusal.TheVariants.{CommitFull, IllegalValue, HeapFull}
 use Rattle.jc_pin.specs.Pins.{counter, record_of}
 use Rattle.jc_pin.specs.PinInit.{first_record, pin_init, value_array}
-use Rattle.jc_pin.specs.Updating.{byte_changes, unless_full, changes_of_update, pin_update}
+use Rattle.jc_pin.specs.Updating.{byte_changes, unless_no_room, changes_of_update, pin_update}
 use Rattle.law_atomicity.specs.Tears.{SavedHeapAfter}
 use Rattle.law_atomicity.specs.Changed.{IsChanged}
 
@@ -101,19 +101,20 @@ set_changes s new r before x more begun did =
 
 unless_changes : (reason : Option HeapRefusal) (s new : MemoryState) (r : ℕ) (before : List (Place × ℕ)) (x : ℕ) (more : List (Place × ℕ))
     → s.heap.begun ≡ true →
-    Completes (unless_full reason (sets_and_takes (before ++ (counter r, x) ∷ more) r)) s (Ok tt) new → IsChanged new r
+    Completes (unless_no_room reason (sets_and_takes (before ++ (counter r, x) ∷ more) r)) s (Ok tt) new → IsChanged new r
 unless_changes None s new r before x more begun did = set_changes s new r before x more begun did
 unless_changes (Some reason) s new r before x more begun did = absurd (not_refused (Ok tt) CommitFull tt did.0)
 
 -- the counter comes behind the value and its length
 behind_value : (s new : MemoryState) (r : ℕ) (bytes : List ℕ) (long : Bool) (limit : ℕ) (reason : Option HeapRefusal) (put : List (Place × ℕ))
     → s.heap.begun ≡ true →
-    Completes (if long then Finish (Err IllegalValue) else unless_full reason (sets_and_takes (put ++ (Cell r 3, length bytes) ∷ (counter r, limit) ∷ []) r)) s
+    Completes (if long then Finish (Err IllegalValue) else
+    unless_no_room reason (sets_and_takes (put ++ (Cell r 3, length bytes) ∷ (counter r, limit) ∷ []) r)) s
     (Ok tt) new → IsChanged new r
 behind_value s new r bytes true limit reason put begun did = absurd (not_refused (Ok tt) IllegalValue tt did.0)
 behind_value s new r bytes false limit reason put begun did =
     unless_changes reason s new r (put ++ (Cell r 3, length bytes) ∷ []) limit [] begun
-    (subst (λ l. Completes (unless_full reason (sets_and_takes l r)) s (Ok tt) new) (sym (joined put)) did)
+    (subst (λ l. Completes (unless_no_room reason (sets_and_takes l r)) s (Ok tt) new) (sym (joined put)) did)
   where
     joined : (l : List (Place × ℕ)) → (l ++ (Cell r 3, length bytes) ∷ []) ++ (counter r, limit) ∷ [] ≡ l ++ (Cell r 3, length bytes) ∷ (counter r, limit) ∷ []
     joined [] = refl
@@ -158,13 +159,7 @@ stays_by (HeapMove (AddPackage components arrays rest)) s r heap_after_change in
 stays_by (HeapMove Begin) s r heap_after_change inside = absurd inside
 stays_by (HeapMove Commit) s r heap_after_change inside = absurd inside
 stays_by (HeapMove Abort) s r heap_after_change inside = absurd inside
-stays_by (SetTransient q i values) s r heap_after_change inside = heap_after_change
-stays_by (SetFlag q flag) s r heap_after_change inside = heap_after_change
-stays_by (ClearTransient event) s r heap_after_change inside = heap_after_change
-stays_by NullDead s r heap_after_change inside = heap_after_change
-stays_by (SetRegisters registers) s r heap_after_change inside = heap_after_change
-stays_by (BeginCommand bytes) s r heap_after_change inside = heap_after_change
-stays_by (SendBytes bytes) s r heap_after_change inside = heap_after_change
+stays_by _ s r heap_after_change inside = heap_after_change
 
 -- effects within are one within and then the rest within
 abbrev AreInside : Effect → List Effect → Type 0
@@ -181,13 +176,7 @@ parted (HeapMove (AddPackage components arrays rest)) es inside = (tt, inside)
 parted (HeapMove Begin) es inside = absurd inside
 parted (HeapMove Commit) es inside = absurd inside
 parted (HeapMove Abort) es inside = absurd inside
-parted (SetTransient q i values) es inside = (tt, inside)
-parted (SetFlag q flag) es inside = (tt, inside)
-parted (ClearTransient event) es inside = (tt, inside)
-parted NullDead es inside = (tt, inside)
-parted (SetRegisters registers) es inside = (tt, inside)
-parted (BeginCommand bytes) es inside = (tt, inside)
-parted (SendBytes bytes) es inside = (tt, inside)
+parted _ es inside = (tt, inside)
 
 pub stays_changed : (es : List Effect) (s : MemoryState) (r : ℕ) → IsChanged s r → IsInside (moves_of es) → IsChanged (apply_effects es s) r
 stays_changed [] s r heap_after_change inside = heap_after_change

@@ -23,7 +23,7 @@ use Rattle.jc_world.specs.Objects.{short_argument, reference_argument}
 use Rattle.jc_world.specs.declared.arrays.Stretch.{Stretch}
 use Rattle.jc_api_data.specs.OwnerPinArguments.{at_least_1, array_arguments, argument_bytes, receiver, is_own_value}
 use Rattle.jc_api_data.specs.OwnerPin.{bytes_in, pin_comparison, owner_pin_init, guess_of, pin_call, owner_pin_check, changed_or_thrown}
-use Rattle.jc_api_data.specs.OwnerPin.{owner_pin_get_tries_remaining, unless_refused, owner_pin_is_validated, owner_pin_update, owner_pin_reset}
+use Rattle.jc_api_data.specs.OwnerPin.{owner_pin_get_tries_remaining, return_unless_refused, owner_pin_is_validated, owner_pin_update, owner_pin_reset}
 use Rattle.jc_api_data.specs.OwnerPin.{owner_pin_reset_and_unblock}
 use Rattle.law_atomicity.specs.Orderly.{KeepsTransactionOrder}
 use Rattle.law_atomicity.proofs.Plain.{due_if, orderly_bind, plain_due}
@@ -46,13 +46,13 @@ found_behind m (Some r) = found_in m r (is_pin m r) refl
 is_received : (args : List Cell) (m : MemoryState) (r : ℕ) → receiver m args ≡ Some r → is_pin m r ≡ true
 is_received args m r e = subst (IsFound m) e (found_behind m (reference_argument args 0))
 
-answered : (result : Result (Unit {0}) PinRefusal) (m : MemoryState) → AllDue KeepsTransactionOrder (unless_refused result) m
+answered : (result : Result (Unit {0}) PinRefusal) (m : MemoryState) → AllDue KeepsTransactionOrder (return_unless_refused result) m
 answered (Ok u) m = tt
 answered (Err e) m = tt
 
 settled_orderly : (change : Program (Result (Unit {0}) PinRefusal)) (m : MemoryState) → AllDue KeepsTransactionOrder change m
     → AllDue KeepsTransactionOrder (changed_or_thrown change m) m
-settled_orderly change m due = orderly_bind (λ result v. unless_refused result) change m due (λ result v. answered result v)
+settled_orderly change m due = orderly_bind (λ result v. return_unless_refused result) change m due (λ result v. answered result v)
 
 constructed_orderly : (args : List Cell) (m : MemoryState) → AllDue KeepsTransactionOrder (owner_pin_init args m) m
 unfolding owner_pin_init

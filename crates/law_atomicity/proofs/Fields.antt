@@ -19,7 +19,8 @@ use Rattle.jc_interp_objects.specs.declared.static_images.ImageWord.{ImageWord}
 use Rattle.jc_interp_objects.specs.declared.field_names.FieldOfImage.{FieldOfImage}
 use Rattle.jc_interp_objects.specs.Fields.{field_read, field_write, own_field, field_cell, this_of, this_for_more, getfield, putfield, getfield_this}
 use Rattle.jc_interp_objects.specs.Fields.{putfield_this}
-use Rattle.jc_interp_objects.specs.StaticFields.{getstatic, own_static, static_value, if_room, halves, image_word_write, image_words_write, image_pair_write}
+use Rattle.jc_interp_objects.specs.StaticFields.{getstatic, own_static, static_value, halves, image_word_write, image_words_write, image_pair_write}
+use Rattle.jc_interp_objects.specs.StackRoom.{if_room}
 use Rattle.jc_interp_objects.specs.StaticFields.{image_write_of, static_write, putstatic}
 use Rattle.jc_interp_objects.specs.FieldOps.{field_instruction}
 use Rattle.law_atomicity.proofs.Plain.{AllPlain, plain_if, plain_sets}

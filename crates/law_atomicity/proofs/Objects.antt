@@ -24,7 +24,8 @@ use Rattle.jc_interp_objects.specs.ArrayAccess.{element_read, element_write, arr
 use Rattle.jc_interp_objects.specs.ArrayCreation.{array_creation, kind_of, newarray, anewarray}
 use Rattle.jc_interp_objects.specs.ArrayOps.{array_instruction}
 use Rattle.jc_interp_objects.specs.TypeChecks.{checkcast, instanceof, own_type, type_test}
-use Rattle.jc_interp_objects.specs.ObjectCreation.{cells_for, if_room, new_instance, instantiable_class}
+use Rattle.jc_interp_objects.specs.ObjectCreation.{cells_for, new_instance, instantiable_class}
+use Rattle.jc_interp_objects.specs.StackRoom.{if_room}
 use Rattle.law_atomicity.proofs.Plain.{AllPlain, plain_if, plain_sets, plain_makes_new}
 use Rattle.law_atomicity.proofs.Checks.{plain_some, plain_ok, plain_stopped, plain_unless}
 

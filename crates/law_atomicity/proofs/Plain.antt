@@ -42,13 +42,7 @@ orderly (HeapMove (AddPackage components arrays rest)) s plain = tt
 orderly (HeapMove Begin) s plain = absurd plain
 orderly (HeapMove Commit) s plain = absurd plain
 orderly (HeapMove Abort) s plain = absurd plain
-orderly (SetTransient r i values) s plain = tt
-orderly (SetFlag r flag) s plain = tt
-orderly (ClearTransient event) s plain = tt
-orderly NullDead s plain = tt
-orderly (SetRegisters registers) s plain = tt
-orderly (BeginCommand bytes) s plain = tt
-orderly (SendBytes bytes) s plain = tt
+orderly _ s plain = tt
 
 pub plain_due : {A : Type 0} (d : Program A) (s : MemoryState) → AllPlain d → AllDue KeepsTransactionOrder d s
 plain_due (Finish a) s plain = tt

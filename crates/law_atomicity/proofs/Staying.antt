@@ -74,13 +74,7 @@ module _ (q n : ℕ) where
   held_effect (HeapMove Begin) m leaves none held = held
   held_effect (HeapMove Commit) m leaves none held = held
   held_effect (HeapMove Abort) m leaves none held = absurd (none tt)
-  held_effect (SetTransient r i values) m leaves none held = held
-  held_effect (SetFlag r flag) m leaves none held = held
-  held_effect (ClearTransient event) m leaves none held = held
-  held_effect NullDead m leaves none held = held
-  held_effect (SetRegisters registers) m leaves none held = held
-  held_effect (BeginCommand bytes) m leaves none held = held
-  held_effect (SendBytes bytes) m leaves none held = held
+  held_effect _ m leaves none held = held
 
   held_all : (es : List Effect) (m : MemoryState) → AllEffectsDue (Leaves q) es m → AllEffectsDue (λ e v. Renews q e v → ⊥) es m → Holds q n m.heap.now
       → Holds q n (apply_effects es m).heap.now

@@ -40,13 +40,7 @@ settled_effect (HeapMove (AddPackage components arrays rest)) s settled = λ b. 
 settled_effect (HeapMove Begin) s settled = λ b. absurd (true≢false b)
 settled_effect (HeapMove Commit) s settled = λ b. refl
 settled_effect (HeapMove Abort) s settled = λ b. refl
-settled_effect (SetTransient r i values) s settled = settled
-settled_effect (SetFlag r flag) s settled = settled
-settled_effect (ClearTransient event) s settled = settled
-settled_effect NullDead s settled = settled
-settled_effect (SetRegisters registers) s settled = settled
-settled_effect (BeginCommand bytes) s settled = settled
-settled_effect (SendBytes bytes) s settled = settled
+settled_effect _ s settled = settled
 
 -- ---- effects within an open transaction leave it open
 
@@ -151,13 +145,7 @@ saved_more (HeapMove (AddPackage components arrays rest)) es s h due stands save
 saved_more (HeapMove Begin) es s h due stands saved = inr ([], es, refl, saved.0, due, saved.1)
 saved_more (HeapMove Commit) es s h due stands saved = absurd (ended es s (apply_effect (HeapMove Commit) s) h h refl stands saved.0)
 saved_more (HeapMove Abort) es s h due stands saved = absurd (ended es s (apply_effect (HeapMove Abort) s) h h refl stands saved.0)
-saved_more (SetTransient r i values) es s h due stands saved = inl saved
-saved_more (SetFlag r flag) es s h due stands saved = inl saved
-saved_more (ClearTransient event) es s h due stands saved = inl saved
-saved_more NullDead es s h due stands saved = inl saved
-saved_more (SetRegisters registers) es s h due stands saved = inl saved
-saved_more (BeginCommand bytes) es s h due stands saved = inl saved
-saved_more (SendBytes bytes) es s h due stands saved = inl saved
+saved_more _ es s h due stands saved = inl saved
 
 behind_more : (e : Effect) (es : List Effect) (s : MemoryState) (h : HeapState) → KeepsTransactionOrder e s → TearLeavesAfter es (apply_effect e s) h
     → TearLeavesAfter (e ∷ es) s h

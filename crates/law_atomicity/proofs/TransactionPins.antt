@@ -24,7 +24,7 @@ use Rattle.jc_pin.specs.Pins.{counter, is_persistent_with, is_pin, record_of}
 use Rattle.jc_pin.specs.Checking.{pin_check, is_value, comparison}
 use Rattle.jc_pin.specs.Resetting.{pin_reset, pin_unblock}
 use Rattle.jc_pin.specs.PinInit.{first_record, pin_init, value_array}
-use Rattle.jc_pin.specs.Updating.{unless_full, changes_of_update, pin_update}
+use Rattle.jc_pin.specs.Updating.{unless_no_room, changes_of_update, pin_update}
 use Rattle.jc_pin.proofs.Kept.{word_kept}
 use Rattle.law_atomicity.specs.Orderly.{KeepsTransactionOrder}
 use Rattle.law_atomicity.proofs.Plain.{AllPlain, due_if, plain_if, plain_makes_new}
@@ -137,12 +137,12 @@ started_plain s r limit maximum =
     (plain_makes_new {A = Result (Unit {0}) PinRefusal} (value_array s maximum) (λ value. Perform
     (HeapMove (SetPlaces (first_record r limit maximum value))) (Perform (SetFlag r false) (Finish (Ok tt)))) (λ value. (tt, (tt, tt)))))
 
-unless_full_plain : {A : Type 0} (reason : Option HeapRefusal) (d : Program (Result A PinRefusal)) → AllPlain d → AllPlain (unless_full reason d)
-unless_full_plain None d plain = plain
-unless_full_plain (Some r) d plain = tt
+unless_no_room_plain : {A : Type 0} (reason : Option HeapRefusal) (d : Program (Result A PinRefusal)) → AllPlain d → AllPlain (unless_no_room reason d)
+unless_no_room_plain None d plain = plain
+unless_no_room_plain (Some r) d plain = tt
 
 pub updated_plain : (s : MemoryState) (r : ℕ) (bytes : List ℕ) → AllPlain (pin_update s r bytes)
 unfolding pin_update
 updated_plain s r bytes =
-    plain_if (nat_lt (record_of s r).maximum (length bytes)) _ _ tt (unless_full_plain
+    plain_if (nat_lt (record_of s r).maximum (length bytes)) _ _ tt (unless_no_room_plain
     (refusal_of_places s.heap (places_of (changes_of_update (record_of s r) r bytes))) _ (tt, (tt, tt)))

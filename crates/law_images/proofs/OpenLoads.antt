@@ -1,5 +1,5 @@
 -- Open loads stay readable.
-use Rattle.std.proofs.Common.{ℕ, ◌+◌, ◌-◌, ◌==◌, ◌<◌, false, List, length, refl, Option, Some, None, Result, Ok, Err, nat_lt}
+use Rattle.std.proofs.Common.{◌≡◌, ℕ, ◌+◌, ◌-◌, ◌==◌, ◌<◌, false, List, length, refl, Option, Some, None, Result, Ok, Err, nat_lt}
 use Rattle.std.specs.Prelude.{IfSome, is_some, slice_index_or}
 use Rattle.std.proofs.lemmas.List.Elements.{All-append, All-nil}
 use Rattle.jc_cap_linkage.specs.declared.fault.CapFault.{CapFault}
@@ -17,160 +17,58 @@ use Rattle.law_images.specs.ReadingLoads.{IsOpenReadable, LoadsAreReadable}
 
 -- ---- the components that came
 
+readable : (texts : LoadedComponents) → texts.format ≡ V2_1 → IfSome texts.header AreBytes → IfSome texts.directory AreBytes → IfSome texts.applets AreBytes
+    → IfSome texts.imports AreBytes → IfSome texts.pool AreBytes → IfSome texts.classes AreBytes → IfSome texts.methods AreBytes
+    → IfSome texts.statics AreBytes → IfSome texts.exports AreBytes → IsReadable texts
+readable texts format header directory applets imports pool classes methods statics exports = record {
+  format = format;
+  header = header;
+  directory = directory;
+  applets = applets;
+  imports = imports;
+  pool = pool;
+  classes = classes;
+  methods = methods;
+  statics = statics;
+  exports = exports;
+}
+
+-- one component more, of bytes
 module _ (texts : LoadedComponents) (bytes : List ℕ) (r : IsReadable texts) (b : AreBytes bytes) where
   with_header : IsReadable (record texts { header = Some bytes })
-  with_header = record {
-    format = r.format;
-    header = b;
-    directory = r.directory;
-    applets = r.applets;
-    imports = r.imports;
-    pool = r.pool;
-    classes = r.classes;
-    methods = r.methods;
-    statics = r.statics;
-    exports = r.exports;
-  }
+  with_header = readable (record texts { header = Some bytes }) r.format b r.directory r.applets r.imports r.pool r.classes r.methods r.statics r.exports
 
   with_directory : IsReadable (record texts { directory = Some bytes })
-  with_directory = record {
-    format = r.format;
-    header = r.header;
-    directory = b;
-    applets = r.applets;
-    imports = r.imports;
-    pool = r.pool;
-    classes = r.classes;
-    methods = r.methods;
-    statics = r.statics;
-    exports = r.exports;
-  }
+  with_directory = readable (record texts { directory = Some bytes }) r.format r.header b r.applets r.imports r.pool r.classes r.methods r.statics r.exports
 
   with_applets : IsReadable (record texts { applets = Some bytes })
-  with_applets = record {
-    format = r.format;
-    header = r.header;
-    directory = r.directory;
-    applets = b;
-    imports = r.imports;
-    pool = r.pool;
-    classes = r.classes;
-    methods = r.methods;
-    statics = r.statics;
-    exports = r.exports;
-  }
+  with_applets = readable (record texts { applets = Some bytes }) r.format r.header r.directory b r.imports r.pool r.classes r.methods r.statics r.exports
 
   with_imports : IsReadable (record texts { imports = Some bytes })
-  with_imports = record {
-    format = r.format;
-    header = r.header;
-    directory = r.directory;
-    applets = r.applets;
-    imports = b;
-    pool = r.pool;
-    classes = r.classes;
-    methods = r.methods;
-    statics = r.statics;
-    exports = r.exports;
-  }
+  with_imports = readable (record texts { imports = Some bytes }) r.format r.header r.directory r.applets b r.pool r.classes r.methods r.statics r.exports
 
   with_pool : IsReadable (record texts { pool = Some bytes })
-  with_pool = record {
-    format = r.format;
-    header = r.header;
-    directory = r.directory;
-    applets = r.applets;
-    imports = r.imports;
-    pool = b;
-    classes = r.classes;
-    methods = r.methods;
-    statics = r.statics;
-    exports = r.exports;
-  }
+  with_pool = readable (record texts { pool = Some bytes }) r.format r.header r.directory r.applets r.imports b r.classes r.methods r.statics r.exports
 
   with_classes : IsReadable (record texts { classes = Some bytes })
-  with_classes = record {
-    format = r.format;
-    header = r.header;
-    directory = r.directory;
-    applets = r.applets;
-    imports = r.imports;
-    pool = r.pool;
-    classes = b;
-    methods = r.methods;
-    statics = r.statics;
-    exports = r.exports;
-  }
+  with_classes = readable (record texts { classes = Some bytes }) r.format r.header r.directory r.applets r.imports r.pool b r.methods r.statics r.exports
 
   with_methods : IsReadable (record texts { methods = Some bytes })
-  with_methods = record {
-    format = r.format;
-    header = r.header;
-    directory = r.directory;
-    applets = r.applets;
-    imports = r.imports;
-    pool = r.pool;
-    classes = r.classes;
-    methods = b;
-    statics = r.statics;
-    exports = r.exports;
-  }
+  with_methods = readable (record texts { methods = Some bytes }) r.format r.header r.directory r.applets r.imports r.pool r.classes b r.statics r.exports
 
   with_statics : IsReadable (record texts { statics = Some bytes })
-  with_statics = record {
-    format = r.format;
-    header = r.header;
-    directory = r.directory;
-    applets = r.applets;
-    imports = r.imports;
-    pool = r.pool;
-    classes = r.classes;
-    methods = r.methods;
-    statics = b;
-    exports = r.exports;
-  }
+  with_statics = readable (record texts { statics = Some bytes }) r.format r.header r.directory r.applets r.imports r.pool r.classes r.methods b r.exports
 
   with_reference_location : IsReadable (record texts { reference_location = Some (length bytes - 3) })
-  with_reference_location = record {
-    format = r.format;
-    header = r.header;
-    directory = r.directory;
-    applets = r.applets;
-    imports = r.imports;
-    pool = r.pool;
-    classes = r.classes;
-    methods = r.methods;
-    statics = r.statics;
-    exports = r.exports;
-  }
+  with_reference_location = readable (record texts { reference_location = Some (length bytes - 3) })
+      r.format r.header r.directory r.applets r.imports r.pool r.classes r.methods r.statics r.exports
 
   with_exports : IsReadable (record texts { exports = Some bytes })
-  with_exports = record {
-    format = r.format;
-    header = r.header;
-    directory = r.directory;
-    applets = r.applets;
-    imports = r.imports;
-    pool = r.pool;
-    classes = r.classes;
-    methods = r.methods;
-    statics = r.statics;
-    exports = b;
-  }
+  with_exports = readable (record texts { exports = Some bytes }) r.format r.header r.directory r.applets r.imports r.pool r.classes r.methods r.statics b
 
   with_descriptor : IsReadable (record texts { descriptor = Some (length bytes - 3) })
-  with_descriptor = record {
-    format = r.format;
-    header = r.header;
-    directory = r.directory;
-    applets = r.applets;
-    imports = r.imports;
-    pool = r.pool;
-    classes = r.classes;
-    methods = r.methods;
-    statics = r.statics;
-    exports = r.exports;
-  }
+  with_descriptor = readable (record texts { descriptor = Some (length bytes - 3) })
+      r.format r.header r.directory r.applets r.imports r.pool r.classes r.methods r.statics r.exports
 
   text_kept : (tag : ℕ) → IsReadable (with_component texts tag bytes)
   unfolding with_component

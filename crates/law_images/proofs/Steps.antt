@@ -50,9 +50,9 @@ pub cut_kept : (card : CardState) (bytes : List ℕ) (new : MemoryState) (store 
     × ((durable_state_in_store store).refused ≡ saturating_count card.memory.heap.refused 1) × ((durable_state_in_store store).size ≡ card.memory.heap.size)
     × ((durable_state_in_store store).laid ≡ true)
 cut_kept card bytes new store cut durable down refused size laid = (
-  subst (TearLeaves (exchange bytes card) card.memory) (sym durable) cut.0,
-  down ∙ cut.1,
-  refused ∙ cut.2,
-  size ∙ cut.3,
+  subst (TearLeaves (exchange bytes card) card.memory) (sym durable) cut.left,
+  down ∙ cut.down,
+  refused ∙ cut.refused,
+  size ∙ cut.size,
   if_laid (recovered_of store.words) laid,
 )

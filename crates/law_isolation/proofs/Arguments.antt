@@ -165,10 +165,7 @@ cells_if n Instance f g e = (refl, long (nat_le n f.length) refl e)
     long : (b : Bool) → nat_le n f.length ≡ b → (if b then Ok f else Err (End Fault)) ≡ Ok g → n ≤ f.length
     long true le is = leb-true n f.length le
     long false le is = absurd (err_not_ok is)
-cells_if n BooleanArray f g e = absurd (err_not_ok e)
-cells_if n ByteArray f g e = absurd (err_not_ok e)
-cells_if n ShortArray f g e = absurd (err_not_ok e)
-cells_if n ReferenceArray f g e = absurd (err_not_ok e)
+cells_if n _ f g e = absurd (err_not_ok e)
 
 pub instance_is : (m : MemoryState) (r n : ℕ) (f : Facts) → instance_at m r n ≡ Ok f → IsInstanceWith m r n
 unfolding instance_at

@@ -38,11 +38,11 @@ use Rattle.jc_interp_objects.specs.Fields.{field_read, getfield, getfield_this, 
 use Rattle.jc_interp_objects.specs.Fields.{this_of}
 use Rattle.jc_interp_objects.specs.FieldOps.{field_instruction}
 use Rattle.jc_interp_objects.specs.StaticImages.{image_word, next_word, place_of}
-use Rattle.jc_interp_objects.specs.StaticFields.{getstatic, halves, if_room, own_static, image_pair_write, putstatic, image_write_of, static_write}
+use Rattle.jc_interp_objects.specs.StaticFields.{getstatic, halves, own_static, image_pair_write, putstatic, image_write_of, static_write}
+use Rattle.jc_interp_objects.specs.StackRoom.{if_room}
 use Rattle.jc_interp_objects.specs.StaticFields.{static_value, image_word_write, image_words_write}
 use Rattle.jc_interp_objects.specs.TypeChecks.{checkcast, instanceof, own_type, type_test}
 use Rattle.jc_interp_objects.specs.ObjectCreation.{cells_for, new_instance, instantiable_class}
-use Rattle.jc_interp_objects.specs.ObjectCreation as making
 use Rattle.law_isolation.proofs.Due.{due_if, due_ok, due_some, due_stopped, due_unless}
 use Rattle.law_isolation.proofs.Passing.{ArraysPass, FieldsPass, InstancesPass, new_for}
 use Rattle.law_isolation.proofs.Reached.{array_reached, cell_reached, index_within, names}
@@ -195,7 +195,7 @@ module _ (P : Effect → MemoryState → Type 0) (p : Packages) (m : MemoryState
 
   pub made_due : InstancesPass P p m → (index : ℕ) (s : Frames) → AllDue P (new_instance index p s m) m
   unfolding new_instance
-  made_due pass index s = due_some P m (making.if_room s (instantiable_class p s.current.origin.package_number index)) _
+  made_due pass index s = due_some P m (if_room s (instantiable_class p s.current.origin.package_number index)) _
       (λ class is. due_ok P m s (cells_for (size_of p class)) _ (λ n few.
       pass s.current.origin.package_number index class n s (room_for (has_room s.current)
       (instantiable_class p s.current.origin.package_number index) class is) few))

@@ -57,7 +57,7 @@ use Rattle.jc_pin.specs.Checking.{pin_check, is_value, comparison}
 use Rattle.jc_pin.specs.Pins.{counter, is_pin, record_of}
 use Rattle.jc_pin.specs.Resetting.{pin_reset}
 use Rattle.jc_pin.specs.PinInit.{pin_init}
-use Rattle.jc_pin.specs.Updating.{unless_full, changes_of_update, pin_update}
+use Rattle.jc_pin.specs.Updating.{unless_no_room, changes_of_update, pin_update}
 use Rattle.jc_registry.specs.Aids.{aid_at}
 use Rattle.jc_registry.specs.Registry.{applet_with_aid, instance_of_applet}
 use Rattle.jc_memory.specs.Room.{has_space, lacks_capacity}
@@ -75,7 +75,7 @@ use Rattle.jc_api_runtime.specs.Applet.{applet_call, applet_register_bytes, inst
 use Rattle.jc_api_runtime.specs.Register.{open_installation}
 use Rattle.jc_api_data.specs.OwnerPinArguments.{at_least_1, array_arguments, argument_bytes, receiver, is_own_value}
 use Rattle.jc_api_data.specs.OwnerPin.{pin_comparison, owner_pin_init, guess_of, pin_call, owner_pin_check, changed_or_thrown, owner_pin_get_tries_remaining}
-use Rattle.jc_api_data.specs.OwnerPin.{unless_refused, owner_pin_is_validated, owner_pin_update, owner_pin_reset, owner_pin_reset_and_unblock}
+use Rattle.jc_api_data.specs.OwnerPin.{return_unless_refused, owner_pin_is_validated, owner_pin_update, owner_pin_reset, owner_pin_reset_and_unblock}
 use Rattle.jc_api_runtime.specs.SystemSharing.{jc_system_lookup_aid, server_call_result, server_call_by_aid, server_call_if_known}
 use Rattle.jc_api_runtime.specs.SystemSharing.{jc_system_get_applet_shareable_interface_object}
 use Rattle.jc_api_runtime.specs.System.{system_call}
@@ -361,11 +361,11 @@ module _ (P : Effect → MemoryState → Type 0) (Q : MemoryState → Type 0) (b
       due_if P m (is_aid_length e.count) _ _ (λ on. pass.given_registers is e instance own on) (λ off. tt)))))))
 
   -- OwnerPIN
-  full_due : {A : Type 0} (o : Option HeapRefusal) (d : Program (Result A PinRefusal)) → AllDue P d m → AllDue P (unless_full o d) m
+  full_due : {A : Type 0} (o : Option HeapRefusal) (d : Program (Result A PinRefusal)) → AllDue P d m → AllDue P (unless_no_room o d) m
   full_due None d due = due
   full_due (Some reason) d due = tt
 
-  refused_due : (result : Result (Unit {0}) PinRefusal) (v : MemoryState) → AllDue P (unless_refused result) v
+  refused_due : (result : Result (Unit {0}) PinRefusal) (v : MemoryState) → AllDue P (return_unless_refused result) v
   refused_due (Ok u) v = tt
   refused_due (Err e) v = tt
 

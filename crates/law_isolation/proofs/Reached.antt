@@ -59,10 +59,7 @@ pub record IsCell (p : Packages) (m : MemoryState) (field : FieldOfClass) (r i :
 
 instance_kind : (kind : Kind) → is_instance kind ≡ true → kind ≡ Instance
 instance_kind Instance e = refl
-instance_kind BooleanArray e = absurd cc
-instance_kind ByteArray e = absurd cc
-instance_kind ShortArray e = absurd cc
-instance_kind ReferenceArray e = absurd cc
+instance_kind _ e = absurd cc
 
 module _ (field : FieldOfClass) (p : Packages) (m : MemoryState) (r i : ℕ) where
   allowed_cell : (f : Facts) → IsObject m.heap.now r → f ≡ facts m.heap.now r → (b : Bool) → has_cell field p f ≡ b → (a : Result (Unit {0}) FrameExit)

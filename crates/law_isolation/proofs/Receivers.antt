@@ -199,39 +199,20 @@ module _ (p : Packages) (m : MemoryState) (stack : List Cell) (c : MethodCall) (
 
   virtual_on : (o : Option Target) → virtual_by o p stack m ≡ Ok c → IsFit p m stack c
   virtual_on (Some (VirtualMethod class token method)) e = virtually_on class token method e
-  virtual_on (Some (Class class)) e = absurd (err_not_ok e)
-  virtual_on (Some (InstanceField class cell is_reference)) e = absurd (err_not_ok e)
-  virtual_on (Some (SuperMethod class method)) e = absurd (err_not_ok e)
-  virtual_on (Some (StaticField number offset)) e = absurd (err_not_ok e)
-  virtual_on (Some (StaticMethod class method)) e = absurd (err_not_ok e)
-  virtual_on None e = absurd (err_not_ok e)
+  virtual_on _ e = absurd (err_not_ok e)
 
   special_on : (o : Option Target) → special_by o p stack m ≡ Ok c → IsFit p m stack c
   special_on (Some (StaticMethod class method)) e = specially_on class method e
   special_on (Some (SuperMethod class method)) e = specially_on (Some class) method e
-  special_on (Some (VirtualMethod class token method)) e = absurd (err_not_ok e)
-  special_on (Some (Class class)) e = absurd (err_not_ok e)
-  special_on (Some (InstanceField class cell is_reference)) e = absurd (err_not_ok e)
-  special_on (Some (StaticField number offset)) e = absurd (err_not_ok e)
-  special_on None e = absurd (err_not_ok e)
+  special_on _ e = absurd (err_not_ok e)
 
   static_on : (statics : NamesStatics p) (number index : ℕ) (o : Option Target) → target_at p number index ≡ o → static_by o p ≡ Ok c → IsFit p m stack c
   static_on statics number index (Some (StaticMethod class method)) target e = statically_on statics number index class method target e
-  static_on statics number index (Some (SuperMethod class method)) target e = absurd (err_not_ok e)
-  static_on statics number index (Some (VirtualMethod class token method)) target e = absurd (err_not_ok e)
-  static_on statics number index (Some (Class class)) target e = absurd (err_not_ok e)
-  static_on statics number index (Some (InstanceField class cell is_reference)) target e = absurd (err_not_ok e)
-  static_on statics number index (Some (StaticField home offset)) target e = absurd (err_not_ok e)
-  static_on statics number index None target e = absurd (err_not_ok e)
+  static_on statics number index _ target e = absurd (err_not_ok e)
 
   by_interface_on : (o : Option Target) (n token : ℕ) → interface_by o n token p stack m ≡ Ok c → IsFit p m stack c
   by_interface_on (Some (Class class)) n token e = interface_on class n token e
-  by_interface_on (Some (VirtualMethod class t method)) n token e = absurd (err_not_ok e)
-  by_interface_on (Some (SuperMethod class method)) n token e = absurd (err_not_ok e)
-  by_interface_on (Some (StaticMethod class method)) n token e = absurd (err_not_ok e)
-  by_interface_on (Some (InstanceField class cell is_reference)) n token e = absurd (err_not_ok e)
-  by_interface_on (Some (StaticField number offset)) n token e = absurd (err_not_ok e)
-  by_interface_on None n token e = absurd (err_not_ok e)
+  by_interface_on _ n token e = absurd (err_not_ok e)
 
 -- what a call that was chosen, and does not switch, is on
 pub chosen_fit : (p : Packages) (statics : NamesStatics p) (m : MemoryState) (s : Frames) (c : MethodCall) → c.switches_to ≡ None → (i : InvokeOp)

@@ -34,13 +34,14 @@ module _ (p : Packages) (statics : NamesStatics p) (lent : List ℕ) (start : Me
 
 pub isolated : AreIsolated
 isolated = record {
-  ran = λ k q lent p s m t n statics set out ran.
-      let b = behind m q out.there in
-      let st = ran_stands p statics lent m set q out b.0 b.1 k s m t n ran (stands_first m q b.0 set b.1) in
-      (keeps_cells q b.0 m n b.1 st, outside_still p q b.0 m n b.1 out st);
-  ends = λ k q lent p s m t n statics set out ran during after next takes stays quiet.
-      let b = behind m q out.there in
-      let st = ran_stands p statics lent m set q out b.0 b.1 k s m t n ran (stands_first m q b.0 set b.1) in
-      let due = due_before (LeavesObject q) during after n (step_taken p statics lent m set q out b.0 b.1 t n (during ++ after) next st stays takes) in
+  ran = λ k q lent p s m t n runs.
+      let b = behind m q runs.outside.there in
+      let st = ran_stands p runs.statics lent m runs.set q runs.outside b.0 b.1 k s m t n runs.steps (stands_first m q b.0 runs.set b.1) in
+      (keeps_cells q b.0 m n b.1 st, outside_still p q b.0 m n b.1 runs.outside st);
+  ends = λ k q lent p s m t n runs during after next takes stays quiet.
+      let b = behind m q runs.outside.there in
+      let st = ran_stands p runs.statics lent m runs.set q runs.outside b.0 b.1 k s m t n runs.steps (stands_first m q b.0 runs.set b.1) in
+      let due = due_before (LeavesObject q) during after n
+      (step_taken p runs.statics lent m runs.set q runs.outside b.0 b.1 t n (during ++ after) next st stays takes) in
       keeps_cells q b.0 m (apply_effects during n) b.1 (stands_after q b.0 m n during due quiet st);
 }

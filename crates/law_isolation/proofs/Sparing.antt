@@ -109,9 +109,7 @@ keeps_cells q o start m is st =
     }
 
 pub are_sparing : LeaveObjects
-are_sparing = record {
-  cells = λ p m q es set out due quiet.
-      let b = behind m q out.there in keeps_cells q b.0 m (apply_effects es m) b.1 (stands_after q b.0 m m es due quiet (stands_first m q b.0 set b.1));
-  outside = λ p m q es set out due quiet.
-      let b = behind m q out.there in outside_still p q b.0 m (apply_effects es m) b.1 out (stands_after q b.0 m m es due quiet (stands_first m q b.0 set b.1));
-}
+are_sparing p m q es set out due quiet =
+    let b = behind m q out.there in
+    let st = stands_after q b.0 m m es due quiet (stands_first m q b.0 set b.1) in
+    (keeps_cells q b.0 m (apply_effects es m) b.1 st, outside_still p q b.0 m (apply_effects es m) b.1 out st)

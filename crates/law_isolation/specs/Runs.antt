@@ -19,15 +19,19 @@ RunStepsWithin (suc k) lent p s m t n =
     (es : List Effect) × (u : Frames) × HasTrace (machine_step lent p s m) m es (GoesOn u) × AreQuiet es m × Stays lent p s m
     × RunStepsWithin k lent p u (apply_effects es m) t n
 
--- an object outside the reach of the code that runs keeps its cells in all such steps, and in the step behind them as far as
--- that is quiet; and it stays outside reach
+-- such steps begin, in a memory of a card that is up, while an object is outside the reach of the code that runs
+pub record RunsOutside (k q : ℕ) (lent : List ℕ) (p : Packages) (s : Frames) (m : MemoryState) (t : Frames) (n : MemoryState) : Type 0 where
+  pub statics : NamesStatics p
+  pub set : IsSet m
+  pub outside : IsOutside p m q
+  pub steps : RunStepsWithin k lent p s m t n
+
+-- the object keeps its cells in all such steps, and in the step behind them as far as that is quiet; and it stays outside reach
 pub record AreIsolated : Type 0 where
-  pub ran : (k q : ℕ) (lent : List ℕ) (p : Packages) (s : Frames) (m : MemoryState) (t : Frames) (n : MemoryState) → NamesStatics p → IsSet m → IsOutside p m q
-      → RunStepsWithin k lent p s m t n →
-      KeepsCells q m n × IsOutside p n q
-  pub ends : (k q : ℕ) (lent : List ℕ) (p : Packages) (s : Frames) (m : MemoryState) (t : Frames) (n : MemoryState) → NamesStatics p → IsSet m → IsOutside p m q
-      → RunStepsWithin k lent p s m t n →
-      (during after : List Effect) (next : Next Frames) → HasTrace (machine_step lent p t n) n (during ++ after) next → Stays lent p t n → AreQuiet during n
+  pub ran : (k q : ℕ) (lent : List ℕ) (p : Packages) (s : Frames) (m : MemoryState) (t : Frames) (n : MemoryState) → RunsOutside k q lent p s m t n
+      → KeepsCells q m n × IsOutside p n q
+  pub ends : (k q : ℕ) (lent : List ℕ) (p : Packages) (s : Frames) (m : MemoryState) (t : Frames) (n : MemoryState) → RunsOutside k q lent p s m t n
+      → (during after : List Effect) (next : Next Frames) → HasTrace (machine_step lent p t n) n (during ++ after) next → Stays lent p t n → AreQuiet during n
       → KeepsCells q m (apply_effects during n)
 
 -- ---- what a run is

@@ -84,8 +84,6 @@ pub record IsSet (m : MemoryState) : Type 0 where
   pub command : length m.command ≤ 261
 
 -- quiet effects that spare an object outside reach leave its cells as they are, and it outside reach
-pub record LeaveObjects : Type 0 where
-  pub cells : (p : Packages) (m : MemoryState) (q : ℕ) (es : List Effect) → IsSet m → IsOutside p m q → AllEffectsDue (LeavesObject q) es m → AreQuiet es m
-      → KeepsCells q m (apply_effects es m)
-  pub outside : (p : Packages) (m : MemoryState) (q : ℕ) (es : List Effect) → IsSet m → IsOutside p m q → AllEffectsDue (LeavesObject q) es m → AreQuiet es m
-      → IsOutside p (apply_effects es m) q
+abbrev pub LeaveObjects : Type 0
+LeaveObjects = (p : Packages) (m : MemoryState) (q : ℕ) (es : List Effect) → IsSet m → IsOutside p m q → AllEffectsDue (LeavesObject q) es m → AreQuiet es m
+    → KeepsCells q m (apply_effects es m) × IsOutside p (apply_effects es m) q

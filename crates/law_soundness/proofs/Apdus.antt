@@ -13,7 +13,7 @@ use Rattle.jc_platform.specs.declared.names.PlatformMethod.TheVariants.{ApduSetO
 use Rattle.jc_world.specs.NativeCalls.{NativeProgram}
 use Rattle.jc_world.specs.Objects.{short_argument}
 use Rattle.jc_api_data.specs.ApduBuffer.{buffer_of, data_of}
-use Rattle.jc_api_data.specs.Apdu.{and_then, apdu_call, apdu_set_outgoing_and_send, apdu_send_bytes, send_in_phase, length_of, apdu_set_outgoing_length}
+use Rattle.jc_api_data.specs.Apdu.{then_call, apdu_call, apdu_set_outgoing_and_send, apdu_send_bytes, send_in_phase, length_of, apdu_set_outgoing_length}
 use Rattle.jc_api_data.specs.Apdu.{set_length_in_phase, apdu_set_outgoing, set_outgoing_in_phase, phase_of, piece_of, apdu_set_incoming_and_receive}
 use Rattle.jc_api_data.specs.Apdu.{receive_in_phase, apdu_receive_bytes}
 use Rattle.law_soundness.proofs.Still.{AsksNone, IsLike, IsStillCall, still_bind, still_ok, still_sets_run, still_some, still_unless}
@@ -72,14 +72,14 @@ module _ (g : Registers) where
     sent_still start count = sent_in_still (phase_of m) start count
 
     then_still : (first next : MemoryState → NativeProgram) → IsStillCall g (first m) → ((v : MemoryState) → IsLike g v → IsStillCall g (next v))
-        → IsStillCall g (and_then m first next)
+        → IsStillCall g (then_call m first next)
     then_still first next still rest = still_bind g AsksNone AsksNone _ (first m) m like still (λ answer v none same. still_ok g answer _ (λ a. rest v same))
 
   module _ (m : MemoryState) (like : IsLike g m) where
     all_still : (start count : ℤ) → IsStillCall g (apdu_set_outgoing_and_send start count m)
     unfolding apdu_set_outgoing_and_send
     all_still start count =
-        then_still m like apdu_set_outgoing (λ v. and_then v (apdu_set_outgoing_length count) (apdu_send_bytes start count)) (outgoing_still m like)
+        then_still m like apdu_set_outgoing (λ v. then_call v (apdu_set_outgoing_length count) (apdu_send_bytes start count)) (outgoing_still m like)
         (λ v same. then_still v same (apdu_set_outgoing_length count) (apdu_send_bytes start count) (length_still v same count)
         (λ w other. sent_still w other start count))
 

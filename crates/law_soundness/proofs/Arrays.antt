@@ -48,10 +48,7 @@ no_instance : (of_type : ValueType) (kind : Kind) → has_elements of_type kind 
 no_instance types.Reference Instance has is = absurd cc
 no_instance types.Byte Instance has is = absurd cc
 no_instance types.Short Instance has is = absurd cc
-no_instance of_type BooleanArray has is = absurd cc
-no_instance of_type ByteArray has is = absurd cc
-no_instance of_type ShortArray has is = absurd cc
-no_instance of_type ReferenceArray has is = absurd cc
+no_instance of_type _ has is = absurd cc
 
 references : (of_type : ValueType) (kind : Kind) (value : CellValue) → has_elements of_type kind ≡ true → kind ≡ ReferenceArray → HasType of_type value
     → IsRef value

@@ -94,5 +94,5 @@ module _ (keeps : KeepsSound) (calm : LocalEffectsStay) (args : List Cell) (p : 
 
 pub natives_leave : KeepsSound → NativesFit → LocalEffectsStay → NativesLeave
 unfolding native_call
-natives_leave keeps fit calm method args p m known aids sound steady receiver =
-    part_left keeps calm args p m sound steady (part_of method) method (fit method args p m known aids sound steady receiver)
+natives_leave keeps fit calm method args p m given =
+    part_left keeps calm args p m given.sound given.steady (part_of method) method (fit method args p m given)

@@ -21,14 +21,14 @@ use Rattle.jc_pin.specs.Pins.{record_of}
 use Rattle.jc_pin.specs.Checking.{pin_check, is_value, comparison}
 use Rattle.jc_pin.specs.Resetting.{pin_reset}
 use Rattle.jc_pin.specs.PinInit.{first_record, pin_init, value_array}
-use Rattle.jc_pin.specs.Updating.{byte_changes, unless_full, changes_of_update, pin_update}
+use Rattle.jc_pin.specs.Updating.{byte_changes, unless_no_room, changes_of_update, pin_update}
 use Rattle.jc_world.specs.declared.native_result.NativeResult.TheVariants.{ReturnVoid}
 use Rattle.jc_world.specs.NativeCalls.{return_value}
 use Rattle.jc_world.specs.Objects.{short_argument}
 use Rattle.jc_world.specs.declared.arrays.Stretch.{Stretch}
 use Rattle.jc_api_data.specs.OwnerPinArguments.{at_least_1, array_arguments, argument_bytes, receiver, is_own_value}
 use Rattle.jc_api_data.specs.OwnerPin.{bytes_in, pin_comparison, owner_pin_init, guess_of, pin_call, owner_pin_check, changed_or_thrown}
-use Rattle.jc_api_data.specs.OwnerPin.{owner_pin_get_tries_remaining, unless_refused, owner_pin_is_validated, owner_pin_update, owner_pin_reset}
+use Rattle.jc_api_data.specs.OwnerPin.{owner_pin_get_tries_remaining, return_unless_refused, owner_pin_is_validated, owner_pin_update, owner_pin_reset}
 use Rattle.jc_api_data.specs.OwnerPin.{owner_pin_reset_and_unblock}
 use Rattle.law_soundness.specs.LocalEffects.{AreElsewhere}
 use Rattle.law_soundness.proofs.Still.{AllStill, Any, AsksNone, IsLike, IsStillCall, still_bind, still_if, still_makes_new, still_ok, still_some}
@@ -59,25 +59,26 @@ module _ (g : Registers) where
       (λ value. Perform (HeapMove (SetPlaces (first_record r limit maximum value))) (Perform (SetFlag r false) (Finish (Ok tt))))
       (λ value. ((tt, (tt, (tt, (tt, (tt, tt))))), (tt, tt)))))
 
-  unless_full_still : {A : Type 0} (reason : Option HeapRefusal) (d : Program (Result A PinRefusal)) → AllStill g Any d → AllStill g Any (unless_full reason d)
-  unless_full_still None d still = still
-  unless_full_still (Some r) d still = tt
+  unless_no_room_still : {A : Type 0} (reason : Option HeapRefusal) (d : Program (Result A PinRefusal)) → AllStill g Any d
+      → AllStill g Any (unless_no_room reason d)
+  unless_no_room_still None d still = still
+  unless_no_room_still (Some r) d still = tt
 
   updated_still : (s : MemoryState) (r : ℕ) (bytes : List ℕ) → AllStill g Any (pin_update s r bytes)
   unfolding pin_update
   updated_still s r bytes =
       still_if g Any (nat_lt (record_of s r).maximum (length bytes)) _ _ tt
-      (unless_full_still (refusal_of_places s.heap (places_of (changes_of_update (record_of s r) r bytes))) _
+      (unless_no_room_still (refusal_of_places s.heap (places_of (changes_of_update (record_of s r) r bytes))) _
       (put_elsewhere bytes (record_of s r).value 0 _ (tt, (tt, tt)), (tt, tt)))
 
   -- calls
   module _ (args : List Cell) (p : Packages) (m : MemoryState) (like : IsLike g m) where
-    answered : (result : Result (Unit {0}) PinRefusal) → IsStillCall g (unless_refused result)
+    answered : (result : Result (Unit {0}) PinRefusal) → IsStillCall g (return_unless_refused result)
     answered (Ok u) = tt
     answered (Err e) = tt
 
     settled_still : (change : Program (Result (Unit {0}) PinRefusal)) → AllStill g Any change → IsStillCall g (changed_or_thrown change m)
-    settled_still change still = still_bind g Any AsksNone (λ result v. unless_refused result) change m like still (λ result v any same. answered result)
+    settled_still change still = still_bind g Any AsksNone (λ result v. return_unless_refused result) change m like still (λ result v any same. answered result)
 
     constructed_still : IsStillCall g (owner_pin_init args m)
     unfolding owner_pin_init

@@ -15,6 +15,7 @@ use Rattle.jc_linker.specs.declared.target.Method.TheVariants.{Code, Native}
 use Rattle.jc_linker.specs.Values.{Packages}
 use Rattle.jc_frames.specs.declared.cell.Cell.{Cell}
 use Rattle.jc_frames.specs.Calls.{arguments_on}
+use Rattle.jc_opcodes.specs.declared.instr.InvokeOp.{InvokeOp}
 use Rattle.jc_frames.specs.Frames.{Frames, Next, GoesOn, Throws, Ends}
 use Rattle.jc_opcodes.specs.Headers.{header_in}
 use Rattle.jc_interp_calls.specs.declared.invoke.MethodCall.{MethodCall}
@@ -28,7 +29,7 @@ use Rattle.law_soundness.specs.State.{IsSoundMemory, is_owner_up_to, most_owner}
 use Rattle.law_soundness.specs.Natives.{IsReceiver}
 use Rattle.law_soundness.proofs.Natives.{natives_are_fit}
 use Rattle.law_soundness.specs.Methods.{KnowsMethods}
-use Rattle.law_soundness.specs.Steps.{AsksFit, CallsFit}
+use Rattle.law_soundness.specs.Steps.{AsksFit, CallsFit, IsSoundInvoke}
 use Rattle.law_soundness.proofs.Arguments.{receiver_first}
 use Rattle.law_soundness.proofs.Minding.{aid_minds}
 use Rattle.law_soundness.proofs.Owners.{turn_known}
@@ -58,14 +59,20 @@ module _ (p : Packages) (m : MemoryState) (methods : KnowsMethods p) (sound : Is
     owned = λ aid r on. (fit.on method is (aid_minds method aid) r (receiver_first c.arguments stack args r are on)).owned aid;
   }
 
+pub selected_fit : (i : InvokeOp) (c : MethodCall) (p : Packages) (s : Frames) (m : MemoryState) → IsSoundInvoke i c p s m → IsFitCall p m s.current.stack c
+selected_fit i c p s m given = chosen_fit p m s given.classes given.methods given.machine.sound given.machine.environment.now.first
+    (λ runs. given.machine.code given.home (ap owner_number runs)) i c given.selected
+
 pub calls_are_fit : CallsFit
 calls_are_fit = record {
-  natively = λ i c method args p s m known aids methods machine home chose is are.
-      natives_are_fit method args p m known aids machine.sound machine.steady (is_receiver p m methods machine.sound s.current.stack args c method
-      (chosen_fit p m s known methods machine.sound machine.environment.now.first (λ runs. machine.code home (ap owner_number runs)) i c chose) is are);
-  entered = λ i c number offset place p s m known aids methods machine home chose is.
-      entering_due p m methods machine.sound _ _ s (chosen_fit p m s known methods machine.sound machine.environment.now.first
-      (λ runs. machine.code home (ap owner_number runs)) i c chose).switches;
+  natively = λ i c method args p s m given is are. natives_are_fit method args p m (record {
+    classes = given.classes;
+    aids = given.aids;
+    sound = given.machine.sound;
+    steady = given.machine.steady;
+    receiver = is_receiver p m given.methods given.machine.sound s.current.stack args c method (selected_fit i c p s m given) is are;
+  });
+  entered = λ i c number offset place p s m given is. entering_due p m given.methods given.machine.sound _ _ s (selected_fit i c p s m given).switches;
 }
 
 module _ (p : Packages) (m : MemoryState) (methods : KnowsMethods p) (sound : IsSoundMemory p m) (asked : ServerCall)

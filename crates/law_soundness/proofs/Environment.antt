@@ -152,13 +152,7 @@ module _ (p : Packages) (m : MemoryState) (s : IsSoundMemory p m) (e : HasEnviro
 
   effect_so : (f : Effect) → IsFit p f m → HasEnvironment p (apply_effect f m)
   effect_so (HeapMove move) fits = move_so move fits
-  effect_so (SetTransient r i values) fits = record { now = e.now; durable = e.durable }
-  effect_so (SetFlag r flag) fits = record { now = e.now; durable = e.durable }
-  effect_so (ClearTransient event) fits = record { now = e.now; durable = e.durable }
-  effect_so NullDead fits = record { now = e.now; durable = e.durable }
-  effect_so (SetRegisters registers) fits = record { now = e.now; durable = e.durable }
-  effect_so (BeginCommand bytes) fits = record { now = e.now; durable = e.durable }
-  effect_so (SendBytes bytes) fits = record { now = e.now; durable = e.durable }
+  effect_so _ fits = record { now = e.now; durable = e.durable }
 
 pub keeps_environment : KeepsEnvironment
 keeps_environment = λ p f m fits s e. effect_so p m s e f fits

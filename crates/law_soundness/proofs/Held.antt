@@ -77,8 +77,14 @@ module _ (lent : List ℕ) (p : Packages) (s : Frames) (m : MemoryState) (q : �
   unfolding minds_receiver sets_receiver methods
   called_on i next c args chose is are true home = λ own here same. no_call i p (at_place s next) m c (eqb-true s.current.origin.package_number 0 home) chose
   called_on i next c args chose is are false home = λ own here same.
-      let receiver : IsReceiver p m AidInit args = given.receivers i c AidInit args p (at_place s next) m known.classes known.methods
-      (machine_like p s.callers s.current.origin (at_place s next) m refl refl (under_of p s m machine) machine.code) home chose is are in
+      let receiver : IsReceiver p m AidInit args = given.receivers i c AidInit args p (at_place s next) m (record {
+        classes = known.classes;
+        aids = known.aids;
+        methods = known.methods;
+        machine = machine_like p s.callers s.current.origin (at_place s next) m refl refl (under_of p s m machine) machine.code;
+        home = home;
+        selected = chose;
+      }) is are in
       let class : is_a p (facts m.heap.now own).class Aid ≡ true = receiver.class refl own here in
       aid_no_pin p known.classes (facts m.heap.now q).class has (subst (λ r. is_a p (facts m.heap.now r).class Aid ≡ true) same class) pin.class
 

@@ -99,7 +99,7 @@ module _ (p : Packages) (methods : KnowsMethods p) where
 
 pub leaves_are_fit : LeavesFit
 leaves_are_fit = record {
-  returns = λ how p s m methods sound known. returning_due p methods how s m sound known;
-  throws = λ place p s m methods sound known. throwing_due p methods place s m sound known;
-  thrown = λ e place p s m methods sound known. thrown_due p methods e place s m sound known;
+  returns = λ how p s m given. returning_due p given.methods how s m given.sound given.callers;
+  throws = λ place p s m given. throwing_due p given.methods place s m given.sound given.callers;
+  thrown = λ e place p s m given. thrown_due p given.methods e place s m given.sound given.callers;
 }

@@ -18,7 +18,6 @@ use Rattle.jc_frames.specs.Frames.{Caller, Frame, Frames, Next, GoesOn, Throws, 
 use Rattle.jc_world.specs.Instructions.{if_ok, if_some, exit_of}
 use Rattle.jc_interp_calls.specs.declared.invoke.MethodCall.{MethodCall}
 use Rattle.jc_interp_calls.specs.Invoke.{method_selection}
-use Rattle.law_soundness.specs.Classes.{KnowsClasses}
 use Rattle.law_soundness.specs.Environment.{HasEnvironment, KeepsEnvironment}
 use Rattle.law_soundness.specs.Fit.{IsFit, KeepsSound}
 use Rattle.law_soundness.specs.State.{IsSoundMemory, IsSteady}
@@ -26,16 +25,15 @@ use Rattle.law_soundness.specs.Natives.{IsReceiver}
 use Rattle.law_soundness.specs.LocalEffects.{LocalEffectsStay, IsLocalEffect}
 use Rattle.law_soundness.specs.Machines.{IsSoundMachine, KnowOwners}
 use Rattle.law_soundness.specs.Methods.{KnowsMethods}
-use Rattle.law_soundness.specs.Steps.{AsksFit, CallsFit, InstructionsFit, LeavesFit}
+use Rattle.law_soundness.specs.Steps.{AsksFit, CallsFit, HasSoundCallers, InstructionsFit, IsSoundInvoke, LeavesFit}
 use Rattle.law_soundness.specs.Calls.{NativesLeave}
 use Rattle.law_soundness.specs.Soundness.{IsSoundNext}
 use Rattle.law_soundness.proofs.Quiet.{IsWithin, Stays, quiet_calm, quiet_registers}
 
 -- a method of the platform that a package's method calls is called on an object that it may be called on
 abbrev pub CallsReceive : Type 0
-CallsReceive = (i : InvokeOp) (c : MethodCall) (method : PlatformMethod) (args : List Cell) (p : Packages) (s : Frames) (m : MemoryState) → KnowsClasses p
-    → KnowsMethods p → IsSoundMachine p s m → s.current.origin.package_number == 0 ≡ false →
-    method_selection i p s m ≡ Ok c → c.method ≡ Native method → arguments_on c.arguments s.current.stack ≡ Some args → IsReceiver p m method args
+CallsReceive = (i : InvokeOp) (c : MethodCall) (method : PlatformMethod) (args : List Cell) (p : Packages) (s : Frames) (m : MemoryState)
+    → IsSoundInvoke i c p s m → c.method ≡ Native method → arguments_on c.arguments s.current.stack ≡ Some args → IsReceiver p m method args
 
 -- what effects, instructions and calls are proved to do
 pub record Given : Type 0 where
@@ -63,6 +61,9 @@ IsOthers m = owner_number m.registers.active ≡ 0 → ⊥
 -- a method with this origin runs for whom it may
 abbrev pub MayRun : Origin → MemoryState → Type 0
 MayRun origin m = origin.package_number == 0 ≡ false → IsOthers m
+
+pub sound_callers : (p : Packages) (s : Frames) (m : MemoryState) → KnowsMethods p → IsSoundMachine p s m → HasSoundCallers p s m
+sound_callers p s m methods machine = record { methods = methods; sound = machine.sound; callers = machine.callers }
 
 pub under_of : (p : Packages) (s : Frames) (m : MemoryState) → IsSoundMachine p s m → IsSoundUnder p s.callers m
 under_of p s m machine = record { sound = machine.sound; steady = machine.steady; known = machine.callers; environment = machine.environment }

@@ -119,5 +119,5 @@ module _ (method : PlatformMethod) (args : List Cell) (p : Packages) (m : Memory
   }
 
 pub natives_are_fit : NativesFit
-natives_are_fit method args p m known aids sound steady receiver = method_due (IsFit p) (IsSoundMemory p) (bears p) args p m sound method
-    (passes method args p m known aids sound steady receiver)
+natives_are_fit method args p m given = method_due (IsFit p) (IsSoundMemory p) (bears p) args p m given.sound method
+    (passes method args p m given.classes given.aids given.sound given.steady given.receiver)

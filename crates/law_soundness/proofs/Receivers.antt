@@ -79,10 +79,7 @@ entry_no_global false = refl
 
 own_no_global : (p : Packages) (k : Kind) (class : ℕ) → is_instance k ≡ true → global_array (own_designation p k class) ≡ false
 own_no_global p Instance class e = entry_no_global (class == class_word p.platform Aid)
-own_no_global p BooleanArray class e = absurd (false≢true e)
-own_no_global p ByteArray class e = absurd (false≢true e)
-own_no_global p ShortArray class e = absurd (false≢true e)
-own_no_global p ReferenceArray class e = absurd (false≢true e)
+own_no_global p _ class e = absurd (false≢true e)
 
 no_global : (p : Packages) (f : Facts) → is_instance f.kind ≡ true → (b : Bool) → global_array
     (if b then own_designation p f.kind f.class else Ordinary) ≡ false
@@ -109,10 +106,7 @@ module _ (p : Packages) (m : MemoryState) (known : KnowsClasses p) (methods : Kn
       (if world.is_instance k then class else class_word p.platform Object) (class_word p.platform of) ≡ true
       → (is_instance k ≡ true) × (is_a p class of ≡ true)
   of_class of other Instance class e = (refl, e)
-  of_class of other BooleanArray class e = absurd (other (methods.top of e))
-  of_class of other ByteArray class e = absurd (other (methods.top of e))
-  of_class of other ShortArray class e = absurd (other (methods.top of e))
-  of_class of other ReferenceArray class e = absurd (other (methods.top of e))
+  of_class of other _ class e = absurd (other (methods.top of e))
 
   -- the receiver whose header was asked for
   found : (n : ℕ) (f : Facts) → receiver_of n stack m ≡ Ok f → (r : ℕ) → receiver_on n stack ≡ Some r → f ≡ facts m.heap.now r
@@ -238,12 +232,7 @@ module _ (p : Packages) (m : MemoryState) (known : KnowsClasses p) (methods : Kn
 
   virtual_fit : (o : Option Target) → virtual_by o p stack m ≡ Ok c → IsFitCall p m stack c
   virtual_fit (Some (VirtualMethod class token method)) e = virtually_fit class token method e
-  virtual_fit (Some (Class class)) e = absurd (err_not_ok e)
-  virtual_fit (Some (InstanceField class cell is_reference)) e = absurd (err_not_ok e)
-  virtual_fit (Some (SuperMethod class method)) e = absurd (err_not_ok e)
-  virtual_fit (Some (StaticField number offset)) e = absurd (err_not_ok e)
-  virtual_fit (Some (StaticMethod class method)) e = absurd (err_not_ok e)
-  virtual_fit None e = absurd (err_not_ok e)
+  virtual_fit _ e = absurd (err_not_ok e)
 
   -- a static entry names the method's own class
   of_static : (number index : ℕ) (class : Option ℕ) (by : Method) → target_at p number index ≡ Some (StaticMethod class by)
@@ -259,29 +248,15 @@ module _ (p : Packages) (m : MemoryState) (known : KnowsClasses p) (methods : Kn
   special_fit : (number index : ℕ) (o : Option Target) → target_at p number index ≡ o → special_by o p stack m ≡ Ok c → IsFitCall p m stack c
   special_fit number index (Some (StaticMethod class method)) target e = specially_fit class method (of_static number index class method target) e
   special_fit number index (Some (SuperMethod class method)) target e = specially_fit (Some class) method (of_above number index class method target) e
-  special_fit number index (Some (VirtualMethod class token method)) target e = absurd (err_not_ok e)
-  special_fit number index (Some (Class class)) target e = absurd (err_not_ok e)
-  special_fit number index (Some (InstanceField class cell is_reference)) target e = absurd (err_not_ok e)
-  special_fit number index (Some (StaticField home offset)) target e = absurd (err_not_ok e)
-  special_fit number index None target e = absurd (err_not_ok e)
+  special_fit number index _ target e = absurd (err_not_ok e)
 
   static_fit : (number index : ℕ) (o : Option Target) → target_at p number index ≡ o → static_by o p ≡ Ok c → IsFitCall p m stack c
   static_fit number index (Some (StaticMethod class method)) target e = statically_fit number index class method target e
-  static_fit number index (Some (SuperMethod class method)) target e = absurd (err_not_ok e)
-  static_fit number index (Some (VirtualMethod class token method)) target e = absurd (err_not_ok e)
-  static_fit number index (Some (Class class)) target e = absurd (err_not_ok e)
-  static_fit number index (Some (InstanceField class cell is_reference)) target e = absurd (err_not_ok e)
-  static_fit number index (Some (StaticField home offset)) target e = absurd (err_not_ok e)
-  static_fit number index None target e = absurd (err_not_ok e)
+  static_fit number index _ target e = absurd (err_not_ok e)
 
   by_interface_fit : (o : Option Target) (n token : ℕ) → interface_by o n token p stack m ≡ Ok c → IsFitCall p m stack c
   by_interface_fit (Some (Class class)) n token e = interface_fit class n token e
-  by_interface_fit (Some (VirtualMethod class t method)) n token e = absurd (err_not_ok e)
-  by_interface_fit (Some (SuperMethod class method)) n token e = absurd (err_not_ok e)
-  by_interface_fit (Some (StaticMethod class method)) n token e = absurd (err_not_ok e)
-  by_interface_fit (Some (InstanceField class cell is_reference)) n token e = absurd (err_not_ok e)
-  by_interface_fit (Some (StaticField number offset)) n token e = absurd (err_not_ok e)
-  by_interface_fit None n token e = absurd (err_not_ok e)
+  by_interface_fit _ n token e = absurd (err_not_ok e)
 
 -- what a call that was chosen is on
 pub chosen_fit : (p : Packages) (m : MemoryState) (s : Frames) → KnowsClasses p → KnowsMethods p → IsSoundMemory p m

@@ -27,10 +27,7 @@ use Rattle.law_soundness.specs.State.{IsSoundMemory, IsSteady, is_open, is_owner
 
 pub instance_kind : (kind : Kind) → is_instance kind ≡ true → kind ≡ Instance
 instance_kind Instance e = refl
-instance_kind BooleanArray e = absurd cc
-instance_kind ByteArray e = absurd cc
-instance_kind ShortArray e = absurd cc
-instance_kind ReferenceArray e = absurd cc
+instance_kind _ e = absurd cc
 
 pub instance_no_array : (kind : Kind) → is_instance kind ≡ true → kind ≡ ReferenceArray → ⊥
 instance_no_array kind e array = true≢false (sym e ∙ ap is_instance array)

@@ -154,13 +154,7 @@ module _ (p : Packages) (m : MemoryState) (s : IsSoundMemory p m) where
 
   counts_grow : (e : Effect) → IsFit p e m → durable.counts.1 ≤ (apply_effect e m).heap.durable.counts.1
   counts_grow (HeapMove move) fits = move_more move fits
-  counts_grow (SetTransient r i values) fits = omega arith
-  counts_grow (SetFlag r flag) fits = omega arith
-  counts_grow (ClearTransient event) fits = omega arith
-  counts_grow NullDead fits = omega arith
-  counts_grow (SetRegisters g) fits = omega arith
-  counts_grow (BeginCommand bytes) fits = omega arith
-  counts_grow (SendBytes bytes) fits = omega arith
+  counts_grow _ fits = omega arith
 
 -- ---- what fits leaves
 

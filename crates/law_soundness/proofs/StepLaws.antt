@@ -1,24 +1,19 @@
 -- What steps and runs rest on is proved.
-use Rattle.std.proofs.Common.{ap}
-use Rattle.jc_memory.specs.Owners.{owner_number}
 use Rattle.law_soundness.proofs.Effects.{keeps_sound}
 use Rattle.law_soundness.proofs.Environment.{keeps_environment}
 use Rattle.law_soundness.proofs.Natives.{natives_are_fit}
-use Rattle.law_soundness.proofs.Calls.{asks_are_fit, calls_are_fit, is_receiver}
+use Rattle.law_soundness.proofs.Calls.{asks_are_fit, calls_are_fit, is_receiver, selected_fit}
 use Rattle.law_soundness.proofs.LocalEffects.{calm_stays}
 use Rattle.law_soundness.proofs.Instructions.{instructions_are_fit}
 use Rattle.law_soundness.proofs.Leaves.{leaves_are_fit}
-use Rattle.law_soundness.proofs.Receivers.{chosen_fit}
 use Rattle.law_soundness.proofs.CalledNatives.{natives_leave}
 use Rattle.law_soundness.specs.Soundness.{RunsAreSound}
 use Rattle.law_soundness.proofs.Machines.{CallsReceive, Given}
 use Rattle.law_soundness.proofs.Stepping.{runs_sound}
 
 calls_receive : CallsReceive
-calls_receive i c method args p s m known methods machine home chose is are =
-    is_receiver p m methods machine.sound s.current.stack args c method
-    (chosen_fit p m s known methods machine.sound machine.environment.now.first (λ environment. machine.code home (ap owner_number environment)) i c
-    chose) is are
+calls_receive i c method args p s m given is are =
+    is_receiver p m given.methods given.machine.sound s.current.stack args c method (selected_fit i c p s m given) is are
 
 pub given : Given
 given = record {

@@ -46,6 +46,7 @@ use Rattle.law_soundness.specs.Fit.{IsFit}
 use Rattle.law_soundness.specs.State.{IsSoundMemory, is_owner_up_to, most_owner}
 use Rattle.law_soundness.specs.Calls.{AnswersWell, IsCallResult}
 use Rattle.law_soundness.specs.Machines.{IsSoundMachine, KnowOwners}
+use Rattle.law_soundness.specs.Steps.{IsSoundInvoke}
 use Rattle.law_soundness.specs.Soundness.{AreKnown, IsSoundNext}
 use Rattle.law_soundness.proofs.Machines.{Given, HasCallers, IsLed, IsOthers, IsSoundUnder, callers_in_frame, callers_next, led_if, led_ok, led_some}
 use Rattle.law_soundness.proofs.Machines.{machine_like, under_after, under_of}
@@ -202,17 +203,25 @@ module _ (g : Given) (p : Packages) where
 
   module _ (known : AreKnown p) (i : InvokeOp) (c : MethodCall) (place : ℕ) (s : Frames) (m : MemoryState) (machine : IsSoundMachine p s m)
       (home : s.current.origin.package_number == 0 ≡ false) (chose : method_selection i p s m ≡ Ok c) where
+    sound_invoke : IsSoundInvoke i c p s m
+    sound_invoke = record { classes = known.classes; aids = known.aids; methods = known.methods; machine = machine; home = home; selected = chose }
+
     module _ (method : PlatformMethod) (is : c.method ≡ Native method) where
       rest : Frames
       rest = with_stack s (drop c.arguments s.current.stack)
 
       called_due : (args : List Cell) → arguments_on c.arguments s.current.stack ≡ Some args → AllDue (IsFit p) (native_call method args p m) m
-      called_due args are = g.calls.natively i c method args p s m known.classes known.aids known.methods machine home chose is are
+      called_due args are = g.calls.natively i c method args p s m sound_invoke is are
 
       called_ready : (args : List Cell) → arguments_on c.arguments s.current.stack ≡ Some args → AllResults (native_call method args p m) m (IsReady s.callers)
       called_ready args are = each_ready s.callers m machine.callers (machine.code home) (native_call method args p m) m (called_due args are)
-          (g.natives method args p m known.classes known.aids machine.sound machine.steady
-          (g.receivers i c method args p s m known.classes known.methods machine home chose is are)) machine.sound machine.environment
+          (g.natives method args p m (record {
+            classes = known.classes;
+            aids = known.aids;
+            sound = machine.sound;
+            steady = machine.steady;
+            receiver = g.receivers i c method args p s m sound_invoke is are;
+          })) machine.sound machine.environment
 
       natively_due : AllDue (IsFit p) (native_invoke method c.arguments place p s m) m
       unfolding native_invoke rest
@@ -233,7 +242,7 @@ module _ (g : Given) (p : Packages) where
           (λ off due. tt)
 
     made_due : (method : Method) → c.method ≡ method → AllDue (IsFit p) (invoke_selected method c place p s m) m
-    made_due (Code number offset) is = g.calls.entered i c number offset place p s m known.classes known.aids known.methods machine home chose is
+    made_due (Code number offset) is = g.calls.entered i c number offset place p s m sound_invoke is
     made_due (Native method) is = natively_due method is
 
     made_led : (method : Method) → c.method ≡ method → IsLed p (invoke_selected method c place p s m) m

@@ -20,7 +20,8 @@ use Rattle.jc_interp_objects.specs.Fields.{field_read, getfield, getfield_this, 
 use Rattle.jc_interp_objects.specs.Fields.{this_of}
 use Rattle.jc_interp_objects.specs.FieldOps.{field_instruction}
 use Rattle.jc_interp_objects.specs.StaticImages.{word_value, image_word, next_word, place_of, with_byte}
-use Rattle.jc_interp_objects.specs.StaticFields.{getstatic, halves, if_room, own_static, image_pair_write, putstatic, image_write_of, static_write}
+use Rattle.jc_interp_objects.specs.StaticFields.{getstatic, halves, own_static, image_pair_write, putstatic, image_write_of, static_write}
+use Rattle.jc_interp_objects.specs.StackRoom.{if_room}
 use Rattle.jc_interp_objects.specs.StaticFields.{static_value, image_word_write, image_words_write}
 use Rattle.law_soundness.proofs.Quiet.{Stays, quiet_sets, stays_if, stays_ok, stays_some, stays_unless}
 

@@ -27,7 +27,8 @@ use Rattle.jc_interp_objects.specs.ArrayOps.{array_instruction}
 use Rattle.jc_interp_objects.specs.ArrayAccess.{arraylength, element_read, array_load, element_write, array_store}
 use Rattle.jc_interp_objects.specs.ArrayCreation.{array_creation, kind_of, newarray, anewarray}
 use Rattle.jc_interp_objects.specs.TypeChecks.{checkcast, instanceof, own_type, type_test}
-use Rattle.jc_interp_objects.specs.ObjectCreation.{cells_for, if_room, new_instance, instantiable_class}
+use Rattle.jc_interp_objects.specs.ObjectCreation.{cells_for, new_instance, instantiable_class}
+use Rattle.jc_interp_objects.specs.StackRoom.{if_room}
 use Rattle.law_soundness.proofs.Quiet.{Stays, quiet_sets, stays_if, stays_new, stays_ok, stays_some, stays_stopped, stays_unless}
 
 new_stays : (o : NewObject) (s : Frames) (m : MemoryState) → Stays s.callers s.current.origin (new_on_top o s m)

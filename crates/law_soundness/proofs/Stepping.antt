@@ -26,7 +26,7 @@ use Rattle.law_soundness.specs.Soundness.{AreKnown, IsSoundNext, RunsAreSound, S
 use Rattle.law_soundness.proofs.SteppedCalls.{invoked_due, invoked_led}
 use Rattle.law_soundness.proofs.SteppedFields.{fielded_stays}
 use Rattle.law_soundness.proofs.SteppedLeaves.{returning_led, throwing_led, thrown_led}
-use Rattle.law_soundness.proofs.Machines.{Given, IsLed, led_if, machine_like, stays_next, under_of, within_next}
+use Rattle.law_soundness.proofs.Machines.{Given, IsLed, led_if, machine_like, sound_callers, stays_next, under_of, within_next}
 use Rattle.law_soundness.proofs.SteppedObjects.{checked_stays, examined_stays, indexed_stays, made_stays}
 use Rattle.law_soundness.proofs.Plain.{keeps_accessed, keeps_arranged, keeps_branched, keeps_computed, keeps_put}
 use Rattle.law_soundness.proofs.Quiet.{Keeps, Stays, within_frame}
@@ -110,7 +110,7 @@ module _ (g : Given) (p : Packages) (known : AreKnown p) where
 
   caught_due : (place : ℕ) (next : Next Frames) (m : MemoryState) → IsSoundNext p next m → AllDue (IsFit p) (throw_from place p next m) m
   caught_due place (GoesOn s) m machine = tt
-  caught_due place (Throws e s) m machine = g.leaves.thrown e place p s m known.methods machine.sound machine.callers
+  caught_due place (Throws e s) m machine = g.leaves.thrown e place p s m (sound_callers p s m known.methods machine)
   caught_due place (Ends o) m machine = tt
 
   caught_next : (place : ℕ) (next : Next Frames) (m : MemoryState) → IsSoundNext p next m → AllResults (throw_from place p next m) m (IsSoundNext p)

@@ -60,10 +60,7 @@ to_others c none o is zero = none_some (none ∙ is)
 platform_class : (p : Packages) (k : Kind) (class : ℕ) → (is_instance k ≡ true → IsPlatformClass p class)
     → IsOfPlatform p (if world.is_instance k then class else class_word p.platform Object)
 platform_class p Instance class is = let found = is refl in (found.0, found.2)
-platform_class p BooleanArray class is = (Object, refl)
-platform_class p ByteArray class is = (Object, refl)
-platform_class p ShortArray class is = (Object, refl)
-platform_class p ReferenceArray class is = (Object, refl)
+platform_class p _ class is = (Object, refl)
 
 module _ (p : Packages) (m : MemoryState) (platform : KeepsPlatform p) (environment : HasEnvironment p m) (stack : List Cell) (c : MethodCall)
     (number offset : ℕ) (code : c.method ≡ Code number offset) where
@@ -147,39 +144,20 @@ module _ (p : Packages) (m : MemoryState) (platform : KeepsPlatform p) (environm
 
   virtual_others : (o : Option Target) → virtual_by o p stack m ≡ Ok c → SwitchesToOthers c
   virtual_others (Some (VirtualMethod class token method)) e = virtually_others class token method e
-  virtual_others (Some (Class class)) e = absurd (err_not_ok e)
-  virtual_others (Some (InstanceField class cell is_reference)) e = absurd (err_not_ok e)
-  virtual_others (Some (SuperMethod class method)) e = absurd (err_not_ok e)
-  virtual_others (Some (StaticField home place)) e = absurd (err_not_ok e)
-  virtual_others (Some (StaticMethod class method)) e = absurd (err_not_ok e)
-  virtual_others None e = absurd (err_not_ok e)
+  virtual_others _ e = absurd (err_not_ok e)
 
   special_others : (o : Option Target) → special_by o p stack m ≡ Ok c → SwitchesToOthers c
   special_others (Some (StaticMethod class method)) e = specially_others class method e
   special_others (Some (SuperMethod class method)) e = specially_others (Some class) method e
-  special_others (Some (VirtualMethod class token method)) e = absurd (err_not_ok e)
-  special_others (Some (Class class)) e = absurd (err_not_ok e)
-  special_others (Some (InstanceField class cell is_reference)) e = absurd (err_not_ok e)
-  special_others (Some (StaticField home place)) e = absurd (err_not_ok e)
-  special_others None e = absurd (err_not_ok e)
+  special_others _ e = absurd (err_not_ok e)
 
   static_others : (o : Option Target) → static_by o p ≡ Ok c → SwitchesToOthers c
   static_others (Some (StaticMethod class method)) e = statically_others method e
-  static_others (Some (SuperMethod class method)) e = absurd (err_not_ok e)
-  static_others (Some (VirtualMethod class token method)) e = absurd (err_not_ok e)
-  static_others (Some (Class class)) e = absurd (err_not_ok e)
-  static_others (Some (InstanceField class cell is_reference)) e = absurd (err_not_ok e)
-  static_others (Some (StaticField home place)) e = absurd (err_not_ok e)
-  static_others None e = absurd (err_not_ok e)
+  static_others _ e = absurd (err_not_ok e)
 
   by_interface_others : (o : Option Target) (n token : ℕ) → interface_by o n token p stack m ≡ Ok c → SwitchesToOthers c
   by_interface_others (Some (Class class)) n token e = interface_others class n token e
-  by_interface_others (Some (VirtualMethod class t method)) n token e = absurd (err_not_ok e)
-  by_interface_others (Some (SuperMethod class method)) n token e = absurd (err_not_ok e)
-  by_interface_others (Some (StaticMethod class method)) n token e = absurd (err_not_ok e)
-  by_interface_others (Some (InstanceField class cell is_reference)) n token e = absurd (err_not_ok e)
-  by_interface_others (Some (StaticField home place)) n token e = absurd (err_not_ok e)
-  by_interface_others None n token e = absurd (err_not_ok e)
+  by_interface_others _ n token e = absurd (err_not_ok e)
 
 pub chosen_others : (p : Packages) (m : MemoryState) (s : Frames) → KeepsPlatform p → HasEnvironment p m → (i : InvokeOp) (c : MethodCall) (number offset : ℕ)
     → c.method ≡ Code number offset → method_selection i p s m ≡ Ok c → SwitchesToOthers c

@@ -96,7 +96,4 @@ none_of (Some event) e = absurd (false≢true e)
 
 pub bytes_other : (k : Kind) → is_bytes k ≡ true → is_instance k ≡ false
 bytes_other Instance e = absurd (false≢true e)
-bytes_other BooleanArray e = refl
-bytes_other ByteArray e = refl
-bytes_other ShortArray e = refl
-bytes_other ReferenceArray e = refl
+bytes_other _ e = refl

@@ -11,9 +11,8 @@ use Rattle.jc_linker.specs.Values.{Packages}
 use Rattle.jc_world.specs.declared.native_result.NativeResult.{NativeResult}
 use Rattle.jc_world.specs.declared.native_result.NativeResult.TheVariants.{ReturnVoid, ReturnValue, CallServer, Aborted}
 use Rattle.jc_interp.specs.Natives.{native_call}
-use Rattle.law_soundness.specs.Classes.{HasAids, KnowsClasses}
-use Rattle.law_soundness.specs.State.{IsSoundMemory, IsSteady, is_owner_up_to, most_owner}
-use Rattle.law_soundness.specs.Natives.{IsReceiver}
+use Rattle.law_soundness.specs.State.{IsSteady, is_owner_up_to, most_owner}
+use Rattle.law_soundness.specs.Natives.{IsSoundCall}
 use Rattle.law_soundness.specs.Machines.{KnowOwners}
 
 -- the new memory stands as between two instructions; for whom callers ran is there, where it was before; code runs for the same owner
@@ -35,7 +34,7 @@ IsCallResult m (Ok answer) n = IsReadyAgain m n × AnswersWell answer n
 IsCallResult m (Err (Throw e)) n = IsReadyAgain m n
 IsCallResult m (Err (End o)) n = Unit {0}
 
--- so each call of a method of the platform leaves a sound memory
+-- so each sound call of a method of the platform leaves the memory
 abbrev pub NativesLeave : Type 0
-NativesLeave = (method : PlatformMethod) (args : List Cell) (p : Packages) (m : MemoryState) → KnowsClasses p → HasAids p → IsSoundMemory p m → IsSteady m
-    → IsReceiver p m method args → AllResults (native_call method args p m) m (IsCallResult m)
+NativesLeave = (method : PlatformMethod) (args : List Cell) (p : Packages) (m : MemoryState) → IsSoundCall method args p m
+    → AllResults (native_call method args p m) m (IsCallResult m)

@@ -28,7 +28,15 @@ pub record IsReceiver (p : Packages) (m : MemoryState) (method : PlatformMethod)
   pub class : minds_receiver method ≡ true → (r : ℕ) → reference_argument args 0 ≡ Some r → is_a p (facts m.heap.now r).class (class_of method) ≡ true
   pub owned : method ≡ AidInit → (r : ℕ) → reference_argument args 0 ≡ Some r → (facts m.heap.now r).owner ≡ 0 → ⊥
 
--- in a sound memory each effect of a method of the platform fits
+-- it is called so over packages that were linked, in a sound memory between two instructions
+pub record IsSoundCall (method : PlatformMethod) (args : List Cell) (p : Packages) (m : MemoryState) : Type 0 where
+  pub classes : KnowsClasses p
+  pub aids : HasAids p
+  pub sound : IsSoundMemory p m
+  pub steady : IsSteady m
+  pub receiver : IsReceiver p m method args
+
+-- each effect of such a call fits
 abbrev pub NativesFit : Type 0
-NativesFit = (method : PlatformMethod) (args : List Cell) (p : Packages) (m : MemoryState) → KnowsClasses p → HasAids p → IsSoundMemory p m → IsSteady m
-    → IsReceiver p m method args → AllDue (IsFit p) (native_call method args p m) m
+NativesFit = (method : PlatformMethod) (args : List Cell) (p : Packages) (m : MemoryState) → IsSoundCall method args p m
+    → AllDue (IsFit p) (native_call method args p m) m

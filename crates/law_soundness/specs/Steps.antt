@@ -34,26 +34,35 @@ use Rattle.law_soundness.specs.Methods.{KnowsMethods}
 abbrev pub callee_of : MethodCall → ℕ → ℕ → Callee
 callee_of c number offset = record { package_number = number; offset = offset; arguments = c.arguments; switches_to = c.switches_to }
 
--- what a call in a package's method of a sound machine does is fit: each effect of the platform's method that is reached, or as the
--- frame of one in bytecode begins
+-- over packages that were linked, the method of a package that runs in a sound machine selects a method by this instruction
+pub record IsSoundInvoke (i : InvokeOp) (c : MethodCall) (p : Packages) (s : Frames) (m : MemoryState) : Type 0 where
+  pub classes : KnowsClasses p
+  pub aids : HasAids p
+  pub methods : KnowsMethods p
+  pub machine : IsSoundMachine p s m
+  pub home : s.current.origin.package_number == 0 ≡ false
+  pub selected : method_selection i p s m ≡ Ok c
+
+-- what such a call does is fit: each effect of the platform's method that is reached, or as the frame of one in bytecode begins
 pub record CallsFit : Type 0 where
-  pub natively : (i : InvokeOp) (c : MethodCall) (method : PlatformMethod) (args : List Cell) (p : Packages) (s : Frames) (m : MemoryState) → KnowsClasses p
-      → HasAids p → KnowsMethods p → IsSoundMachine p s m →
-      s.current.origin.package_number == 0 ≡ false → method_selection i p s m ≡ Ok c → c.method ≡ Native method
-      → arguments_on c.arguments s.current.stack ≡ Some args → AllDue (IsFit p) (native_call method args p m) m
-  pub entered : (i : InvokeOp) (c : MethodCall) (number offset place : ℕ) (p : Packages) (s : Frames) (m : MemoryState) → KnowsClasses p → HasAids p
-      → KnowsMethods p → IsSoundMachine p s m →
-      s.current.origin.package_number == 0 ≡ false → method_selection i p s m ≡ Ok c → c.method ≡ Code number offset
+  pub natively : (i : InvokeOp) (c : MethodCall) (method : PlatformMethod) (args : List Cell) (p : Packages) (s : Frames) (m : MemoryState)
+      → IsSoundInvoke i c p s m → c.method ≡ Native method → arguments_on c.arguments s.current.stack ≡ Some args
+      → AllDue (IsFit p) (native_call method args p m) m
+  pub entered : (i : InvokeOp) (c : MethodCall) (number offset place : ℕ) (p : Packages) (s : Frames) (m : MemoryState)
+      → IsSoundInvoke i c p s m → c.method ≡ Code number offset
       → AllDue (IsFit p) (method_entry (callee_of c number offset) (record { place = place; kind = Instruction }) p s m) m
 
--- where the owners of the callers are known, each effect of a return and of an exception fits: one of an instruction, or one of the
--- runtime environment
+-- over packages that were linked the memory is sound, and the owners of the callers are known
+pub record HasSoundCallers (p : Packages) (s : Frames) (m : MemoryState) : Type 0 where
+  pub methods : KnowsMethods p
+  pub sound : IsSoundMemory p m
+  pub callers : KnowOwners s.callers m
+
+-- then each effect of a return and of an exception fits: one of an instruction, or one of the runtime environment
 pub record LeavesFit : Type 0 where
-  pub returns : (how : ReturnOp) (p : Packages) (s : Frames) (m : MemoryState) → KnowsMethods p → IsSoundMemory p m → KnowOwners s.callers m
-      → AllDue (IsFit p) (method_return how s m) m
-  pub throws : (place : ℕ) (p : Packages) (s : Frames) (m : MemoryState) → KnowsMethods p → IsSoundMemory p m → KnowOwners s.callers m
-      → AllDue (IsFit p) (athrow place p s m) m
-  pub thrown : (e : Exception) (place : ℕ) (p : Packages) (s : Frames) (m : MemoryState) → KnowsMethods p → IsSoundMemory p m → KnowOwners s.callers m
+  pub returns : (how : ReturnOp) (p : Packages) (s : Frames) (m : MemoryState) → HasSoundCallers p s m → AllDue (IsFit p) (method_return how s m) m
+  pub throws : (place : ℕ) (p : Packages) (s : Frames) (m : MemoryState) → HasSoundCallers p s m → AllDue (IsFit p) (athrow place p s m) m
+  pub thrown : (e : Exception) (place : ℕ) (p : Packages) (s : Frames) (m : MemoryState) → HasSoundCallers p s m
       → AllDue (IsFit p) (exception_throw e place p s m) m
 
 -- the runtime environment asks a server whose applet is known: each effect fits, as the frame of the server's method begins

@@ -4,7 +4,7 @@ use Rattle.std.proofs.lemmas.Int.{to_z-of_z}
 use Rattle.jc_memory.specs.Programs.{Executes}
 use Rattle.jc_memory.proofs.ProgramLemmas.{down_did}
 use Rattle.jc_world.specs.NativeCalls.{after_call}
-use Rattle.jc_api_data.specs.Apdu.{apdu_set_outgoing_and_send, and_then, apdu_send_bytes, apdu_set_outgoing_length, apdu_set_outgoing}
+use Rattle.jc_api_data.specs.Apdu.{apdu_set_outgoing_and_send, then_call, apdu_send_bytes, apdu_set_outgoing_length, apdu_set_outgoing}
 use Rattle.jc_api_data.proofs.InARow.{at_both, then_broken, then_made}
 use Rattle.jc_api_data.proofs.apdu_send.apdu_set_outgoing_and_send.Goals as goal
 
@@ -14,7 +14,7 @@ returns-in_err-apdu_set_outgoing g c =
     let m = c.args.memory.now in let m1 = c.apdu_set_outgoing.new.memory in
     let same : c.from_residual.result ≡ Err c.in_err-apdu_set_outgoing.field-0.0 = search rules in
     subst (λ r. Executes (apdu_set_outgoing_and_send c.args.start c.args.count m) m (after_call r m1)) (sym same)
-    (then_broken apdu_set_outgoing (λ v. and_then v (apdu_set_outgoing_length c.args.count) (apdu_send_bytes c.args.start c.args.count)) m m1
+    (then_broken apdu_set_outgoing (λ v. then_call v (apdu_set_outgoing_length c.args.count) (apdu_send_bytes c.args.start c.args.count)) m m1
     c.in_err-apdu_set_outgoing.field-0.0 c.in_err-apdu_set_outgoing.ensures)
 
 pub returns-in_err-apdu_set_outgoing_length : goal.returns-in_err-apdu_set_outgoing_length
@@ -27,7 +27,7 @@ returns-in_err-apdu_set_outgoing_length g c =
     subst (λ z. Executes (apdu_set_outgoing_length z m1) m1 (after_call (Err e) m2))
     (to_z-of_z w16 c.args.count c.ranges.count) c.in_err-apdu_set_outgoing_length.ensures in
     subst (λ r. Executes (apdu_set_outgoing_and_send c.args.start c.args.count m) m (after_call r m2)) (sym same)
-    (then_made apdu_set_outgoing (λ v. and_then v (apdu_set_outgoing_length c.args.count) (apdu_send_bytes c.args.start c.args.count)) m m1
+    (then_made apdu_set_outgoing (λ v. then_call v (apdu_set_outgoing_length c.args.count) (apdu_send_bytes c.args.start c.args.count)) m m1
     c.in_ok-apdu_set_outgoing.field-0 _ c.in_ok-apdu_set_outgoing.ensures
     (then_broken (apdu_set_outgoing_length c.args.count) (apdu_send_bytes c.args.start c.args.count) m1 m2 e length_made))
 
@@ -52,7 +52,7 @@ returns g c =
     let sent_made : Executes (apdu_send_bytes c.args.start c.args.count m2) m2 (after_call c.apdu_send_bytes.result m3) =
     at_both (λ x y. Executes (apdu_send_bytes x y m2) m2 (after_call c.apdu_send_bytes.result m3)) _ _ c.args.start c.args.count start count
     c.apdu_send_bytes.ensures in
-    then_made apdu_set_outgoing (λ v. and_then v (apdu_set_outgoing_length c.args.count) (apdu_send_bytes c.args.start c.args.count)) m m1
+    then_made apdu_set_outgoing (λ v. then_call v (apdu_set_outgoing_length c.args.count) (apdu_send_bytes c.args.start c.args.count)) m m1
     c.in_ok-apdu_set_outgoing.field-0 _ c.in_ok-apdu_set_outgoing.ensures
     (then_made (apdu_set_outgoing_length c.args.count) (apdu_send_bytes c.args.start c.args.count) m1 m2 c.in_ok-apdu_set_outgoing_length.field-0 _ length_made
     sent_made)

@@ -1,5 +1,4 @@
-use Rattle.jcard_commands.proofs.News.{news}
-use Rattle.jcard_commands.proofs.Tries.{tries}
+use Rattle.jcard_commands.proofs.OptionLines.{news, tries}
 use Rattle.jcard_commands.proofs.arguments.parse.Goals as goal
 
 pub returns-in-Ok-Some-clause-plain_news : goal.returns-in-Ok-Some-clause-plain_news
