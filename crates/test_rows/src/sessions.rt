@@ -1,4 +1,5 @@
 //! Rows as the events of a session.
+use hex::FromHexError;
 use jc_session::event::{Answer, Event};
 use jc_session::session::{SessionFault, session};
 use jc_words::WordStore;
@@ -43,6 +44,7 @@ fn event_of(alloc: Global, line: &str) -> Result<Option<Event>, AllocError> {
     let digits = line.replace(alloc, " ", "")?;
     match hex::decode(alloc, digits.as_str()) {
         Ok(bytes) => Ok(Some(Event::Command(bytes))),
+        Err(FromHexError::OutOfMemory) => Err(AllocError),
         Err(_) => Ok(None),
     }
 }
