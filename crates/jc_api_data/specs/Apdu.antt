@@ -1,6 +1,7 @@
 -- APDU (API specification): how far the command has come, and what its methods do.
 use Rattle.std.specs.Prelude.{ℕ, ℤ, pos, negsuc, ◌+◌, ◌-◌, ◌==◌, ◌||◌, nat_lt, nat_le, Bool, false, List, length, if◌then◌else◌, Result, Ok, Err}
 use Rattle.std.specs.Int.{w16, cast_signed}
+use Rattle.jc_transient.specs.State.{buffer_size}
 use Rattle.jc_frames.specs.declared.cell.Cell.{Cell}
 use Rattle.jc_frames.specs.declared.cell.Cell.TheVariants.{Reference}
 use Rattle.jc_frames.specs.Reasons.{bad_length, buffer_bounds, illegal_use}
@@ -20,7 +21,7 @@ use Rattle.jc_world.specs.NativeCalls.{NativeProgram, return_value, throw_except
 use Rattle.jc_world.specs.Objects.{short_argument}
 use Rattle.jc_world.specs.Answers.{returns_short}
 use Rattle.jc_api_data.specs.declared.apdu_send.Piece.{Piece}
-use Rattle.jc_api_data.specs.ApduBuffer.{buffer_size, buffer_of, data_of}
+use Rattle.jc_api_data.specs.ApduBuffer.{buffer_of, data_of}
 
 abbrev pub phase_of : MemoryState → ApduPhase
 phase_of m = m.registers.apdu.phase

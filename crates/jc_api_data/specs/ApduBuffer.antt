@@ -1,15 +1,12 @@
 -- The APDU buffer, and the data of a command.
 use Rattle.std.specs.Prelude.{ℕ, ◌+◌, ◌≡◌, ◌==◌, nat_le, min, Bool, false, List, [], length, slice_index, slice_range, if◌then◌else◌, Option, Some, None}
+use Rattle.jc_transient.specs.State.{buffer_size}
 use Rattle.jc_heap.specs.declared.object.Facts.{Facts}
 use Rattle.jc_heap.specs.declared.object.Kind.{Kind}
 use Rattle.jc_heap.specs.declared.object.Kind.TheVariants.{Instance, BooleanArray, ByteArray, ShortArray, ReferenceArray}
 use Rattle.jc_heap.specs.Heap.{IsObject, facts}
 use Rattle.jc_memory.specs.State.{MemoryState}
 use Rattle.jc_memory.specs.Cells.{header_at}
-
--- how many bytes the buffer has
-abbrev pub buffer_size : ℕ
-buffer_size = 261
 
 -- an array of bytes of the buffer's length
 abbrev pub is_buffer_of : Kind → ℕ → Bool

@@ -15,11 +15,6 @@ pub data Attempt (A : Type 0) : Type 0 where
   Done : A → Attempt A
   Refused : HeapRefusal → Attempt A
 
--- it ends as these say: the one of its answer and the state behind it, the other of the state that a cut left
-abbrev pub EndsAs : {S A : Type 0} → (A → S → Type 0) → (S → Type 0) → Completion S A → Type 0
-EndsAs Answered Cut (Completed a s) = Answered a s
-EndsAs Answered Cut (Torn s) = Cut s
-
 -- how a call ends that makes something: a refusal but that of the store is an answer
 abbrev pub after_making : {S A : Type 0} → Result A HeapRefusal → S → Completion S (Attempt A)
 after_making (Ok a) s = Completed (Done a) s

@@ -12,7 +12,7 @@ use Rattle.jc_heap.specs.declared.place.Place.{Place}
 use Rattle.jc_heap.specs.declared.place.AppletEntry.{AppletEntry}
 use Rattle.jc_heap.specs.Places.{place_word, set_place, write_place, write_nonatomic, places_of, set_places, applet_changes}
 use Rattle.jc_heap.specs.Packages.{add_package, addresses_of_package, package_size}
-use Rattle.jc_heap.specs.Completions.{Completion, Completed, Torn, EndsAs, Attempt, Done, Refused}
+use Rattle.jc_heap.specs.Completions.{Completion, Completed, Torn, Attempt, Done, Refused}
 use Rattle.jc_heap.specs.declared.refusal.HeapRefusal.{HeapRefusal}
 use Rattle.jc_heap.specs.declared.refusal.HeapRefusal.TheVariants.{CommitFull, HeapFull, NoTransientSpace}
 
@@ -87,7 +87,8 @@ AreTornMoves moves old new = IsTorn (TornMovesLeave moves old) old new
 
 -- all these moves were made and the answer is this one; or the call was cut within them
 abbrev pub PerformsMoves : {A : Type 0} → HeapView → Completion HeapView A → List Move → A → Type 0
-PerformsMoves old completion moves answer = EndsAs (λ a new. (a ≡ answer) × (new ≡ apply_moves moves old)) (AreTornMoves moves old) completion
+PerformsMoves old (Completed a new) moves answer = (a ≡ answer) × (new ≡ apply_moves moves old)
+PerformsMoves old (Torn new) moves answer = AreTornMoves moves old new
 
 -- why a change of the words at these addresses is refused before anything is written: there is no room
 abbrev pub refusal_at : HeapView → List ℕ → Option HeapRefusal

@@ -3,7 +3,7 @@ use Rattle.std.specs.Prelude.{ℕ, ◌≡◌, ◌⊎◌, Option, Some, None}
 use Rattle.jc_heap.specs.declared.refusal.HeapRefusal.{HeapRefusal}
 use Rattle.jc_heap.specs.Heap.{HeapState}
 use Rattle.jc_heap.specs.Moves.{IsTorn}
-use Rattle.jc_heap.specs.Completions.{Completion, EndsAs, Attempt, Refused}
+use Rattle.jc_heap.specs.Completions.{Completion, Completed, Torn, Attempt, Refused}
 use Rattle.jc_memory.specs.State.{MemoryState, Effect, HeapMove, apply_effect, IsNew}
 
 -- what may be done: nothing more, with this answer; an effect and then the rest; a new reference chosen and
@@ -35,7 +35,8 @@ IsTornIn d s new = IsTorn (TearLeaves d s) s.heap new.heap
 
 -- a call that may do this ends so: the clause of every layer
 abbrev pub Executes : {A : Type 0} → Program A → MemoryState → Completion MemoryState A → Type 0
-Executes d s completion = EndsAs (Completes d s) (IsTornIn d s) completion
+Executes d s (Completed answer new) = Completes d s answer new
+Executes d s (Torn new) = IsTornIn d s new
 
 -- first this, and then what its answer and the memory then ask for
 abbrev pub bind : {A B : Type 0} → Program A → MemoryState → (A → MemoryState → Program B) → Program B

@@ -89,7 +89,13 @@ module _ (m : MemoryState) (is : CountPackages m) where
 
   effect_counts : (e : Effect) → CountPackages (apply_effect e m)
   effect_counts (HeapMove move) = move_counts move
-  effect_counts _ = record { now = is.now; durable = is.durable }
+  effect_counts (SetTransient r i values) = record { now = is.now; durable = is.durable }
+  effect_counts (SetFlag r flag) = record { now = is.now; durable = is.durable }
+  effect_counts (ClearTransient event) = record { now = is.now; durable = is.durable }
+  effect_counts NullDead = record { now = is.now; durable = is.durable }
+  effect_counts (SetRegisters registers) = record { now = is.now; durable = is.durable }
+  effect_counts (BeginCommand bytes) = record { now = is.now; durable = is.durable }
+  effect_counts (SendBytes bytes) = record { now = is.now; durable = is.durable }
 
 pub effects_count : EffectsCount
 effects_count = λ e m is. effect_counts m is e

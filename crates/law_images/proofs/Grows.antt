@@ -34,7 +34,10 @@ module _ (p : Packages) (q : PackageValue) (room : length p.loaded < 32) (stays 
   -- an instance's class is there
   class_there : (kind : Kind) (w long : ℕ) → is_instance kind ≡ true → fits_class p kind w long ≡ true → is_class p w ≡ true
   class_there Instance w long e fits = (and_parts (is_class p w) _ fits).0
-  class_there _ w long e fits = absurd cc
+  class_there BooleanArray w long e fits = absurd cc
+  class_there ByteArray w long e fits = absurd cc
+  class_there ShortArray w long e fits = absurd cc
+  class_there ReferenceArray w long e fits = absurd cc
 
   fits_still : (kind : Kind) (w long : ℕ) → fits_class p kind w long ≡ true → fits_class more kind w long ≡ true
   fits_still Instance w long fits =

@@ -33,7 +33,10 @@ fits_initial p ReferenceArray class long initial = absurd (false≢true initial)
 
 pub no_instance : (kind : Kind) → is_array_init kind ≡ true → is_instance kind ≡ false
 no_instance Instance initial = absurd (false≢true initial)
-no_instance _ initial = refl
+no_instance BooleanArray initial = refl
+no_instance ByteArray initial = refl
+no_instance ShortArray initial = refl
+no_instance ReferenceArray initial = refl
 
 -- what is named lies below the end
 below : (h : HeapState) (r : ℕ) → HasEnd h → is_allocated h r ≡ true → r < h.top

@@ -77,7 +77,13 @@ module _ (t : Tokens) (p : Packages) (m : MemoryState) (s : IsSoundMemory p m) (
 
 effect_read : (t : Tokens) (p : Packages) (e : Effect) (m : MemoryState) → IsFit p e m → IsSoundMemory p m → IsReadAs t p m → IsReadAs t p (apply_effect e m)
 effect_read t p (HeapMove move) m fits s r = move_read t p m s r move fits
-effect_read t p _ m fits s r = record { now = r.now; durable = r.durable }
+effect_read t p (SetTransient at i values) m fits s r = record { now = r.now; durable = r.durable }
+effect_read t p (SetFlag at flag) m fits s r = record { now = r.now; durable = r.durable }
+effect_read t p (ClearTransient event) m fits s r = record { now = r.now; durable = r.durable }
+effect_read t p NullDead m fits s r = record { now = r.now; durable = r.durable }
+effect_read t p (SetRegisters registers) m fits s r = record { now = r.now; durable = r.durable }
+effect_read t p (BeginCommand bytes) m fits s r = record { now = r.now; durable = r.durable }
+effect_read t p (SendBytes bytes) m fits s r = record { now = r.now; durable = r.durable }
 
 pub keeps_reading : KeepsReading
 keeps_reading = effect_read

@@ -37,7 +37,13 @@ empty_effect (HeapMove (AddPackage components arrays rest)) s empty = still_empt
 empty_effect (HeapMove Begin) s empty = λ b. absurd (true≢false b)
 empty_effect (HeapMove Commit) s empty = λ b. refl
 empty_effect (HeapMove Abort) s empty = λ b. refl
-empty_effect _ s empty = empty
+empty_effect (SetTransient r i values) s empty = empty
+empty_effect (SetFlag r flag) s empty = empty
+empty_effect (ClearTransient event) s empty = empty
+empty_effect NullDead s empty = empty
+empty_effect (SetRegisters registers) s empty = empty
+empty_effect (BeginCommand bytes) s empty = empty
+empty_effect (SendBytes bytes) s empty = empty
 
 abbrev IsCalm : MemoryState → Type 0
 IsCalm s = IsDurableOutside s × IsEmpty s
