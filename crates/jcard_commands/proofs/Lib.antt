@@ -1,4 +1,3 @@
-pub mod Asking
 pub mod CommandLine
 pub mod Dumps
 pub mod Ends
@@ -7,4 +6,5 @@ pub mod Listings
 pub mod News
 pub mod RunLines
 pub mod Runs
+pub mod Stores
 pub mod Tries
