@@ -2,36 +2,19 @@
 use Rattle.std.proofs.Common.{◌≡◌, ℕ, Bool, List, [], ◌++◌, Option, Result, Err, refl, sym, subst, ap, ◌∙◌, inl, inr}
 use Rattle.std.specs.Io.KnownBytes.{Appends}
 use Rattle.jc_words.specs.Count.{failures_after}
-use Rattle.jcard_commands.specs.FileRequests.{FileRequests, file_requests}
+use Rattle.jcard_commands.specs.FileDeeds.{FileDeed}
 use Rattle.jcard_commands.specs.CommandLine.{CommandLineRequest, IsTakenAs, request_of_words}
-use Rattle.jcard_commands.specs.Faults.{failures_of, is_unwritten, status_of, IsDone, IsLastLine, IsPerformed, IsStarted, IsTriedOn, IsUnbegun}
-use Rattle.jcard_commands.specs.Images.{IsNotMade}
-use Rattle.jcard_commands.specs.NewImages.{IsMadeFrom, IsNewImageInMemory, IsTable}
+use Rattle.jcard_commands.specs.Faults.{failures_of, is_unwritten, status_of, IsDone, IsLastLine, IsPerformed, IsStarted, IsUnbegun}
 use Rattle.jcard_commands.specs.declared.fault.Fault.{Fault}
-use Rattle.jcard_commands.specs.declared.fault.Fault.TheVariants.{BadCommandLine, NoMemory, CannotRead, CannotWrite, ImageInUse, ImageTooSmall}
+use Rattle.jcard_commands.specs.declared.fault.Fault.TheVariants.{BadCommandLine, NoMemory, CannotRead}
 
 -- words that are taken for nothing, or memory that was refused
 pub nothing_done : (words : List (List ℕ)) (fault : Fault) → IsTakenAs (request_of_words words) (Err fault)
-    → IsPerformed words (Err fault) [] (file_requests 0 0 0)
-nothing_done words BadCommandLine h = inr (subst (λ (o : Option CommandLineRequest). IsDone o (Err BadCommandLine) [] (file_requests 0 0 0)) (sym h)
+    → IsPerformed words (Err fault) [] []
+nothing_done words BadCommandLine h = inr (subst (λ (o : Option CommandLineRequest). IsDone o (Err BadCommandLine) [] []) (sym h)
     (refl, refl, refl))
 nothing_done words NoMemory h = inl (refl, refl, refl)
 nothing_done words other h = absurd h
-
--- a file that is not made
-pub not_made : (image : List ℕ) (n : ℕ) (text : List ℕ) (fault : Fault) → IsTable text → IsNotMade image fault
-    → IsMadeFrom image n text (Err fault) (file_requests 0 0 1)
-not_made image n text (CannotWrite path) table h = (refl, table, h)
-not_made image n text ImageInUse table h = (refl, table)
-not_made image n text NoMemory table h = (refl, table)
-not_made image n text other table h = absurd h
-
--- a script that was not tried, since there is no new image in memory
-pub not_tried : (script : List ℕ) (n : ℕ) (table : List ℕ) (fault : Fault) → IsNewImageInMemory n table (Err fault)
-    → IsTriedOn script n table (Err fault) []
-not_tried script n table NoMemory h = inl (NoMemory, refl, tt, refl)
-not_tried script n table ImageTooSmall h = inr (inl (refl, h, refl))
-not_tried script n table other h = absurd h
 
 -- where nothing was begun, nothing was written that failed
 begun_unwritten : (count : ℕ) (ended : Result (Unit {0}) Fault) → IsUnbegun ended → failures_after count (is_unwritten ended) ≡ count
@@ -43,13 +26,13 @@ begun_unwritten count other unbegun = absurd unbegun
 -- nothing was begun, and the last line told why
 pub unbegun_told : (old new : Option (List ℕ)) (before after status : ℕ) (last : List ℕ) (failed : Bool) (ended : Result (Unit {0}) Fault)
     → IsLastLine ended failed last → IsUnbegun ended → Appends old new last → after ≡ failures_after before failed → status ≡ status_of ended
-    → (text last : List ℕ) × (ended : Result (Unit {0}) Fault) × (files : FileRequests) × (failed : Bool) × Appends old new (text ++ last)
-    × IsStarted ended text files × IsLastLine ended failed last × (after ≡ failures_of before ended failed) × (status ≡ status_of ended)
+    → (text last : List ℕ) × (ended : Result (Unit {0}) Fault) × (deeds : List FileDeed) × (failed : Bool) × Appends old new (text ++ last)
+    × IsStarted ended text deeds × IsLastLine ended failed last × (after ≡ failures_of before ended failed) × (status ≡ status_of ended)
 unbegun_told old new before after status last failed ended line unbegun appends failures told = (
   [],
   last,
   ended,
-  file_requests 0 0 0,
+  [],
   failed,
   appends,
   inr (unbegun, refl, refl),

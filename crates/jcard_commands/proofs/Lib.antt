@@ -1,4 +1,3 @@
-pub mod Asking
 pub mod CommandLine
 pub mod CommandWalk
 pub mod Dumps
@@ -8,3 +7,4 @@ pub mod Listings
 pub mod OptionLines
 pub mod RunLines
 pub mod Runs
+pub mod Stores

@@ -1,14 +1,16 @@
 -- What is told of an image.
-use Rattle.std.specs.Prelude.{ℕ, ◌≡◌, ◌⊎◌, ◌*◌, true, false, List, [], ◌++◌, codes, length, Result, Ok, Err}
+use Rattle.std.specs.Prelude.{ℕ, ◌≡◌, ◌⊎◌, ◌*◌, true, false, List, [], ◌∷◌, ◌++◌, codes, length, Some, None, Result, Ok, Err}
 use Rattle.jc_words.specs.Files.{IsImageSize}
 use Rattle.jc_words.specs.declared.image.ImageFault.{ImageFault}
 use Rattle.jc_card.specs.Inventory.{inventory_of}
 use Rattle.jc_card.specs.PowerUp.{HasHead, PowerUpRefuses, fault_of}
 use Rattle.jc_card.specs.declared.inventory.Inventory.{Inventory}
 use Rattle.jcard_script.specs.Texts.{IsCutOf}
-use Rattle.jcard_commands.specs.FileRequests.{FileRequests, file_requests}
+use Rattle.jcard_commands.specs.FileDeeds.{FileDeed, ClosesImage, ReadsImage, fresh_store}
 use Rattle.jcard_commands.specs.Images.{IsNotOpened, damage_of}
 use Rattle.jcard_commands.specs.Listings.{Lines, count_line, line, listing_of, then_lines}
+use Rattle.jcard_commands.specs.declared.listing.ListingFault.{ListingFault}
+use Rattle.jcard_commands.specs.declared.listing.ListingFault.TheVariants.{Unreadable, NotWritten}
 use Rattle.jcard_commands.specs.declared.fault.Damage.{Damage}
 use Rattle.jcard_commands.specs.declared.fault.Damage.TheVariants.{Package}
 use Rattle.jcard_commands.specs.declared.fault.Fault.{Fault}
@@ -23,6 +25,11 @@ lines_of found = (count_line (codes "words ") found.words ++ count_line (codes "
 abbrev pub dump_text : List ℕ → Lines
 dump_text w = then_lines (line (lines_of (inventory_of w))) (listing_of w)
 
+-- what is told where not all lines were written
+abbrev pub told_listing_fault : ListingFault → Fault
+told_listing_fault NotWritten = WriteFailed
+told_listing_fault Unreadable = BadImage Package
+
 -- the words are no image's, and nothing was told; or all was told up to a line that cannot be read
 abbrev pub IsDamaged : List ℕ → Damage → List ℕ → Type 0
 IsDamaged w damage text = ((text ≡ []) × ((fault : ImageFault) × PowerUpRefuses (fault_of fault) w × (damage ≡ damage_of fault)))
@@ -35,7 +42,9 @@ IsTold w (Err WriteFailed) text = HasHead w × IsCutOf (dump_text w).text text
 IsTold w (Err (BadImage damage)) text = IsDamaged w damage text
 IsTold w (Err other) text = ⊥
 
--- the image of this name was asked for, to read it alone; it could not be opened, and nothing was written, or its words were told
-abbrev pub IsDump : List ℕ → Result Unit Fault → List ℕ → FileRequests → Type 0
-IsDump image ended text files = (files ≡ file_requests 1 0 0) × (((fault : Fault) × (ended ≡ Err fault) × IsNotOpened image fault × (text ≡ []))
-    ⊎ ((w : List ℕ) × IsImageSize (2 * length w) × IsTold w ended text))
+-- the image of this name could not be opened to read it alone, and nothing was written; or its words were told, and it was closed
+-- with no write asked for
+abbrev pub IsDump : List ℕ → Result Unit Fault → List ℕ → List FileDeed → Type 0
+IsDump image ended text deeds =
+    ((fault : Fault) × (ended ≡ Err fault) × IsNotOpened image fault × (text ≡ []) × (deeds ≡ ReadsImage image None ∷ []))
+    ⊎ ((w : List ℕ) × IsImageSize (2 * length w) × IsTold w ended text × (deeds ≡ ReadsImage image (Some w) ∷ ClosesImage image (fresh_store w) ∷ []))

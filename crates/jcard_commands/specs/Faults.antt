@@ -1,6 +1,8 @@
 -- How the program ends: its exit status and its last line.
 use Rattle.std.specs.Prelude.{ℕ, Bool, true, false, ◌≡◌, ◌⊎◌, ◌+◌, ◌*◌, ◌<◌, List, [], ◌++◌, length, codes, decimal, Result, Ok, Err, Option, Some, None}
-use Rattle.std.specs.Prelude.{MatchBool}
+use Rattle.std.specs.Prelude.{MatchBool, ◌∷◌}
+use Rattle.std.specs.Bool.{OnTrue}
+use Rattle.std.specs.Io.KnownBytes.{Consumes}
 use Rattle.std.specs.Borrow.{Bor}
 use Rattle.jc_words.specs.Files.{IsImageSize}
 use Rattle.jc_words.specs.Stores.{FuseStoreValue}
@@ -9,7 +11,7 @@ use Rattle.jc_image.specs.Laying.{first_free}
 use Rattle.jc_platform.specs.Table.{Reads}
 use Rattle.jc_platform.specs.declared.fault.TableFault.TheVariants.{BadTable as BadLine}
 use Rattle.jc_card.specs.Fixed.{fixed_size}
-use Rattle.jcard_script.specs.Script.{Ends}
+use Rattle.jcard_script.specs.Script.{Ends, IsWholeScript}
 use Rattle.jcard_script.specs.Texts.{IsCutOf}
 use Rattle.jcard_script.specs.declared.script.ScriptFault.{ScriptFault}
 use Rattle.jcard_script.specs.declared.script.ScriptFault.TheVariants.{ReadFailed, WriteFailed as NotWritten, BadLine as BadScriptLine, TooLong}
@@ -18,9 +20,9 @@ use Rattle.jc_card.specs.declared.power_up.PowerFault.{PowerFault}
 use Rattle.jc_card.specs.declared.power_up.PowerFault.TheVariants as power
 use Rattle.jcard_commands.specs.CommandLine.{CommandLineRequest, ToMake, ToRun, ToTell, ToTry, request_of_words}
 use Rattle.jcard_commands.specs.Dumps.{IsDump}
-use Rattle.jcard_commands.specs.FileRequests.{FileRequests, file_requests}
-use Rattle.jcard_commands.specs.Images.{IsNotOpenedToWrite, IsNotRead}
-use Rattle.jcard_commands.specs.NewImages.{IsNew, IsNewImage, IsTable, IsWordCount}
+use Rattle.jcard_commands.specs.FileDeeds.{FileDeed, ClosesImage, OpensImage, ReadsText, fresh_store}
+use Rattle.jcard_commands.specs.Images.{IsNotOpenedToWrite, IsUnopened}
+use Rattle.jcard_commands.specs.NewImages.{IsNew, IsNewImage, IsTable, IsTextOf, IsUnread, IsWordCount}
 use Rattle.jcard_commands.specs.declared.fault.Damage.{Damage}
 use Rattle.jcard_commands.specs.declared.fault.Damage.TheVariants.{Magic, Version, Size, Log, Table, Package}
 use Rattle.jcard_commands.specs.declared.fault.Fault.{Fault}
@@ -90,61 +92,73 @@ IsUnpowered image power.BadPackage fault = fault ≡ BadImage Package
 IsUnpowered image power.NoMemory fault = fault ≡ NoMemory
 IsUnpowered image power.StoreDown fault = (path : Bor (List ℕ)) × (fault ≡ CannotWrite path) × (path.now ≡ image)
 
--- how the carrying out of the script in the file of the second name ended, over the image of the first
+-- what is told where the script in the file of the second name was not carried out to its end over the image of the first
+abbrev pub IsScriptFault : List ℕ → List ℕ → ScriptFault → Fault → Type 0
+IsScriptFault image script (BadScriptLine n) fault = fault ≡ BadCommand n
+IsScriptFault image script TooLong fault = fault ≡ ScriptTooLong
+IsScriptFault image script NotWritten fault = fault ≡ WriteFailed
+IsScriptFault image script ReadFailed fault = (path : Bor (List ℕ)) × (fault ≡ CannotRead path) × (path.now ≡ script)
+IsScriptFault image script (NotPoweredUp cause) fault = IsUnpowered image cause fault
+
+-- how that ended
 abbrev pub IsOutcomeOf : List ℕ → List ℕ → Result Unit ScriptFault → Result Unit Fault → Type 0
 IsOutcomeOf image script (Ok done) result = result ≡ Ok done
-IsOutcomeOf image script (Err (BadScriptLine n)) result = result ≡ Err (BadCommand n)
-IsOutcomeOf image script (Err TooLong) result = result ≡ Err ScriptTooLong
-IsOutcomeOf image script (Err NotWritten) result = result ≡ Err WriteFailed
-IsOutcomeOf image script (Err ReadFailed) result = (path : Bor (List ℕ)) × (result ≡ Err (CannotRead path)) × (path.now ≡ script)
-IsOutcomeOf image script (Err (NotPoweredUp cause)) result = (fault : Fault) × (result ≡ Err fault) × IsUnpowered image cause fault
+IsOutcomeOf image script (Err cause) result = (fault : Fault) × (result ≡ Err fault) × IsScriptFault image script cause fault
 
--- the power of these words was not cut before, and no write of them passed
-pub record IsFresh (store : FuseStoreValue) : Type 0 where
-  pub size : IsImageSize (2 * length store.words)
-  pub unarmed : store.fuse ≡ None
-  pub passed : store.passed_below ≡ 0
-  pub refused : store.refused_below ≡ 0
+-- the script, of whose bytes so much was known before and is known after, was carried out to this end, from one store to the other,
+-- and this text was written
+abbrev pub IsCarriedOut : List ℕ → List ℕ → Option (List ℕ) → Option (List ℕ) → FuseStoreValue → FuseStoreValue → Result Unit Fault → List ℕ → Type 0
+IsCarriedOut image script known left before after ended text = (bytes : List ℕ) × (at_end : Bool) × (carried : Result Unit ScriptFault)
+    × Consumes known left bytes × OnTrue at_end (IsWholeScript left bytes) × Ends carried before after at_end bytes text
+    × IsOutcomeOf image script carried ended
 
--- the image could not be opened, and the script was not asked for; or after it the script could not, and nothing was written; or the
--- script was carried out to this end over the image's words, and this text was written
-abbrev pub IsRun : List ℕ → List ℕ → Result Unit Fault → List ℕ → FileRequests → Type 0
-IsRun image script ended text files = ((fault : Fault) × (ended ≡ Err fault) × IsNotOpenedToWrite image fault × (text ≡ []) × (files ≡ file_requests 0 1 0))
-    ⊎ ((fault : Fault) × (ended ≡ Err fault) × IsNotRead script fault × (text ≡ []) × (files ≡ file_requests 1 1 0))
-    ⊎ ((bytes : List ℕ) × (before after : FuseStoreValue) × (at_end : Bool) × (carried : Result Unit ScriptFault) × IsFresh before
-    × Ends carried before after at_end bytes text × IsOutcomeOf image script carried ended × (files ≡ file_requests 1 1 0))
+-- the image could not be opened, and the script was not asked for; or after it the script could not, nothing was written, and the
+-- image was closed with no write asked for; or the script was carried out to this end over the image's words, this text was written,
+-- and the image was closed as the script left it
+abbrev pub IsRun : List ℕ → List ℕ → Result Unit Fault → List ℕ → List FileDeed → Type 0
+IsRun image script ended text deeds =
+    ((fault : Fault) × (ended ≡ Err fault) × IsNotOpenedToWrite image fault × (text ≡ []) × (deeds ≡ OpensImage image None ∷ []))
+    ⊎ ((w : List ℕ) × (fault : Fault) × (ended ≡ Err fault) × IsUnopened script fault × (text ≡ [])
+    × (deeds ≡ OpensImage image (Some w) ∷ ReadsText script None ∷ ClosesImage image (fresh_store w) ∷ []))
+    ⊎ ((w : List ℕ) × (known left : Option (List ℕ)) × (after : FuseStoreValue) × IsImageSize (2 * length w)
+    × IsCarriedOut image script known left (fresh_store w) after ended text
+    × (deeds ≡ OpensImage image (Some w) ∷ ReadsText script (Some known) ∷ ClosesImage image after ∷ []))
 
--- the script in the file of this name was tried on a new card of n words with the platform table of this text: it could not be opened,
--- or memory was refused; or the table and the objects of the runtime environment do not fit, and nothing was written; or it was carried
--- out to this end over the words of a new image, and this text was written
-abbrev pub IsTriedOn : List ℕ → ℕ → List ℕ → Result Unit Fault → List ℕ → Type 0
-IsTriedOn script n table ended text = ((fault : Fault) × (ended ≡ Err fault) × IsNotRead script fault × (text ≡ []))
+-- the script in the file of this name was tried on a new card of n words with the platform table of this text, of whose bytes so much
+-- was known, if it was opened: it was not, or memory was refused; or the table and the objects of the runtime environment do not fit,
+-- and nothing was written; or it was carried out to this end over the words of a new image, and this text was written
+abbrev pub IsTriedOn : List ℕ → ℕ → List ℕ → Result Unit Fault → List ℕ → Option (Option (List ℕ)) → Type 0
+IsTriedOn script n table ended text opened = ((fault : Fault) × (ended ≡ Err fault) × IsUnopened script fault × (text ≡ []) × (opened ≡ None))
+    ⊎ ((known left : Option (List ℕ)) × (opened ≡ Some known) × (((ended ≡ Err NoMemory) × (text ≡ []))
     ⊎ ((ended ≡ Err ImageTooSmall) × (n < first_free (length table) + fixed_size) × (text ≡ []))
-    ⊎ ((bytes : List ℕ) × (before after : FuseStoreValue) × (at_end : Bool) × (carried : Result Unit ScriptFault) × IsFresh before
-    × IsNewImage n table before.words × Ends carried before after at_end bytes text × IsOutcomeOf (codes "memory") script carried ended)
+    ⊎ ((w : List ℕ) × (after : FuseStoreValue) × IsNewImage n table w
+    × IsCarriedOut (codes "memory") script known left (fresh_store w) after ended text)))
 
 -- a script was tried: an image cannot have so many words, and no file was asked for; or after that the table was not read, or it is
 -- none, and no other file was asked for; or the script was tried, and its file was the only other
-abbrev pub IsTrial : List ℕ → List ℕ → List ℕ → Result Unit Fault → List ℕ → FileRequests → Type 0
-IsTrial script words table ended text files =
-    ((ended ≡ Err BadWords) × ((n : ℕ) → IsWordCount words n → ⊥) × (text ≡ []) × (files ≡ file_requests 0 0 0))
-    ⊎ ((fault : Fault) × (ended ≡ Err fault) × IsNotRead table fault × (text ≡ []) × (files ≡ file_requests 1 0 0))
-    ⊎ ((platform : List ℕ) × (line : ℕ) × (ended ≡ Err (BadTable line)) × Reads platform (Err (BadLine line)) × (text ≡ []) × (files ≡ file_requests 1 0 0))
-    ⊎ ((n : ℕ) × (platform : List ℕ) × IsWordCount words n × IsTable platform × IsTriedOn script n platform ended text × (files ≡ file_requests 2 0 0))
+abbrev pub IsTrial : List ℕ → List ℕ → List ℕ → Result Unit Fault → List ℕ → List FileDeed → Type 0
+IsTrial script words table ended text deeds =
+    ((ended ≡ Err BadWords) × ((n : ℕ) → IsWordCount words n → ⊥) × (text ≡ []) × (deeds ≡ []))
+    ⊎ ((fault : Fault) × (ended ≡ Err fault) × (text ≡ []) × IsUnread table fault deeds)
+    ⊎ ((platform : List ℕ) × (known : Option (List ℕ)) × (line : ℕ) × (ended ≡ Err (BadTable line)) × IsTextOf platform known
+    × Reads platform (Err (BadLine line)) × (text ≡ []) × (deeds ≡ ReadsText table (Some known) ∷ []))
+    ⊎ ((n : ℕ) × (platform : List ℕ) × (known : Option (List ℕ)) × (opened : Option (Option (List ℕ))) × IsWordCount words n
+    × IsTextOf platform known × IsTable platform × IsTriedOn script n platform ended text opened
+    × (deeds ≡ ReadsText table (Some known) ∷ ReadsText script opened ∷ []))
 
--- what is asked for was done to this end, this text was written, and these files were asked for; where nothing is, the command line
+-- what is asked for was done to this end, this text was written, and this was done with files; where nothing is, the command line
 -- is bad
-abbrev pub IsDone : Option CommandLineRequest → Result Unit Fault → List ℕ → FileRequests → Type 0
-IsDone None ended text files = (ended ≡ Err BadCommandLine) × (text ≡ []) × (files ≡ file_requests 0 0 0)
-IsDone (Some (ToMake image words table)) ended text files = IsNew image words table ended files × (text ≡ [])
-IsDone (Some (ToRun image script)) ended text files = IsRun image script ended text files
-IsDone (Some (ToTell image)) ended text files = IsDump image ended text files
-IsDone (Some (ToTry script words table)) ended text files = IsTrial script words table ended text files
+abbrev pub IsDone : Option CommandLineRequest → Result Unit Fault → List ℕ → List FileDeed → Type 0
+IsDone None ended text deeds = (ended ≡ Err BadCommandLine) × (text ≡ []) × (deeds ≡ [])
+IsDone (Some (ToMake image words table)) ended text deeds = IsNew image words table ended deeds × (text ≡ [])
+IsDone (Some (ToRun image script)) ended text deeds = IsRun image script ended text deeds
+IsDone (Some (ToTell image)) ended text deeds = IsDump image ended text deeds
+IsDone (Some (ToTry script words table)) ended text deeds = IsTrial script words table ended text deeds
 
--- on these words the program came to this end, wrote this text and asked for these files: memory was refused before anything was
+-- on these words the program came to this end, wrote this text and did this with files: memory was refused before anything was
 -- done, or what the words are taken for was done
-abbrev pub IsPerformed : List (List ℕ) → Result Unit Fault → List ℕ → FileRequests → Type 0
-IsPerformed words ended text files = ((ended ≡ Err NoMemory) × (text ≡ []) × (files ≡ file_requests 0 0 0)) ⊎ IsDone (request_of_words words) ended text files
+abbrev pub IsPerformed : List (List ℕ) → Result Unit Fault → List ℕ → List FileDeed → Type 0
+IsPerformed words ended text deeds = ((ended ≡ Err NoMemory) × (text ≡ []) × (deeds ≡ [])) ⊎ IsDone (request_of_words words) ended text deeds
 
 -- a writer's count of failures rises by one for each of these
 abbrev pub failures_of : ℕ → Result Unit Fault → Bool → ℕ
@@ -158,6 +172,6 @@ IsUnbegun (Err (CannotRead path)) = path.now ≡ codes "/"
 IsUnbegun other = ⊥
 
 -- on the program's arguments it came to this end and wrote this text: they are texts, and it did what they ask for; or nothing was begun
-abbrev pub IsStarted : Result Unit Fault → List ℕ → FileRequests → Type 0
-IsStarted ended text files = ((words : List (List ℕ)) × IsPerformed words ended text files)
-    ⊎ (IsUnbegun ended × (text ≡ []) × (files ≡ file_requests 0 0 0))
+abbrev pub IsStarted : Result Unit Fault → List ℕ → List FileDeed → Type 0
+IsStarted ended text deeds = ((words : List (List ℕ)) × IsPerformed words ended text deeds)
+    ⊎ (IsUnbegun ended × (text ≡ []) × (deeds ≡ []))

@@ -1,10 +1,17 @@
 -- Images in files.
-use Rattle.std.specs.Prelude.{ℕ, ◌≡◌, List, Result, Ok, Err}
+use Rattle.std.specs.Prelude.{ℕ, ◌≡◌, List, Option, Result, Ok, Err}
+use Rattle.std.specs.Borrow.{Bor}
+use Rattle.jc_words.specs.Files.{IsCreated, IsOpened}
+use Rattle.jc_words.specs.Stores.{FileStoreValue}
+use Rattle.jc_words.specs.declared.file.FileOpenFault.{FileOpenFault}
+use Rattle.jc_words.specs.declared.file.FileOpenFault.TheVariants as opening
+use Rattle.jc_words.specs.declared.file.FileCreateFault.{FileCreateFault}
+use Rattle.jc_words.specs.declared.file.FileCreateFault.TheVariants as making
 use Rattle.jc_words.specs.declared.lock.Lock.{Lock}
 use Rattle.jc_words.specs.declared.lock.LockFault.{LockFault}
-use Rattle.jc_words.specs.declared.lock.LockFault.TheVariants.{InUse}
 use Rattle.jc_words.specs.declared.image.ImageFault.{ImageFault}
 use Rattle.jc_words.specs.declared.image.ImageFault.TheVariants.{BadMagic, BadVersion, BadSize}
+use Rattle.jc_words.specs.declared.word_file.StdFile.{StdFile}
 use Rattle.jcard_commands.specs.declared.fault.Damage.{Damage}
 use Rattle.jcard_commands.specs.declared.fault.Damage.TheVariants.{Magic, Version, Size}
 use Rattle.jcard_commands.specs.declared.fault.Fault.{Fault}
@@ -15,6 +22,10 @@ abbrev pub IsNotRead : List ℕ → Fault → Type 0
 IsNotRead name (CannotRead path) = path.now ≡ name
 IsNotRead name NoMemory = Unit {0}
 IsNotRead name other = ⊥
+
+-- a file of this name could not be opened
+abbrev pub IsUnopened : List ℕ → Fault → Type 0
+IsUnopened name fault = (path : Bor (List ℕ)) × (fault ≡ CannotRead path) × (path.now ≡ name)
 
 -- why the image of this name was not opened to read it alone; its file can have no image's size, and another can have it open
 abbrev pub IsNotOpened : List ℕ → Fault → Type 0
@@ -34,11 +45,38 @@ IsNotMade name ImageInUse = Unit {0}
 IsNotMade name NoMemory = Unit {0}
 IsNotMade name other = ⊥
 
--- an image's file was locked so before it was read or written; where it is called in use another's lock forbade that
-abbrev pub IsLocked : {F S : Type 0} → (F → Lock → Result Unit LockFault → Type 0) → Lock → Result S Fault → Type 0
-IsLocked {F = F} gives lock (Ok store) = (file : F) × gives file lock (Ok tt)
-IsLocked {F = F} gives lock (Err ImageInUse) = (file : F) × gives file lock (Err InUse)
-IsLocked gives lock (Err other) = Unit {0}
+-- ---- causes
+
+-- what is told where the image of this name was not opened to change it
+abbrev pub IsOpenFault : List ℕ → FileOpenFault → Fault → Type 0
+IsOpenFault name opening.CannotOpen fault = (path : Bor (List ℕ)) × (fault ≡ CannotOpenToWrite path) × (path.now ≡ name)
+IsOpenFault name opening.InUse fault = fault ≡ ImageInUse
+IsOpenFault name opening.CannotRead fault = IsUnopened name fault
+IsOpenFault name opening.BadSize fault = fault ≡ BadImage Size
+IsOpenFault name opening.NoMemory fault = fault ≡ NoMemory
+
+-- what is told where it was not opened to read it alone
+abbrev pub IsReadFault : List ℕ → FileOpenFault → Fault → Type 0
+IsReadFault name opening.CannotOpen fault = IsUnopened name fault
+IsReadFault name cause fault = IsOpenFault name cause fault
+
+-- what is told where a file of this name was not made
+abbrev pub IsCreateFault : List ℕ → FileCreateFault → Fault → Type 0
+IsCreateFault name making.CannotWrite fault = (path : Bor (List ℕ)) × (fault ≡ CannotWrite path) × (path.now ≡ name)
+IsCreateFault name making.InUse fault = fault ≡ ImageInUse
+IsCreateFault name making.NoMemory fault = fault ≡ NoMemory
+
+-- the file of an image was opened as a store, and where it was not, that is told so
+abbrev pub IsOpenedAs : {F : Type 0} → (FileOpenFault → Fault → Type 0) → (F → Lock → Result Unit LockFault → Type 0) → (F → Option (List ℕ)) → Lock
+    → Result (FileStoreValue (StdFile F)) Fault → Type 0
+IsOpenedAs tells gives unread lock (Ok store) = IsOpened gives unread lock (Ok store)
+IsOpenedAs tells gives unread lock (Err fault) = (cause : FileOpenFault) × IsOpened gives unread lock (Err cause) × tells cause fault
+
+-- the file of an image was made, and where it was not, that is told so
+abbrev pub IsCreatedAs : {F : Type 0} → (FileCreateFault → Fault → Type 0) → (F → Lock → Result Unit LockFault → Type 0) → (F → Option (List ℕ)) → ℕ
+    → Result (FileStoreValue (StdFile F)) Fault → Type 0
+IsCreatedAs tells gives contents n (Ok store) = IsCreated gives contents n (Ok store)
+IsCreatedAs tells gives contents n (Err fault) = (cause : FileCreateFault) × IsCreated gives contents n (Err cause) × tells cause fault
 
 -- the damage that a fault of the first words is
 abbrev pub damage_of : ImageFault → Damage

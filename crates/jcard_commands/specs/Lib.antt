@@ -1,4 +1,4 @@
-pub mod FileRequests
+pub mod FileDeeds
 pub mod CommandLine
 pub mod Dumps
 pub mod Faults

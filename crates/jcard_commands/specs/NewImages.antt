@@ -1,8 +1,9 @@
 -- Making an image.
-use Rattle.std.specs.Prelude.{ℕ, ◌≡◌, ◌⊎◌, ◌+◌, ◌<◌, ◌≤◌, List, length, Result, Ok, Err}
+use Rattle.std.specs.Prelude.{ℕ, ◌≡◌, ◌≢◌, ◌⊎◌, ◌+◌, ◌<◌, ◌≤◌, true, false, List, [], ◌∷◌, length, replicate, take, slice_index, Option, Some, None, IfSome, Result, Ok, Err}
+use Rattle.std.specs.Borrow.{Bor}
 use Rattle.std.specs.Str.Parse.{IsNumeral, digits_value}
-use Rattle.jc_words.specs.Layout.{least_size}
-use Rattle.jc_words.specs.Stores.{MemStoreValue}
+use Rattle.jc_words.specs.Layout.{least_size, magic, magic_address}
+use Rattle.jc_words.specs.Stores.{FuseStoreValue, MemStoreValue}
 use Rattle.jc_commit.specs.Image.{recovered_of}
 use Rattle.jc_heap.specs.Heap.{heap_of}
 use Rattle.jc_image.specs.Laying.{first_free}
@@ -11,10 +12,12 @@ use Rattle.jc_platform.specs.Table.{Reads}
 use Rattle.jc_platform.specs.declared.fault.TableFault.TheVariants.{BadTable as BadLine}
 use Rattle.jc_card.specs.Fixed.{fixed_size}
 use Rattle.jc_card.specs.Made.{IsMade, new_card_heap}
-use Rattle.jcard_commands.specs.FileRequests.{FileRequests, file_requests, with_more_requests}
-use Rattle.jcard_commands.specs.Images.{IsNotRead}
+use Rattle.jc_card.specs.declared.formatting.FormatFault.{FormatFault}
+use Rattle.jc_card.specs.declared.formatting.FormatFault.TheVariants as format
+use Rattle.jcard_commands.specs.FileDeeds.{FileDeed, ClosesImage, MakesImage, ReadsText, fresh_store}
+use Rattle.jcard_commands.specs.Images.{IsNotMade, IsNotRead, IsUnopened}
 use Rattle.jcard_commands.specs.declared.fault.Fault.{Fault}
-use Rattle.jcard_commands.specs.declared.fault.Fault.TheVariants.{NoMemory, BadWords, BadTable, ImageTooSmall, CannotWrite, ImageInUse}
+use Rattle.jcard_commands.specs.declared.fault.Fault.TheVariants.{NoMemory, BadWords, BadTable, ImageTooSmall, CannotWrite}
 
 -- the text is decimal digits, and tells how many words an image has, 4096 to 65535
 pub record IsWordCount (text : List ℕ) (n : ℕ) : Type 0 where
@@ -41,21 +44,47 @@ IsNewImageInMemory n text (Err NoMemory) = Unit {0}
 IsNewImageInMemory n text (Err ImageTooSmall) = n < first_free (length text) + fixed_size
 IsNewImageInMemory n text (Err other) = ⊥
 
--- how the making of an image of this name and size ended, from this text, and which files were asked for since it was read: it is
--- no table, and no file was asked for; or one was, and it was in use, or not made, or not written to its end; or the table and the objects of
--- the runtime environment do not fit
-abbrev pub IsMadeFrom : List ℕ → ℕ → List ℕ → Result Unit Fault → FileRequests → Type 0
-IsMadeFrom image n text (Ok done) files = (files ≡ file_requests 0 0 1) × ((w : List ℕ) × IsNewImage n text w)
-IsMadeFrom image n text (Err (BadTable line)) files = (files ≡ file_requests 0 0 0) × Reads text (Err (BadLine line))
-IsMadeFrom image n text (Err (CannotWrite path)) files = (files ≡ file_requests 0 0 1) × IsTable text × (path.now ≡ image)
-IsMadeFrom image n text (Err ImageInUse) files = (files ≡ file_requests 0 0 1) × IsTable text
-IsMadeFrom image n text (Err NoMemory) files = (files ≡ file_requests 0 0 1) × IsTable text
-IsMadeFrom image n text (Err ImageTooSmall) files = (files ≡ file_requests 0 0 1) × IsTable text × (n < first_free (length text) + fixed_size)
-IsMadeFrom image n text (Err other) files = ⊥
+-- what is told where the image of this name was not made of its file's words
+abbrev pub IsFormatFault : List ℕ → FormatFault → Fault → Type 0
+IsFormatFault image format.StoreDown fault = (path : Bor (List ℕ)) × (fault ≡ CannotWrite path) × (path.now ≡ image)
+IsFormatFault image format.BadSize fault = fault ≡ BadWords
+IsFormatFault image (format.BadTable line) fault = fault ≡ BadTable line
+IsFormatFault image format.TooSmall fault = fault ≡ ImageTooSmall
+
+-- how a store of n zero words ended as the image of this name, from this table's text: it is a new image, and refused no write; or it
+-- refused one, and has no magic word; or the table and the objects of the runtime environment do not fit, and no write was asked for
+abbrev pub IsLaid : List ℕ → ℕ → List ℕ → Result Unit Fault → FuseStoreValue → Type 0
+IsLaid image n text (Ok done) store = IsNewImage n text store.words × (store.refused_below ≡ 0) × (store.passed ≡ 0)
+IsLaid image n text (Err (CannotWrite path)) store = (path.now ≡ image) × (store.refused_below ≡ 1) × (store.down ≡ true)
+    × ((store.words ≡ replicate n 0) ⊎ (slice_index store.words magic_address ≢ magic))
+IsLaid image n text (Err ImageTooSmall) store = (n < first_free (length text) + fixed_size) × (store ≡ fresh_store (replicate n 0))
+IsLaid image n text (Err other) store = ⊥
+
+-- how the making of an image of this name and size ended, from this text, and what was done with files: it is no table, and no file was
+-- asked for; or the file was not made; or it was, and was closed as it ended
+abbrev pub IsMadeFrom : List ℕ → ℕ → List ℕ → Result Unit Fault → List FileDeed → Type 0
+IsMadeFrom image n text ended deeds =
+    ((line : ℕ) × (ended ≡ Err (BadTable line)) × Reads text (Err (BadLine line)) × (deeds ≡ []))
+    ⊎ ((fault : Fault) × (ended ≡ Err fault) × IsTable text × IsNotMade image fault × (deeds ≡ MakesImage image n false ∷ []))
+    ⊎ ((store : FuseStoreValue) × IsTable text × IsLaid image n text ended store × (deeds ≡ MakesImage image n true ∷ ClosesImage image store ∷ []))
+
+-- a platform table of this text was read from what is known of a file
+abbrev pub IsTextOf : List ℕ → Option (List ℕ) → Type 0
+IsTextOf text known = IfSome known (λ bytes. text ≡ take 16385 bytes)
+
+-- no platform table was read from the file of this name: it could not be opened, or not be read
+abbrev pub IsUnread : List ℕ → Fault → List FileDeed → Type 0
+IsUnread table fault deeds = (IsUnopened table fault × (deeds ≡ ReadsText table None ∷ []))
+    ⊎ (IsNotRead table fault × ((known : Option (List ℕ)) × (deeds ≡ ReadsText table (Some known) ∷ [])))
+
+-- this text was read from the file of this name
+abbrev pub IsRead : List ℕ → List ℕ → List FileDeed → Type 0
+IsRead table text deeds = (known : Option (List ℕ)) × IsTextOf text known × (deeds ≡ ReadsText table (Some known) ∷ [])
 
 -- the image of the first name was made, with so many words, from the text in the file of the last; or an image cannot have so many,
 -- and no file was asked for; or after that the file was not read, and no other was asked for
-abbrev pub IsNew : List ℕ → List ℕ → List ℕ → Result Unit Fault → FileRequests → Type 0
-IsNew image words table ended files = ((ended ≡ Err BadWords) × ((n : ℕ) → IsWordCount words n → ⊥) × (files ≡ file_requests 0 0 0))
-    ⊎ ((n : ℕ) × IsWordCount words n × (((fault : Fault) × (ended ≡ Err fault) × IsNotRead table fault × (files ≡ file_requests 1 0 0))
-    ⊎ ((text : List ℕ) × (then : FileRequests) × IsMadeFrom image n text ended then × (files ≡ with_more_requests then (file_requests 1 0 0)))))
+abbrev pub IsNew : List ℕ → List ℕ → List ℕ → Result Unit Fault → List FileDeed → Type 0
+IsNew image words table ended deeds = ((ended ≡ Err BadWords) × ((n : ℕ) → IsWordCount words n → ⊥) × (deeds ≡ []))
+    ⊎ ((n : ℕ) × IsWordCount words n × (((fault : Fault) × (ended ≡ Err fault) × IsUnread table fault deeds)
+    ⊎ ((text : List ℕ) × (known : Option (List ℕ)) × (then : List FileDeed) × IsTextOf text known × IsMadeFrom image n text ended then
+    × (deeds ≡ ReadsText table (Some known) ∷ then))))

@@ -1,133 +1,207 @@
 //! The files that the program uses.
-ghost use Rattle.std.specs.Prelude.{◌≡◌, ◌*◌, IfOk, IfErr, length, replicate};
+ghost use Rattle.std.specs.Prelude.{◌≡◌, ◌++◌, ◌*◌, ◌∷◌, [], List, ℕ, false, is_ok, IfOk, IfErr, length, replicate};
 ghost use Rattle.jc_words.specs.Files.{IsImageSize};
-ghost use Rattle.jcard_commands.specs.FileRequests.{file_requests, with_more_requests};
-ghost use Rattle.jcard_commands.specs.Images.{IsLocked, IsNotMade, IsNotOpened, IsNotOpenedToWrite, IsNotRead};
+ghost use Rattle.jcard_commands.specs.FileDeeds.{FileDeed, ClosesImage, MakesImage, OpensImage, ReadsImage, ReadsText, told_of};
+ghost use Rattle.jcard_commands.specs.Images.{IsCreateFault, IsCreatedAs, IsNotMade, IsNotOpened, IsNotOpenedToWrite, IsOpenedAs, IsOpenFault, IsReadFault, IsUnopened};
 
 use crate::fault::{Damage, Fault};
-use jc_words::{FileCreateFault, FileOpenFault, FileStore, Lock, LockFile, StdFile};
+use jc_words::{
+    FileCreateFault, FileOpenFault, FileStore, FuseStore, Lock, LockFile, StdFile, WordStore,
+};
 use std::alloc::Global;
 use std::fs;
-use std::marker::Model;
+use std::io::Read;
 use std::rt::Files;
 
-/// The files of a runtime. It counts how many the program asked to open to read them alone, how many
-/// to open to change them, and how many to make.
+/// A store that a disk hands out as an image, and takes back.
+pub trait DiskImage {}
+
+/// An image in a file that can be locked.
+impl<F: LockFile> DiskImage for FileStore<StdFile<F>> {}
+
+/// The files that the program uses, by their names.
+pub trait Disk {
+    /// An image that is open.
+    type Image: WordStore + DiskImage + Drop;
+
+    /// A text that is open.
+    type Text: Read + Drop;
+
+    // what is known where from the first state to the last exactly these things were done, in this order
+    ghost does: { Self → List FileDeed → Self → Type 0 };
+
+    /// The allocator.
+    fn alloc(&self) -> Global;
+
+    /// Opens the image of this name to change it. Nobody else has it open.
+    fn open_image<'n>(&mut self, image: &'n str) -> Result<Self::Image, Fault<'n>>
+        ensures size { IfOk result (λ store. IsImageSize (2 * length (Self.Image.words store))) }
+        ensures up { IfOk result (λ store. Self.Image.down store ≡ false) }
+        ensures none_passed { IfOk result (λ store. Self.Image.passed store ≡ 0) }
+        ensures none_refused { IfOk result (λ store. Self.Image.refused store ≡ 0) }
+        ensures refused { IfErr result (λ fault. IsNotOpenedToWrite image.now fault) }
+        ensures does { does self.old (OpensImage image.now (told_of Self.Image.words result) ∷ [])
+            self.new };
+
+    /// Opens the image of this name to read it alone. Others may read it too.
+    fn open_image_to_read<'n>(&mut self, image: &'n str) -> Result<Self::Image, Fault<'n>>
+        ensures size { IfOk result (λ store. IsImageSize (2 * length (Self.Image.words store))) }
+        ensures up { IfOk result (λ store. Self.Image.down store ≡ false) }
+        ensures none_passed { IfOk result (λ store. Self.Image.passed store ≡ 0) }
+        ensures none_refused { IfOk result (λ store. Self.Image.refused store ≡ 0) }
+        ensures refused { IfErr result (λ fault. IsNotOpened image.now fault) }
+        ensures does { does self.old (ReadsImage image.now (told_of Self.Image.words result) ∷ [])
+            self.new };
+
+    /// Makes a file of this name with n zero words. A file that is there is replaced, unless somebody
+    /// has it open.
+    fn make_image<'n>(&mut self, image: &'n str, n: u16) -> Result<Self::Image, Fault<'n>>
+        ensures words { IfOk result (λ store. Self.Image.words store ≡ replicate n 0) }
+        ensures up { IfOk result (λ store. Self.Image.down store ≡ false) }
+        ensures none_passed { IfOk result (λ store. Self.Image.passed store ≡ 0) }
+        ensures none_refused { IfOk result (λ store. Self.Image.refused store ≡ 0) }
+        ensures refused { IfErr result (λ fault. IsNotMade image.now fault) }
+        ensures does { does self.old (MakesImage image.now n (is_ok result) ∷ []) self.new };
+
+    /// Closes the image of this name, which comes back under a fuse.
+    fn close_image<S: WordStore + DiskImage + Drop>(&mut self, image: &str, store: FuseStore<S>)
+        ensures { does self.old (ClosesImage image.now store ∷ []) self.new };
+
+    /// Opens the text of this name.
+    fn open_text<'n>(&mut self, name: &'n str) -> Result<Self::Text, Fault<'n>>
+        ensures refused { IfErr result (λ fault. IsUnopened name.now fault) }
+        ensures does { does self.old (ReadsText name.now (told_of Self.Text.remaining result) ∷ [])
+            self.new };
+
+    // nothing changes where nothing is done
+    ghost none: { (disk : Self) → does disk [] disk };
+
+    // some things are done, and then others
+    ghost then: { (first between last : Self) (deeds more : List FileDeed)
+        → does first deeds between → does between more last → does first (deeds ++ more) last };
+}
+
+/// The files of a runtime. What was done with them it does not tell.
 #[derive(Drop)]
-pub struct Disk<'a, R: Files + AllocGlobal> {
+pub struct SystemDisk<'a, R: Files + AllocGlobal> {
     rt: &'a R,
-    to_read: u64,
-    to_change: u64,
-    to_make: u64,
 }
 
-impl<'a, R: Files + AllocGlobal> Model for Disk<'a, R> {
-    ghost use Rattle.jcard_commands.specs.FileRequests.{FileRequests};
-
-    ghost Value = { FileRequests };
-
-    ghost view = { λ d. record {
-      to_read = d.to_read;
-      to_change = d.to_change;
-      to_make = d.to_make;
-    } };
+impl<'a, R: Files + AllocGlobal> SystemDisk<'a, R> {
+    /// The files of this runtime.
+    pub fn new(rt: &'a R) -> Self {
+        SystemDisk { rt }
+    }
 }
 
-impl<'a, R: Files + AllocGlobal> Disk<'a, R>
+impl<'a, R: Files + AllocGlobal> Disk for SystemDisk<'a, R>
 where
     R::File: LockFile,
 {
-    /// The files of a runtime, of which none was asked for.
-    pub fn new(rt: &'a R) -> Self
-        ensures { result ≡ file_requests 0 0 0 }
-    {
-        Disk {
-            rt,
-            to_read: 0,
-            to_change: 0,
-            to_make: 0,
-        }
-    }
+    type Image = FileStore<StdFile<R::File>>;
 
-    /// The allocator.
-    pub fn alloc(&self) -> Global {
+    type Text = R::File;
+
+    ghost does = { λ _ _ _. Unit {0} };
+
+    ghost none = { λ _. tt };
+
+    ghost then = { λ _ _ _ _ _ _ _. tt };
+
+    fn alloc(&self) -> Global {
         self.rt.alloc()
     }
 
-    /// Opens the image of this name to change it. Nobody else has it open.
-    pub fn open_image<'n>(
-        &mut self,
-        image: &'n str,
-    ) -> Result<FileStore<StdFile<R::File>>, Fault<'n>>
+    fn open_image<'n>(&mut self, image: &'n str) -> Result<Self::Image, Fault<'n>>
         ensures size { IfOk result (λ store. IsImageSize (2 * length store.words)) }
-        ensures fresh { IfOk result (λ store. (store.passed ≡ 0) × (store.refused ≡ 0)) }
-        ensures locked { IsLocked R.File.lock_gives Lock.Exclusive result }
+        ensures up { IfOk result (λ store. store.down ≡ false) }
+        ensures none_passed { IfOk result (λ store. store.passed ≡ 0) }
+        ensures none_refused { IfOk result (λ store. store.refused ≡ 0) }
         ensures refused { IfErr result (λ fault. IsNotOpenedToWrite image.now fault) }
-        ensures counted { self.new ≡ with_more_requests (file_requests 0 1 0) self.old }
+        ensures does { Unit {0} }
+        ensures opened { IsOpenedAs (IsOpenFault image.now) R.File.lock_gives R.File.remaining
+            Lock.Exclusive result }
     {
-        self.to_change = self.to_change.saturating_add(1);
         match FileStore::open(self.rt, image) {
             Ok(store) => Ok(store),
-            Err(FileOpenFault::CannotOpen) => Err(Fault::CannotOpenToWrite(image)),
-            Err(FileOpenFault::InUse) => Err(Fault::ImageInUse),
-            Err(FileOpenFault::CannotRead) => Err(Fault::CannotRead(image)),
-            Err(FileOpenFault::BadSize) => Err(Fault::BadImage(Damage::Size)),
-            Err(FileOpenFault::NoMemory) => Err(Fault::NoMemory),
+            Err(cause) => Err(open_fault(image, cause)),
         }
     }
 
-    /// Opens the image of this name to read it alone. Others may read it too.
-    pub fn open_image_to_read<'n>(
-        &mut self,
-        image: &'n str,
-    ) -> Result<FileStore<StdFile<R::File>>, Fault<'n>>
+    fn open_image_to_read<'n>(&mut self, image: &'n str) -> Result<Self::Image, Fault<'n>>
         ensures size { IfOk result (λ store. IsImageSize (2 * length store.words)) }
-        ensures locked { IsLocked R.File.lock_gives Lock.Shared result }
+        ensures up { IfOk result (λ store. store.down ≡ false) }
+        ensures none_passed { IfOk result (λ store. store.passed ≡ 0) }
+        ensures none_refused { IfOk result (λ store. store.refused ≡ 0) }
         ensures refused { IfErr result (λ fault. IsNotOpened image.now fault) }
-        ensures counted { self.new ≡ with_more_requests (file_requests 1 0 0) self.old }
+        ensures does { Unit {0} }
+        ensures opened { IsOpenedAs (IsReadFault image.now) R.File.lock_gives R.File.remaining
+            Lock.Shared result }
     {
-        self.to_read = self.to_read.saturating_add(1);
         match FileStore::open_to_read(self.rt, image) {
             Ok(store) => Ok(store),
-            Err(FileOpenFault::CannotOpen | FileOpenFault::CannotRead) => Err(Fault::CannotRead(
-                image,
-            )),
-            Err(FileOpenFault::InUse) => Err(Fault::ImageInUse),
-            Err(FileOpenFault::BadSize) => Err(Fault::BadImage(Damage::Size)),
-            Err(FileOpenFault::NoMemory) => Err(Fault::NoMemory),
+            Err(cause) => Err(read_fault(image, cause)),
         }
     }
 
-    /// Opens the file of this name to read it.
-    pub fn open_text<'n>(&mut self, name: &'n str) -> Result<R::File, Fault<'n>>
-        ensures refused { IfErr result (λ fault. IsNotRead name.now fault) }
-        ensures counted { self.new ≡ with_more_requests (file_requests 1 0 0) self.old }
+    fn make_image<'n>(&mut self, image: &'n str, n: u16) -> Result<Self::Image, Fault<'n>>
+        ensures words { IfOk result (λ store. store.words ≡ replicate n 0) }
+        ensures up { IfOk result (λ store. store.down ≡ false) }
+        ensures none_passed { IfOk result (λ store. store.passed ≡ 0) }
+        ensures none_refused { IfOk result (λ store. store.refused ≡ 0) }
+        ensures refused { IfErr result (λ fault. IsNotMade image.now fault) }
+        ensures does { Unit {0} }
+        ensures created { IsCreatedAs (IsCreateFault image.now) R.File.lock_gives R.File.contents n
+            result }
     {
-        self.to_read = self.to_read.saturating_add(1);
+        match FileStore::create(self.rt, image, n) {
+            Ok(store) => Ok(store),
+            Err(cause) => Err(create_fault(image, cause)),
+        }
+    }
+
+    fn close_image<S: WordStore + DiskImage + Drop>(&mut self, _image: &str, _store: FuseStore<S>)
+        ensures { Unit {0} }
+    {}
+
+    fn open_text<'n>(&mut self, name: &'n str) -> Result<Self::Text, Fault<'n>> {
         match fs::open(self.rt, name) {
             Ok(file) => Ok(file),
             Err(_) => Err(Fault::CannotRead(name)),
         }
     }
+}
 
-    /// Makes a file of this name with n zero words. A file that is there is replaced, unless somebody
-    /// has it open.
-    pub fn make_words<'n>(
-        &mut self,
-        image: &'n str,
-        n: u16,
-    ) -> Result<FileStore<StdFile<R::File>>, Fault<'n>>
-        ensures words { IfOk result (λ store. store.words ≡ replicate n 0) }
-        ensures locked { IsLocked R.File.lock_gives Lock.Exclusive result }
-        ensures refused { IfErr result (λ fault. IsNotMade image.now fault) }
-        ensures counted { self.new ≡ with_more_requests (file_requests 0 0 1) self.old }
-    {
-        self.to_make = self.to_make.saturating_add(1);
-        match FileStore::create(self.rt, image, n) {
-            Ok(store) => Ok(store),
-            Err(FileCreateFault::CannotWrite) => Err(Fault::CannotWrite(image)),
-            Err(FileCreateFault::InUse) => Err(Fault::ImageInUse),
-            Err(FileCreateFault::NoMemory) => Err(Fault::NoMemory),
-        }
+// What it means that the image of this name was not opened to change it.
+fn open_fault(image: &str, cause: FileOpenFault) -> Fault<'_>
+    ensures { IsOpenFault image.now cause result }
+{
+    match cause {
+        FileOpenFault::CannotOpen => Fault::CannotOpenToWrite(image),
+        FileOpenFault::InUse => Fault::ImageInUse,
+        FileOpenFault::CannotRead => Fault::CannotRead(image),
+        FileOpenFault::BadSize => Fault::BadImage(Damage::Size),
+        FileOpenFault::NoMemory => Fault::NoMemory,
+    }
+}
+
+// What it means that it was not opened to read it alone.
+fn read_fault(image: &str, cause: FileOpenFault) -> Fault<'_>
+    ensures { IsReadFault image.now cause result }
+{
+    match cause {
+        FileOpenFault::CannotOpen => Fault::CannotRead(image),
+        cause => open_fault(image, cause),
+    }
+}
+
+// What it means that a file of this name was not made.
+fn create_fault(image: &str, cause: FileCreateFault) -> Fault<'_>
+    ensures { IsCreateFault image.now cause result }
+{
+    match cause {
+        FileCreateFault::CannotWrite => Fault::CannotWrite(image),
+        FileCreateFault::InUse => Fault::ImageInUse,
+        FileCreateFault::NoMemory => Fault::NoMemory,
     }
 }

@@ -4,9 +4,9 @@ ghost use Rattle.jc_words.specs.Layout.{text_start};
 ghost use Rattle.std.specs.Io.KnownBytes.{Appends};
 ghost use Rattle.jcard_script.specs.Texts.{AppendsCut};
 ghost use Rattle.jc_words.specs.Count.{failures_after};
-ghost use Rattle.jcard_commands.specs.FileRequests.{FileRequests, with_more_requests};
+ghost use Rattle.jcard_commands.specs.FileDeeds.{FileDeed};
 ghost use Rattle.jcard_commands.specs.Faults.{is_unwritten};
-ghost use Rattle.jcard_commands.specs.Dumps.{IsDump, IsTold, lines_of};
+ghost use Rattle.jcard_commands.specs.Dumps.{IsDump, IsTold, lines_of, told_listing_fault};
 ghost use Rattle.jcard_commands.specs.Listings.{Tells, applet_text, count_line, line, numbered_lines, package_text, then_lines};
 ghost use Rattle.jcard_commands.specs.Listings.{is_not_written};
 ghost use Rattle.jcard_commands.specs.Images.{damage_of};
@@ -14,31 +14,32 @@ ghost use Rattle.jcard_commands.specs.Images.{damage_of};
 use crate::disk::Disk;
 use crate::fault::{Damage, Fault};
 use crate::listing::{ListingFault, write_applets, write_count, write_packages};
-use jc_words::{ImageFault, LockFile, WordStore};
+use jc_words::{FuseStore, ImageFault, WordStore};
 use jcard_script::card::inventory::Inventory;
 use jcard_script::streams::{TextOut, WriteFailed};
-use std::rt::Files;
 
 /// A count and what stands before it in its line.
 type Count<'a> = (&'a [u8], u16);
 
 /// `jcard dump IMAGE`: prints what the image of this name holds: how many words, entries of its journal,
 /// packages and applets, a line each, and then a line of each package and of each applet. Nothing is recovered.
-pub fn dump_image<'n, R: Files + AllocGlobal, W: TextOut>(
-    disk: &mut Disk<R>,
+pub fn dump_image<'n, D: Disk, W: TextOut>(
+    disk: &mut D,
     image: &'n str,
     out: &mut W,
 ) -> Result<(), Fault<'n>>
-where
-    R::File: LockFile,
-    ensures told { (text : List ℕ) × (files : FileRequests)
+    ensures told { (text : List ℕ) × (deeds : List FileDeed)
         × Appends (W.contents out.old) (W.contents out.new) text
-        × IsDump image.now result text files × (disk.new ≡ with_more_requests files disk.old) }
+        × IsDump image.now result text deeds × D.does disk.old deeds disk.new }
     ensures writes { W.failures out.new ≡ failures_after (W.failures out.old)
         (is_unwritten result) }
 {
     match disk.open_image_to_read(image) {
-        Ok(store) => dump_store(&store, out),
+        Ok(store) => {
+            let told = dump_store(&store, out);
+            disk.close_image(image, FuseStore::new(store));
+            told
+        }
         Err(fault) => Err(fault),
     }
 }
@@ -53,8 +54,7 @@ fn dump_store<'a, S: WordStore, W: TextOut>(store: &S, out: &mut W) -> Result<()
     match Inventory::of(store) {
         Ok(found) => match write_all_lines(store, found, out) {
             Ok(()) => Ok(()),
-            Err(ListingFault::NotWritten) => Err(Fault::WriteFailed),
-            Err(ListingFault::Unreadable) => Err(Fault::BadImage(Damage::Package)),
+            Err(cause) => Err(listing_fault(cause)),
         },
         Err(fault) => Err(Fault::BadImage(damage_by(fault))),
     }
@@ -77,6 +77,16 @@ fn write_all_lines<S: WordStore, W: TextOut>(
     write_inventory(found, out)?;
     write_packages(store, found.packages, out)?;
     write_applets(store, found.applets, out)
+}
+
+// What it means that not all lines were written.
+fn listing_fault(cause: ListingFault) -> Fault<'static>
+    ensures { result ≡ told_listing_fault cause }
+{
+    match cause {
+        ListingFault::NotWritten => Fault::WriteFailed,
+        ListingFault::Unreadable => Fault::BadImage(Damage::Package),
+    }
 }
 
 // The damage that a fault of the first words is.

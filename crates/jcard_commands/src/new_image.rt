@@ -1,20 +1,19 @@
 //! Making an image.
-ghost use Rattle.std.specs.Prelude.{ℕ, ◌≡◌, ◌≤◌, None, IfOk, IfErr, IfSome, length, take};
+ghost use Rattle.std.specs.Prelude.{ℕ, ◌≡◌, ◌≤◌, List, None, false, MatchResult, IfOk, IfErr, IfSome, length, replicate, take};
 ghost use Rattle.jc_words.specs.Layout.{least_size};
-ghost use Rattle.jcard_commands.specs.FileRequests.{FileRequests, file_requests, with_more_requests};
+ghost use Rattle.jcard_commands.specs.FileDeeds.{FileDeed};
 ghost use Rattle.jcard_commands.specs.Images.{IsNotRead};
-ghost use Rattle.jcard_commands.specs.NewImages.{IsMadeFrom, IsNew, IsTable, IsWordCount};
+ghost use Rattle.jcard_commands.specs.NewImages.{IsFormatFault, IsLaid, IsMadeFrom, IsNew, IsTable, IsRead, IsUnread, IsWordCount};
 
 use crate::disk::Disk;
 use crate::fault::Fault;
 use jc_platform::fault::TableFault;
 use jc_platform::read::read_table;
 use jc_words::layout::LEAST_SIZE;
-use jc_words::{LockFile, WordStore};
+use jc_words::{FuseStore, WordStore};
 use jcard_script::card::formatting::{FormatFault, format};
 use std::alloc::Global;
 use std::io::Read;
-use std::rt::Files;
 
 // One byte more than a table's text can have, so that a longer one is seen.
 const READ_LIMIT: u64 = 16_385;
@@ -22,16 +21,14 @@ const READ_LIMIT: u64 = 16_385;
 /// Makes an image of this name with so many words, a decimal number, from the platform table in
 /// the file of the last name. A file that is there is replaced, but only where the number and the
 /// table are good and nobody has it open.
-pub fn make_image<'n, R: Files + AllocGlobal>(
-    disk: &mut Disk<R>,
+pub fn make_image<'n, D: Disk>(
+    disk: &mut D,
     image: &'n str,
     words: &str,
     table: &'n str,
 ) -> Result<(), Fault<'n>>
-where
-    R::File: LockFile,
-    ensures { (files : FileRequests) × IsNew image.now words.now table.now result files
-        × (disk.new ≡ with_more_requests files disk.old) }
+    ensures { (deeds : List FileDeed) × IsNew image.now words.now table.now result deeds
+        × D.does disk.old deeds disk.new }
 {
     let Some(count) = word_count(words) else {
         return Err(Fault::BadWords);
@@ -57,14 +54,9 @@ pub(crate) fn word_count(text: &str) -> Option<u16>
 }
 
 /// What the file of this name holds, up to the limit.
-pub(crate) fn text_of<'n, R: Files + AllocGlobal>(
-    disk: &mut Disk<R>,
-    name: &'n str,
-) -> Result<Vec<u8>, Fault<'n>>
-where
-    R::File: LockFile,
-    ensures refused { IfErr result (λ fault. IsNotRead name.now fault) }
-    ensures counted { disk.new ≡ with_more_requests (file_requests 1 0 0) disk.old }
+pub(crate) fn text_of<'n, D: Disk>(disk: &mut D, name: &'n str) -> Result<Vec<u8>, Fault<'n>>
+    ensures { (deeds : List FileDeed) × D.does disk.old deeds disk.new × MatchResult result
+        (λ text. IsRead name.now text.items deeds) (λ fault. IsUnread name.now fault deeds) }
 {
     match disk.open_text(name) {
         Ok(mut file) => read_text(disk.alloc(), name, &mut file),
@@ -88,45 +80,60 @@ fn read_text<'a, F: Read>(alloc: Global, path: &'a str, file: &mut F) -> Result<
 }
 
 // Makes an image of this name and size from this text.
-fn make_from<'n, R: Files + AllocGlobal>(
-    disk: &mut Disk<R>,
+fn make_from<'n, D: Disk>(
+    disk: &mut D,
     image: &'n str,
     count: u16,
     text: &[u8],
 ) -> Result<(), Fault<'n>>
-where
-    R::File: LockFile,
     requires { least_size ≤ count }
-    ensures { (files : FileRequests) × IsMadeFrom image.now count text.now result files
-        × (disk.new ≡ with_more_requests files disk.old) }
+    ensures { (deeds : List FileDeed) × IsMadeFrom image.now count text.now result deeds
+        × D.does disk.old deeds disk.new }
 {
     match read_table(text) {
         Ok(_) => (),
         Err(TableFault::BadTable(line)) => return Err(Fault::BadTable(line)),
     }
-    match disk.make_words(image, count) {
-        Ok(store) => lay_image(store, image, text),
+    match disk.make_image(image, count) {
+        Ok(store) => {
+            let (store, ended) = lay_image(store, image, text);
+            disk.close_image(image, store);
+            ended
+        }
         Err(fault) => Err(fault),
     }
 }
 
-// Makes the words of a store an image, for the file of this name.
+// Makes the zero words of a store an image, for the file of this name, and gives the store back.
 fn lay_image<'a, S: WordStore + Drop>(
     store: S,
     image: &'a str,
     text: &[u8],
-) -> Result<(), Fault<'a>>
+) -> (FuseStore<S>, Result<(), Fault<'a>>)
     requires enough { least_size ≤ length (S.words store) }
+    requires zeros { S.words store ≡ replicate (length (S.words store)) 0 }
+    requires up { S.down store ≡ false }
+    requires none_passed { S.passed store ≡ 0 }
+    requires none_refused { S.refused store ≡ 0 }
     requires table { IsTable text.now }
-    ensures { IsMadeFrom image.now (length (S.words store)) text.now result (file_requests 0 0 1) }
+    ensures { IsLaid image.now (length (S.words store)) text.now result.1 result.0 }
 {
-    let (_store, made) = format(store, text);
+    let (store, made) = format(store, text);
+    let store = FuseStore::new(store);
     match made {
-        Ok(()) => Ok(()),
-        Err(FormatFault::StoreDown) => Err(Fault::CannotWrite(image)),
-        Err(FormatFault::BadTable(line)) => Err(Fault::BadTable(line)),
-        // The store has the least size, so its table alone can be too large.
-        Err(FormatFault::BadSize) => Err(Fault::ImageTooSmall),
-        Err(FormatFault::TooSmall) => Err(Fault::ImageTooSmall),
+        Ok(()) => (store, Ok(())),
+        Err(cause) => (store, Err(format_fault(image, cause))),
+    }
+}
+
+/// What it means that no image of this name was made of a store.
+pub(crate) fn format_fault(image: &str, cause: FormatFault) -> Fault<'_>
+    ensures { IsFormatFault image.now cause result }
+{
+    match cause {
+        FormatFault::StoreDown => Fault::CannotWrite(image),
+        FormatFault::BadSize => Fault::BadWords,
+        FormatFault::BadTable(line) => Fault::BadTable(line),
+        FormatFault::TooSmall => Fault::ImageTooSmall,
     }
 }

@@ -1,15 +1,16 @@
 //! The program, from its arguments to its exit status.
-ghost use Rattle.std.specs.Prelude.{◌≡◌, ◌⊎◌, ◌++◌, ℕ, List, Bool, Result, Err};
+ghost use Rattle.std.specs.Prelude.{◌≡◌, ◌++◌, ℕ, List, Bool, Result, Err};
 ghost use Rattle.std.specs.Io.KnownBytes.{Appends};
-ghost use Rattle.jcard_commands.specs.FileRequests.{FileRequests};
+ghost use Rattle.jcard_commands.specs.FileDeeds.{FileDeed};
 ghost use Rattle.jcard_commands.specs.Faults.{failures_of, status_of, IsLastLine, IsStarted, IsUnbegun};
 ghost use Rattle.jcard_commands.specs.declared.fault.Fault.{Fault};
 
-use crate::disk::Disk;
+use crate::disk::SystemDisk;
 use crate::fault::{Fault, tell};
 use crate::run::perform;
 use jc_words::LockFile;
 use jcard_script::streams::TextOut;
+use std::alloc::AllocError;
 use std::env::{self, Env};
 use std::fs;
 use std::io::{self, ErrorKind};
@@ -24,10 +25,10 @@ const FOLDER: &str = "/";
 pub fn run_program<R: Env + Files + Eprint + AllocGlobal, W: TextOut>(rt: &R, out: &mut W) -> u8
 where
     R::File: LockFile,
-    ensures { (text last : List ℕ) × (ended : Result Unit Fault) × (files : FileRequests)
+    ensures { (text last : List ℕ) × (ended : Result Unit Fault) × (deeds : List FileDeed)
         × (failed : Bool)
         × Appends (W.contents out.old) (W.contents out.new) (text ++ last)
-        × IsStarted ended text files × IsLastLine ended failed last
+        × IsStarted ended text deeds × IsLastLine ended failed last
         × (W.failures out.new ≡ failures_of (W.failures out.old) ended failed)
         × (result ≡ status_of ended) }
 {
@@ -37,13 +38,13 @@ where
     match env::args(rt) {
         Ok(args) => match args.collect::<Vec<String>>(rt.alloc()) {
             Ok(words) => {
-                let ended = perform(&mut Disk::new(rt), &words, out);
+                let ended = perform(&mut SystemDisk::new(rt), &words, out);
                 explain(rt, ended);
                 tell(ended, out)
             }
-            Err(_) => tell(Err(Fault::NoMemory), out),
+            Err(error) => tell(Err(words_fault(error)), out),
         },
-        Err(error) => tell(Err(fault_of(error.kind())), out),
+        Err(error) => tell(Err(arguments_fault(error.kind())), out),
     }
 }
 
@@ -69,9 +70,18 @@ fn explain<R: Eprint>(rt: &R, ended: Result<(), Fault>) {
     }
 }
 
+// There is no memory for the words.
+fn words_fault(_error: AllocError) -> Fault<'static>
+    ensures { result ≡ Fault.NoMemory }
+{
+    Fault::NoMemory
+}
+
 // What it means that the arguments cannot be read.
-fn fault_of(kind: ErrorKind) -> Fault<'static>
-    ensures { (result ≡ Fault.NoMemory) ⊎ (result ≡ Fault.BadCommandLine) }
+fn arguments_fault(kind: ErrorKind) -> Fault<'static>
+    ensures memory { kind ≡ ErrorKind.OutOfMemory → result ≡ Fault.NoMemory }
+    ensures other { (kind ≡ ErrorKind.OutOfMemory → ⊥) → result ≡ Fault.BadCommandLine }
+    ensures unbegun { IsUnbegun (Err result) }
 {
     match kind {
         ErrorKind::OutOfMemory => Fault::NoMemory,

@@ -1,16 +1,12 @@
 //! What the program does.
-ghost use Rattle.std.specs.Prelude.{◌≡◌, ◌++◌, ◌*◌, length, ℕ, List, Bool, Result, Some, map};
-ghost use Rattle.std.specs.Bool.{OnTrue};
+ghost use Rattle.std.specs.Prelude.{◌≡◌, ◌++◌, ℕ, List, Bool, Result, Some, map};
 ghost use Rattle.std.specs.String.{string_bytes};
-ghost use Rattle.std.specs.Io.KnownBytes.{Appends, Consumes};
-ghost use Rattle.jc_words.specs.Files.{IsImageSize};
-ghost use Rattle.jc_words.specs.Stores.{FuseStoreValue};
+ghost use Rattle.std.specs.Io.KnownBytes.{Appends};
 ghost use Rattle.jc_words.specs.Count.{failures_after};
-ghost use Rattle.jcard_script.specs.Script.{Ends, IsWholeScript, is_write_failed};
-ghost use Rattle.jcard_script.specs.declared.script.ScriptFault.{ScriptFault};
 ghost use Rattle.jcard_commands.specs.CommandLine.{request_by};
-ghost use Rattle.jcard_commands.specs.FileRequests.{FileRequests, with_more_requests};
-ghost use Rattle.jcard_commands.specs.Faults.{status_of, failures_of, is_unwritten, IsDone, IsFresh, IsLastLine, IsOutcomeOf, IsPerformed, IsRun, IsUnpowered};
+ghost use Rattle.jcard_commands.specs.FileDeeds.{FileDeed};
+ghost use Rattle.jcard_commands.specs.Faults.{status_of, failures_of, is_unwritten, IsCarriedOut, IsDone, IsLastLine, IsPerformed, IsRun, IsScriptFault};
+ghost use Rattle.jcard_commands.specs.Faults.{IsUnpowered};
 ghost use Rattle.jcard_commands.specs.declared.fault.Fault.{Fault};
 
 use crate::arguments::{Action, parse};
@@ -19,46 +15,37 @@ use crate::dump::dump_image;
 use crate::fault::{Damage, Fault, tell};
 use crate::new_image::make_image;
 use crate::trial::try_script;
-use jc_words::{FuseStore, LockFile, WordStore};
+use jc_words::{FuseStore, WordStore};
 use jcard_script::card::power_up::PowerFault;
 use jcard_script::script::{ScriptFault, run_script};
 use jcard_script::std_text::StdText;
 use jcard_script::streams::{TextIn, TextOut};
 use std::alloc::Global;
-use std::rt::Files;
 
 /// Does what the words ask for, the program's name among them as the first, and answers the exit
 /// status. What is written goes to `out`: the answers, and after a fault one last line.
-pub fn run_words<R: Files + AllocGlobal, W: TextOut>(
-    disk: &mut Disk<R>,
-    words: &[String],
-    out: &mut W,
-) -> u8
-where
-    R::File: LockFile,
-    ensures { (text last : List ℕ) × (ended : Result Unit Fault) × (files : FileRequests)
+pub fn run_words<D: Disk, W: TextOut>(disk: &mut D, words: &[String], out: &mut W) -> u8
+    ensures { (text last : List ℕ) × (ended : Result Unit Fault) × (deeds : List FileDeed)
         × (failed : Bool)
         × Appends (W.contents out.old) (W.contents out.new) (text ++ last)
-        × IsPerformed (map string_bytes words.now) ended text files × IsLastLine ended failed last
+        × IsPerformed (map string_bytes words.now) ended text deeds × IsLastLine ended failed last
         × (W.failures out.new ≡ failures_of (W.failures out.old) ended failed)
-        × (disk.new ≡ with_more_requests files disk.old) × (result ≡ status_of ended) }
+        × D.does disk.old deeds disk.new × (result ≡ status_of ended) }
 {
     let ended = perform(disk, words, out);
     tell(ended, out)
 }
 
 /// Does what the words ask for.
-pub(crate) fn perform<'n, R: Files + AllocGlobal, W: TextOut>(
-    disk: &mut Disk<R>,
+pub(crate) fn perform<'n, D: Disk, W: TextOut>(
+    disk: &mut D,
     words: &'n [String],
     out: &mut W,
 ) -> Result<(), Fault<'n>>
-where
-    R::File: LockFile,
-    ensures done { (text : List ℕ) × (files : FileRequests)
+    ensures done { (text : List ℕ) × (deeds : List FileDeed)
         × Appends (W.contents out.old) (W.contents out.new) text
-        × IsPerformed (map string_bytes words.now) result text files
-        × (disk.new ≡ with_more_requests files disk.old) }
+        × IsPerformed (map string_bytes words.now) result text deeds
+        × D.does disk.old deeds disk.new }
     ensures writes { W.failures out.new ≡ failures_after (W.failures out.old)
         (is_unwritten result) }
 {
@@ -68,17 +55,15 @@ where
     }
 }
 
-fn act<'n, R: Files + AllocGlobal, W: TextOut>(
-    disk: &mut Disk<R>,
+fn act<'n, D: Disk, W: TextOut>(
+    disk: &mut D,
     action: Action<'n>,
     out: &mut W,
 ) -> Result<(), Fault<'n>>
-where
-    R::File: LockFile,
-    ensures done { (text : List ℕ) × (files : FileRequests)
+    ensures done { (text : List ℕ) × (deeds : List FileDeed)
         × Appends (W.contents out.old) (W.contents out.new) text
-        × IsDone (Some (request_by action.entry)) result text files
-        × (disk.new ≡ with_more_requests files disk.old) }
+        × IsDone (Some (request_by action.entry)) result text deeds
+        × D.does disk.old deeds disk.new }
     ensures writes { W.failures out.new ≡ failures_after (W.failures out.old)
         (is_unwritten result) }
 {
@@ -99,31 +84,35 @@ where
 }
 
 // Carries out the script in the file of the second name, on the card of the image of the first.
-fn run_file<'n, R: Files + AllocGlobal, W: TextOut>(
-    disk: &mut Disk<R>,
+fn run_file<'n, D: Disk, W: TextOut>(
+    disk: &mut D,
     image: &'n str,
     script: &'n str,
     out: &mut W,
 ) -> Result<(), Fault<'n>>
-where
-    R::File: LockFile,
-    ensures done { (text : List ℕ) × (files : FileRequests)
+    ensures done { (text : List ℕ) × (deeds : List FileDeed)
         × Appends (W.contents out.old) (W.contents out.new) text
-        × IsRun image.now script.now result text files
-        × (disk.new ≡ with_more_requests files disk.old) }
+        × IsRun image.now script.now result text deeds × D.does disk.old deeds disk.new }
     ensures writes { W.failures out.new ≡ failures_after (W.failures out.old)
         (is_unwritten result) }
 {
     let store = match disk.open_image(image) {
-        Ok(store) => store,
+        Ok(store) => FuseStore::new(store),
         Err(fault) => return Err(fault),
     };
-    let file = match disk.open_text(script) {
-        Ok(file) => file,
-        Err(fault) => return Err(fault),
-    };
-    let names = Names { image, script };
-    run_named(disk.alloc(), names, store, &mut StdText::new(file), out)
+    match disk.open_text(script) {
+        Ok(file) => {
+            let names = Names { image, script };
+            let mut reader = StdText::new(file);
+            let (store, ended) = run_named(disk.alloc(), names, store, &mut reader, out);
+            disk.close_image(image, store);
+            ended
+        }
+        Err(fault) => {
+            disk.close_image(image, store);
+            Err(fault)
+        }
+    }
 }
 
 /// The names of an image and of a script.
@@ -133,59 +122,38 @@ pub(crate) struct Names<'a> {
     pub(crate) script: &'a str,
 }
 
-/// Carries out the script on the card of this store.
+/// Carries out the script on the card of this store, and gives the store back.
 pub(crate) fn run_named<'a, S: WordStore + Drop, I: TextIn, W: TextOut>(
     alloc: Global,
     names: Names<'a>,
-    store: S,
+    store: FuseStore<S>,
     script: &mut I,
     out: &mut W,
-) -> Result<(), Fault<'a>>
-    requires size { IsImageSize (2 * length (S.words store)) }
-    requires fresh { S.passed store ≡ 0 }
-    requires unrefused { S.refused store ≡ 0 }
-    ensures done { (bytes text : List ℕ) × (before after : FuseStoreValue) × (at_end : Bool)
-        × (ended : Result Unit ScriptFault)
-        × Consumes (I.remaining script.old) (I.remaining script.new) bytes
-        × Appends (W.contents out.old) (W.contents out.new) text
-        × OnTrue at_end (IsWholeScript (I.remaining script.new) bytes)
-        × IsFresh before × Ends ended before after at_end bytes text
-        × IsOutcomeOf names.entry.image.now names.entry.script.now ended result
-        × (before.words ≡ S.words store) }
+) -> (FuseStore<S>, Result<(), Fault<'a>>)
+    ensures done { (text : List ℕ) × Appends (W.contents out.old) (W.contents out.new) text
+        × IsCarriedOut names.entry.image.now names.entry.script.now (I.remaining script.old)
+        (I.remaining script.new) store result.0 result.1 text }
     ensures writes { W.failures out.new ≡ failures_after (W.failures out.old)
-        (is_unwritten result) }
+        (is_unwritten result.1) }
 {
-    match run_on(alloc, store, script, out) {
-        Ok(()) => Ok(()),
-        Err(ScriptFault::ReadFailed) => Err(Fault::CannotRead(names.script)),
-        Err(ScriptFault::WriteFailed) => Err(Fault::WriteFailed),
-        Err(ScriptFault::BadLine(n)) => Err(Fault::BadCommand(n)),
-        Err(ScriptFault::TooLong) => Err(Fault::ScriptTooLong),
-        Err(ScriptFault::PowerFault(cause)) => Err(power_up_fault(names.image, cause)),
+    let (store, ended) = run_script(alloc, store, script, out);
+    match ended {
+        Ok(()) => (store, Ok(())),
+        Err(cause) => (store, Err(script_fault(names, cause))),
     }
 }
 
-// Carries out the script on the card of this store, whose power is not cut unless the script says so.
-fn run_on<S: WordStore + Drop, I: TextIn, W: TextOut>(
-    alloc: Global,
-    store: S,
-    script: &mut I,
-    out: &mut W,
-) -> Result<(), ScriptFault>
-    requires size { IsImageSize (2 * length (S.words store)) }
-    requires fresh { S.passed store ≡ 0 }
-    requires unrefused { S.refused store ≡ 0 }
-    ensures done { (bytes text : List ℕ) × (before after : FuseStoreValue) × (at_end : Bool)
-        × Consumes (I.remaining script.old) (I.remaining script.new) bytes
-        × Appends (W.contents out.old) (W.contents out.new) text
-        × OnTrue at_end (IsWholeScript (I.remaining script.new) bytes)
-        × IsFresh before × Ends result before after at_end bytes text
-        × (before.words ≡ S.words store) }
-    ensures writes { W.failures out.new ≡ failures_after (W.failures out.old)
-        (is_write_failed result) }
+// What it means that the script was not carried out to its end.
+fn script_fault<'a>(names: Names<'a>, cause: ScriptFault) -> Fault<'a>
+    ensures { IsScriptFault names.entry.image.now names.entry.script.now cause result }
 {
-    let (_store, ended) = run_script(alloc, FuseStore::new(store), script, out);
-    ended
+    match cause {
+        ScriptFault::ReadFailed => Fault::CannotRead(names.script),
+        ScriptFault::WriteFailed => Fault::WriteFailed,
+        ScriptFault::BadLine(n) => Fault::BadCommand(n),
+        ScriptFault::TooLong => Fault::ScriptTooLong,
+        ScriptFault::PowerFault(cause) => power_up_fault(names.image, cause),
+    }
 }
 
 // What it means that the card of the image of this name does not power up.

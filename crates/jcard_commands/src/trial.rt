@@ -1,40 +1,37 @@
 //! Trying a script on a new card in memory.
-ghost use Rattle.std.specs.Prelude.{◌≡◌, ◌≤◌, ◌<◌, ◌+◌, ◌*◌, ℕ, List, IfOk, length};
+ghost use Rattle.std.specs.Prelude.{◌≡◌, ◌≤◌, ◌∷◌, [], ℕ, List, Option};
 ghost use Rattle.std.specs.Io.KnownBytes.{Appends};
 ghost use Rattle.jc_words.specs.Count.{failures_after};
 ghost use Rattle.jc_words.specs.Layout.{least_size};
 ghost use Rattle.jcard_commands.specs.Faults.{IsTrial, IsTriedOn, is_unwritten};
-ghost use Rattle.jcard_commands.specs.FileRequests.{FileRequests, file_requests, with_more_requests};
+ghost use Rattle.jcard_commands.specs.FileDeeds.{FileDeed, ReadsText};
 ghost use Rattle.jcard_commands.specs.NewImages.{IsNewImageInMemory, IsTable};
 
 use crate::disk::Disk;
 use crate::fault::Fault;
-use crate::new_image::{text_of, word_count};
+use crate::new_image::{format_fault, text_of, word_count};
 use crate::run::{Names, run_named};
 use jc_platform::fault::TableFault;
 use jc_platform::read::read_table;
-use jc_words::{LockFile, MemStore};
-use jcard_script::card::formatting::{FormatFault, format};
+use jc_words::{FuseStore, MemStore};
+use jcard_script::card::formatting::format;
 use jcard_script::std_text::StdText;
 use jcard_script::streams::TextOut;
 use std::alloc::Global;
-use std::rt::Files;
 
 /// Carries out the script in the file of the first name, on a new card in memory of so many words, a
 /// decimal number, with the platform table in the file of the last name. No file is changed.
-pub fn try_script<'n, R: Files + AllocGlobal, W: TextOut>(
-    disk: &mut Disk<R>,
+pub fn try_script<'n, D: Disk, W: TextOut>(
+    disk: &mut D,
     script: &'n str,
     words: &str,
     table: &'n str,
     out: &mut W,
 ) -> Result<(), Fault<'n>>
-where
-    R::File: LockFile,
-    ensures done { (text : List ℕ) × (files : FileRequests)
+    ensures done { (text : List ℕ) × (deeds : List FileDeed)
         × Appends (W.contents out.old) (W.contents out.new) text
-        × IsTrial script.now words.now table.now result text files
-        × (disk.new ≡ with_more_requests files disk.old) }
+        × IsTrial script.now words.now table.now result text deeds
+        × D.does disk.old deeds disk.new }
     ensures writes { W.failures out.new ≡ failures_after (W.failures out.old)
         (is_unwritten result) }
 {
@@ -52,20 +49,19 @@ where
 }
 
 // Carries out the script in the file of this name, on a new card of so many words with this platform table.
-fn try_on<'n, R: Files + AllocGlobal, W: TextOut>(
-    disk: &mut Disk<R>,
+fn try_on<'n, D: Disk, W: TextOut>(
+    disk: &mut D,
     script: &'n str,
     count: u16,
     table: &[u8],
     out: &mut W,
 ) -> Result<(), Fault<'n>>
-where
-    R::File: LockFile,
     requires enough { least_size ≤ count }
     requires table { IsTable table.now }
-    ensures done { (text : List ℕ) × Appends (W.contents out.old) (W.contents out.new) text
-        × IsTriedOn script.now count table.now result text }
-    ensures counted { disk.new ≡ with_more_requests (file_requests 1 0 0) disk.old }
+    ensures done { (text : List ℕ) × (opened : Option (Option (List ℕ)))
+        × Appends (W.contents out.old) (W.contents out.new) text
+        × IsTriedOn script.now count table.now result text opened
+        × D.does disk.old (ReadsText script.now opened ∷ []) disk.new }
     ensures writes { W.failures out.new ≡ failures_after (W.failures out.old)
         (is_unwritten result) }
 {
@@ -82,7 +78,8 @@ where
         image: "memory",
         script,
     };
-    run_named(disk.alloc(), names, store, &mut StdText::new(file), out)
+    let mut reader = StdText::new(file);
+    run_named(disk.alloc(), names, FuseStore::new(store), &mut reader, out).1
 }
 
 // A new image in memory.
@@ -98,10 +95,7 @@ fn new_image<'a>(alloc: Global, count: u16, table: &[u8]) -> Result<MemStore, Fa
     match made {
         // What it took to make the image does not count as writes of the card.
         Ok(()) => Ok(MemStore::of(store.into_words())),
-        Err(FormatFault::TooSmall) => Err(Fault::ImageTooSmall),
-        // The number and the table are good, and a store in memory refuses no write.
-        Err(FormatFault::BadSize) => Err(Fault::ImageTooSmall),
-        Err(FormatFault::BadTable(line)) => Err(Fault::BadTable(line)),
-        Err(FormatFault::StoreDown) => Err(Fault::NoMemory),
+        // The number and the table are good, and a store in memory refuses no write: the table is too large.
+        Err(cause) => Err(format_fault("memory", cause)),
     }
 }

@@ -19,7 +19,7 @@ use crate::files;
 use crate::printed::told;
 use crate::stream::{Manner, Stream, manner_of};
 use crate::text::{known, text_of, words_of};
-use jcard_commands::disk::Disk;
+use jcard_commands::disk::SystemDisk;
 use jcard_commands::run::run_words;
 use jcard_script::mem_text::MemText;
 use jcard_script::script::ScriptFault;
@@ -94,7 +94,7 @@ impl Desk {
     ) -> io::Result<String> {
         let words = words_of(rt.alloc(), words)?;
         let mut out = MemText::new(rt.alloc(), b"", self.room)?;
-        let status = run_words(&mut Disk::new(rt), words.as_slice(), &mut out);
+        let status = run_words(&mut SystemDisk::new(rt), words.as_slice(), &mut out);
         Ok(told(rt.alloc(), status, out.written())?)
     }
 

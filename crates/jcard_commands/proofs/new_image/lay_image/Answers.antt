@@ -1,12 +1,23 @@
-use Rattle.std.proofs.Common.{◌≡◌, Err, rules, arith}
-use Rattle.std.proofs.lemmas.Grind.{common_steps}
-use Rattle.jc_platform.specs.declared.fault.TableFault.TheVariants.{BadTable}
-use Rattle.jc_platform.proofs.OneAnswer.{no_fault}
-use Rattle.jc_card.specs.declared.formatting.FormatFault.TheVariants.{BadTable as BadLine}
+use Rattle.std.proofs.Common.{◌≡◌, ◌∙◌, ap, length}
+use Rattle.jc_words.specs.Count.{saturating_count}
+use Rattle.jcard_commands.specs.FileDeeds.{fresh_store}
+use Rattle.jcard_commands.proofs.Stores.{fresh_under_fuse, laid_with, stopped_words, under_fuse}
 use Rattle.jcard_commands.proofs.new_image.lay_image.Goals as goal
 
-pub returns-in-Err-BadTable : goal.returns-in-Err-BadTable
-returns-in-Err-BadTable g c =
-    let is : c.format-store.result.1 ≡ Err (BadLine c.in-Err-BadTable.line) = first_of (search rules, grind (arith, common_steps)) in
-    absurd (no_fault c.args.text.now c.requires.table.0 (BadTable c.in-Err-BadTable.line) c.requires.table.1
-    ((c.format-store.ensures.bad_table c.in-Err-BadTable.line).0 is).1)
+pub returns-in-Err : goal.returns-in-Err
+returns-in-Err g c =
+    let s = g.S.WordStore in
+    let words = s.words c.args.store in
+    let f = c.format-store.ensures in
+    let kept = rw c.in-Err.is at f.kept in
+    laid_with c.args.image.now (length words) c.args.text.now c.format-store.result.1 c.in-Err.cause c.format_fault.result c.new-store.result
+    c.in-Err.is c.requires.table c.requires.enough f.bad_size.0 (λ k e. ((f.bad_table k).0 e).1) (λ e. (f.too_small.0 e).1)
+    (λ h. c.new-store.ensures ∙ (ap (λ t. under_fuse (s.words t) (s.down t) (s.passed t) (s.refused t)) (kept (λ e. h (c.in-Err.is ∙ e)))
+    ∙ (fresh_under_fuse words _ _ _ c.requires.up c.requires.none_passed c.requires.none_refused ∙ ap fresh_store c.requires.zeros)))
+    (λ e. let stopped = f.stopped e in (
+      ap (λ t. t.refused_below) c.new-store.ensures ∙ (stopped.1 ∙ ap (λ k. saturating_count k 1) c.requires.none_refused),
+      ap (λ t. t.down) c.new-store.ensures ∙ stopped.0,
+      stopped_words (length words) words (s.words c.format-store.result.0) c.new-store.result.words (ap (λ t. t.words) c.new-store.ensures) c.requires.zeros
+          stopped.2,
+    ))
+    c.format_fault.ensures

@@ -1,7 +1,7 @@
-use Rattle.std.proofs.Common.{Err, ◌∙◌, ap, inl, inr}
+use Rattle.std.proofs.Common.{Err, ◌∙◌, ap, inl}
 use Rattle.jc_words.specs.Count.{failures_after}
 use Rattle.jcard_script.proofs.Known.{appends_then_appends}
-use Rattle.jcard_commands.specs.declared.fault.Fault.TheVariants.{BadCommandLine, NoMemory}
+use Rattle.jcard_commands.specs.declared.fault.Fault.TheVariants.{NoMemory}
 use Rattle.jcard_commands.proofs.Ends.{unbegun_told}
 use Rattle.jcard_commands.proofs.program.run_program.Goals as goal
 
@@ -29,18 +29,11 @@ returns-in-Ok-collect g c =
 
 pub returns-in-Ok-args : goal.returns-in-Ok-args
 returns-in-Ok-args g c =
-    let told = c.tell-in-Err-collect.ensures.line in
-    unbegun_told _ _ _ _ _ told.0 told.1 (Err NoMemory) told.3 tt told.2 told.4 c.tell-in-Err-collect.ensures.status
+    let told = rw c.words_fault.ensures at c.tell-in-Err-collect.ensures.line in
+    let status = rw c.words_fault.ensures at c.tell-in-Err-collect.ensures.status in
+    unbegun_told _ _ _ _ _ told.0 told.1 (Err NoMemory) told.3 tt told.2 told.4 status
 
 pub returns : goal.returns
 returns g c =
-    elim c.fault_of.ensures [
-      | inl e ↦
-          let told = rw e at c.tell-in-Err.ensures.line in
-          let status = rw e at c.tell-in-Err.ensures.status in
-          unbegun_told _ _ _ _ _ told.0 told.1 (Err NoMemory) told.3 tt told.2 told.4 status
-      | inr e ↦
-          let told = rw e at c.tell-in-Err.ensures.line in
-          let status = rw e at c.tell-in-Err.ensures.status in
-          unbegun_told _ _ _ _ _ told.0 told.1 (Err BadCommandLine) told.3 tt told.2 told.4 status
-    ]
+    let told = c.tell-in-Err.ensures.line in
+    unbegun_told _ _ _ _ _ told.0 told.1 (Err c.arguments_fault.result) told.3 c.arguments_fault.ensures.unbegun told.2 told.4 c.tell-in-Err.ensures.status

@@ -1,7 +1,5 @@
 use Rattle.std.proofs.Common.{[], inr}
 use Rattle.jcard_script.proofs.Known.{appends_same}
-use Rattle.jcard_commands.specs.FileRequests.{file_requests}
-use Rattle.jcard_commands.proofs.Asking.{none_more}
 use Rattle.jcard_commands.proofs.Ends.{nothing_done}
 use Rattle.jcard_commands.proofs.run.perform.Goals as goal
 
@@ -11,4 +9,5 @@ returns-in-Ok-clause-done g c =
     (done.0, done.1, done.2, inr (rw c.in-Ok.ensures.taken done.3), done.4)
 
 pub returns-in-Err-clause-done : goal.returns-in-Err-clause-done
-returns-in-Err-clause-done g c = ([], file_requests 0 0 0, appends_same _, nothing_done _ c.in-Err.fault c.in-Err.ensures.taken, none_more c.args.disk.now)
+returns-in-Err-clause-done g c =
+    ([], [], appends_same _, nothing_done _ c.in-Err.fault c.in-Err.ensures.taken, g.met.D.Disk.none c.args.disk.now)

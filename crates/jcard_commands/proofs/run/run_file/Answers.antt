@@ -1,35 +1,57 @@
-use Rattle.std.proofs.Common.{inl, inr, [], refl, ◌∙◌, ap}
+use Rattle.std.proofs.Common.{◌≡◌, ◌∙◌, inl, inr, List, [], ◌∷◌, Some, None, refl, subst}
 use Rattle.jcard_script.proofs.Known.{appends_same}
-use Rattle.jcard_commands.specs.FileRequests.{file_requests, with_more_requests}
-use Rattle.jcard_commands.proofs.Asking.{then_more}
+use Rattle.jcard_commands.specs.FileDeeds.{FileDeed, ClosesImage, OpensImage, ReadsText, fresh_store}
+use Rattle.jcard_commands.specs.Faults.{IsCarriedOut}
+use Rattle.jcard_commands.proofs.Stores.{fresh_under_fuse}
 use Rattle.jcard_commands.proofs.run.run_file.Goals as goal
 
 pub returns-in-Err-clause-done : goal.returns-in-Err-clause-done
 returns-in-Err-clause-done g c = (
   [],
-  file_requests 0 1 0,
+  OpensImage c.args.image.now None ∷ [],
   appends_same _,
   inl (c.in-Err.fault, refl, c.in-Err.ensures.refused, refl, refl),
-  c.in-Err.ensures.counted,
+  c.in-Err.ensures.does,
 )
+
+pub returns-in-Ok-open_text-clause-done : goal.returns-in-Ok-open_text-clause-done
+returns-in-Ok-open_text-clause-done g c =
+    let image = c.args.image.now in
+    let script = c.args.script.now in
+    let words = g.D.Image.WordStore.words c.in-Ok.store in
+    let unread = g.D.Text.Read.remaining in
+    let after = c.run_named-store.result.0 in
+    let ended = c.run_named-store.result.1 in
+    let left = unread c.run_named-store.new.script.inner in
+    let fresh : c.new-store.result ≡ fresh_store words = c.new-store.ensures
+    ∙ fresh_under_fuse words _ _ _ c.in-Ok.ensures.up c.in-Ok.ensures.none_passed c.in-Ok.ensures.none_refused in
+    let done = c.run_named-store.ensures.done in
+    let known = unread c.in-Ok-open_text.file in
+    let over = subst (λ f. IsCarriedOut image script (unread f) left c.new-store.result after ended done.0) c.new-reader.ensures.inner done.2 in
+    let carried = subst (λ s. IsCarriedOut image script known left s after ended done.0) fresh over in
+    let opens : List FileDeed = OpensImage image (Some words) ∷ [] in
+    let reads : List FileDeed = ReadsText script (Some known) ∷ [] in (
+      done.0,
+      OpensImage image (Some words) ∷ ReadsText script (Some known) ∷ ClosesImage image after ∷ [],
+      done.1,
+      inr (inr (words, known, left, after, c.in-Ok.ensures.size, carried, refl)),
+      g.met.D.Disk.then _ _ _ opens _ c.in-Ok.ensures.does (g.met.D.Disk.then _ _ _ reads _ c.in-Ok-open_text.ensures.does c.close_image.ensures),
+    )
 
 pub returns-in-Err-open_text-clause-done : goal.returns-in-Err-open_text-clause-done
-returns-in-Err-open_text-clause-done g c = (
-  [],
-  file_requests 1 1 0,
-  appends_same _,
-  inr (inl (c.in-Err-open_text.fault, refl, c.in-Err-open_text.ensures.refused, refl, refl)),
-  c.open_text.ensures.counted ∙ ap (with_more_requests (file_requests 1 0 0)) c.open_image.ensures.counted
-      ∙ then_more (file_requests 1 0 0) (file_requests 0 1 0) c.args.disk.now,
-)
-
-pub returns-clause-done : goal.returns-clause-done
-returns-clause-done g c =
-    let done = c.run_named.ensures.done in (
-      done.1,
-      file_requests 1 1 0,
-      done.7,
-      inr (inr (done.0, done.2, done.3, done.4, done.5, done.9, done.10, done.11, refl)),
-      c.open_text.ensures.counted ∙ ap (with_more_requests (file_requests 1 0 0)) c.open_image.ensures.counted
-          ∙ then_more (file_requests 1 0 0) (file_requests 0 1 0) c.args.disk.now,
+returns-in-Err-open_text-clause-done g c =
+    let image = c.args.image.now in
+    let script = c.args.script.now in
+    let words = g.D.Image.WordStore.words c.in-Ok.store in
+    let fresh : c.new-store.result ≡ fresh_store words = c.new-store.ensures
+    ∙ fresh_under_fuse words _ _ _ c.in-Ok.ensures.up c.in-Ok.ensures.none_passed c.in-Ok.ensures.none_refused in
+    let closed = subst (λ s. g.D.Disk.does c.open_text.new.self (ClosesImage image s ∷ []) c.close_image-in-Err-open_text.new.self) fresh
+    c.close_image-in-Err-open_text.ensures in
+    let opens : List FileDeed = OpensImage image (Some words) ∷ [] in
+    let reads : List FileDeed = ReadsText script None ∷ [] in (
+      [],
+      OpensImage image (Some words) ∷ ReadsText script None ∷ ClosesImage image (fresh_store words) ∷ [],
+      appends_same _,
+      inr (inl (words, c.in-Err-open_text.fault, refl, c.in-Err-open_text.ensures.refused, refl, refl)),
+      g.met.D.Disk.then _ _ _ opens _ c.in-Ok.ensures.does (g.met.D.Disk.then _ _ _ reads _ c.in-Err-open_text.ensures.does closed),
     )
