@@ -1,8 +1,5 @@
 -- Runs of bytes: loops over them, and runs that no transaction has room for.
-use Rattle.std.proofs.Common.{◌≡◌, ℕ, suc, ◌+◌, ◌<◌, Bool, true, false, List, [], ◌∷◌, ◌++◌, set, take, length, get_or, refl, sym, ◌∙◌, ap, subst, arith, Some}
-use Rattle.std.proofs.Common.{None}
-use Rattle.std.specs.Prelude.{nat_le, if◌then◌else◌}
-use Rattle.std.proofs.lemmas.Bool.{lt-leb}
+use Rattle.std.proofs.Common.{◌≡◌, ℕ, suc, ◌+◌, ◌<◌, List, [], ◌∷◌, ◌++◌, set, take, length, get_or, refl, sym, ◌∙◌, ap, subst, arith, Some, None}
 use Rattle.std.proofs.lemmas.List.{take_more_set, take_more}
 use Rattle.std.proofs.lemmas.List.FromFn.{length-map-range_with_len}
 use Rattle.jc_commit.specs.Entries.{addresses_of}
@@ -10,6 +7,7 @@ use Rattle.jc_heap.specs.declared.refusal.HeapRefusal.TheVariants.{CommitFull}
 use Rattle.jc_heap.specs.Heap.{HeapView, facts, cell_address, run_words}
 use Rattle.jc_heap.specs.Moves.{refusal_of_cells}
 use Rattle.jc_heap.specs.Completions.{Done, Refused}
+use Rattle.jc_heap.proofs.Calls.{too_long}
 use Rattle.jc_memory.specs.State.{MemoryState}
 use Rattle.jc_memory.specs.Programs.{Completes, Finish, Perform, unless_refused}
 use Rattle.jc_memory.specs.Cells.{cell_refusal_in, cells_refusal, cells_effect, cells_store}
@@ -26,14 +24,8 @@ length-addresses : (at : ℕ) (vs : List ℕ) → length (addresses_of (run_word
 length-addresses at [] = refl
 length-addresses at (v ∷ vs) = ap suc (length-addresses (suc at) vs)
 
-too_many : (begun : Bool) (touched : ℕ) (places : List ℕ) → 256 < length places →
-    (if begun then nat_le (touched + length (if begun then places else [])) 256 else nat_le (length places) 256) ≡ false
-too_many true touched places many = lt-leb (touched + length places) 256 (omega arith)
-too_many false touched places many = lt-leb (length places) 256 many
-
 full : (v : HeapView) (r i : ℕ) (ws : List ℕ) → 256 < length ws → refusal_of_cells v r i ws ≡ Some CommitFull
-full v r i ws many = ap (λ b. if b then None else Some CommitFull) (too_many v.begun (length v.touched) (addresses_of (run_words (cell_address r i) ws))
-    (omega (arith, length-addresses (cell_address r i) ws, many)))
+full v r i ws many = too_long v (addresses_of (run_words (cell_address r i) ws)) (omega (arith, length-addresses (cell_address r i) ws, many))
 
 -- such a run of a persistent array is refused
 pub refused : (s : MemoryState) (r i : ℕ) (ws : List ℕ) → (facts s.heap.now r).event ≡ None → 256 < length ws

@@ -1,5 +1,6 @@
 -- The objects of the runtime environment, as they are made.
-use Rattle.std.proofs.Common.{◌≡◌, ℕ, Bool, ◌+◌, ◌<◌, ◌≤◌, ◌&&◌, ◌||◌, ◌==◌, nat_lt, false, true, List, [], ◌∷◌, ◌++◌, drop, Some, None, refl, sym, ◌∙◌, ap}
+use Rattle.std.proofs.Common.{◌≡◌, ℕ, Bool, ◌+◌, ◌<◌, ◌≤◌, ◌&&◌, ◌||◌, ◌==◌, nat_lt, false, true, List, [], ◌∷◌, ◌++◌, drop, Option, Some, None, Err, inl, inr}
+use Rattle.std.proofs.Common.{refl, sym, ◌∙◌, ap}
 use Rattle.std.proofs.Common.{subst, arith, lit≤, if◌then◌else◌}
 use Rattle.std.proofs.lemmas.Bool.{lt-ltb, le-ltb, eq-eqb, ne_eqb, true≢false}
 use Rattle.std.proofs.lemmas.List.{append-nil, append_assoc}
@@ -10,9 +11,16 @@ use Rattle.jc_transient.specs.declared.cell.ClearEvent.{ClearEvent}
 use Rattle.jc_transient.specs.declared.cell.ClearEvent.TheVariants.{Reset, Deselect}
 use Rattle.jc_heap.specs.declared.object.Kind.{Kind}
 use Rattle.jc_heap.specs.Table.{entry_or, has_entry}
-use Rattle.jc_heap.specs.Object.{Item, AnObject, APackage, is_object, facts_of, new_transient}
+use Rattle.jc_commit.proofs.WhatIsKept.{keeps_old_values}
+use Rattle.jc_heap.specs.Completions.{after_making}
+use Rattle.jc_heap.specs.Moves.{Move, AreTornMoves, PerformsMovesUnless, refusal_of_transient}
+use Rattle.jc_heap.specs.declared.refusal.HeapRefusal.{HeapRefusal}
+use Rattle.jc_heap.specs.declared.refusal.HeapRefusal.TheVariants as refusal
+use Rattle.jc_heap.specs.Object.{Item, AnObject, APackage, is_object, facts_of, new_transient, transient_size}
 use Rattle.jc_heap.specs.Heap.{HeapState, HeapView, add_transient, add_object, area_end, first_above, next_object, heap_item_at, facts, is_allocated}
+use Rattle.jc_heap.specs.Heap.{area_end_address, end_address, keeping}
 use Rattle.jc_heap.specs.Whole.{IsConsistent, IsFilledArea}
+use Rattle.jc_heap.proofs.Calls.{has_some_cells, object_fits}
 use Rattle.jc_heap.proofs.Keeping.{empty_whole, transient_whole}
 use Rattle.jc_image.specs.Laying.{unsealed_heap, sealed_heap}
 use Rattle.jc_image.specs.Beginning.{HeadersFollow, HeapBeginsWith}
@@ -41,6 +49,24 @@ pub durable-changed : (v : HeapView) (kind : Kind) (class owner n : ℕ) → v.b
 durable-changed v kind class owner n out settled =
     ap (λ b. (if b then v.durable else add_transient v.now kind Reset class owner n).head) out ∙ head-add v.now kind class owner n
     ∙ ap (λ h. h.head) (sym settled)
+
+-- outside a transaction there is room, so that the store alone refuses
+pub transient_allowed : (v : HeapView) (n : ℕ) → v.begun ≡ false → v.now.top + transient_size ≤ v.size → area_end v.now Reset + n ≤ area_size
+    → refusal_of_transient v Reset n ≡ None
+transient_allowed v n out space area =
+    let places : List ℕ = end_address ∷ area_end_address Reset ∷ [] in
+    has_some_cells v Reset n (λ lacks. omega (arith, lacks, area))
+    ∙ object_fits v transient_size places (λ lacks. omega (arith, lacks, space)) (keeps_old_values.alone (keeping v) places out (omega arith))
+
+pub only_torn : (reason : Option HeapRefusal) (e : HeapRefusal) (old new : HeapView) (m : Move) (a : ℕ) → reason ≡ None
+    → PerformsMovesUnless reason old (after_making {A = ℕ} (Err e) new) (m ∷ []) a → AreTornMoves (m ∷ []) old new
+only_torn reason refusal.StoreDown old new m a none did = did.1
+only_torn reason refusal.CommitFull old new m a none did = absurd (none-some refusal.CommitFull (sym none ∙ did.0))
+only_torn reason refusal.HeapFull old new m a none did = absurd (none-some refusal.HeapFull (sym none ∙ did.0))
+only_torn reason refusal.NoTransientSpace old new m a none did = absurd (none-some refusal.NoTransientSpace (sym none ∙ did.0))
+
+pub torn_head : (m : Move) (old new : HeapView) → AreTornMoves (m ∷ []) old new → new.durable.head ≡ old.durable.head
+torn_head m old new torn = elim torn.left [ inl same ↦ ap (λ (h : HeapState). h.head) same | inr none ↦ absurd none ]
 
 -- ---- what is made stands there
 

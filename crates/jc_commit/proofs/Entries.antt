@@ -21,7 +21,7 @@ same_after old w v first slot x y above below is same =
 abbrev pub target : List (ℕ × ℕ) → ℕ → ℕ
 target changes k = (get_or changes k (0, 0)).0
 
-target-take : (changes : List (ℕ × ℕ)) (n k : ℕ) → k < n → target (take n changes) k ≡ target changes k
+pub target-take : (changes : List (ℕ × ℕ)) (n k : ℕ) → k < n → target (take n changes) k ≡ target changes k
 target-take changes n k below = ap (λ (c : ℕ × ℕ). c.0) (get_or-take n changes k (0, 0) below)
 
 entries_after_at : (old w : List ℕ) (changes : List (ℕ × ℕ)) (first i slot value : ℕ) → i < length changes → first + length changes ≤ capacity

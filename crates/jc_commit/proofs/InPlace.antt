@@ -33,7 +33,7 @@ listed_step : (b : Bool) (x : ℕ) (others : Bool) (rest : Option ℕ) → (othe
 listed_step true x others rest later is = (x, refl)
 listed_step false x others rest later is = later is
 
-listed : (es : List (ℕ × ℕ)) (a : ℕ) → is_named es a ≡ true → (y : ℕ) × (old_value es a ≡ Some y)
+pub listed : (es : List (ℕ × ℕ)) (a : ℕ) → is_named es a ≡ true → (y : ℕ) × (old_value es a ≡ Some y)
 listed [] a is = absurd (false≢true is)
 listed (e ∷ es) a is = listed_step (eqb e.0 a) e.1 (is_named es a) (old_value es a) (listed es a) is
 
@@ -41,7 +41,7 @@ unlisted_step : (b : Bool) (x : ℕ) (others : Bool) (rest : Option ℕ) → (ot
 unlisted_step true x others rest later is = absurd (false≢true (sym is))
 unlisted_step false x others rest later is = later is
 
-unlisted : (es : List (ℕ × ℕ)) (a : ℕ) → is_named es a ≡ false → old_value es a ≡ None
+pub unlisted : (es : List (ℕ × ℕ)) (a : ℕ) → is_named es a ≡ false → old_value es a ≡ None
 unlisted [] a is = refl
 unlisted (e ∷ es) a is = unlisted_step (eqb e.0 a) e.1 (is_named es a) (old_value es a) (unlisted es a) is
 

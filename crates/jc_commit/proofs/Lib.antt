@@ -8,3 +8,6 @@ pub mod Refusals
 pub mod Outside
 pub mod TornWrites
 pub mod Parts
+pub mod Indexes
+pub mod EntryKeeping
+pub mod WhatIsKept

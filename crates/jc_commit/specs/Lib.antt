@@ -1,4 +1,6 @@
 pub mod Image
 pub mod Replay
 pub mod Entries
+pub mod Keeping
+pub mod EntryIndex
 pub mod State

@@ -1,14 +1,20 @@
 //! A journal over a store of words: transactions that a loss of power takes back.
 #![tactic(auto)]
 
+mod changes;
 mod check;
 mod entry;
+mod index;
 mod journal;
+mod keep;
+mod keeping_law;
 mod log;
 mod recovery_law;
 mod refusal;
 mod undo;
 
+pub use changes::WordChanges;
 pub use journal::Journal;
+pub use keeping_law::what_changes_keep;
 pub use recovery_law::recovery_may_be_interrupted;
 pub use refusal::{OpenRefusal, WriteRefusal};

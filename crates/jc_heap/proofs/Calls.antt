@@ -1,9 +1,11 @@
 -- How calls end, as moves: one call, and two one after the other.
-use Rattle.std.proofs.Common.{◌≡◌, ℕ, ◌+◌, ◌≤◌, Bool, true, false, List, [], ◌∷◌, refl, sym, ◌∙◌, ap, arith, inl, if◌then◌else◌, Option, Some, None, Ok, Err}
-use Rattle.std.specs.Prelude.{is_ok}
+use Rattle.std.proofs.Common.{◌≡◌, ℕ, ◌+◌, ◌≤◌, Bool, true, false, List, [], ◌∷◌, refl, sym, ◌∙◌, ap, subst, arith, inl, if◌then◌else◌, Option}
+use Rattle.std.proofs.Common.{Some, None, Ok, Err}
+use Rattle.std.specs.Prelude.{is_ok, Result, IsErrAnd}
 use Rattle.std.proofs.lemmas.Bool.{lt-ltb, le-ltb, true≢false}
 use Rattle.jc_words.specs.Layout.{top_address}
-use Rattle.jc_commit.specs.State.{State, has_room_for as journal_room}
+use Rattle.jc_commit.specs.Keeping.{has_room_for as journal_room}
+use Rattle.jc_commit.specs.State.{State, keeping as journal_keeping, IsTornWrite as JournalStopped}
 use Rattle.jc_transient.specs.State.{area_size}
 use Rattle.jc_transient.specs.declared.cell.ClearEvent.{ClearEvent}
 use Rattle.jc_heap.specs.declared.refusal.HeapRefusal.{HeapRefusal}
@@ -12,7 +14,14 @@ use Rattle.jc_heap.specs.Object.{Object, AnObject, facts_of, is_object, transien
 use Rattle.jc_heap.specs.Heap.{HeapState, HeapView, IsObject, heap_item_at, facts, heap_view, has_room_for, area_end, area_end_address, end_address}
 use Rattle.jc_heap.specs.Heap.{IsTornChange, LacksSpace, LacksCells}
 use Rattle.jc_heap.specs.Moves.{Move, PerformsMovesUnless, AreTornMoves, apply_move, refusal_at, refusal_of_space, refusal_of_transient}
-use Rattle.jc_heap.specs.Completions.{Completed, Torn, Done, Refused}
+use Rattle.jc_heap.specs.Completions.{Completed, Torn, Done, Refused, after_change}
+use Rattle.jc_heap.specs.Image.{IsWellFormed}
+use Rattle.jc_commit.specs.declared.refusal.WriteRefusal.{WriteRefusal}
+use Rattle.jc_commit.specs.declared.refusal.WriteRefusal.TheVariants.{StoreDown, Full}
+use Rattle.jc_heap.specs.declared.refusal.ChangeRefusal.{ChangeRefusal}
+use Rattle.jc_heap.specs.Refusals.{change_refusal}
+use Rattle.jc_heap.proofs.JournalViews.{keeping_view}
+use Rattle.jc_heap.proofs.Changing.{stopped_view}
 
 pub cut_one : (m : Move) (old new : HeapView) → IsTornChange old new → AreTornMoves (m ∷ []) old new
 cut_one m old new st = record { left = inl st.durable; down = st.down; refused = st.refused; size = st.size }
@@ -36,8 +45,9 @@ not_false true n = refl
 not_false false n = absurd (n refl)
 
 -- the reasons
-pub room_is : (j : State) (v : HeapView) (n : ℕ) (places : List ℕ) → heap_view j n ≡ v → has_room_for v places ≡ journal_room j.in_transaction j.touched places
-room_is j v n places is = ap (λ u. has_room_for u places) (sym is)
+pub room_is : (j : State) (v : HeapView) (n : ℕ) (places : List ℕ) → IsWellFormed j.recovered → heap_view j n ≡ v
+    → has_room_for v places ≡ journal_room (journal_keeping j) places
+room_is j v n places back is = ap (λ u. has_room_for u places) (sym is) ∙ ap (λ k. journal_room k places) (keeping_view j n back)
 
 pub is_full : (v : HeapView) (places : List ℕ) → has_room_for v places ≡ false → refusal_at v places ≡ Some CommitFull
 is_full v places none = ap (λ b. if b then None else Some CommitFull) none
@@ -65,16 +75,16 @@ has_some_cells v event n fits =
     (le-ltb area_size (area_end v.now event + n) le)
 
 -- the journal's room for a new object's change
-pub end_room : (j : State) (v : HeapView) (n : ℕ) → heap_view j n ≡ v → has_room_for v (end_address ∷ [])
-    ≡ journal_room j.in_transaction j.touched (top_address ∷ [])
+pub end_room : (j : State) (v : HeapView) (n : ℕ) → IsWellFormed j.recovered → heap_view j n ≡ v → has_room_for v (end_address ∷ [])
+    ≡ journal_room (journal_keeping j) (top_address ∷ [])
 unfolding end_address
-end_room j v n is = room_is j v n (top_address ∷ []) is
+end_room j v n back is = room_is j v n (top_address ∷ []) back is
 
-pub ends_room : (j : State) (v : HeapView) (n : ℕ) (event : ClearEvent) (w : ℕ) → heap_view j n ≡ v → w ≡ area_end_address event
-    → has_room_for v (end_address ∷ area_end_address event ∷ []) ≡ journal_room j.in_transaction j.touched (top_address ∷ w ∷ [])
+pub ends_room : (j : State) (v : HeapView) (n : ℕ) (event : ClearEvent) (w : ℕ) → IsWellFormed j.recovered → heap_view j n ≡ v
+    → w ≡ area_end_address event → has_room_for v (end_address ∷ area_end_address event ∷ []) ≡ journal_room (journal_keeping j) (top_address ∷ w ∷ [])
 unfolding end_address
-ends_room j v n event w is e = room_is j v n (top_address ∷ area_end_address event ∷ []) is
-    ∙ ap (λ a. journal_room j.in_transaction j.touched (top_address ∷ a ∷ [])) (sym e)
+ends_room j v n event w back is e = room_is j v n (top_address ∷ area_end_address event ∷ []) back is
+    ∙ ap (λ a. journal_room (journal_keeping j) (top_address ∷ a ∷ [])) (sym e)
 
 pub object_full : (v : HeapView) (size : ℕ) (places : List ℕ) → (LacksSpace v size → ⊥) → has_room_for v places ≡ false
     → refusal_of_space v size places ≡ Some CommitFull
@@ -89,3 +99,33 @@ made_there h r o is = ap is_object is
 
 pub made_facts : (h : HeapState) (r : ℕ) (o : Object) → heap_item_at h r ≡ AnObject o → facts h r ≡ o.facts
 made_facts h r o is = ap facts_of is
+
+abbrev ended : WriteRefusal → Result (Unit {0}) WriteRefusal
+ended r = Err r
+
+down_not_full : ended StoreDown ≡ ended Full → ⊥
+down_not_full e = cc
+
+-- a change that the journal refuses: there is no room, or the store refused a write
+change_stops : (m : Move) (v : HeapView) (j k : State) (n : ℕ) (places : List ℕ) (room : Bool) (r : WriteRefusal) → heap_view j n ≡ v
+    → has_room_for v places ≡ room → (ended r ≡ ended Full → room ≡ false) → (room ≡ false → ended r ≡ ended Full)
+    → (ended r ≡ ended Full → k ≡ j) → (ended r ≡ ended StoreDown → JournalStopped j k)
+    → PerformsMovesUnless (refusal_at v places) v (after_change {A = Unit {0}} (Err (change_refusal r)) (heap_view k n)) (m ∷ []) tt
+change_stops m v j k n places room StoreDown is there full has kept stopped =
+    let st = stopped refl in
+    unless_cut {A = Unit {0}} (refusal_at v places) v (heap_view k n) m tt
+    (not_full v places (there ∙ not_false room (λ none. down_not_full (has none))))
+    (stopped_view j k v n is st.recovered st.down st.refused)
+change_stops m v j k n places room Full is there full has kept stopped =
+    unless_refused {A = Unit {0}} (refusal_at v places) v (heap_view k n) CommitFull (m ∷ []) tt
+    (is_full v places (there ∙ full refl)) (ap (λ (i : State). heap_view i n) (kept refl) ∙ is)
+
+pub change_refused : (x : Result (Unit {0}) ChangeRefusal) (m : Move) (v : HeapView) (j k : State) (n : ℕ) (places : List ℕ) (room : Bool) (r : WriteRefusal)
+    → IsErrAnd x (λ e. e ≡ change_refusal r) → heap_view j n ≡ v → has_room_for v places ≡ room
+    → (ended r ≡ ended Full → room ≡ false) → (room ≡ false → ended r ≡ ended Full) → (ended r ≡ ended Full → k ≡ j)
+    → (ended r ≡ ended StoreDown → JournalStopped j k)
+    → PerformsMovesUnless (refusal_at v places) v (after_change x (heap_view k n)) (m ∷ []) (tt {0})
+change_refused (Ok a) m v j k n places room r gave is there full has kept stopped = absurd gave
+change_refused (Err e) m v j k n places room r gave is there full has kept stopped =
+    subst (λ (d : ChangeRefusal). PerformsMovesUnless (refusal_at v places) v (after_change {A = Unit {0}} (Err d) (heap_view k n)) (m ∷ []) (tt {0}))
+    (sym gave) (change_stops m v j k n places room r is there full has kept stopped)

@@ -1,5 +1,5 @@
 -- What a heap is after the journal changed words of it, and after a store stopped it.
-use Rattle.std.proofs.Common.{◌≡◌, ℕ, ◌+◌, ◌<◌, ◌≤◌, Bool, true, false, List, length, get_or, take, refl, sym, ◌∙◌, ap, subst, arith, if◌then◌else◌, ◌⊎◌, inl}
+use Rattle.std.proofs.Common.{◌≡◌, ℕ, ◌+◌, ◌<◌, ◌≤◌, Bool, true, false, List, ◌++◌, length, get_or, take, refl, sym, ◌∙◌, ap, subst, arith, if◌then◌else◌, ◌⊎◌, inl}
 use Rattle.std.proofs.Common.{inr}
 use Rattle.std.specs.Prelude.{MatchBool}
 use Rattle.std.proofs.lemmas.List.{length-take, length-take-le, get_or-take}
@@ -8,11 +8,13 @@ use Rattle.jc_words.specs.Count.{saturating_count}
 use Rattle.jc_words.specs.Layout.{top_address, text_start}
 use Rattle.jc_commit.specs.Image.{with_words, top_of}
 use Rattle.jc_commit.specs.Entries.{addresses_of}
-use Rattle.jc_commit.specs.State.{State, live_words, Changes, IsTornWrite as JournalStopped, writes_for as journal_writes}
+use Rattle.jc_commit.specs.Keeping.{Keeping, unlogged_addresses, writes_for as journal_writes}
+use Rattle.jc_commit.specs.State.{State, keeping as journal_keeping, live_words, Changes, IsTornWrite as JournalStopped}
 use Rattle.jc_commit.specs.declared.refusal.WriteRefusal.{WriteRefusal}
 use Rattle.jc_commit.specs.declared.refusal.WriteRefusal.TheVariants.{StoreDown, Full}
 use Rattle.jc_heap.specs.Image.{image, base, missing_words_of_image, package_addresses, is_package, IsWellFormed}
-use Rattle.jc_heap.specs.Heap.{HeapState, HeapView, heap_view, heap_of, read_image, heap_after_change, IsSound, IsTornChange, SameShape}
+use Rattle.jc_heap.specs.Heap.{HeapState, HeapView, heap_view, heap_of, read_image, heap_after_change, keeping, IsSound, IsTornChange, SameShape}
+use Rattle.jc_heap.proofs.JournalViews.{keeping_view}
 
 -- words that are live in the same way have the same top
 pub top-live_words : (ws us : List ℕ) → IsWellFormed ws → live_words us ≡ live_words ws → get_or us top_address 0 ≡ get_or ws top_address 0
@@ -90,20 +92,24 @@ durable_after true old new plain h e is = heap_of-live_words old new e
 durable_after false old new plain h e is = ap heap_of e ∙ is
 
 -- and it is a change of the heap
-pub change_view : (cs : List (ℕ × ℕ)) (k m : State) (n : ℕ) (h : HeapState) → Changes cs k m → heap_of (with_words k.plain cs) ≡ h →
+pub change_view : (cs : List (ℕ × ℕ)) (k m : State) (n : ℕ) (h : HeapState) → IsWellFormed k.recovered → Changes cs k m
+    → heap_of (with_words k.plain cs) ≡ h →
     heap_view m n ≡ heap_after_change (heap_view k n) h (addresses_of cs) 0
-change_view cs k m n h c is =
+change_view cs k m n h back c is =
+    let same : journal_keeping k ≡ keeping (heap_view k n) = sym (keeping_view k n back) in
     let now : heap_of m.plain ≡ h = ap heap_of c.plain ∙ is in
     let durable : heap_of m.recovered ≡ (if k.in_transaction then heap_of k.recovered else h) =
     durable_after k.in_transaction k.recovered m.recovered m.plain h c.recovered now in
-    let count : journal_writes k.in_transaction (addresses_of cs) ≡ 0 + journal_writes k.in_transaction (addresses_of cs) = omega arith in
-    let passed : m.passed ≡ saturating_count k.passed (0 + journal_writes k.in_transaction (addresses_of cs)) = c.passed
-    ∙ ap (saturating_count k.passed) count in
+    let count : journal_writes (keeping (heap_view k n)) (addresses_of cs) ≡ 0 + journal_writes (keeping (heap_view k n)) (addresses_of cs) = omega arith in
+    let passed : m.passed ≡ saturating_count k.passed (0 + journal_writes (keeping (heap_view k n)) (addresses_of cs)) = c.passed
+    ∙ ap (λ (p : Keeping). saturating_count k.passed (journal_writes p (addresses_of cs))) same ∙ ap (saturating_count k.passed) count in
+    let touched : m.touched ≡ k.touched ++ unlogged_addresses (keeping (heap_view k n)) (addresses_of cs) = c.touched
+    ∙ ap (λ (p : Keeping). k.touched ++ unlogged_addresses p (addresses_of cs)) same in
     λ i. record {
       now = now i;
       durable = durable i;
       begun = c.in_transaction i;
-      touched = c.touched i;
+      touched = touched i;
       down = c.down i;
       passed = passed i;
       refused = c.refused i;

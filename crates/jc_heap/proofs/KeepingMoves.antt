@@ -8,7 +8,7 @@ use Rattle.jc_heap.specs.declared.place.Place.TheVariants.{Cell, Static, Registr
 use Rattle.jc_heap.specs.Table.{has_entry}
 use Rattle.jc_heap.specs.Object.{is_object, new_transient, transient_size}
 use Rattle.jc_heap.specs.Heap.{HeapState, HeapView, SameShape, heap_item_at, is_allocated, area_end, with_area_end, set_cell, set_cells, add_object}
-use Rattle.jc_heap.specs.Heap.{add_transient, HasEnd, heap_after_change, is_touched}
+use Rattle.jc_heap.specs.Heap.{add_transient, HasEnd, heap_after_change, goes_back}
 use Rattle.jc_heap.specs.Packages.{add_package}
 use Rattle.jc_heap.specs.Places.{place_word, set_place, set_places}
 use Rattle.jc_heap.specs.Moves.{Move, Write, SetPlaces, WriteNonAtomic, SetCells, AddObject, AddTransient, AddPackage, Begin, Commit, Abort, apply_move}
@@ -56,7 +56,7 @@ place_whole h (Registry i) x may s = record {
 }
 place_whole h AppletCount x may s = record { whole = count_whole h x may s.whole; end = end-count h x s.end; some = s.some }
 
-top-place : (h : HeapState) (p : Place) (x : ℕ) → (set_place h p x).top ≡ h.top
+pub top-place : (h : HeapState) (p : Place) (x : ℕ) → (set_place h p x).top ≡ h.top
 top-place h (Cell r i) x = top-set_cell h r i x
 top-place h (Static r j) x = top_after-set_word h r j x
 top-place h (Registry i) x = refl
@@ -146,15 +146,15 @@ keeps (SetPlaces cs) v suit w =
     (shape-places v.durable v.now cs w.shape) (omega (arith, w.order, top-places v.now cs)) w
 keeps (WriteNonAtomic p x) v suit w = record {
   now = place_whole v.now p x suit.0 w.now;
-  durable = elim (is_touched v (place_word p)) as (λ b. IsConsistentHeap (if b then v.durable else set_place v.durable p x)) [
+  durable = elim (goes_back v (place_word p)) as (λ b. IsConsistentHeap (if b then v.durable else set_place v.durable p x)) [
     | true ↦ w.durable
     | false ↦ place_whole v.durable p x suit.1 w.durable
   ];
-  shape = elim (is_touched v (place_word p)) as (λ b. SameShape (if b then v.durable else set_place v.durable p x) (set_place v.now p x)) [
+  shape = elim (goes_back v (place_word p)) as (λ b. SameShape (if b then v.durable else set_place v.durable p x) (set_place v.now p x)) [
     | true ↦ place_shape v.durable v.now p x w.shape
     | false ↦ place_shape_both v.durable v.now p x w.shape
   ];
-  order = elim (is_touched v (place_word p)) as (λ b. (if b then v.durable else set_place v.durable p x).top ≤ (set_place v.now p x).top) [
+  order = elim (goes_back v (place_word p)) as (λ b. (if b then v.durable else set_place v.durable p x).top ≤ (set_place v.now p x).top) [
     | true ↦ omega (arith, w.order, top-place v.now p x)
     | false ↦ omega (arith, w.order, top-place v.now p x, top-place v.durable p x)
   ];

@@ -6,6 +6,7 @@ pub mod Packages
 pub mod Laws
 pub mod Walks
 pub mod FreshRuns
+pub mod JournalViews
 pub mod Changing
 pub mod Views
 pub mod Reading
@@ -33,3 +34,5 @@ pub mod Holding
 pub mod AreaRuns
 pub mod Several
 pub mod ReadBack
+pub mod KeptWords
+pub mod Costs

@@ -9,7 +9,9 @@ use Rattle.jc_words.specs.Count.{saturating_count}
 use Rattle.jc_words.specs.Layout.{top_address}
 use Rattle.jc_commit.specs.Image.{with_words}
 use Rattle.jc_commit.specs.Entries.{addresses_of}
-use Rattle.jc_commit.specs.State.{State, live_words, Changes, IsTornWrite as JournalStopped, unlogged_addresses, writes_for, has_room_for as journal_room}
+use Rattle.jc_commit.specs.Keeping.{Keeping, unlogged_addresses, writes_for, has_room_for as journal_room}
+use Rattle.jc_commit.specs.State.{State, keeping as journal_keeping, live_words, Changes, IsTornWrite as JournalStopped}
+use Rattle.jc_heap.proofs.JournalViews.{keeping_view, keeping_same}
 use Rattle.jc_heap.specs.declared.object.Kind.{Kind}
 use Rattle.jc_heap.specs.declared.object.Kind.TheVariants.{Instance, BooleanArray, ByteArray, ShortArray, ReferenceArray}
 use Rattle.jc_transient.specs.declared.cell.ClearEvent.{ClearEvent}
@@ -17,7 +19,7 @@ use Rattle.jc_transient.specs.declared.cell.ClearEvent.TheVariants.{Reset, Desel
 use Rattle.jc_heap.specs.Object.{Object, AnObject, header_word, new_transient, kind_number, transient_size, object_of, new_object, payload}
 use Rattle.jc_heap.specs.Image.{IsWellFormed}
 use Rattle.jc_heap.specs.Fresh.{KeepsBelow, Fills, IsTornFresh}
-use Rattle.jc_heap.specs.Heap.{HeapState, HeapView, heap_view, read_image, heap_of, add_object, end_address, heap_after_change, IsSound, IsTornChange}
+use Rattle.jc_heap.specs.Heap.{HeapState, HeapView, heap_view, read_image, heap_of, add_object, end_address, heap_after_change, keeping, IsSound, IsTornChange}
 use Rattle.jc_heap.specs.Heap.{LacksSpace, SameShape, is_allocated, heap_item_at, add_transient, area_end_address, area_end, with_area_end}
 use Rattle.jc_heap.proofs.Laws.{shape-add, heap_item_at-add_object}
 use Rattle.jc_heap.proofs.Added.{heap_of-grown, top-moved, IsLaid-grown, image-same_below, IsWellFormed-same_below}
@@ -75,6 +77,10 @@ module _ (j k : State) (n : ℕ) (s : IsSound j n) (up : j.down ≡ false) (b : 
   laid_back : IsWellFormed k.recovered
   laid_back = IsWellFormed-same_below j.recovered k.recovered (get_or j.plain top_address 0) far (s.order up) b.recovered b.size_recovered s.back
 
+  -- fresh words leave what a change has to know as it is
+  pub kept_alike : journal_keeping k ≡ journal_keeping j
+  kept_alike = keeping_same j k b.in_transaction b.touched (top-live_words j.recovered k.recovered s.back live_back)
+
   -- the store refused a fresh word
   pub fresh_stopped_sound : IsTornFresh j k → IsSound k n
   fresh_stopped_sound st = stopped_sound j k n live_back b.size_recovered st.down s.back s.size_recovered s.small
@@ -97,18 +103,20 @@ module _ (j k : State) (n : ℕ) (s : IsSound j n) (up : j.down ≡ false) (b : 
     pub view_then : (cs : List (ℕ × ℕ)) (h : HeapState) (m : State) → Changes cs k m → heap_of (with_words k.plain cs) ≡ h
         → heap_view m n ≡ heap_after_change (heap_view j n) h (addresses_of cs) (length rec)
     view_then cs h m c now =
-        let made : heap_view m n ≡ heap_after_change (heap_view k n) h (addresses_of cs) 0 = change_view cs k m n h c now in
+        let made : heap_view m n ≡ heap_after_change (heap_view k n) h (addresses_of cs) 0 = change_view cs k m n h laid_back c now in
         let durable : (if k.in_transaction then heap_of k.recovered else h) ≡ (if j.in_transaction then heap_of j.recovered else h) =
         ap (λ d. if k.in_transaction then d else h) (ap read_image live_back) ∙ ap (λ g. if g then heap_of j.recovered else h) b.in_transaction in
-        let touched : k.touched ++ unlogged_addresses k.in_transaction (addresses_of cs) ≡ j.touched ++ unlogged_addresses j.in_transaction (addresses_of cs) =
-        ap (λ l. l ++ unlogged_addresses k.in_transaction (addresses_of cs)) b.touched
-        ∙ ap (λ g. j.touched ++ unlogged_addresses g (addresses_of cs)) b.in_transaction in
-        let sum : saturating_count k.passed (0 + writes_for j.in_transaction (addresses_of cs))
-        ≡ saturating_count j.passed (length rec + writes_for j.in_transaction (addresses_of cs)) =
-        raised_twice j.passed k.passed (length rec) (writes_for j.in_transaction (addresses_of cs)) f.passed in
-        let passed : saturating_count k.passed (0 + writes_for k.in_transaction (addresses_of cs))
-        ≡ saturating_count j.passed (length rec + writes_for j.in_transaction (addresses_of cs)) =
-        ap (λ g. saturating_count k.passed (0 + writes_for g (addresses_of cs))) b.in_transaction ∙ sum in
+        let same : keeping (heap_view k n) ≡ keeping (heap_view j n) = keeping_view k n laid_back ∙ kept_alike ∙ sym (keeping_view j n s.back) in
+        let touched : k.touched ++ unlogged_addresses (keeping (heap_view k n)) (addresses_of cs)
+        ≡ j.touched ++ unlogged_addresses (keeping (heap_view j n)) (addresses_of cs) =
+        ap (λ l. l ++ unlogged_addresses (keeping (heap_view k n)) (addresses_of cs)) b.touched
+        ∙ ap (λ (g : Keeping). j.touched ++ unlogged_addresses g (addresses_of cs)) same in
+        let sum : saturating_count k.passed (0 + writes_for (keeping (heap_view j n)) (addresses_of cs))
+        ≡ saturating_count j.passed (length rec + writes_for (keeping (heap_view j n)) (addresses_of cs)) =
+        raised_twice j.passed k.passed (length rec) (writes_for (keeping (heap_view j n)) (addresses_of cs)) f.passed in
+        let passed : saturating_count k.passed (0 + writes_for (keeping (heap_view k n)) (addresses_of cs))
+        ≡ saturating_count j.passed (length rec + writes_for (keeping (heap_view j n)) (addresses_of cs)) =
+        ap (λ (g : Keeping). saturating_count k.passed (0 + writes_for g (addresses_of cs))) same ∙ sum in
         made ∙ (λ i. record {
           now = h;
           durable = durable i;
@@ -302,16 +310,12 @@ module _ (j k m : State) (n : ℕ) (kind : Kind) (event : ClearEvent) (class own
       ((top_address, get_or j.plain top_address 0 + transient_size) ∷ (area_end_address event, place + long) ∷ [])
       (add_transient (heap_of j.plain) kind event class owner long) m there heap_both)
 
--- fresh words leave the journal's room as it is
-room_kept : (at : ℕ) (j k : State) → KeepsBelow at j k → (places : List ℕ) → journal_room k.in_transaction k.touched places
-    ≡ journal_room j.in_transaction j.touched places
-room_kept at j k b places = λ i. journal_room (b.in_transaction i) (b.touched i) places
-
 -- where there was room, the store alone refuses
-pub only_down : (at : ℕ) (j k : State) → KeepsBelow at j k → (places : List ℕ) → journal_room j.in_transaction j.touched places ≡ true → (r : WriteRefusal)
-    → (r ≡ Full → journal_room k.in_transaction k.touched places ≡ false) → r ≡ StoreDown
-only_down at j k b places fit StoreDown f = refl
-only_down at j k b places fit Full f = absurd (false≢true (sym (f refl) ∙ room_kept at j k b places ∙ fit))
+pub only_down : (j k : State) (n : ℕ) → IsSound j n → j.down ≡ false → KeepsBelow (get_or j.plain top_address 0) j k → (places : List ℕ)
+    → journal_room (journal_keeping j) places ≡ true → (r : WriteRefusal) → (r ≡ Full → journal_room (journal_keeping k) places ≡ false) → r ≡ StoreDown
+only_down j k n s up b places fit StoreDown f = refl
+only_down j k n s up b places fit Full f =
+    absurd (false≢true (sym (f refl) ∙ ap (λ g. journal_room g places) (kept_alike j k n s up b) ∙ fit))
 
 pub view_area : (j : State) (v : HeapView) (n : ℕ) (event : ClearEvent) → heap_view j n ≡ v → IsWellFormed j.plain
     → area_end v.now event ≡ get_or j.plain (area_end_address event) 0

@@ -3,7 +3,9 @@ use Rattle.std.proofs.Common.{◌≡◌, ℕ, zero, suc, ◌+◌, ◌<◌, ◌�
 use Rattle.std.proofs.lemmas.List.{length-append, length-take-le, get_or-take}
 use Rattle.jc_words.specs.Layout.{top_address, packages_address, addresses_start, most_packages, text_start}
 use Rattle.jc_commit.specs.Image.{with_words, IsPlace}
-use Rattle.jc_commit.specs.State.{State, Changes, has_room_for as journal_room}
+use Rattle.jc_commit.specs.Keeping.{has_room_for as journal_room}
+use Rattle.jc_commit.specs.State.{State, Changes, keeping as journal_keeping}
+use Rattle.jc_heap.proofs.JournalViews.{keeping_view}
 use Rattle.jc_heap.specs.declared.object.Kind.{Kind}
 use Rattle.jc_heap.specs.Object.{APackage, header_only}
 use Rattle.jc_heap.specs.Image.{IsWellFormed}
@@ -209,20 +211,24 @@ package_are_places n number t e wide few (suc (suc zero)) h = record { above = o
 package_are_places n number t e wide few (suc (suc (suc k))) h = absurd (omega arith)
 
 -- what the journal has no room for the heap has none for
-pub view_no_room : (j : State) (v : HeapView) (n number : ℕ) → heap_view j n ≡ v → IsWellFormed j.plain → number ≡ get_or j.plain packages_address 0
-    → journal_room j.in_transaction j.touched ((addresses_start + number) ∷ packages_address ∷ top_address ∷ []) ≡ false
+pub view_no_room : (j : State) (v : HeapView) (n number : ℕ) → heap_view j n ≡ v → IsWellFormed j.plain → IsWellFormed j.recovered
+    → number ≡ get_or j.plain packages_address 0
+    → journal_room (journal_keeping j) ((addresses_start + number) ∷ packages_address ∷ top_address ∷ []) ≡ false
     → has_room_for v (addresses_of_package v.now) ≡ false
 unfolding addresses_of_package end_address
-view_no_room j v n number is laid e none =
+view_no_room j v n number is laid back e none =
     let count : number ≡ (heap_of j.plain).counts.0 = e ∙ sym (count_is j.plain laid) in
     subst (λ u. has_room_for u ((addresses_start + u.now.counts.0) ∷ packages_address ∷ top_address ∷ []) ≡ false) is
-    (subst (λ a. has_room_for (heap_view j n) ((addresses_start + a) ∷ packages_address ∷ top_address ∷ []) ≡ false) count none)
+    (subst (λ a. has_room_for (heap_view j n) ((addresses_start + a) ∷ packages_address ∷ top_address ∷ []) ≡ false) count
+    (ap (λ k. journal_room k ((addresses_start + number) ∷ packages_address ∷ top_address ∷ [])) (keeping_view j n back) ∙ none))
 
-pub view_room : (j : State) (v : HeapView) (n number : ℕ) → heap_view j n ≡ v → IsWellFormed j.plain → number ≡ get_or j.plain packages_address 0
-    → journal_room j.in_transaction j.touched ((addresses_start + number) ∷ packages_address ∷ top_address ∷ []) ≡ true
+pub view_room : (j : State) (v : HeapView) (n number : ℕ) → heap_view j n ≡ v → IsWellFormed j.plain → IsWellFormed j.recovered
+    → number ≡ get_or j.plain packages_address 0
+    → journal_room (journal_keeping j) ((addresses_start + number) ∷ packages_address ∷ top_address ∷ []) ≡ true
     → has_room_for v (addresses_of_package v.now) ≡ true
 unfolding addresses_of_package end_address
-view_room j v n number is laid e some =
+view_room j v n number is laid back e some =
     let count : number ≡ (heap_of j.plain).counts.0 = e ∙ sym (count_is j.plain laid) in
     subst (λ u. has_room_for u ((addresses_start + u.now.counts.0) ∷ packages_address ∷ top_address ∷ []) ≡ true) is
-    (subst (λ a. has_room_for (heap_view j n) ((addresses_start + a) ∷ packages_address ∷ top_address ∷ []) ≡ true) count some)
+    (subst (λ a. has_room_for (heap_view j n) ((addresses_start + a) ∷ packages_address ∷ top_address ∷ []) ≡ true) count
+    (ap (λ k. journal_room k ((addresses_start + number) ∷ packages_address ∷ top_address ∷ [])) (keeping_view j n back) ∙ some))

@@ -1,18 +1,20 @@
 -- A place set, in the words and in the heap.
-use Rattle.std.proofs.Common.{◌≡◌, ℕ, ◌+◌, ◌<◌, ◌≤◌, ◌&&◌, Bool, true, false, List, [], ◌∷◌, length, get_or, set, drop, inl, inr, refl, sym, ◌∙◌, ap, subst}
-use Rattle.std.proofs.Common.{arith, lit<, if◌then◌else◌}
+use Rattle.std.proofs.Common.{◌≡◌, ℕ, ◌+◌, ◌<◌, ◌≤◌, ◌&&◌, ◌||◌, Bool, true, false, List, [], ◌∷◌, length, get_or, set, drop, inl, inr, refl, sym, ◌∙◌, ap}
+use Rattle.std.proofs.Common.{subst}
+use Rattle.std.proofs.Common.{arith, lit<, if◌then◌else◌, nat_le, leb-true}
 use Rattle.std.proofs.lemmas.List.{length-set, length-take-le, get_or-set_other, get_or-take, get_or-drop, drop-set-lt}
 use Rattle.std.proofs.lemmas.Bool.{false≢true, cases_lt}
 use Rattle.jc_words.specs.Count.{saturating_count}
 use Rattle.jc_words.specs.Layout.{top_address, applets_address, registry_start, registry_length, text_start}
 use Rattle.jc_commit.specs.Image.{IsPlace, IsReadable, IsUnlogged}
-use Rattle.jc_commit.specs.State.{State, Changes, after_write_in_place, is_touched as is_kept}
+use Rattle.jc_commit.specs.Keeping.{goes_back}
+use Rattle.jc_commit.specs.State.{State, Changes, after_write_in_place, born_of, keeping as journal_keeping, is_touched as is_kept}
 use Rattle.jc_heap.specs.declared.place.Place.{Place}
 use Rattle.jc_heap.specs.declared.place.Place.TheVariants.{Cell, Static, Registry, AppletCount}
 use Rattle.jc_heap.specs.Cut.{missing_words}
 use Rattle.jc_heap.specs.Object.{header_only}
 use Rattle.jc_heap.specs.Image.{IsWellFormed, image, base, package_addresses, is_package, sizes, missing_words_of_image}
-use Rattle.jc_heap.specs.Heap.{HeapState, HeapView, heap_view, heap_of, cells, cell_address, is_touched, IsSound, SameShape, read_image, heap_item_at}
+use Rattle.jc_heap.specs.Heap.{HeapState, HeapView, heap_view, heap_of, cells, cell_address, keeping, IsSound, SameShape, read_image, heap_item_at}
 use Rattle.jc_heap.specs.Heap.{is_allocated}
 use Rattle.jc_heap.specs.Places.{place_word, HasPlace, set_place, write_place, write_nonatomic}
 use Rattle.jc_heap.specs.Components.{record_of}
@@ -26,6 +28,7 @@ use Rattle.jc_heap.proofs.RecordWords.{heap_of-set_word, laid-set_word, top-set_
 use Rattle.jc_heap.proofs.RecordWords.{header_only-set_word}
 use Rattle.jc_heap.proofs.StaticImages.{static_behind}
 use Rattle.jc_heap.proofs.Views.{cell_spot, back_set, top_is, above_top}
+use Rattle.jc_heap.proofs.JournalViews.{keeping_view}
 use Rattle.jc_heap.proofs.Changing.{change_view, change_sound}
 
 -- a word of the registry
@@ -208,10 +211,10 @@ pub place_unlogged : (n a : ℕ) → PlaceSpot n a → IsUnlogged n a
 place_unlogged n a s = record { below = s.below; not_top = λ e. omega (arith, s.high); place = λ _. place_logged n a s }
 
 -- a place set through the journal is a place set in the heap
-pub place_view : (j k : State) (v : HeapView) (n : ℕ) (p : Place) (x : ℕ) → heap_view j n ≡ v → IsWellFormed j.plain → HasPlace v.now p
-    → Changes ((place_word p, x) ∷ []) j k → heap_view k n ≡ write_place v p x
-place_view j k v n p x is laid h c = subst (λ u. HasPlace (u.now) p → heap_view k n ≡ write_place u p x) is
-    (λ there. change_view ((place_word p, x) ∷ []) j k n (set_place (heap_of j.plain) p x) c (place_set j.plain p x laid there).0) h
+pub place_view : (j k : State) (v : HeapView) (n : ℕ) (p : Place) (x : ℕ) → heap_view j n ≡ v → IsWellFormed j.plain → IsWellFormed j.recovered
+    → HasPlace v.now p → Changes ((place_word p, x) ∷ []) j k → heap_view k n ≡ write_place v p x
+place_view j k v n p x is laid back h c = subst (λ u. HasPlace (u.now) p → heap_view k n ≡ write_place u p x) is
+    (λ there. change_view ((place_word p, x) ∷ []) j k n (set_place (heap_of j.plain) p x) back c (place_set j.plain p x laid there).0) h
 
 pub place_sound : (j k : State) (v : HeapView) (n : ℕ) (p : Place) (x : ℕ) → heap_view j n ≡ v → HasPlace v.now p → j.down ≡ false → IsSound j n
     → Changes ((place_word p, x) ∷ []) j k → IsSound k n
@@ -284,11 +287,39 @@ both_at j n p x h up s =
       },
     )
 
+-- where the word was born in the transaction, the recovered words stand for the same heap
+kept_or_born : (begun kept born : Bool) (old set_there d : HeapState) → set_there ≡ d → (born ≡ true → d ≡ old) →
+    (if begun && kept then old else d) ≡ (if begun && (kept || born) then old else d)
+kept_or_born true true born old set_there d is new = refl
+kept_or_born true false true old set_there d is new = new refl
+kept_or_born true false false old set_there d is new = refl
+kept_or_born false kept born old set_there d is new = refl
+
+both_back : (j : State) (n : ℕ) (p : Place) (x : ℕ) → HasPlace (heap_of j.plain) p → j.down ≡ false → IsSound j n →
+    (if j.in_transaction && is_kept j (place_word p) then heap_of j.recovered else set_place (heap_of j.recovered) p x)
+    ≡ (if goes_back (keeping (heap_view j n)) (place_word p) then heap_of j.recovered else set_place (heap_of j.recovered) p x)
+unfolding goes_back
+both_back j n p x h up s =
+    let a = place_word p in
+    let same : goes_back (keeping (heap_view j n)) a ≡ goes_back (journal_keeping j) a = ap (λ k. goes_back k a) (keeping_view j n s.back) in
+    let b = place_back j n p x h up s in
+    kept_or_born j.in_transaction (is_kept j a) (nat_le (born_of j.recovered) a) (heap_of j.recovered) (set_place (heap_of j.recovered) p x)
+    (set_place (heap_of j.recovered) p x) refl
+    (λ born. sym b.0 ∙ (above_top j.recovered a x s.back (omega (arith, leb-true (born_of j.recovered) a born))).0)
+    ∙ sym (ap (λ (g : Bool). if g then heap_of j.recovered else set_place (heap_of j.recovered) p x) same)
+
+both_here : (j : State) (n : ℕ) (p : Place) (x : ℕ) → HasPlace (heap_of j.plain) p → j.down ≡ false → IsSound j n
+    → heap_view (after_write_in_place j (place_word p) x) n ≡ write_nonatomic (heap_view j n) p x
+both_here j n p x h up s = (both_at j n p x h up s).0 ∙ ap (λ (d : HeapState). record (heap_view j n) {
+  now = set_place (heap_of j.plain) p x;
+  durable = d;
+  passed = saturating_count j.passed 1;
+}) (both_back j n p x h up s)
+
 pub both_view : (j : State) (v : HeapView) (n : ℕ) (p : Place) (x : ℕ) → heap_view j n ≡ v → HasPlace v.now p → j.down ≡ false → IsSound j n
     → heap_view (after_write_in_place j (place_word p) x) n ≡ write_nonatomic v p x
-unfolding is_touched
 both_view j v n p x is h up s = subst (λ u. HasPlace (u.now) p → heap_view (after_write_in_place j (place_word p) x) n ≡ write_nonatomic u p x) is
-    (λ k. (both_at j n p x k up s).0) h
+    (λ k. both_here j n p x k up s) h
 
 pub both_sound : (j : State) (v : HeapView) (n : ℕ) (p : Place) (x : ℕ) → heap_view j n ≡ v → HasPlace v.now p → j.down ≡ false → IsSound j n
     → IsSound (after_write_in_place j (place_word p) x) n

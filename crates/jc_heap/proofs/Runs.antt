@@ -1,14 +1,12 @@
 -- Runs of cells.
-use Rattle.std.proofs.Common.{◌≡◌, ℕ, zero, suc, ◌+◌, ◌<◌, ◌≤◌, List, [], ◌∷◌, ◌++◌, length, take, set, get_or, refl, sym, ◌∙◌, ap, subst, arith, true, false}
+use Rattle.std.proofs.Common.{◌≡◌, ℕ, zero, suc, ◌+◌, ◌<◌, ◌≤◌, List, [], ◌∷◌, ◌++◌, length, set, get_or, refl, sym, ◌∙◌, ap, subst, arith, false}
 use Rattle.std.proofs.Common.{add-zero}
-use Rattle.std.proofs.lemmas.List.{length-take-le, take_more_set, take_more}
-use Rattle.std.proofs.lemmas.Bool.{lt-leb}
 use Rattle.jc_words.specs.Layout.{top_address, text_start}
-use Rattle.jc_commit.specs.Image.{with_words, IsPlace, capacity}
+use Rattle.jc_commit.specs.Image.{with_words, IsPlace}
 use Rattle.jc_commit.specs.Entries.{addresses_of, ArePlaces}
 use Rattle.jc_heap.specs.Image.{IsWellFormed}
-use Rattle.jc_commit.specs.State.{State, Changes, has_room_for as journal_room}
-use Rattle.jc_heap.specs.Heap.{HeapState, HeapView, heap_view, heap_of, cells, set_cell, set_cells, run_words, cell_address, heap_after_change, has_room_for}
+use Rattle.jc_commit.specs.State.{State, Changes}
+use Rattle.jc_heap.specs.Heap.{HeapState, HeapView, heap_view, heap_of, cells, set_cell, set_cells, run_words, cell_address, heap_after_change}
 use Rattle.jc_heap.specs.Heap.{SameShape, IsSound}
 use Rattle.jc_heap.proofs.Changing.{change_view, change_sound}
 use Rattle.jc_heap.proofs.Laws.{shape-set, length-cells-set_cell}
@@ -30,16 +28,12 @@ run_words-push at (x ∷ xs) v =
     let here : suc at + length xs ≡ at + suc (length xs) = omega arith in
     ap (λ l. (at, x) ∷ l) (run_words-push (suc at) xs v ∙ ap (λ a. run_words (suc at) xs ++ (a, v) ∷ []) here)
 
--- a loop that writes the pairs one after another
-pub run_words-more : (changes : List (ℕ × ℕ)) (at k : ℕ) (vs : List ℕ) → k < length changes → k < length vs → take k changes ≡ run_words at (take k vs) →
-    take (k + 1) (set changes k (at + k, get_or vs k 0)) ≡ run_words at (take (k + 1) vs)
-run_words-more changes at k vs h within e =
-    let long : length (take k vs) ≡ k = omega (arith, length-take-le k vs (omega arith)) in
-    take_more_set changes k (at + k, get_or vs k 0) h
-    ∙ ap (λ l. l ++ (at + k, get_or vs k 0) ∷ []) e
-    ∙ ap (λ n. run_words at (take k vs) ++ (at + n, get_or vs k 0) ∷ []) (sym long)
-    ∙ sym (run_words-push at (take k vs) (get_or vs k 0))
-    ∙ ap (run_words at) (sym (take_more vs k 0 within))
+pub run_words-at : (at : ℕ) (vs : List ℕ) (k : ℕ) → k < length vs → get_or (run_words at vs) k (0, 0) ≡ (at + k, get_or vs k 0)
+run_words-at at [] k h = absurd (omega arith)
+run_words-at at (v ∷ vs) zero h = ap (λ (a : ℕ). (a, v)) (sym (add-zero at))
+run_words-at at (v ∷ vs) (suc k) h =
+    let next : suc at + k ≡ at + suc k = omega arith in
+    run_words-at (suc at) vs k (omega arith) ∙ ap (λ (a : ℕ). (a, get_or vs k 0)) next
 
 address-run : (at : ℕ) (vs : List ℕ) (k : ℕ) → k < length (run_words at vs) → (get_or (run_words at vs) k (0, 0)).0 ≡ at + k
 address-run at [] k h = absurd (omega arith)
@@ -59,13 +53,6 @@ distinct-run at vs i j d below within e =
 pub length-addresses : (at : ℕ) (vs : List ℕ) → length (addresses_of (run_words at vs)) ≡ length vs
 length-addresses at [] = refl
 length-addresses at (v ∷ vs) = ap suc (length-addresses (suc at) vs)
-
--- a change of more words than there can be entries has no room
-pub too_many : (v : HeapView) (places : List ℕ) → capacity < length places → has_room_for v places ≡ false
-too_many v places h = elim v.begun as (λ g. journal_room g v.touched places ≡ false) [
-  | true ↦ lt-leb (length v.touched + length places) capacity (omega arith)
-  | false ↦ lt-leb (length places) capacity h
-]
 
 -- a run's words are places
 pub places_of_run : (j : State) (v : HeapView) (n r i : ℕ) (vs : List ℕ) → heap_view j n ≡ v → i + length vs ≤ length (cells v.now r)
@@ -102,13 +89,13 @@ shape-run d h r i [] s = s
 shape-run d h r i (v ∷ vs) s = shape-run d (set_cell h r i v) r (suc i) vs (shape-set d h r i v s)
 
 -- a run set through the journal is a run of the heap
-pub run_view : (j k : State) (v : HeapView) (n r i : ℕ) (vs : List ℕ) → heap_view j n ≡ v → IsWellFormed j.plain → i + length vs ≤ length (cells v.now r)
-    → Changes (run_words (cell_address r i) vs) j k →
+pub run_view : (j k : State) (v : HeapView) (n r i : ℕ) (vs : List ℕ) → heap_view j n ≡ v → IsWellFormed j.plain → IsWellFormed j.recovered
+    → i + length vs ≤ length (cells v.now r) → Changes (run_words (cell_address r i) vs) j k →
     heap_view k n ≡ heap_after_change v (set_cells v.now r i vs) (addresses_of (run_words (cell_address r i) vs)) 0
 unfolding cell_address
-run_view j k v n r i vs is laid h c = subst (λ u. i + length vs ≤ length (cells (u.now) r)
+run_view j k v n r i vs is laid back h c = subst (λ u. i + length vs ≤ length (cells (u.now) r)
     → heap_view k n ≡ heap_after_change u (set_cells (u.now) r i vs) (addresses_of (run_words (r + (4 + i)) vs)) 0) is
-    (λ there. change_view (run_words (r + (4 + i)) vs) j k n (set_cells (heap_of j.plain) r i vs) c (run-heap_of j.plain r i vs there laid).0) h
+    (λ there. change_view (run_words (r + (4 + i)) vs) j k n (set_cells (heap_of j.plain) r i vs) back c (run-heap_of j.plain r i vs there laid).0) h
 
 run_sound_at : (j k : State) (n r i : ℕ) (vs : List ℕ) → i + length vs ≤ length (cells (heap_of j.plain) r) → j.down ≡ false → IsSound j n
     → Changes (run_words (r + (4 + i)) vs) j k → IsSound k n

@@ -6,7 +6,8 @@ use Rattle.std.proofs.lemmas.Bool.{cases_Bool, cases_eq, cases_lt, eq-eqb, ne_eq
 use Rattle.jc_words.specs.Layout.{top_address, text_start}
 use Rattle.jc_commit.specs.Image.{with_words, IsPlace}
 use Rattle.jc_commit.specs.Entries.{addresses_of, ArePlaces}
-use Rattle.jc_commit.specs.State.{State, Changes, has_room_for as journal_room}
+use Rattle.jc_commit.specs.Keeping.{has_room_for as journal_room}
+use Rattle.jc_commit.specs.State.{State, Changes, keeping as journal_keeping}
 use Rattle.jc_heap.specs.declared.place.Place.{Place}
 use Rattle.jc_heap.specs.declared.place.Place.TheVariants.{Cell, Static, Registry, AppletCount}
 use Rattle.jc_heap.specs.Cut.{Sizes, records_from}
@@ -31,6 +32,17 @@ pub there_at : (h : HeapState) (cs : List (Place × ℕ)) (k : ℕ) (d : Place �
 there_at h [] k d lt there = absurd (omega arith)
 there_at h (c ∷ cs) zero d lt there = there.0
 there_at h (c ∷ cs) (suc k) d lt there = there_at h cs k d (omega arith) there.2
+
+-- the word of the place at an index
+pub words_of-at : (cs : List (Place × ℕ)) (k : ℕ) (d : Place × ℕ) → k < length cs
+    → get_or (words_of cs) k (0, 0) ≡ (place_word (get_or cs k d).0, (get_or cs k d).1)
+words_of-at [] k d lt = absurd (omega arith)
+words_of-at (c ∷ cs) zero d lt = refl
+words_of-at (c ∷ cs) (suc k) d lt = words_of-at cs k d (omega arith)
+
+pub length-words : (cs : List (Place × ℕ)) → length (words_of cs) ≡ length cs
+length-words [] = refl
+length-words (c ∷ cs) = ap suc (length-words cs)
 
 -- places set leave the shape
 pub shape-places : (d h : HeapState) (cs : List (Place × ℕ)) → SameShape d h → SameShape d (set_places h cs)
@@ -220,10 +232,10 @@ module _ (j : State) (v : HeapView) (n : ℕ) (cs : List (Place × ℕ)) (is : h
       same (x ∷ xs) = ap (λ l. place_word x.0 ∷ l) (same xs)
 
   -- places set through the journal are places set in the heap
-  pub several_view : (k : State) → IsWellFormed j.plain → Changes (words_of cs) j k
+  pub several_view : (k : State) → IsWellFormed j.plain → IsWellFormed j.recovered → Changes (words_of cs) j k
       → heap_view k n ≡ heap_after_change v (set_places v.now cs) (map place_word (places_of cs)) 0
-  several_view k laid c =
-      change_view (words_of cs) j k n (set_places (heap_of j.plain) cs) c (words_set j.plain cs laid words_there).0
+  several_view k laid back c =
+      change_view (words_of cs) j k n (set_places (heap_of j.plain) cs) back c (words_set j.plain cs laid words_there).0
       ∙ ap (λ a. heap_after_change (heap_view j n) (set_places (heap_of j.plain) cs) a 0) several_addresses
       ∙ ap (λ u. heap_after_change u (set_places u.now cs) (map place_word (places_of cs)) 0) is
 
@@ -235,8 +247,9 @@ module _ (j : State) (v : HeapView) (n : ℕ) (cs : List (Place × ℕ)) (is : h
       (λ _. omega (arith, s.order up, t.2))
       (λ _. subst (SameShape (heap_of j.recovered)) (sym t.0) (shape-places (heap_of j.recovered) (heap_of j.plain) cs (s.shape up)))
 
-  pub several_room : has_room_for v (map place_word (places_of cs)) ≡ journal_room j.in_transaction j.touched (addresses_of (words_of cs))
-  several_room = room_is j v n (map place_word (places_of cs)) is ∙ ap (journal_room j.in_transaction j.touched) (sym several_addresses)
+  pub several_room : IsWellFormed j.recovered
+      → has_room_for v (map place_word (places_of cs)) ≡ journal_room (journal_keeping j) (addresses_of (words_of cs))
+  several_room back = room_is j v n (map place_word (places_of cs)) back is ∙ ap (journal_room (journal_keeping j)) (sym several_addresses)
 
 pub length-places : (cs : List (Place × ℕ)) → length (map place_word (places_of cs)) ≡ length cs
 length-places [] = refl

@@ -1,12 +1,12 @@
 -- The heap that words stand for, and the changes of a heap.
 use Rattle.std.specs.Prelude.{ℕ, suc, ◌+◌, ◌-◌, ◌≡◌, ◌<◌, ◌≤◌, ◌==◌, Bool, true, false, List, [], ◌∷◌, ◌++◌, map, take, drop, length, slice_index, Option, Some}
-use Rattle.std.specs.Prelude.{None, if◌then◌else◌, ◌&&◌, nat_lt}
-use Rattle.std.specs.List.{list_any}
+use Rattle.std.specs.Prelude.{None, if◌then◌else◌, ◌&&◌, nat_lt, max}
 use Rattle.jc_words.specs.Count.{saturating_count}
 use Rattle.jc_words.specs.Layout.{top_address, packages_address, applets_address, reset_end_address, deselect_end_address, registry_start, registry_length}
+use Rattle.jc_words.specs.Layout.{addresses_start}
 use Rattle.jc_commit.specs.Image.{capacity, top_of}
-use Rattle.jc_commit.specs.State.{State, unlogged_addresses, undo_writes}
-use Rattle.jc_commit.specs.State as journal
+use Rattle.jc_commit.specs.State.{State, undo_writes}
+use Rattle.jc_commit.specs.Keeping as journal
 use Rattle.jc_heap.specs.declared.object.Facts.{Facts}
 use Rattle.jc_transient.specs.declared.cell.ClearEvent.{ClearEvent}
 use Rattle.jc_transient.specs.declared.cell.ClearEvent.TheVariants.{Reset, Deselect}
@@ -161,13 +161,17 @@ pub record IsSound (j : State) (size : ℕ) : Type 0 where
   -- outside a transaction there is nothing to recover
   pub settled : j.down ≡ false → j.in_transaction ≡ false → j.recovered ≡ j.plain
 
+-- what a change has to know of the transaction
+abbrev pub keeping : HeapView → journal.Keeping
+keeping v = record { begun = v.begun; born = max addresses_start v.durable.top; touched = v.touched; capacity = capacity }
+
 -- of these places, those whose old values a change has to keep: its cost
 abbrev pub unlogged_places : HeapView → List ℕ → List ℕ
-unlogged_places v places = unlogged_addresses v.begun places
+unlogged_places v places = journal.unlogged_addresses (keeping v) places
 
 -- how many word writes it is to change these places
 abbrev pub writes_for : HeapView → List ℕ → ℕ
-writes_for v places = journal.writes_for v.begun places
+writes_for v places = journal.writes_for (keeping v) places
 
 -- how many more words' old values the transaction can keep
 abbrev pub room_left : HeapView → ℕ
@@ -175,7 +179,7 @@ room_left v = capacity - length v.touched
 
 -- there is room for a change of these places, in the open transaction or in one of its own
 abbrev pub has_room_for : HeapView → List ℕ → Bool
-has_room_for v places = journal.has_room_for v.begun v.touched places
+has_room_for v places = journal.has_room_for (keeping v) places
 
 -- a heap at rest: no transaction is open, and a loss of power leaves it as it is
 abbrev pub heap_at_rest : HeapState → ℕ → ℕ → ℕ → HeapView
@@ -198,9 +202,9 @@ cell_address r i = r + (header_size + i)
 unfoldable pub end_address : ℕ
 end_address = top_address
 
--- the open transaction keeps the old value of a place
-unfoldable pub is_touched : HeapView → ℕ → Bool
-is_touched v place = v.begun && list_any (λ b. b == place) v.touched
+-- an abort takes back what is written at this place: its old value is kept, or its word was born in the transaction
+abbrev pub goes_back : HeapView → ℕ → Bool
+goes_back v place = journal.goes_back (keeping v) place
 
 -- a transaction is open, and what it finds is kept
 abbrev pub heap_after_begin : HeapView → HeapView

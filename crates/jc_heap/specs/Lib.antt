@@ -16,3 +16,4 @@ pub mod Completions
 pub mod Moves
 pub mod Packed
 pub mod RegistryLayout
+pub mod WordRuns

@@ -6,7 +6,7 @@ use Rattle.jc_commit.specs.Entries.{addresses_of}
 use Rattle.jc_transient.specs.declared.cell.ClearEvent.{ClearEvent}
 use Rattle.jc_heap.specs.declared.object.Kind.{Kind}
 use Rattle.jc_heap.specs.Object.{Object, new_object, object_size, transient_size}
-use Rattle.jc_heap.specs.Heap.{HeapState, HeapView, set_cells, run_words, add_object, add_transient, area_end_address, area_end, is_touched, has_room_for}
+use Rattle.jc_heap.specs.Heap.{HeapState, HeapView, set_cells, run_words, add_object, add_transient, area_end_address, area_end, goes_back, has_room_for}
 use Rattle.jc_heap.specs.Heap.{heap_after_change, heap_after_begin, heap_after_commit, heap_after_abort, cell_address, end_address}
 use Rattle.jc_heap.specs.declared.place.Place.{Place}
 use Rattle.jc_heap.specs.declared.place.AppletEntry.{AppletEntry}
@@ -62,7 +62,7 @@ IsInside (m ∷ ms) = IsInside ms
 abbrev pub with_nonatomic_writes : List Move → HeapView → HeapState → HeapState
 with_nonatomic_writes [] h d = d
 with_nonatomic_writes (WriteNonAtomic p v ∷ ms) h d = with_nonatomic_writes ms (apply_move (WriteNonAtomic p v) h)
-    (if is_touched h (place_word p) then d else set_place d p v)
+    (if goes_back h (place_word p) then d else set_place d p v)
 with_nonatomic_writes (m ∷ ms) h d = with_nonatomic_writes ms (apply_move m h) d
 
 -- inside a transaction the durable heap stays as it is but for counted places, whatever the moves are

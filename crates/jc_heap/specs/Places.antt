@@ -1,5 +1,5 @@
 -- Places: the words that a change may name.
-use Rattle.std.specs.Prelude.{ℕ, ◌+◌, ◌*◌, ◌<◌, ◌≡◌, List, [], ◌∷◌, set, length, map, if◌then◌else◌}
+use Rattle.std.specs.Prelude.{ℕ, ◌+◌, ◌<◌, ◌≡◌, List, [], ◌∷◌, set, length, map, if◌then◌else◌}
 use Rattle.jc_words.specs.Count.{saturating_count}
 use Rattle.jc_words.specs.Layout.{applets_address, registry_start, registry_length}
 use Rattle.jc_heap.specs.RegistryLayout.{entry_start, entry_package, entry_instance}
@@ -8,7 +8,7 @@ use Rattle.jc_heap.specs.declared.place.Place.TheVariants.{Cell, Static, Registr
 use Rattle.jc_heap.specs.declared.place.AppletEntry.{AppletEntry}
 use Rattle.jc_heap.specs.Object.{IsElement}
 use Rattle.jc_heap.specs.Image.{IsWellFormed}
-use Rattle.jc_heap.specs.Heap.{HeapState, HeapView, cells, facts, heap_of, set_cell, cell_address, heap_after_change, is_touched}
+use Rattle.jc_heap.specs.Heap.{HeapState, HeapView, cells, facts, heap_of, set_cell, cell_address, heap_after_change, goes_back}
 use Rattle.jc_heap.specs.Components.{record_of}
 use Rattle.jc_heap.specs.Statics.{set_word, IsStatic}
 
@@ -43,11 +43,11 @@ set_place h AppletCount v = record h { counts = (h.counts.0, v) }
 abbrev pub write_place : HeapView → Place → ℕ → HeapView
 write_place v p x = heap_after_change v (set_place v.now p x) (place_word p ∷ []) 0
 
--- a place set for good, where no earlier change of the open transaction has touched it
+-- a place set for good, where an abort does not take it back already
 abbrev pub write_nonatomic : HeapView → Place → ℕ → HeapView
 write_nonatomic v p x = record v {
   now = set_place v.now p x;
-  durable = (if is_touched v (place_word p) then v.durable else set_place v.durable p x);
+  durable = (if goes_back v (place_word p) then v.durable else set_place v.durable p x);
   passed = saturating_count v.passed 1;
 }
 

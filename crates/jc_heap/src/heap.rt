@@ -1,5 +1,5 @@
 //! A heap: reading, cells, transactions.
-ghost use Rattle.std.specs.Prelude.{ℕ, take, ◌≡◌, ◌<◌, ◌≤◌, [], ◌∷◌, true, false, length, slice_index, OnOk, ◌+◌, ◌↔◌, IsTrue, None, IfSome};
+ghost use Rattle.std.specs.Prelude.{ℕ, ◌≡◌, ◌<◌, ◌≤◌, [], ◌∷◌, true, false, length, slice_index, OnOk, ◌+◌, ◌↔◌, IsTrue, None, IfSome};
 ghost use Rattle.jc_words.specs.Layout.{text_start};
 ghost use Rattle.jc_commit.specs.Image.{capacity};
 ghost use Rattle.jc_heap.specs.Object.{IsElement};
@@ -11,6 +11,7 @@ ghost use Rattle.jc_heap.specs.declared.place.Place.TheVariants.{Cell};
 ghost use Rattle.jc_heap.specs.Moves.{Write, SetCells, Begin, Commit, Abort, PerformsMoves, PerformsMovesUnless, refusal_of_places, refusal_of_cells};
 ghost use Rattle.jc_heap.specs.Completions.{Completed, after_change, after_step};
 
+use crate::changes::Run;
 use crate::layout::HEADER;
 use crate::lookup::{facts_at, next_behind};
 use crate::object::Facts;
@@ -19,12 +20,9 @@ use crate::refusal::ChangeRefusal;
 use crate::walk::{begins_package, begins_record};
 use jc_commit::Journal;
 use jc_transient::Ref;
-use jc_words::layout::{JOURNAL_CAPACITY, TEXT_LENGTH, TEXT_START, TOP};
+use jc_words::layout::{TEXT_LENGTH, TEXT_START, TOP};
 use jc_words::{StoreDown, WordStore};
 use std::marker::Model;
-
-// How many words one change may have.
-pub(crate) const MOST_CHANGES: usize = JOURNAL_CAPACITY as usize;
 
 /// Objects by reference, with transactions.
 ///
@@ -45,17 +43,6 @@ impl<S: WordStore> Model for Heap<S> {
     ghost view = { λ h. heap_view h.journal h.size };
 
     ghost invariant = { λ h. IsSound h.journal h.size };
-}
-
-// The words of a run from an address on, with their values.
-fn words_of_run(changes: &mut [(u16, u16)], at: u16, values: &[u16])
-    requires room { length values.now ≤ length changes.old }
-    requires fits { at + length values.now ≤ 65536 }
-    ensures { take (length values.now) changes.new ≡ run_words at values.now }
-{
-    for (k, value) in values.iter().enumerate() {
-        changes[k] = (at + k as u16, *value);
-    }
 }
 
 impl<S: WordStore> Heap<S> {
@@ -162,13 +149,8 @@ impl<S: WordStore> Heap<S> {
         ensures { PerformsMovesUnless (refusal_of_cells self.old object i values.now) self.old
             (after_change result self.new) (SetCells object i values.now ∷ []) tt }
     {
-        if values.len() > MOST_CHANGES {
-            return Err(ChangeRefusal::CommitFull);
-        }
-        let mut changes = [(0, 0); MOST_CHANGES];
-        let at = self.run_word(object, i, values);
-        words_of_run(&mut changes, at, values);
-        self.journal.write_all(&changes[..values.len()])?;
+        let run = Run::new(self.run_word(object, i, values), values);
+        self.journal.write_all(&run)?;
         Ok(())
     }
 

@@ -3,6 +3,7 @@
 #![tactic(auto)]
 
 mod adding;
+mod changes;
 mod component;
 mod fresh;
 mod heap;
@@ -21,6 +22,7 @@ pub mod registry_layout;
 mod statics;
 pub mod walk;
 
+pub use changes::PlaceChanges;
 pub use component::Span;
 pub use heap::Heap;
 pub use heap_laws::{

@@ -1,16 +1,17 @@
 //! Words that a change names: cells, the words of static images and of the registry.
-ghost use Rattle.std.specs.Prelude.{◌≡◌, ◌<◌, ◌≤◌, false, [], ◌∷◌, map, length, slice_index, take};
+ghost use Rattle.std.specs.Prelude.{◌≡◌, ◌<◌, ◌≤◌, false, [], ◌∷◌, All, filter, not, map, length, slice_index};
 ghost use Rattle.jc_words.specs.Layout.{registry_length, most_applets};
-ghost use Rattle.jc_heap.specs.Heap.{has_room_for, unlogged_places};
+ghost use Rattle.jc_heap.specs.Heap.{has_room_for, goes_back, unlogged_places};
 ghost use Rattle.jc_heap.specs.Moves.{Write, SetPlaces, WriteNonAtomic, PerformsMoves, PerformsMovesUnless, refusal_of_places, refusal_of_applet, applet_move};
 ghost use Rattle.jc_heap.specs.Completions.{after_change, after_step};
 ghost use Rattle.jc_heap.specs.Places.{HasPlace, MayHold, AreThere, AreApart, place_word, places_of, words_of};
 
-use crate::heap::{Heap, MOST_CHANGES};
+use crate::changes::{PlaceChanges, PlaceWords, word_of};
+use crate::heap::Heap;
 use crate::refusal::ChangeRefusal;
 use crate::registry_layout::{ENTRY_INSTANCE, ENTRY_PACKAGE, entry_start};
 use jc_transient::Ref;
-use jc_words::layout::{APPLETS, REGISTRY};
+use jc_words::layout::{APPLETS, JOURNAL_CAPACITY, REGISTRY};
 use jc_words::{StoreDown, WordStore};
 
 /// A word that a change may name.
@@ -37,18 +38,6 @@ pub struct AppletEntry {
     pub instance: Ref,
 }
 
-// The words of changes, with their new values.
-fn fill_words<S: WordStore>(heap: &Heap<S>, changes: &[(Place, u16)], words: &mut [(u16, u16)])
-    requires up { heap.now.down ≡ false }
-    requires there { AreThere heap.now.now changes.now }
-    requires room { length changes.now ≤ length words.old }
-    ensures { take (length changes.now) words.new ≡ words_of changes.now }
-{
-    for (k, change) in changes.iter().enumerate() {
-        words[k] = (heap.place_word(change.0), change.1);
-    }
-}
-
 impl<S: WordStore> Heap<S> {
     // The word of a place.
     #[inline(always)]
@@ -63,6 +52,16 @@ impl<S: WordStore> Heap<S> {
             Place::Registry(i) => REGISTRY + i,
             Place::AppletCount => APPLETS,
         }
+    }
+
+    // The words of places that are to be set.
+    fn words_of_places<'a, P: PlaceChanges>(&self, changes: &'a P) -> PlaceWords<'a, P>
+        requires up { self.now.down ≡ false }
+        requires there { AreThere self.now.now (P.changes changes.now) }
+        ensures { result ≡ words_of (P.changes changes.now) }
+    {
+        let _ = &self.journal; // so that the proof knows what holds of every heap
+        PlaceWords::new(changes)
     }
 
     /// A word of the registry, 0 to 191.
@@ -97,19 +96,16 @@ impl<S: WordStore> Heap<S> {
     }
 
     /// Writes several places, of which none stands twice, as one change.
-    pub fn set_all(&mut self, changes: &[(Place, u16)]) -> Result<(), ChangeRefusal>
+    pub fn set_all<P: PlaceChanges>(&mut self, changes: &P) -> Result<(), ChangeRefusal>
         requires up { self.old.down ≡ false }
-        requires there { AreThere self.old.now changes.now }
-        requires apart { AreApart (places_of changes.now) }
-        ensures { PerformsMovesUnless (refusal_of_places self.old (places_of changes.now)) self.old
-            (after_change result self.new) (SetPlaces changes.now ∷ []) tt }
+        requires there { AreThere self.old.now (P.changes changes.now) }
+        requires apart { AreApart (places_of (P.changes changes.now)) }
+        ensures { PerformsMovesUnless (refusal_of_places self.old
+            (places_of (P.changes changes.now))) self.old (after_change result self.new)
+            (SetPlaces (P.changes changes.now) ∷ []) tt }
     {
-        if changes.len() > MOST_CHANGES {
-            return Err(ChangeRefusal::CommitFull);
-        }
-        let mut words = [(0, 0); MOST_CHANGES];
-        fill_words(self, changes, &mut words);
-        self.journal.write_all(&words[..changes.len()])?;
+        let words = self.words_of_places(changes);
+        self.journal.write_all(&words)?;
         Ok(())
     }
 
@@ -137,7 +133,7 @@ impl<S: WordStore> Heap<S> {
     }
 
     /// Writes a place for good: no abort takes it back, unless an earlier change of the transaction
-    /// has touched it.
+    /// has touched it, or it was born in the transaction.
     pub fn write_both(&mut self, place: Place, v: u16) -> Result<(), StoreDown>
         requires up { self.old.down ≡ false }
         requires there { HasPlace self.old.now place }
@@ -150,24 +146,44 @@ impl<S: WordStore> Heap<S> {
         Ok(())
     }
 
+    // How many of these places an abort does not take back yet.
+    fn count_unlogged(&self, places: &[Place]) -> usize
+        requires up { self.now.down ≡ false }
+        requires there { All (λ place. HasPlace self.now.now place) places.now }
+        ensures { result ≡ length (filter (λ word. not (goes_back self.now word))
+            (map place_word places.now)) }
+    {
+        let mut count = 0;
+        for place in places {
+            if !self.journal.goes_back(self.place_word(*place)) {
+                count += 1;
+            }
+        }
+        count
+    }
+
     /// How many of these places' old values one change of them has to keep.
     pub fn cost(&self, places: &[Place]) -> usize
+        requires up { self.now.down ≡ false }
+        requires there { All (λ place. HasPlace self.now.now place) places.now }
         ensures { result ≡ length (unlogged_places self.now (map place_word places.now)) }
     {
-        if self.is_open() {
-            return places.len();
+        if !self.is_open() {
+            return 0;
         }
-        0
+        self.count_unlogged(places)
     }
 
     /// Whether there is room for one change of these distinct places, in the open transaction or in
     /// one of its own.
     pub fn fits(&self, places: &[Place]) -> bool
+        requires up { self.now.down ≡ false }
+        requires there { All (λ place. HasPlace self.now.now place) places.now }
         ensures { result ≡ has_room_for self.now (map place_word places.now) }
     {
         if self.is_open() {
-            return places.len() <= self.room() as usize;
+            return self.cost(places) <= self.room() as usize;
         }
-        places.len() <= MOST_CHANGES
+        places.len() <= JOURNAL_CAPACITY as usize
     }
 }

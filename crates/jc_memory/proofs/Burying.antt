@@ -1,10 +1,9 @@
 -- Dead references.
-use Rattle.std.proofs.Common.{◌≡◌, ℕ, zero, ◌<◌, ◌≤◌, Bool, true, false, refl, sym, subst, ◌∙◌, ap, inl, inr, if◌then◌else◌}
+use Rattle.std.proofs.Common.{◌≡◌, ℕ, zero, ◌≤◌, Bool, true, false, refl, sym, subst, ◌∙◌, ap, inl, inr, if◌then◌else◌}
 use Rattle.std.proofs.lemmas.Bool.{ltb-true, ltb-false, cases_Bool, true≢false}
 use Rattle.std.specs.Prelude.{nat_lt}
 use Rattle.jc_transient.specs.declared.cell.CellValue.TheVariants.{Reference}
-use Rattle.jc_transient.specs.Cells.{without_dead}
-use Rattle.jc_heap.specs.Heap.{HeapState, HeapView, IsObject, is_allocated, heap_after_abort, SameShape, KeepsBelowTop}
+use Rattle.jc_heap.specs.Heap.{HeapState, IsObject, is_allocated, SameShape, KeepsBelowTop}
 use Rattle.jc_heap.specs.Whole.{IsReference}
 use Rattle.jc_heap.specs.Object.{is_object}
 use Rattle.jc_heap.proofs.Laws.{heap_item_at-absent}

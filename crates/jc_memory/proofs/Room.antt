@@ -1,7 +1,8 @@
 -- Where there is room, the store alone refuses.
-use Rattle.std.proofs.Common.{◌≡◌, ℕ, suc, ◌+◌, ◌-◌, ◌<◌, ◌≤◌, Bool, true, false, List, [], ◌∷◌, ◌++◌, length, map, refl, sym, ◌∙◌, ap, subst, arith}
-use Rattle.std.specs.Prelude.{◌&&◌, nat_lt, nat_le, if◌then◌else◌, Option, Some, None, Err}
-use Rattle.std.proofs.lemmas.Bool.{true≢false, ltb-false, le-ltb, le-leb}
+use Rattle.std.proofs.Common.{◌≡◌, ℕ, suc, ◌+◌, ◌-◌, ◌<◌, ◌≤◌, Bool, true, false, List, [], ◌∷◌, ◌++◌, length, map, refl, sym, ◌∙◌, ap, subst, arith, inl, inr}
+use Rattle.std.proofs.Common.{leb-true}
+use Rattle.std.specs.Prelude.{◌&&◌, nat_lt, Option, Some, None, Err}
+use Rattle.std.proofs.lemmas.Bool.{true≢false, cases_Bool, ltb-false, le-ltb}
 use Rattle.std.proofs.lemmas.List.{length-map, length-append}
 use Rattle.std.proofs.lemmas.Option.{none-some}
 use Rattle.jc_transient.specs.declared.cell.ClearEvent.{ClearEvent}
@@ -13,25 +14,31 @@ use Rattle.jc_heap.specs.declared.refusal.HeapRefusal.{HeapRefusal}
 use Rattle.jc_heap.specs.declared.refusal.HeapRefusal.TheVariants as making
 use Rattle.jc_heap.specs.Object.{AnObject, Object, new_object, object_size}
 use Rattle.jc_heap.specs.Heap.{HeapState, HeapView, heap_item_at, is_allocated, add_object, heap_after_change, set_cell, set_cells, run_words, cell_address}
-use Rattle.jc_heap.specs.Moves.{SetPlaces, SetCells, refusal_of_places, refusal_of_cells}
-use Rattle.jc_heap.specs.Completions.{Attempt, Done, Refused, after_change}
+use Rattle.jc_heap.specs.Heap.{end_address, keeping, room_left, has_room_for, unlogged_places}
+use Rattle.jc_heap.specs.Moves.{Move, SetPlaces, SetCells, refusal_of_places, refusal_of_cells}
+use Rattle.jc_heap.specs.Completions.{Attempt, Done, Refused, after_change, after_making}
 use Rattle.jc_heap.specs.Places.{places_of, place_word}
+use Rattle.jc_commit.proofs.WhatIsKept.{keeps_old_values}
+use Rattle.jc_heap.proofs.Calls.{not_full, object_fits}
 use Rattle.jc_heap.proofs.Runs.{length-addresses}
 use Rattle.jc_heap.proofs.Laws.{heap_item_at-add_object, heap_item_at-add_other, object_named}
 use Rattle.jc_memory.specs.declared.making.NewObject.{NewObject}
 use Rattle.jc_memory.specs.Owners.{owner_number}
 use Rattle.jc_memory.specs.State.{MemoryState, HeapMove, SetFlag, IsNew, apply_effect}
-use Rattle.jc_memory.specs.Programs.{Finish, Perform, Choose, Completes, IsTornIn, Executes, unless_refused}
+use Rattle.jc_memory.specs.Programs.{Program, Finish, Perform, Choose, Completes, IsTornIn, Executes, unless_refused}
 use Rattle.jc_memory.specs.Cells.{cell_refusal_in, cells_effect_in}
-use Rattle.jc_memory.specs.Making.{creation_move, zero_cells_in}
-use Rattle.jc_memory.specs.Room.{lacks_capacity, cells_update, places_update, KeepsObjects, KeepsRest}
+use Rattle.jc_memory.specs.Making.{creation_move, creation_refusal, creation_refusal_in, zero_cells_in}
+use Rattle.jc_memory.specs.Room.{has_space, lacks_capacity, cells_update, places_update, KeepsObjects, KeepsRest}
 
 -- places within the room of a heap
-fits : (begun : Bool) (touched n : ℕ) (places : List ℕ) → (begun && nat_lt (256 - touched) n) ≡ false → length places ≤ n → 0 < n → n ≤ 256 →
-    (if begun then nat_le (touched + length (if begun then places else [])) 256 else nat_le (length places) 256) ≡ true
-fits true touched n places room few some most = le-leb (touched + length places) 256
-    (let left = ltb-false (256 - touched) n room in omega (arith, left, few, some))
-fits false touched n places room few some most = le-leb (length places) 256 (omega (arith, few, most))
+fits : (v : HeapView) (n : ℕ) (places : List ℕ) → (v.begun && nat_lt (room_left v) n) ≡ false → length places ≤ n → 0 < n → n ≤ 256 → has_room_for v places
+    ≡ true
+fits v n places room short some most = elim (cases_Bool v.begun) [
+  | inl begun ↦
+      let left = ltb-false (room_left v) n (sym (ap (λ (b : Bool). b && nat_lt (room_left v) n) begun) ∙ room) in
+      keeps_old_values.enough (keeping v) places (omega (arith, left, short, some))
+  | inr shut ↦ keeps_old_values.alone (keeping v) places shut (omega (arith, short, most))
+]
 
 abbrev is_done : {A : Type 0} → Attempt A → Bool
 is_done (Done a) = true
@@ -44,8 +51,7 @@ done_is_no_refusal done a why is e = true≢false (sym (ap is_done is) ∙ sym (
 pub has_room : (s : MemoryState) (changes : List (Place × ℕ)) → lacks_capacity s (length changes) ≡ false → 0 < length changes → length changes ≤ 256
     → refusal_of_places s.heap (places_of changes) ≡ None
 has_room s changes room some most =
-    ap (λ b. if b then None else Some making.CommitFull) (fits s.heap.begun (length s.heap.touched) (length changes)
-    (map place_word (places_of changes)) room few some most)
+    not_full s.heap (map place_word (places_of changes)) (fits s.heap (length changes) (map place_word (places_of changes)) room few some most)
   where
     few : length (map place_word (places_of changes)) ≤ length changes
     few = let words = length-map (places_of changes) place_word in let places = length-map changes (λ c. c.0) in omega (arith, words, places)
@@ -120,17 +126,16 @@ did_run None (Some why) s new r i words kept did = absurd (done_is_no_refusal (D
 did_run (Some event) reason s new r i words kept did = absurd (none-some event (sym kept))
 
 -- the room that a change leaves
-lacks_less : (t k n : ℕ) → nat_lt (256 - t) (n + k) ≡ false → nat_lt (256 - (t + k)) n ≡ false
-lacks_less t k n room = let left = ltb-false (256 - t) (n + k) room in le-ltb (256 - (t + k)) n (omega (arith, left))
-
-view_left : (v : HeapView) (places : List ℕ) (n k : ℕ) → length places ≡ k → (v.begun && nat_lt (256 - length v.touched) (n + k)) ≡ false →
-    (v.begun && nat_lt (256 - length (v.touched ++ (if v.begun then places else []))) n) ≡ false
-view_left v places n k long = elim v.begun as (λ b. (b && nat_lt (256 - length v.touched) (n + k)) ≡ false
-    → (b && nat_lt (256 - length (v.touched ++ (if b then places else []))) n) ≡ false) [
-      | true ↦ λ room. ap (λ t. nat_lt (256 - t) n) (length-append v.touched places ∙ ap (λ m. length v.touched + m) long)
-          ∙ lacks_less (length v.touched) k n room
-      | false ↦ λ room. refl
-    ]
+view_left : (v : HeapView) (places : List ℕ) (n k : ℕ) → length places ≡ k → (v.begun && nat_lt (room_left v) (n + k)) ≡ false →
+    (v.begun && nat_lt (256 - length (v.touched ++ unlogged_places v places)) n) ≡ false
+view_left v places n k long room = elim (cases_Bool v.begun) [
+  | inl begun ↦
+      let left = ltb-false (room_left v) (n + k) (sym (ap (λ (b : Bool). b && nat_lt (room_left v) (n + k)) begun) ∙ room) in
+      let grown = length-append v.touched (unlogged_places v places) in
+      ap (λ (b : Bool). b && nat_lt (256 - length (v.touched ++ unlogged_places v places)) n) begun
+      ∙ le-ltb (256 - length (v.touched ++ unlogged_places v places)) n (omega (arith, left, grown, long, keeps_old_values.few (keeping v) places))
+  | inr shut ↦ ap (λ (b : Bool). b && nat_lt (256 - length (v.touched ++ unlogged_places v places)) n) shut
+]
 
 pub run_left : (event : Option ClearEvent) (reason : Option HeapRefusal) (s new : MemoryState) (r i : ℕ) (words : List ℕ) (n : ℕ) → event ≡ None →
     Completes (unless_refused (cell_refusal_in event reason) (Perform (cells_effect_in event r i words) (Finish (Done (tt {0}))))) s (Done (tt {0})) new →
@@ -143,8 +148,8 @@ run_left event reason s new r i words n kept did room =
 pub has_run_room : (s : MemoryState) (r i : ℕ) (words : List ℕ) → lacks_capacity s (length words) ≡ false → 0 < length words → length words ≤ 256
     → refusal_of_cells s.heap r i words ≡ None
 has_run_room s r i words room some most =
-    ap (λ b. if b then None else Some making.CommitFull) (fits s.heap.begun (length s.heap.touched) (length words)
-    (addresses_of (run_words (cell_address r i) words)) room few some most)
+    let places : List ℕ = addresses_of (run_words (cell_address r i) words) in
+    not_full s.heap places (fits s.heap (length words) places room few some most)
   where
     few : length (addresses_of (run_words (cell_address r i) words)) ≤ length words
     few = let long = length-addresses (cell_address r i) words in omega (arith, long)
@@ -155,3 +160,46 @@ pub run_rest : (event : Option ClearEvent) (reason : Option HeapRefusal) (s new 
 run_rest event reason s new r i words kept did =
     let is = did_run event reason s new r i words kept did in
     record { begun = ap (λ v. v.heap.begun) is; counts = ap (λ v. v.heap.now.counts) is ∙ counts-run s.heap.now r i words }
+
+-- an applet's registration that has room and is not made is cut
+pub cut_applet : (reason : Option HeapRefusal) (s new : MemoryState) (m : Move) (n : ℕ) (e : ChangeRefusal) → reason ≡ None →
+    Executes (unless_refused reason (Perform (HeapMove m) (Finish (Done n)))) s (after_change {A = ℕ} (Err e) new)
+    → IsTornIn (Perform (HeapMove m) (Finish (tt {0}))) s new
+cut_applet None s new m n change.StoreDown none cut = cut
+cut_applet None s new m n change.CommitFull none did = absurd (done_is_no_refusal (Done n) n making.CommitFull refl did.0)
+cut_applet (Some why) s new m n e none cut = absurd (none-some why (sym none))
+
+-- a persistent object for which there is space and room is not refused
+pub object_allowed : (s : MemoryState) (o : NewObject) → o.event ≡ None → has_space s o.length ≡ true → lacks_capacity s 1 ≡ false → creation_refusal s o ≡ None
+object_allowed s o persistent space room =
+    let enough : s.heap.now.top + object_size o.length ≤ s.heap.size = leb-true (s.heap.now.top + object_size o.length) s.heap.size space in
+    ap (λ (event : Option ClearEvent). creation_refusal_in event s o) persistent
+    ∙ object_fits s.heap (object_size o.length) (end_address ∷ []) (λ lacks. omega (arith, lacks, enough))
+    (fits s.heap 1 (end_address ∷ []) room (omega arith) (omega arith) (omega arith))
+
+abbrev made_so : {A : Type 0} → Option ClearEvent → NewObject → (ℕ → A) → Program A
+made_so event o answer =
+    Choose (λ r. Perform (HeapMove (creation_move event o)) (zero_cells_in event o r (Perform (SetFlag r false) (Finish (answer r)))))
+
+pub cut_object : (event : Option ClearEvent) (reason : Option HeapRefusal) (s new : MemoryState) (o : NewObject) (e : HeapRefusal) → event ≡ None
+    → reason ≡ None → Executes (unless_refused reason (made_so event o (λ r. Done r))) s (after_making {A = ℕ} (Err e) new)
+    → IsTornIn (made_so event o (λ r. r)) s new
+cut_object None None s new o making.StoreDown kept none cut = cut
+cut_object None None s new o making.CommitFull kept none did = absurd (done_is_no_refusal (Done did.0) did.0 making.CommitFull refl did.2.0)
+cut_object None None s new o making.HeapFull kept none did = absurd (done_is_no_refusal (Done did.0) did.0 making.HeapFull refl did.2.0)
+cut_object None None s new o making.NoTransientSpace kept none did = absurd (done_is_no_refusal (Done did.0) did.0 making.NoTransientSpace refl did.2.0)
+cut_object None (Some why) s new o e kept none cut = absurd (none-some why (sym none))
+cut_object (Some event) reason s new o e kept none cut = absurd (none-some event (sym kept))
+
+-- the room that it leaves
+left_one : (event : Option ClearEvent) (s new : MemoryState) (o : NewObject) (x n : ℕ) → event ≡ None → Completes (made_so event o (λ r. Done r)) s (Done x) new
+    → lacks_capacity s (n + 1) ≡ false → lacks_capacity new n ≡ false
+left_one None s new o x n none did room =
+    subst (λ (v : HeapView). (v.begun && nat_lt (room_left v) n) ≡ false) (sym (ap (λ (m : MemoryState). m.heap) did.2.1))
+    (view_left s.heap (end_address ∷ []) n 1 refl room)
+left_one (Some event) s new o x n none did room = absurd (none-some event (sym none))
+
+pub object_left : (reason : Option HeapRefusal) (s new : MemoryState) (o : NewObject) (x n : ℕ) → o.event ≡ None →
+    Completes (unless_refused reason (made_so o.event o (λ r. Done r))) s (Done x) new → lacks_capacity s (n + 1) ≡ false → lacks_capacity new n ≡ false
+object_left None s new o x n none did room = left_one o.event s new o x n none did room
+object_left (Some why) s new o x n none did room = absurd (done_is_no_refusal (Done x) x why refl (sym did.0))

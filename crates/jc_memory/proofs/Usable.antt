@@ -1,5 +1,5 @@
 -- What calls of the heap keep, and what they need for it.
-use Rattle.std.proofs.Common.{◌≡◌, ℕ, ◌+◌, ◌<◌, ◌≤◌, Bool, true, false, List, [], ◌∷◌, refl, sym, ◌∙◌, ap, subst, arith, Option, Some, None, Result, Ok, Err}
+use Rattle.std.proofs.Common.{◌≡◌, ℕ, ◌+◌, ◌<◌, ◌≤◌, Bool, true, false, [], ◌∷◌, refl, sym, ◌∙◌, ap, subst, arith, Option, Some, None, Result, Ok, Err}
 use Rattle.std.proofs.Common.{if◌then◌else◌, length, slice_index, inl, inr}
 use Rattle.std.proofs.lemmas.Bool.{true≢false, ltb-false, cases_lt}
 use Rattle.std.proofs.lemmas.Option.{none-some}
@@ -19,7 +19,7 @@ use Rattle.jc_heap.specs.declared.refusal.HeapRefusal.{HeapRefusal}
 use Rattle.jc_heap.specs.declared.refusal.HeapRefusal.TheVariants as making
 use Rattle.jc_heap.specs.Object.{facts_of}
 use Rattle.jc_heap.specs.Heap.{HeapState, HeapView, SameShape, HasEnd, heap_item_at, cells, facts, area_end}
-use Rattle.jc_heap.specs.Whole.{IsReference, IsConsistent}
+use Rattle.jc_heap.specs.Whole.{IsConsistent}
 use Rattle.jc_heap.specs.Moves.{Move, WriteNonAtomic, AddTransient, PerformsMoves, PerformsMovesUnless, apply_move, new_move, refusal_of_transient, applet_move}
 use Rattle.jc_heap.specs.Completions.{Completion, Completed, Torn, Attempt, Done, Refused, after_making, after_change, after_step}
 use Rattle.jc_heap.specs.Keeping.{MoveIsLegal, IsConsistentHeap, AreConsistent}

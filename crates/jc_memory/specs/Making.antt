@@ -10,7 +10,7 @@ use Rattle.jc_heap.specs.Moves.{Move, AddTransient, new_move, refusal_of_transie
 use Rattle.jc_heap.specs.Completions.{Attempt, Done}
 use Rattle.jc_memory.specs.declared.making.NewObject.{NewObject}
 use Rattle.jc_memory.specs.Owners.{owner_number}
-use Rattle.jc_memory.specs.State.{MemoryState, Effect, HeapMove, SetTransient, SetFlag}
+use Rattle.jc_memory.specs.State.{MemoryState, HeapMove, SetTransient, SetFlag}
 use Rattle.jc_memory.specs.Programs.{Program, Finish, Perform, Choose, unless_refused}
 
 -- zero, or null

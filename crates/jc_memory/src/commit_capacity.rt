@@ -15,7 +15,7 @@ ghost use Rattle.jc_memory.specs.Making.{object_creation};
 ghost use Rattle.jc_memory.specs.Room.{has_space, lacks_capacity, applet_registration, cells_update, places_update, KeepsObjects, KeepsRest};
 
 use crate::{Memory, NewObject};
-use jc_heap::{AppletEntry, Place};
+use jc_heap::{AppletEntry, PlaceChanges};
 use jc_transient::Ref;
 use jc_words::{StoreDown, WordStore};
 
@@ -61,18 +61,19 @@ pub fn make_within_capacity<S: WordStore>(
 }
 
 /// Sets places as one change, for which there is room.
-pub fn write_within_capacity<S: WordStore>(
+pub fn write_within_capacity<S: WordStore, P: PlaceChanges>(
     memory: &mut Memory<S>,
-    changes: &[(Place, u16)],
+    changes: &P,
 ) -> Result<(), StoreDown>
     requires up { memory.old.heap.down ≡ false }
-    requires there { AreThere memory.old.heap.now changes.now }
-    requires apart { AreApart (places_of changes.now) }
-    requires references { AreLegalValues memory.old.heap.now changes.now }
-    requires some { 0 < length changes.now }
-    requires few { length changes.now ≤ capacity }
-    requires room { lacks_capacity memory.old (length changes.now) ≡ false }
-    ensures { Executes (places_update changes.now) memory.old (after_step result memory.new) }
+    requires there { AreThere memory.old.heap.now (P.changes changes.now) }
+    requires apart { AreApart (places_of (P.changes changes.now)) }
+    requires references { AreLegalValues memory.old.heap.now (P.changes changes.now) }
+    requires some { 0 < length (P.changes changes.now) }
+    requires few { length (P.changes changes.now) ≤ capacity }
+    requires room { lacks_capacity memory.old (length (P.changes changes.now)) ≡ false }
+    ensures { Executes (places_update (P.changes changes.now)) memory.old
+        (after_step result memory.new) }
 {
     match memory.write_all(changes) {
         Ok(()) => Ok(()),

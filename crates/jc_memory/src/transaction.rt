@@ -11,7 +11,7 @@ ghost use Rattle.jc_heap.specs.Completions.{after_change, after_step};
 ghost use Rattle.jc_memory.specs.Changing.{place_write, places_write, nonatomic_write, commit, abort};
 
 use crate::memory::Memory;
-use jc_heap::{ChangeRefusal, Place};
+use jc_heap::{ChangeRefusal, Place, PlaceChanges};
 use jc_transient::Ref;
 use jc_words::{StoreDown, WordStore};
 
@@ -61,12 +61,12 @@ impl<S: WordStore> Memory<S> {
     }
 
     /// Writes several places as one change: none, where the transaction has no room for all of them.
-    pub fn write_all(&mut self, changes: &[(Place, u16)]) -> Result<(), ChangeRefusal>
+    pub fn write_all<P: PlaceChanges>(&mut self, changes: &P) -> Result<(), ChangeRefusal>
         requires up { self.old.heap.down ≡ false }
-        requires there { AreThere self.old.heap.now changes.now }
-        requires apart { AreApart (places_of changes.now) }
-        requires references { AreLegalValues self.old.heap.now changes.now }
-        ensures { Executes (places_write self.old changes.now) self.old
+        requires there { AreThere self.old.heap.now (P.changes changes.now) }
+        requires apart { AreApart (places_of (P.changes changes.now)) }
+        requires references { AreLegalValues self.old.heap.now (P.changes changes.now) }
+        ensures { Executes (places_write self.old (P.changes changes.now)) self.old
             (after_change result self.new) }
     {
         self.heap.set_all(changes)

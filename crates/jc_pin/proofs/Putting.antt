@@ -1,6 +1,5 @@
 -- Bytes that are put into an array as one change.
-use Rattle.std.proofs.Common.{◌≡◌, ℕ, suc, ◌+◌, ◌<◌, ◌≤◌, List, [], ◌∷◌, ◌++◌, set, take, length, get_or, sym, ◌∙◌, ap, arith, append_assoc, add-zero}
-use Rattle.std.proofs.lemmas.List.{take_more, take_more_set, length-take-le, length-set}
+use Rattle.std.proofs.Common.{◌≡◌, ℕ, zero, suc, ◌+◌, ◌<◌, ◌≤◌, List, [], ◌∷◌, ◌++◌, length, get_or, sym, ◌∙◌, ap, arith, add-zero}
 use Rattle.jc_heap.specs.declared.place.Place.{Place}
 use Rattle.jc_heap.specs.declared.place.Place.TheVariants.{Cell}
 use Rattle.jc_heap.specs.declared.object.Kind.{Kind}
@@ -10,33 +9,25 @@ use Rattle.jc_heap.specs.Places.{AreThere, AreApart, IsBeside, places_of}
 use Rattle.jc_heap.specs.Keeping.{AreLegalValues}
 use Rattle.jc_pin.specs.Updating.{byte_changes}
 
-puts-behind : (array i : ℕ) (bs : List ℕ) (b : ℕ) → byte_changes array i (bs ++ b ∷ []) ≡ byte_changes array i bs ++ (Cell array (i + length bs), b) ∷ []
-puts-behind array i [] b = ap (λ j. (Cell array j, b) ∷ []) (sym (add-zero i))
-puts-behind array i (x ∷ bs) b = ap (λ l. (Cell array i, x) ∷ l) (puts-behind array (suc i) bs b
-    ∙ ap (λ j. byte_changes array (suc i) bs ++ (Cell array j, b) ∷ []) (omega arith))
+-- the change at an index
+pub length-puts : (array i : ℕ) (bytes : List ℕ) (more : List (Place × ℕ)) → length (byte_changes array i bytes ++ more) ≡ length bytes + length more
+length-puts array i [] more = omega arith
+length-puts array i (b ∷ bs) more = let rest = length-puts array (suc i) bs more in omega (arith, rest)
 
--- one byte more is put
-pub puts_more : (changes : List (Place × ℕ)) (array : ℕ) (bytes : List ℕ) (k : ℕ) (change : Place × ℕ) → k < length changes → k < length bytes →
-    change ≡ (Cell array k, get_or bytes k 0) → take k changes ≡ byte_changes array 0 (take k bytes)
-    → take (k + 1) (set changes k change) ≡ byte_changes array 0 (take (k + 1) bytes)
-puts_more changes array bytes k change here there is before =
-    take_more_set changes k change here ∙ ap (λ l. l ++ change ∷ []) before ∙ ap (λ c. byte_changes array 0 (take k bytes) ++ c ∷ []) is
-    ∙ ap (λ j. byte_changes array 0 (take k bytes) ++ (Cell array j, get_or bytes k 0) ∷ []) at_end
-    ∙ sym (puts-behind array 0 (take k bytes) (get_or bytes k 0)) ∙ ap (byte_changes array 0) (sym (take_more bytes k 0 there))
-  where
-    at_end : k ≡ 0 + length (take k bytes)
-    at_end = let long = length-take-le k bytes (omega (arith, there)) in omega (arith, long)
+pub puts-at : (array i : ℕ) (bytes : List ℕ) (more : List (Place × ℕ)) (k : ℕ) (d : Place × ℕ) → k < length bytes
+    → get_or (byte_changes array i bytes ++ more) k d ≡ (Cell array (i + k), get_or bytes k 0)
+puts-at array i [] more k d within = absurd (omega arith)
+puts-at array i (b ∷ bs) more zero d within = ap (λ (j : ℕ). (Cell array j, b)) (sym (add-zero i))
+puts-at array i (b ∷ bs) more (suc k) d within =
+    let next : suc i + k ≡ i + suc k = omega arith in
+    puts-at array (suc i) bs more k d (omega arith) ∙ ap (λ (j : ℕ). (Cell array j, get_or bs k 0)) next
 
--- two changes behind others
-pub two_more : (changes others : List (Place × ℕ)) (n : ℕ) (x y : Place × ℕ) → n + 2 ≤ length changes → take n changes ≡ others →
-    take (n + 2) (set (set changes n x) (n + 1) y) ≡ others ++ x ∷ y ∷ []
-two_more changes others n x y room before =
-    let long : length (set changes n x) ≡ length changes = length-set changes n x in
-    let last : take (n + 1 + 1) (set (set changes n x) (n + 1) y) ≡ take (n + 1) (set changes n x) ++ y ∷ [] =
-    take_more_set (set changes n x) (n + 1) y (omega (arith, long, room)) in
-    let first : take (n + 1) (set changes n x) ≡ take n changes ++ x ∷ [] = take_more_set changes n x (omega (arith, room)) in
-    ap (λ m. take m (set (set changes n x) (n + 1) y)) (omega arith) ∙ last ∙ ap (λ l. l ++ y ∷ []) (first ∙ ap (λ l. l ++ x ∷ []) before)
-    ∙ append_assoc others (x ∷ []) (y ∷ [])
+pub puts-behind : (array i : ℕ) (bytes : List ℕ) (more : List (Place × ℕ)) (k : ℕ) (d : Place × ℕ)
+    → get_or (byte_changes array i bytes ++ more) (length bytes + k) d ≡ get_or more k d
+puts-behind array i [] more k d = ap (λ (j : ℕ). get_or more j d) (omega arith)
+puts-behind array i (b ∷ bs) more k d =
+    let next : length (b ∷ bs) + k ≡ suc (length bs + k) = omega arith in
+    ap (λ (j : ℕ). get_or (byte_changes array i (b ∷ bs) ++ more) j d) next ∙ puts-behind array (suc i) bs more k d
 
 -- in whatever stands behind them
 module _ (h : HeapState) (array : ℕ) (is : (facts h array).kind ≡ ByteArray) (more : List (Place × ℕ)) where

@@ -1,26 +1,18 @@
 -- An update is a change that the heap can make.
-use Rattle.std.proofs.Common.{◌≡◌, ℕ, suc, ◌<◌, ◌≤◌, true, false, List, [], ◌∷◌, length, map, get_or, refl, sym, ◌∙◌, ap, arith}
-use Rattle.std.specs.Prelude.{if◌then◌else◌, Some, None, Result, Ok, Err}
-use Rattle.std.proofs.lemmas.Bool.{true≢false, le-ltb}
-use Rattle.std.proofs.lemmas.List.{length-map, length-append}
+use Rattle.std.proofs.Common.{◌≡◌, ℕ, ◌<◌, ◌≤◌, true, List, [], ◌∷◌, length, get_or, sym, ◌∙◌, ap, arith}
+use Rattle.std.proofs.lemmas.Bool.{true≢false}
 use Rattle.jc_heap.specs.declared.object.Kind.{Kind}
 use Rattle.jc_heap.specs.declared.object.Kind.TheVariants.{Instance, ByteArray, ReferenceArray}
 use Rattle.jc_heap.specs.declared.place.Place.{Place}
 use Rattle.jc_heap.specs.declared.place.Place.TheVariants.{Cell}
 use Rattle.jc_heap.specs.Object.{has_bytes}
 use Rattle.jc_heap.specs.Heap.{facts}
-use Rattle.jc_heap.specs.declared.refusal.HeapRefusal.TheVariants as making
-use Rattle.jc_heap.specs.Moves.{SetPlaces, refusal_of_places}
-use Rattle.jc_heap.specs.Places.{AreThere, AreApart, IsBeside, places_of, place_word}
+use Rattle.jc_heap.specs.Places.{AreThere, AreApart, IsBeside, places_of}
 use Rattle.jc_heap.specs.Keeping.{AreLegalValues}
-use Rattle.jc_heap.proofs.Runs.{too_many}
-use Rattle.jc_memory.specs.State.{MemoryState, HeapMove, SetFlag}
+use Rattle.jc_memory.specs.State.{MemoryState}
 use Rattle.jc_memory.specs.Cells.{word_at}
-use Rattle.jc_memory.specs.Programs.{Program, Finish, Perform}
-use Rattle.jc_pin.specs.declared.updating.PinRefusal.{PinRefusal}
-use Rattle.jc_pin.specs.declared.updating.PinRefusal.TheVariants.{CommitFull, IllegalValue}
 use Rattle.jc_pin.specs.Pins.{IsPersistentWith, IsPin, record_of}
-use Rattle.jc_pin.specs.Updating.{byte_changes, changes_of_update, pin_update, unless_no_room}
+use Rattle.jc_pin.specs.Updating.{changes_of_update}
 use Rattle.jc_pin.proofs.Putting.{puts_there, puts_stand, puts_apart}
 
 no_bytes : (k : Kind) → k ≡ Instance → has_bytes k ≡ true → ⊥
@@ -82,29 +74,3 @@ module _ (s : MemoryState) (r : ℕ) (pin : IsPin s r) where
       let is = (room b bs within).kind in
       puts_apart s.heap.now (word_at s r 4) is (ends (length (b ∷ bs))) 0 (b ∷ bs) (λ k. beside_ends (word_at s r 4) (length (b ∷ bs)) k is)
       (ends_apart (length (b ∷ bs)))
-
-length-puts : (array i : ℕ) (bytes : List ℕ) → length (byte_changes array i bytes) ≡ length bytes
-length-puts array i [] = refl
-length-puts array i (b ∷ bs) = ap suc (length-puts array (suc i) bs)
-
--- an update of more places than a change can have is refused
-pub too_long : (s : MemoryState) (r : ℕ) (bytes : List ℕ) → length bytes ≤ word_at s r 1 → 254 < length bytes → pin_update s r bytes ≡ Finish (Err CommitFull)
-unfolding pin_update
-too_long s r bytes within long =
-    ap (λ b. if b then Finish (Err IllegalValue) else unless_no_room (refusal_of_places s.heap (places_of change)) rest)
-    (le-ltb (word_at s r 1) (length bytes) within)
-    ∙ ap (λ b. unless_no_room (if b then None else Some making.CommitFull) rest) (too_many s.heap (map place_word (places_of change)) many)
-  where
-    change : List (Place × ℕ)
-    change = changes_of_update (record_of s r) r bytes
-
-    rest : Program (Result (Unit {0}) PinRefusal)
-    rest = Perform (HeapMove (SetPlaces change)) (Perform (SetFlag r false) (Finish (Ok tt)))
-
-    many : 256 < length (map place_word (places_of change))
-    many =
-        let words = length-map (places_of change) place_word in
-        let places = length-map change (λ c. c.0) in
-        let parts = length-append (byte_changes (word_at s r 4) 0 bytes) ((Cell r 3, length bytes) ∷ (Cell r 2, word_at s r 0) ∷ []) in
-        let puts = length-puts (word_at s r 4) 0 bytes in
-        omega (arith, words, places, parts, puts, long)

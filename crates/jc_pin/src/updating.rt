@@ -1,20 +1,17 @@
 //! A PIN gets another value.
-ghost use Rattle.std.specs.Prelude.{◌≡◌, ◌+◌, ◌<◌, ◌≤◌, false, length, take, Some};
+ghost use Rattle.std.specs.Prelude.{◌≡◌, ◌<◌, ◌≤◌, false, length};
 ghost use Rattle.jc_memory.specs.Programs.{Executes};
 ghost use Rattle.jc_heap.specs.Completions.{after_change};
 ghost use Rattle.jc_memory.specs.Changing.{places_write};
 ghost use Rattle.jc_pin.specs.Pins.{IsPin, record_of};
-ghost use Rattle.jc_pin.specs.Updating.{after_pin, byte_changes, changes_of_update, pin_update};
+ghost use Rattle.jc_pin.specs.Updating.{after_pin, changes_of_update, pin_update};
 
 use crate::pin::{COUNTER, LENGTH, PinRecord, record};
-use jc_heap::{ChangeRefusal, Place};
+use jc_heap::{ChangeRefusal, Place, PlaceChanges};
 use jc_memory::Memory;
 use jc_transient::Ref;
-use jc_words::layout::JOURNAL_CAPACITY;
 use jc_words::{StoreDown, WordStore};
-
-// How many places one change may have at most: the journal has an entry for each.
-const MOST_CHANGES: usize = JOURNAL_CAPACITY as usize;
+use std::marker::Model;
 
 /// Why a PIN is not changed.
 #[derive(Clone, Copy, Debug, PartialEq, Eq)]
@@ -54,27 +51,55 @@ impl From<StoreDown> for PinRefusal {
     }
 }
 
-// The changes that put bytes into an array.
-fn put_bytes(changes: &mut [(Place, u16)], array: Ref, bytes: &[u8])
-    requires room { length bytes.now ≤ length changes.old }
-    requires few { length bytes.now < 65536 }
-    ensures { take (length bytes.now) changes.new ≡ byte_changes array 0 bytes.now }
-{
-    for (k, byte) in bytes.iter().enumerate() {
-        changes[k] = (Place::Cell(array, k as u16), u16::from(*byte));
+// What an update changes: the bytes of the value, its length and the tries.
+#[derive(Drop)]
+struct NewValue<'a> {
+    pin: Ref,
+    kept: PinRecord,
+    bytes: &'a [u8],
+}
+
+impl<'a> Model for NewValue<'a> {
+    ghost use Rattle.std.specs.Prelude.{List, ℕ, length, ◌<◌};
+    ghost use Rattle.jc_heap.specs.declared.place.Place.{Place};
+    ghost use Rattle.jc_pin.specs.Updating.{changes_of_update};
+
+    ghost Value = { List (Place × ℕ) };
+
+    ghost view = { λ u. changes_of_update u.kept u.pin u.bytes.now };
+
+    ghost invariant = { λ u. length u.bytes.now < 65536 };
+}
+
+impl<'a> NewValue<'a> {
+    fn new(pin: Ref, kept: PinRecord, bytes: &'a [u8]) -> Self
+        requires { length bytes.now < 65536 }
+        ensures { result ≡ changes_of_update kept pin bytes.now }
+    {
+        NewValue { pin, kept, bytes }
     }
 }
 
-// The changes of an update: the bytes of the value, its length and the tries.
-fn fill_changes(changes: &mut [(Place, u16)], pin: Ref, kept: PinRecord, bytes: &[u8])
-    requires room { length bytes.now + 2 ≤ length changes.old }
-    requires few { length bytes.now < 65536 }
-    ensures { take (length bytes.now + 2) changes.new ≡ changes_of_update kept pin bytes.now }
-{
-    let count = bytes.len();
-    put_bytes(changes, kept.value, bytes);
-    changes[count] = (Place::Cell(pin, LENGTH), count as u16);
-    changes[count + 1] = (Place::Cell(pin, COUNTER), kept.limit);
+impl<'a> PlaceChanges for NewValue<'a> {
+    ghost changes = { λ places. places };
+
+    fn count(&self) -> usize {
+        self.bytes.len() + 2
+    }
+
+    fn change(&self, k: usize) -> (Place, u16) {
+        let count = self.bytes.len();
+        if k < count {
+            return (
+                Place::Cell(self.kept.value, k as u16),
+                u16::from(self.bytes[k]),
+            );
+        }
+        if k == count {
+            return (Place::Cell(self.pin, LENGTH), count as u16);
+        }
+        (Place::Cell(self.pin, COUNTER), self.kept.limit)
+    }
 }
 
 // Sets the value, its length and all tries as one change.
@@ -86,13 +111,12 @@ fn set_value<S: WordStore>(
     requires up { memory.old.heap.down ≡ false }
     requires pin { IsPin memory.old pin }
     requires within { length bytes.now ≤ (record_of memory.old pin).maximum }
-    requires few { length bytes.now + 2 ≤ MOST_CHANGES }
+    requires few { length bytes.now < 65536 }
     ensures { Executes (places_write memory.old (changes_of_update
         (record_of memory.old pin) pin bytes.now)) memory.old (after_change result memory.new) }
 {
-    let mut changes = [(Place::AppletCount, 0); MOST_CHANGES];
-    fill_changes(&mut changes, pin, record(memory, pin), bytes);
-    memory.write_all(&changes[..bytes.len() + 2])
+    let change = NewValue::new(pin, record(memory, pin), bytes);
+    memory.write_all(&change)
 }
 
 /// Gives a PIN another value, by one change with the length and all tries, and takes the flag away, which no abort
@@ -110,9 +134,6 @@ pub fn update<S: WordStore>(
 {
     if bytes.len() > record(memory, pin).maximum as usize {
         return Err(PinRefusal::IllegalValue);
-    }
-    if bytes.len() > MOST_CHANGES - 2 {
-        return Err(PinRefusal::CommitFull);
     }
     set_value(memory, pin, bytes)?;
     memory.set_flag(pin, false);

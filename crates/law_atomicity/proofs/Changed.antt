@@ -1,17 +1,16 @@
 -- PINs that the open transaction changes.
-use Rattle.std.proofs.Common.{◌≡◌, ℕ, ◌==◌, ◌||◌, ◌&&◌, Bool, true, false, List, [], ◌∷◌, ◌++◌, length, map, refl, sym, subst, ap, ◌∙◌, inl, inr, if◌then◌else◌}
+use Rattle.std.proofs.Common.{◌≡◌, ℕ, suc, arith, Contains, Bool, true, false, List, [], ◌∷◌, ◌++◌, length, map, refl, sym, subst, ap, ◌∙◌, inl, inr, if◌then◌else◌}
 use Rattle.std.proofs.Common.{Option, Some, None, Result, Ok, Err}
 use Rattle.std.specs.Prelude.{nat_lt, not}
-use Rattle.std.specs.List.{list_any}
 use Rattle.std.proofs.lemmas.Bool.{false≢true, eq-eqb, cases_eq}
-use Rattle.std.proofs.lemmas.List.Folds.{list_any-append}
 use Rattle.jc_heap.specs.declared.place.Place.{Place}
 use Rattle.jc_heap.specs.declared.place.Place.TheVariants.{Cell}
 use Rattle.jc_heap.specs.declared.refusal.HeapRefusal.{HeapRefusal}
-use Rattle.jc_heap.specs.Heap.{HeapState, HeapView, heap_after_change, is_touched, heap_item_at, unlogged_places}
+use Rattle.jc_heap.specs.Heap.{HeapState, HeapView, heap_after_change, goes_back, heap_item_at}
 use Rattle.jc_heap.specs.Places.{place_word, places_of, set_place}
 use Rattle.jc_heap.specs.Moves.{Write, SetPlaces, WriteNonAtomic, SetCells, AddObject, AddTransient, AddPackage, Begin, Commit, Abort, IsInside}
 use Rattle.jc_heap.specs.Moves.{refusal_of_places}
+use Rattle.jc_heap.proofs.KeptWords.{goes_back_later, goes_back_now, goes_back_counted}
 use Rattle.jc_heap.proofs.Laws.{heap_item_at-set_other}
 use Rattle.jc_memory.specs.State.{MemoryState, Effect, HeapMove, SetTransient, SetFlag, ClearTransient, NullDead, SetRegisters, BeginCommand, SendBytes}
 use Rattle.jc_memory.specs.State.{apply_effect, apply_effects, moves_of}
@@ -26,61 +25,22 @@ use Rattle.jc_pin.specs.Updating.{byte_changes, unless_no_room, changes_of_updat
 use Rattle.law_atomicity.specs.Tears.{SavedHeapAfter}
 use Rattle.law_atomicity.specs.Changed.{IsChanged}
 
--- ---- words that the transaction has set
+-- ---- words that an abort takes back
 
-or-first : (a b : Bool) → a ≡ true → (a || b) ≡ true
-or-first true b e = refl
-or-first false b e = absurd (false≢true e)
+touched_before : (v : HeapView) (h : HeapState) (places : List ℕ) (fresh w : ℕ) → goes_back v w ≡ true
+    → goes_back (heap_after_change v h places fresh) w ≡ true
+touched_before v h places fresh w back = goes_back_later v h places fresh w back
 
-or-second : (a b : Bool) → b ≡ true → (a || b) ≡ true
-or-second true b e = refl
-or-second false b e = e
-
-both : (a b : Bool) → a ≡ true → b ≡ true → (a && b) ≡ true
-both true b first second = second
-both false b first second = absurd (false≢true first)
-
-first_of_both : (a b : Bool) → (a && b) ≡ true → a ≡ true
-first_of_both true b e = refl
-first_of_both false b e = absurd (false≢true e)
-
-second_of_both : (a b : Bool) → (a && b) ≡ true → b ≡ true
-second_of_both true b e = e
-second_of_both false b e = absurd (false≢true e)
-
-abbrev IsAmong : ℕ → List ℕ → Type 0
-IsAmong w ws = list_any (λ b. b == w) ws ≡ true
-
-among_first : (w : ℕ) (a b : List ℕ) → IsAmong w a → IsAmong w (a ++ b)
-among_first w a b e = list_any-append (λ x. x == w) a b ∙ or-first (list_any (λ x. x == w) a) (list_any (λ x. x == w) b) e
-
-among_second : (w : ℕ) (a b : List ℕ) → IsAmong w b → IsAmong w (a ++ b)
-among_second w a b e = list_any-append (λ x. x == w) a b ∙ or-second (list_any (λ x. x == w) a) (list_any (λ x. x == w) b) e
-
--- ---- a change in the open transaction keeps them, and adds its own
-
-module _ (v : HeapView) (h : HeapState) (places : List ℕ) (fresh w : ℕ) where
-  touched_before : is_touched v w ≡ true → is_touched (heap_after_change v h places fresh) w ≡ true
-  unfolding is_touched
-  touched_before e =
-      let old = list_any (λ b. b == w) v.touched in
-      both v.begun _ (first_of_both v.begun old e) (among_first w v.touched (unlogged_places v places) (second_of_both v.begun old e))
-
-  touched_now : v.begun ≡ true → IsAmong w places → is_touched (heap_after_change v h places fresh) w ≡ true
-  unfolding is_touched
-  touched_now e among = both v.begun _ e (among_second w v.touched (unlogged_places v places) (subst (λ b. IsAmong w (if b then places else [])) (sym e) among))
-
-touched_counted : (s : MemoryState) (place : Place) (x w : ℕ) → is_touched s.heap w ≡ true
-    → is_touched (apply_effect (HeapMove (WriteNonAtomic place x)) s).heap w ≡ true
-unfolding is_touched
-touched_counted s place x w e = e
+touched_counted : (s : MemoryState) (place : Place) (x w : ℕ) → goes_back s.heap w ≡ true
+    → goes_back (apply_effect (HeapMove (WriteNonAtomic place x)) s).heap w ≡ true
+touched_counted s place x w back = goes_back_counted s.heap place x w back
 
 -- ---- updates and constructors
 
 among_places : (before : List (Place × ℕ)) (place : Place) (x : ℕ) (more : List (Place × ℕ))
-    → IsAmong (place_word place) (map place_word (places_of (before ++ (place, x) ∷ more)))
-among_places [] place x more = or-first (place_word place == place_word place) _ (eq-eqb (place_word place) (place_word place) refl)
-among_places (c ∷ before) place x more = or-second (place_word c.0 == place_word place) _ (among_places before place x more)
+    → Contains (map place_word (places_of (before ++ (place, x) ∷ more))) (place_word place)
+among_places [] place x more = (0, omega arith, refl)
+among_places (c ∷ before) place x more = let there = among_places before place x more in (suc there.0, omega (arith, there.1), there.2)
 
 abbrev IsDone : {A E : Type 0} → Result A E → Type 0
 IsDone (Ok a) = Unit {0}
@@ -96,7 +56,7 @@ sets_and_takes changes r = Perform (HeapMove (SetPlaces changes)) (Perform (SetF
 set_changes : (s new : MemoryState) (r : ℕ) (before : List (Place × ℕ)) (x : ℕ) (more : List (Place × ℕ)) → s.heap.begun ≡ true →
     Completes (sets_and_takes (before ++ (counter r, x) ∷ more) r) s (Ok tt) new → IsChanged new r
 set_changes s new r before x more begun did =
-    subst (λ v. IsChanged v r) (sym did.1) (touched_now s.heap _ (map place_word (places_of (before ++ (counter r, x) ∷ more))) 0 (place_word (counter r)) begun
+    subst (λ v. IsChanged v r) (sym did.1) (goes_back_now s.heap _ (map place_word (places_of (before ++ (counter r, x) ∷ more))) 0 (place_word (counter r)) begun
     (among_places before (counter r) x more))
 
 unless_changes : (reason : Option HeapRefusal) (s new : MemoryState) (r : ℕ) (before : List (Place × ℕ)) (x : ℕ) (more : List (Place × ℕ))
@@ -148,14 +108,14 @@ start_changes s new r limit maximum begun did = in_space (has_space s maximum) (
 -- ---- as long as the transaction is open
 
 stays_by : (e : Effect) (s : MemoryState) (r : ℕ) → IsChanged s r → IsInside (moves_of (e ∷ [])) → IsChanged (apply_effect e s) r
-stays_by (HeapMove (Write p v)) s r heap_after_change inside = touched_before s.heap _ _ _ (place_word (counter r)) heap_after_change
-stays_by (HeapMove (SetPlaces cs)) s r heap_after_change inside = touched_before s.heap _ _ _ (place_word (counter r)) heap_after_change
+stays_by (HeapMove (Write p v)) s r heap_after_change inside = touched_before s.heap _ _ 0 (place_word (counter r)) heap_after_change
+stays_by (HeapMove (SetPlaces cs)) s r heap_after_change inside = touched_before s.heap _ _ 0 (place_word (counter r)) heap_after_change
 stays_by (HeapMove (WriteNonAtomic p v)) s r heap_after_change inside = touched_counted s p v (place_word (counter r)) heap_after_change
-stays_by (HeapMove (SetCells q i vs)) s r heap_after_change inside = touched_before s.heap _ _ _ (place_word (counter r)) heap_after_change
-stays_by (HeapMove (AddObject o size)) s r heap_after_change inside = touched_before s.heap _ _ _ (place_word (counter r)) heap_after_change
+stays_by (HeapMove (SetCells q i vs)) s r heap_after_change inside = touched_before s.heap _ _ 0 (place_word (counter r)) heap_after_change
+stays_by (HeapMove (AddObject o size)) s r heap_after_change inside = touched_before s.heap _ _ 0 (place_word (counter r)) heap_after_change
 stays_by (HeapMove (AddTransient kind event class owner long)) s r heap_after_change inside =
-    touched_before s.heap _ _ _ (place_word (counter r)) heap_after_change
-stays_by (HeapMove (AddPackage components arrays rest)) s r heap_after_change inside = touched_before s.heap _ _ _ (place_word (counter r)) heap_after_change
+    touched_before s.heap _ _ 0 (place_word (counter r)) heap_after_change
+stays_by (HeapMove (AddPackage components arrays rest)) s r heap_after_change inside = touched_before s.heap _ _ 0 (place_word (counter r)) heap_after_change
 stays_by (HeapMove Begin) s r heap_after_change inside = absurd inside
 stays_by (HeapMove Commit) s r heap_after_change inside = absurd inside
 stays_by (HeapMove Abort) s r heap_after_change inside = absurd inside
@@ -196,29 +156,29 @@ pub saved_as_it_was : (es : List Effect) (s : MemoryState) (r : ℕ) (old new : 
     → heap_item_at new r ≡ heap_item_at old r
 saved_as_it_was [] s r old new heap_after_change inside saved = ap (λ h. heap_item_at h r) saved
 saved_as_it_was (HeapMove (WriteNonAtomic place x) ∷ es) s r old new heap_after_change inside saved =
-    let touched = is_touched s.heap (place_word place) in
-    let mine : (saved.0.0 ≡ r) → touched ≡ true = λ same. subst (λ p. is_touched s.heap (place_word p) ≡ true)
+    let touched = goes_back s.heap (place_word place) in
+    let mine : (saved.0.0 ≡ r) → touched ≡ true = λ same. subst (λ p. goes_back s.heap (place_word p) ≡ true)
     (sym (saved.0.1 ∙ ap counter same)) heap_after_change in
     saved_as_it_was es (apply_effect (HeapMove (WriteNonAtomic place x)) s) r (if touched then old else set_place old place x) new
     (touched_counted s place x (place_word (counter r)) heap_after_change) inside saved.1
     ∙ one_count touched place saved.0.0 r x old saved.0.1 mine
 saved_as_it_was (HeapMove (Write p v) ∷ es) s r old new heap_after_change inside saved =
-    saved_as_it_was es (apply_effect (HeapMove (Write p v)) s) r old new (touched_before s.heap _ _ _ (place_word (counter r)) heap_after_change) inside saved
+    saved_as_it_was es (apply_effect (HeapMove (Write p v)) s) r old new (touched_before s.heap _ _ 0 (place_word (counter r)) heap_after_change) inside saved
 saved_as_it_was (HeapMove (SetPlaces cs) ∷ es) s r old new heap_after_change inside saved =
-    saved_as_it_was es (apply_effect (HeapMove (SetPlaces cs)) s) r old new (touched_before s.heap _ _ _ (place_word (counter r)) heap_after_change)
+    saved_as_it_was es (apply_effect (HeapMove (SetPlaces cs)) s) r old new (touched_before s.heap _ _ 0 (place_word (counter r)) heap_after_change)
     inside saved
 saved_as_it_was (HeapMove (SetCells q i vs) ∷ es) s r old new heap_after_change inside saved =
-    saved_as_it_was es (apply_effect (HeapMove (SetCells q i vs)) s) r old new (touched_before s.heap _ _ _ (place_word (counter r)) heap_after_change)
+    saved_as_it_was es (apply_effect (HeapMove (SetCells q i vs)) s) r old new (touched_before s.heap _ _ 0 (place_word (counter r)) heap_after_change)
     inside saved
 saved_as_it_was (HeapMove (AddObject o size) ∷ es) s r old new heap_after_change inside saved =
-    saved_as_it_was es (apply_effect (HeapMove (AddObject o size)) s) r old new (touched_before s.heap _ _ _ (place_word (counter r)) heap_after_change)
+    saved_as_it_was es (apply_effect (HeapMove (AddObject o size)) s) r old new (touched_before s.heap _ _ 0 (place_word (counter r)) heap_after_change)
     inside saved
 saved_as_it_was (HeapMove (AddTransient kind event class owner long) ∷ es) s r old new heap_after_change inside saved =
     saved_as_it_was es (apply_effect (HeapMove (AddTransient kind event class owner long)) s) r old new
-    (touched_before s.heap _ _ _ (place_word (counter r)) heap_after_change) inside saved
+    (touched_before s.heap _ _ 0 (place_word (counter r)) heap_after_change) inside saved
 saved_as_it_was (HeapMove (AddPackage components arrays rest) ∷ es) s r old new heap_after_change inside saved =
     saved_as_it_was es (apply_effect (HeapMove (AddPackage components arrays rest)) s) r old new
-    (touched_before s.heap _ _ _ (place_word (counter r)) heap_after_change) inside saved
+    (touched_before s.heap _ _ 0 (place_word (counter r)) heap_after_change) inside saved
 saved_as_it_was (HeapMove Begin ∷ es) s r old new heap_after_change inside saved = absurd inside
 saved_as_it_was (HeapMove Commit ∷ es) s r old new heap_after_change inside saved = absurd inside
 saved_as_it_was (HeapMove Abort ∷ es) s r old new heap_after_change inside saved = absurd inside

@@ -4,7 +4,7 @@ use Rattle.std.specs.Prelude.{◌⊎◌}
 use Rattle.std.proofs.lemmas.Bool.{cases_Bool, cases_eq}
 use Rattle.jc_heap.specs.declared.place.Place.{Place}
 use Rattle.jc_heap.specs.Object.{Item, AnObject, APackage, with_cell}
-use Rattle.jc_heap.specs.Heap.{HeapState, heap_item_at, is_touched, is_allocated, set_cell}
+use Rattle.jc_heap.specs.Heap.{HeapState, heap_item_at, goes_back, is_allocated, set_cell}
 use Rattle.jc_heap.specs.Places.{place_word, set_place}
 use Rattle.jc_heap.specs.Moves.{Write, SetPlaces, WriteNonAtomic, SetCells, AddObject, AddTransient, AddPackage, Begin, Commit, Abort}
 use Rattle.jc_heap.proofs.Laws.{set_cell-absent, heap_item_at-set_cell, heap_item_at-set_other, is_allocated-set_cell}
@@ -78,8 +78,8 @@ module _ (es : List Effect) (place : Place) (x : ℕ) where
 pub differ : (es : List Effect) (s : MemoryState) (old new : HeapState) → SavedHeapAfter es s old new → SameButTries es old new
 differ [] s old new same = subst (λ h. SameButTries [] old h) (sym same) (record { rest = refl; stands = λ r. refl; items = λ r. inl refl })
 differ (HeapMove (WriteNonAtomic place x) ∷ es) s old new saved =
-    one_more es place x (is_touched s.heap (place_word place)) saved.0.0 old new saved.0.1
-    (differ es (apply_effect (HeapMove (WriteNonAtomic place x)) s) (if is_touched s.heap (place_word place) then old else set_place old place x) new saved.1)
+    one_more es place x (goes_back s.heap (place_word place)) saved.0.0 old new saved.0.1
+    (differ es (apply_effect (HeapMove (WriteNonAtomic place x)) s) (if goes_back s.heap (place_word place) then old else set_place old place x) new saved.1)
 differ (HeapMove (Write p v) ∷ es) s old new saved = other (differ es (apply_effect (HeapMove (Write p v)) s) old new saved)
   where
     other : SameButTries es old new → SameButTries (HeapMove (Write p v) ∷ es) old new

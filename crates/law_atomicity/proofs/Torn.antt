@@ -2,8 +2,9 @@
 use Rattle.std.proofs.Common.{◌≡◌, Bool, true, false, List, [], ◌∷◌, ◌++◌, refl, sym, subst, ap, ◌∙◌, inl, inr, if◌then◌else◌}
 use Rattle.std.specs.Prelude.{ℕ, ◌⊎◌, ◌&&◌}
 use Rattle.std.proofs.lemmas.Bool.{true≢false, cases_Bool}
-use Rattle.jc_heap.specs.Heap.{HeapState, is_touched}
+use Rattle.jc_heap.specs.Heap.{HeapState, goes_back}
 use Rattle.jc_heap.specs.Places.{place_word, set_place}
+use Rattle.jc_heap.proofs.KeptWords.{outside_none_goes_back}
 use Rattle.jc_heap.specs.Moves.{Write, SetPlaces, WriteNonAtomic, SetCells, AddObject, AddTransient, AddPackage, Begin, Commit, Abort, IsInside}
 use Rattle.jc_memory.specs.State.{MemoryState, Effect, HeapMove, SetTransient, SetFlag, ClearTransient, NullDead, SetRegisters, BeginCommand, SendBytes}
 use Rattle.jc_memory.specs.State.{apply_effect, apply_effects, moves_of}
@@ -24,9 +25,8 @@ kept : (b : Bool) (d x : HeapState) → b ≡ true → (if b then d else x) ≡ 
 kept true d x e = refl
 kept false d x e = absurd (true≢false (sym e))
 
-untouched : (s : MemoryState) (word : ℕ) → s.heap.begun ≡ false → is_touched s.heap word ≡ false
-unfolding is_touched
-untouched s word e = rw e refl
+untouched : (s : MemoryState) (word : ℕ) → s.heap.begun ≡ false → goes_back s.heap word ≡ false
+untouched s word e = outside_none_goes_back s.heap word e
 
 pub settled_effect : (e : Effect) (s : MemoryState) → IsDurableOutside s → IsDurableOutside (apply_effect e s)
 settled_effect (HeapMove (Write p v)) s settled = λ b. fresh s.heap.begun s.heap.durable _ b

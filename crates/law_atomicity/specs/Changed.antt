@@ -1,6 +1,6 @@
 -- PINs that the open transaction changes.
 use Rattle.std.specs.Prelude.{ℕ, ◌≡◌, true, List, Result, Ok}
-use Rattle.jc_heap.specs.Heap.{HeapState, is_touched, heap_item_at}
+use Rattle.jc_heap.specs.Heap.{HeapState, goes_back, heap_item_at}
 use Rattle.jc_heap.specs.Places.{place_word}
 use Rattle.jc_heap.specs.Moves.{IsInside}
 use Rattle.jc_memory.specs.State.{MemoryState, Effect, apply_effects, moves_of}
@@ -10,9 +10,9 @@ use Rattle.jc_pin.specs.PinInit.{pin_init}
 use Rattle.jc_pin.specs.Updating.{pin_update}
 use Rattle.law_atomicity.specs.Tears.{SavedHeapAfter}
 
--- a change of the open transaction has set the counter of a PIN
+-- a change of the open transaction has set the counter of a PIN, or the PIN was born in it
 abbrev pub IsChanged : MemoryState → ℕ → Type 0
-IsChanged s r = is_touched s.heap (place_word (counter r)) ≡ true
+IsChanged s r = goes_back s.heap (place_word (counter r)) ≡ true
 
 -- an update changes the PIN so, and the constructor does; that stays as long as the transaction is open; and from then on
 -- the PIN is saved as it was, however often its tries are counted

@@ -1,7 +1,7 @@
 -- What a loss of power, or an abort, leaves.
 use Rattle.std.specs.Prelude.{ℕ, ◌≡◌, ◌⊎◌, ◌++◌, true, false, List, [], ◌∷◌, slice_index, if◌then◌else◌}
 use Rattle.jc_heap.specs.Object.{header_only}
-use Rattle.jc_heap.specs.Heap.{HeapState, cells, is_touched, heap_item_at, is_allocated}
+use Rattle.jc_heap.specs.Heap.{HeapState, cells, goes_back, heap_item_at, is_allocated}
 use Rattle.jc_heap.specs.Places.{place_word, set_place}
 use Rattle.jc_heap.specs.Moves.{WriteNonAtomic, Begin, Abort, IsInside}
 use Rattle.jc_memory.specs.State.{MemoryState, Effect, HeapMove, apply_effect, apply_effects, moves_of}
@@ -15,7 +15,7 @@ abbrev pub SavedHeapAfter : List Effect → MemoryState → HeapState → HeapSt
 SavedHeapAfter [] s old new = new ≡ old
 SavedHeapAfter (HeapMove (WriteNonAtomic place v) ∷ es) s old new =
     IsCounter s place × SavedHeapAfter es (apply_effect (HeapMove (WriteNonAtomic place v)) s)
-    (if is_touched s.heap (place_word place) then old else set_place old place v) new
+    (if goes_back s.heap (place_word place) then old else set_place old place v) new
 SavedHeapAfter (e ∷ es) s old new = SavedHeapAfter es (apply_effect e s) old new
 
 -- with these effects a transaction began, which they leave open: the heap is the one that it found, but for tries

@@ -7,7 +7,7 @@ use Rattle.jc_transient.specs.declared.cell.ClearEvent.TheVariants.{Reset, Desel
 use Rattle.jc_heap.specs.declared.object.Kind.{Kind}
 use Rattle.jc_heap.specs.declared.place.Place.{Place}
 use Rattle.jc_heap.specs.declared.place.Place.TheVariants.{Cell, Static, Registry, AppletCount}
-use Rattle.jc_heap.specs.Heap.{HeapState, add_object, add_transient, area_end, is_touched, read_image, set_cell, set_cells, with_area_end}
+use Rattle.jc_heap.specs.Heap.{HeapState, add_object, add_transient, area_end, goes_back, read_image, set_cell, set_cells, with_area_end}
 use Rattle.jc_heap.specs.Image.{IsWellFormed, image}
 use Rattle.jc_heap.specs.Moves.{Move, Write, SetPlaces, WriteNonAtomic, SetCells, AddObject, AddTransient, AddPackage, Begin, Commit, Abort}
 use Rattle.jc_heap.specs.Object.{new_transient}
@@ -75,7 +75,7 @@ module _ (m : MemoryState) (is : CountPackages m) where
   move_counts (SetPlaces changes) = let so = places_count changes m.heap.now is.now in record { now = so; durable = chosen _ m.heap.begun so }
   move_counts (WriteNonAtomic place v) = record {
     now = place_counts m.heap.now place v is.now;
-    durable = chosen (set_place m.heap.durable place v) (is_touched m.heap (place_word place)) (place_counts m.heap.durable place v is.durable);
+    durable = chosen (set_place m.heap.durable place v) (goes_back m.heap (place_word place)) (place_counts m.heap.durable place v is.durable);
   }
   move_counts (SetCells r i words) = let so = run_counts words m.heap.now r i is.now in record { now = so; durable = chosen _ m.heap.begun so }
   move_counts (AddObject o size) = let so = object_counts m.heap.now o size is.now in record { now = so; durable = chosen _ m.heap.begun so }

@@ -2,7 +2,7 @@
 use Rattle.std.proofs.Common.{◌≡◌, ℕ, suc, ◌++◌, false, List, [], ◌∷◌, sym, ◌∙◌, subst, arith, Some}
 use Rattle.jc_heap.specs.declared.place.Place.{Place}
 use Rattle.jc_heap.specs.declared.place.Place.TheVariants.{Cell, Static, Registry, AppletCount}
-use Rattle.jc_heap.specs.Heap.{HeapState, add_object, add_transient, heap_after_change, is_touched, is_allocated, set_cell, set_cells}
+use Rattle.jc_heap.specs.Heap.{HeapState, add_object, add_transient, heap_after_change, goes_back, is_allocated, set_cell, set_cells}
 use Rattle.jc_heap.specs.Moves.{Move, Write, SetPlaces, WriteNonAtomic, SetCells, AddObject, AddTransient, AddPackage, Begin, Commit, Abort}
 use Rattle.jc_heap.specs.Places.{place_word, set_place, set_places}
 use Rattle.jc_memory.specs.State.{MemoryState, Effect, HeapMove, SetTransient, SetFlag, ClearTransient, NullDead, SetRegisters, BeginCommand, SendBytes}
@@ -54,7 +54,7 @@ module _ (t : Tokens) (p : Packages) (m : MemoryState) (s : IsSoundMemory p m) (
   counted_read : (at v : ℕ) → IsReadAs t p (apply_effect (HeapMove (WriteNonAtomic (Cell at 2) v)) m)
   counted_read at v = record {
     now = read_same t m.heap.now (set_cell m.heap.now at 2 v) (place_tells m.heap.now (Cell at 2) v tt) ∙ r.now;
-    durable = choose (λ d. packages_of t d ≡ Some p) (is_touched m.heap (place_word (Cell at 2))) m.heap.durable (set_cell m.heap.durable at 2 v)
+    durable = choose (λ d. packages_of t d ≡ Some p) (goes_back m.heap (place_word (Cell at 2))) m.heap.durable (set_cell m.heap.durable at 2 v)
         (λ on. r.durable)
         (λ off. read_same t m.heap.durable (set_cell m.heap.durable at 2 v) (place_tells m.heap.durable (Cell at 2) v tt) ∙ r.durable);
   }

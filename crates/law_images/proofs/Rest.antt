@@ -1,8 +1,8 @@
 -- A command leaves a heap at rest.
 use Rattle.std.proofs.Common.{◌≡◌, true, false, List, ℕ, [], ◌∷◌, ◌++◌, refl, sym, ap, ◌∙◌, subst}
-use Rattle.std.specs.Prelude.{Bool, if◌then◌else◌}
 use Rattle.std.proofs.lemmas.Bool.{true≢false}
-use Rattle.jc_heap.specs.Heap.{HeapView, heap_at_rest}
+use Rattle.jc_commit.proofs.WhatIsKept.{keeps_old_values}
+use Rattle.jc_heap.specs.Heap.{HeapView, heap_at_rest, keeping, unlogged_places}
 use Rattle.jc_heap.specs.Moves.{Write, SetPlaces, WriteNonAtomic, SetCells, AddObject, AddTransient, AddPackage, Begin, Commit, Abort}
 use Rattle.jc_memory.specs.State.{MemoryState, Effect, HeapMove, SetTransient, SetFlag, ClearTransient, NullDead, SetRegisters, BeginCommand, SendBytes}
 use Rattle.jc_memory.specs.State.{apply_effect, apply_effects}
@@ -22,18 +22,18 @@ use Rattle.law_images.specs.Rest.{IsResting, LeaveAtRest}
 abbrev IsEmpty : MemoryState → Type 0
 IsEmpty s = s.heap.begun ≡ false → s.heap.touched ≡ []
 
-still_empty : (b : Bool) (touched places : List ℕ) → (b ≡ false → touched ≡ []) → b ≡ false → touched ++ (if b then places else []) ≡ []
-still_empty true touched places empty none = absurd (true≢false none)
-still_empty false touched places empty none = ap (λ t. t ++ []) (empty none)
+still_empty : (v : HeapView) (places : List ℕ) → (v.begun ≡ false → v.touched ≡ []) → v.begun ≡ false → v.touched ++ unlogged_places v places ≡ []
+still_empty v places empty none = ap (λ (l : List ℕ). v.touched ++ l) (keeps_old_values.outside (keeping v) places none).0
+    ∙ ap (λ (t : List ℕ). t ++ []) (empty none)
 
 empty_effect : (e : Effect) (s : MemoryState) → IsEmpty s → IsEmpty (apply_effect e s)
-empty_effect (HeapMove (Write p v)) s empty = still_empty s.heap.begun s.heap.touched _ empty
-empty_effect (HeapMove (SetPlaces cs)) s empty = still_empty s.heap.begun s.heap.touched _ empty
+empty_effect (HeapMove (Write p v)) s empty = still_empty s.heap _ empty
+empty_effect (HeapMove (SetPlaces cs)) s empty = still_empty s.heap _ empty
 empty_effect (HeapMove (WriteNonAtomic p v)) s empty = empty
-empty_effect (HeapMove (SetCells r i vs)) s empty = still_empty s.heap.begun s.heap.touched _ empty
-empty_effect (HeapMove (AddObject o size)) s empty = still_empty s.heap.begun s.heap.touched _ empty
-empty_effect (HeapMove (AddTransient kind event class owner long)) s empty = still_empty s.heap.begun s.heap.touched _ empty
-empty_effect (HeapMove (AddPackage components arrays rest)) s empty = still_empty s.heap.begun s.heap.touched _ empty
+empty_effect (HeapMove (SetCells r i vs)) s empty = still_empty s.heap _ empty
+empty_effect (HeapMove (AddObject o size)) s empty = still_empty s.heap _ empty
+empty_effect (HeapMove (AddTransient kind event class owner long)) s empty = still_empty s.heap _ empty
+empty_effect (HeapMove (AddPackage components arrays rest)) s empty = still_empty s.heap _ empty
 empty_effect (HeapMove Begin) s empty = λ b. absurd (true≢false b)
 empty_effect (HeapMove Commit) s empty = λ b. refl
 empty_effect (HeapMove Abort) s empty = λ b. refl

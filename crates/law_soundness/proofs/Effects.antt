@@ -1,7 +1,6 @@
 -- Effects that fit leave a sound memory sound.
-use Rattle.std.proofs.Common.{◌≡◌, ℕ, suc, ◌+◌, ◌<◌, ◌≤◌, ◌==◌, ◌&&◌, ◌++◌, Bool, true, false, inl, inr, List, [], ◌∷◌, length, get_or, refl, sym, ◌∙◌, ap}
+use Rattle.std.proofs.Common.{◌≡◌, ℕ, suc, ◌+◌, ◌<◌, ◌≤◌, ◌==◌, ◌++◌, Bool, true, false, inl, inr, List, [], ◌∷◌, length, get_or, refl, sym, ◌∙◌, ap}
 use Rattle.std.proofs.Common.{subst, arith, None, if◌then◌else◌, nat_le}
-use Rattle.std.specs.List.{list_any}
 use Rattle.std.proofs.lemmas.List.{length-set}
 use Rattle.std.proofs.lemmas.Bool.{and_parts, cases_Bool, cases_lt, eqb-true, leb-true, or_cases, false≢true}
 use Rattle.jc_transient.specs.declared.cell.ClearEvent.{ClearEvent}
@@ -11,13 +10,14 @@ use Rattle.jc_heap.specs.declared.object.Kind.TheVariants.{ReferenceArray}
 use Rattle.jc_heap.specs.declared.place.Place.{Place}
 use Rattle.jc_heap.specs.declared.place.Place.TheVariants.{Cell, Static, Registry, AppletCount}
 use Rattle.jc_heap.specs.Object.{facts_of, is_object, new_object, object_size, transient_size}
-use Rattle.jc_heap.specs.Heap.{HeapState, LacksCells, add_object, add_transient, cells, facts, is_touched, heap_item_at, is_allocated, set_cell, set_cells}
+use Rattle.jc_heap.specs.Heap.{HeapState, LacksCells, add_object, add_transient, cells, facts, goes_back, heap_item_at, is_allocated, set_cell, set_cells}
 use Rattle.jc_heap.specs.Keeping.{AreLegalValues, IsLegalValue}
 use Rattle.jc_heap.specs.Moves.{Move, Write, SetPlaces, WriteNonAtomic, SetCells, AddObject, AddTransient, AddPackage, Begin, Commit, Abort, new_move}
 use Rattle.jc_heap.specs.Places.{applet_changes, place_word, set_places}
 use Rattle.jc_heap.specs.Statics.{set_word}
 use Rattle.jc_heap.specs.Whole.{IsReference}
 use Rattle.jc_heap.proofs.KeepingMoves.{keeps}
+use Rattle.jc_heap.proofs.KeptWords.{outside_none_goes_back}
 use Rattle.jc_heap.proofs.Laws.{header_only-set_cell, facts-set_cell, heap_item_at-absent, set_cell-absent}
 use Rattle.jc_memory.specs.Cells.{word_at, word_in}
 use Rattle.jc_memory.specs.Owners.{owner_number}
@@ -77,7 +77,7 @@ module _ (p : Packages) (m : MemoryState) (s : IsSoundMemory p m) (r v : ℕ) (p
   own = last_own m
 
   abbrev touched : Bool
-  touched = is_touched m.heap (place_word (Cell r 2))
+  touched = goes_back m.heap (place_word (Cell r 2))
 
   abbrev counted_durable : HeapState
   counted_durable = set_cell m.heap.durable r 2 v
@@ -103,8 +103,7 @@ module _ (p : Packages) (m : MemoryState) (s : IsSoundMemory p m) (r v : ℕ) (p
   ]
 
   untouched : m.heap.begun ≡ false → touched ≡ false
-  unfolding is_touched
-  untouched off = ap (λ b. b && list_any (λ k. k == place_word (Cell r 2)) m.heap.touched) off
+  untouched off = outside_none_goes_back m.heap (place_word (Cell r 2)) off
 
   durable_frames : Frames m.heap.durable left
   durable_frames = choose (Frames m.heap.durable) touched m.heap.durable counted_durable

@@ -7,7 +7,7 @@ use Rattle.jc_heap.specs.declared.object.Kind.{Kind}
 use Rattle.jc_heap.specs.declared.place.Place.{Place}
 use Rattle.jc_heap.specs.declared.place.Place.TheVariants.{Cell, Static, Registry, AppletCount}
 use Rattle.jc_heap.specs.Object.{AnObject, APackage, Item, Object, header_only, facts_of, is_object, new_object, new_transient, object_size}
-use Rattle.jc_heap.specs.Heap.{HeapState, add_object, add_transient, area_end, facts, is_touched, heap_item_at, is_allocated, set_cell, set_cells}
+use Rattle.jc_heap.specs.Heap.{HeapState, add_object, add_transient, area_end, facts, goes_back, heap_item_at, is_allocated, set_cell, set_cells}
 use Rattle.jc_heap.specs.Heap.{with_area_end}
 use Rattle.jc_heap.specs.Moves.{Move, Write, SetPlaces, WriteNonAtomic, SetCells, AddObject, AddTransient, AddPackage, Begin, Commit, Abort}
 use Rattle.jc_heap.specs.Places.{place_word, set_place, set_places}
@@ -130,7 +130,7 @@ module _ (p : Packages) (m : MemoryState) (s : IsSoundMemory p m) (e : HasEnviro
   }
   move_so (WriteNonAtomic place v) fits = record {
     now = still p own m.heap.now _ (same_place m.heap.now place v) e.now;
-    durable = choose (λ k. AreEnvironmentObjects p k own) (is_touched m.heap (place_word place)) m.heap.durable (set_place m.heap.durable place v)
+    durable = choose (λ k. AreEnvironmentObjects p k own) (goes_back m.heap (place_word place)) m.heap.durable (set_place m.heap.durable place v)
         (λ on. e.durable) (λ off. still p own m.heap.durable _ (same_place m.heap.durable place v) e.durable);
   }
   move_so (SetCells r i words) fits = record {

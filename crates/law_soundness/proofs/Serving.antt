@@ -4,7 +4,7 @@ use Rattle.std.proofs.Common.{if◌then◌else◌}
 use Rattle.std.proofs.lemmas.Bool.{and_from, and_parts, both_ways, cases_Bool, leb-true, le-leb, lt-ltb}
 use Rattle.jc_heap.specs.declared.place.Place.{Place}
 use Rattle.jc_heap.specs.declared.place.Place.TheVariants.{Cell, Static, Registry, AppletCount}
-use Rattle.jc_heap.specs.Heap.{HeapState, is_touched}
+use Rattle.jc_heap.specs.Heap.{HeapState, goes_back}
 use Rattle.jc_heap.specs.Places.{place_word, set_place, set_places}
 use Rattle.jc_heap.specs.Moves.{Move, Write, SetPlaces, WriteNonAtomic, SetCells, AddObject, AddTransient, AddPackage, Begin, Commit, Abort}
 use Rattle.jc_memory.specs.declared.registers.AppletNumber.{AppletNumber}
@@ -129,7 +129,7 @@ module _ (p : Packages) (m : MemoryState) (s : IsSoundMemory p m) where
       omega (arith, e)
 
   count_more : (r v : ℕ) → durable.counts.1 ≤ (apply_effect (HeapMove (WriteNonAtomic (counter r) v)) m).heap.durable.counts.1
-  count_more r v = choose (λ k. durable.counts.1 ≤ k.counts.1) (is_touched m.heap (place_word (counter r))) durable (set_place durable (counter r) v)
+  count_more r v = choose (λ k. durable.counts.1 ≤ k.counts.1) (goes_back m.heap (place_word (counter r))) durable (set_place durable (counter r) v)
       (λ on. omega arith)
       (λ off. let e : (set_place durable (counter r) v).counts.1 ≡ durable.counts.1 = ap (λ c. c.1) (cell_frames durable r 2 v).counts in omega (arith, e))
 

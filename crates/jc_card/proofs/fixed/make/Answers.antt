@@ -1,7 +1,8 @@
 use Rattle.std.proofs.Common.{◌∙◌, ap}
 use Rattle.jc_transient.specs.declared.cell.ClearEvent.TheVariants.{Reset}
 use Rattle.jc_heap.specs.Heap.{area_end}
-use Rattle.jc_card.proofs.FixedObjects.{top-add, end-add, durable-changed}
+use Rattle.jc_heap.specs.Moves.{AddTransient, refusal_of_transient}
+use Rattle.jc_card.proofs.FixedObjects.{top-add, end-add, durable-changed, transient_allowed, only_torn, torn_head}
 use Rattle.jc_card.proofs.fixed.make.Goals as goal
 
 pub returns-in-Ok-clause-head : goal.returns-in-Ok-clause-head
@@ -17,3 +18,31 @@ pub returns-in-Ok-clause-end : goal.returns-in-Ok-clause-end
 returns-in-Ok-clause-end g c =
     ap (λ v. area_end (v.now) Reset) c.in-Ok.ensures.moves.2 ∙ end-add c.args.heap.now.now c.args.object.now.kind c.class_number-class.result 0
     c.args.object.now.cells
+
+pub returns-in-Err-clause-stopped : goal.returns-in-Err-clause-stopped
+returns-in-Err-clause-stopped g c =
+    let torn = only_torn (refusal_of_transient c.args.heap.now Reset c.args.object.now.cells) c.in-Err.field-0 c.args.heap.now c.new_transient.new.self
+    (AddTransient c.args.object.now.kind Reset c.class_number-class.result 0 c.args.object.now.cells) c.args.heap.now.now.top
+    (transient_allowed c.args.heap.now c.args.object.now.cells c.requires.outside c.requires.space c.requires.area) c.in-Err.ensures.moves in
+    torn.down
+
+pub returns-in-Err-clause-refused : goal.returns-in-Err-clause-refused
+returns-in-Err-clause-refused g c =
+    let torn = only_torn (refusal_of_transient c.args.heap.now Reset c.args.object.now.cells) c.in-Err.field-0 c.args.heap.now c.new_transient.new.self
+    (AddTransient c.args.object.now.kind Reset c.class_number-class.result 0 c.args.object.now.cells) c.args.heap.now.now.top
+    (transient_allowed c.args.heap.now c.args.object.now.cells c.requires.outside c.requires.space c.requires.area) c.in-Err.ensures.moves in
+    torn.refused
+
+pub returns-in-Err-clause-size : goal.returns-in-Err-clause-size
+returns-in-Err-clause-size g c =
+    let torn = only_torn (refusal_of_transient c.args.heap.now Reset c.args.object.now.cells) c.in-Err.field-0 c.args.heap.now c.new_transient.new.self
+    (AddTransient c.args.object.now.kind Reset c.class_number-class.result 0 c.args.object.now.cells) c.args.heap.now.now.top
+    (transient_allowed c.args.heap.now c.args.object.now.cells c.requires.outside c.requires.space c.requires.area) c.in-Err.ensures.moves in
+    torn.size
+
+pub returns-in-Err-clause-head : goal.returns-in-Err-clause-head
+returns-in-Err-clause-head g c =
+    let torn = only_torn (refusal_of_transient c.args.heap.now Reset c.args.object.now.cells) c.in-Err.field-0 c.args.heap.now c.new_transient.new.self
+    (AddTransient c.args.object.now.kind Reset c.class_number-class.result 0 c.args.object.now.cells) c.args.heap.now.now.top
+    (transient_allowed c.args.heap.now c.args.object.now.cells c.requires.outside c.requires.space c.requires.area) c.in-Err.ensures.moves in
+    torn_head (AddTransient c.args.object.now.kind Reset c.class_number-class.result 0 c.args.object.now.cells) c.args.heap.now c.new_transient.new.self torn

@@ -5,6 +5,6 @@ use Rattle.jc_memory.proofs.commit_capacity.write_within_capacity.Goals as goal
 
 pub returns-in-Err : goal.returns-in-Err
 returns-in-Err g c =
-    cut_change (refusal_of_places c.args.memory.now.heap (places_of c.args.changes.now)) c.args.memory.now c.write_all.new.self c.args.changes.now
+    cut_change (refusal_of_places c.args.memory.now.heap (places_of (g.P.PlaceChanges.changes c.args.changes.now))) c.args.memory.now c.write_all.new.self (g.P.PlaceChanges.changes c.args.changes.now)
     c.in-Err.field-0
-    (has_room c.args.memory.now c.args.changes.now c.requires.room c.requires.some c.requires.few) c.in-Err.ensures
+    (has_room c.args.memory.now (g.P.PlaceChanges.changes c.args.changes.now) c.requires.room c.requires.some c.requires.few) c.in-Err.ensures

@@ -1,6 +1,6 @@
-use Rattle.std.proofs.Common.{ℕ, ◌≡◌, ◌<◌, ◌≤◌, ◌∙◌, ap, false, true, arith, inl, inr, List, length, get_or, set}
+use Rattle.std.proofs.Common.{◌∙◌, ap, false, arith, inl, inr, length, get_or, set}
 use Rattle.std.proofs.lemmas.Bool.{cases_lt, cases_eq}
-use Rattle.std.proofs.lemmas.List.{length-set, get_or-set_same, get_or-set_other, get_or_past}
+use Rattle.std.proofs.lemmas.List.{get_or-set_same, get_or-set_other, get_or_past}
 use Rattle.jc_memory.proofs.marks.unmark.Goals as goal
 
 pub returns-clause-unset : goal.returns-clause-unset

@@ -1,6 +1,7 @@
 use Rattle.std.proofs.Common.{◌≡◌, ◌≤◌, ◌<◌, ◌+◌, ◌∙◌, [], ◌∷◌, get_or, arith, refl, sym, ap, subst, true, Err}
 use Rattle.jc_words.specs.Layout.{top_address, packages_address, addresses_start, most_packages}
-use Rattle.jc_commit.specs.State.{has_room_for, Changes}
+use Rattle.jc_commit.specs.Keeping.{has_room_for}
+use Rattle.jc_commit.specs.State.{Changes, keeping as journal_keeping}
 use Rattle.jc_commit.specs.declared.refusal.WriteRefusal.TheVariants.{StoreDown}
 use Rattle.jc_heap.specs.Fresh.{KeepsBelow, Fills}
 use Rattle.jc_heap.specs.Object.{APackage}
@@ -89,10 +90,11 @@ invariant_of-self-in_default-write_all g c =
     c.write_package-written.new.journal = subst (λ t. Fills t (package_words t (c.read-count.result + 1) (parts c.args.components.now)
     (array_inits c.args.arrays.now) c.args.image.now) c.self.inside.journal c.write_package-written.new.journal) c.read-top.ensures c.in-Ok.ensures.done
     in
-    let fit : has_room_for c.self.inside.journal.in_transaction c.self.inside.journal.touched
+    let fit : has_room_for (journal_keeping c.self.inside.journal)
     ((addresses_start + c.read-count.result) ∷ packages_address ∷ top_address ∷ []) ≡ true = (sym c.fits.ensures ∙ c.if-not-fits.false) in
-    let down : c.in_default-write_all.field-0 ≡ StoreDown = only_down (get_or c.self.inside.journal.plain top_address 0) c.self.inside.journal
-    c.write_package-written.new.journal below ((addresses_start + c.read-count.result) ∷ packages_address ∷ top_address ∷ []) fit
+    let down : c.in_default-write_all.field-0 ≡ StoreDown = only_down c.self.inside.journal c.write_package-written.new.journal
+    c.self.inside.size c.self.invariant (up_is c.self.inside.journal c.args.self.now c.self.inside.size c.self.view_is c.requires.up) below
+    ((addresses_start + c.read-count.result) ∷ packages_address ∷ top_address ∷ []) fit
     c.in_default-write_all.field-0 (λ e. c.in_default-write_all.ensures.full.0 (ap Err e)) in
     top_stopped_sound c.self.inside.journal c.write_package-written.new.journal c.self.inside.size c.self.invariant
     (up_is c.self.inside.journal c.args.self.now c.self.inside.size c.self.view_is c.requires.up) below
@@ -158,7 +160,8 @@ returns-then-not-fits-clause-moves g c =
     (c.self.invariant.now (up_is c.self.inside.journal c.args.self.now c.self.inside.size c.self.view_is c.requires.up))
     (omega (arith, c.size_of_record-size.ensures.exact, c.size_of_arrays.ensures.exact, c.read-top.ensures)))
     (view_no_room c.self.inside.journal c.args.self.now c.self.inside.size c.read-count.result c.self.view_is
-    (c.self.invariant.now (up_is c.self.inside.journal c.args.self.now c.self.inside.size c.self.view_is c.requires.up)) c.read-count.ensures
+    (c.self.invariant.now (up_is c.self.inside.journal c.args.self.now c.self.inside.size c.self.view_is c.requires.up)) c.self.invariant.back
+    c.read-count.ensures
     (sym c.fits.ensures ∙ c.if-not-fits.true))) refl
 
 pub returns-in_default-clause-moves : goal.returns-in_default-clause-moves
@@ -178,7 +181,8 @@ returns-in_default-clause-moves g c =
     (c.self.invariant.now (up_is c.self.inside.journal c.args.self.now c.self.inside.size c.self.view_is c.requires.up))
     (omega (arith, c.size_of_record-size.ensures.exact, c.size_of_arrays.ensures.exact, c.read-top.ensures)))
     (view_room c.self.inside.journal c.args.self.now c.self.inside.size c.read-count.result c.self.view_is
-    (c.self.invariant.now (up_is c.self.inside.journal c.args.self.now c.self.inside.size c.self.view_is c.requires.up)) c.read-count.ensures
+    (c.self.invariant.now (up_is c.self.inside.journal c.args.self.now c.self.inside.size c.self.view_is c.requires.up)) c.self.invariant.back
+    c.read-count.ensures
     ((sym c.fits.ensures ∙ c.if-not-fits.false)))) st
 
 pub returns-in_default-write_all-clause-moves : goal.returns-in_default-write_all-clause-moves
@@ -190,10 +194,11 @@ returns-in_default-write_all-clause-moves g c =
     c.write_package-written.new.journal = subst (λ t. Fills t (package_words t (c.read-count.result + 1) (parts c.args.components.now)
     (array_inits c.args.arrays.now) c.args.image.now) c.self.inside.journal c.write_package-written.new.journal) c.read-top.ensures c.in-Ok.ensures.done
     in
-    let fit : has_room_for c.self.inside.journal.in_transaction c.self.inside.journal.touched
+    let fit : has_room_for (journal_keeping c.self.inside.journal)
     ((addresses_start + c.read-count.result) ∷ packages_address ∷ top_address ∷ []) ≡ true = (sym c.fits.ensures ∙ c.if-not-fits.false) in
-    let down : c.in_default-write_all.field-0 ≡ StoreDown = only_down (get_or c.self.inside.journal.plain top_address 0) c.self.inside.journal
-    c.write_package-written.new.journal below ((addresses_start + c.read-count.result) ∷ packages_address ∷ top_address ∷ []) fit
+    let down : c.in_default-write_all.field-0 ≡ StoreDown = only_down c.self.inside.journal c.write_package-written.new.journal
+    c.self.inside.size c.self.invariant (up_is c.self.inside.journal c.args.self.now c.self.inside.size c.self.view_is c.requires.up) below
+    ((addresses_start + c.read-count.result) ∷ packages_address ∷ top_address ∷ []) fit
     c.in_default-write_all.field-0 (λ e. c.in_default-write_all.ensures.full.0 (ap Err e)) in
     let st : IsTornChange c.args.self.now (heap_view c.write_all.new.self c.self.inside.size) =
     top_stopped_view c.self.inside.journal c.write_package-written.new.journal c.self.inside.size c.self.invariant
@@ -210,7 +215,8 @@ returns-in_default-write_all-clause-moves g c =
     (c.self.invariant.now (up_is c.self.inside.journal c.args.self.now c.self.inside.size c.self.view_is c.requires.up))
     (omega (arith, c.size_of_record-size.ensures.exact, c.size_of_arrays.ensures.exact, c.read-top.ensures)))
     (view_room c.self.inside.journal c.args.self.now c.self.inside.size c.read-count.result c.self.view_is
-    (c.self.invariant.now (up_is c.self.inside.journal c.args.self.now c.self.inside.size c.self.view_is c.requires.up)) c.read-count.ensures fit)) st
+    (c.self.invariant.now (up_is c.self.inside.journal c.args.self.now c.self.inside.size c.self.view_is c.requires.up)) c.self.invariant.back
+    c.read-count.ensures fit)) st
 
 pub returns-clause-moves : goal.returns-clause-moves
 returns-clause-moves g c =
@@ -254,7 +260,8 @@ returns-clause-moves g c =
     (c.self.invariant.now (up_is c.self.inside.journal c.args.self.now c.self.inside.size c.self.view_is c.requires.up))
     (omega (arith, c.size_of_record-size.ensures.exact, c.size_of_arrays.ensures.exact, c.read-top.ensures)))
     (view_room c.self.inside.journal c.args.self.now c.self.inside.size c.read-count.result c.self.view_is
-    (c.self.invariant.now (up_is c.self.inside.journal c.args.self.now c.self.inside.size c.self.view_is c.requires.up)) c.read-count.ensures
+    (c.self.invariant.now (up_is c.self.inside.journal c.args.self.now c.self.inside.size c.self.view_is c.requires.up)) c.self.invariant.back
+    c.read-count.ensures
     ((sym c.fits.ensures ∙ c.if-not-fits.false))))
     (c.at.ensures ∙ c.read-top.ensures ∙ sym (view_top c.self.inside.journal c.args.self.now c.self.inside.size c.self.view_is
     (c.self.invariant.now (up_is c.self.inside.journal c.args.self.now c.self.inside.size c.self.view_is c.requires.up)))) is

@@ -1,6 +1,7 @@
 use Rattle.std.proofs.Common.{◌≡◌, ◌≤◌, ◌+◌, ◌∙◌, [], ◌∷◌, ◌++◌, get_or, replicate, arith, refl, sym, ap, subst, true, Err}
 use Rattle.jc_words.specs.Layout.{top_address}
-use Rattle.jc_commit.specs.State.{has_room_for}
+use Rattle.jc_commit.specs.Keeping.{has_room_for}
+use Rattle.jc_commit.specs.State.{keeping as journal_keeping}
 use Rattle.jc_commit.specs.declared.refusal.WriteRefusal.TheVariants.{StoreDown}
 use Rattle.jc_heap.specs.Fresh.{KeepsBelow, Fills}
 use Rattle.jc_heap.specs.Object.{kind_number, new_object}
@@ -44,10 +45,11 @@ invariant_of-self-in_default-write g c =
     c.self.inside.journal c.write_record.new.journal) c.read-top.ensures (fills_same c.read-top.result c.number.result c.class.inside.0 c.args.class
     c.owner.inside.0 c.args.owner (c.args.length ∷ [] ++ replicate c.args.length 0) c.self.inside.journal c.write_record.new.journal c.class.view_is
     c.owner.view_is c.in-Ok.ensures.done)) in
-    let fit : has_room_for c.self.inside.journal.in_transaction c.self.inside.journal.touched (top_address ∷ []) ≡ true =
+    let fit : has_room_for (journal_keeping c.self.inside.journal) (top_address ∷ []) ≡ true =
     (sym c.fits.ensures ∙ c.if-not-fits.false) in
-    let down : c.in_default-write.field-0 ≡ StoreDown = only_down (get_or c.self.inside.journal.plain top_address 0) c.self.inside.journal
-    c.write_record.new.journal below (top_address ∷ []) fit c.in_default-write.field-0 (λ e. c.in_default-write.ensures.full.0 (ap Err e)) in
+    let down : c.in_default-write.field-0 ≡ StoreDown = only_down c.self.inside.journal c.write_record.new.journal
+    c.self.inside.size c.self.invariant (up_is c.self.inside.journal c.args.self.now c.self.inside.size c.self.view_is c.requires) below (top_address ∷ []) fit
+    c.in_default-write.field-0 (λ e. c.in_default-write.ensures.full.0 (ap Err e)) in
     top_stopped_sound c.self.inside.journal c.write_record.new.journal c.self.inside.size c.self.invariant
     (up_is c.self.inside.journal c.args.self.now c.self.inside.size c.self.view_is c.requires) below
     (new_record (kind_number c.args.kind) c.args.class c.args.owner c.args.length) fills c.write.new.self (c.in_default-write.ensures.stopped (ap Err down))
@@ -91,7 +93,8 @@ returns-then-not-fits-clause-moves g c =
     (AddObject (new_object c.args.kind c.args.class c.args.owner c.args.length) (4 + c.args.length) ∷ []) c.args.self.now.now.top
     (object_full c.args.self.now (4 + c.args.length) (end_address ∷ []) (has_space c.self.inside.journal c.args.self.now c.self.inside.size
     (4 + c.args.length) c.self.view_is (c.self.invariant.now (up_is c.self.inside.journal c.args.self.now c.self.inside.size c.self.view_is c.requires))
-    (omega arith)) (end_room c.self.inside.journal c.args.self.now c.self.inside.size c.self.view_is ∙ sym c.fits.ensures ∙ c.if-not-fits.true)) refl
+    (omega arith)) (end_room c.self.inside.journal c.args.self.now c.self.inside.size c.self.invariant.back c.self.view_is ∙ sym c.fits.ensures
+    ∙ c.if-not-fits.true)) refl
 
 pub returns-in_default-clause-moves : goal.returns-in_default-clause-moves
 returns-in_default-clause-moves g c =
@@ -102,7 +105,8 @@ returns-in_default-clause-moves g c =
     (4 + c.args.length)) c.args.self.now.now.top
     (object_fits c.args.self.now (4 + c.args.length) (end_address ∷ []) (has_space c.self.inside.journal c.args.self.now c.self.inside.size
     (4 + c.args.length) c.self.view_is (c.self.invariant.now (up_is c.self.inside.journal c.args.self.now c.self.inside.size c.self.view_is c.requires))
-    (omega arith)) (end_room c.self.inside.journal c.args.self.now c.self.inside.size c.self.view_is ∙ (sym c.fits.ensures ∙ c.if-not-fits.false)))
+    (omega arith)) (end_room c.self.inside.journal c.args.self.now c.self.inside.size c.self.invariant.back c.self.view_is
+    ∙ (sym c.fits.ensures ∙ c.if-not-fits.false)))
     (fresh_stopped_view c.self.inside.journal c.write_record.new.journal c.self.inside.size c.self.invariant
     (up_is c.self.inside.journal c.args.self.now c.self.inside.size c.self.view_is c.requires) below c.args.self.now c.self.view_is
     c.in_default.ensures.stopped)
@@ -118,15 +122,17 @@ returns-in_default-write-clause-moves g c =
     c.self.inside.journal c.write_record.new.journal) c.read-top.ensures (fills_same c.read-top.result c.number.result c.class.inside.0 c.args.class
     c.owner.inside.0 c.args.owner (c.args.length ∷ [] ++ replicate c.args.length 0) c.self.inside.journal c.write_record.new.journal c.class.view_is
     c.owner.view_is c.in-Ok.ensures.done)) in
-    let fit : has_room_for c.self.inside.journal.in_transaction c.self.inside.journal.touched (top_address ∷ []) ≡ true =
+    let fit : has_room_for (journal_keeping c.self.inside.journal) (top_address ∷ []) ≡ true =
     (sym c.fits.ensures ∙ c.if-not-fits.false) in
-    let down : c.in_default-write.field-0 ≡ StoreDown = only_down (get_or c.self.inside.journal.plain top_address 0) c.self.inside.journal
-    c.write_record.new.journal below (top_address ∷ []) fit c.in_default-write.field-0 (λ e. c.in_default-write.ensures.full.0 (ap Err e)) in
+    let down : c.in_default-write.field-0 ≡ StoreDown = only_down c.self.inside.journal c.write_record.new.journal
+    c.self.inside.size c.self.invariant (up_is c.self.inside.journal c.args.self.now c.self.inside.size c.self.view_is c.requires) below (top_address ∷ []) fit
+    c.in_default-write.field-0 (λ e. c.in_default-write.ensures.full.0 (ap Err e)) in
     unless_cut (refusal_of_space c.args.self.now (4 + c.args.length) (end_address ∷ [])) c.args.self.now (heap_view c.write.new.self c.self.inside.size)
     (AddObject (new_object c.args.kind c.args.class c.args.owner c.args.length) (4 + c.args.length)) c.args.self.now.now.top
     (object_fits c.args.self.now (4 + c.args.length) (end_address ∷ []) (has_space c.self.inside.journal c.args.self.now c.self.inside.size
     (4 + c.args.length) c.self.view_is (c.self.invariant.now (up_is c.self.inside.journal c.args.self.now c.self.inside.size c.self.view_is c.requires))
-    (omega arith)) (end_room c.self.inside.journal c.args.self.now c.self.inside.size c.self.view_is ∙ (sym c.fits.ensures ∙ c.if-not-fits.false)))
+    (omega arith)) (end_room c.self.inside.journal c.args.self.now c.self.inside.size c.self.invariant.back c.self.view_is
+    ∙ (sym c.fits.ensures ∙ c.if-not-fits.false)))
     (top_stopped_view c.self.inside.journal c.write_record.new.journal c.self.inside.size c.self.invariant
     (up_is c.self.inside.journal c.args.self.now c.self.inside.size c.self.view_is c.requires) below
     (new_record (kind_number c.args.kind) c.args.class c.args.owner c.args.length) fills c.write.new.self c.args.self.now c.self.view_is
@@ -149,7 +155,8 @@ returns-clause-moves g c =
     (AddObject (new_object c.args.kind c.args.class c.args.owner c.args.length) (4 + c.args.length)) c.at.result c.args.self.now.now.top
     (object_fits c.args.self.now (4 + c.args.length) (end_address ∷ []) (has_space c.self.inside.journal c.args.self.now c.self.inside.size
     (4 + c.args.length) c.self.view_is (c.self.invariant.now (up_is c.self.inside.journal c.args.self.now c.self.inside.size c.self.view_is c.requires))
-    (omega arith)) (end_room c.self.inside.journal c.args.self.now c.self.inside.size c.self.view_is ∙ (sym c.fits.ensures ∙ c.if-not-fits.false)))
+    (omega arith)) (end_room c.self.inside.journal c.args.self.now c.self.inside.size c.self.invariant.back c.self.view_is
+    ∙ (sym c.fits.ensures ∙ c.if-not-fits.false)))
     (c.at.ensures ∙ c.read-top.ensures ∙ sym (view_top c.self.inside.journal c.args.self.now c.self.inside.size c.self.view_is
     (c.self.invariant.now (up_is c.self.inside.journal c.args.self.now c.self.inside.size c.self.view_is c.requires))))
     (view_made c.self.inside.journal c.write_record.new.journal c.write.new.self c.args.self.now c.self.inside.size c.args.kind c.args.class c.args.owner

@@ -1,6 +1,7 @@
 use Rattle.std.proofs.Common.{◌≡◌, ◌≤◌, ◌+◌, ◌∙◌, [], ◌∷◌, get_or, arith, refl, sym, ap, subst, true, Err}
 use Rattle.jc_words.specs.Layout.{top_address}
-use Rattle.jc_commit.specs.State.{has_room_for, Changes}
+use Rattle.jc_commit.specs.Keeping.{has_room_for}
+use Rattle.jc_commit.specs.State.{Changes, keeping as journal_keeping}
 use Rattle.jc_commit.specs.declared.refusal.WriteRefusal.TheVariants.{StoreDown}
 use Rattle.jc_heap.specs.Fresh.{KeepsBelow, Fills}
 use Rattle.jc_heap.specs.Heap.{area_end_address, area_end, end_address, heap_view}
@@ -48,10 +49,11 @@ invariant_of-self-in_default-write_all g c =
     (subst (λ t. Fills t (c.header_of.result ∷ c.args.class ∷ c.args.owner ∷ c.args.length ∷ c.read-place.result ∷ []) c.self.inside.journal
     c.write_run.new.journal) c.read-top.ensures (fills_same c.read-top.result c.header_of.result c.class.inside.0 c.args.class c.owner.inside.0 c.args.owner
     (c.args.length ∷ c.read-place.result ∷ []) c.self.inside.journal c.write_run.new.journal c.class.view_is c.owner.view_is c.in-Ok.ensures.done)) in
-    let fit : has_room_for c.self.inside.journal.in_transaction c.self.inside.journal.touched (top_address ∷ c.area_word-end_word.result ∷ []) ≡ true =
+    let fit : has_room_for (journal_keeping c.self.inside.journal) (top_address ∷ c.area_word-end_word.result ∷ []) ≡ true =
     (sym c.fits.ensures ∙ c.if-not-fits.false) in
-    let down : c.in_default-write_all.field-0 ≡ StoreDown = only_down (get_or c.self.inside.journal.plain top_address 0) c.self.inside.journal
-    c.write_run.new.journal below (top_address ∷ c.area_word-end_word.result ∷ []) fit c.in_default-write_all.field-0
+    let down : c.in_default-write_all.field-0 ≡ StoreDown = only_down c.self.inside.journal c.write_run.new.journal
+    c.self.inside.size c.self.invariant (up_is c.self.inside.journal c.args.self.now c.self.inside.size c.self.view_is c.requires) below
+    (top_address ∷ c.area_word-end_word.result ∷ []) fit c.in_default-write_all.field-0
     (λ e. c.in_default-write_all.ensures.full.0 (ap Err e)) in
     top_stopped_sound c.self.inside.journal c.write_run.new.journal c.self.inside.size c.self.invariant
     (up_is c.self.inside.journal c.args.self.now c.self.inside.size c.self.view_is c.requires) below
@@ -130,7 +132,8 @@ returns-then-not-fits-clause-moves g c =
     ∙ object_full c.args.self.now transient_size (end_address ∷ area_end_address c.args.event ∷ [])
     (has_space c.self.inside.journal c.args.self.now c.self.inside.size transient_size c.self.view_is
     (c.self.invariant.now (up_is c.self.inside.journal c.args.self.now c.self.inside.size c.self.view_is c.requires)) (omega arith))
-    (ends_room c.self.inside.journal c.args.self.now c.self.inside.size c.args.event c.area_word-end_word.result c.self.view_is c.area_word-end_word.ensures
+    (ends_room c.self.inside.journal c.args.self.now c.self.inside.size c.args.event c.area_word-end_word.result c.self.invariant.back c.self.view_is
+    c.area_word-end_word.ensures
     ∙ sym c.fits.ensures ∙ c.if-not-fits.true)) refl
 
 pub returns-in_default-clause-moves : goal.returns-in_default-clause-moves
@@ -148,7 +151,8 @@ returns-in_default-clause-moves g c =
     ∙ object_fits c.args.self.now transient_size (end_address ∷ area_end_address c.args.event ∷ [])
     (has_space c.self.inside.journal c.args.self.now c.self.inside.size transient_size c.self.view_is
     (c.self.invariant.now (up_is c.self.inside.journal c.args.self.now c.self.inside.size c.self.view_is c.requires)) (omega arith))
-    (ends_room c.self.inside.journal c.args.self.now c.self.inside.size c.args.event c.area_word-end_word.result c.self.view_is c.area_word-end_word.ensures
+    (ends_room c.self.inside.journal c.args.self.now c.self.inside.size c.args.event c.area_word-end_word.result c.self.invariant.back c.self.view_is
+    c.area_word-end_word.ensures
     ∙ (sym c.fits.ensures ∙ c.if-not-fits.false))) (fresh_stopped_view c.self.inside.journal c.write_run.new.journal c.self.inside.size c.self.invariant
     (up_is c.self.inside.journal c.args.self.now c.self.inside.size c.self.view_is c.requires) below c.args.self.now c.self.view_is
     c.in_default.ensures.stopped)
@@ -169,10 +173,11 @@ returns-in_default-write_all-clause-moves g c =
     (subst (λ t. Fills t (c.header_of.result ∷ c.args.class ∷ c.args.owner ∷ c.args.length ∷ c.read-place.result ∷ []) c.self.inside.journal
     c.write_run.new.journal) c.read-top.ensures (fills_same c.read-top.result c.header_of.result c.class.inside.0 c.args.class c.owner.inside.0 c.args.owner
     (c.args.length ∷ c.read-place.result ∷ []) c.self.inside.journal c.write_run.new.journal c.class.view_is c.owner.view_is c.in-Ok.ensures.done)) in
-    let fit : has_room_for c.self.inside.journal.in_transaction c.self.inside.journal.touched (top_address ∷ c.area_word-end_word.result ∷ []) ≡ true =
+    let fit : has_room_for (journal_keeping c.self.inside.journal) (top_address ∷ c.area_word-end_word.result ∷ []) ≡ true =
     (sym c.fits.ensures ∙ c.if-not-fits.false) in
-    let down : c.in_default-write_all.field-0 ≡ StoreDown = only_down (get_or c.self.inside.journal.plain top_address 0) c.self.inside.journal
-    c.write_run.new.journal below (top_address ∷ c.area_word-end_word.result ∷ []) fit c.in_default-write_all.field-0
+    let down : c.in_default-write_all.field-0 ≡ StoreDown = only_down c.self.inside.journal c.write_run.new.journal
+    c.self.inside.size c.self.invariant (up_is c.self.inside.journal c.args.self.now c.self.inside.size c.self.view_is c.requires) below
+    (top_address ∷ c.area_word-end_word.result ∷ []) fit c.in_default-write_all.field-0
     (λ e. c.in_default-write_all.ensures.full.0 (ap Err e)) in
     unless_cut (refusal_of_transient c.args.self.now c.args.event c.args.length) c.args.self.now (heap_view c.write_all.new.self c.self.inside.size)
     (AddTransient c.args.kind c.args.event c.args.class c.args.owner c.args.length) c.args.self.now.now.top
@@ -180,7 +185,8 @@ returns-in_default-write_all-clause-moves g c =
     ∙ object_fits c.args.self.now transient_size (end_address ∷ area_end_address c.args.event ∷ [])
     (has_space c.self.inside.journal c.args.self.now c.self.inside.size transient_size c.self.view_is
     (c.self.invariant.now (up_is c.self.inside.journal c.args.self.now c.self.inside.size c.self.view_is c.requires)) (omega arith))
-    (ends_room c.self.inside.journal c.args.self.now c.self.inside.size c.args.event c.area_word-end_word.result c.self.view_is c.area_word-end_word.ensures
+    (ends_room c.self.inside.journal c.args.self.now c.self.inside.size c.args.event c.area_word-end_word.result c.self.invariant.back c.self.view_is
+    c.area_word-end_word.ensures
     ∙ (sym c.fits.ensures ∙ c.if-not-fits.false))) (top_stopped_view c.self.inside.journal c.write_run.new.journal c.self.inside.size c.self.invariant
     (up_is c.self.inside.journal c.args.self.now c.self.inside.size c.self.view_is c.requires) below
     (transient_record c.args.kind c.args.event c.args.class c.args.owner c.args.length c.read-place.result) fills c.write_all.new.self c.args.self.now
@@ -217,7 +223,8 @@ returns-clause-moves g c =
     ∙ object_fits c.args.self.now transient_size (end_address ∷ area_end_address c.args.event ∷ [])
     (has_space c.self.inside.journal c.args.self.now c.self.inside.size transient_size c.self.view_is
     (c.self.invariant.now (up_is c.self.inside.journal c.args.self.now c.self.inside.size c.self.view_is c.requires)) (omega arith))
-    (ends_room c.self.inside.journal c.args.self.now c.self.inside.size c.args.event c.area_word-end_word.result c.self.view_is c.area_word-end_word.ensures
+    (ends_room c.self.inside.journal c.args.self.now c.self.inside.size c.args.event c.area_word-end_word.result c.self.invariant.back c.self.view_is
+    c.area_word-end_word.ensures
     ∙ (sym c.fits.ensures ∙ c.if-not-fits.false))) (c.at.ensures ∙ c.read-top.ensures
     ∙ sym (view_top c.self.inside.journal c.args.self.now c.self.inside.size c.self.view_is
     (c.self.invariant.now (up_is c.self.inside.journal c.args.self.now c.self.inside.size c.self.view_is c.requires))))

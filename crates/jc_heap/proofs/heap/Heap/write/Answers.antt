@@ -1,10 +1,11 @@
-use Rattle.std.proofs.Common.{◌≡◌, ◌∙◌, [], ◌∷◌, length, refl, subst, sym, ap, inl, inr, Err, true}
-use Rattle.jc_commit.specs.State.{Changes, has_room_for as journal_room}
+use Rattle.std.proofs.Common.{◌≡◌, ◌∙◌, [], ◌∷◌, length, refl, subst, sym, ap, inl, inr, Err, true, List, ℕ}
+use Rattle.jc_commit.specs.Keeping.{has_room_for as journal_room}
+use Rattle.jc_commit.specs.State.{Changes, keeping as journal_keeping}
 use Rattle.jc_heap.specs.Heap.{IsSound, heap_view, has_room_for}
 use Rattle.jc_heap.specs.Moves.{Write, refusal_at}
 use Rattle.jc_heap.specs.Places.{place_word}
 use Rattle.jc_heap.proofs.Changing.{up_is, refusal_cases, journal_stopped_sound}
-use Rattle.jc_heap.proofs.Calls.{ok_not_err, not_false, room_is, not_full, unless_done}
+use Rattle.jc_heap.proofs.Calls.{ok_not_err, not_false, room_is, not_full, unless_done, change_refused}
 use Rattle.jc_heap.proofs.Places.{PlaceSpot, place_spot, place_logged, place_view, place_sound}
 use Rattle.jc_heap.proofs.heap.Heap.write.Goals as goal
 
@@ -33,10 +34,22 @@ returns g c =
     let there : Changes ((place_word c.args.place, c.args.v) ∷ []) c.self.inside.journal c.write.new.self =
     subst (λ a. Changes ((a, c.args.v) ∷ []) c.self.inside.journal c.write.new.self) c.place_word-word.ensures c.in_ok-write.ensures.ok in
     let room : has_room_for c.args.self.now (place_word c.args.place ∷ []) ≡ true =
-    not_false _ (λ f. ok_not_err _ _ (c.in_ok-write.ensures.full.1 (ap (λ a. journal_room c.self.inside.journal.in_transaction c.self.inside.journal.touched
+    not_false _ (λ f. ok_not_err _ _ (c.in_ok-write.ensures.full.1 (ap (λ a. journal_room (journal_keeping c.self.inside.journal)
     (a ∷ [])) c.place_word-word.ensures ∙ sym (room_is c.self.inside.journal c.args.self.now c.self.inside.size
-    (place_word c.args.place ∷ []) c.self.view_is) ∙ f))) in
+    (place_word c.args.place ∷ []) c.self.invariant.back c.self.view_is) ∙ f))) in
     unless_done (refusal_at c.args.self.now (place_word c.args.place ∷ [])) c.args.self.now (heap_view c.write.new.self c.self.inside.size)
     (Write c.args.place c.args.v) tt tt (not_full c.args.self.now (place_word c.args.place ∷ []) room) refl
     (place_view c.self.inside.journal c.write.new.self c.args.self.now c.self.inside.size c.args.place c.args.v c.self.view_is
-    (c.self.invariant.now (up_is c.self.inside.journal c.args.self.now c.self.inside.size c.self.view_is c.requires.up)) c.requires.there there)
+    (c.self.invariant.now (up_is c.self.inside.journal c.args.self.now c.self.inside.size c.self.view_is c.requires.up)) c.self.invariant.back c.requires.there
+    there)
+
+pub returns-in_err-write : goal.returns-in_err-write
+returns-in_err-write g c =
+    let places : List ℕ = place_word c.args.place ∷ [] in
+    let e = c.in_err-write.ensures in
+    let there : has_room_for c.args.self.now places ≡ journal_room (journal_keeping c.self.inside.journal) (c.place_word-word.result ∷ []) =
+    room_is c.self.inside.journal c.args.self.now c.self.inside.size places c.self.invariant.back c.self.view_is
+    ∙ ap (λ a. journal_room (journal_keeping c.self.inside.journal) (a ∷ [])) (sym c.place_word-word.ensures) in
+    change_refused c.from_residual.result (Write c.args.place c.args.v) c.args.self.now c.self.inside.journal c.write.new.self c.self.inside.size places
+    (journal_room (journal_keeping c.self.inside.journal) (c.place_word-word.result ∷ [])) c.in_err-write.field-0.0 c.from_residual.ensures.1 c.self.view_is
+    there e.full.0 e.full.1 e.kept e.stopped

@@ -1,4 +1,4 @@
-use Rattle.std.proofs.Common.{◌≡◌, ◌<◌, length, arith}
+use Rattle.std.proofs.Common.{◌<◌, length, arith}
 use Rattle.jc_memory.specs.Cells.{byte_at}
 use Rattle.jc_memory.proofs.Running.{read_more, read_all}
 use Rattle.jc_memory.proofs.memory.Memory.bytes.Goals as goal

@@ -1,4 +1,4 @@
-use Rattle.std.proofs.Common.{◌≡◌, ◌∙◌, ◌<◌, subst}
+use Rattle.std.proofs.Common.{◌∙◌, ◌<◌, subst}
 use Rattle.jc_memory.proofs.Usable.{at_rest}
 use Rattle.jc_memory.proofs.memory.Memory.new.Goals as goal
 

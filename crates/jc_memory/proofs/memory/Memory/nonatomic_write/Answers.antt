@@ -1,4 +1,4 @@
-use Rattle.std.proofs.Common.{◌≡◌, ap, ◌∙◌}
+use Rattle.std.proofs.Common.{ap, ◌∙◌}
 use Rattle.jc_heap.specs.Heap.{facts}
 use Rattle.jc_memory.proofs.Usable.{counter_suits}
 use Rattle.jc_memory.proofs.Marking.{known_step}

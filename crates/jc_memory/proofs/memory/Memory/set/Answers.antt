@@ -1,5 +1,4 @@
-use Rattle.std.proofs.Common.{ap, ◌∙◌, ◌≡◌, subst, sym}
-use Rattle.jc_heap.specs.declared.object.Kind.TheVariants.{ReferenceArray}
+use Rattle.std.proofs.Common.{ap, ◌∙◌, subst, sym}
 use Rattle.jc_heap.specs.declared.place.Place.TheVariants.{Cell}
 use Rattle.jc_heap.specs.Keeping.{IsLegalValue}
 use Rattle.jc_memory.specs.Cells.{word_of}

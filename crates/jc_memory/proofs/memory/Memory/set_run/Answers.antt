@@ -1,5 +1,4 @@
-use Rattle.std.proofs.Common.{ap, ◌∙◌, ◌≡◌, subst, sym}
-use Rattle.jc_heap.specs.declared.object.Kind.TheVariants.{ReferenceArray}
+use Rattle.std.proofs.Common.{ap, ◌∙◌, sym}
 use Rattle.jc_heap.specs.Heap.{facts}
 use Rattle.jc_memory.proofs.Marking.{known_change}
 use Rattle.jc_memory.proofs.memory.Memory.set_run.Goals as goal

@@ -1,4 +1,4 @@
-use Rattle.std.proofs.Common.{◌≡◌, ◌<◌, length, arith}
+use Rattle.std.proofs.Common.{◌<◌, length, arith}
 use Rattle.jc_memory.specs.Cells.{word_at}
 use Rattle.jc_memory.proofs.Running.{read_more, read_all}
 use Rattle.jc_memory.proofs.memory.Memory.words.Goals as goal

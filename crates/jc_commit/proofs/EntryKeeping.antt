@@ -1,0 +1,482 @@
+-- What a change in a transaction keeps.
+use Rattle.std.proofs.Common.{◌≡◌, ℕ, zero, suc, ◌+◌, ◌*◌, ◌<◌, ◌≤◌, ◌||◌, ◌==◌, ◌⊎◌, Bool, true, false, cond, not, List, [], ◌∷◌, ◌++◌, Option, Some, IsSome}
+use Rattle.std.proofs.Common.{length, map, get_or, set, take, drop, slice_index, All, filter, refl, sym, ◌∙◌, ap, subst, arith, inl, inr, ⊎_elim}
+use Rattle.std.proofs.Common.{take-append-drop, ext_get_or, get_or-set_other, get_or-set_same, leb-true, eqb-true, eq-eqb, ne_eqb, is_some, append-nil}
+use Rattle.std.proofs.Common.{append_assoc, max, length-take, get_or-take}
+use Rattle.std.specs.List.{list_any, range_with_len}
+use Rattle.std.specs.Prelude.{if◌then◌else◌, nat_le}
+use Rattle.std.proofs.lemmas.Bool.{cases_Bool, cases_eq, false≢true}
+use Rattle.std.proofs.lemmas.List.{length-append, length-map, length-set, take_more, get_or_default}
+use Rattle.std.proofs.lemmas.List.Elements.{filter-append, All-filter, All-head, All-tail}
+use Rattle.std.proofs.lemmas.List.Folds.{list_any-append}
+use Rattle.std.proofs.lemmas.List.FromFn.{map-range_with_len_more}
+use Rattle.jc_words.specs.Count.{saturating_count}
+use Rattle.jc_words.specs.Layout.{log_start, log_end, top_address, count_address, addresses_start}
+use Rattle.jc_commit.specs.Image.{address_at, old_at, entries, old_value, count_of, capacity, plain_of, recovered_of, touched_of, top_of, IsPlace, IsReadable}
+use Rattle.jc_commit.specs.Image.{IsGoodLog}
+use Rattle.jc_commit.specs.Entries.{addresses_of, AreDistinct, ArePlaces, SameBefore, HasEntries}
+use Rattle.jc_commit.specs.State.{State, live_words, born_of}
+use Rattle.jc_commit.specs.Keeping.{writes_inside, is_taken_back}
+use Rattle.jc_commit.specs.EntryIndex.{named_by, needing, with_entries, IsIndexOf, GoBack, KeepsAddresses}
+use Rattle.jc_commit.proofs.Words.{readable}
+use Rattle.jc_commit.proofs.Steps.{IsGoodLog-set_place, count-set_place, entries-set_place, plain-set_place}
+use Rattle.jc_commit.proofs.Entries.{same_after, target, target-take}
+use Rattle.jc_commit.proofs.Counted.{entry_of, named_new, Kept, kept_before, Counted, counted}
+use Rattle.jc_commit.proofs.InPlace.{listed, unlisted, recovered-set_place, live_words-set}
+use Rattle.jc_commit.proofs.Outside.{new_ones}
+use Rattle.jc_commit.proofs.Indexes.{get_or-named_by, length-named_by, IsIndexOf-same}
+
+-- ---- which changes need an entry
+
+pub needing_more : (touched : List ℕ) (born : ℕ) (changes : List (ℕ × ℕ)) (i : ℕ) → i < length changes →
+    needing touched born (take (i + 1) changes) ≡ needing touched born (take i changes) ++ needing touched born (get_or changes i (0, 0) ∷ [])
+needing_more touched born changes i within =
+    let p : ℕ × ℕ → Bool = λ c. not (is_taken_back touched born c.0) in
+    ap (filter p) (take_more changes i (0, 0) within) ∙ filter-append p (take i changes) (get_or changes i (0, 0) ∷ [])
+
+pub needing_part : (touched : List ℕ) (born : ℕ) (changes : List (ℕ × ℕ)) (i : ℕ) → length (needing touched born (take i changes)) ≤ length
+    (needing touched born changes)
+needing_part touched born changes i =
+    let p : ℕ × ℕ → Bool = λ c. not (is_taken_back touched born c.0) in
+    let parts : filter p changes ≡ filter p (take i changes) ++ filter p (drop i changes) =
+    ap (filter p) (sym (take-append-drop i changes)) ∙ filter-append p (take i changes) (drop i changes) in
+    let long : length (filter p changes) ≡ length (filter p (take i changes)) + length (filter p (drop i changes)) =
+    ap (λ (l : List (ℕ × ℕ)). length l) parts ∙ length-append (filter p (take i changes)) (filter p (drop i changes)) in
+    omega (arith, long)
+
+all_places : (n : ℕ) (changes : List (ℕ × ℕ)) → ArePlaces n changes → All (λ (c : ℕ × ℕ). IsPlace n c.0) changes
+all_places n changes places k d within = subst (λ (c : ℕ × ℕ). IsPlace n c.0) (get_or_default changes k (0, 0) d within) (places k within)
+
+pub places_needing : (touched : List ℕ) (born n : ℕ) (changes : List (ℕ × ℕ)) → ArePlaces n changes → ArePlaces n (needing touched born changes)
+places_needing touched born n changes places k within =
+    All-filter (λ c. not (is_taken_back touched born c.0)) (λ (c : ℕ × ℕ). IsPlace n c.0) changes (all_places n changes places) k (0, 0) within
+
+pub places_take : (n m : ℕ) (changes : List (ℕ × ℕ)) → ArePlaces n changes → ArePlaces n (take m changes)
+places_take n m changes places k within =
+    let long = length-take m changes in
+    subst (λ (a : ℕ). IsPlace n a) (sym (target-take changes m k (omega (arith, within, long)))) (places k (omega (arith, within, long)))
+
+-- ---- entries that are put
+
+abbrev after_entry : List ℕ → ℕ → ℕ × ℕ → List ℕ
+after_entry w k change = set (set w (log_start + 2 * k) change.0) (log_start + 2 * k + 1) (slice_index w change.0)
+
+pub same_more : (first k : ℕ) (old w v : List ℕ) → first ≤ k → SameBefore first old w → SameBefore k w v → SameBefore first old v
+same_more first k old w v order was is = (is.0 ∙ was.0, λ a free. is.1 a (λ h. free (omega (arith, order, h))) ∙ was.1 a free)
+
+pub entry_same : (w : List ℕ) (k : ℕ) (change : ℕ × ℕ) → k < capacity → SameBefore k w (after_entry w k change)
+entry_same w k change few =
+    same_after w w (after_entry w k change) k (log_start + 2 * k) change.0 (slice_index w change.0) (omega arith) (omega (arith, few)) refl
+    (refl, λ a free. refl)
+
+length-after : (w : List ℕ) (k : ℕ) (change : ℕ × ℕ) → length (after_entry w k change) ≡ length w
+length-after w k change = length-set (set w (log_start + 2 * k) change.0) (log_start + 2 * k + 1) (slice_index w change.0)
+    ∙ length-set w (log_start + 2 * k) change.0
+
+pub entry_address : (w : List ℕ) (k : ℕ) (change : ℕ × ℕ) → k < capacity → log_end ≤ length w → address_at (after_entry w k change) k ≡ change.0
+entry_address w k change few size =
+    get_or-set_other (set w (log_start + 2 * k) change.0) (log_start + 2 * k + 1) (log_start + 2 * k) (slice_index w change.0) 0
+    (λ same. absurd (omega (arith, same)))
+    ∙ get_or-set_same w (log_start + 2 * k) change.0 0 (omega (arith, few, size))
+
+pub with_entries-append : (w : List ℕ) (k : ℕ) (xs ys : List (ℕ × ℕ)) → with_entries w k (xs ++ ys) ≡ with_entries (with_entries w k xs) (k + length xs) ys
+with_entries-append w k [] ys = let e : k ≡ k + 0 = omega arith in ap (λ (j : ℕ). with_entries w j ys) e
+with_entries-append w k (x ∷ xs) ys =
+    let e : k + 1 + length xs ≡ k + suc (length xs) = omega arith in
+    with_entries-append (after_entry w k x) (k + 1) xs ys ∙ ap (λ (j : ℕ). with_entries (with_entries (after_entry w k x) (k + 1) xs) j ys) e
+
+pub same_with : (w : List ℕ) (k : ℕ) (changes : List (ℕ × ℕ)) → k + length changes ≤ capacity → SameBefore k w (with_entries w k changes)
+same_with w k [] few = (refl, λ a free. refl)
+same_with w k (c ∷ cs) few =
+    let rest = same_with (after_entry w k c) (k + 1) cs (omega (arith, few)) in
+    same_more k (k + 1) w (after_entry w k c) (with_entries (after_entry w k c) (k + 1) cs) (omega arith) (entry_same w k c (omega (arith, few))) rest
+
+-- a word that an entry may name is no word of an entry
+beside_entry : (w : List ℕ) (k n a : ℕ) (change : ℕ × ℕ) → k < capacity → IsPlace n a → slice_index (after_entry w k change) a ≡ slice_index w a
+beside_entry w k n a change few place =
+    let beside = place.beside in
+    get_or-set_other (set w (log_start + 2 * k) change.0) (log_start + 2 * k + 1) a (slice_index w change.0) 0 (λ e. absurd (omega (arith, few, beside, e)))
+    ∙ get_or-set_other w (log_start + 2 * k) a change.0 0 (λ e. absurd (omega (arith, few, beside, e)))
+
+pub has_with : (w : List ℕ) (k : ℕ) (changes : List (ℕ × ℕ)) → k + length changes ≤ capacity → log_end ≤ length w → ArePlaces (length w) changes
+    → HasEntries k changes w (with_entries w k changes)
+has_with w k [] few size places j within = absurd (omega (arith, within))
+has_with w k (c ∷ cs) few size places zero within =
+    let v = with_entries (after_entry w k c) (k + 1) cs in
+    let kept : SameBefore (k + 1) (after_entry w k c) v = same_with (after_entry w k c) (k + 1) cs (omega (arith, few)) in
+    let e : k + 0 ≡ k = omega arith in (
+      ap (λ (j : ℕ). address_at v j) e ∙ kept.1 (log_start + 2 * k) (λ h. absurd (omega (arith, h)))
+          ∙ get_or-set_other (set w (log_start + 2 * k) c.0) (log_start + 2 * k + 1) (log_start + 2 * k) (slice_index w c.0) 0
+          (λ same. absurd (omega (arith, same)))
+          ∙ get_or-set_same w (log_start + 2 * k) c.0 0 (omega (arith, few, size)),
+      ap (λ (j : ℕ). old_at v j) e ∙ kept.1 (log_start + 2 * k + 1) (λ h. absurd (omega (arith, h)))
+          ∙ get_or-set_same (set w (log_start + 2 * k) c.0) (log_start + 2 * k + 1) (slice_index w c.0) 0
+          (omega (arith, few, size, length-set w (log_start + 2 * k) c.0)),
+    )
+has_with w k (c ∷ cs) few size places (suc j) within =
+    let v = with_entries (after_entry w k c) (k + 1) cs in
+    let long = length-after w k c in
+    let rest = has_with (after_entry w k c) (k + 1) cs (omega (arith, few)) (omega (arith, size, long))
+    (λ i lt. subst (λ (n : ℕ). IsPlace n (get_or cs i (0, 0)).0) (sym long) (places (suc i) (omega (arith, lt)))) j (omega (arith, within)) in
+    let e : k + suc j ≡ k + 1 + j = omega arith in (
+      ap (λ (i : ℕ). address_at v i) e ∙ rest.0,
+      ap (λ (i : ℕ). old_at v i) e ∙ rest.1 ∙ beside_entry w k (length w) (target cs j) c (omega (arith, few)) (places (suc j) within),
+    )
+
+pub named_by_same : (w v : List ℕ) (n : ℕ) → SameBefore n w v → (k : ℕ) → k < n → address_at v k ≡ address_at w k
+named_by_same w v n same k below = same.1 (log_start + 2 * k) (λ h. absurd (omega (arith, h, below)))
+
+pub named_by_kept : (w v : List ℕ) (n : ℕ) → SameBefore n w v → named_by v n ≡ named_by w n
+named_by_kept w v n same =
+    ext_get_or 0 (named_by v n) (named_by w n) (length-named_by v n ∙ sym (length-named_by w n))
+    (λ k within. let below : k < n = omega (arith, within, length-named_by v n) in get_or-named_by v n k 0 below ∙ named_by_same w v n same k below
+    ∙ sym (get_or-named_by w n k 0 below))
+
+pub index_kept : (w v : List ℕ) (n : ℕ) (numbers : List ℕ) → SameBefore n w v → IsIndexOf w n numbers → IsIndexOf v n numbers
+index_kept w v n numbers same index = IsIndexOf-same w v n numbers (named_by_same w v n same) index
+
+-- one entry more names one address more
+named_by_more : (w : List ℕ) (k : ℕ) → named_by w (k + 1) ≡ named_by w k ++ address_at w k ∷ []
+unfolding named_by
+named_by_more w k = map-range_with_len_more (address_at w) 0 k k (omega arith)
+
+pub names_with : (w : List ℕ) (k : ℕ) (changes : List (ℕ × ℕ)) → k + length changes ≤ capacity → log_end ≤ length w → ArePlaces (length w) changes →
+    named_by (with_entries w k changes) (k + length changes) ≡ named_by w k ++ addresses_of changes
+names_with w k [] few size places = let e : k + 0 ≡ k = omega arith in ap (named_by w) e ∙ sym (append-nil (named_by w k))
+names_with w k (c ∷ cs) few size places =
+    let v = after_entry w k c in
+    let long = length-after w k c in
+    let e : k + suc (length cs) ≡ k + 1 + length cs = omega arith in
+    let rest : named_by (with_entries v (k + 1) cs) (k + 1 + length cs) ≡ named_by v (k + 1) ++ addresses_of cs =
+    names_with v (k + 1) cs (omega (arith, few)) (omega (arith, size, long)) (λ i lt. subst (λ (n : ℕ). IsPlace n (get_or cs i (0, 0)).0) (sym long)
+    (places (suc i) (omega (arith, lt)))) in
+    let one : address_at v k ≡ c.0 =
+    get_or-set_other (set w (log_start + 2 * k) c.0) (log_start + 2 * k + 1) (log_start + 2 * k) (slice_index w c.0) 0 (λ same. absurd (omega (arith, same)))
+    ∙ get_or-set_same w (log_start + 2 * k) c.0 0 (omega (arith, few, size)) in
+    let front : named_by v (k + 1) ≡ named_by w k ++ c.0 ∷ [] =
+    named_by_more v k ∙ ap (λ (l : List ℕ). l ++ address_at v k ∷ []) (named_by_kept w v k (entry_same w k c (omega (arith, few))))
+    ∙ ap (λ (a : ℕ). named_by w k ++ a ∷ []) one in
+    ap (named_by (with_entries v (k + 1) cs)) e ∙ rest ∙ ap (λ (l : List ℕ). l ++ addresses_of cs) front
+    ∙ append_assoc (named_by w k) (c.0 ∷ []) (addresses_of cs)
+
+-- what entries of other words name does not count
+unnamed : (a : ℕ) (xs : List (ℕ × ℕ)) → All (λ (c : ℕ × ℕ). c.0 ≡ a → ⊥) xs → list_any (λ x. x == a) (addresses_of xs) ≡ false
+unnamed a [] all = refl
+unnamed a (x ∷ xs) all = ap (λ (b : Bool). b || list_any (λ y. y == a) (addresses_of xs)) (ne_eqb x.0 a (All-head (λ (c : ℕ × ℕ). c.0 ≡ a → ⊥) x xs all))
+    ∙ unnamed a xs (All-tail (λ (c : ℕ × ℕ). c.0 ≡ a → ⊥) x xs all)
+
+-- the changes before one are of other words
+others_before : (changes : List (ℕ × ℕ)) (i : ℕ) → i < length changes → AreDistinct (addresses_of changes)
+    → All (λ (c : ℕ × ℕ). c.0 ≡ target changes i → ⊥) (take i changes)
+others_before changes i within distinct k d below same =
+    let less : k < i = omega (arith, below, length-take i changes) in
+    let before : (get_or (take i changes) k d).0 ≡ target changes k = ap (λ (c : ℕ × ℕ). c.0) (get_or_default (take i changes) k d (0, 0) below
+    ∙ get_or-take i changes k (0, 0) less) in
+    distinct k i 0 less (omega (arith, within, length-map changes (λ (c : ℕ × ℕ). c.0)))
+    (get_or-map changes k (omega (arith, less, within)) ∙ sym before ∙ same ∙ sym (get_or-map changes i within))
+  where
+    get_or-map : (cs : List (ℕ × ℕ)) (j : ℕ) → j < length cs → get_or (addresses_of cs) j 0 ≡ target cs j
+    get_or-map [] j lt = absurd (omega (arith, lt))
+    get_or-map (c ∷ cs) zero lt = refl
+    get_or-map (c ∷ cs) (suc j) lt = get_or-map cs j (omega (arith, lt))
+
+or_none : (a b : Bool) → (a || b) ≡ false → a ≡ false
+or_none true b is = absurd (false≢true (sym is))
+or_none false b is = refl
+
+-- an entry that is put names an address that no other does
+pub own_entry : (w v : List ℕ) (k born a : ℕ) → k < capacity → log_end ≤ length w → SameBefore k w v → v ≡ with_entries w k ((a, 0) ∷ [])
+    → is_taken_back (named_by w k) born a ≡ false →
+    list_any (λ x. x == address_at v k) (named_by v k) ≡ false
+own_entry w v k born a few size same put needs =
+    ap (λ (l : List ℕ). list_any (λ x. x == address_at v k) l) (named_by_kept w v k same)
+    ∙ ap (λ (b : ℕ). list_any (λ x. x == b) (named_by w k)) (ap (λ (u : List ℕ). address_at u k) put ∙ entry_address w k (a, 0) few size)
+    ∙ or_none (list_any (λ x. x == a) (named_by w k)) (nat_le born a) needs
+
+or_false : (a b : Bool) → b ≡ false → (a || b) ≡ a
+or_false true b is = refl
+or_false false b is = is
+
+-- so a change needs an entry behind those of the changes before it exactly where it needs one at all
+pub needing_still : (touched : List ℕ) (born : ℕ) (changes : List (ℕ × ℕ)) (i : ℕ) → i < length changes → AreDistinct (addresses_of changes) →
+    needing (touched ++ addresses_of (needing touched born (take i changes))) born (get_or changes i (0, 0) ∷ [])
+    ≡ needing touched born (get_or changes i (0, 0) ∷ [])
+needing_still touched born changes i within distinct =
+    let c = get_or changes i (0, 0) in
+    let p : ℕ × ℕ → Bool = λ d. not (is_taken_back touched born d.0) in
+    let none : list_any (λ x. x == c.0) (addresses_of (needing touched born (take i changes))) ≡ false =
+    unnamed c.0 (needing touched born (take i changes)) (All-filter p (λ (d : ℕ × ℕ). d.0 ≡ c.0 → ⊥) (take i changes) (others_before changes i within distinct))
+    in
+    let same : list_any (λ x. x == c.0) (touched ++ addresses_of (needing touched born (take i changes))) ≡ list_any (λ x. x == c.0) touched =
+    list_any-append (λ x. x == c.0) touched (addresses_of (needing touched born (take i changes))) ∙ or_false (list_any (λ x. x == c.0) touched) _ none in
+    ap (λ (b : Bool). cond (not (b || nat_le born c.0)) (c ∷ []) []) same
+
+mapped_twice : (w : List ℕ) (ks : List ℕ) → map (address_at w) ks ≡ map (λ (e : ℕ × ℕ). e.0) (map (λ (j : ℕ). (address_at w j, old_at w j)) ks)
+mapped_twice w [] = refl
+mapped_twice w (k ∷ ks) = ap (λ (l : List ℕ). address_at w k ∷ l) (mapped_twice w ks)
+
+-- the addresses that the entries name are those that count
+pub named_touched : (w : List ℕ) → named_by w (count_of w) ≡ touched_of w
+unfolding named_by touched_of
+named_touched w = mapped_twice w (range_with_len 0 (count_of w))
+
+-- ---- the entries are counted, where there are more
+
+pub record Ready (w : List ℕ) (changes : List (ℕ × ℕ)) (u : List ℕ) : Type 0 where
+  pub good : IsGoodLog u
+  pub size : length u ≡ length w
+  pub entries : entries u ≡ entries w ++ map (entry_of w) changes
+  pub plain : plain_of u ≡ plain_of w
+  pub recovered : recovered_of u ≡ recovered_of w
+
+ready_none : (w v : List ℕ) → Kept w v → length v ≡ length w → Ready w [] v
+ready_none w v k size = record { good = k.good; size = size; entries = k.entries ∙ sym (nothing_more (entries w)); plain = k.plain; recovered = k.recovered }
+  where
+    nothing_more : (es : List (ℕ × ℕ)) → es ++ [] ≡ es
+    nothing_more [] = refl
+    nothing_more (e ∷ es) = ap (λ (l : List (ℕ × ℕ)). e ∷ l) (nothing_more es)
+
+ready_some : (w u : List ℕ) (changes : List (ℕ × ℕ)) → Counted w changes u → Ready w changes u
+ready_some w u changes c = record { good = c.good; size = c.size; entries = c.entries; plain = c.plain; recovered = c.recovered }
+
+ready_by : (w v u : List ℕ) (first : ℕ) (changes : List (ℕ × ℕ)) (b : Bool) → IsGoodLog w → ArePlaces (length w) changes → first ≡ count_of w
+    → first + length changes ≤ capacity →
+    SameBefore first w v → HasEntries first changes w v → (b ≡ true → changes ≡ []) → u ≡ (if b then v else set v count_address (first + length changes))
+    → Ready w changes u
+ready_by w v u first changes true good places is room same has none written =
+    let k : Ready w [] v = ready_none w v (kept_before w v first good is same) same.0 in
+    subst (λ (cs : List (ℕ × ℕ)). Ready w cs u) (sym (none refl)) (subst (λ (t : List ℕ). Ready w [] t) (sym written) k)
+ready_by w v u first changes false good places is room same has none written =
+    ready_some w u changes (counted w v u first changes good places is room same has written)
+
+-- no changes, where there are no more entries
+none_more : (first : ℕ) (changes : List (ℕ × ℕ)) → (first == first + length changes) ≡ true → changes ≡ []
+none_more first [] is = refl
+none_more first (c ∷ cs) is = absurd (omega (arith, eqb-true first (first + length (c ∷ cs)) is))
+
+pub ready : (w v u : List ℕ) (first behind : ℕ) (changes : List (ℕ × ℕ)) → IsGoodLog w → ArePlaces (length w) changes → first ≡ count_of w
+    → first + length changes ≤ capacity →
+    v ≡ with_entries w first changes → behind ≡ first + length changes → u ≡ (if first == behind then v else set v count_address behind) → Ready w changes u
+ready w v u first behind changes good places is room put all written =
+    let big = good.size in
+    let same : SameBefore first w v = subst (λ (t : List ℕ). SameBefore first w t) (sym put) (same_with w first changes room) in
+    let has : HasEntries first changes w v = subst (λ (t : List ℕ). HasEntries first changes w t) (sym put) (has_with w first changes room big places) in
+    ready_by w v u first changes (first == first + length changes) good places is room same has (none_more first changes)
+    (written ∙ ap (λ (n : ℕ). if first == n then v else set v count_address n) all)
+
+pub ready_is : (w v u : List ℕ) (first behind born : ℕ) (changes : List (ℕ × ℕ)) → IsGoodLog w → ArePlaces (length w) changes → first ≡ count_of w →
+    first + length (needing (named_by w first) born changes) ≤ capacity → v ≡ with_entries w first (needing (named_by w first) born changes) →
+    behind ≡ first + length (needing (named_by w first) born changes) → u ≡ (if first == behind then v else set v count_address behind)
+    → Ready w (needing (touched_of w) born changes) u
+ready_is w v u first behind born changes good places is room put all written =
+    subst (λ (t : List ℕ). Ready w (needing t born changes) u) (ap (named_by w) is ∙ named_touched w)
+    (ready w v u first behind (needing (named_by w first) born changes) good (places_needing (named_by w first) born (length w) changes places) is room put all
+    written)
+
+-- the count, and the addresses that entries name, where the entries are counted
+pub count_by : (w v u : List ℕ) (first behind : ℕ) → SameBefore first w v → first ≡ count_of w → log_end ≤ length w → u
+    ≡ (if first == behind then v else set v count_address behind) →
+    (count_of u ≡ behind) × KeepsAddresses v u
+count_by w v u first behind same is size written = elim (cases_Bool (first == behind)) [
+  | inl none ↦
+      let u_is : u ≡ v = written ∙ ap (λ (b : Bool). if b then v else set v count_address behind) none in (
+        ap count_of u_is ∙ same.1 count_address (λ h. absurd (omega (arith, h))) ∙ sym is ∙ eqb-true first behind none,
+        λ k few. ap (λ (t : List ℕ). address_at t k) u_is,
+      )
+  | inr some ↦
+      let long = same.0 in
+      let u_is : u ≡ set v count_address behind = written ∙ ap (λ (b : Bool). if b then v else set v count_address behind) some in (
+        ap count_of u_is ∙ get_or-set_same v count_address behind 0 (omega (arith, size, long)),
+        λ k few. ap (λ (t : List ℕ). address_at t k) u_is ∙ get_or-set_other v count_address (log_start + 2 * k) behind 0 (λ e. absurd (omega (arith, e))),
+      )
+]
+
+pub index_of_all : (v u x : List ℕ) (behind : ℕ) (numbers : List ℕ) → IsIndexOf v behind numbers → behind ≤ capacity → KeepsAddresses v u → KeepsAddresses u x
+    → count_of x ≡ behind → IsIndexOf x (count_of x) numbers
+index_of_all v u x behind numbers index few first second count =
+    subst (λ (n : ℕ). IsIndexOf x n numbers) (sym count)
+    (IsIndexOf-same v x behind numbers (λ k below. second k (omega (arith, below, few)) ∙ first k (omega (arith, below, few))) index)
+
+-- how many writes that is
+pub writes_sum : (p q r s first behind n m : ℕ) → behind ≡ first + m → q ≡ saturating_count p (2 * m) → r
+    ≡ saturating_count q (if first == behind then 0 else 1) → s ≡ saturating_count r n → s ≡ saturating_count p (writes_inside n m)
+writes_sum p q r s first behind n m all put count through = elim (cases_eq m 0) [
+  | inl none ↦
+      let same : (first == behind) ≡ true = eq-eqb first behind (omega (arith, all, none)) in
+      let no_more : r ≡ saturating_count q 0 = count ∙ ap (λ (b : Bool). saturating_count q (if b then 0 else 1)) same in
+      let cost : writes_inside n m ≡ n + 0 = ap (λ (b : Bool). n + (if b then 0 else 2 * m + 1)) (eq-eqb m 0 none) in
+      omega (arith, put, no_more, through, cost, none)
+  | inr some ↦
+      let other : (first == behind) ≡ false = ne_eqb first behind (λ e. some (omega (arith, all, e))) in
+      let one : r ≡ saturating_count q 1 = count ∙ ap (λ (b : Bool). saturating_count q (if b then 0 else 1)) other in
+      let cost : writes_inside n m ≡ n + (2 * m + 1) = ap (λ (b : Bool). n + (if b then 0 else 2 * m + 1)) (ne_eqb m 0 some) in
+      omega (arith, put, one, through, cost)
+]
+
+-- ---- then each word goes back
+
+some_step : (b : Bool) (x : ℕ) (o p : Option ℕ) → (IsSome o → IsSome p) → IsSome (cond b (Some x) o) → IsSome (cond b (Some x) p)
+some_step true x o p rest some = refl
+some_step false x o p rest some = rest some
+
+some_append : (es more : List (ℕ × ℕ)) (a : ℕ) → IsSome (old_value es a) → IsSome (old_value (es ++ more) a)
+some_append [] more a some = absurd (false≢true some)
+some_append (e ∷ es) more a some = some_step (e.0 == a) e.1 (old_value es a) (old_value (es ++ more) a) (some_append es more a) some
+
+-- what passes is kept, at some place
+Placed : List (ℕ × ℕ) → ℕ × ℕ → Type 0
+Placed xs y = (j : ℕ) × (j < length xs) × (get_or xs j (0, 0) ≡ y)
+
+here : (b : Bool) (x : ℕ × ℕ) (us : List (ℕ × ℕ)) → b ≡ true → Placed (cond b (x ∷ us) us) x
+unfolding Placed
+here true x us is = (0, omega arith, refl)
+here false x us is = absurd (false≢true is)
+
+later : (b : Bool) (x y : ℕ × ℕ) (us : List (ℕ × ℕ)) → Placed us y → Placed (cond b (x ∷ us) us) y
+unfolding Placed
+later true x y us r = (suc r.0, omega (arith, r.1), r.2)
+later false x y us r = r
+
+placed : (p : ℕ × ℕ → Bool) (xs : List (ℕ × ℕ)) (k : ℕ) → k < length xs → p (get_or xs k (0, 0)) ≡ true → Placed (filter p xs) (get_or xs k (0, 0))
+placed p [] k within is = absurd (omega (arith, within))
+placed p (x ∷ xs) zero within is = here (p x) x (filter p xs) is
+placed p (x ∷ xs) (suc k) within is = later (p x) x (get_or xs k (0, 0)) (filter p xs) (placed p xs k (omega (arith, within)) is)
+
+negated : (b : Bool) → b ≡ false → not b ≡ true
+negated true is = absurd (false≢true (sym is))
+negated false is = refl
+
+or_cases : (a b : Bool) → (a || b) ≡ true → (a ≡ true) ⊎ (b ≡ true)
+or_cases true b is = inl refl
+or_cases false b is = inr is
+
+some_is : (o : Option ℕ) (y : ℕ) → o ≡ Some y → IsSome o
+some_is o y is = ap is_some is
+
+new_named : (w : List ℕ) (es changes : List (ℕ × ℕ)) (c : ℕ × ℕ) → Placed changes c → IsSome (old_value (es ++ map (entry_of w) changes) c.0)
+unfolding Placed
+new_named w es changes c r = subst (λ (b : ℕ). IsSome (old_value (es ++ map (entry_of w) changes) b)) (ap (λ (d : ℕ × ℕ). d.0) r.2)
+    (named_new w es changes r.0 r.1)
+
+is_taken_back_one : (w : List ℕ) (es changes : List (ℕ × ℕ)) (born k : ℕ) → k < length changes →
+    IsSome (old_value (es ++ map (entry_of w) (needing (map (λ (e : ℕ × ℕ). e.0) es) born changes)) (target changes k)) ⊎ (born ≤ target changes k)
+is_taken_back_one w es changes born k within =
+    let touched : List ℕ = map (λ (e : ℕ × ℕ). e.0) es in
+    let a : ℕ = target changes k in
+    elim (cases_Bool (is_taken_back touched born a)) [
+      | inl back ↦ elim (or_cases (list_any (λ x. x == a) touched) (nat_le born a) back) [
+        | inl named ↦ let y = listed es a named in inl (some_append es (map (entry_of w) (needing touched born changes)) a (some_is (old_value es a) y.0 y.1))
+        | inr high ↦ inr (leb-true born a high)
+      ]
+      | inr needs ↦ inl (new_named w es (needing touched born changes) (get_or changes k (0, 0))
+          (placed (λ c. not (is_taken_back touched born c.0)) changes k within (negated (is_taken_back touched born a) needs)))
+    ]
+
+pub all_go_back : (w u : List ℕ) (born : ℕ) (changes : List (ℕ × ℕ)) → entries u ≡ entries w ++ map (entry_of w) (needing (touched_of w) born changes)
+    → GoBack u born changes
+unfolding touched_of
+all_go_back w u born changes is k within =
+    subst (λ (es : List (ℕ × ℕ)). IsSome (old_value es (target changes k)) ⊎ (born ≤ target changes k)) (sym is)
+    (is_taken_back_one w (entries w) changes born k within)
+
+-- ---- a word that goes back is written
+
+pub record Through (w : List ℕ) (a x : ℕ) (v : List ℕ) : Type 0 where
+  pub good : IsGoodLog v
+  pub size : length v ≡ length w
+  pub live : live_words (recovered_of v) ≡ live_words (recovered_of w)
+  pub top : top_of (recovered_of v) ≡ top_of (recovered_of w)
+  pub entries : entries v ≡ entries w
+  pub count : count_of v ≡ count_of w
+  pub addresses : KeepsAddresses w v
+  pub plain : plain_of v ≡ set (plain_of w) a x
+
+abbrev SameLive : List ℕ → List ℕ → Type 0
+SameLive old new = (live_words new ≡ live_words old) × (top_of new ≡ top_of old)
+
+same_live : (b : Bool) (p : List ℕ) (a x : ℕ) → (b ≡ false → (top_of p ≤ a) × (log_end ≤ a)) → SameLive p (if b then p else set p a x)
+same_live true p a x high = (refl, refl)
+same_live false p a x high =
+    let h = high refl in (live_words-set p a x h.0 h.1, get_or-set_other p a top_address x 0 (λ same. absurd (omega (arith, h.1, same))))
+
+through_at : (w : List ℕ) (a x born : ℕ) → IsGoodLog w → IsPlace (length w) a → top_of (recovered_of w) ≤ born → log_end ≤ born
+    → IsSome (old_value (entries w) a) ⊎ (born ≤ a) → Through w a x (set w a x)
+unfolding touched_of
+through_at w a x born good place top low back =
+    let read = readable (length w) a place in
+    let named : Bool = list_any (λ b. b == a) (touched_of w) in
+    let high : named ≡ false → (top_of (recovered_of w) ≤ a) × (log_end ≤ a) = λ unnamed. ⊎_elim
+    (λ some. absurd (false≢true (sym (ap is_some (unlisted (entries w) a unnamed)) ∙ some)))
+    (λ le. (omega (arith, top, le), omega (arith, low, le)))
+    back in
+    let is : recovered_of (set w a x) ≡ (if named then recovered_of w else set (recovered_of w) a x) = recovered-set_place w a x good read in
+    let both : SameLive (recovered_of w) (recovered_of (set w a x)) = subst (λ (r : List ℕ). SameLive (recovered_of w) r) (sym is)
+    (same_live named (recovered_of w) a x high) in
+    record {
+      good = IsGoodLog-set_place w a x good read;
+      size = length-set w a x;
+      live = both.0;
+      top = both.1;
+      entries = entries-set_place w a x good read;
+      count = count-set_place w a x read;
+      addresses = λ k few. get_or-set_other w a (log_start + 2 * k) x 0 (λ same. let beside = read.beside in absurd (omega (arith, few, beside, same)));
+      plain = plain-set_place w a x read;
+    }
+
+pub through : (w v : List ℕ) (a x born : ℕ) → IsGoodLog w → IsPlace (length w) a → top_of (recovered_of w) ≤ born → log_end ≤ born
+    → IsSome (old_value (entries w) a) ⊎ (born ≤ a) → v ≡ set w a x → Through w a x v
+through w v a x born good place top low back written =
+    subst (λ (u : List ℕ). Through w a x u) (sym written) (through_at w a x born good place top low back)
+
+-- ---- a state and its words
+
+mapped_step : (b : Bool) (c : ℕ × ℕ) (us : List (ℕ × ℕ)) → addresses_of (cond b (c ∷ us) us) ≡ cond b (c.0 ∷ addresses_of us) (addresses_of us)
+mapped_step true c us = refl
+mapped_step false c us = refl
+
+pub mapped_filter : (q : ℕ → Bool) (cs : List (ℕ × ℕ)) → addresses_of (filter (λ c. q c.0) cs) ≡ filter q (addresses_of cs)
+mapped_filter q [] = refl
+mapped_filter q (c ∷ cs) = mapped_step (q c.0) c (filter (λ d. q d.0) cs) ∙ ap (λ (l : List ℕ). cond (q c.0) (c.0 ∷ l) l) (mapped_filter q cs)
+
+-- the addresses of what needs an entry are those that a state adds
+pub needing_is : (w : List ℕ) (s : State) (born : ℕ) (changes : List (ℕ × ℕ)) → touched_of w ≡ s.touched → recovered_of w ≡ s.recovered → born
+    ≡ born_of (recovered_of w) →
+    addresses_of (needing (touched_of w) born changes) ≡ new_ones s (addresses_of changes)
+needing_is w s born changes touched recovered is =
+    mapped_filter (λ a. not (is_taken_back (touched_of w) born a)) changes
+    ∙ ap (λ (t : List ℕ). filter (λ a. not (is_taken_back t born a)) (addresses_of changes)) touched
+    ∙ ap (λ (b : ℕ). filter (λ a. not (is_taken_back s.touched b a)) (addresses_of changes)) (is ∙ ap born_of recovered)
+
+pub length-needing : (w : List ℕ) (s : State) (born : ℕ) (changes : List (ℕ × ℕ)) → touched_of w ≡ s.touched → recovered_of w ≡ s.recovered → born
+    ≡ born_of (recovered_of w) →
+    length (needing (touched_of w) born changes) ≡ length (new_ones s (addresses_of changes))
+length-needing w s born changes touched recovered is =
+    sym (length-map (needing (touched_of w) born changes) (λ (c : ℕ × ℕ). c.0)) ∙ ap (λ (l : List ℕ). length l)
+    (needing_is w s born changes touched recovered is)
+
+-- a word that may be read, and is not the top, is written: births and the index stay
+pub births_kept : (w : List ℕ) (a x born : ℕ) → IsGoodLog w → IsReadable (length w) a → (a ≡ top_address → ⊥) → born ≡ born_of (recovered_of w) → born
+    ≡ born_of (recovered_of (set w a x))
+births_kept w a x born good read other is =
+    is ∙ sym (ap (λ (t : ℕ). max addresses_start t) (ap top_of (recovered-set_place w a x good read)
+    ∙ top_kept (list_any (λ b. b == a) (touched_of w)) (recovered_of w)))
+  where
+    top_kept : (b : Bool) (p : List ℕ) → top_of (if b then p else set p a x) ≡ top_of p
+    top_kept true p = refl
+    top_kept false p = get_or-set_other p a top_address x 0 (λ same. other (sym same))
+
+pub index_written : (w : List ℕ) (a x : ℕ) (numbers : List ℕ) → IsGoodLog w → IsReadable (length w) a → IsIndexOf w (count_of w) numbers
+    → IsIndexOf (set w a x) (count_of (set w a x)) numbers
+index_written w a x numbers good read index =
+    subst (λ (n : ℕ). IsIndexOf (set w a x) n numbers) (sym (count-set_place w a x read))
+    (IsIndexOf-same w (set w a x) (count_of w) numbers (λ k below. get_or-set_other w a (log_start + 2 * k) x 0 (λ same. let beside = read.beside in let few =
+    good.few in absurd (omega (arith, below, beside, few, same)))) index)
+
+-- with no entry there is nothing in the index
+pub index_none : (w : List ℕ) (n : ℕ) (numbers : List ℕ) → n ≡ 0 → numbers ≡ [] → IsIndexOf w n numbers
+index_none w n numbers none empty = subst (λ (l : List ℕ). IsIndexOf w n l) (sym empty) (record {
+  long = sym none;
+  counted = λ i within. absurd (omega (arith, within));
+  rising = λ i j less within. absurd (omega (arith, within));
+  all = λ k below. absurd (omega (arith, below, none));
+})

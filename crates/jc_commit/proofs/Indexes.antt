@@ -1,0 +1,139 @@
+-- The index of entries: what is found in it, and one entry more.
+use Rattle.std.proofs.Common.{◌≡◌, ℕ, ◌+◌, ◌-◌, ◌<◌, ◌≤◌, ◌==◌, true, false, List, length, get_or, slice_index, is_ok, MatchResult, sym, ◌∙◌, ap, arith}
+use Rattle.std.proofs.Common.{Result, Ok, Err, inl, inr, insert, eq-eqb, ne_eqb}
+use Rattle.std.specs.List.{list_any}
+use Rattle.std.proofs.lemmas.Bool.{cases_eq, cases_lt}
+use Rattle.std.proofs.lemmas.List.Edits.{length-insert, get_or-insert_below, get_or-insert_at, get_or-insert_above}
+use Rattle.std.proofs.lemmas.List.Folds.{list_any_none, list_any_at}
+use Rattle.std.proofs.lemmas.List.FromFn.{length-map-range_with_len, get_or-map-range_with_len}
+use Rattle.jc_commit.specs.Image.{address_at}
+use Rattle.jc_commit.specs.EntryIndex.{named_by, IsIndexOf, StandsAt, IsGapFor}
+
+pub length-named_by : (w : List ℕ) (n : ℕ) → length (named_by w n) ≡ n
+unfolding named_by
+length-named_by w n = length-map-range_with_len (address_at w) 0 n
+
+pub get_or-named_by : (w : List ℕ) (n k d : ℕ) → k < n → get_or (named_by w n) k d ≡ address_at w k
+unfolding named_by
+get_or-named_by w n k d below = get_or-map-range_with_len (address_at w) 0 n k k d below (omega arith)
+
+-- where an entry stands that names an address, one names it
+pub stands_named : (w numbers : List ℕ) (n a i : ℕ) → IsIndexOf w n numbers → StandsAt w numbers a i → list_any (λ x. x == a) (named_by w n) ≡ true
+stands_named w numbers n a i index found =
+    let k : ℕ = slice_index numbers i in
+    let below : k < n = index.counted i found.within in
+    list_any_at (λ x. x == a) (named_by w n) k 0 (omega (arith, below, length-named_by w n))
+    (eq-eqb (get_or (named_by w n) k 0) a (get_or-named_by w n k 0 below ∙ found.names))
+
+-- in a gap none does
+pub gap_named : (w numbers : List ℕ) (n a i : ℕ) → IsIndexOf w n numbers → IsGapFor w numbers a i → list_any (λ x. x == a) (named_by w n) ≡ false
+gap_named w numbers n a i index gap =
+    list_any_none (λ x. x == a) (named_by w n) (λ k d within.
+    let below : k < n = omega (arith, within, length-named_by w n) in
+    ne_eqb (get_or (named_by w n) k d) a (λ same. none (index.all k below).0 (index.all k below).1 (ap (address_at w) (index.all k below).2
+    ∙ sym (get_or-named_by w n k d below) ∙ same)))
+  where
+    none : (j : ℕ) → j < length numbers → address_at w (slice_index numbers j) ≡ a → ⊥
+    none j within same = elim (cases_lt j i) [
+      | inl before ↦ let l = gap.lower j before in omega (arith, l, same)
+      | inr behind ↦ let h = gap.higher j behind within in omega (arith, h, same)
+    ]
+
+pub found_named : (w numbers : List ℕ) (n a : ℕ) (r : Result ℕ ℕ) → IsIndexOf w n numbers → MatchResult r (StandsAt w numbers a) (IsGapFor w numbers a)
+    → is_ok r ≡ list_any (λ x. x == a) (named_by w n)
+found_named w numbers n a (Ok i) index found = sym (stands_named w numbers n a i index found)
+found_named w numbers n a (Err i) index gap = sym (gap_named w numbers n a i index gap)
+
+-- an index is one of words whose entries name the same
+pub IsIndexOf-same : (w v : List ℕ) (n : ℕ) (numbers : List ℕ) → ((k : ℕ) → k < n → address_at v k ≡ address_at w k) → IsIndexOf w n numbers
+    → IsIndexOf v n numbers
+IsIndexOf-same w v n numbers same index = record {
+  long = index.long;
+  counted = index.counted;
+  rising = λ i j less within.
+      let r = index.rising i j less within in
+      let a = same (slice_index numbers i) (index.counted i (omega (arith, less, within))) in
+      let b = same (slice_index numbers j) (index.counted j within) in
+      omega (arith, r, a, b);
+  all = index.all;
+}
+
+-- one entry more, in its gap
+module _ (w numbers : List ℕ) (n i : ℕ) (index : IsIndexOf w n numbers) (gap : IsGapFor w numbers (address_at w n) i) where
+  abbrev more : List ℕ
+  more = insert numbers i n
+
+  long : length more ≡ length numbers + 1
+  long = length-insert numbers i n gap.within
+
+  -- a number stands where it stood, or one place on
+  below_is : (k : ℕ) → k < i → slice_index more k ≡ slice_index numbers k
+  below_is k less = get_or-insert_below numbers i n 0 k less gap.within
+
+  here_is : slice_index more i ≡ n
+  here_is = get_or-insert_at numbers i n 0 gap.within
+
+  above_is : (k : ℕ) → i ≤ k → slice_index more (k + 1) ≡ slice_index numbers k
+  above_is k le = get_or-insert_above numbers i n 0 k le gap.within
+
+  -- what stands at a place behind the new number's
+  past_is : (k : ℕ) → i < k → slice_index more k ≡ slice_index numbers (k - 1)
+  past_is k less = let e : k ≡ k - 1 + 1 = omega (arith, less) in ap (slice_index more) e ∙ above_is (k - 1) (omega (arith, less))
+
+  counted_more : (k : ℕ) → k < length more → slice_index more k < n + 1
+  counted_more k within = elim (cases_lt k i) [
+    | inl less ↦ let c = index.counted k (omega (arith, less, gap.within)) in omega (arith, c, below_is k less)
+    | inr le ↦ elim (cases_eq k i) [
+      | inl same ↦ let h = ap (slice_index more) same ∙ here_is in omega (arith, h)
+      | inr other ↦ let c = index.counted (k - 1) (omega (arith, within, long, le, other)) in let p =
+          past_is k (omega (arith, le, other)) in omega (arith, c, p)
+    ]
+  ]
+
+  abbrev key : ℕ → ℕ
+  key k = address_at w (slice_index more k)
+
+  key_below : (k : ℕ) → k < i → key k ≡ address_at w (slice_index numbers k)
+  key_below k less = ap (address_at w) (below_is k less)
+
+  key_here : (k : ℕ) → k ≡ i → key k ≡ address_at w n
+  key_here k same = ap (λ j. address_at w (slice_index more j)) same ∙ ap (address_at w) here_is
+
+  key_past : (k : ℕ) → i < k → key k ≡ address_at w (slice_index numbers (k - 1))
+  key_past k less = ap (address_at w) (past_is k less)
+
+  rising_more : (j k : ℕ) → j < k → k < length more → key j < key k
+  rising_more j k less within = elim (cases_lt k i) [
+    | inl low ↦ let r = index.rising j k less (omega (arith, low, gap.within)) in let a = key_below j (omega (arith, less, low)) in let b =
+        key_below k low in omega (arith, r, a, b)
+    | inr le ↦ elim (cases_eq k i) [
+      | inl same ↦ let r = gap.lower j (omega (arith, less, same)) in let a = key_below j (omega (arith, less, same)) in let b =
+          key_here k same in omega (arith, r, a, b)
+      | inr other ↦ elim (cases_lt j i) [
+        | inl low ↦
+            let r = index.rising j (k - 1) (omega (arith, low, le, other)) (omega (arith, within, long, le, other)) in
+            let a = key_below j low in let b = key_past k (omega (arith, le, other)) in omega (arith, r, a, b)
+        | inr high ↦ elim (cases_eq j i) [
+          | inl at ↦ let r = gap.higher (k - 1) (omega (arith, le, other)) (omega (arith, within, long, le, other)) in let a = key_here j at in let b =
+              key_past k (omega (arith, le, other)) in omega (arith, r, a, b)
+          | inr behind ↦
+              let r = index.rising (j - 1) (k - 1) (omega (arith, less, high, behind)) (omega (arith, within, long, le, other)) in
+              let a = key_past j (omega (arith, high, behind)) in let b = key_past k (omega (arith, le, other)) in omega (arith, r, a, b)
+        ]
+      ]
+    ]
+  ]
+
+  all_more : (k : ℕ) → k < n + 1 → (j : ℕ) × (j < length more) × (slice_index more j ≡ k)
+  all_more k below = elim (cases_eq k n) [
+    | inl same ↦ (i, omega (arith, long, gap.within), here_is ∙ sym same)
+    | inr other ↦
+        let was = index.all k (omega (arith, below, other)) in
+        elim (cases_lt was.0 i) [
+          | inl low ↦ (was.0, omega (arith, long, was.1), below_is was.0 low ∙ was.2)
+          | inr high ↦ (was.0 + 1, omega (arith, long, was.1), above_is was.0 high ∙ was.2)
+        ]
+  ]
+
+  pub index_more : IsIndexOf w (n + 1) more
+  index_more = record { long = omega (arith, long, index.long); counted = counted_more; rising = rising_more; all = all_more }

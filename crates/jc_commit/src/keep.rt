@@ -1,0 +1,266 @@
+//! Changes in a transaction: a word's first old value is kept, and none of a word born in it.
+ghost use Rattle.std.specs.Prelude.{◌≡◌, ◌<◌, ◌≤◌, ◌+◌, ◌*◌, ◌++◌, ◌==◌, [], ◌∷◌, length, OnOk, OnErr, IfOk, slice_set, filter, not, is_ok, true, if◌then◌else◌};
+ghost use Rattle.jc_words.specs.Count.{saturating_count};
+ghost use Rattle.jc_words.specs.Layout.{count_address, log_end};
+ghost use Rattle.jc_commit.specs.Image.{capacity, count_of, entries, plain_of, recovered_of, touched_of, top_of, with_words, IsGoodLog, IsPlace};
+ghost use Rattle.jc_commit.specs.Entries.{addresses_of, AreDistinct, ArePlaces, SameBefore};
+ghost use Rattle.jc_commit.specs.State.{live_words};
+ghost use Rattle.jc_commit.specs.Keeping.{is_taken_back, writes_inside};
+ghost use Rattle.jc_commit.specs.EntryIndex.{named_by, needing, with_entries, IsIndexOf, GoBack, KeepsAddresses};
+
+use crate::changes::WordChanges;
+use crate::entry::address_word;
+use crate::index::{EntryIndex, insert, is_named};
+use jc_words::layout::COUNT;
+use jc_words::{StoreDown, WordStore};
+
+// Whether an abort takes back what is written at the address, with nothing more kept of it.
+pub(crate) fn is_taken_back<S: WordStore>(
+    store: &S,
+    n: u16,
+    numbers: &[u16],
+    born: u16,
+    address: u16,
+) -> bool
+    requires few { n ≤ capacity }
+    requires size { log_end ≤ length (S.words store.now) }
+    requires index { IsIndexOf (S.words store.now) n numbers.now }
+    ensures { result ≡ is_taken_back (named_by (S.words store.now) n) born address }
+{
+    is_named(store, n, numbers, address) || born <= address
+}
+
+// How many of these changes have an old value to keep.
+pub(crate) fn count_needing<S: WordStore, C: WordChanges>(
+    store: &S,
+    n: u16,
+    numbers: &[u16],
+    born: u16,
+    changes: &C,
+) -> usize
+    requires few { n ≤ capacity }
+    requires size { log_end ≤ length (S.words store.now) }
+    requires index { IsIndexOf (S.words store.now) n numbers.now }
+    ensures { result ≡ length (needing (named_by (S.words store.now) n) born (C.changes changes.now)) }
+{
+    let mut needed = 0;
+    for i in 0..changes.count() {
+        let (address, _) = changes.change(i);
+        if !is_taken_back(store, n, numbers, born, address) {
+            needed += 1;
+        }
+    }
+    needed
+}
+
+// How many of these addresses have an old value to keep.
+pub(crate) fn count_new<S: WordStore>(
+    store: &S,
+    n: u16,
+    numbers: &[u16],
+    born: u16,
+    addresses: &[u16],
+) -> usize
+    requires few { n ≤ capacity }
+    requires size { log_end ≤ length (S.words store.now) }
+    requires index { IsIndexOf (S.words store.now) n numbers.now }
+    ensures { result ≡ length (filter (λ a. not (is_taken_back (named_by (S.words store.now) n) born
+        a)) addresses.now) }
+{
+    let mut needed = 0;
+    for address in addresses {
+        if !is_taken_back(store, n, numbers, born, *address) {
+            needed += 1;
+        }
+    }
+    needed
+}
+
+// Writes an entry: the address, and the word there as it is. The count stays.
+fn put_entry<S: WordStore>(store: &mut S, k: u16, address: u16) -> Result<(), StoreDown>
+    requires size { log_end ≤ length (S.words store.old) }
+    requires few { k < capacity }
+    requires place { IsPlace (length (S.words store.old)) address }
+    ensures words { OnOk result (S.words store.new ≡ with_entries (S.words store.old) k
+        ((address, 0) ∷ [])) }
+    ensures same { SameBefore k (S.words store.old) (S.words store.new) }
+    ensures passed { OnOk result (S.passed store.new ≡ saturating_count (S.passed store.old) 2) }
+    ensures down { S.down store.new ≡ (if is_ok result then S.down store.old else true) }
+    ensures refused { S.refused store.new ≡ (if is_ok result then S.refused store.old else
+        saturating_count (S.refused store.old) 1) }
+{
+    let old = store.read(address);
+    let slot = address_word(k);
+    store.write(slot, address)?;
+    store.write(slot + 1, old)?;
+    Ok(())
+}
+
+// Puts an entry behind the first k ones for a change whose word's old value has to be kept, and into the
+// index, and tells how many there are then.
+fn put_change<S: WordStore>(
+    store: &mut S,
+    k: u16,
+    numbers: &mut EntryIndex,
+    born: u16,
+    change: (u16, u16),
+) -> Result<u16, StoreDown>
+    requires size { log_end ≤ length (S.words store.old) }
+    requires index { IsIndexOf (S.words store.old) k numbers.old.items }
+    requires place { IsPlace (length (S.words store.old)) change.0 }
+    requires few { k ≤ capacity }
+    requires room { k + length (needing (named_by (S.words store.old) k) born (change ∷ [])) ≤
+        capacity }
+    ensures next { IfOk result (λ n. n ≡ k + length (needing (named_by (S.words store.old) k) born
+        (change ∷ []))) }
+    ensures words { OnOk result (S.words store.new ≡ with_entries (S.words store.old) k
+        (needing (named_by (S.words store.old) k) born (change ∷ []))) }
+    ensures index { IfOk result (λ n. IsIndexOf (S.words store.new) n numbers.new.items) }
+    ensures same { SameBefore k (S.words store.old) (S.words store.new) }
+    ensures passed { OnOk result (S.passed store.new ≡ saturating_count (S.passed store.old)
+        (2 * length (needing (named_by (S.words store.old) k) born (change ∷ [])))) }
+    ensures down { S.down store.new ≡ (if is_ok result then S.down store.old else true) }
+    ensures refused { S.refused store.new ≡ (if is_ok result then S.refused store.old else
+        saturating_count (S.refused store.old) 1) }
+{
+    let (address, _) = change;
+    if is_taken_back(store, k, numbers.as_slice(), born, address) {
+        return Ok(k);
+    }
+    put_entry(store, k, address)?;
+    insert(store, k, numbers);
+    Ok(k + 1)
+}
+
+// Puts entries for the changes whose words' old values have to be kept, behind the first ones and into
+// the index, and tells how many there are then.
+fn put_needing<S: WordStore, C: WordChanges>(
+    store: &mut S,
+    first: u16,
+    numbers: &mut EntryIndex,
+    born: u16,
+    changes: &C,
+) -> Result<u16, StoreDown>
+    requires size { log_end ≤ length (S.words store.old) }
+    requires index { IsIndexOf (S.words store.old) first numbers.old.items }
+    requires places { ArePlaces (length (S.words store.old)) (C.changes changes.now) }
+    requires distinct { AreDistinct (addresses_of (C.changes changes.now)) }
+    requires room { first + length (needing (named_by (S.words store.old) first) born (C.changes changes.now)) ≤
+        capacity }
+    ensures behind { IfOk result (λ n. n ≡ first + length
+        (needing (named_by (S.words store.old) first) born (C.changes changes.now))) }
+    ensures words { OnOk result (S.words store.new ≡ with_entries (S.words store.old) first
+        (needing (named_by (S.words store.old) first) born (C.changes changes.now))) }
+    ensures index { IfOk result (λ n. IsIndexOf (S.words store.new) n numbers.new.items) }
+    ensures same { SameBefore first (S.words store.old) (S.words store.new) }
+    ensures passed { OnOk result (S.passed store.new ≡ saturating_count (S.passed store.old)
+        (2 * length (needing (named_by (S.words store.old) first) born (C.changes changes.now)))) }
+    ensures down { S.down store.new ≡ (if is_ok result then S.down store.old else true) }
+    ensures refused { S.refused store.new ≡ (if is_ok result then S.refused store.old else
+        saturating_count (S.refused store.old) 1) }
+{
+    let mut k = first;
+    for i in 0..changes.count() {
+        k = put_change(store, k, numbers, born, changes.change(i))?;
+    }
+    Ok(k)
+}
+
+// Counts the entries, where there are more.
+fn count_entries<S: WordStore>(store: &mut S, before: u16, behind: u16) -> Result<(), StoreDown>
+    requires size { log_end ≤ length (S.words store.old) }
+    requires count { before ≡ count_of (S.words store.old) }
+    ensures words { OnOk result (S.words store.new ≡ (if before ==
+        behind then S.words store.old else slice_set (S.words store.old) count_address behind)) }
+    ensures kept { OnErr result (S.words store.new ≡ S.words store.old) }
+    ensures passed { OnOk result (S.passed store.new ≡ saturating_count (S.passed store.old)
+        (if before == behind then 0 else 1)) }
+    ensures down { S.down store.new ≡ (if is_ok result then S.down store.old else true) }
+    ensures refused { S.refused store.new ≡ (if is_ok result then S.refused store.old else
+        saturating_count (S.refused store.old) 1) }
+{
+    if before == behind {
+        return Ok(());
+    }
+    store.write(COUNT, behind)?;
+    Ok(())
+}
+
+// Writes words of which an abort takes each back.
+fn write_through<S: WordStore, C: WordChanges>(
+    store: &mut S,
+    born: u16,
+    changes: &C,
+) -> Result<(), StoreDown>
+    requires good { IsGoodLog (S.words store.old) }
+    requires places { ArePlaces (length (S.words store.old)) (C.changes changes.now) }
+    requires kept { GoBack (S.words store.old) born (C.changes changes.now) }
+    requires top { top_of (recovered_of (S.words store.old)) ≤ born }
+    requires low { log_end ≤ born }
+    ensures good { IsGoodLog (S.words store.new) }
+    ensures size { length (S.words store.new) ≡ length (S.words store.old) }
+    ensures live { live_words (recovered_of (S.words store.new))
+        ≡ live_words (recovered_of (S.words store.old)) }
+    ensures top { top_of (recovered_of (S.words store.new))
+        ≡ top_of (recovered_of (S.words store.old)) }
+    ensures entries { entries (S.words store.new) ≡ entries (S.words store.old) }
+    ensures count { count_of (S.words store.new) ≡ count_of (S.words store.old) }
+    ensures addresses { KeepsAddresses (S.words store.old) (S.words store.new) }
+    ensures plain { OnOk result (plain_of (S.words store.new)
+        ≡ with_words (plain_of (S.words store.old)) (C.changes changes.now)) }
+    ensures passed { OnOk result (S.passed store.new ≡ saturating_count (S.passed store.old)
+        (length (C.changes changes.now))) }
+    ensures down { S.down store.new ≡ (if is_ok result then S.down store.old else true) }
+    ensures refused { S.refused store.new ≡ (if is_ok result then S.refused store.old else
+        saturating_count (S.refused store.old) 1) }
+{
+    for i in 0..changes.count() {
+        let (address, value) = changes.change(i);
+        store.write(address, value)?;
+    }
+    Ok(())
+}
+
+// A change in a transaction: puts entries for the words whose old values have to be kept, counts them,
+// and then writes the words.
+pub(crate) fn keep_and_write<S: WordStore, C: WordChanges>(
+    store: &mut S,
+    numbers: &mut EntryIndex,
+    born: u16,
+    changes: &C,
+) -> Result<(), StoreDown>
+    requires good { IsGoodLog (S.words store.old) }
+    requires index { IsIndexOf (S.words store.old) (count_of (S.words store.old)) numbers.old.items }
+    requires places { ArePlaces (length (S.words store.old)) (C.changes changes.now) }
+    requires distinct { AreDistinct (addresses_of (C.changes changes.now)) }
+    requires top { top_of (recovered_of (S.words store.old)) ≤ born }
+    requires low { log_end ≤ born }
+    requires room { count_of (S.words store.old) + length
+        (needing (touched_of (S.words store.old)) born (C.changes changes.now)) ≤ capacity }
+    ensures good { IsGoodLog (S.words store.new) }
+    ensures size { length (S.words store.new) ≡ length (S.words store.old) }
+    // What a recovery leaves stays, below the top that the transaction found.
+    ensures live { live_words (recovered_of (S.words store.new))
+        ≡ live_words (recovered_of (S.words store.old)) }
+    ensures top { top_of (recovered_of (S.words store.new))
+        ≡ top_of (recovered_of (S.words store.old)) }
+    ensures index { OnOk result (IsIndexOf (S.words store.new) (count_of (S.words store.new))
+        numbers.new.items) }
+    ensures plain { OnOk result (plain_of (S.words store.new)
+        ≡ with_words (plain_of (S.words store.old)) (C.changes changes.now)) }
+    ensures touched { OnOk result (touched_of (S.words store.new)
+        ≡ touched_of (S.words store.old) ++ addresses_of
+        (needing (touched_of (S.words store.old)) born (C.changes changes.now))) }
+    ensures passed { OnOk result (S.passed store.new ≡ saturating_count (S.passed store.old)
+        (writes_inside (length (C.changes changes.now)) (length (needing (touched_of (S.words store.old)) born
+        (C.changes changes.now))))) }
+    ensures down { S.down store.new ≡ (if is_ok result then S.down store.old else true) }
+    ensures refused { S.refused store.new ≡ (if is_ok result then S.refused store.old else
+        saturating_count (S.refused store.old) 1) }
+{
+    let first = store.read(COUNT);
+    let behind = put_needing(store, first, numbers, born, changes)?;
+    count_entries(store, first, behind)?;
+    write_through(store, born, changes)?;
+    Ok(())
+}

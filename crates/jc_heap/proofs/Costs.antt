@@ -1,0 +1,76 @@
+-- How many places' old values a change has to keep.
+use Rattle.std.proofs.Common.{◌≡◌, ℕ, zero, suc, ◌+◌, ◌<◌, Bool, true, false, cond, not, List, [], ◌∷◌, length, map, take, filter, get_or, refl, sym}
+use Rattle.std.proofs.Common.{◌∙◌, ap, arith, add-one, nat_le}
+use Rattle.std.specs.Prelude.{if◌then◌else◌}
+use Rattle.std.proofs.lemmas.Bool.Decides.{nat_tests}
+use Rattle.jc_commit.specs.Image.{capacity}
+use Rattle.jc_commit.specs.Keeping.{Keeping, goes_back as journal_goes_back, unlogged_addresses, has_room_for as journal_room}
+use Rattle.jc_commit.specs.State.{State, keeping as journal_keeping}
+use Rattle.jc_heap.specs.declared.place.Place.{Place}
+use Rattle.jc_heap.specs.Image.{IsWellFormed}
+use Rattle.jc_heap.specs.Heap.{HeapView, heap_view, goes_back, unlogged_places, has_room_for}
+use Rattle.jc_heap.specs.Places.{place_word}
+use Rattle.jc_heap.proofs.JournalViews.{keeping_view}
+
+-- of these words those that do not go back yet
+abbrev pub staying : HeapView → List ℕ → List ℕ
+staying v words = filter (λ word. not (goes_back v word)) words
+
+one_more : (b : Bool) (w : ℕ) → length (cond b (w ∷ []) []) ≡ (if b then 1 else 0)
+one_more true w = refl
+one_more false w = refl
+
+pick : (b : Bool) (w : ℕ) (us vs : List ℕ) (m : ℕ) → length us ≡ length vs + m → length (cond b (w ∷ us) us) ≡ length (cond b (w ∷ vs) vs) + m
+pick true w us vs m e = omega (arith, e)
+pick false w us vs m e = omega (arith, e)
+
+more_at : (p : ℕ → Bool) (ps : List Place) (k : ℕ) (d : Place) → k < length ps → length (filter p (map place_word (take (suc k) ps)))
+    ≡ length (filter p (map place_word (take k ps))) + (if p (place_word (get_or ps k d)) then 1 else 0)
+more_at p [] k d lt = absurd (omega (arith, lt))
+more_at p (x ∷ ps) zero d lt = omega (arith, one_more (p (place_word x)) (place_word x))
+more_at p (x ∷ ps) (suc k) d lt =
+    pick (p (place_word x)) (place_word x) (filter p (map place_word (take (suc k) ps))) (filter p (map place_word (take k ps)))
+    (if p (place_word (get_or ps k d)) then 1 else 0) (more_at p ps k d (omega (arith, lt)))
+
+-- one place more: it counts unless it goes back
+pub staying_more : (v : HeapView) (ps : List Place) (k : ℕ) (d : Place) (b : Bool) → k < length ps → goes_back v (place_word (get_or ps k d)) ≡ b
+    → length (staying v (map place_word (take (k + 1) ps))) ≡ length (staying v (map place_word (take k ps))) + (if b then 0 else 1)
+staying_more v ps k d b lt is =
+    ap (λ (n : ℕ). length (staying v (map place_word (take n ps)))) (add-one k)
+    ∙ more_at (λ word. not (goes_back v word)) ps k d lt
+    ∙ ap (λ (c : Bool). length (staying v (map place_word (take k ps))) + (if not c then 1 else 0)) is
+    ∙ ap (λ (m : ℕ). length (staying v (map place_word (take k ps))) + m) (turned b)
+  where
+    turned : (c : Bool) → ◌≡◌ {A = ℕ} (if not c then 1 else 0) (if c then 0 else 1)
+    turned true = refl
+    turned false = refl
+
+-- what the journal tells of a word
+pub told : (j : State) (v : HeapView) (n word : ℕ) (r : Bool) → heap_view j n ≡ v → IsWellFormed j.recovered → r ≡ journal_goes_back (journal_keeping j) word
+    → goes_back v word ≡ r
+told j v n word r is back e =
+    ap (λ (u : HeapView). goes_back u word) (sym is) ∙ ap (λ (k : Keeping). journal_goes_back k word) (keeping_view j n back) ∙ sym e
+
+pub cost_inside : (v : HeapView) (words : List ℕ) → v.begun ≡ true → unlogged_places v words ≡ staying v words
+unfolding unlogged_addresses
+cost_inside v words e = ap (λ (b : Bool). if b then staying v words else []) e
+
+pub cost_outside : (v : HeapView) (words : List ℕ) → v.begun ≡ false → unlogged_places v words ≡ []
+unfolding unlogged_addresses
+cost_outside v words e = ap (λ (b : Bool). if b then staying v words else []) e
+
+pub fits_inside : (v : HeapView) (words : List ℕ) (room cost : ℕ) → v.begun ≡ true → room + length v.touched ≡ capacity → cost
+    ≡ length (unlogged_places v words)
+    → nat_le cost room ≡ has_room_for v words
+unfolding journal_room
+fits_inside v words room cost e left is =
+    same_test cost room (length v.touched) left ∙ ap (λ (n : ℕ). nat_le (length v.touched + n) capacity) is
+    ∙ sym (ap (λ (b : Bool). if b then nat_le (length v.touched + length (unlogged_places v words)) capacity else nat_le (length words) capacity) e)
+  where
+    same_test : (c r t : ℕ) → r + t ≡ capacity → nat_le c r ≡ nat_le (t + c) capacity
+    same_test c r t sum = grind (arith, nat_tests)
+
+pub fits_outside : (v : HeapView) (words : List ℕ) → v.begun ≡ false → nat_le (length words) capacity ≡ has_room_for v words
+unfolding journal_room
+fits_outside v words e =
+    sym (ap (λ (b : Bool). if b then nat_le (length v.touched + length (unlogged_places v words)) capacity else nat_le (length words) capacity) e)
