@@ -1,4 +1,4 @@
--- How many places' old values a change has to keep.
+-- How many words' old values changes have to keep.
 use Rattle.std.proofs.Common.{◌≡◌, ℕ, zero, suc, ◌+◌, ◌<◌, Bool, true, false, cond, not, List, [], ◌∷◌, length, map, take, filter, get_or, refl, sym}
 use Rattle.std.proofs.Common.{◌∙◌, ap, arith, add-one, nat_le}
 use Rattle.std.specs.Prelude.{if◌then◌else◌}
@@ -6,10 +6,10 @@ use Rattle.std.proofs.lemmas.Bool.Decides.{nat_tests}
 use Rattle.jc_commit.specs.Image.{capacity}
 use Rattle.jc_commit.specs.Keeping.{Keeping, goes_back as journal_goes_back, unlogged_addresses, has_room_for as journal_room}
 use Rattle.jc_commit.specs.State.{State, keeping as journal_keeping}
-use Rattle.jc_heap.specs.declared.place.Place.{Place}
+use Rattle.jc_heap.specs.declared.touch.Touch.{Touch}
 use Rattle.jc_heap.specs.Image.{IsWellFormed}
 use Rattle.jc_heap.specs.Heap.{HeapView, heap_view, goes_back, unlogged_places, has_room_for}
-use Rattle.jc_heap.specs.Places.{place_word}
+use Rattle.jc_heap.specs.Touches.{touch_word, touch_words}
 use Rattle.jc_heap.proofs.JournalViews.{keeping_view}
 
 -- of these words those that do not go back yet
@@ -24,22 +24,23 @@ pick : (b : Bool) (w : ℕ) (us vs : List ℕ) (m : ℕ) → length us ≡ lengt
 pick true w us vs m e = omega (arith, e)
 pick false w us vs m e = omega (arith, e)
 
-more_at : (p : ℕ → Bool) (ps : List Place) (k : ℕ) (d : Place) → k < length ps → length (filter p (map place_word (take (suc k) ps)))
-    ≡ length (filter p (map place_word (take k ps))) + (if p (place_word (get_or ps k d)) then 1 else 0)
-more_at p [] k d lt = absurd (omega (arith, lt))
-more_at p (x ∷ ps) zero d lt = omega (arith, one_more (p (place_word x)) (place_word x))
-more_at p (x ∷ ps) (suc k) d lt =
-    pick (p (place_word x)) (place_word x) (filter p (map place_word (take (suc k) ps))) (filter p (map place_word (take k ps)))
-    (if p (place_word (get_or ps k d)) then 1 else 0) (more_at p ps k d (omega (arith, lt)))
+module _ (f : Touch → ℕ) (p : ℕ → Bool) where
+  more_at : (ts : List Touch) (k : ℕ) (d : Touch) → k < length ts → length (filter p (map f (take (suc k) ts)))
+      ≡ length (filter p (map f (take k ts))) + (if p (f (get_or ts k d)) then 1 else 0)
+  more_at [] k d lt = absurd (omega (arith, lt))
+  more_at (t ∷ ts) zero d lt = omega (arith, one_more (p (f t)) (f t))
+  more_at (t ∷ ts) (suc k) d lt =
+      pick (p (f t)) (f t) (filter p (map f (take (suc k) ts))) (filter p (map f (take k ts)))
+      (if p (f (get_or ts k d)) then 1 else 0) (more_at ts k d (omega (arith, lt)))
 
--- one place more: it counts unless it goes back
-pub staying_more : (v : HeapView) (ps : List Place) (k : ℕ) (d : Place) (b : Bool) → k < length ps → goes_back v (place_word (get_or ps k d)) ≡ b
-    → length (staying v (map place_word (take (k + 1) ps))) ≡ length (staying v (map place_word (take k ps))) + (if b then 0 else 1)
-staying_more v ps k d b lt is =
-    ap (λ (n : ℕ). length (staying v (map place_word (take n ps)))) (add-one k)
-    ∙ more_at (λ word. not (goes_back v word)) ps k d lt
-    ∙ ap (λ (c : Bool). length (staying v (map place_word (take k ps))) + (if not c then 1 else 0)) is
-    ∙ ap (λ (m : ℕ). length (staying v (map place_word (take k ps))) + m) (turned b)
+-- one word more: it counts unless it goes back
+pub staying_more : (v : HeapView) (ts : List Touch) (k : ℕ) (d : Touch) (b : Bool) → k < length ts → goes_back v (touch_word v.now (get_or ts k d)) ≡ b
+    → length (staying v (touch_words v.now (take (k + 1) ts))) ≡ length (staying v (touch_words v.now (take k ts))) + (if b then 0 else 1)
+staying_more v ts k d b lt is =
+    ap (λ (n : ℕ). length (staying v (touch_words v.now (take n ts)))) (add-one k)
+    ∙ more_at (touch_word v.now) (λ word. not (goes_back v word)) ts k d lt
+    ∙ ap (λ (c : Bool). length (staying v (touch_words v.now (take k ts))) + (if not c then 1 else 0)) is
+    ∙ ap (λ (m : ℕ). length (staying v (touch_words v.now (take k ts))) + m) (turned b)
   where
     turned : (c : Bool) → ◌≡◌ {A = ℕ} (if not c then 1 else 0) (if c then 0 else 1)
     turned true = refl

@@ -84,7 +84,7 @@ places_whole : (h : HeapState) (cs : List (Place × ℕ)) → AreLegalValues h c
 places_whole h [] may s = s
 places_whole h (c ∷ cs) may s = places_whole (set_place h c.0 c.1) cs (all_stay h c.0 c.1 cs may.1) (place_whole h c.0 c.1 may.0 s)
 
-top-places : (h : HeapState) (cs : List (Place × ℕ)) → (set_places h cs).top ≡ h.top
+pub top-places : (h : HeapState) (cs : List (Place × ℕ)) → (set_places h cs).top ≡ h.top
 top-places h [] = refl
 top-places h (c ∷ cs) = top-places (set_place h c.0 c.1) cs ∙ top-place h c.0 c.1
 
@@ -105,7 +105,7 @@ end-transient h kind event class owner long end =
     end-area (add_object h (new_transient kind event class owner long (area_end h event)) transient_size) event (area_end h event + long)
     (end-add h (new_transient kind event class owner long (area_end h event)) transient_size (omega arith) end)
 
-top-run : (h : HeapState) (r i : ℕ) (vs : List ℕ) → (set_cells h r i vs).top ≡ h.top
+pub top-run : (h : HeapState) (r i : ℕ) (vs : List ℕ) → (set_cells h r i vs).top ≡ h.top
 top-run h r i [] = refl
 top-run h r i (v ∷ vs) = top-run (set_cell h r i v) r (suc i) vs ∙ top-set_cell h r i v
 

@@ -3,10 +3,10 @@ use Rattle.std.proofs.Common.{◌≡◌, ℕ, Bool, true, false, List, [], ◌++
 use Rattle.std.proofs.lemmas.Bool.{cases_Bool, false≢true}
 use Rattle.jc_words.specs.Layout.{addresses_start}
 use Rattle.jc_commit.specs.Image.{capacity}
-use Rattle.jc_commit.specs.Keeping.{Keeping, unlogged_addresses, with_kept, goes_back as journal_goes_back}
+use Rattle.jc_commit.specs.Keeping.{Keeping, unlogged_addresses, with_kept, goes_back as journal_goes_back, has_room_for as journal_room}
 use Rattle.jc_commit.proofs.WhatIsKept.{keeps_old_values}
 use Rattle.jc_heap.specs.declared.place.Place.{Place}
-use Rattle.jc_heap.specs.Heap.{HeapState, HeapView, keeping, goes_back, heap_after_change}
+use Rattle.jc_heap.specs.Heap.{HeapState, HeapView, keeping, goes_back, has_room_for, heap_after_change}
 use Rattle.jc_heap.specs.Places.{place_word, set_place, write_nonatomic}
 use Rattle.jc_heap.proofs.KeepingMoves.{top-place}
 
@@ -34,6 +34,12 @@ pub goes_back_now : (v : HeapView) (h : HeapState) (places : List ℕ) (fresh a 
     → goes_back (heap_after_change v h places fresh) a ≡ true
 goes_back_now v h places fresh a begun there =
     ap (λ (k : Keeping). journal_goes_back k a) (keeping_changed v h places fresh begun) ∙ keeps_old_values.each (keeping v) places a begun there
+
+-- room for two changes in the transaction is, behind the first, room for the second
+pub room_behind : (v : HeapView) (h : HeapState) (places : List ℕ) (fresh : ℕ) (rest : List ℕ) → v.begun ≡ true → has_room_for v (places ++ rest) ≡ true
+    → has_room_for (heap_after_change v h places fresh) rest ≡ true
+room_behind v h places fresh rest begun room =
+    ap (λ (k : Keeping). journal_room k rest) (keeping_changed v h places fresh begun) ∙ keeps_old_values.second (keeping v) places rest begun room
 
 -- a place set for good changes nothing of it
 pub keeping_counted : (v : HeapView) (p : Place) (x : ℕ) → keeping (write_nonatomic v p x) ≡ keeping v

@@ -7,6 +7,7 @@ pub mod Stored
 pub mod Whole
 pub mod Keeping
 pub mod Places
+pub mod Touches
 pub mod Fresh
 pub mod Refusals
 pub mod Packages

@@ -87,6 +87,10 @@ applet_changes h entry =
     ∷ (Registry (entry_start h.counts.1 + entry_instance), entry.instance)
     ∷ (AppletCount, h.counts.1 + 1) ∷ []
 
+-- the places that it changes, where so many applets are there before
+abbrev pub applet_places : ℕ → List Place
+applet_places n = Registry (entry_start n) ∷ Registry (entry_start n + entry_package) ∷ Registry (entry_start n + entry_instance) ∷ AppletCount ∷ []
+
 -- places that differ have different words, in the heap of words that are laid
 abbrev pub HaveOwnWords : Type 0
 HaveOwnWords = (words : List ℕ) → IsWellFormed words → (p q : Place) → HasPlace (heap_of words) p → HasPlace (heap_of words) q → (p ≡ q → ⊥)

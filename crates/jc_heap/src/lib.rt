@@ -20,6 +20,7 @@ mod refusal;
 mod registered;
 pub mod registry_layout;
 mod statics;
+mod touch;
 pub mod walk;
 
 pub use changes::PlaceChanges;
@@ -33,3 +34,4 @@ pub use object::{Facts, Kind};
 pub use package::{RecordComponent, StaticArray};
 pub use place::{AppletEntry, Place};
 pub use refusal::{ChangeRefusal, HeapRefusal};
+pub use touch::Touch;

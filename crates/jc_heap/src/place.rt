@@ -1,7 +1,6 @@
 //! Words that a change names: cells, the words of static images and of the registry.
-ghost use Rattle.std.specs.Prelude.{◌≡◌, ◌<◌, ◌≤◌, false, [], ◌∷◌, All, filter, not, map, length, slice_index};
+ghost use Rattle.std.specs.Prelude.{◌≡◌, ◌<◌, false, [], ◌∷◌, slice_index};
 ghost use Rattle.jc_words.specs.Layout.{registry_length, most_applets};
-ghost use Rattle.jc_heap.specs.Heap.{has_room_for, goes_back, unlogged_places};
 ghost use Rattle.jc_heap.specs.Moves.{Write, SetPlaces, WriteNonAtomic, PerformsMoves, PerformsMovesUnless, refusal_of_places, refusal_of_applet, applet_move};
 ghost use Rattle.jc_heap.specs.Completions.{after_change, after_step};
 ghost use Rattle.jc_heap.specs.Places.{HasPlace, MayHold, AreThere, AreApart, place_word, places_of, words_of};
@@ -11,7 +10,7 @@ use crate::heap::Heap;
 use crate::refusal::ChangeRefusal;
 use crate::registry_layout::{ENTRY_INSTANCE, ENTRY_PACKAGE, entry_start};
 use jc_transient::Ref;
-use jc_words::layout::{APPLETS, JOURNAL_CAPACITY, REGISTRY};
+use jc_words::layout::{APPLETS, REGISTRY};
 use jc_words::{StoreDown, WordStore};
 
 /// A word that a change may name.
@@ -41,7 +40,7 @@ pub struct AppletEntry {
 impl<S: WordStore> Heap<S> {
     // The word of a place.
     #[inline(always)]
-    fn place_word(&self, place: Place) -> u16
+    pub(crate) fn place_word(&self, place: Place) -> u16
         requires up { self.now.down ≡ false }
         requires there { HasPlace self.now.now place }
         ensures { result ≡ place_word place }
@@ -144,46 +143,5 @@ impl<S: WordStore> Heap<S> {
         let word = self.place_word(place);
         self.journal.write_both(word, v)?;
         Ok(())
-    }
-
-    // How many of these places an abort does not take back yet.
-    fn count_unlogged(&self, places: &[Place]) -> usize
-        requires up { self.now.down ≡ false }
-        requires there { All (λ place. HasPlace self.now.now place) places.now }
-        ensures { result ≡ length (filter (λ word. not (goes_back self.now word))
-            (map place_word places.now)) }
-    {
-        let mut count = 0;
-        for place in places {
-            if !self.journal.goes_back(self.place_word(*place)) {
-                count += 1;
-            }
-        }
-        count
-    }
-
-    /// How many of these places' old values one change of them has to keep.
-    pub fn cost(&self, places: &[Place]) -> usize
-        requires up { self.now.down ≡ false }
-        requires there { All (λ place. HasPlace self.now.now place) places.now }
-        ensures { result ≡ length (unlogged_places self.now (map place_word places.now)) }
-    {
-        if !self.is_open() {
-            return 0;
-        }
-        self.count_unlogged(places)
-    }
-
-    /// Whether there is room for one change of these distinct places, in the open transaction or in
-    /// one of its own.
-    pub fn fits(&self, places: &[Place]) -> bool
-        requires up { self.now.down ≡ false }
-        requires there { All (λ place. HasPlace self.now.now place) places.now }
-        ensures { result ≡ has_room_for self.now (map place_word places.now) }
-    {
-        if self.is_open() {
-            return self.cost(places) <= self.room() as usize;
-        }
-        places.len() <= JOURNAL_CAPACITY as usize
     }
 }

@@ -3,4 +3,5 @@ pub mod Usable
 pub mod Marking
 pub mod Burying
 pub mod Running
+pub mod Touched
 pub mod Room

@@ -1,26 +1,30 @@
 -- Where there is room, the store alone refuses.
-use Rattle.std.proofs.Common.{◌≡◌, ℕ, suc, ◌+◌, ◌-◌, ◌<◌, ◌≤◌, Bool, true, false, List, [], ◌∷◌, ◌++◌, length, map, refl, sym, ◌∙◌, ap, subst, arith, inl, inr}
+use Rattle.std.proofs.Common.{◌≡◌, ℕ, suc, ◌+◌, ◌≤◌, Bool, true, false, List, [], ◌∷◌, ◌++◌, length, map, refl, sym, ◌∙◌, ap, subst, arith, inl, inr}
 use Rattle.std.proofs.Common.{leb-true}
-use Rattle.std.specs.Prelude.{◌&&◌, nat_lt, Option, Some, None, Err}
-use Rattle.std.proofs.lemmas.Bool.{true≢false, cases_Bool, ltb-false, le-ltb}
-use Rattle.std.proofs.lemmas.List.{length-map, length-append}
+use Rattle.std.specs.Prelude.{Option, Some, None, Err}
+use Rattle.std.proofs.lemmas.Bool.{true≢false, cases_Bool}
+use Rattle.std.proofs.lemmas.List.{length-map}
 use Rattle.std.proofs.lemmas.Option.{none-some}
 use Rattle.jc_transient.specs.declared.cell.ClearEvent.{ClearEvent}
 use Rattle.jc_commit.specs.Entries.{addresses_of}
 use Rattle.jc_heap.specs.declared.place.Place.{Place}
+use Rattle.jc_heap.specs.declared.touch.Touch.{Touch}
+use Rattle.jc_heap.specs.declared.touch.Touch.TheVariants.{HeapEnd}
 use Rattle.jc_heap.specs.declared.refusal.ChangeRefusal.{ChangeRefusal}
 use Rattle.jc_heap.specs.declared.refusal.ChangeRefusal.TheVariants as change
 use Rattle.jc_heap.specs.declared.refusal.HeapRefusal.{HeapRefusal}
 use Rattle.jc_heap.specs.declared.refusal.HeapRefusal.TheVariants as making
 use Rattle.jc_heap.specs.Object.{AnObject, Object, new_object, object_size}
 use Rattle.jc_heap.specs.Heap.{HeapState, HeapView, heap_item_at, is_allocated, add_object, heap_after_change, set_cell, set_cells, run_words, cell_address}
-use Rattle.jc_heap.specs.Heap.{end_address, keeping, room_left, has_room_for, unlogged_places}
+use Rattle.jc_heap.specs.Heap.{end_address, keeping, has_room_for}
 use Rattle.jc_heap.specs.Moves.{Move, SetPlaces, SetCells, refusal_of_places, refusal_of_cells}
 use Rattle.jc_heap.specs.Completions.{Attempt, Done, Refused, after_change, after_making}
-use Rattle.jc_heap.specs.Places.{places_of, place_word}
+use Rattle.jc_heap.specs.Places.{places_of, place_word, set_places}
+use Rattle.jc_heap.specs.Touches.{touch_words, touched_places, touched_cells, once_made}
 use Rattle.jc_commit.proofs.WhatIsKept.{keeps_old_values}
 use Rattle.jc_heap.proofs.Calls.{not_full, object_fits}
 use Rattle.jc_heap.proofs.Runs.{length-addresses}
+use Rattle.jc_heap.proofs.KeepingMoves.{top-run, top-places}
 use Rattle.jc_heap.proofs.Laws.{heap_item_at-add_object, heap_item_at-add_other, object_named}
 use Rattle.jc_memory.specs.declared.making.NewObject.{NewObject}
 use Rattle.jc_memory.specs.Owners.{owner_number}
@@ -29,15 +33,13 @@ use Rattle.jc_memory.specs.Programs.{Program, Finish, Perform, Choose, Completes
 use Rattle.jc_memory.specs.Cells.{cell_refusal_in, cells_effect_in}
 use Rattle.jc_memory.specs.Making.{creation_move, creation_refusal, creation_refusal_in, zero_cells_in}
 use Rattle.jc_memory.specs.Room.{has_space, lacks_capacity, cells_update, places_update, KeepsObjects, KeepsRest}
+use Rattle.jc_memory.proofs.Touched.{lacks_room, room_inside, touches_left, view_left, words_of_cells, words_of_places, words_once_made}
 
 -- places within the room of a heap
-fits : (v : HeapView) (n : ℕ) (places : List ℕ) → (v.begun && nat_lt (room_left v) n) ≡ false → length places ≤ n → 0 < n → n ≤ 256 → has_room_for v places
-    ≡ true
-fits v n places room short some most = elim (cases_Bool v.begun) [
-  | inl begun ↦
-      let left = ltb-false (room_left v) n (sym (ap (λ (b : Bool). b && nat_lt (room_left v) n) begun) ∙ room) in
-      keeps_old_values.enough (keeping v) places (omega (arith, left, short, some))
-  | inr shut ↦ keeps_old_values.alone (keeping v) places shut (omega (arith, short, most))
+fits : (v : HeapView) (places : List ℕ) → lacks_room v places ≡ false → length places ≤ 256 → has_room_for v places ≡ true
+fits v places room most = elim (cases_Bool v.begun) [
+  | inl begun ↦ room_inside v places begun room
+  | inr shut ↦ keeps_old_values.alone (keeping v) places shut (omega (arith, most))
 ]
 
 abbrev is_done : {A : Type 0} → Attempt A → Bool
@@ -47,14 +49,15 @@ is_done (Refused why) = false
 done_is_no_refusal : {A : Type 0} (done : Attempt A) (a : A) (why : HeapRefusal) → done ≡ Done a → Refused why ≡ done → ⊥
 done_is_no_refusal done a why is e = true≢false (sym (ap is_done is) ∙ sym (ap is_done e))
 
--- so a change of as many places is not refused
-pub has_room : (s : MemoryState) (changes : List (Place × ℕ)) → lacks_capacity s (length changes) ≡ false → 0 < length changes → length changes ≤ 256
+-- so a change of these places is not refused
+pub has_room : (s : MemoryState) (changes : List (Place × ℕ)) → lacks_capacity s (touched_places (places_of changes)) ≡ false → length changes ≤ 256
     → refusal_of_places s.heap (places_of changes) ≡ None
-has_room s changes room some most =
-    not_full s.heap (map place_word (places_of changes)) (fits s.heap (length changes) (map place_word (places_of changes)) room few some most)
+has_room s changes room most =
+    let words : List ℕ = map place_word (places_of changes) in
+    not_full s.heap words (fits s.heap words (subst (λ ws. lacks_room s.heap ws ≡ false) (words_of_places s.heap.now (places_of changes)) room) few)
   where
-    few : length (map place_word (places_of changes)) ≤ length changes
-    few = let words = length-map (places_of changes) place_word in let places = length-map changes (λ c. c.0) in omega (arith, words, places)
+    few : length (map place_word (places_of changes)) ≤ 256
+    few = let words = length-map (places_of changes) place_word in let places = length-map changes (λ c. c.0) in omega (arith, words, places, most)
 
 -- a change that has room and is not made is cut
 pub cut_change : (reason : Option HeapRefusal) (s new : MemoryState) (changes : List (Place × ℕ)) (e : ChangeRefusal) → reason ≡ None →
@@ -63,6 +66,20 @@ pub cut_change : (reason : Option HeapRefusal) (s new : MemoryState) (changes : 
 cut_change None s new changes change.StoreDown none cut = cut
 cut_change None s new changes change.CommitFull none did = absurd (done_is_no_refusal (Done tt) tt making.CommitFull refl did.0)
 cut_change (Some why) s new changes e none cut = absurd (none-some why (sym none))
+
+did_change : {A : Type 0} (reason : Option HeapRefusal) (s new : MemoryState) (m : Move) (a b : A) →
+    Completes (unless_refused reason (Perform (HeapMove m) (Finish (Done a)))) s (Done b) new → new ≡ apply_effect (HeapMove m) s
+did_change None s new m a b did = did.1
+did_change (Some why) s new m a b did = absurd (done_is_no_refusal (Done b) b why refl (sym did.0))
+
+-- the room that it leaves
+pub changes_left : {A : Type 0} (reason : Option HeapRefusal) (s new : MemoryState) (changes : List (Place × ℕ)) (a b : A) (more : List Touch) →
+    Completes (unless_refused reason (Perform (HeapMove (SetPlaces changes)) (Finish (Done a)))) s (Done b) new →
+    lacks_capacity s (touched_places (places_of changes) ++ more) ≡ false → lacks_capacity new more ≡ false
+changes_left reason s new changes a b more did room =
+    subst (λ m. lacks_capacity m more ≡ false) (sym (did_change reason s new (SetPlaces changes) a b did))
+    (touches_left s.heap (set_places s.heap.now changes) (touched_places (places_of changes)) (map place_word (places_of changes)) 0 more
+    (words_of_places s.heap.now (places_of changes)) (top-places s.heap.now changes) room)
 
 counts-add : (h : HeapState) (o : Object) (size : ℕ) → (add_object h o size).counts ≡ h.counts
 unfolding add_object
@@ -125,34 +142,24 @@ did_run None None s new r i words kept did = did.1
 did_run None (Some why) s new r i words kept did = absurd (done_is_no_refusal (Done tt) tt why refl (sym did.0))
 did_run (Some event) reason s new r i words kept did = absurd (none-some event (sym kept))
 
--- the room that a change leaves
-view_left : (v : HeapView) (places : List ℕ) (n k : ℕ) → length places ≡ k → (v.begun && nat_lt (room_left v) (n + k)) ≡ false →
-    (v.begun && nat_lt (256 - length (v.touched ++ unlogged_places v places)) n) ≡ false
-view_left v places n k long room = elim (cases_Bool v.begun) [
-  | inl begun ↦
-      let left = ltb-false (room_left v) (n + k) (sym (ap (λ (b : Bool). b && nat_lt (room_left v) (n + k)) begun) ∙ room) in
-      let grown = length-append v.touched (unlogged_places v places) in
-      ap (λ (b : Bool). b && nat_lt (256 - length (v.touched ++ unlogged_places v places)) n) begun
-      ∙ le-ltb (256 - length (v.touched ++ unlogged_places v places)) n (omega (arith, left, grown, long, keeps_old_values.few (keeping v) places))
-  | inr shut ↦ ap (λ (b : Bool). b && nat_lt (256 - length (v.touched ++ unlogged_places v places)) n) shut
-]
-
-pub run_left : (event : Option ClearEvent) (reason : Option HeapRefusal) (s new : MemoryState) (r i : ℕ) (words : List ℕ) (n : ℕ) → event ≡ None →
+-- the room that they leave
+pub run_left : (event : Option ClearEvent) (reason : Option HeapRefusal) (s new : MemoryState) (r i : ℕ) (words : List ℕ) (more : List Touch) → event ≡ None →
     Completes (unless_refused (cell_refusal_in event reason) (Perform (cells_effect_in event r i words) (Finish (Done (tt {0}))))) s (Done (tt {0})) new →
-    lacks_capacity s (n + length words) ≡ false → lacks_capacity new n ≡ false
-run_left event reason s new r i words n kept did room =
-    subst (λ v. lacks_capacity v n ≡ false) (sym (did_run event reason s new r i words kept did))
-    (view_left s.heap _ n (length words) (length-addresses (cell_address r i) words) room)
+    lacks_capacity s (touched_cells r i (length words) ++ more) ≡ false → lacks_capacity new more ≡ false
+run_left event reason s new r i words more kept did room =
+    subst (λ v. lacks_capacity v more ≡ false) (sym (did_run event reason s new r i words kept did))
+    (touches_left s.heap (set_cells s.heap.now r i words) (touched_cells r i (length words)) (addresses_of (run_words (cell_address r i) words)) 0 more
+    (words_of_cells s.heap.now r i words) (top-run s.heap.now r i words) room)
 
--- so a change of as many cells is not refused
-pub has_run_room : (s : MemoryState) (r i : ℕ) (words : List ℕ) → lacks_capacity s (length words) ≡ false → 0 < length words → length words ≤ 256
+-- so a change of these cells is not refused
+pub has_run_room : (s : MemoryState) (r i : ℕ) (words : List ℕ) → lacks_capacity s (touched_cells r i (length words)) ≡ false → length words ≤ 256
     → refusal_of_cells s.heap r i words ≡ None
-has_run_room s r i words room some most =
+has_run_room s r i words room most =
     let places : List ℕ = addresses_of (run_words (cell_address r i) words) in
-    not_full s.heap places (fits s.heap (length words) places room few some most)
+    not_full s.heap places (fits s.heap places (subst (λ ws. lacks_room s.heap ws ≡ false) (words_of_cells s.heap.now r i words) room) few)
   where
-    few : length (addresses_of (run_words (cell_address r i) words)) ≤ length words
-    few = let long = length-addresses (cell_address r i) words in omega (arith, long)
+    few : length (addresses_of (run_words (cell_address r i) words)) ≤ 256
+    few = let long = length-addresses (cell_address r i) words in omega (arith, long, most)
 
 pub run_rest : (event : Option ClearEvent) (reason : Option HeapRefusal) (s new : MemoryState) (r i : ℕ) (words : List ℕ) → event ≡ None →
     Completes (unless_refused (cell_refusal_in event reason) (Perform (cells_effect_in event r i words) (Finish (Done (tt {0}))))) s (Done (tt {0})) new
@@ -170,12 +177,13 @@ cut_applet None s new m n change.CommitFull none did = absurd (done_is_no_refusa
 cut_applet (Some why) s new m n e none cut = absurd (none-some why (sym none))
 
 -- a persistent object for which there is space and room is not refused
-pub object_allowed : (s : MemoryState) (o : NewObject) → o.event ≡ None → has_space s o.length ≡ true → lacks_capacity s 1 ≡ false → creation_refusal s o ≡ None
+pub object_allowed : (s : MemoryState) (o : NewObject) → o.event ≡ None → has_space s o.length ≡ true → lacks_capacity s (HeapEnd ∷ []) ≡ false
+    → creation_refusal s o ≡ None
 object_allowed s o persistent space room =
     let enough : s.heap.now.top + object_size o.length ≤ s.heap.size = leb-true (s.heap.now.top + object_size o.length) s.heap.size space in
     ap (λ (event : Option ClearEvent). creation_refusal_in event s o) persistent
     ∙ object_fits s.heap (object_size o.length) (end_address ∷ []) (λ lacks. omega (arith, lacks, enough))
-    (fits s.heap 1 (end_address ∷ []) room (omega arith) (omega arith) (omega arith))
+    (fits s.heap (end_address ∷ []) room (omega arith))
 
 abbrev made_so : {A : Type 0} → Option ClearEvent → NewObject → (ℕ → A) → Program A
 made_so event o answer =
@@ -192,14 +200,21 @@ cut_object None (Some why) s new o e kept none cut = absurd (none-some why (sym 
 cut_object (Some event) reason s new o e kept none cut = absurd (none-some event (sym kept))
 
 -- the room that it leaves
-left_one : (event : Option ClearEvent) (s new : MemoryState) (o : NewObject) (x n : ℕ) → event ≡ None → Completes (made_so event o (λ r. Done r)) s (Done x) new
-    → lacks_capacity s (n + 1) ≡ false → lacks_capacity new n ≡ false
-left_one None s new o x n none did room =
-    subst (λ (v : HeapView). (v.begun && nat_lt (room_left v) n) ≡ false) (sym (ap (λ (m : MemoryState). m.heap) did.2.1))
-    (view_left s.heap (end_address ∷ []) n 1 refl room)
-left_one (Some event) s new o x n none did room = absurd (none-some event (sym none))
+left_one : (event : Option ClearEvent) (s new : MemoryState) (o : NewObject) (x : ℕ) (more : List Touch) → event ≡ None
+    → Completes (made_so event o (λ r. Done r)) s (Done x) new → lacks_capacity s (HeapEnd ∷ more) ≡ false → lacks_capacity new (map (once_made x) more) ≡ false
+left_one None s new o x more none did room =
+    let same : x ≡ did.0 = cc (did.2.0) in
+    let made : Object = new_object o.kind o.class (owner_number o.owner) o.length in
+    let h : HeapState = add_object s.heap.now made (object_size o.length) in
+    let v : HeapView = heap_after_change s.heap h (end_address ∷ []) (object_size o.length) in
+    let is : new.heap ≡ v = ap (λ (m : MemoryState). m.heap) did.2.1 in
+    subst (λ (u : HeapView). lacks_room u (touch_words u.now (map (once_made x) more)) ≡ false) (sym is)
+    (subst (λ ws. lacks_room v ws ≡ false) (sym (words_once_made s.heap.now h x (same ∙ did.1.chosen) more))
+    (view_left s.heap h (end_address ∷ []) (object_size o.length) (touch_words s.heap.now more) room))
+left_one (Some event) s new o x more none did room = absurd (none-some event (sym none))
 
-pub object_left : (reason : Option HeapRefusal) (s new : MemoryState) (o : NewObject) (x n : ℕ) → o.event ≡ None →
-    Completes (unless_refused reason (made_so o.event o (λ r. Done r))) s (Done x) new → lacks_capacity s (n + 1) ≡ false → lacks_capacity new n ≡ false
-object_left None s new o x n none did room = left_one o.event s new o x n none did room
-object_left (Some why) s new o x n none did room = absurd (done_is_no_refusal (Done x) x why refl (sym did.0))
+pub object_left : (reason : Option HeapRefusal) (s new : MemoryState) (o : NewObject) (x : ℕ) (more : List Touch) → o.event ≡ None →
+    Completes (unless_refused reason (made_so o.event o (λ r. Done r))) s (Done x) new → lacks_capacity s (HeapEnd ∷ more) ≡ false
+    → lacks_capacity new (map (once_made x) more) ≡ false
+object_left None s new o x more none did room = left_one o.event s new o x more none did room
+object_left (Some why) s new o x more none did room = absurd (done_is_no_refusal (Done x) x why refl (sym did.0))

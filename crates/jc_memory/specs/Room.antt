@@ -1,10 +1,12 @@
 -- Room for calls of several changes, which ask for all of it before the first one.
-use Rattle.std.specs.Prelude.{ℕ, ◌+◌, ◌≡◌, ◌&&◌, Bool, nat_lt, nat_le, List}
+use Rattle.std.specs.Prelude.{ℕ, ◌+◌, ◌≡◌, ◌&&◌, Bool, not, nat_le, List}
 use Rattle.jc_heap.specs.declared.place.Place.{Place}
 use Rattle.jc_heap.specs.declared.place.AppletEntry.{AppletEntry}
+use Rattle.jc_heap.specs.declared.touch.Touch.{Touch}
 use Rattle.jc_heap.specs.Object.{object_size}
-use Rattle.jc_heap.specs.Heap.{HeapState, IsObject, heap_item_at, room_left}
+use Rattle.jc_heap.specs.Heap.{HeapState, IsObject, heap_item_at, has_room_for}
 use Rattle.jc_heap.specs.Moves.{SetPlaces, SetCells, applet_move}
+use Rattle.jc_heap.specs.Touches.{touch_words}
 use Rattle.jc_memory.specs.State.{MemoryState, HeapMove}
 use Rattle.jc_memory.specs.Programs.{Program, Finish, Perform}
 
@@ -12,9 +14,9 @@ use Rattle.jc_memory.specs.Programs.{Program, Finish, Perform}
 abbrev pub has_space : MemoryState → ℕ → Bool
 has_space s cells = nat_le (s.heap.now.top + object_size cells) s.heap.size
 
--- the open transaction has no room for so many words
-abbrev pub lacks_capacity : MemoryState → ℕ → Bool
-lacks_capacity s words = s.heap.begun && nat_lt (room_left s.heap) words
+-- the open transaction has no room for changes of these words
+abbrev pub lacks_capacity : MemoryState → List Touch → Bool
+lacks_capacity s touches = s.heap.begun && not (has_room_for s.heap (touch_words s.heap.now touches))
 
 -- places set as one change
 abbrev pub places_update : List (Place × ℕ) → Program (Unit {0})

@@ -1,11 +1,14 @@
 //! Calls of several changes ask room for all of them before the first one. After that the store alone may refuse.
 
-ghost use Rattle.std.specs.Prelude.{ℕ, ◌≡◌, ◌+◌, ◌<◌, ◌≤◌, false, true, None, length, IfOk, OnOk};
+ghost use Rattle.std.specs.Prelude.{◌≡◌, ◌+◌, ◌<◌, ◌≤◌, false, true, None, List, [], ◌∷◌, ◌++◌, All, map, length, IfOk, OnOk};
 ghost use Rattle.jc_commit.specs.Image.{capacity};
 ghost use Rattle.jc_heap.specs.Object.{AnObject, new_object};
 ghost use Rattle.jc_heap.specs.Heap.{heap_item_at, facts, IsObject};
 ghost use Rattle.jc_heap.specs.Keeping.{AreLegalValues};
-ghost use Rattle.jc_heap.specs.Places.{AreThere, AreApart, places_of};
+ghost use Rattle.jc_heap.specs.Places.{AreThere, AreApart, places_of, applet_places};
+ghost use Rattle.jc_heap.specs.declared.touch.Touch.{Touch};
+ghost use Rattle.jc_heap.specs.declared.touch.Touch.TheVariants.{HeapEnd};
+ghost use Rattle.jc_heap.specs.Touches.{CanTouch, touched_places, touched_cells, once_made};
 ghost use Rattle.jc_words.specs.Layout.{most_applets};
 ghost use Rattle.jc_memory.specs.Cells.{MayHaveAll};
 ghost use Rattle.jc_memory.specs.Owners.{owner_number};
@@ -15,7 +18,7 @@ ghost use Rattle.jc_memory.specs.Making.{object_creation};
 ghost use Rattle.jc_memory.specs.Room.{has_space, lacks_capacity, applet_registration, cells_update, places_update, KeepsObjects, KeepsRest};
 
 use crate::{Memory, NewObject};
-use jc_heap::{AppletEntry, PlaceChanges};
+use jc_heap::{AppletEntry, PlaceChanges, Touch};
 use jc_transient::Ref;
 use jc_words::{StoreDown, WordStore};
 
@@ -27,11 +30,13 @@ pub fn has_space<S: WordStore>(memory: &Memory<S>, cells: u16) -> bool
     memory.heap().has_space(cells)
 }
 
-/// Whether the open transaction has no room for so many words. Outside a transaction there is room for each change.
-pub fn lacks_capacity<S: WordStore>(memory: &Memory<S>, words: u16) -> bool
-    ensures { result ≡ lacks_capacity memory.now words }
+/// Whether the open transaction has no room for changes of these words. Outside a transaction there is room for each change.
+pub fn lacks_capacity<S: WordStore>(memory: &Memory<S>, touches: &[Touch]) -> bool
+    requires up { memory.now.heap.down ≡ false }
+    requires there { All (λ touch. CanTouch memory.now.heap touch) touches.now }
+    ensures { result ≡ lacks_capacity memory.now touches.now }
 {
-    memory.heap().is_open() && memory.heap().room() < words
+    memory.heap().is_open() && !memory.heap().fits(touches)
 }
 
 /// Makes a persistent object, for which there is space and room. All that was there stays as it was.
@@ -42,7 +47,7 @@ pub fn make_within_capacity<S: WordStore>(
     requires up { memory.old.heap.down ≡ false }
     requires persistent { object.event ≡ None }
     requires space { has_space memory.old object.length ≡ true }
-    requires room { lacks_capacity memory.old 1 ≡ false }
+    requires room { lacks_capacity memory.old (HeapEnd ∷ []) ≡ false }
     ensures made { Executes (object_creation object Finish) memory.old
         (after_step result memory.new) }
     ensures new { IfOk result (λ r. heap_item_at memory.new.heap.now r
@@ -50,8 +55,9 @@ pub fn make_within_capacity<S: WordStore>(
         (owner_number object.owner) object.length)) }
     ensures kept { OnOk result (KeepsObjects memory.old.heap.now memory.new.heap.now) }
     ensures rest { OnOk result (KeepsRest memory.old memory.new) }
-    ensures left { OnOk result ((n : ℕ) → lacks_capacity memory.old (n + 1) ≡ false
-        → lacks_capacity memory.new n ≡ false) }
+    ensures left { IfOk result (λ r. (more : List Touch)
+        → lacks_capacity memory.old (HeapEnd ∷ more) ≡ false
+        → lacks_capacity memory.new (map (once_made r) more) ≡ false) }
     ensures up { OnOk result (memory.new.heap.down ≡ false) }
 {
     match memory.make(object) {
@@ -69,11 +75,14 @@ pub fn write_within_capacity<S: WordStore, P: PlaceChanges>(
     requires there { AreThere memory.old.heap.now (P.changes changes.now) }
     requires apart { AreApart (places_of (P.changes changes.now)) }
     requires references { AreLegalValues memory.old.heap.now (P.changes changes.now) }
-    requires some { 0 < length (P.changes changes.now) }
     requires few { length (P.changes changes.now) ≤ capacity }
-    requires room { lacks_capacity memory.old (length (P.changes changes.now)) ≡ false }
-    ensures { Executes (places_update (P.changes changes.now)) memory.old
+    requires room { lacks_capacity memory.old
+        (touched_places (places_of (P.changes changes.now))) ≡ false }
+    ensures made { Executes (places_update (P.changes changes.now)) memory.old
         (after_step result memory.new) }
+    ensures left { OnOk result ((more : List Touch)
+        → lacks_capacity memory.old (touched_places (places_of (P.changes changes.now)) ++ more)
+        ≡ false → lacks_capacity memory.new more ≡ false) }
 {
     match memory.write_all(changes) {
         Ok(()) => Ok(()),
@@ -93,13 +102,13 @@ pub fn set_within_capacity<S: WordStore>(
     requires persistent { (facts memory.old.heap.now object).event ≡ None }
     requires cells { i + length words.now ≤ (facts memory.old.heap.now object).length }
     requires values { MayHaveAll memory.old object words.now }
-    requires some { 0 < length words.now }
     requires few { length words.now ≤ capacity }
-    requires room { lacks_capacity memory.old (length words.now) ≡ false }
+    requires room { lacks_capacity memory.old (touched_cells object i (length words.now)) ≡ false }
     ensures made { Executes (cells_update object i words.now) memory.old
         (after_step result memory.new) }
-    ensures left { OnOk result ((n : ℕ) → lacks_capacity memory.old (n + length words.now) ≡ false
-        → lacks_capacity memory.new n ≡ false) }
+    ensures left { OnOk result ((more : List Touch)
+        → lacks_capacity memory.old (touched_cells object i (length words.now) ++ more) ≡ false
+        → lacks_capacity memory.new more ≡ false) }
     ensures rest { OnOk result (KeepsRest memory.old memory.new) }
 {
     match memory.set_run(object, i, words) {
@@ -115,9 +124,13 @@ pub fn register_within_capacity<S: WordStore>(
 ) -> Result<(), StoreDown>
     requires up { memory.old.heap.down ≡ false }
     requires few { memory.old.heap.now.counts.1 < most_applets }
-    requires room { lacks_capacity memory.old 4 ≡ false }
-    ensures { Executes (applet_registration memory.old.heap.now entry) memory.old
+    requires room { lacks_capacity memory.old
+        (touched_places (applet_places memory.old.heap.now.counts.1)) ≡ false }
+    ensures made { Executes (applet_registration memory.old.heap.now entry) memory.old
         (after_step result memory.new) }
+    ensures left { OnOk result ((more : List Touch) → lacks_capacity memory.old
+        (touched_places (applet_places memory.old.heap.now.counts.1) ++ more) ≡ false
+        → lacks_capacity memory.new more ≡ false) }
 {
     match memory.add_applet(entry) {
         Ok(_) => Ok(()),

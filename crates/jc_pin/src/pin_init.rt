@@ -4,21 +4,33 @@ ghost use Rattle.jc_heap.specs.declared.object.Kind.TheVariants.{Instance};
 ghost use Rattle.jc_memory.specs.Programs.{Executes};
 ghost use Rattle.jc_heap.specs.Completions.{after_step};
 ghost use Rattle.jc_memory.specs.Room.{lacks_capacity, places_update};
-ghost use Rattle.jc_pin.specs.Pins.{IsPersistentWith, cell_count};
+ghost use Rattle.jc_pin.specs.Pins.{IsPersistentWith, cell_count, limit_cell};
 ghost use Rattle.jc_pin.specs.Updating.{after_pin};
-ghost use Rattle.jc_pin.specs.PinInit.{first_record, pin_init};
+ghost use Rattle.jc_heap.specs.Touches.{touched_cells};
+ghost use Rattle.jc_pin.specs.PinInit.{first_record, touched_by_init, pin_init};
 
 use crate::pin::{COUNTER, LENGTH, LIMIT, MAXIMUM, VALUE};
 use crate::updating::PinRefusal;
-use jc_heap::{Kind, Place};
+use jc_heap::{Kind, Place, Touch};
 use jc_memory::{
     Memory, NewObject, has_space, lacks_capacity, make_within_capacity, write_within_capacity,
 };
 use jc_transient::{NO_CLASS, Ref};
 use jc_words::{StoreDown, WordStore};
 
-// For how many words a PIN that is set up needs room: the heap's end, and its cells.
-const WORDS: u16 = 6;
+// The words that are changed where a PIN is set up: the heap's end, for the array of values, and its cells.
+fn touched_by_init(pin: Ref) -> [Touch; 6]
+    ensures { result ≡ touched_by_init pin }
+{
+    [
+        Touch::HeapEnd,
+        Touch::Place(Place::Cell(pin, LIMIT)),
+        Touch::Place(Place::Cell(pin, MAXIMUM)),
+        Touch::Place(Place::Cell(pin, COUNTER)),
+        Touch::Place(Place::Cell(pin, LENGTH)),
+        Touch::Place(Place::Cell(pin, VALUE)),
+    ]
+}
 
 // Sets the cells of a PIN as one change.
 fn set_record<S: WordStore>(
@@ -30,7 +42,7 @@ fn set_record<S: WordStore>(
 ) -> Result<(), StoreDown>
     requires up { memory.old.heap.down ≡ false }
     requires itself { IsPersistentWith memory.old Instance cell_count pin }
-    requires room { lacks_capacity memory.old cell_count ≡ false }
+    requires room { lacks_capacity memory.old (touched_cells pin limit_cell cell_count) ≡ false }
     ensures { Executes (places_update (first_record pin limit maximum value)) memory.old
         (after_step result memory.new) }
 {
@@ -62,7 +74,7 @@ pub fn init<S: WordStore>(
     if !has_space(memory, maximum) {
         return Err(PinRefusal::HeapFull);
     }
-    if lacks_capacity(memory, WORDS) {
+    if lacks_capacity(memory, &touched_by_init(pin)) {
         return Err(PinRefusal::CommitFull);
     }
     let owner = memory.registers().active;

@@ -4,10 +4,10 @@ use Rattle.jc_memory.proofs.Room.{cut_run, has_run_room, run_left, run_rest}
 use Rattle.jc_memory.proofs.commit_capacity.set_within_capacity.Goals as goal
 
 pub returns-in-Ok-clause-left : goal.returns-in-Ok-clause-left
-returns-in-Ok-clause-left g c n =
+returns-in-Ok-clause-left g c more =
     let s = c.args.memory.now in
     run_left (facts s.heap.now c.args.object).event (refusal_of_cells s.heap c.args.object c.args.i c.args.words.now) s c.set_run.new.self c.args.object
-    c.args.i c.args.words.now n
+    c.args.i c.args.words.now more
     c.requires.persistent c.in-Ok.ensures
 
 pub returns-in-Err-clause-made : goal.returns-in-Err-clause-made
@@ -15,7 +15,7 @@ returns-in-Err-clause-made g c =
     let s = c.args.memory.now in
     cut_run (facts s.heap.now c.args.object).event (refusal_of_cells s.heap c.args.object c.args.i c.args.words.now) s c.set_run.new.self c.args.object c.args.i
     c.args.words.now c.in-Err.field-0
-    c.requires.persistent (has_run_room s c.args.object c.args.i c.args.words.now c.requires.room c.requires.some c.requires.few) c.in-Err.ensures
+    c.requires.persistent (has_run_room s c.args.object c.args.i c.args.words.now c.requires.room c.requires.few) c.in-Err.ensures
 
 pub returns-in-Ok-clause-rest : goal.returns-in-Ok-clause-rest
 returns-in-Ok-clause-rest g c =

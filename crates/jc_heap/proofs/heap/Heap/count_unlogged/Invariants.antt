@@ -1,11 +1,11 @@
--- The places before the index are counted.
-use Rattle.std.proofs.Common.{◌≡◌, ◌≤◌, length, map, take}
-use Rattle.jc_heap.specs.Places.{place_word}
+-- The words before the index are counted.
+use Rattle.std.proofs.Common.{◌≡◌, ◌≤◌, length, take}
+use Rattle.jc_heap.specs.Touches.{touch_words}
 use Rattle.jc_heap.proofs.Costs.{staying}
 use Rattle.jc_heap.proofs.heap.Heap.count_unlogged.Given as goal
 
-abbrev pub invariant-loop-place : goal.invariant-loop-place
-invariant-loop-place g l = record {
-  few : l.count ≤ l.place-index;
-  count : l.count ≡ length (staying l.self (map place_word (take l.place-index l.places)));
+abbrev pub invariant-loop-touch : goal.invariant-loop-touch
+invariant-loop-touch g l = record {
+  few : l.count ≤ l.touch-index;
+  count : l.count ≡ length (staying l.self (touch_words l.self.now (take l.touch-index l.touches)));
 }
