@@ -18,7 +18,7 @@ use Rattle.jc_commit.specs.Entries.{addresses_of, AreDistinct, ArePlaces, SameBe
 use Rattle.jc_commit.specs.State.{State, live_words, born_of}
 use Rattle.jc_commit.specs.Keeping.{writes_inside, is_taken_back}
 use Rattle.jc_commit.specs.EntryIndex.{named_by, needing, with_entries, IsIndexOf, GoBack, KeepsAddresses}
-use Rattle.jc_commit.proofs.Words.{readable}
+use Rattle.jc_commit.proofs.Words.{readable, place-not_version}
 use Rattle.jc_commit.proofs.Steps.{IsGoodLog-set_place, count-set_place, entries-set_place, plain-set_place}
 use Rattle.jc_commit.proofs.Entries.{same_after, target, target-take}
 use Rattle.jc_commit.proofs.Counted.{entry_of, named_new, Kept, kept_before, Counted, counted}
@@ -413,7 +413,7 @@ through_at w a x born good place top low back =
     let both : SameLive (recovered_of w) (recovered_of (set w a x)) = subst (λ (r : List ℕ). SameLive (recovered_of w) r) (sym is)
     (same_live named (recovered_of w) a x high) in
     record {
-      good = IsGoodLog-set_place w a x good read;
+      good = IsGoodLog-set_place w a x good read (place-not_version (length w) a place);
       size = length-set w a x;
       live = both.0;
       top = both.1;

@@ -1,15 +1,15 @@
 -- A word that is written in place, with an old value kept or without.
 use Rattle.std.specs.Prelude.{if◌then◌else◌, ◌==◌, ◌||◌, ◌&&◌}
 use Rattle.std.specs.List.{list_any}
-use Rattle.std.proofs.Common.{◌≡◌, ℕ, ◌≤◌, ◌⊎◌, Bool, true, false, cond, List, [], ◌∷◌, Option, Some, None, unwrap_or, length, map, set, take, slice_index, eqb}
+use Rattle.std.proofs.Common.{◌≡◌, ◌≢◌, ℕ, ◌≤◌, ◌⊎◌, Bool, true, false, cond, List, [], ◌∷◌, Option, Some, None, unwrap_or, length, map, set, take, slice_index, eqb}
 use Rattle.std.proofs.Common.{refl, sym, ◌∙◌, ap, subst, arith, ⊎_elim, get_or-set_other, get_or-set_same}
 use Rattle.std.proofs.lemmas.List.{length-set, take-set-le}
 use Rattle.std.proofs.lemmas.Bool.{cases_Bool, cases_eq, false≢true}
 use Rattle.jc_commit.specs.Image.{words_by, IsReadable, IsUnlogged, IsGoodLog, entries, old_value, plain_of, recovered_of, touched_of, top_of}
-use Rattle.jc_words.specs.Layout.{top_address, log_end}
+use Rattle.jc_words.specs.Layout.{top_address, log_end, version_address}
 use Rattle.jc_commit.specs.Entries.{ArePlaces}
 use Rattle.jc_commit.specs.State.{live_words}
-use Rattle.jc_commit.proofs.Words.{readable, is_log-readable, get_or-words_by, words_by-set, length-words_by}
+use Rattle.jc_commit.proofs.Words.{readable, place-not_version, is_log-readable, get_or-words_by, words_by-set, length-words_by}
 use Rattle.jc_commit.proofs.Steps.{recovered_at, recovered-set_named, entries-set_place}
 
 pub length-plain : (w : List ℕ) → length (plain_of w) ≡ length w
@@ -95,3 +95,7 @@ unlogged n a place = unlogged_by (cases_eq a 0)
     unlogged_by = ⊎_elim
         (λ zero. record { below = place.below; not_count = λ same. absurd (omega arith); beside = λ h. absurd (omega arith) })
         (λ some. readable n a (place.place some))
+
+-- nor is it the word with the version
+pub unlogged-not_version : (n a : ℕ) → IsUnlogged n a → a ≢ version_address
+unlogged-not_version n a place same = place-not_version n a (place.place (λ zero. absurd (omega arith))) same

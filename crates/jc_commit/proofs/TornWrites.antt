@@ -30,7 +30,7 @@ stops_at w zero m (suc n) good is replayed =
     let all : m ≡ count_of w = omega arith in
     let whole : Replayed w 0 (count_of w) = subst (λ (j : ℕ). Replayed w 0 j) all replayed in
     subst (λ (u : List ℕ). StillRecovers w u) (sym (ended n (set w count_address 0)))
-    (record { good = IsGoodLog-set_zero w size; size = length-set w count_address 0; recovered = recovered-set_zero w size ∙ replayed_all w whole })
+    (record { good = IsGoodLog-set_zero w good; size = length-set w count_address 0; recovered = recovered-set_zero w size ∙ replayed_all w whole })
 stops_at w (suc k) m (suc n) good is replayed =
     let few = good.few in
     let e : suc k ≡ k + 1 = omega arith in

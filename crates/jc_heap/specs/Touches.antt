@@ -5,12 +5,12 @@ use Rattle.jc_heap.specs.declared.place.Place.{Place}
 use Rattle.jc_heap.specs.declared.place.Place.TheVariants.{Cell}
 use Rattle.jc_heap.specs.declared.touch.Touch.{Touch}
 use Rattle.jc_heap.specs.declared.touch.Touch.TheVariants as touch
-use Rattle.jc_heap.specs.Heap.{HeapState, HeapView, cell_address, end_address}
-use Rattle.jc_heap.specs.Places.{place_word, HasPlace}
+use Rattle.jc_heap.specs.Heap.{HeapState, HeapView, limit, cell_address, end_address}
+use Rattle.jc_heap.specs.Places.{place_at, HasPlace}
 
 -- the address of a word that is touched
 abbrev pub touch_word : HeapState → Touch → ℕ
-touch_word h (touch.Place p) = place_word p
+touch_word h (touch.Place p) = place_at h p
 touch_word h (touch.NewCell i) = cell_address h.top i
 touch_word h touch.HeapEnd = end_address
 
@@ -21,7 +21,7 @@ touch_words h touches = map (touch_word h) touches
 -- the heap has this word, or space for it
 abbrev pub CanTouch : HeapView → Touch → Type 0
 CanTouch v (touch.Place p) = HasPlace v.now p
-CanTouch v (touch.NewCell i) = cell_address v.now.top i < v.size
+CanTouch v (touch.NewCell i) = cell_address v.now.top i < limit v
 CanTouch v touch.HeapEnd = Unit {0}
 
 -- the words of these places

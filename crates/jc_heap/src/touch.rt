@@ -1,13 +1,13 @@
 //! Words that changes touch: how many old values they have to keep, and whether there is room for them.
 ghost use Rattle.std.specs.Prelude.{◌≡◌, ◌<◌, false, All, filter, not, length};
-ghost use Rattle.jc_heap.specs.Heap.{has_room_for, goes_back, unlogged_places, cell_address};
+ghost use Rattle.jc_heap.specs.Heap.{has_room_for, goes_back, unlogged_places, cell_address, limit};
 ghost use Rattle.jc_heap.specs.Touches.{CanTouch, touch_word, touch_words};
 
 use crate::heap::Heap;
 use crate::layout::HEADER;
 use crate::place::Place;
 use jc_words::WordStore;
-use jc_words::layout::{JOURNAL_CAPACITY, TOP};
+use jc_words::layout::TOP;
 
 /// A word that a change touches.
 #[derive(Clone, Copy)]
@@ -25,7 +25,7 @@ impl<S: WordStore> Heap<S> {
     #[tactic(auto, unfolding(crate::specs::Heap::cell_address))]
     fn new_cell_word(&self, i: u16) -> u16
         requires up { self.now.down ≡ false }
-        requires space { cell_address self.now.now.top i < self.now.size }
+        requires space { cell_address self.now.now.top i < limit self.now }
         ensures { result ≡ cell_address self.now.now.top i }
     {
         let _ = &self.journal; // so that the proof knows what holds of every heap: how many words it may have
@@ -85,6 +85,6 @@ impl<S: WordStore> Heap<S> {
         if self.is_open() {
             return self.cost(touches) <= self.room() as usize;
         }
-        touches.len() <= JOURNAL_CAPACITY as usize
+        touches.len() <= self.commit_capacity() as usize
     }
 }
