@@ -4,9 +4,9 @@ use Rattle.std.proofs.Common.{leb-true}
 use Rattle.std.specs.Prelude.{Option, Some, None, Err}
 use Rattle.std.proofs.lemmas.Bool.{true≢false, cases_Bool}
 use Rattle.std.proofs.lemmas.List.{length-map}
+use Rattle.std.proofs.lemmas.List.FromFn.{length-range_with_len}
 use Rattle.std.proofs.lemmas.Option.{none-some}
 use Rattle.jc_transient.specs.declared.cell.ClearEvent.{ClearEvent}
-use Rattle.jc_commit.specs.Entries.{addresses_of}
 use Rattle.jc_heap.specs.declared.place.Place.{Place}
 use Rattle.jc_heap.specs.declared.touch.Touch.{Touch}
 use Rattle.jc_heap.specs.declared.touch.Touch.TheVariants.{HeapEnd}
@@ -15,15 +15,14 @@ use Rattle.jc_heap.specs.declared.refusal.ChangeRefusal.TheVariants as change
 use Rattle.jc_heap.specs.declared.refusal.HeapRefusal.{HeapRefusal}
 use Rattle.jc_heap.specs.declared.refusal.HeapRefusal.TheVariants as making
 use Rattle.jc_heap.specs.Object.{AnObject, Object, new_object, object_size}
-use Rattle.jc_heap.specs.Heap.{HeapState, HeapView, heap_item_at, is_allocated, add_object, heap_after_change, set_cell, set_cells, run_words, cell_address}
-use Rattle.jc_heap.specs.Heap.{end_address, keeping, has_room_for}
+use Rattle.jc_heap.specs.Heap.{HeapState, HeapView, heap_item_at, is_allocated, add_object, heap_after_change, set_cell, set_cells, cell_address}
+use Rattle.jc_heap.specs.Heap.{end_address, keeping, limit, has_room_for}
 use Rattle.jc_heap.specs.Moves.{Move, SetPlaces, SetCells, refusal_of_places, refusal_of_cells}
 use Rattle.jc_heap.specs.Completions.{Attempt, Done, Refused, after_change, after_making}
-use Rattle.jc_heap.specs.Places.{places_of, place_word, set_places}
+use Rattle.jc_heap.specs.Places.{places_of, place_word, run_at, set_places}
 use Rattle.jc_heap.specs.Touches.{touch_words, touched_places, touched_cells, once_made}
 use Rattle.jc_commit.proofs.WhatIsKept.{keeps_old_values}
 use Rattle.jc_heap.proofs.Calls.{not_full, object_fits}
-use Rattle.jc_heap.proofs.Runs.{length-addresses}
 use Rattle.jc_heap.proofs.KeepingMoves.{top-run, top-places}
 use Rattle.jc_heap.proofs.Laws.{heap_item_at-add_object, heap_item_at-add_other, object_named}
 use Rattle.jc_memory.specs.declared.making.NewObject.{NewObject}
@@ -36,10 +35,10 @@ use Rattle.jc_memory.specs.Room.{has_space, lacks_capacity, cells_update, places
 use Rattle.jc_memory.proofs.Touched.{lacks_room, room_inside, touches_left, view_left, words_of_cells, words_of_places, words_once_made}
 
 -- places within the room of a heap
-fits : (v : HeapView) (places : List ℕ) → lacks_room v places ≡ false → length places ≤ 256 → has_room_for v places ≡ true
+fits : (v : HeapView) (places : List ℕ) → lacks_room v places ≡ false → length places ≤ v.durable.capacity → has_room_for v places ≡ true
 fits v places room most = elim (cases_Bool v.begun) [
   | inl begun ↦ room_inside v places begun room
-  | inr shut ↦ keeps_old_values.alone (keeping v) places shut (omega (arith, most))
+  | inr shut ↦ keeps_old_values.alone (keeping v) places shut most
 ]
 
 abbrev is_done : {A : Type 0} → Attempt A → Bool
@@ -50,13 +49,13 @@ done_is_no_refusal : {A : Type 0} (done : Attempt A) (a : A) (why : HeapRefusal)
 done_is_no_refusal done a why is e = true≢false (sym (ap is_done is) ∙ sym (ap is_done e))
 
 -- so a change of these places is not refused
-pub has_room : (s : MemoryState) (changes : List (Place × ℕ)) → lacks_capacity s (touched_places (places_of changes)) ≡ false → length changes ≤ 256
+pub has_room : (s : MemoryState) (changes : List (Place × ℕ)) → lacks_capacity s (touched_places (places_of changes)) ≡ false → length changes ≤ s.heap.durable.capacity
     → refusal_of_places s.heap (places_of changes) ≡ None
 has_room s changes room most =
     let words : List ℕ = map place_word (places_of changes) in
     not_full s.heap words (fits s.heap words (subst (λ ws. lacks_room s.heap ws ≡ false) (words_of_places s.heap.now (places_of changes)) room) few)
   where
-    few : length (map place_word (places_of changes)) ≤ 256
+    few : length (map place_word (places_of changes)) ≤ s.heap.durable.capacity
     few = let words = length-map (places_of changes) place_word in let places = length-map changes (λ c. c.0) in omega (arith, words, places, most)
 
 -- a change that has room and is not made is cut
@@ -148,18 +147,18 @@ pub run_left : (event : Option ClearEvent) (reason : Option HeapRefusal) (s new 
     lacks_capacity s (touched_cells r i (length words) ++ more) ≡ false → lacks_capacity new more ≡ false
 run_left event reason s new r i words more kept did room =
     subst (λ v. lacks_capacity v more ≡ false) (sym (did_run event reason s new r i words kept did))
-    (touches_left s.heap (set_cells s.heap.now r i words) (touched_cells r i (length words)) (addresses_of (run_words (cell_address r i) words)) 0 more
-    (words_of_cells s.heap.now r i words) (top-run s.heap.now r i words) room)
+    (touches_left s.heap (set_cells s.heap.now r i words) (touched_cells r i (length words)) (run_at s.heap.now r i (length words)) 0 more
+    (words_of_cells s.heap.now r i (length words)) (top-run s.heap.now r i words) room)
 
 -- so a change of these cells is not refused
-pub has_run_room : (s : MemoryState) (r i : ℕ) (words : List ℕ) → lacks_capacity s (touched_cells r i (length words)) ≡ false → length words ≤ 256
+pub has_run_room : (s : MemoryState) (r i : ℕ) (words : List ℕ) → lacks_capacity s (touched_cells r i (length words)) ≡ false → length words ≤ s.heap.durable.capacity
     → refusal_of_cells s.heap r i words ≡ None
 has_run_room s r i words room most =
-    let places : List ℕ = addresses_of (run_words (cell_address r i) words) in
-    not_full s.heap places (fits s.heap places (subst (λ ws. lacks_room s.heap ws ≡ false) (words_of_cells s.heap.now r i words) room) few)
+    let places : List ℕ = run_at s.heap.now r i (length words) in
+    not_full s.heap places (fits s.heap places (subst (λ ws. lacks_room s.heap ws ≡ false) (words_of_cells s.heap.now r i (length words)) room) few)
   where
-    few : length (addresses_of (run_words (cell_address r i) words)) ≤ 256
-    few = let long = length-addresses (cell_address r i) words in omega (arith, long, most)
+    few : length (run_at s.heap.now r i (length words)) ≤ s.heap.durable.capacity
+    few = let long = length-range_with_len (cell_address r i) (length words) in omega (arith, long, most)
 
 pub run_rest : (event : Option ClearEvent) (reason : Option HeapRefusal) (s new : MemoryState) (r i : ℕ) (words : List ℕ) → event ≡ None →
     Completes (unless_refused (cell_refusal_in event reason) (Perform (cells_effect_in event r i words) (Finish (Done (tt {0}))))) s (Done (tt {0})) new
@@ -178,12 +177,12 @@ cut_applet (Some why) s new m n e none cut = absurd (none-some why (sym none))
 
 -- a persistent object for which there is space and room is not refused
 pub object_allowed : (s : MemoryState) (o : NewObject) → o.event ≡ None → has_space s o.length ≡ true → lacks_capacity s (HeapEnd ∷ []) ≡ false
-    → creation_refusal s o ≡ None
-object_allowed s o persistent space room =
-    let enough : s.heap.now.top + object_size o.length ≤ s.heap.size = leb-true (s.heap.now.top + object_size o.length) s.heap.size space in
+    → 1 ≤ s.heap.durable.capacity → creation_refusal s o ≡ None
+object_allowed s o persistent space room some =
+    let enough : s.heap.now.top + object_size o.length ≤ limit s.heap = leb-true (s.heap.now.top + object_size o.length) (limit s.heap) space in
     ap (λ (event : Option ClearEvent). creation_refusal_in event s o) persistent
     ∙ object_fits s.heap (object_size o.length) (end_address ∷ []) (λ lacks. omega (arith, lacks, enough))
-    (fits s.heap (end_address ∷ []) room (omega arith))
+    (fits s.heap (end_address ∷ []) room some)
 
 abbrev made_so : {A : Type 0} → Option ClearEvent → NewObject → (ℕ → A) → Program A
 made_so event o answer =

@@ -1,15 +1,15 @@
 -- The words that changes touch, and the room that a change leaves for others.
-use Rattle.std.proofs.Common.{◌≡◌, ℕ, suc, ◌+◌, Bool, true, false, not, List, [], ◌∷◌, ◌++◌, length, map, refl, sym, ◌∙◌, ap, subst, arith, inl, inr}
+use Rattle.std.proofs.Common.{◌≡◌, ℕ, zero, suc, ◌+◌, Bool, true, false, not, List, [], ◌∷◌, ◌++◌, length, map, refl, sym, ◌∙◌, ap, subst, arith, inl, inr}
 use Rattle.std.specs.Prelude.{◌&&◌}
+use Rattle.std.specs.List.{range_with_len}
 use Rattle.std.proofs.lemmas.Bool.{cases_Bool, false≢true}
 use Rattle.std.proofs.lemmas.List.{map-append}
-use Rattle.jc_commit.specs.Entries.{addresses_of}
 use Rattle.jc_commit.proofs.WhatIsKept.{keeps_old_values}
 use Rattle.jc_heap.specs.declared.place.Place.{Place}
 use Rattle.jc_heap.specs.declared.touch.Touch.{Touch}
 use Rattle.jc_heap.specs.declared.touch.Touch.TheVariants as touch
-use Rattle.jc_heap.specs.Heap.{HeapState, HeapView, heap_after_change, keeping, has_room_for, run_words, cell_address}
-use Rattle.jc_heap.specs.Places.{place_word}
+use Rattle.jc_heap.specs.Heap.{HeapState, HeapView, heap_after_change, keeping, has_room_for, cell_address}
+use Rattle.jc_heap.specs.Places.{place_word, run_at}
 use Rattle.jc_heap.specs.Touches.{touch_word, touch_words, touched_places, touched_cells, once_made}
 use Rattle.jc_heap.proofs.KeptWords.{room_behind}
 use Rattle.jc_memory.specs.State.{MemoryState}
@@ -25,10 +25,10 @@ next_cell : (r i : ℕ) → cell_address r (i + 1) ≡ suc (cell_address r i)
 unfolding cell_address
 next_cell r i = omega arith
 
-pub words_of_cells : (h : HeapState) (r i : ℕ) (vs : List ℕ) → touch_words h (touched_cells r i (length vs)) ≡ addresses_of (run_words (cell_address r i) vs)
-words_of_cells h r i [] = refl
-words_of_cells h r i (v ∷ vs) =
-    ap (λ ws. cell_address r i ∷ ws) (words_of_cells h r (i + 1) vs ∙ ap (λ (a : ℕ). addresses_of (run_words a vs)) (next_cell r i))
+pub words_of_cells : (h : HeapState) (r i n : ℕ) → touch_words h (touched_cells r i n) ≡ run_at h r i n
+words_of_cells h r i zero = refl
+words_of_cells h r i (suc n) =
+    ap (λ ws. cell_address r i ∷ ws) (words_of_cells h r (i + 1) n ∙ ap (λ (a : ℕ). range_with_len a n) (next_cell r i))
 
 -- they are the same in a heap with the same end, and once the next object stands behind that end
 module _ (h new : HeapState) where
