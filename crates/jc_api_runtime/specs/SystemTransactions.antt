@@ -8,7 +8,7 @@ use Rattle.jc_memory.specs.declared.registers.Depth.{Depth}
 use Rattle.jc_memory.specs.declared.registers.Depth.TheVariants.{Outside, Inside}
 use Rattle.jc_memory.specs.declared.registers.Installation.{Installation}
 use Rattle.jc_memory.specs.declared.registers.Installation.TheVariants.{Idle, Open, Registered}
-use Rattle.jc_memory.specs.State.{MemoryState, Effect, HeapMove, NullDead, SetRegisters}
+use Rattle.jc_memory.specs.State.{MemoryState, Effect, HeapMove, SetRegisters}
 use Rattle.jc_memory.specs.Programs.{Perform}
 use Rattle.jc_world.specs.declared.native_result.NativeResult.TheVariants.{ReturnVoid, Aborted}
 use Rattle.jc_world.specs.NativeCalls.{NativeProgram, return_value, throw_exception, code_fault}
@@ -48,8 +48,7 @@ after_abort (Registered home) = return_value Aborted
 abbrev pub jc_system_abort_transaction : Depth → MemoryState → NativeProgram
 jc_system_abort_transaction Outside m = throw_exception not_in_progress
 jc_system_abort_transaction Inside m =
-    if m.heap.begun then Perform (HeapMove Abort) (Perform NullDead (Perform (set_level m Outside) (after_abort m.registers.installation)))
-    else Perform (set_level m Outside) (after_abort m.registers.installation)
+    if m.heap.begun then Perform (HeapMove Abort) (Perform (set_level m Outside) (after_abort m.registers.installation)) else Perform (set_level m Outside) (after_abort m.registers.installation)
 
 -- JCSystem.getTransactionDepth: the nesting level
 abbrev pub jc_system_get_transaction_depth : Depth → ℤ

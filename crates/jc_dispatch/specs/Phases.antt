@@ -12,7 +12,7 @@ use Rattle.jc_memory.specs.declared.registers.Owner.{Owner}
 use Rattle.jc_memory.specs.declared.registers.Owner.TheVariants.{Runtime}
 use Rattle.jc_memory.specs.declared.registers.Registers.{Registers}
 use Rattle.jc_memory.specs.Owners.{owner_number}
-use Rattle.jc_memory.specs.State.{MemoryState, Effect, HeapMove, SetRegisters, NullDead, apply_effect}
+use Rattle.jc_memory.specs.State.{MemoryState, Effect, HeapMove, SetRegisters, apply_effect}
 use Rattle.jc_memory.specs.Programs.{Program, Finish, Perform, bind}
 use Rattle.jc_memory.specs.Cells.{header_at}
 use Rattle.jc_linker.specs.declared.target.Method.{Method}
@@ -72,7 +72,7 @@ applet_method_call budget p name applet arguments owner m = run_method budget p 
 -- a transaction that is still open is taken back, and references to what was made in it become null
 abbrev pub abort_if_open : {A : Type 0} → Bool → (MemoryState → Program A) → MemoryState → Program A
 abort_if_open false more m = more m
-abort_if_open true more m = then_with (HeapMove Abort) m (λ v. then_with NullDead v more)
+abort_if_open true more m = then_with (HeapMove Abort) m more
 
 -- no transaction is nested, and the command that selected an applet is no longer answered
 abbrev pub registers_released : Registers → Registers

@@ -1,13 +1,20 @@
 -- Dead references.
 use Rattle.std.proofs.Common.{◌≡◌, ℕ, zero, ◌≤◌, Bool, true, false, refl, sym, subst, ◌∙◌, ap, inl, inr, if◌then◌else◌}
 use Rattle.std.proofs.lemmas.Bool.{ltb-true, ltb-false, cases_Bool, true≢false}
-use Rattle.std.specs.Prelude.{nat_lt}
-use Rattle.jc_transient.specs.declared.cell.CellValue.TheVariants.{Reference}
+use Rattle.std.proofs.Math.ListN.{get_or-map}
+use Rattle.std.specs.Prelude.{nat_lt, pos}
+use Rattle.jc_transient.specs.declared.cell.CellValue.TheVariants.{Reference, Short}
+use Rattle.jc_transient.specs.declared.cell.ClearEvent.{ClearEvent}
+use Rattle.jc_transient.specs.declared.cell.ClearEvent.TheVariants.{Reset, Deselect}
+use Rattle.jc_transient.specs.Cells.{without_dead}
+use Rattle.jc_transient.specs.State.{RamState, cell_at}
 use Rattle.jc_heap.specs.Heap.{HeapState, IsObject, is_allocated, SameShape, KeepsBelowTop}
 use Rattle.jc_heap.specs.Whole.{IsReference}
+use Rattle.jc_heap.specs.Keeping.{IsConsistentHeap}
 use Rattle.jc_heap.specs.Object.{is_object}
 use Rattle.jc_heap.proofs.Laws.{heap_item_at-absent}
 use Rattle.jc_memory.specs.Dead.{live_or_null, NullsDeadReferences}
+use Rattle.jc_memory.specs.State.{ram_without_dead}
 
 -- where an object stands something stands
 object_named : (h : HeapState) (r : ℕ) → IsObject h r → is_allocated h r ≡ true
@@ -38,8 +45,19 @@ buried_is old new keeps r (inl z) = subst (λ q. (if nat_lt q new.top then q els
     (null_either (nat_lt 0 new.top) ∙ sym (null_either (is_allocated new 0)))
 buried_is old new keeps r (inr there) = same (nat_lt r new.top) (is_allocated old r) (is_allocated new r) r (object_named old r there) (keeps r)
 
+-- so is each transient cell
+buried_at : (top : ℕ) (ram : RamState) (event : ClearEvent) (place : ℕ) → cell_at (ram_without_dead top ram) event place
+    ≡ without_dead top (cell_at ram event place)
+buried_at top ram Reset place = get_or-map (without_dead top) ram.reset_cells place (Short (pos 0))
+buried_at top ram Deselect place = get_or-map (without_dead top) ram.deselect_cells place (Short (pos 0))
+
+kept_below : (d h : HeapState) → IsConsistentHeap d → SameShape d h → KeepsBelowTop h d
+kept_below d h whole shape r = below_top d h r shape whole.end (nat_lt r d.top) refl
+
 pub buries : NullsDeadReferences
 buries = record {
-  below = λ v whole shape r. below_top v.durable v.now r shape whole.end (nat_lt r v.durable.top) refl;
+  below = λ v whole shape. kept_below v.durable v.now whole shape;
   dead = λ old new keeps r refers. ap Reference (buried_is old new keeps r refers);
+  transient = λ s whole shape event place r is refers. buried_at s.heap.durable.top s.ram event place ∙ ap (without_dead s.heap.durable.top) is
+      ∙ ap Reference (buried_is s.heap.now s.heap.durable (kept_below s.heap.durable s.heap.now whole shape) r refers);
 }

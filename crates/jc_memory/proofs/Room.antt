@@ -27,10 +27,10 @@ use Rattle.jc_heap.proofs.KeepingMoves.{top-run, top-places}
 use Rattle.jc_heap.proofs.Laws.{heap_item_at-add_object, heap_item_at-add_other, object_named}
 use Rattle.jc_memory.specs.declared.making.NewObject.{NewObject}
 use Rattle.jc_memory.specs.Owners.{owner_number}
-use Rattle.jc_memory.specs.State.{MemoryState, HeapMove, SetFlag, IsNew, apply_effect}
+use Rattle.jc_memory.specs.State.{MemoryState, HeapMove, IsNew, apply_effect}
 use Rattle.jc_memory.specs.Programs.{Program, Finish, Perform, Choose, Completes, IsTornIn, Executes, unless_refused}
 use Rattle.jc_memory.specs.Cells.{cell_refusal_in, cells_effect_in}
-use Rattle.jc_memory.specs.Making.{creation_move, creation_refusal, creation_refusal_in, zero_cells_in}
+use Rattle.jc_memory.specs.Making.{creation_move, creation_refusal, creation_refusal_in}
 use Rattle.jc_memory.specs.Room.{has_space, lacks_capacity, cells_update, places_update, KeepsObjects, KeepsRest}
 use Rattle.jc_memory.proofs.Touched.{lacks_room, room_inside, touches_left, view_left, words_of_cells, words_of_places, words_once_made}
 
@@ -108,8 +108,7 @@ added s new o size fresh r places new_one is =
     )
 
 made_one : (event : Option ClearEvent) (s new : MemoryState) (o : NewObject) (x : ℕ) → event ≡ None →
-    Completes (Choose (λ r. Perform (HeapMove (creation_move event o)) (zero_cells_in event o r (Perform (SetFlag r false) (Finish (Done r)))))) s (Done x) new
-    →
+    Completes (Choose (λ r. Perform (HeapMove (creation_move event o)) (Finish (Done r)))) s (Done x) new →
     IsMade s new (new_object o.kind o.class (owner_number o.owner) o.length) x
 made_one None s new o x none did =
     let same : x ≡ did.0 = cc (did.2.0) in
@@ -118,8 +117,7 @@ made_one None s new o x none did =
 made_one (Some e) s new o x none did = absurd (none-some e (sym none))
 
 pub made_object : (reason : Option HeapRefusal) (s new : MemoryState) (o : NewObject) (x : ℕ) → o.event ≡ None →
-    Completes (unless_refused reason (Choose (λ r. Perform (HeapMove (creation_move o.event o))
-    (zero_cells_in o.event o r (Perform (SetFlag r false) (Finish (Done r))))))) s (Done x) new →
+    Completes (unless_refused reason (Choose (λ r. Perform (HeapMove (creation_move o.event o)) (Finish (Done r))))) s (Done x) new →
     IsMade s new (new_object o.kind o.class (owner_number o.owner) o.length) x
 made_object None s new o x none did = made_one o.event s new o x none did
 made_object (Some why) s new o x none did = absurd (done_is_no_refusal (Done x) x why refl (sym did.0))
@@ -186,7 +184,7 @@ object_allowed s o persistent space room some =
 
 abbrev made_so : {A : Type 0} → Option ClearEvent → NewObject → (ℕ → A) → Program A
 made_so event o answer =
-    Choose (λ r. Perform (HeapMove (creation_move event o)) (zero_cells_in event o r (Perform (SetFlag r false) (Finish (answer r)))))
+    Choose (λ r. Perform (HeapMove (creation_move event o)) (Finish (answer r)))
 
 pub cut_object : (event : Option ClearEvent) (reason : Option HeapRefusal) (s new : MemoryState) (o : NewObject) (e : HeapRefusal) → event ≡ None
     → reason ≡ None → Executes (unless_refused reason (made_so event o (λ r. Done r))) s (after_making {A = ℕ} (Err e) new)

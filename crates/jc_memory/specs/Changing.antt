@@ -8,7 +8,7 @@ use Rattle.jc_heap.specs.Places.{places_of}
 use Rattle.jc_heap.specs.Moves.{Write, SetPlaces, WriteNonAtomic, AddPackage, Commit, Abort, refusal_of_places, refusal_of_package, refusal_of_applet}
 use Rattle.jc_heap.specs.Moves.{applet_move}
 use Rattle.jc_heap.specs.Completions.{Attempt, Done}
-use Rattle.jc_memory.specs.State.{MemoryState, HeapMove, NullDead}
+use Rattle.jc_memory.specs.State.{MemoryState, HeapMove}
 use Rattle.jc_memory.specs.Programs.{Program, Finish, Perform, Choose, unless_refused}
 
 -- what writing a place may do
@@ -28,7 +28,7 @@ abbrev pub commit : Program (Unit {0})
 commit = Perform (HeapMove Commit) (Finish tt)
 
 abbrev pub abort : Program (Unit {0})
-abort = Perform (HeapMove Abort) (Perform NullDead (Finish tt))
+abort = Perform (HeapMove Abort) (Finish tt)
 
 -- what adding a package may do: its record gets a new reference
 abbrev pub package_addition : MemoryState → List (ℕ × List ℕ) → List (Kind × List ℕ) → List ℕ → Program (Attempt ℕ)

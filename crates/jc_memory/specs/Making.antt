@@ -1,22 +1,13 @@
 -- New objects.
-use Rattle.std.specs.Prelude.{ℕ, false, replicate, pos, Option, Some, None}
-use Rattle.jc_transient.specs.declared.cell.CellValue.{CellValue}
-use Rattle.jc_transient.specs.declared.cell.CellValue.TheVariants.{Short, Reference}
+use Rattle.std.specs.Prelude.{ℕ, Option, Some, None}
 use Rattle.jc_transient.specs.declared.cell.ClearEvent.{ClearEvent}
-use Rattle.jc_heap.specs.declared.object.Kind.{Kind}
-use Rattle.jc_heap.specs.declared.object.Kind.TheVariants.{ReferenceArray}
 use Rattle.jc_heap.specs.declared.refusal.HeapRefusal.{HeapRefusal}
 use Rattle.jc_heap.specs.Moves.{Move, AddTransient, new_move, refusal_of_transient, refusal_of_object as no_persistent}
 use Rattle.jc_heap.specs.Completions.{Attempt, Done}
 use Rattle.jc_memory.specs.declared.making.NewObject.{NewObject}
 use Rattle.jc_memory.specs.Owners.{owner_number}
-use Rattle.jc_memory.specs.State.{MemoryState, HeapMove, SetTransient, SetFlag}
+use Rattle.jc_memory.specs.State.{MemoryState, HeapMove}
 use Rattle.jc_memory.specs.Programs.{Program, Finish, Perform, Choose, unless_refused}
-
--- zero, or null
-abbrev pub zero_of : Kind → CellValue
-zero_of ReferenceArray = Reference 0
-zero_of _ = Short (pos 0)
 
 -- the move that makes an object that is to be kept so
 abbrev pub creation_move : Option ClearEvent → NewObject → Move
@@ -28,18 +19,13 @@ abbrev pub creation_refusal_in : Option ClearEvent → MemoryState → NewObject
 creation_refusal_in None s o = no_persistent s.heap o.length
 creation_refusal_in (Some event) s o = refusal_of_transient s.heap event o.length
 
--- the cells of a new transient object are zero or null, as those of a persistent one are
-abbrev pub zero_cells_in : {A : Type 0} → Option ClearEvent → NewObject → ℕ → Program A → Program A
-zero_cells_in None o r rest = rest
-zero_cells_in (Some event) o r rest = Perform (SetTransient r 0 (replicate o.length (zero_of o.kind))) rest
-
 -- why an object can't be made: no space in its event's area, no space in the heap, no room in the transaction
 abbrev pub creation_refusal : MemoryState → NewObject → Option HeapRefusal
 creation_refusal s o = creation_refusal_in o.event s o
 
--- it is made, under a new reference and with a flag that is not set, and then the rest follows
+-- it is made, under a new reference, and then the rest follows
 abbrev pub object_creation : {A : Type 0} → NewObject → (ℕ → Program A) → Program A
-object_creation o rest = Choose (λ r. Perform (HeapMove (creation_move o.event o)) (zero_cells_in o.event o r (Perform (SetFlag r false) (rest r))))
+object_creation o rest = Choose (λ r. Perform (HeapMove (creation_move o.event o)) (rest r))
 
 -- what making an object may do
 abbrev pub new_object : MemoryState → NewObject → Program (Attempt ℕ)

@@ -2,7 +2,8 @@
 ghost use Rattle.std.specs.Prelude.{◌≡◌, false, None, Some};
 ghost use Rattle.jc_memory.specs.Programs.{Executes};
 ghost use Rattle.jc_heap.specs.Completions.{after_making};
-ghost use Rattle.jc_memory.specs.Making.{new_object, zero_of};
+ghost use Rattle.jc_memory.specs.State.{zero_of};
+ghost use Rattle.jc_memory.specs.Making.{new_object};
 
 use crate::memory::Memory;
 use crate::registers::Owner;

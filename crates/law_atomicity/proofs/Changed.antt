@@ -12,7 +12,7 @@ use Rattle.jc_heap.specs.Moves.{Write, SetPlaces, WriteNonAtomic, SetCells, AddO
 use Rattle.jc_heap.specs.Moves.{refusal_of_places}
 use Rattle.jc_heap.proofs.KeptWords.{goes_back_later, goes_back_now, goes_back_counted}
 use Rattle.jc_heap.proofs.Laws.{heap_item_at-set_other}
-use Rattle.jc_memory.specs.State.{MemoryState, Effect, HeapMove, SetTransient, SetFlag, ClearTransient, NullDead, SetRegisters, BeginCommand, SendBytes}
+use Rattle.jc_memory.specs.State.{MemoryState, Effect, HeapMove, SetTransient, SetFlag, ClearTransient, SetRegisters, BeginCommand, SendBytes}
 use Rattle.jc_memory.specs.State.{apply_effect, apply_effects, moves_of}
 use Rattle.jc_memory.specs.Programs.{Program, Finish, Perform, Completes}
 use Rattle.jc_memory.specs.Making.{object_creation}
@@ -188,8 +188,6 @@ saved_as_it_was (SetFlag q flag ∷ es) s r old new heap_after_change inside sav
     saved_as_it_was es (apply_effect (SetFlag q flag) s) r old new heap_after_change inside saved
 saved_as_it_was (ClearTransient event ∷ es) s r old new heap_after_change inside saved =
     saved_as_it_was es (apply_effect (ClearTransient event) s) r old new heap_after_change inside saved
-saved_as_it_was (NullDead ∷ es) s r old new heap_after_change inside saved = saved_as_it_was es
-    (apply_effect NullDead s) r old new heap_after_change inside saved
 saved_as_it_was (SetRegisters registers ∷ es) s r old new heap_after_change inside saved =
     saved_as_it_was es (apply_effect (SetRegisters registers) s) r old new heap_after_change inside saved
 saved_as_it_was (BeginCommand bytes ∷ es) s r old new heap_after_change inside saved =

@@ -35,7 +35,6 @@ bears q = record {
   begins = λ m so off. tt;
   commits = λ m so none. tt;
   aborts = λ m. tt;
-  buries = λ m. tt;
   flags = λ r flag m. tt;
   sends = λ bytes m. tt;
 }
@@ -55,7 +54,7 @@ module _ (method : PlatformMethod) (args : List Cell) (p : Packages) (m : Memory
     (other : method ≡ AidInit → IsNotCalled q args) where
   registers : (aid : List ℕ) (instance : ℕ) → AllDue (Leaves q) (registration aid instance p m) m
   registers = registered_due (Leaves q) (λ g v. tt) (λ v. tt) p m (λ r words new.
-      (subst (λ t. is_allocated m.heap.now t ≡ false) new.chosen new.free, (tt, (new_other m q r own.there new, tt))))
+      (subst (λ t. is_allocated m.heap.now t ≡ false) new.chosen new.free, (new_other m q r own.there new, tt)))
       (λ entry v is. inl (registry_beside q v.heap.now entry))
 
   passes : MethodPasses (Leaves q) method args p m

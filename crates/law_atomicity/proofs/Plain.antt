@@ -6,13 +6,13 @@ use Rattle.jc_transient.specs.declared.cell.ClearEvent.{ClearEvent}
 use Rattle.jc_transient.specs.declared.cell.CellValue.{CellValue}
 use Rattle.jc_heap.specs.Heap.{facts}
 use Rattle.jc_memory.specs.declared.making.NewObject.{NewObject}
-use Rattle.jc_memory.specs.State.{MemoryState, Effect, HeapMove, SetTransient, SetFlag, ClearTransient, NullDead, SetRegisters, BeginCommand, SendBytes}
+use Rattle.jc_memory.specs.State.{MemoryState, Effect, HeapMove, SetTransient, SetFlag, ClearTransient, SetRegisters, BeginCommand, SendBytes}
 use Rattle.jc_memory.specs.State.{apply_effect}
 use Rattle.jc_heap.specs.Moves.{Write, SetPlaces, WriteNonAtomic, SetCells, AddObject, AddTransient, AddPackage, Begin, Commit, Abort}
 use Rattle.jc_memory.specs.Programs.{Program, Finish, Perform, Choose, Either, bind}
 use Rattle.jc_memory.specs.Reading.{AllDue, AllResults}
 use Rattle.jc_memory.specs.Cells.{cell_effect, cell_effect_in, cells_effect, cells_effect_in}
-use Rattle.jc_memory.specs.Making.{object_creation, creation_move, zero_cells_in}
+use Rattle.jc_memory.specs.Making.{object_creation, creation_move}
 use Rattle.jc_memory.proofs.ProgramLemmas.{due_bind, each_always}
 use Rattle.law_atomicity.specs.Orderly.{KeepsTransactionOrder}
 
@@ -82,13 +82,13 @@ pub plain_sets_run : (s : MemoryState) (r i : ℕ) (words : List ℕ) → IsPlai
 plain_sets_run s r i words = run_plain (facts s.heap.now r).event r i words
 
 -- making objects
-made_in : {A : Type 0} (event : Option ClearEvent) (o : NewObject) (r : ℕ) (rest : Program A) → AllPlain rest
-    → AllPlain (Perform (HeapMove (creation_move event o)) (zero_cells_in event o r (Perform (SetFlag r false) rest)))
-made_in None o r rest plain = (tt, (tt, plain))
-made_in (Some event) o r rest plain = (tt, (tt, (tt, plain)))
+made_in : {A : Type 0} (event : Option ClearEvent) (o : NewObject) (rest : Program A) → AllPlain rest
+    → AllPlain (Perform (HeapMove (creation_move event o)) rest)
+made_in None o rest plain = (tt, plain)
+made_in (Some event) o rest plain = (tt, plain)
 
 pub plain_makes_new : {A : Type 0} (o : NewObject) (rest : ℕ → Program A) → ((r : ℕ) → AllPlain (rest r)) → AllPlain (object_creation o rest)
-plain_makes_new o rest plain = λ r. made_in o.event o r (rest r) (plain r)
+plain_makes_new o rest plain = λ r. made_in o.event o (rest r) (plain r)
 
 -- one way or the other, by a test
 pub due_if : {A : Type 0} (b : Bool) (x y : Program A) (s : MemoryState) → (b ≡ true → AllDue KeepsTransactionOrder x s)

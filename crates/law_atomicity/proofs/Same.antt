@@ -8,7 +8,7 @@ use Rattle.jc_heap.specs.Heap.{HeapState, heap_item_at, goes_back, is_allocated,
 use Rattle.jc_heap.specs.Places.{place_word, set_place}
 use Rattle.jc_heap.specs.Moves.{Write, SetPlaces, WriteNonAtomic, SetCells, AddObject, AddTransient, AddPackage, Begin, Commit, Abort}
 use Rattle.jc_heap.proofs.Laws.{set_cell-absent, heap_item_at-set_cell, heap_item_at-set_other, is_allocated-set_cell}
-use Rattle.jc_memory.specs.State.{MemoryState, Effect, HeapMove, SetTransient, SetFlag, ClearTransient, NullDead, SetRegisters, BeginCommand, SendBytes}
+use Rattle.jc_memory.specs.State.{MemoryState, Effect, HeapMove, SetTransient, SetFlag, ClearTransient, SetRegisters, BeginCommand, SendBytes}
 use Rattle.jc_memory.specs.State.{apply_effect}
 use Rattle.jc_pin.specs.Pins.{counter}
 use Rattle.law_atomicity.specs.Tears.{SavedHeapAfter}
@@ -129,10 +129,6 @@ differ (SetFlag r flag ∷ es) s old new saved = other (differ es (apply_effect 
 differ (ClearTransient event ∷ es) s old new saved = other (differ es (apply_effect (ClearTransient event) s) old new saved)
   where
     other : SameButTries es old new → SameButTries (ClearTransient event ∷ es) old new
-    other d = record { rest = d.rest; stands = d.stands; items = d.items }
-differ (NullDead ∷ es) s old new saved = other (differ es (apply_effect NullDead s) old new saved)
-  where
-    other : SameButTries es old new → SameButTries (NullDead ∷ es) old new
     other d = record { rest = d.rest; stands = d.stands; items = d.items }
 differ (SetRegisters registers ∷ es) s old new saved = other (differ es (apply_effect (SetRegisters registers) s) old new saved)
   where

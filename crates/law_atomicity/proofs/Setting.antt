@@ -7,11 +7,11 @@ use Rattle.jc_heap.specs.declared.place.Place.{Place}
 use Rattle.jc_heap.specs.declared.place.Place.TheVariants.{Cell, Static, Registry, AppletCount}
 use Rattle.jc_heap.specs.Heap.{facts, is_allocated}
 use Rattle.jc_memory.specs.declared.making.NewObject.{NewObject}
-use Rattle.jc_memory.specs.State.{MemoryState, HeapMove, SetFlag, IsNew}
+use Rattle.jc_memory.specs.State.{MemoryState, HeapMove, IsNew}
 use Rattle.jc_memory.specs.Programs.{Program, Perform}
 use Rattle.jc_memory.specs.Reading.{AllDue}
 use Rattle.jc_memory.specs.Cells.{cell_effect, cell_effect_in, cells_effect, cells_effect_in}
-use Rattle.jc_memory.specs.Making.{object_creation, creation_move, zero_cells_in}
+use Rattle.jc_memory.specs.Making.{object_creation, creation_move}
 use Rattle.law_atomicity.specs.Leaving.{IsBeside, IsInstance, Leaves}
 
 abbrev object_of : Place → ℕ
@@ -57,9 +57,9 @@ bytes_other m q r own bytes same =
 
 module _ {A : Type 0} (q : ℕ) (o : NewObject) (rest : ℕ → Program A) where
   made_in : (event : Option ClearEvent) (m : MemoryState) (r : ℕ) → IsNew m.heap.now r → ((v : MemoryState) → AllDue (Leaves q) (rest r) v)
-      → AllDue (Leaves q) (Perform (HeapMove (creation_move event o)) (zero_cells_in event o r (Perform (SetFlag r false) (rest r)))) m
-  made_in None m r new follows = (subst (λ t. is_allocated m.heap.now t ≡ false) new.chosen new.free, (tt, follows _))
-  made_in (Some event) m r new follows = (subst (λ t. is_allocated m.heap.now t ≡ false) new.chosen new.free, (tt, (tt, follows _)))
+      → AllDue (Leaves q) (Perform (HeapMove (creation_move event o)) (rest r)) m
+  made_in None m r new follows = (subst (λ t. is_allocated m.heap.now t ≡ false) new.chosen new.free, follows _)
+  made_in (Some event) m r new follows = (subst (λ t. is_allocated m.heap.now t ≡ false) new.chosen new.free, follows _)
 
   -- a new object is made
   pub new_leaves : (m : MemoryState) → ((r : ℕ) (v : MemoryState) → AllDue (Leaves q) (rest r) v) → AllDue (Leaves q) (object_creation o rest) m

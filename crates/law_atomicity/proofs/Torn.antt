@@ -6,7 +6,7 @@ use Rattle.jc_heap.specs.Heap.{HeapState, goes_back}
 use Rattle.jc_heap.specs.Places.{place_word, set_place}
 use Rattle.jc_heap.proofs.KeptWords.{outside_none_goes_back}
 use Rattle.jc_heap.specs.Moves.{Write, SetPlaces, WriteNonAtomic, SetCells, AddObject, AddTransient, AddPackage, Begin, Commit, Abort, IsInside}
-use Rattle.jc_memory.specs.State.{MemoryState, Effect, HeapMove, SetTransient, SetFlag, ClearTransient, NullDead, SetRegisters, BeginCommand, SendBytes}
+use Rattle.jc_memory.specs.State.{MemoryState, Effect, HeapMove, SetTransient, SetFlag, ClearTransient, SetRegisters, BeginCommand, SendBytes}
 use Rattle.jc_memory.specs.State.{apply_effect, apply_effects, moves_of}
 use Rattle.jc_memory.specs.Programs.{Program, Finish, Perform, Choose, Either, TearLeaves}
 use Rattle.jc_memory.specs.Reading.{AllDue, AllEffectsDue, HasTracePrefix}
@@ -61,7 +61,6 @@ begun_inside (HeapMove Abort ∷ es) s inside = absurd inside
 begun_inside (SetTransient r i values ∷ es) s inside = begun_inside es (apply_effect (SetTransient r i values) s) inside
 begun_inside (SetFlag r flag ∷ es) s inside = begun_inside es (apply_effect (SetFlag r flag) s) inside
 begun_inside (ClearTransient event ∷ es) s inside = begun_inside es (apply_effect (ClearTransient event) s) inside
-begun_inside (NullDead ∷ es) s inside = begun_inside es (apply_effect NullDead s) inside
 begun_inside (SetRegisters registers ∷ es) s inside = begun_inside es (apply_effect (SetRegisters registers) s) inside
 begun_inside (BeginCommand bytes ∷ es) s inside = begun_inside es (apply_effect (BeginCommand bytes) s) inside
 begun_inside (SendBytes bytes ∷ es) s inside = begun_inside es (apply_effect (SendBytes bytes) s) inside
@@ -99,7 +98,6 @@ saved_within (HeapMove Abort ∷ es) s due stands inside = absurd inside
 saved_within (SetTransient r i values ∷ es) s due stands inside = saved_within es (apply_effect (SetTransient r i values) s) due.1 stands inside
 saved_within (SetFlag r flag ∷ es) s due stands inside = saved_within es (apply_effect (SetFlag r flag) s) due.1 stands inside
 saved_within (ClearTransient event ∷ es) s due stands inside = saved_within es (apply_effect (ClearTransient event) s) due.1 stands inside
-saved_within (NullDead ∷ es) s due stands inside = saved_within es (apply_effect NullDead s) due.1 stands inside
 saved_within (SetRegisters registers ∷ es) s due stands inside = saved_within es (apply_effect (SetRegisters registers) s) due.1 stands inside
 saved_within (BeginCommand bytes ∷ es) s due stands inside = saved_within es (apply_effect (BeginCommand bytes) s) due.1 stands inside
 saved_within (SendBytes bytes ∷ es) s due stands inside = saved_within es (apply_effect (SendBytes bytes) s) due.1 stands inside

@@ -4,7 +4,7 @@ use Rattle.jc_heap.specs.declared.object.Kind.TheVariants.{Instance}
 use Rattle.jc_heap.specs.declared.place.Place.{Place}
 use Rattle.jc_heap.specs.Heap.{IsObject, facts, is_allocated}
 use Rattle.jc_heap.specs.Moves.{Move, Write, SetPlaces, WriteNonAtomic, SetCells, AddObject, AddTransient, AddPackage, Begin, Commit, Abort}
-use Rattle.jc_memory.specs.State.{MemoryState, Effect, HeapMove, SetTransient, SetFlag, ClearTransient, NullDead, SetRegisters, BeginCommand, SendBytes}
+use Rattle.jc_memory.specs.State.{MemoryState, Effect, HeapMove, SetTransient, SetFlag, ClearTransient, SetRegisters, BeginCommand, SendBytes}
 use Rattle.jc_pin.specs.Pins.{counter, record_of}
 use Rattle.jc_pin.specs.PinInit.{first_record}
 use Rattle.jc_pin.specs.Updating.{changes_of_update}
@@ -55,7 +55,6 @@ Leaves q (HeapMove move) m = MoveLeaves q move m
 Leaves q (SetTransient r i values) m = Unit {0}
 Leaves q (SetFlag r flag) m = Unit {0}
 Leaves q (ClearTransient event) m = Unit {0}
-Leaves q NullDead m = Unit {0}
 Leaves q (SetRegisters registers) m = Unit {0}
 Leaves q (BeginCommand bytes) m = Unit {0}
 Leaves q (SendBytes bytes) m = Unit {0}

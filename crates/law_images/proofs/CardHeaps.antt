@@ -2,7 +2,7 @@
 use Rattle.std.proofs.Common.{◌≡◌, ℕ, ◌<◌, ◌≤◌, ◌⊎◌, inl, inr, length, get_or, refl, sym, ◌∙◌, ap, subst, arith}
 use Rattle.jc_heap.specs.Heap.{HeapState, facts, heap_item_at}
 use Rattle.jc_heap.proofs.Laws.{same_facts}
-use Rattle.jc_memory.specs.State.{MemoryState, Effect, HeapMove, SetTransient, SetFlag, ClearTransient, NullDead, SetRegisters, BeginCommand, SendBytes}
+use Rattle.jc_memory.specs.State.{MemoryState, Effect, HeapMove, SetTransient, SetFlag, ClearTransient, SetRegisters, BeginCommand, SendBytes}
 use Rattle.jc_memory.specs.State.{apply_effect}
 use Rattle.jc_linker.specs.Values.{Packages}
 use Rattle.jc_platform.specs.Tokens.{Tokens}
@@ -38,7 +38,6 @@ read_served t p (HeapMove move) m due s r = keeps_reading t p (HeapMove move) m 
 read_served t p (SetTransient q i values) m due s r = keeps_reading t p (SetTransient q i values) m due s r
 read_served t p (SetFlag q flag) m due s r = keeps_reading t p (SetFlag q flag) m due s r
 read_served t p (ClearTransient event) m due s r = keeps_reading t p (ClearTransient event) m due s r
-read_served t p NullDead m due s r = keeps_reading t p NullDead m due s r
 read_served t p (SetRegisters g) m due s r = record { now = r.now; durable = r.durable }
 read_served t p (BeginCommand bytes) m due s r = keeps_reading t p (BeginCommand bytes) m due s r
 read_served t p (SendBytes bytes) m due s r = keeps_reading t p (SendBytes bytes) m due s r

@@ -14,7 +14,7 @@ use Rattle.jc_heap.specs.Object.{new_transient}
 use Rattle.jc_heap.specs.Packages.{add_package, package_owner, package_record, push_package}
 use Rattle.jc_heap.specs.Places.{place_word, set_place, set_places}
 use Rattle.jc_heap.specs.Statics.{set_word}
-use Rattle.jc_memory.specs.State.{Effect, HeapMove, SetTransient, SetFlag, ClearTransient, NullDead, SetRegisters, BeginCommand, SendBytes, MemoryState}
+use Rattle.jc_memory.specs.State.{Effect, HeapMove, SetTransient, SetFlag, ClearTransient, SetRegisters, BeginCommand, SendBytes, MemoryState}
 use Rattle.jc_memory.specs.State.{apply_effect}
 use Rattle.law_soundness.proofs.Memories.{choose}
 use Rattle.law_images.specs.Loads.{CountPackages, CountsPackages, EffectsCount, WordsCount}
@@ -92,7 +92,6 @@ module _ (m : MemoryState) (is : CountPackages m) where
   effect_counts (SetTransient r i values) = record { now = is.now; durable = is.durable }
   effect_counts (SetFlag r flag) = record { now = is.now; durable = is.durable }
   effect_counts (ClearTransient event) = record { now = is.now; durable = is.durable }
-  effect_counts NullDead = record { now = is.now; durable = is.durable }
   effect_counts (SetRegisters registers) = record { now = is.now; durable = is.durable }
   effect_counts (BeginCommand bytes) = record { now = is.now; durable = is.durable }
   effect_counts (SendBytes bytes) = record { now = is.now; durable = is.durable }

@@ -3,7 +3,7 @@ use Rattle.std.proofs.Common.{ℕ, Bool, true, false, List, sym, ◌∙◌, if�
 use Rattle.jc_heap.specs.Heap.{HeapState, goes_back}
 use Rattle.jc_heap.specs.Moves.{Move, Write, SetPlaces, WriteNonAtomic, SetCells, AddObject, AddTransient, AddPackage, Begin, Commit, Abort}
 use Rattle.jc_heap.specs.Places.{place_word, set_place}
-use Rattle.jc_memory.specs.State.{MemoryState, Effect, HeapMove, SetTransient, SetFlag, ClearTransient, NullDead, SetRegisters, BeginCommand, SendBytes}
+use Rattle.jc_memory.specs.State.{MemoryState, Effect, HeapMove, SetTransient, SetFlag, ClearTransient, SetRegisters, BeginCommand, SendBytes}
 use Rattle.jc_memory.specs.State.{apply_effect}
 use Rattle.jc_platform.specs.Tokens.{Tokens}
 use Rattle.law_images.specs.NewImages.{EffectsKeepBeginnings, KeepsBeginning}
@@ -55,7 +55,6 @@ module _ (n : ℕ) (t : Tokens) where
     effect_keeps (SetTransient r i values) = keeps (apply_effect (SetTransient r i values) m) now durable
     effect_keeps (SetFlag r flag) = keeps (apply_effect (SetFlag r flag) m) now durable
     effect_keeps (ClearTransient event) = keeps (apply_effect (ClearTransient event) m) now durable
-    effect_keeps NullDead = keeps (apply_effect NullDead m) now durable
     effect_keeps (SetRegisters registers) = keeps (apply_effect (SetRegisters registers) m) now durable
     effect_keeps (BeginCommand bytes) = keeps (apply_effect (BeginCommand bytes) m) now durable
     effect_keeps (SendBytes bytes) = keeps (apply_effect (SendBytes bytes) m) now durable

@@ -1,11 +1,12 @@
 -- Effects that fit leave the packages that are read.
 use Rattle.std.proofs.Common.{◌≡◌, ℕ, suc, ◌++◌, false, List, [], ◌∷◌, sym, ◌∙◌, subst, arith, Some}
+use Rattle.jc_transient.specs.State.{RamState}
 use Rattle.jc_heap.specs.declared.place.Place.{Place}
 use Rattle.jc_heap.specs.declared.place.Place.TheVariants.{Cell, Static, Registry, AppletCount}
 use Rattle.jc_heap.specs.Heap.{HeapState, add_object, add_transient, heap_after_change, goes_back, is_allocated, set_cell, set_cells}
 use Rattle.jc_heap.specs.Moves.{Move, Write, SetPlaces, WriteNonAtomic, SetCells, AddObject, AddTransient, AddPackage, Begin, Commit, Abort}
 use Rattle.jc_heap.specs.Places.{place_word, set_place, set_places}
-use Rattle.jc_memory.specs.State.{MemoryState, Effect, HeapMove, SetTransient, SetFlag, ClearTransient, NullDead, SetRegisters, BeginCommand, SendBytes}
+use Rattle.jc_memory.specs.State.{MemoryState, Effect, HeapMove, SetTransient, SetFlag, ClearTransient, SetRegisters, BeginCommand, SendBytes}
 use Rattle.jc_memory.specs.State.{apply_effect}
 use Rattle.jc_linker.specs.Values.{Packages}
 use Rattle.jc_pin.specs.Updating.{byte_changes}
@@ -45,9 +46,9 @@ change_placed p m cs (OfRegistry f) = subst (ArePlaced m.heap.now) (sym f.is) (t
 -- ---- moves
 
 module _ (t : Tokens) (p : Packages) (m : MemoryState) (s : IsSoundMemory p m) (r : IsReadAs t p m) where
-  changed_read : (h : HeapState) (places : List ℕ) (fresh : ℕ) → TellSame m.heap.now h
-      → IsReadAs t p (record m { heap = heap_after_change m.heap h places fresh })
-  changed_read h places fresh same =
+  changed_read : (h : HeapState) (places : List ℕ) (fresh : ℕ) (ram : RamState) → TellSame m.heap.now h
+      → IsReadAs t p (record m { heap = heap_after_change m.heap h places fresh; ram = ram })
+  changed_read h places fresh ram same =
       let now : packages_of t h ≡ Some p = read_same t m.heap.now h same ∙ r.now in
       record { now = now; durable = choose (λ d. packages_of t d ≡ Some p) m.heap.begun m.heap.durable h (λ on. r.durable) (λ off. now) }
 
@@ -63,12 +64,12 @@ module _ (t : Tokens) (p : Packages) (m : MemoryState) (s : IsSoundMemory p m) (
   free = s.whole.now.end m.heap.now.top (omega arith)
 
   move_read : (move : Move) → FitsMove p move m → IsReadAs t p (apply_effect (HeapMove move) m)
-  move_read (Write place v) fits = changed_read (set_place m.heap.now place v) _ 0 (place_tells m.heap.now place v (place_placed p m.heap.now place v fits))
-  move_read (SetPlaces changes) fits = changed_read (set_places m.heap.now changes) _ 0 (places_tell m.heap.now changes (change_placed p m changes fits))
+  move_read (Write place v) fits = changed_read (set_place m.heap.now place v) _ 0 m.ram (place_tells m.heap.now place v (place_placed p m.heap.now place v fits))
+  move_read (SetPlaces changes) fits = changed_read (set_places m.heap.now changes) _ 0 m.ram (places_tell m.heap.now changes (change_placed p m changes fits))
   move_read (WriteNonAtomic place v) fits = subst (λ c. IsReadAs t p (apply_effect (HeapMove (WriteNonAtomic c v)) m)) (sym fits.1) (counted_read fits.0 v)
-  move_read (SetCells at i words) fits = changed_read (set_cells m.heap.now at i words) _ 0 (run_tells m.heap.now at i words)
-  move_read (AddObject o size) fits = changed_read (add_object m.heap.now o size) _ size (object_tells m.heap.now o size s.whole.now.whole.met free)
-  move_read (AddTransient kind event class owner long) fits = changed_read (add_transient m.heap.now kind event class owner long) _ _
+  move_read (SetCells at i words) fits = changed_read (set_cells m.heap.now at i words) _ 0 m.ram (run_tells m.heap.now at i words)
+  move_read (AddObject o size) fits = changed_read (add_object m.heap.now o size) _ size _ (object_tells m.heap.now o size s.whole.now.whole.met free)
+  move_read (AddTransient kind event class owner long) fits = changed_read (add_transient m.heap.now kind event class owner long) _ _ _
       (transient_tells m.heap.now kind event class owner long s.whole.now.whole.met free)
   move_read (AddPackage components arrays image) fits = absurd fits
   move_read Begin fits = record { now = r.now; durable = r.now }
@@ -80,7 +81,6 @@ effect_read t p (HeapMove move) m fits s r = move_read t p m s r move fits
 effect_read t p (SetTransient at i values) m fits s r = record { now = r.now; durable = r.durable }
 effect_read t p (SetFlag at flag) m fits s r = record { now = r.now; durable = r.durable }
 effect_read t p (ClearTransient event) m fits s r = record { now = r.now; durable = r.durable }
-effect_read t p NullDead m fits s r = record { now = r.now; durable = r.durable }
 effect_read t p (SetRegisters registers) m fits s r = record { now = r.now; durable = r.durable }
 effect_read t p (BeginCommand bytes) m fits s r = record { now = r.now; durable = r.durable }
 effect_read t p (SendBytes bytes) m fits s r = record { now = r.now; durable = r.durable }

@@ -4,7 +4,7 @@ use Rattle.std.proofs.lemmas.Bool.{true≢false}
 use Rattle.jc_commit.proofs.WhatIsKept.{keeps_old_values}
 use Rattle.jc_heap.specs.Heap.{HeapView, heap_at_rest, keeping, unlogged_places}
 use Rattle.jc_heap.specs.Moves.{Write, SetPlaces, WriteNonAtomic, SetCells, AddObject, AddTransient, AddPackage, Begin, Commit, Abort}
-use Rattle.jc_memory.specs.State.{MemoryState, Effect, HeapMove, SetTransient, SetFlag, ClearTransient, NullDead, SetRegisters, BeginCommand, SendBytes}
+use Rattle.jc_memory.specs.State.{MemoryState, Effect, HeapMove, SetTransient, SetFlag, ClearTransient, SetRegisters, BeginCommand, SendBytes}
 use Rattle.jc_memory.specs.State.{apply_effect, apply_effects}
 use Rattle.jc_memory.specs.Programs.{Completes}
 use Rattle.jc_memory.proofs.ProgramLemmas.{down_did, each_did, took}
@@ -40,7 +40,6 @@ empty_effect (HeapMove Abort) s empty = λ b. refl
 empty_effect (SetTransient r i values) s empty = empty
 empty_effect (SetFlag r flag) s empty = empty
 empty_effect (ClearTransient event) s empty = empty
-empty_effect NullDead s empty = empty
 empty_effect (SetRegisters registers) s empty = empty
 empty_effect (BeginCommand bytes) s empty = empty
 empty_effect (SendBytes bytes) s empty = empty

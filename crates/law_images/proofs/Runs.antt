@@ -3,7 +3,7 @@ use Rattle.std.proofs.Common.{◌≡◌, inl, inr, List, [], ◌∷◌, ◌∙�
 use Rattle.jc_heap.specs.Heap.{HeapState}
 use Rattle.jc_heap.specs.Moves.{TornMovesLeave}
 use Rattle.jc_memory.specs.Reading.{AllEffectsDue}
-use Rattle.jc_memory.specs.State.{MemoryState, Effect, HeapMove, SetTransient, SetFlag, ClearTransient, NullDead, SetRegisters, BeginCommand, SendBytes}
+use Rattle.jc_memory.specs.State.{MemoryState, Effect, HeapMove, SetTransient, SetFlag, ClearTransient, SetRegisters, BeginCommand, SendBytes}
 use Rattle.jc_memory.specs.State.{apply_effect, apply_effects, moves_of}
 use Rattle.jc_linker.specs.Values.{Packages}
 use Rattle.jc_platform.specs.Tokens.{Tokens}
@@ -35,7 +35,6 @@ module _ (t : Tokens) (p : Packages) where
   lost (SetTransient at i values ∷ es) m h due s r left = lost_more es (SetTransient at i values) m h (λ n. lost es n h) due s r left
   lost (SetFlag at flag ∷ es) m h due s r left = lost_more es (SetFlag at flag) m h (λ n. lost es n h) due s r left
   lost (ClearTransient event ∷ es) m h due s r left = lost_more es (ClearTransient event) m h (λ n. lost es n h) due s r left
-  lost (NullDead ∷ es) m h due s r left = lost_more es NullDead m h (λ n. lost es n h) due s r left
   lost (SetRegisters registers ∷ es) m h due s r left = lost_more es (SetRegisters registers) m h (λ n. lost es n h) due s r left
   lost (BeginCommand bytes ∷ es) m h due s r left = lost_more es (BeginCommand bytes) m h (λ n. lost es n h) due s r left
   lost (SendBytes bytes ∷ es) m h due s r left = lost_more es (SendBytes bytes) m h (λ n. lost es n h) due s r left

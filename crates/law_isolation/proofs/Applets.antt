@@ -15,7 +15,7 @@ use Rattle.jc_memory.specs.declared.registers.Installation.{Installation}
 use Rattle.jc_memory.specs.declared.registers.Installation.TheVariants.{Idle, Open, Registered}
 use Rattle.jc_memory.specs.declared.registers.PackageNumber.{PackageNumber}
 use Rattle.jc_memory.specs.declared.registers.Registers.{Registers}
-use Rattle.jc_memory.specs.State.{MemoryState, Effect, HeapMove, SetFlag, SetRegisters, IsNew}
+use Rattle.jc_memory.specs.State.{MemoryState, Effect, HeapMove, SetRegisters, IsNew}
 use Rattle.jc_memory.specs.Cells.{header_at}
 use Rattle.jc_memory.specs.Programs.{Finish, Perform}
 use Rattle.jc_memory.specs.Reading.{AllDue, AllResults}
@@ -86,7 +86,7 @@ SameHome m r v = (v.heap.now.counts.1 ≡ m.heap.now.counts.1) × (v.registers �
 module _ (P : Effect → MemoryState → Type 0) (turns : (g : Registers) (v : MemoryState) → P (SetRegisters g) v)
     (commits : (v : MemoryState) → P (HeapMove Commit) v) (p : Packages) (m : MemoryState)
     (makes : (r : ℕ) (words : List ℕ) → IsNew m.heap.now r → AllDue P (Perform (HeapMove (new_move Instance (class_word p.platform Aid) 0 9))
-    (Perform (SetFlag r false) (Perform (HeapMove (SetCells r 0 words)) (Finish r)))) m)
+    (Perform (HeapMove (SetCells r 0 words)) (Finish r))) m)
     (enters : (entry : AppletEntry) (v : MemoryState) → IsRegistration (applet_changes v.heap.now entry) v
     → P (HeapMove (SetPlaces (applet_changes v.heap.now entry))) v) where
   aid_keeps : (aid : List ℕ) → AllResults (aid_object_creation p aid m) m (SameHome m)

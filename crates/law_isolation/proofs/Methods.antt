@@ -24,7 +24,7 @@ use Rattle.jc_memory.specs.declared.registers.Depth.{Depth}
 use Rattle.jc_memory.specs.declared.registers.Depth.TheVariants.{Outside, Inside}
 use Rattle.jc_memory.specs.declared.registers.Installation.{Installation}
 use Rattle.jc_memory.specs.declared.registers.Installation.TheVariants.{Idle, Open, Registered}
-use Rattle.jc_memory.specs.State.{MemoryState, Effect, HeapMove, NullDead, SendBytes, apply_effect}
+use Rattle.jc_memory.specs.State.{MemoryState, Effect, HeapMove, SendBytes, apply_effect}
 use Rattle.jc_memory.specs.Cells.{bytes_at, header_at, cell_refusal, cells_refusal, cells_effect, cells_effect_in}
 use Rattle.jc_memory.specs.Programs.{Program}
 use Rattle.jc_memory.specs.Making.{creation_refusal}
@@ -217,12 +217,8 @@ module _ (P : Effect → MemoryState → Type 0) (Q : MemoryState → Type 0) (b
         (λ on. (
           bears.aborts m,
           (
-            bears.buries _,
-            (
-              bears.turns _ _ (bears.keeps NullDead _ (bears.buries _) (bears.keeps (HeapMove Abort) m (bears.aborts m) so))
-                  refl refl refl,
-              after_abort_due m.registers.installation _,
-            ),
+            bears.turns _ _ (bears.keeps (HeapMove Abort) m (bears.aborts m) so) refl refl refl,
+            after_abort_due m.registers.installation _,
           ),
         ))
         (λ off. (bears.turns _ m so refl refl refl, after_abort_due m.registers.installation _))

@@ -43,7 +43,6 @@ bears q = record {
   begins = λ m so off. tt;
   commits = λ m so none. tt;
   aborts = λ m. tt;
-  buries = λ m. tt;
   flags = λ r flag m. tt;
   sends = λ bytes m. tt;
 }
@@ -86,7 +85,7 @@ module _ (method : PlatformMethod) (args : List Cell) (p : Packages) (m : Memory
 
   registers : (aid : List ℕ) (instance : ℕ) → AllDue (LeavesObject q) (registration aid instance p m) m
   registers = registered_due (LeavesObject q) (λ g v. tt) (λ v. tt) p m (λ r words new.
-      ((refl, subst (λ t. is_allocated m.heap.now t ≡ false) new.chosen new.free), (tt, (new_other m q r out.there new, tt)))) (λ entry v is. inr is)
+      ((refl, subst (λ t. is_allocated m.heap.now t ≡ false) new.chosen new.free), (new_other m q r out.there new, tt))) (λ entry v is. inr is)
 
   passes : MethodPasses (LeavesObject q) method args p m
   passes = record {

@@ -11,7 +11,7 @@ use Rattle.jc_heap.specs.Heap.{facts}
 use Rattle.jc_heap.specs.Moves.{SetPlaces, WriteNonAtomic, Begin, Commit, Abort}
 use Rattle.jc_memory.specs.declared.making.NewObject.{NewObject}
 use Rattle.jc_memory.specs.declared.registers.Registers.{Registers}
-use Rattle.jc_memory.specs.State.{MemoryState, Effect, HeapMove, SetTransient, SetFlag, NullDead, SetRegisters, SendBytes, apply_effect}
+use Rattle.jc_memory.specs.State.{MemoryState, Effect, HeapMove, SetTransient, SetFlag, SetRegisters, SendBytes, apply_effect}
 use Rattle.jc_memory.specs.Cells.{cell_effect, cells_effect, word_of}
 use Rattle.jc_memory.specs.Programs.{Program, Finish, Perform}
 use Rattle.jc_memory.specs.Making.{object_creation, creation_refusal}
@@ -76,7 +76,6 @@ pub record Bears (P : Effect → MemoryState → Type 0) (Q : MemoryState → Ty
   pub begins : (m : MemoryState) → Q m → m.heap.begun ≡ false → P (HeapMove Begin) m
   pub commits : (m : MemoryState) → Q m → open_installation m.registers.installation ≡ None → P (HeapMove Commit) m
   pub aborts : (m : MemoryState) → P (HeapMove Abort) m
-  pub buries : (m : MemoryState) → P NullDead m
   pub flags : (r : ℕ) (flag : Bool) (m : MemoryState) → P (SetFlag r flag) m
   pub sends : (bytes : List ℕ) (m : MemoryState) → P (SendBytes bytes) m
 

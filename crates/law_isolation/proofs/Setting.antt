@@ -1,21 +1,18 @@
 -- Cells that are set, and objects that are made, of another object.
 use Rattle.std.proofs.Common.{◌≡◌, ℕ, ◌+◌, ◌<◌, ◌≤◌, false, List, length, Option, Some, None, refl, sym, ◌∙◌, ap, subst, arith}
 use Rattle.std.proofs.lemmas.Bool.{true≢false}
-use Rattle.std.proofs.lemmas.List.{length-map, length-replicate}
+use Rattle.std.proofs.lemmas.List.{length-map}
 use Rattle.jc_transient.specs.Cells.{number_of}
 use Rattle.jc_transient.specs.declared.cell.CellValue.{CellValue}
 use Rattle.jc_transient.specs.declared.cell.ClearEvent.{ClearEvent}
-use Rattle.jc_transient.specs.declared.cell.ClearEvent.TheVariants.{Reset, Deselect}
-use Rattle.jc_heap.specs.Object.{new_transient, facts_of}
-use Rattle.jc_heap.specs.Heap.{HeapState, IsObject, facts, is_allocated, add_object, add_transient, area_end, with_area_end, heap_item_at}
-use Rattle.jc_heap.proofs.Laws.{heap_item_at-add_object, object_named}
+use Rattle.jc_heap.specs.Heap.{IsObject, facts, is_allocated}
+use Rattle.jc_heap.proofs.Laws.{object_named}
 use Rattle.jc_memory.specs.declared.making.NewObject.{NewObject}
-use Rattle.jc_memory.specs.Owners.{owner_number}
-use Rattle.jc_memory.specs.State.{MemoryState, HeapMove, SetFlag, apply_effect, IsNew}
+use Rattle.jc_memory.specs.State.{MemoryState, HeapMove, IsNew}
 use Rattle.jc_memory.specs.Programs.{Program, Perform}
 use Rattle.jc_memory.specs.Reading.{AllDue}
 use Rattle.jc_memory.specs.Cells.{cell_effect, cell_effect_in, cells_effect, cells_effect_in}
-use Rattle.jc_memory.specs.Making.{object_creation, creation_move, zero_cells_in, zero_of}
+use Rattle.jc_memory.specs.Making.{object_creation, creation_move}
 use Rattle.law_isolation.specs.Sparing.{LeavesObject}
 
 module _ (q : ℕ) (m : MemoryState) where
@@ -37,20 +34,6 @@ module _ (q : ℕ) (m : MemoryState) where
   pub run_spares : (r i : ℕ) (words : List ℕ) → (r ≡ q → ⊥) → i + length words ≤ (facts m.heap.now r).length → LeavesObject q (cells_effect m r i words) m
   run_spares r i words other within = run_in_spares (facts m.heap.now r).event r i words other within
 
--- what stands behind the reference of a new transient object
-facts-with_end : (h : HeapState) (event : ClearEvent) (end r : ℕ) → facts (with_area_end h event end) r ≡ facts h r
-unfolding heap_item_at
-facts-with_end h Reset end r = refl
-facts-with_end h Deselect end r = refl
-
-new_facts : (h : HeapState) (o : NewObject) (event : ClearEvent) → is_allocated h h.top ≡ false
-    → (facts (add_transient h o.kind event o.class (owner_number o.owner) o.length) h.top).length ≡ o.length
-unfolding add_transient
-new_facts h o event free =
-    ap (λ f. f.length) (facts-with_end (add_object h (new_transient o.kind event o.class (owner_number o.owner) o.length (area_end h event)) 5) event
-    (area_end h event + o.length) h.top)
-    ∙ ap (λ t. (facts_of t).length) (heap_item_at-add_object h (new_transient o.kind event o.class (owner_number o.owner) o.length (area_end h event)) 5 free)
-
 -- a new object is another one
 pub new_other : (m : MemoryState) (q r : ℕ) → IsObject m.heap.now q → IsNew m.heap.now r → r ≡ q → ⊥
 new_other m q r there new same = true≢false (sym (object_named m.heap.now q there) ∙ (ap (is_allocated m.heap.now) (sym same) ∙ new.free))
@@ -61,14 +44,9 @@ module _ {A : Type 0} (q : ℕ) (o : NewObject) (rest : ℕ → Program A) where
   Follows = (r : ℕ) (v : MemoryState) → (r ≡ q → ⊥) → AllDue (LeavesObject q) (rest r) v
 
   made_in : (event : Option ClearEvent) (m : MemoryState) (r : ℕ) → IsNew m.heap.now r → (r ≡ q → ⊥) → Follows →
-      AllDue (LeavesObject q) (Perform (HeapMove (creation_move event o)) (zero_cells_in event o r (Perform (SetFlag r false) (rest r)))) m
-  made_in None m r new other follows = ((refl, subst (λ t. is_allocated m.heap.now t ≡ false) new.chosen new.free), (tt, follows r _ other))
-  made_in (Some event) m r new other follows =
-      let free : is_allocated m.heap.now m.heap.now.top ≡ false = subst (λ t. is_allocated m.heap.now t ≡ false) new.chosen new.free in
-      let long : (facts (apply_effect (HeapMove (creation_move (Some event) o)) m).heap.now r).length ≡ o.length =
-      ap (λ t. (facts (apply_effect (HeapMove (creation_move (Some event) o)) m).heap.now t).length) new.chosen ∙ new_facts m.heap.now o event free in
-      let zeros = length-replicate o.length (zero_of o.kind) in
-      (free, ((other, omega (arith, long, zeros)), (tt, follows r _ other)))
+      AllDue (LeavesObject q) (Perform (HeapMove (creation_move event o)) (rest r)) m
+  made_in None m r new other follows = ((refl, subst (λ t. is_allocated m.heap.now t ≡ false) new.chosen new.free), follows r _ other)
+  made_in (Some event) m r new other follows = (subst (λ t. is_allocated m.heap.now t ≡ false) new.chosen new.free, follows r _ other)
 
   -- a new object is made
   pub new_spares : (m : MemoryState) → IsObject m.heap.now q → Follows → AllDue (LeavesObject q) (object_creation o rest) m

@@ -1,5 +1,5 @@
 -- What effects that spare an object leave of it, and of the context for which code runs.
-use Rattle.std.proofs.Common.{◌≡◌, ℕ, suc, ◌+◌, ◌-◌, ◌*◌, ◌<◌, ◌≤◌, ◌⊎◌, Bool, true, false, inl, inr, List, [], ◌∷◌, length, set, get_or, refl, sym, ◌∙◌, ap}
+use Rattle.std.proofs.Common.{◌≡◌, ℕ, suc, ◌+◌, ◌-◌, ◌*◌, ◌<◌, ◌≤◌, ◌⊎◌, Bool, true, false, inl, inr, List, [], ◌∷◌, length, replicate, set, get_or, refl, sym, ◌∙◌, ap}
 use Rattle.std.proofs.Common.{subst, arith, Option, Some, None, if◌then◌else◌}
 use Rattle.std.proofs.lemmas.Bool.{and_parts, not-true, eqb-false, cases_lt, le-leb, lt-leb}
 use Rattle.std.proofs.lemmas.List.{length-set, get_or-set_same, get_or-set_other}
@@ -20,8 +20,8 @@ use Rattle.jc_heap.specs.Statics.{set_word}
 use Rattle.jc_heap.specs.Heap.{HeapState, facts, set_cell, set_cells, add_object, add_transient, area_end, with_area_end}
 use Rattle.jc_heap.specs.Moves.{Move, Write, SetPlaces, WriteNonAtomic, SetCells, AddObject, AddTransient, AddPackage, Begin, Commit, Abort}
 use Rattle.jc_heap.specs.Places.{set_place, set_places, applet_changes}
-use Rattle.jc_memory.specs.State.{MemoryState, Effect, HeapMove, SetTransient, SetFlag, ClearTransient, NullDead, SetRegisters, BeginCommand, SendBytes}
-use Rattle.jc_memory.specs.State.{apply_effect, ram_after_set}
+use Rattle.jc_memory.specs.State.{MemoryState, Effect, HeapMove, SetTransient, SetFlag, ClearTransient, SetRegisters, BeginCommand, SendBytes}
+use Rattle.jc_memory.specs.State.{apply_effect, ram_after_move, ram_after_set, ram_unflagged, zero_of}
 use Rattle.jc_world.specs.Contexts.{installed_package, package_of_applet}
 use Rattle.law_isolation.specs.Sparing.{IsBeside, AreBeside, MoveLeavesObject, LeavesObject, IsQuiet}
 use Rattle.law_isolation.proofs.OnHeap.{StandsBeside, place_set, places_set, cells_set, object_added, transient_added, registry_set, count_set}
@@ -213,6 +213,17 @@ has_still f old mid new first second = record {
   long = second.long;
 }
 
+-- a flag is no cell
+area_flagged : (ram : RamState) (flags : List Bool) (event : ClearEvent) → area (record ram { flags = flags }) event ≡ area ram event
+area_flagged ram flags Reset = refl
+area_flagged ram flags Deselect = refl
+
+has_unflagged : (f : Facts) (old ram : RamState) (r : ℕ) → HasCells f old ram → HasCells f old (ram_unflagged r ram)
+has_unflagged f old ram r has = record {
+  cells = λ event e i lt. ap (λ l. get_or l (f.place + i) (Short (pos 0))) (area_flagged ram (set ram.flags r false) event) ∙ has.cells event e i lt;
+  long = λ event e. subst (λ l. f.place + f.length ≤ length l) (sym (area_flagged ram (set ram.flags r false) event)) (has.long event e);
+}
+
 -- ---- an object stands
 
 pub record Stands (q : ℕ) (o : Object) (start m : MemoryState) : Type 0 where
@@ -226,11 +237,12 @@ pub record Stands (q : ℕ) (o : Object) (start m : MemoryState) : Type 0 where
 
 module _ (q : ℕ) (o : Object) (start : MemoryState) where
   -- a move that keeps the object and the registry
-  moved : (move : Move) (m : MemoryState) → Stands q o start m → StandsBeside q o (apply_effect (HeapMove move) m).heap.now
+  moved : (move : Move) (m : MemoryState) → Stands q o start m → HasCells o.facts start.ram (ram_after_move move m.heap m.ram)
+      → StandsBeside q o (apply_effect (HeapMove move) m).heap.now
       → SameApplets m.heap.now (apply_effect (HeapMove move) m).heap.now → Stands q o start (apply_effect (HeapMove move) m)
-  moved move m st beside same = record {
+  moved move m st cells beside same = record {
     heap = beside;
-    ram = st.ram;
+    ram = cells;
     active = st.active;
     packages = λ a. packages_stay m (apply_effect (HeapMove move) m) same refl a ∙ st.packages a;
     fixed = st.fixed;
@@ -254,24 +266,26 @@ module _ (q : ℕ) (o : Object) (start : MemoryState) where
 
   move_keeps : (move : Move) (m : MemoryState) → MoveLeavesObject q move m → IsQuiet (HeapMove move) m → Stands q o start m
       → Stands q o start (apply_effect (HeapMove move) m)
-  move_keeps (Write place v) m spares quiet st = moved (Write place v) m st (place_set q o m.heap.now place v spares st.heap)
+  move_keeps (Write place v) m spares quiet st = moved (Write place v) m st st.ram (place_set q o m.heap.now place v spares st.heap)
       (applets-set_place q m.heap.now place v spares)
-  move_keeps (SetPlaces changes) m (inl beside) quiet st = moved (SetPlaces changes) m st (places_set q o changes m.heap.now beside st.heap)
+  move_keeps (SetPlaces changes) m (inl beside) quiet st = moved (SetPlaces changes) m st st.ram (places_set q o changes m.heap.now beside st.heap)
       (applets-set_places q changes m.heap.now beside)
   move_keeps (SetPlaces changes) m (inr registers) quiet st = subst (λ cs. Stands q o start (apply_effect (HeapMove (SetPlaces cs)) m)) (sym registers.is)
       (applet_keeps registers.entry m registers.few registers.home st)
-  move_keeps (WriteNonAtomic place v) m spares quiet st = moved (WriteNonAtomic place v) m st (place_set q o m.heap.now place v spares st.heap)
+  move_keeps (WriteNonAtomic place v) m spares quiet st = moved (WriteNonAtomic place v) m st st.ram (place_set q o m.heap.now place v spares st.heap)
       (applets-set_place q m.heap.now place v spares)
-  move_keeps (SetCells r i words) m spares quiet st = moved (SetCells r i words) m st (cells_set q o words m.heap.now r i spares st.heap)
+  move_keeps (SetCells r i words) m spares quiet st = moved (SetCells r i words) m st st.ram (cells_set q o words m.heap.now r i spares st.heap)
       (applets-set_cells words m.heap.now r i)
   move_keeps (AddObject x size) m spares quiet st =
-      moved (AddObject x size) m st (object_added q o m.heap.now x size spares.1 (λ event e. absurd cc) st.heap) (applets-add_object m.heap.now x size)
+      moved (AddObject x size) m st (has_unflagged o.facts start.ram m.ram m.heap.now.top st.ram) (object_added q o m.heap.now x size spares.1 (λ event e. absurd cc) st.heap) (applets-add_object m.heap.now x size)
   move_keeps (AddTransient kind event class owner long) m spares quiet st =
-      moved (AddTransient kind event class owner long) m st (transient_added q o m.heap.now kind event class owner long spares st.heap)
+      moved (AddTransient kind event class owner long) m st (has_unflagged o.facts start.ram _ m.heap.now.top (has_still o.facts start.ram m.ram _ st.ram
+      (area_filled o.facts m.ram event (area_end m.heap.now event) (replicate long (zero_of kind)) (λ e. inr (st.heap.below event e)) st.ram.long)))
+      (transient_added q o m.heap.now kind event class owner long spares st.heap)
       (applets-add_transient m.heap.now kind event class owner long)
   move_keeps (AddPackage components arrays image) m spares quiet st = absurd spares
-  move_keeps Begin m spares quiet st = moved Begin m st st.heap (refl, refl)
-  move_keeps Commit m spares quiet st = moved Commit m st st.heap (refl, refl)
+  move_keeps Begin m spares quiet st = moved Begin m st st.ram st.heap (refl, refl)
+  move_keeps Commit m spares quiet st = moved Commit m st st.ram st.heap (refl, refl)
   move_keeps Abort m spares quiet st = absurd quiet
 
   -- transient cells of another object are set
@@ -312,16 +326,11 @@ module _ (q : ℕ) (o : Object) (start : MemoryState) where
     applets = ap (λ h. length h.applets) heap ∙ st.applets;
   }
 
-  flagged : (ram : RamState) (flags : List Bool) (event : ClearEvent) → area (record ram { flags = flags }) event ≡ area ram event
-  flagged ram flags Reset = refl
-  flagged ram flags Deselect = refl
-
   pub keeps : (e : Effect) (m : MemoryState) → LeavesObject q e m → IsQuiet e m → Stands q o start m → Stands q o start (apply_effect e m)
   keeps (HeapMove move) m spares quiet st = move_keeps move m spares quiet st
   keeps (SetTransient r i vs) m spares quiet st = fill_keeps r i vs m spares st
-  keeps (SetFlag r flag) m spares quiet st = rest_keeps m (apply_effect (SetFlag r flag) m) refl (flagged m.ram (set m.ram.flags r flag)) refl refl refl refl st
+  keeps (SetFlag r flag) m spares quiet st = rest_keeps m (apply_effect (SetFlag r flag) m) refl (area_flagged m.ram (set m.ram.flags r flag)) refl refl refl refl st
   keeps (ClearTransient event) m spares quiet st = absurd quiet
-  keeps NullDead m spares quiet st = absurd quiet
   keeps (SetRegisters registers) m spares quiet st = rest_keeps m (apply_effect (SetRegisters registers) m) refl (λ event. refl) quiet.0 quiet.1 refl refl st
   keeps (BeginCommand bytes) m spares quiet st = absurd quiet
   keeps (SendBytes bytes) m spares quiet st = rest_keeps m (apply_effect (SendBytes bytes) m) refl (λ event. refl) refl refl refl refl st

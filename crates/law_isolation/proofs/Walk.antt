@@ -8,7 +8,7 @@ use Rattle.jc_heap.specs.Heap.{facts}
 use Rattle.jc_memory.specs.declared.registers.Owner.{Owner}
 use Rattle.jc_memory.specs.declared.registers.Owner.TheVariants.{Applet}
 use Rattle.jc_memory.specs.declared.registers.Registers.{Registers}
-use Rattle.jc_memory.specs.State.{MemoryState, Effect, HeapMove, SetTransient, SetFlag, ClearTransient, NullDead, SetRegisters, BeginCommand, SendBytes}
+use Rattle.jc_memory.specs.State.{MemoryState, Effect, HeapMove, SetTransient, SetFlag, ClearTransient, SetRegisters, BeginCommand, SendBytes}
 use Rattle.jc_memory.specs.State.{apply_effect}
 use Rattle.jc_memory.specs.Cells.{header_at}
 use Rattle.jc_memory.specs.Programs.{Program, Finish, Perform, Choose, Either}
@@ -164,7 +164,6 @@ fixed_stays (HeapMove move) m = refl
 fixed_stays (SetTransient r i values) m = refl
 fixed_stays (SetFlag r flag) m = refl
 fixed_stays (ClearTransient event) m = refl
-fixed_stays NullDead m = refl
 fixed_stays (SetRegisters registers) m = refl
 fixed_stays (BeginCommand bytes) m = refl
 fixed_stays (SendBytes bytes) m = refl

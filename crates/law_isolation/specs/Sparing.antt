@@ -9,7 +9,7 @@ use Rattle.jc_heap.specs.Heap.{facts, is_allocated}
 use Rattle.jc_heap.specs.Moves.{Move, Write, SetPlaces, WriteNonAtomic, SetCells, AddObject, AddTransient, AddPackage, Begin, Commit, Abort}
 use Rattle.jc_heap.specs.Places.{applet_changes}
 use Rattle.jc_heap.specs.Whole.{IsConsistent}
-use Rattle.jc_memory.specs.State.{MemoryState, Effect, HeapMove, SetTransient, SetFlag, ClearTransient, NullDead, SetRegisters, BeginCommand, SendBytes}
+use Rattle.jc_memory.specs.State.{MemoryState, Effect, HeapMove, SetTransient, SetFlag, ClearTransient, SetRegisters, BeginCommand, SendBytes}
 use Rattle.jc_memory.specs.State.{apply_effects}
 use Rattle.jc_memory.specs.Reading.{AllEffectsDue}
 use Rattle.jc_linker.specs.Values.{Packages}
@@ -54,7 +54,6 @@ LeavesObject q (HeapMove move) m = MoveLeavesObject q move m
 LeavesObject q (SetTransient r i values) m = (r ≡ q → ⊥) × (i + length values ≤ (facts m.heap.now r).length)
 LeavesObject q (SetFlag r flag) m = Unit {0}
 LeavesObject q (ClearTransient event) m = Unit {0}
-LeavesObject q NullDead m = Unit {0}
 LeavesObject q (SetRegisters registers) m = Unit {0}
 LeavesObject q (BeginCommand bytes) m = Unit {0}
 LeavesObject q (SendBytes bytes) m = Unit {0}
@@ -66,7 +65,6 @@ IsQuiet (HeapMove move) m = Unit {0}
 IsQuiet (SetTransient r i values) m = Unit {0}
 IsQuiet (SetFlag r flag) m = Unit {0}
 IsQuiet (ClearTransient event) m = ⊥
-IsQuiet NullDead m = ⊥
 IsQuiet (SetRegisters registers) m = (registers.active ≡ m.registers.active) × (installed_package registers.installation
     ≡ installed_package m.registers.installation)
 IsQuiet (BeginCommand bytes) m = ⊥

@@ -21,7 +21,7 @@ use Rattle.jc_memory.specs.declared.registers.Installation.{Installation}
 use Rattle.jc_memory.specs.declared.registers.Installation.TheVariants.{Idle, Open, Registered}
 use Rattle.jc_memory.specs.declared.registers.PackageNumber.{PackageNumber}
 use Rattle.jc_memory.specs.Owners.{owner_number}
-use Rattle.jc_memory.specs.State.{MemoryState, HeapMove, SetFlag, IsNew, apply_effect}
+use Rattle.jc_memory.specs.State.{MemoryState, HeapMove, IsNew, apply_effect}
 use Rattle.jc_memory.specs.Cells.{byte_at, header_at}
 use Rattle.jc_memory.specs.Reading.{AllDue}
 use Rattle.jc_linker.specs.Classes.{any_is, implements, is_below, is_class, lineage_from, reference_cell, size_of}
@@ -185,13 +185,13 @@ module _ (keeps : KeepsSound) (p : Packages) (m : MemoryState) (known : KnowsCla
     entry_same : (a : ℕ) → entry_word with_object a 0 ≡ entry_word m.heap.now a 0
     entry_same a = ap (λ l. slice_index l (3 * a + 0)) (applets-add_object m.heap.now aid_new (object_size 9)).1
 
-    abbrev second : MemoryState
-    second = apply_effect (SetFlag r false) (apply_effect (HeapMove (new_move Instance aid_class 0 9)) m)
+    abbrev after_new : MemoryState
+    after_new = apply_effect (HeapMove (new_move Instance aid_class 0 9)) m
 
     facts_new : facts with_object r ≡ aid_new.facts
     facts_new = ap facts_of item_new
 
-    cells_fit : (aid : List ℕ) → is_aid_length (length aid) ≡ true → FitsRun p second r 0 (cells_of_aid aid)
+    cells_fit : (aid : List ℕ) → is_aid_length (length aid) ≡ true → FitsRun p after_new r 0 (cells_of_aid aid)
     cells_fit aid long = (
       λ stays. record {
         bytes = aid;
@@ -210,8 +210,8 @@ module _ (keeps : KeepsSound) (p : Packages) (m : MemoryState) (known : KnowsCla
     module _ (aid : List ℕ) (instance : ℕ) (k : PackageNumber) (may : MayRegister m aid instance k) (long : is_aid_length (length aid) ≡ true)
         (bytes : (i : ℕ) → i < length aid → slice_index aid i < 256)
         (is : is_instance (facts m.heap.now instance).kind ≡ true) (class : is_a p (facts m.heap.now instance).class Applet ≡ true) where
-      abbrev third : MemoryState
-      third = apply_effect (HeapMove (SetCells r 0 (cells_of_aid aid))) second
+      abbrev after_cells : MemoryState
+      after_cells = apply_effect (HeapMove (SetCells r 0 (cells_of_aid aid))) after_new
 
       abbrev entry : AppletEntry
       entry = record { aid = r; «package» = k.0; instance = instance }
@@ -219,25 +219,25 @@ module _ (keeps : KeepsSound) (p : Packages) (m : MemoryState) (known : KnowsCla
       open_now : is_open m.registers.installation ≡ true
       open_now = open_home m.registers.installation k may.opened_by
 
-      third_sound : IsSoundMemory p third
-      third_sound = keeps p (HeapMove (SetCells r 0 (cells_of_aid aid))) second (cells_fit aid long)
-          (keeps p (SetFlag r false) _ tt (keeps p (HeapMove (new_move Instance aid_class 0 9)) m made sound))
+      after_cells_sound : IsSoundMemory p after_cells
+      after_cells_sound = keeps p (HeapMove (SetCells r 0 (cells_of_aid aid))) after_new (cells_fit aid long)
+          (keeps p (HeapMove (new_move Instance aid_class 0 9)) m made sound)
         where
           made : FitsObject p m (new_move Instance aid_class 0 9)
           made = record { kind = Instance; class = aid_class; owner = 0; long = 9; is = refl; fits = made_fits }
 
       -- what stands in it
-      bare_third : (q : ℕ) → header_only (heap_item_at (with_cells aid r) q) ≡ header_only (heap_item_at with_object q)
-      bare_third q = header_only-set_cells (cells_of_aid aid) with_object r 0 q
+      bare_after_cells : (q : ℕ) → header_only (heap_item_at (with_cells aid r) q) ≡ header_only (heap_item_at with_object q)
+      bare_after_cells q = header_only-set_cells (cells_of_aid aid) with_object r 0 q
 
-      stands_third : (q : ℕ) → is_object (heap_item_at (with_cells aid r) q) ≡ is_object (heap_item_at with_object q)
-      stands_third q = sym (bare_object (heap_item_at (with_cells aid r) q)) ∙ ap is_object (bare_third q) ∙ bare_object (heap_item_at with_object q)
+      stands_after_cells : (q : ℕ) → is_object (heap_item_at (with_cells aid r) q) ≡ is_object (heap_item_at with_object q)
+      stands_after_cells q = sym (bare_object (heap_item_at (with_cells aid r) q)) ∙ ap is_object (bare_after_cells q) ∙ bare_object (heap_item_at with_object q)
 
-      facts_third : (q : ℕ) → facts (with_cells aid r) q ≡ facts with_object q
-      facts_third q = same_facts (heap_item_at (with_cells aid r) q) (heap_item_at with_object q) (bare_third q)
+      facts_after_cells : (q : ℕ) → facts (with_cells aid r) q ≡ facts with_object q
+      facts_after_cells q = same_facts (heap_item_at (with_cells aid r) q) (heap_item_at with_object q) (bare_after_cells q)
 
       facts_aid : facts (with_cells aid r) r ≡ aid_new.facts
-      facts_aid = facts_third r ∙ facts_new
+      facts_aid = facts_after_cells r ∙ facts_new
 
       cells_aid : cells (with_cells aid r) r ≡ cells_of_aid aid
       cells_aid = all_set (cells_of_aid aid) with_object r (ap (λ t. length (cells_of t)) item_new ∙ length-replicate {A = ℕ} 9 0 ∙ sym (nine aid))
@@ -249,17 +249,17 @@ module _ (keeps : KeepsSound) (p : Packages) (m : MemoryState) (known : KnowsCla
       instance_same = item_old instance instance_old
 
       facts_instance : facts (with_cells aid r) instance ≡ facts m.heap.now instance
-      facts_instance = facts_third instance ∙ ap facts_of instance_same
+      facts_instance = facts_after_cells instance ∙ ap facts_of instance_same
 
-      counts_third : (with_cells aid r).counts.1 ≡ m.heap.now.counts.1
-      counts_third = (applets-set_cells (cells_of_aid aid) with_object r 0).0 ∙ (applets-add_object m.heap.now aid_new (object_size 9)).0
+      counts_after_cells : (with_cells aid r).counts.1 ≡ m.heap.now.counts.1
+      counts_after_cells = (applets-set_cells (cells_of_aid aid) with_object r 0).0 ∙ (applets-add_object m.heap.now aid_new (object_size 9)).0
 
-      entry_third : (a : ℕ) → entry_word (with_cells aid r) a 0 ≡ entry_word m.heap.now a 0
-      entry_third a = ap (λ l. slice_index l (3 * a + 0)) (applets-set_cells (cells_of_aid aid) with_object r 0).1 ∙ entry_same a
+      entry_after_cells : (a : ℕ) → entry_word (with_cells aid r) a 0 ≡ entry_word m.heap.now a 0
+      entry_after_cells a = ap (λ l. slice_index l (3 * a + 0)) (applets-set_cells (cells_of_aid aid) with_object r 0).1 ∙ entry_same a
 
-      aid_third : (a : ℕ) → a < m.heap.now.counts.1 → aid_of_entry (with_cells aid r) a ≡ aid_of_entry m.heap.now a
-      aid_third a lt =
-          ap (λ q. aid_in (cells (with_cells aid r) q)) (entry_third a)
+      aid_after_cells : (a : ℕ) → a < m.heap.now.counts.1 → aid_of_entry (with_cells aid r) a ≡ aid_of_entry m.heap.now a
+      aid_after_cells a lt =
+          ap (λ q. aid_in (cells (with_cells aid r) q)) (entry_after_cells a)
           ∙ ap (λ t. aid_in (cells_of t)) (item-set_cells (cells_of_aid aid) with_object r 0 (entry_word m.heap.now a 0)
           (other (entry_word m.heap.now a 0) (entry_old a lt)) ∙ item_old (entry_word m.heap.now a 0) (entry_old a lt))
 
@@ -270,75 +270,75 @@ module _ (keeps : KeepsSound) (p : Packages) (m : MemoryState) (known : KnowsCla
       holds_new : holds_aid p aid_new.facts (cells_of_aid aid) ≡ true
       holds_new = and_from (aid_class == aid_class) _ (eq-eqb aid_class aid_class refl) long
 
-      durable_third : third.heap.durable ≡ m.heap.durable
-      durable_third = durable_stays m.heap.begun may.begun m.heap.durable with_object (with_cells aid r)
+      durable_after_cells : after_cells.heap.durable ≡ m.heap.durable
+      durable_after_cells = durable_stays m.heap.begun may.begun m.heap.durable with_object (with_cells aid r)
 
-      next_third : third.heap.now.counts.1 ≡ third.heap.durable.counts.1
-      next_third = counts_third ∙ ap (λ c. c.1) steady.counts ∙ ap (λ h. h.counts.1) (sym durable_third)
+      next_after_cells : after_cells.heap.now.counts.1 ≡ after_cells.heap.durable.counts.1
+      next_after_cells = counts_after_cells ∙ ap (λ c. c.1) steady.counts ∙ ap (λ h. h.counts.1) (sym durable_after_cells)
 
-      registers_fit : RegistersApplet p third (applet_changes third.heap.now entry)
+      registers_fit : RegistersApplet p after_cells (applet_changes after_cells.heap.now entry)
       registers_fit =
-          let number = and_parts (nat_lt 0 k.0) _ (home_number third.heap.now m.registers.installation k may.opened_by third_sound.home) in
+          let number = and_parts (nat_lt 0 k.0) _ (home_number after_cells.heap.now m.registers.installation k may.opened_by after_cells_sound.home) in
           let behind = sound.behind in
           let order = sound.whole.order in
           let top = new.chosen in
           record {
             entry = entry;
             is = refl;
-            few = subst (λ n. n < most_applets) (sym counts_third) may.few;
+            few = subst (λ n. n < most_applets) (sym counts_after_cells) may.few;
             installing = open_now;
-            next = next_third;
+            next = next_after_cells;
             begun = may.begun;
-            aid = stands_third r ∙ ap is_object item_new;
+            aid = stands_after_cells r ∙ ap is_object item_new;
             holds = ap (λ f. holds_aid p f (cells (with_cells aid r) r)) facts_aid ∙ ap (holds_aid p aid_new.facts) cells_aid ∙ holds_new;
             environments = ap (λ f. f.owner) facts_aid;
             behind = omega (arith, behind, order, top);
             unlike = λ a lt same.
-                let there : a < m.heap.now.counts.1 = subst (λ n. a < n) counts_third lt in
-                unlike p m known sound aid a may.none may.few there (sym (aid_third a there) ∙ same ∙ ap aid_in cells_aid ∙ aid_put aid parts_long.1 bytes);
+                let there : a < m.heap.now.counts.1 = subst (λ n. a < n) counts_after_cells lt in
+                unlike p m known sound aid a may.none may.few there (sym (aid_after_cells a there) ∙ same ∙ ap aid_in cells_aid ∙ aid_put aid parts_long.1 bytes);
             some = ltb-true 0 k.0 number.0;
-            home = leb-true k.0 (length third.heap.now.packages) number.1;
-            instance = stands_third instance ∙ ap is_object instance_same ∙ instance_old;
+            home = leb-true k.0 (length after_cells.heap.now.packages) number.1;
+            instance = stands_after_cells instance ∙ ap is_object instance_same ∙ instance_old;
             applet = ap (λ f. is_instance f.kind) facts_instance ∙ is;
             class = ap (λ f. is_a p f.class Applet) facts_instance ∙ class;
           }
 
-      abbrev fourth : MemoryState
-      fourth = apply_effect (HeapMove (SetPlaces (applet_changes third.heap.now entry))) third
+      abbrev after_entry : MemoryState
+      after_entry = apply_effect (HeapMove (SetPlaces (applet_changes after_cells.heap.now entry))) after_cells
 
-      fourth_sound : IsSoundMemory p fourth
-      fourth_sound = keeps p (HeapMove (SetPlaces (applet_changes third.heap.now entry))) third (OfRegistry registers_fit) third_sound
+      after_entry_sound : IsSoundMemory p after_entry
+      after_entry_sound = keeps p (HeapMove (SetPlaces (applet_changes after_cells.heap.now entry))) after_cells (OfRegistry registers_fit) after_cells_sound
 
-      durable_fourth : fourth.heap.durable ≡ third.heap.durable
-      durable_fourth = cond-true m.heap.begun third.heap.durable fourth.heap.now may.begun
+      durable_after_entry : after_entry.heap.durable ≡ after_cells.heap.durable
+      durable_after_entry = cond-true m.heap.begun after_cells.heap.durable after_entry.heap.now may.begun
 
-      one_more : fourth.heap.now.counts.1 ≡ fourth.heap.durable.counts.1 + 1
-      one_more = ap (λ n. n + 1) (next_third ∙ ap (λ h. h.counts.1) (sym durable_fourth))
+      one_more : after_entry.heap.now.counts.1 ≡ after_entry.heap.durable.counts.1 + 1
+      one_more = ap (λ n. n + 1) (next_after_cells ∙ ap (λ h. h.counts.1) (sym durable_after_entry))
 
       -- the installation's transaction ends, and an instance is registered
-      abbrev fifth : MemoryState
-      fifth = apply_effect (HeapMove Commit) fourth
+      abbrev after_commit : MemoryState
+      after_commit = apply_effect (HeapMove Commit) after_entry
 
-      fifth_sound : IsSoundMemory p fifth
-      fifth_sound = keeps p (HeapMove Commit) fourth (λ on. one_more) fourth_sound
+      after_commit_sound : IsSoundMemory p after_commit
+      after_commit_sound = keeps p (HeapMove Commit) after_entry (λ on. one_more) after_entry_sound
 
-      known_fourth : is_owner_up_to fourth.heap.now.counts.1 fourth.heap.now (owner_number m.registers.active) ≡ true
-      known_fourth =
-          subst (λ n. is_owner_up_to n fourth.heap.now (owner_number m.registers.active) ≡ true)
-          (cond-true (is_open m.registers.installation) (fourth.heap.durable.counts.1 + 1) fourth.heap.now.counts.1 open_now ∙ sym one_more)
-          fourth_sound.active
+      known_after_entry : is_owner_up_to after_entry.heap.now.counts.1 after_entry.heap.now (owner_number m.registers.active) ≡ true
+      known_after_entry =
+          subst (λ n. is_owner_up_to n after_entry.heap.now (owner_number m.registers.active) ≡ true)
+          (cond-true (is_open m.registers.installation) (after_entry.heap.durable.counts.1 + 1) after_entry.heap.now.counts.1 open_now ∙ sym one_more)
+          after_entry_sound.active
 
-      turn_registered : FitsTurn fifth (with_installation fourth (Registered k))
+      turn_registered : FitsTurn after_commit (with_installation after_entry (Registered k))
       turn_registered = record {
-        active = known_fourth;
+        active = known_after_entry;
         leaves = λ one none. refl;
         home = refl;
-        selected = λ a is. fifth_sound.selected a is;
+        selected = λ a is. after_commit_sound.selected a is;
         opens = λ on. absurd (true≢false (sym on));
       }
 
-      all_fit : IsFit p (HeapMove (SetPlaces (applet_changes third.heap.now entry))) third
-          × (IsFit p (HeapMove Commit) fourth × FitsTurn fifth (with_installation fourth (Registered k)))
+      all_fit : IsFit p (HeapMove (SetPlaces (applet_changes after_cells.heap.now entry))) after_cells
+          × (IsFit p (HeapMove Commit) after_entry × FitsTurn after_commit (with_installation after_entry (Registered k)))
       all_fit = (OfRegistry registers_fit, (λ on. one_more, turn_registered))
 
   pub registered_due : (aid : List ℕ) (instance : ℕ) → is_aid_length (length aid) ≡ true → ((i : ℕ) → i < length aid → slice_index aid i < 256)
@@ -349,7 +349,7 @@ module _ (keeps : KeepsSound) (p : Packages) (m : MemoryState) (known : KnowsCla
       let may = registrable_is m aid instance k fine in
       let rest = all_fit r new aid instance k may long bytes is class in (
         record { kind = Instance; class = aid_class; owner = 0; long = 9; is = refl; fits = made_fits },
-        (tt, (cells_fit r new aid long, (rest.0, ((rest.1).0, ((rest.1).1, tt))))),
+        (cells_fit r new aid long, (rest.0, ((rest.1).0, ((rest.1).1, tt)))),
       ))
 
 -- the AID of an entry, and one whose bytes are those of an array

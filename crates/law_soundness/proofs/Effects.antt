@@ -21,8 +21,8 @@ use Rattle.jc_heap.proofs.KeptWords.{outside_none_goes_back}
 use Rattle.jc_heap.proofs.Laws.{header_only-set_cell, facts-set_cell, heap_item_at-absent, set_cell-absent}
 use Rattle.jc_memory.specs.Cells.{word_at, word_in}
 use Rattle.jc_memory.specs.Owners.{owner_number}
-use Rattle.jc_memory.specs.State.{MemoryState, Effect, HeapMove, SetTransient, SetFlag, ClearTransient, NullDead, SetRegisters, BeginCommand, SendBytes}
-use Rattle.jc_memory.specs.State.{apply_effect}
+use Rattle.jc_memory.specs.State.{MemoryState, Effect, HeapMove, SetTransient, SetFlag, ClearTransient, SetRegisters, BeginCommand, SendBytes}
+use Rattle.jc_memory.specs.State.{apply_effect, ram_after_move}
 use Rattle.jc_linker.specs.Values.{Packages}
 use Rattle.jc_pin.specs.PinInit.{first_record}
 use Rattle.jc_pin.specs.Updating.{byte_changes}
@@ -302,7 +302,7 @@ module _ (p : Packages) (m : MemoryState) (s : IsSoundMemory p m) where
       (object_frames m.heap.now (new_object kind class owner long) (object_size long))
       (keeps (new_move kind class owner long) m.heap (omega arith, (refl, λ array i lt. inl (zeros long i))) s.whole)
       (added (most_owner m) (known_now p m s owner fits.known) s.now) (λ off. added m.heap.now.counts.1 (known_low p m s owner fits.known off)
-      (low_now p m s off))
+      (low_now p m s off)) (ram_after_move (new_move kind class owner long) m.heap m.ram)
 
   transient_kept : (kind : Kind) (event : ClearEvent) (class owner long : ℕ) → FitsNew p m kind class owner long → (LacksCells m.heap.now event long → ⊥)
       → IsSoundMemory p (apply_effect (HeapMove (AddTransient kind event class owner long)) m)
@@ -314,7 +314,7 @@ module _ (p : Packages) (m : MemoryState) (s : IsSoundMemory p m) where
       change_kept p m s (add_transient m.heap.now kind event class owner long) _ transient_size (transient_frames m.heap.now kind event class owner long)
       (keeps (AddTransient kind event class owner long) m.heap space s.whole)
       (added (most_owner m) (known_now p m s owner fits.known) s.now) (λ off. added m.heap.now.counts.1 (known_low p m s owner fits.known off)
-      (low_now p m s off))
+      (low_now p m s off)) (ram_after_move (AddTransient kind event class owner long) m.heap m.ram)
 
   move_kept : (move : Move) → FitsMove p move m → IsSoundMemory p (apply_effect (HeapMove move) m)
   move_kept (Write place v) fits = place_kept place v fits
@@ -335,7 +335,6 @@ effect_kept p (HeapMove move) m fits s = move_kept p m s move fits
 effect_kept p (SetTransient r i values) m fits s = again p m _ m.command m.sent s
 effect_kept p (SetFlag r flag) m fits s = again p m _ m.command m.sent s
 effect_kept p (ClearTransient event) m fits s = again p m _ m.command m.sent s
-effect_kept p NullDead m fits s = again p m _ m.command m.sent s
 effect_kept p (SetRegisters registers) m fits s = turned_kept p m s registers (record
     { active = fits.active; leaves = fits.leaves; home = fits.home; selected = fits.selected })
 effect_kept p (BeginCommand bytes) m fits s = again p m m.ram bytes [] s

@@ -1,11 +1,12 @@
 -- What calm effects leave as it was.
 use Rattle.std.proofs.Common.{◌≡◌, ℕ, ◌+◌, Bool, true, false, List, [], ◌∷◌, refl, sym, ◌∙◌, ap, subst, if◌then◌else◌}
+use Rattle.jc_transient.specs.State.{RamState}
 use Rattle.jc_heap.specs.declared.place.Place.{Place}
 use Rattle.jc_heap.specs.declared.place.Place.TheVariants.{Cell, Static, Registry, AppletCount}
 use Rattle.jc_heap.specs.Heap.{HeapState, heap_after_change, goes_back}
 use Rattle.jc_heap.specs.Moves.{Write, SetPlaces, WriteNonAtomic, SetCells, AddObject, AddTransient, AddPackage, Begin, Commit, Abort}
 use Rattle.jc_heap.specs.Places.{place_word, set_place, set_places}
-use Rattle.jc_memory.specs.State.{MemoryState, Effect, HeapMove, SetTransient, SetFlag, ClearTransient, NullDead, SetRegisters, BeginCommand, SendBytes}
+use Rattle.jc_memory.specs.State.{MemoryState, Effect, HeapMove, SetTransient, SetFlag, ClearTransient, SetRegisters, BeginCommand, SendBytes}
 use Rattle.jc_memory.specs.State.{apply_effect}
 use Rattle.jc_frames.specs.Frames.{Caller}
 use Rattle.law_soundness.specs.State.{IsSteady, is_open, is_owner_up_to, most_owner}
@@ -43,8 +44,9 @@ module _ (m : MemoryState) (settled : m.heap.begun ≡ false → m.heap.now ≡ 
   left h same true is = refl
   left h same false is = same.counts ∙ ap (λ g. g.counts) (settled is)
 
-  stays_changed : (h : HeapState) (places : List ℕ) (fresh : ℕ) → Same m.heap.now h → Stays m (record m { heap = heap_after_change m.heap h places fresh })
-  stays_changed h places fresh same = record { now = same; durable = left h same m.heap.begun refl; begun = refl; installation = refl }
+  stays_changed : (h : HeapState) (places : List ℕ) (fresh : ℕ) (ram : RamState) → Same m.heap.now h
+      → Stays m (record m { heap = heap_after_change m.heap h places fresh; ram = ram })
+  stays_changed h places fresh ram same = record { now = same; durable = left h same m.heap.begun refl; begun = refl; installation = refl }
 
   counted_left : (place : Place) (v : ℕ) → IsElsewhere place → (b : Bool) → (if b then m.heap.durable else set_place m.heap.durable place v).counts
       ≡ m.heap.durable.counts
@@ -55,19 +57,19 @@ module _ (m : MemoryState) (settled : m.heap.begun ≡ false → m.heap.now ≡ 
   itself = record { counts = refl; packages = refl }
 
   stays : (e : Effect) → IsLocalEffect e m → Stays m (apply_effect e m)
-  stays (HeapMove (Write place v)) calm = stays_changed _ _ _ (same_place m.heap.now place v calm)
-  stays (HeapMove (SetPlaces changes)) calm = stays_changed _ _ _ (same_places changes m.heap.now calm)
+  stays (HeapMove (Write place v)) calm = stays_changed _ _ _ _ (same_place m.heap.now place v calm)
+  stays (HeapMove (SetPlaces changes)) calm = stays_changed _ _ _ _ (same_places changes m.heap.now calm)
   stays (HeapMove (WriteNonAtomic place v)) calm = record {
     now = same_place m.heap.now place v calm;
     durable = counted_left place v calm (goes_back m.heap (place_word place));
     begun = refl;
     installation = refl;
   }
-  stays (HeapMove (SetCells r i words)) calm = (let f = run_frames words m.heap.now r i in stays_changed _ _ _
+  stays (HeapMove (SetCells r i words)) calm = (let f = run_frames words m.heap.now r i in stays_changed _ _ _ _
       (record { counts = f.counts; packages = f.packages }))
-  stays (HeapMove (AddObject o size)) calm = (let f = object_frames m.heap.now o size in stays_changed _ _ _
+  stays (HeapMove (AddObject o size)) calm = (let f = object_frames m.heap.now o size in stays_changed _ _ _ _
       (record { counts = f.counts; packages = f.packages }))
-  stays (HeapMove (AddTransient kind event class owner long)) calm = (let f = transient_frames m.heap.now kind event class owner long in stays_changed _ _ _
+  stays (HeapMove (AddTransient kind event class owner long)) calm = (let f = transient_frames m.heap.now kind event class owner long in stays_changed _ _ _ _
       (record { counts = f.counts; packages = f.packages }))
   stays (HeapMove (AddPackage components arrays rest)) calm = absurd calm
   stays (HeapMove Begin) calm = absurd calm
@@ -76,7 +78,6 @@ module _ (m : MemoryState) (settled : m.heap.begun ≡ false → m.heap.now ≡ 
   stays (SetTransient r i values) calm = record { now = itself; durable = refl; begun = refl; installation = refl }
   stays (SetFlag r flag) calm = record { now = itself; durable = refl; begun = refl; installation = refl }
   stays (ClearTransient event) calm = record { now = itself; durable = refl; begun = refl; installation = refl }
-  stays NullDead calm = record { now = itself; durable = refl; begun = refl; installation = refl }
   stays (SetRegisters registers) calm = record { now = itself; durable = refl; begun = refl; installation = calm }
   stays (BeginCommand bytes) calm = record { now = itself; durable = refl; begun = refl; installation = refl }
   stays (SendBytes bytes) calm = record { now = itself; durable = refl; begun = refl; installation = refl }

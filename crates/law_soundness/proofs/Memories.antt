@@ -103,8 +103,8 @@ module _ (p : Packages) (m : MemoryState) (s : IsSoundMemory p m) where
     most_same : (if is_open m.registers.installation then left.counts.1 + 1 else h.counts.1) ≡ most_owner m
     most_same = λ t. if is_open m.registers.installation then (counts_left t).1 + 1 else (f.counts t).1
 
-    pub change_kept : IsSoundMemory p (record m { heap = heap_after_change m.heap h places fresh })
-    change_kept = record {
+    pub change_kept : (ram : RamState) → IsSoundMemory p (record m { heap = heap_after_change m.heap h places fresh; ram = ram })
+    change_kept ram = record {
       whole = w;
       registry = f.registry ∙ s.registry;
       registry_kept = choose (λ k. length k.applets ≡ registry_length) m.heap.begun durable h (λ on. s.registry_kept) (λ off. f.registry ∙ s.registry);
@@ -128,7 +128,7 @@ module _ (p : Packages) (m : MemoryState) (s : IsSoundMemory p m) where
   -- a change that keeps what fits, whoever may own objects
   pub kept_changed : (h : HeapState) (places : List ℕ) (fresh : ℕ) → Frames now h → AreConsistent (heap_after_change m.heap h places fresh)
       → ((most : ℕ) → IsSoundUpTo most p now own → IsSoundUpTo most p h own) → IsSoundMemory p (record m { heap = heap_after_change m.heap h places fresh })
-  kept_changed h places fresh f w keep = change_kept h places fresh f w (keep (most_owner m) s.now) (λ off. keep now.counts.1 (low_now off))
+  kept_changed h places fresh f w keep = change_kept h places fresh f w (keep (most_owner m) s.now) (λ off. keep now.counts.1 (low_now off)) m.ram
 
   -- a new object's owner
   new_most : most_new m ≤ most_owner m

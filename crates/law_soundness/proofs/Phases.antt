@@ -13,7 +13,7 @@ use Rattle.jc_frames.specs.Frames.{Frames}
 use Rattle.jc_memory.specs.declared.registers.Owner.{Owner}
 use Rattle.jc_memory.specs.declared.registers.Owner.TheVariants.{Runtime}
 use Rattle.jc_memory.specs.Owners.{owner_number}
-use Rattle.jc_memory.specs.State.{MemoryState, Effect, HeapMove, SetRegisters, NullDead, apply_effect}
+use Rattle.jc_memory.specs.State.{MemoryState, Effect, HeapMove, SetRegisters, apply_effect}
 use Rattle.jc_memory.specs.Programs.{Program, Finish, Perform, bind}
 use Rattle.jc_memory.specs.Cells.{header_at, cells_effect, cells_effect_in}
 use Rattle.jc_memory.specs.Reading.{AllDue, AllResults}
@@ -176,15 +176,13 @@ module _ (p : Packages) where
   closing_good true m is s h =
       let v = apply_effect (HeapMove Abort) m in
       let first = behind_one p m (HeapMove Abort) tt s h in
-      let second = behind_both p m v (apply_effect NullDead v) first (behind_one p v NullDead tt first.sound first.environment) in
-      let w = apply_effect NullDead v in
-      good_then p _ (HeapMove Abort) _ m tt (good_then p _ NullDead _ v tt (good_then p _ (SetRegisters (registers_released w.registers)) _ w
-      (inl (outside w second.sound)) (good_gives p _ _ _ (record {
-        behind = behind_both p m w _ second (behind_one p w (SetRegisters (registers_released w.registers))
-            (outside w second.sound) second.sound second.environment);
+      good_then p _ (HeapMove Abort) _ m tt (good_then p _ (SetRegisters (registers_released v.registers)) _ v
+      (inl (outside v first.sound)) (good_gives p _ _ _ (record {
+        behind = behind_both p m v _ first (behind_one p v (SetRegisters (registers_released v.registers))
+            (outside v first.sound) first.sound first.environment);
         closed = refl;
         active = refl;
-      }))))
+      })))
 
   pub closed_good : (m : MemoryState) → IsSoundMemory p m → HasEnvironment p m → Good p (close m) m (λ u n. IsClosed p m n)
   unfolding close

@@ -6,11 +6,11 @@ use Rattle.jc_heap.specs.declared.refusal.HeapRefusal.{HeapRefusal}
 use Rattle.jc_heap.specs.Heap.{facts}
 use Rattle.jc_heap.specs.Moves.{Write, SetPlaces, WriteNonAtomic, SetCells, AddObject, AddTransient, AddPackage, Begin, Commit, Abort}
 use Rattle.jc_memory.specs.declared.making.NewObject.{NewObject}
-use Rattle.jc_memory.specs.State.{MemoryState, Effect, HeapMove, SetTransient, SetFlag, ClearTransient, NullDead, SetRegisters, BeginCommand, SendBytes}
+use Rattle.jc_memory.specs.State.{MemoryState, Effect, HeapMove, SetTransient, SetFlag, ClearTransient, SetRegisters, BeginCommand, SendBytes}
 use Rattle.jc_memory.specs.State.{apply_effect}
 use Rattle.jc_memory.specs.Cells.{cell_effect, cell_effect_in}
 use Rattle.jc_memory.specs.Programs.{Program, Finish, Perform, Choose, Either}
-use Rattle.jc_memory.specs.Making.{object_creation, creation_move, zero_cells_in}
+use Rattle.jc_memory.specs.Making.{object_creation, creation_move}
 use Rattle.jc_frames.specs.declared.method.Origin.{Origin}
 use Rattle.jc_frames.specs.declared.outcome.FrameExit.{FrameExit}
 use Rattle.jc_frames.specs.declared.outcome.FrameExit.TheVariants as stop
@@ -44,7 +44,6 @@ quiet_calm (HeapMove Abort) m quiet = absurd quiet
 quiet_calm (SetTransient r i values) m quiet = tt
 quiet_calm (SetFlag r flag) m quiet = tt
 quiet_calm (ClearTransient event) m quiet = tt
-quiet_calm NullDead m quiet = tt
 quiet_calm (SetRegisters registers) m quiet = absurd quiet
 quiet_calm (BeginCommand bytes) m quiet = tt
 quiet_calm (SendBytes bytes) m quiet = tt
@@ -54,7 +53,6 @@ quiet_registers (HeapMove move) m quiet = refl
 quiet_registers (SetTransient r i values) m quiet = refl
 quiet_registers (SetFlag r flag) m quiet = refl
 quiet_registers (ClearTransient event) m quiet = refl
-quiet_registers NullDead m quiet = refl
 quiet_registers (SetRegisters registers) m quiet = absurd quiet
 quiet_registers (BeginCommand bytes) m quiet = refl
 quiet_registers (SendBytes bytes) m quiet = refl
@@ -108,13 +106,13 @@ pub quiet_sets : (m : MemoryState) (r i : ℕ) (v : CellValue) → IsQuiet (cell
 quiet_sets m r i v = sets_quiet (facts m.heap.now r).event r i v
 
 module _ (callers : List Caller) (origin : Origin) where
-  made_in : (event : Option ClearEvent) (o : NewObject) (r : ℕ) (rest : Program (Next Frames)) → Stays callers origin rest
-      → Stays callers origin (Perform (HeapMove (creation_move event o)) (zero_cells_in event o r (Perform (SetFlag r false) rest)))
-  made_in None o r rest stays = (tt, (tt, stays))
-  made_in (Some event) o r rest stays = (tt, (tt, (tt, stays)))
+  made_in : (event : Option ClearEvent) (o : NewObject) (rest : Program (Next Frames)) → Stays callers origin rest
+      → Stays callers origin (Perform (HeapMove (creation_move event o)) rest)
+  made_in None o rest stays = (tt, stays)
+  made_in (Some event) o rest stays = (tt, stays)
 
   pub stays_new : (o : NewObject) (rest : ℕ → Program (Next Frames)) → ((r : ℕ) → Stays callers origin (rest r)) → Stays callers origin (object_creation o rest)
-  stays_new o rest stays = λ r. made_in o.event o r (rest r) (stays r)
+  stays_new o rest stays = λ r. made_in o.event o (rest r) (stays r)
 
 -- ---- the frame that runs
 

@@ -13,7 +13,7 @@ use Rattle.jc_frames.specs.declared.outcome.FrameExit.{FrameExit}
 use Rattle.jc_memory.specs.declared.registers.Installation.{Installation}
 use Rattle.jc_memory.specs.declared.registers.Installation.TheVariants.{Idle, Open, Registered}
 use Rattle.jc_memory.specs.declared.registers.PackageNumber.{PackageNumber}
-use Rattle.jc_memory.specs.State.{MemoryState, HeapMove, SetFlag, SetRegisters, apply_effect}
+use Rattle.jc_memory.specs.State.{MemoryState, HeapMove, SetRegisters, apply_effect}
 use Rattle.jc_memory.specs.Reading.{AllResults}
 use Rattle.jc_linker.specs.Values.{Packages}
 use Rattle.jc_platform.specs.declared.names.PlatformClass.TheVariants.{Aid}
@@ -55,35 +55,35 @@ module _ (p : Packages) (m : MemoryState) (steady : IsSteady m) where
     abbrev with_object : HeapState
     with_object = add_object m.heap.now aid_new (object_size 9)
 
-    abbrev third : MemoryState
-    third = apply_effect (HeapMove (SetCells r 0 (cells_of_aid aid))) (apply_effect (SetFlag r false)
-        (apply_effect (HeapMove (new_move Instance (class_word p.platform Aid) 0 9)) m))
+    abbrev after_cells : MemoryState
+    after_cells = apply_effect (HeapMove (SetCells r 0 (cells_of_aid aid)))
+        (apply_effect (HeapMove (new_move Instance (class_word p.platform Aid) 0 9)) m)
 
     abbrev entry : AppletEntry
     entry = record { aid = r; «package» = k.0; instance = instance }
 
-    abbrev fourth : MemoryState
-    fourth = apply_effect (HeapMove (SetPlaces (applet_changes third.heap.now entry))) third
+    abbrev after_entry : MemoryState
+    after_entry = apply_effect (HeapMove (SetPlaces (applet_changes after_cells.heap.now entry))) after_cells
 
-    abbrev sixth : MemoryState
-    sixth = apply_effect (SetRegisters (with_installation fourth (Registered k))) (apply_effect (HeapMove Commit) fourth)
+    abbrev after_registering : MemoryState
+    after_registering = apply_effect (SetRegisters (with_installation after_entry (Registered k))) (apply_effect (HeapMove Commit) after_entry)
 
-    counts_third : third.heap.now.counts ≡ m.heap.now.counts
-    counts_third = (run_frames (cells_of_aid aid) with_object r 0).counts ∙ (object_frames m.heap.now aid_new (object_size 9)).counts
+    counts_after_cells : after_cells.heap.now.counts ≡ m.heap.now.counts
+    counts_after_cells = (run_frames (cells_of_aid aid) with_object r 0).counts ∙ (object_frames m.heap.now aid_new (object_size 9)).counts
 
-    packages_third : third.heap.now.packages ≡ m.heap.now.packages
-    packages_third = (run_frames (cells_of_aid aid) with_object r 0).packages ∙ (object_frames m.heap.now aid_new (object_size 9)).packages
+    packages_after_cells : after_cells.heap.now.packages ≡ m.heap.now.packages
+    packages_after_cells = (run_frames (cells_of_aid aid) with_object r 0).packages ∙ (object_frames m.heap.now aid_new (object_size 9)).packages
 
     -- there is one applet more, who might own objects before
-    one_more : is_open m.registers.installation ≡ true → sixth.heap.now.counts.1 ≡ most_owner m
+    one_more : is_open m.registers.installation ≡ true → after_registering.heap.now.counts.1 ≡ most_owner m
     one_more on =
-        ap (λ c. c.1 + 1) (counts_third ∙ steady.counts) ∙ sym (cond-true (is_open m.registers.installation)
+        ap (λ c. c.1 + 1) (counts_after_cells ∙ steady.counts) ∙ sym (cond-true (is_open m.registers.installation)
         (m.heap.durable.counts.1 + 1) m.heap.now.counts.1 on)
 
-    registered_again : is_open m.registers.installation ≡ true → IsReadyAgain m sixth
+    registered_again : is_open m.registers.installation ≡ true → IsReadyAgain m after_registering
     registered_again on = record {
       steady = record { counts = refl; begun = λ e. absurd cc };
-      owners = same_owners m sixth packages_third (one_more on);
+      owners = same_owners m after_registering packages_after_cells (one_more on);
       active = refl;
     }
 

@@ -12,11 +12,11 @@ use Rattle.jc_heap.specs.Heap.{IsObject, LacksCells, facts}
 use Rattle.jc_heap.specs.Moves.{new_move}
 use Rattle.jc_memory.specs.declared.making.NewObject.{NewObject}
 use Rattle.jc_memory.specs.Owners.{owner_number}
-use Rattle.jc_memory.specs.State.{MemoryState, HeapMove, SetFlag, IsNew, apply_effect}
+use Rattle.jc_memory.specs.State.{MemoryState, HeapMove, IsNew, apply_effect}
 use Rattle.jc_memory.specs.Programs.{Program, Perform}
 use Rattle.jc_memory.specs.Reading.{AllDue}
 use Rattle.jc_memory.specs.Cells.{cell_effect_in, word_of}
-use Rattle.jc_memory.specs.Making.{object_creation, creation_move, zero_cells_in}
+use Rattle.jc_memory.specs.Making.{object_creation, creation_move}
 use Rattle.jc_linker.specs.Classes.{is_class, size_of}
 use Rattle.jc_linker.specs.Resolves.{names_interface}
 use Rattle.jc_linker.specs.Values.{Packages}
@@ -83,24 +83,24 @@ set_in p m (Some event) r i v fits = tt
 -- a new object, in the memory that it leaves
 module _ {A : Type 0} (p : Packages) (o : NewObject) (rest : ℕ → Program A) (m : MemoryState)
     (fits : FitsNew p m o.kind o.class (owner_number o.owner) o.length) where
-  abbrev pub with_new : ℕ → MemoryState
-  with_new r = apply_effect (SetFlag r false) (apply_effect (HeapMove (new_move o.kind o.class (owner_number o.owner) o.length)) m)
+  abbrev pub with_new : MemoryState
+  with_new = apply_effect (HeapMove (new_move o.kind o.class (owner_number o.owner) o.length)) m
 
-  kept_in : (event : Option ClearEvent) → event ≡ None → (r : ℕ) → AllDue (IsFit p) (rest r) (with_new r)
-      → AllDue (IsFit p) (Perform (HeapMove (creation_move event o)) (zero_cells_in event o r (Perform (SetFlag r false) (rest r)))) m
-  kept_in None is r due = (record { kind = o.kind; class = o.class; owner = owner_number o.owner; long = o.length; is = refl; fits = fits }, (tt, due))
+  kept_in : (event : Option ClearEvent) → event ≡ None → (r : ℕ) → AllDue (IsFit p) (rest r) with_new
+      → AllDue (IsFit p) (Perform (HeapMove (creation_move event o)) (rest r)) m
+  kept_in None is r due = (record { kind = o.kind; class = o.class; owner = owner_number o.owner; long = o.length; is = refl; fits = fits }, due)
   kept_in (Some event) is r due = absurd cc
 
-  pub new_kept : o.event ≡ None → ((r : ℕ) → IsNew m.heap.now r → AllDue (IsFit p) (rest r) (with_new r)) → AllDue (IsFit p) (object_creation o rest) m
+  pub new_kept : o.event ≡ None → ((r : ℕ) → IsNew m.heap.now r → AllDue (IsFit p) (rest r) with_new) → AllDue (IsFit p) (object_creation o rest) m
   new_kept is due = λ r new. kept_in o.event is r (due r new)
 
   transient_in : (event : ClearEvent) (kept : Option ClearEvent) → kept ≡ Some event → (LacksCells m.heap.now event o.length → ⊥) → (r : ℕ)
       → ((v : MemoryState) → AllDue (IsFit p) (rest r) v) →
-      AllDue (IsFit p) (Perform (HeapMove (creation_move kept o)) (zero_cells_in kept o r (Perform (SetFlag r false) (rest r)))) m
+      AllDue (IsFit p) (Perform (HeapMove (creation_move kept o)) (rest r)) m
   transient_in event None is room r due = absurd cc
   transient_in event (Some e) is room r due = (
     (fits, (λ lacks. room (subst (λ x. LacksCells m.heap.now x o.length) (same_Some e event is) lacks))),
-    (tt, (tt, due _)),
+    due _,
   )
 
   pub new_transient : (event : ClearEvent) → o.event ≡ Some event → (LacksCells m.heap.now event o.length → ⊥)

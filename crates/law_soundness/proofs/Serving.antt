@@ -11,7 +11,7 @@ use Rattle.jc_memory.specs.declared.registers.AppletNumber.{AppletNumber}
 use Rattle.jc_memory.specs.declared.registers.Installation.{Installation}
 use Rattle.jc_memory.specs.declared.registers.Registers.{Registers}
 use Rattle.jc_memory.specs.Owners.{owner_number}
-use Rattle.jc_memory.specs.State.{MemoryState, Effect, HeapMove, SetTransient, SetFlag, ClearTransient, NullDead, SetRegisters, BeginCommand, SendBytes}
+use Rattle.jc_memory.specs.State.{MemoryState, Effect, HeapMove, SetTransient, SetFlag, ClearTransient, SetRegisters, BeginCommand, SendBytes}
 use Rattle.jc_memory.specs.State.{apply_effect}
 use Rattle.jc_memory.specs.Programs.{Program, Finish, Perform, Choose, Either}
 use Rattle.jc_memory.specs.Reading.{AllDue, AllResults}
@@ -60,7 +60,6 @@ sound_served p (HeapMove move) m due s = keeps_sound p (HeapMove move) m due s
 sound_served p (SetTransient r i values) m due s = keeps_sound p (SetTransient r i values) m due s
 sound_served p (SetFlag r flag) m due s = keeps_sound p (SetFlag r flag) m due s
 sound_served p (ClearTransient event) m due s = keeps_sound p (ClearTransient event) m due s
-sound_served p NullDead m due s = keeps_sound p NullDead m due s
 sound_served p (SetRegisters g) m (inl fits) s = keeps_sound p (SetRegisters g) m fits s
 sound_served p (SetRegisters g) m (inr opens) s = opened_kept p m s g opens
 sound_served p (BeginCommand bytes) m due s = keeps_sound p (BeginCommand bytes) m due s
@@ -72,7 +71,6 @@ environment_served p (HeapMove move) m due s h = keeps_environment p (HeapMove m
 environment_served p (SetTransient r i values) m due s h = keeps_environment p (SetTransient r i values) m due s h
 environment_served p (SetFlag r flag) m due s h = keeps_environment p (SetFlag r flag) m due s h
 environment_served p (ClearTransient event) m due s h = keeps_environment p (ClearTransient event) m due s h
-environment_served p NullDead m due s h = keeps_environment p NullDead m due s h
 environment_served p (SetRegisters g) m due s h = record { now = h.now; durable = h.durable }
 environment_served p (BeginCommand bytes) m due s h = keeps_environment p (BeginCommand bytes) m due s h
 environment_served p (SendBytes bytes) m due s h = keeps_environment p (SendBytes bytes) m due s h
@@ -85,7 +83,6 @@ served p (HeapMove move) m fits = fits
 served p (SetTransient r i values) m fits = fits
 served p (SetFlag r flag) m fits = fits
 served p (ClearTransient event) m fits = fits
-served p NullDead m fits = fits
 served p (SetRegisters g) m fits = inl fits
 served p (BeginCommand bytes) m fits = fits
 served p (SendBytes bytes) m fits = fits
@@ -182,7 +179,6 @@ still_idle p m (HeapMove move) fits idle = idle
 still_idle p m (SetTransient r i values) fits idle = idle
 still_idle p m (SetFlag r flag) fits idle = idle
 still_idle p m (ClearTransient event) fits idle = idle
-still_idle p m NullDead fits idle = idle
 still_idle p m (SetRegisters g) fits idle = elim (cases_Bool (is_open g.installation)) [
   | inl opened ↦ absurd (both_ways (is_open m.registers.installation) idle (fits.opens opened))
   | inr closed ↦ closed

@@ -9,11 +9,11 @@ use Rattle.jc_heap.specs.Moves.{Write, SetPlaces, WriteNonAtomic, SetCells, AddO
 use Rattle.jc_frames.specs.declared.outcome.FrameExit.{FrameExit}
 use Rattle.jc_memory.specs.declared.making.NewObject.{NewObject}
 use Rattle.jc_memory.specs.declared.registers.Registers.{Registers}
-use Rattle.jc_memory.specs.State.{MemoryState, Effect, HeapMove, SetTransient, SetFlag, ClearTransient, NullDead, SetRegisters, BeginCommand, SendBytes}
+use Rattle.jc_memory.specs.State.{MemoryState, Effect, HeapMove, SetTransient, SetFlag, ClearTransient, SetRegisters, BeginCommand, SendBytes}
 use Rattle.jc_memory.specs.State.{apply_effect}
 use Rattle.jc_memory.specs.Programs.{Program, Finish, Perform, Choose, Either, bind}
 use Rattle.jc_memory.specs.Cells.{cell_effect, cell_effect_in, cells_effect, cells_effect_in}
-use Rattle.jc_memory.specs.Making.{object_creation, creation_move, zero_cells_in}
+use Rattle.jc_memory.specs.Making.{object_creation, creation_move}
 use Rattle.jc_world.specs.declared.native_result.NativeResult.{NativeResult}
 use Rattle.jc_world.specs.declared.native_result.NativeResult.TheVariants.{CallServer}
 use Rattle.jc_world.specs.NativeCalls.{NativeProgram, if_some, if_ok, unless}
@@ -71,7 +71,6 @@ module _ (g : Registers) where
   still_calm (SetTransient r i values) m still like = (tt, record { active = like.active; installation = like.installation })
   still_calm (SetFlag r flag) m still like = (tt, record { active = like.active; installation = like.installation })
   still_calm (ClearTransient event) m still like = (tt, record { active = like.active; installation = like.installation })
-  still_calm NullDead m still like = (tt, record { active = like.active; installation = like.installation })
   still_calm (SetRegisters registers) m still like = (still.1 ∙ sym like.installation, record { active = still.0; installation = still.1 })
   still_calm (BeginCommand bytes) m still like = (tt, record { active = like.active; installation = like.installation })
   still_calm (SendBytes bytes) m still like = (tt, record { active = like.active; installation = like.installation })
@@ -119,11 +118,11 @@ module _ (g : Registers) where
   still_sets_run s r i words = run_still (facts s.heap.now r).event r i words
 
   -- an object is made
-  made_in : {A : Type 0} (Q : A → Type 0) (event : Option ClearEvent) (o : NewObject) (r : ℕ) (rest : Program A) → AllStill g Q rest
-      → AllStill g Q (Perform (HeapMove (creation_move event o)) (zero_cells_in event o r (Perform (SetFlag r false) rest)))
-  made_in Q None o r rest still = (tt, (tt, still))
-  made_in Q (Some event) o r rest still = (tt, (tt, (tt, still)))
+  made_in : {A : Type 0} (Q : A → Type 0) (event : Option ClearEvent) (o : NewObject) (rest : Program A) → AllStill g Q rest
+      → AllStill g Q (Perform (HeapMove (creation_move event o)) rest)
+  made_in Q None o rest still = (tt, still)
+  made_in Q (Some event) o rest still = (tt, still)
 
   pub still_makes_new : {A : Type 0} (Q : A → Type 0) (o : NewObject) (rest : ℕ → Program A) → ((r : ℕ) → AllStill g Q (rest r))
       → AllStill g Q (object_creation o rest)
-  still_makes_new Q o rest still = λ r. made_in Q o.event o r (rest r) (still r)
+  still_makes_new Q o rest still = λ r. made_in Q o.event o (rest r) (still r)

@@ -6,7 +6,7 @@ use Rattle.jc_memory.specs.declared.registers.Depth.{Depth}
 use Rattle.jc_memory.specs.declared.registers.Depth.TheVariants.{Outside, Inside}
 use Rattle.jc_memory.specs.declared.registers.Installation.{Installation}
 use Rattle.jc_memory.specs.declared.registers.Installation.TheVariants.{Idle, Open, Registered}
-use Rattle.jc_memory.specs.State.{MemoryState, NullDead, HeapMove, apply_effect}
+use Rattle.jc_memory.specs.State.{MemoryState, HeapMove, apply_effect}
 use Rattle.jc_memory.specs.Reading.{AllResults}
 use Rattle.jc_linker.specs.Values.{Packages}
 use Rattle.jc_api_runtime.specs.SystemTransactions.{jc_system_abort_transaction, after_abort, jc_system_begin_transaction, jc_system_commit_transaction}
@@ -53,7 +53,7 @@ module _ (p : Packages) (m : MemoryState) (sound : IsSoundMemory p m) (steady : 
     }
 
     abbrev aborted_now : MemoryState
-    aborted_now = apply_effect (set_level m Outside) (apply_effect NullDead (apply_effect (HeapMove Abort) m))
+    aborted_now = apply_effect (set_level m Outside) (apply_effect (HeapMove Abort) m)
 
     aborted_again : IsReadyAgain m aborted_now
     aborted_again = record {

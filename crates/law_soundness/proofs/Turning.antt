@@ -46,7 +46,6 @@ bears p = record {
   begins = λ m sound off. off;
   commits = λ m sound none on. absurd (not_opened m.registers.installation none on);
   aborts = λ m. tt;
-  buries = λ m. tt;
   flags = λ r flag m. tt;
   sends = λ bytes m. tt;
 }

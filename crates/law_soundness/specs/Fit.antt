@@ -18,7 +18,7 @@ use Rattle.jc_heap.specs.Statics.{statics_of, IsStatic}
 use Rattle.jc_memory.specs.declared.registers.AppletNumber.{AppletNumber}
 use Rattle.jc_memory.specs.declared.registers.Registers.{Registers}
 use Rattle.jc_memory.specs.Owners.{owner_number}
-use Rattle.jc_memory.specs.State.{MemoryState, Effect, HeapMove, SetTransient, SetFlag, ClearTransient, NullDead, SetRegisters, BeginCommand, SendBytes}
+use Rattle.jc_memory.specs.State.{MemoryState, Effect, HeapMove, SetTransient, SetFlag, ClearTransient, SetRegisters, BeginCommand, SendBytes}
 use Rattle.jc_memory.specs.State.{apply_effect}
 use Rattle.jc_linker.specs.Classes.{reference_cell}
 use Rattle.jc_linker.specs.Lookups.{statics_at}
@@ -176,7 +176,6 @@ IsFit p (HeapMove move) m = FitsMove p move m
 IsFit p (SetTransient r i values) m = Unit {0}
 IsFit p (SetFlag r flag) m = Unit {0}
 IsFit p (ClearTransient event) m = Unit {0}
-IsFit p NullDead m = Unit {0}
 IsFit p (SetRegisters registers) m = FitsTurn m registers
 IsFit p (BeginCommand bytes) m = Unit {0}
 IsFit p (SendBytes bytes) m = Unit {0}
