@@ -21,7 +21,7 @@ pub words_of_places : (h : HeapState) (ps : List Place) → touch_words h (touch
 words_of_places h [] = refl
 words_of_places h (p ∷ ps) = ap (λ ws. place_word p ∷ ws) (words_of_places h ps)
 
-next_cell : (r i : ℕ) → cell_address r (i + 1) ≡ suc (cell_address r i)
+next_cell : (r i : ℕ) → cell_address r (i + 1) ≡ cell_address r i + 1
 unfolding cell_address
 next_cell r i = omega arith
 
