@@ -1,10 +1,14 @@
 -- An applet is registered.
-use Rattle.std.specs.Prelude.{ℕ, ◌+◌, ◌==◌, nat_lt, is_some, Bool, true, false, List, if◌then◌else◌, Option, Some, None, Result, Ok, Err}
+use Rattle.std.specs.Prelude.{ℕ, ◌+◌, ◌==◌, nat_lt, is_some, Bool, true, false, List, ◌∷◌, ◌++◌, if◌then◌else◌, Option, Some, None, Result, Ok, Err}
 use Rattle.jc_words.specs.Layout.{most_applets}
 use Rattle.jc_heap.specs.declared.object.Facts.{Facts}
 use Rattle.jc_heap.specs.declared.object.Kind.TheVariants.{Instance}
 use Rattle.jc_heap.specs.declared.place.AppletEntry.{AppletEntry}
+use Rattle.jc_heap.specs.declared.touch.Touch.{Touch}
+use Rattle.jc_heap.specs.declared.touch.Touch.TheVariants.{HeapEnd}
 use Rattle.jc_heap.specs.Moves.{Commit}
+use Rattle.jc_heap.specs.Places.{applet_places}
+use Rattle.jc_heap.specs.Touches.{touched_new_cells, touched_places}
 use Rattle.jc_frames.specs.Reasons.{buffer_full, illegal_aid, in_progress, no_resource}
 use Rattle.jc_frames.specs.declared.outcome.FrameExit.{FrameExit}
 use Rattle.jc_frames.specs.declared.outcome.FrameExit.TheVariants.{Throw}
@@ -59,17 +63,23 @@ abbrev pub is_inside : Depth → Bool
 is_inside Outside = false
 is_inside Inside = true
 
--- how many cells an AID object has; for how many words there has to be room: the heap's end, these cells, the entry
--- of the registry and the number of applets
+-- how many cells an AID object has
 abbrev pub aid_cells : ℕ
 aid_cells = 9
 
-abbrev pub words : ℕ
-words = 14
+-- the words of the entry that is added behind so many applets, and the number of applets
+abbrev pub touched_by_entry : ℕ → List Touch
+touched_by_entry applets = touched_places (applet_places applets)
+
+-- the words that are changed, where so many applets are there before: the heap's end, the new AID's cells, and those of the entry
+abbrev pub touched_by_registration : ℕ → List Touch
+touched_by_registration applets = HeapEnd ∷ (touched_new_cells aid_cells ++ touched_by_entry applets)
 
 -- there is space and room for all of it
 abbrev pub unless_full : MemoryState → PackageNumber → Result PackageNumber FrameExit
-unless_full m p = if has_space m aid_cells then (if lacks_capacity m words then Err (Throw buffer_full) else Ok p) else Err (Throw no_resource)
+unless_full m p =
+    if has_space m aid_cells then (if lacks_capacity m (touched_by_registration m.heap.now.counts.1) then Err (Throw buffer_full) else Ok p) else Err
+    (Throw no_resource)
 
 -- the applet may be registered, in this package; else what throws
 abbrev pub registration_package_in : MemoryState → List ℕ → ℕ → Option PackageNumber → Result PackageNumber FrameExit

@@ -1,5 +1,5 @@
 //! An applet is registered.
-ghost use Rattle.std.specs.Prelude.{ℕ, ◌≡◌, ◌+◌, ◌<◌, ◌≤◌, false, true, None, length, OnOk};
+ghost use Rattle.std.specs.Prelude.{◌≡◌, ◌<◌, ◌≤◌, false, true, None, List, ◌++◌, length, OnOk};
 ghost use Rattle.jc_words.specs.Layout.{most_applets};
 ghost use Rattle.jc_heap.specs.declared.object.Kind.TheVariants.{Instance};
 ghost use Rattle.jc_heap.specs.Heap.{facts, IsObject};
@@ -8,7 +8,9 @@ ghost use Rattle.jc_heap.specs.Completions.{after_step};
 ghost use Rattle.jc_memory.specs.Room.{has_space, lacks_capacity, cells_update, KeepsRest};
 ghost use Rattle.jc_world.specs.NativeCalls.{after_call};
 ghost use Rattle.jc_api_runtime.specs.AidCells.{cells_of_aid};
-ghost use Rattle.jc_api_runtime.specs.Register.{aid_object_creation, registry_entry, registration};
+ghost use Rattle.jc_heap.specs.declared.touch.Touch.{Touch};
+ghost use Rattle.jc_heap.specs.Touches.{touched_cells};
+ghost use Rattle.jc_api_runtime.specs.Register.{aid_object_creation, registry_entry, registration, touched_by_entry, touched_by_registration};
 
 use crate::cells_of_aid;
 use crate::register_checks::registration_package;
@@ -32,11 +34,12 @@ fn fill_aid<S: WordStore>(memory: &mut Memory<S>, object: Ref, aid: &[u8]) -> Re
     requires persistent { (facts memory.old.heap.now object).event ≡ None }
     requires cells { (facts memory.old.heap.now object).length ≡ 9 }
     requires few { length aid.now ≤ 16 }
-    requires room { lacks_capacity memory.old 9 ≡ false }
+    requires room { lacks_capacity memory.old (touched_cells object 0 9) ≡ false }
     ensures made { Executes (cells_update object 0 (cells_of_aid aid.now)) memory.old
         (after_step result memory.new) }
-    ensures left { OnOk result ((n : ℕ) → lacks_capacity memory.old (n + 9) ≡ false
-        → lacks_capacity memory.new n ≡ false) }
+    ensures left { OnOk result ((more : List Touch)
+        → lacks_capacity memory.old (touched_cells object 0 9 ++ more) ≡ false
+        → lacks_capacity memory.new more ≡ false) }
     ensures rest { OnOk result (KeepsRest memory.old memory.new) }
 {
     set_within_capacity(memory, object, 0, &cells_of_aid(aid))
@@ -52,10 +55,12 @@ fn make_aid<S: WordStore>(
     requires up { memory.old.heap.down ≡ false }
     requires few { length aid.now ≤ 16 }
     requires space { has_space memory.old 9 ≡ true }
-    requires room { lacks_capacity memory.old 14 ≡ false }
+    requires room { lacks_capacity memory.old
+        (touched_by_registration memory.old.heap.now.counts.1) ≡ false }
     ensures made { Executes (aid_object_creation linked.now aid.now memory.old) memory.old
         (after_step result memory.new) }
-    ensures left { OnOk result (lacks_capacity memory.new 4 ≡ false) }
+    ensures left { OnOk result (lacks_capacity memory.new
+        (touched_by_entry memory.old.heap.now.counts.1) ≡ false) }
     ensures rest { OnOk result (KeepsRest memory.old memory.new) }
 {
     let object = NewObject {
@@ -80,7 +85,8 @@ fn enter<S: WordStore>(
     requires up { memory.old.heap.down ≡ false }
     requires few { memory.old.heap.now.counts.1 < most_applets }
     requires open { memory.old.heap.begun ≡ true }
-    requires room { lacks_capacity memory.old 4 ≡ false }
+    requires room { lacks_capacity memory.old
+        (touched_by_entry memory.old.heap.now.counts.1) ≡ false }
     ensures { Executes (registry_entry entry package_number memory.old) memory.old
         (after_step result memory.new) }
 {

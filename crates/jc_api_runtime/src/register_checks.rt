@@ -4,19 +4,17 @@ ghost use Rattle.jc_words.specs.Layout.{most_applets};
 ghost use Rattle.jc_memory.specs.Cells.{header_at};
 ghost use Rattle.jc_memory.specs.Room.{has_space, lacks_capacity};
 ghost use Rattle.jc_api_runtime.specs.Register.{installation_in_transaction, is_inside, is_owned, may_be_added, open_installation, registration_package};
-ghost use Rattle.jc_api_runtime.specs.Register.{unless_full};
+ghost use Rattle.jc_api_runtime.specs.Register.{touched_by_registration, unless_full};
 
 use jc_frames::FrameExit;
 use jc_frames::reasons::{BUFFER_FULL, ILLEGAL_AID, IN_PROGRESS, NO_RESOURCE};
+use jc_heap::registry_layout::{ENTRY_INSTANCE, ENTRY_PACKAGE, entry_start};
+use jc_heap::{Place, Touch};
 use jc_memory::{Depth, Installation, Memory, PackageNumber, has_space, lacks_capacity};
 use jc_registry::{AID_CELLS, applet_with_aid};
 use jc_transient::{OwnerWord, Ref};
 use jc_words::WordStore;
 use jc_words::layout::MOST_APPLETS;
-
-// For how many words there has to be room: the heap's end, the AID's cells, the entry of the registry and the number
-// of applets.
-const WORDS: u16 = 14;
 
 // The package of the applet that is being installed, while its `install` has not registered an instance yet.
 fn open_installation(installation: Installation) -> Option<PackageNumber>
@@ -72,20 +70,49 @@ fn is_inside(depth: Depth) -> bool
     }
 }
 
+// The words that a registration changes, where so many applets are there before: the heap's end, the cells of the new
+// AID, and the entry of the registry with the number of applets.
+fn touched_by_registration(applets: u16) -> [Touch; 14]
+    requires { applets < most_applets }
+    ensures { result ≡ touched_by_registration applets }
+{
+    let first = entry_start(applets);
+    [
+        Touch::HeapEnd,
+        Touch::NewCell(0),
+        Touch::NewCell(1),
+        Touch::NewCell(2),
+        Touch::NewCell(3),
+        Touch::NewCell(4),
+        Touch::NewCell(5),
+        Touch::NewCell(6),
+        Touch::NewCell(7),
+        Touch::NewCell(8),
+        Touch::Place(Place::Registry(first)),
+        Touch::Place(Place::Registry(first + ENTRY_PACKAGE)),
+        Touch::Place(Place::Registry(first + ENTRY_INSTANCE)),
+        Touch::Place(Place::AppletCount),
+    ]
+}
+
 // There is space and room for all that is written.
+#[tactic(auto, unfolding(jc_heap::specs::Heap::cell_address))]
 fn unless_full<S: WordStore>(
     package_number: PackageNumber,
     memory: &Memory<S>,
 ) -> Result<PackageNumber, FrameExit>
     requires up { memory.now.heap.down ≡ false }
+    requires few { memory.now.heap.now.counts.1 < most_applets }
     ensures asked { result ≡ unless_full memory.now package_number }
     ensures space { IfOk result (λ p. has_space memory.now 9 ≡ true) }
-    ensures room { IfOk result (λ p. lacks_capacity memory.now 14 ≡ false) }
+    ensures room { IfOk result (λ p. lacks_capacity memory.now
+        (touched_by_registration memory.now.heap.now.counts.1) ≡ false) }
 {
     if !has_space(memory, AID_CELLS) {
         return Err(FrameExit::Throw(NO_RESOURCE));
     }
-    if lacks_capacity(memory, WORDS) {
+    let touches = touched_by_registration(memory.heap().applets());
+    if lacks_capacity(memory, &touches) {
         return Err(FrameExit::Throw(BUFFER_FULL));
     }
     Ok(package_number)
@@ -103,7 +130,8 @@ pub(crate) fn registration_package<S: WordStore>(
     ensures open { IfOk result (λ p. memory.now.heap.begun ≡ true) }
     ensures few { IfOk result (λ p. memory.now.heap.now.counts.1 < most_applets) }
     ensures space { IfOk result (λ p. has_space memory.now 9 ≡ true) }
-    ensures room { IfOk result (λ p. lacks_capacity memory.now 14 ≡ false) }
+    ensures room { IfOk result (λ p. lacks_capacity memory.now
+        (touched_by_registration memory.now.heap.now.counts.1) ≡ false) }
 {
     let Some(package) = installation_in_transaction(memory) else {
         return Err(FrameExit::Throw(ILLEGAL_AID));

@@ -20,7 +20,7 @@ use Rattle.jc_memory.specs.Room.{has_space, lacks_capacity}
 use Rattle.jc_pin.specs.declared.updating.PinRefusal.{PinRefusal}
 use Rattle.jc_pin.specs.declared.updating.PinRefusal.TheVariants.{CommitFull, IllegalValue, HeapFull}
 use Rattle.jc_pin.specs.Pins.{counter, record_of}
-use Rattle.jc_pin.specs.PinInit.{first_record, pin_init, value_array}
+use Rattle.jc_pin.specs.PinInit.{first_record, pin_init, touched_by_init, value_array}
 use Rattle.jc_pin.specs.Updating.{byte_changes, unless_no_room, changes_of_update, pin_update}
 use Rattle.law_atomicity.specs.Tears.{SavedHeapAfter}
 use Rattle.law_atomicity.specs.Changed.{IsChanged}
@@ -103,7 +103,7 @@ in_space true false s new r limit maximum begun did = made_changes s new r limit
 
 pub start_changes : (s new : MemoryState) (r limit maximum : ℕ) → s.heap.begun ≡ true → Completes (pin_init s r limit maximum) s (Ok tt) new → IsChanged new r
 unfolding pin_init
-start_changes s new r limit maximum begun did = in_space (has_space s maximum) (lacks_capacity s 6) s new r limit maximum begun did
+start_changes s new r limit maximum begun did = in_space (has_space s maximum) (lacks_capacity s (touched_by_init r)) s new r limit maximum begun did
 
 -- ---- as long as the transaction is open
 

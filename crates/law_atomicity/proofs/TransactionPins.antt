@@ -23,7 +23,7 @@ use Rattle.jc_pin.specs.declared.updating.PinRefusal.{PinRefusal}
 use Rattle.jc_pin.specs.Pins.{counter, is_persistent_with, is_pin, record_of}
 use Rattle.jc_pin.specs.Checking.{pin_check, is_value, comparison}
 use Rattle.jc_pin.specs.Resetting.{pin_reset, pin_unblock}
-use Rattle.jc_pin.specs.PinInit.{first_record, pin_init, value_array}
+use Rattle.jc_pin.specs.PinInit.{first_record, pin_init, touched_by_init, value_array}
 use Rattle.jc_pin.specs.Updating.{unless_no_room, changes_of_update, pin_update}
 use Rattle.jc_pin.proofs.Kept.{word_kept}
 use Rattle.law_atomicity.specs.Orderly.{KeepsTransactionOrder}
@@ -133,7 +133,7 @@ reset_orderly s r pin = due_if (flag_of s.ram r) _ _ s (λ e. unblocked_orderly 
 pub started_plain : (s : MemoryState) (r limit maximum : ℕ) → AllPlain (pin_init s r limit maximum)
 unfolding pin_init
 started_plain s r limit maximum =
-    plain_if (not (has_space s maximum)) _ _ tt (plain_if (lacks_capacity s 6) _ _ tt
+    plain_if (not (has_space s maximum)) _ _ tt (plain_if (lacks_capacity s (touched_by_init r)) _ _ tt
     (plain_makes_new {A = Result (Unit {0}) PinRefusal} (value_array s maximum) (λ value. Perform
     (HeapMove (SetPlaces (first_record r limit maximum value))) (Perform (SetFlag r false) (Finish (Ok tt)))) (λ value. (tt, (tt, tt)))))
 

@@ -56,7 +56,7 @@ use Rattle.jc_pin.specs.declared.updating.PinRefusal.{PinRefusal}
 use Rattle.jc_pin.specs.Checking.{pin_check, is_value, comparison}
 use Rattle.jc_pin.specs.Pins.{counter, is_pin, record_of}
 use Rattle.jc_pin.specs.Resetting.{pin_reset}
-use Rattle.jc_pin.specs.PinInit.{pin_init}
+use Rattle.jc_pin.specs.PinInit.{pin_init, touched_by_init}
 use Rattle.jc_pin.specs.Updating.{unless_no_room, changes_of_update, pin_update}
 use Rattle.jc_registry.specs.Aids.{aid_at}
 use Rattle.jc_registry.specs.Registry.{applet_with_aid, instance_of_applet}
@@ -377,7 +377,7 @@ module _ (P : Effect → MemoryState → Type 0) (Q : MemoryState → Type 0) (b
     started_due : (pin limit maximum : ℕ) → IsPinCall method args m pin → AllDue P (pin_init m pin limit maximum) m
     unfolding pin_init
     started_due pin limit maximum is = due_if P m (not (has_space m maximum)) _ _ (λ on. tt)
-        (λ off. due_if P m (lacks_capacity m 6) _ _ (λ on. tt) (λ off. pass.starts pin is limit maximum))
+        (λ off. due_if P m (lacks_capacity m (touched_by_init pin)) _ _ (λ on. tt) (λ off. pass.starts pin is limit maximum))
 
     constructed_due : AllDue P (owner_pin_init args m) m
     unfolding owner_pin_init

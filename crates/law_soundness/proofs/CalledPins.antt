@@ -20,7 +20,7 @@ use Rattle.jc_pin.specs.declared.updating.PinRefusal.{PinRefusal}
 use Rattle.jc_pin.specs.Pins.{record_of}
 use Rattle.jc_pin.specs.Checking.{pin_check, is_value, comparison}
 use Rattle.jc_pin.specs.Resetting.{pin_reset}
-use Rattle.jc_pin.specs.PinInit.{first_record, pin_init, value_array}
+use Rattle.jc_pin.specs.PinInit.{first_record, pin_init, touched_by_init, value_array}
 use Rattle.jc_pin.specs.Updating.{byte_changes, unless_no_room, changes_of_update, pin_update}
 use Rattle.jc_world.specs.declared.native_result.NativeResult.TheVariants.{ReturnVoid}
 use Rattle.jc_world.specs.NativeCalls.{return_value}
@@ -54,7 +54,7 @@ module _ (g : Registers) where
   started_still : (s : MemoryState) (r limit maximum : ℕ) → AllStill g Any (pin_init s r limit maximum)
   unfolding pin_init
   started_still s r limit maximum =
-      still_if g Any (not (has_space s maximum)) _ _ tt (still_if g Any (lacks_capacity s 6) _ _ tt
+      still_if g Any (not (has_space s maximum)) _ _ tt (still_if g Any (lacks_capacity s (touched_by_init r)) _ _ tt
       (still_makes_new g {A = Result (Unit {0}) PinRefusal} Any (value_array s maximum)
       (λ value. Perform (HeapMove (SetPlaces (first_record r limit maximum value))) (Perform (SetFlag r false) (Finish (Ok tt))))
       (λ value. ((tt, (tt, (tt, (tt, (tt, tt))))), (tt, tt)))))
