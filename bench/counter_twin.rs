@@ -1,5 +1,5 @@
 //! The counter applet alone, as plain Rust over the same words and the same journal: no machine, no firewall, no
-//! objects. It takes what `jcard_bench_card` takes for the counter's scripts and prints the same.
+//! objects. It takes what `bench_card` takes for the counter's scripts and prints the same.
 //! Usage: counter_twin SETUP COMMANDS TIMES memory|FILE
 #[path = "card_twin/memory.rs"]
 mod memory;
@@ -11,7 +11,7 @@ use watch::*;
 
 fn process(journal: &mut Journal, command: &[u8]) -> Result<[u8; 2], Break> {
     if command[1] == 0 {
-        journal.open = true;
+        journal.begin(HEAP);
         journal.write_all(&[(STATICS, i16::from(command[2] as i8) as u16)])?;
         match command[3] as i8 {
             1.. => journal.commit()?,
@@ -40,7 +40,7 @@ fn exchange(journal: &mut Journal, command: &[u8]) -> Vec<u8> {
 fn main() {
     let words: Vec<String> = std::env::args().collect();
     let [_, _, commands, times, image] = &words[..] else { std::process::exit(2) };
-    let mut journal = Journal { store: new_store(image), open: false };
+    let mut journal = Journal::new(new_store(image));
     let commands = std::fs::read_to_string(commands).expect("a script");
     let mut watch = Watch::default();
     for _ in 0..times.parse().expect("a number") {

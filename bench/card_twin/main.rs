@@ -313,7 +313,7 @@ impl Card {
             (Native::Selecting, _) => Ok(Some(Cell::Short(self.memory.registers.selecting.into()))),
             (Native::Buffer, _) => Ok(Some(Cell::Reference(BUFFER))),
             (Native::Begin, _) => {
-                self.memory.journal.open = true;
+                self.memory.journal.begin(self.memory.top);
                 Ok(None)
             }
             (Native::Commit, _) => self.memory.journal.commit().map(|()| None),
@@ -444,7 +444,7 @@ fn linked(components: &[Vec<u8>]) -> Package {
 
 fn new_memory(image: &str) -> Memory {
     let mut memory = Memory {
-        journal: Journal { store: new_store(image), open: false },
+        journal: Journal::new(new_store(image)),
         cells: [vec![Cell::Short(0); 2048], vec![Cell::Short(0); 2048]],
         marks: vec![false; 65536],
         used: 0,

@@ -5,9 +5,9 @@ use std::io::{Seek, SeekFrom, Write};
 pub const COUNT: u16 = 5;
 pub const ENTRIES: u16 = 16;
 pub const CAPACITY: u16 = 256;
-pub const HEAP: u16 = 600;
+pub const STATICS: u16 = 800;
+pub const HEAP: u16 = 1000;
 pub const HEADER: u16 = 4;
-pub const STATICS: u16 = 65000;
 
 /// Why code does not go on.
 pub enum Break {
@@ -64,18 +64,71 @@ pub fn new_store(image: &str) -> Store {
 pub struct Journal {
     pub store: Store,
     pub open: bool,
+    /// Where the words begin that are born in the open transaction.
+    born: u16,
+    /// The numbers of the entries that count, in the order of the addresses that they name.
+    index: Vec<u16>,
 }
 
 impl Journal {
-    pub fn log_and_write(&mut self, changes: &[(u16, u16)]) -> Result<(), Break> {
+    pub fn new(store: Store) -> Journal {
+        Journal { store, open: false, born: 0, index: Vec::with_capacity(CAPACITY.into()) }
+    }
+
+    /// Begins a transaction, with the heap's top.
+    pub fn begin(&mut self, top: u16) {
+        self.open = true;
+        self.born = top;
+        self.index.clear();
+    }
+
+    /// Where in the index the entry stands that names the address, or where one would belong.
+    fn find(&self, at: u16) -> Result<usize, usize> {
+        self.index.binary_search_by_key(&at, |number| self.store.read(ENTRIES + 2 * number))
+    }
+
+    fn goes_back(&self, at: u16) -> bool {
+        at >= self.born || self.find(at).is_ok()
+    }
+
+    /// Puts entries for the words whose old values have to be kept, counts them, and then writes the words.
+    fn keep_and_write(&mut self, changes: &[(u16, u16)]) -> Result<(), Break> {
         let first = self.store.read(COUNT);
+        let needed = changes.iter().filter(|(at, _)| !self.goes_back(*at)).count();
+        if needed > (CAPACITY - first).into() {
+            return Err(Break::Throw(TRANSACTION_EXCEPTION, 3));
+        }
+        let mut count = first;
+        for (at, _) in changes {
+            if *at >= self.born {
+                continue;
+            }
+            if let Err(place) = self.find(*at) {
+                let slot = ENTRIES + 2 * count;
+                let old = self.store.read(*at);
+                self.store.write(slot, *at)?;
+                self.store.write(slot + 1, old)?;
+                self.index.insert(place, count);
+                count += 1;
+            }
+        }
+        if count != first {
+            self.store.write(COUNT, count)?;
+        }
+        for (at, word) in changes {
+            self.store.write(*at, *word)?;
+        }
+        Ok(())
+    }
+
+    fn log_and_write(&mut self, changes: &[(u16, u16)]) -> Result<(), Break> {
         for (k, (at, _)) in changes.iter().enumerate() {
-            let slot = ENTRIES + 2 * (first + k as u16);
+            let slot = ENTRIES + 2 * k as u16;
             let old = self.store.read(*at);
             self.store.write(slot, *at)?;
             self.store.write(slot + 1, old)?;
         }
-        self.store.write(COUNT, first + changes.len() as u16)?;
+        self.store.write(COUNT, changes.len() as u16)?;
         for (at, word) in changes {
             self.store.write(*at, *word)?;
         }
@@ -83,16 +136,18 @@ impl Journal {
     }
 
     pub fn write_all(&mut self, changes: &[(u16, u16)]) -> Result<(), Break> {
-        let room = CAPACITY - if self.open { self.store.read(COUNT) } else { 0 };
-        if changes.len() > room.into() {
+        if self.open {
+            return self.keep_and_write(changes);
+        }
+        if changes.len() > CAPACITY.into() {
             return Err(Break::Throw(TRANSACTION_EXCEPTION, 3));
         }
         match changes {
             [] => Ok(()),
-            [(at, word)] if !self.open => self.store.write(*at, *word),
+            [(at, word)] => self.store.write(*at, *word),
             _ => {
                 self.log_and_write(changes)?;
-                if self.open { Ok(()) } else { self.store.write(COUNT, 0) }
+                self.store.write(COUNT, 0)
             }
         }
     }
