@@ -1,16 +1,17 @@
 -- A record behind a whole table.
 use Rattle.std.proofs.Common.{◌≡◌, ℕ, zero, suc, ◌+◌, ◌/◌, ◌<◌, ◌≤◌, false, List, [], ◌∷◌, ◌++◌, length, take, drop, set, get_or, map, refl, sym, ◌∙◌, ap}
 use Rattle.std.proofs.Common.{arith, lit<, if◌then◌else◌}
-use Rattle.std.proofs.lemmas.List.{get_or_append_left, get_or-set_other, get_or-set_same, get_or-take, take-set-le, drop-set-lt, drop-append-le, take-append-le}
+use Rattle.std.proofs.lemmas.List.{get_or_append_left, get_or-set_other, get_or-set_same, get_or-take, drop-set-lt, drop-append-le, take-append-le}
 use Rattle.std.proofs.lemmas.List.{length-drop, length-set, length-append, take_all, map-append, set-append_left, length-take-le, take-take}
-use Rattle.jc_words.specs.Layout.{top_address, packages_address, applets_address, reset_end_address, deselect_end_address, text_length_address, addresses_start}
-use Rattle.jc_words.specs.Layout.{most_packages, registry_start, registry_length, text_start}
+use Rattle.jc_words.specs.Layout.{magic_address, size_address, top_address, packages_address, applets_address, reset_end_address, deselect_end_address}
+use Rattle.jc_words.specs.Layout.{text_length_address, addresses_start, most_packages, registry_start, registry_length, text_start}
+use Rattle.jc_commit.specs.Image.{capacity_of}
 use Rattle.jc_heap.specs.Cut.{Sizes, records_from, missing_words}
 use Rattle.jc_heap.specs.Object.{Item, AnObject, APackage, object_of, payload}
 use Rattle.jc_heap.specs.Image.{image, base, package_addresses, is_package, sizes, item, item_entry, records, missing_words_of_image, table_text, IsWellFormed}
-use Rattle.jc_heap.specs.Heap.{HeapState, read_image, heap_of, add_object}
+use Rattle.jc_heap.specs.Heap.{HeapState, head_of, read_image, heap_of, add_object}
 use Rattle.jc_heap.proofs.Records.{records_from-append, missing_words-append, take-set_comm}
-use Rattle.jc_heap.proofs.Images.{sizes_tell, text-same}
+use Rattle.jc_heap.proofs.Images.{sizes_tell, head-same, text-same}
 
 -- one thing more, behind the others
 abbrev pub add_item : HeapState → Item → ℕ → HeapState
@@ -107,8 +108,8 @@ module _ (img rec : List ℕ) (long : text_start ≤ length img) where
         let first_end : get_or grown reset_end_address 0 ≡ get_or img reset_end_address 0 = word-grown reset_end_address (lit< tt) (λ e. omega arith) in
         let second_end : get_or grown deselect_end_address 0 ≡ get_or img deselect_end_address 0 =
         word-grown deselect_end_address (lit< tt) (λ e. omega arith) in
-        let head : take 3 grown ≡ take 3 img = take-append-le 3 (set img top_address top) rec (omega (arith, length-set img top_address top))
-        ∙ take-set-le 3 img top_address top (omega arith) in
+        let head : head_of grown ≡ head_of img = head-same img grown (word-grown magic_address (lit< tt) (λ e. omega arith))
+        (word-grown size_address (lit< tt) (λ e. omega arith)) in
         let text : table_text grown ≡ table_text img = text-same img grown (word-grown text_length_address (lit< tt) (λ e. omega arith))
         (range-grown text_start ((get_or img text_length_address 0 + 1) / 2) (lit< tt) (omega (arith, based))) in
         let first_count : get_or grown packages_address 0 ≡ get_or img packages_address 0 = word-grown packages_address (lit< tt) (λ e. omega arith) in
@@ -122,6 +123,7 @@ module _ (img rec : List ℕ) (long : text_start ≤ length img) where
           applets = applets k;
           area_ends = (first_end k, second_end k);
           top = top_is k;
+          capacity = capacity_of img;
         }
 
 -- words whose top moves over a record that stands there

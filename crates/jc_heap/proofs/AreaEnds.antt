@@ -1,14 +1,15 @@
 -- The ends of the areas of transient cells.
 use Rattle.std.proofs.Common.{◌≡◌, ℕ, ◌+◌, ◌/◌, ◌<◌, ◌≤◌, List, length, take, drop, set, get_or, map, refl, ◌∙◌, ap, arith, lit<}
-use Rattle.std.proofs.lemmas.List.{get_or-set_other, get_or-set_same, get_or-take, take-set-le, drop-set-lt, length-set, length-take-le}
+use Rattle.std.proofs.lemmas.List.{get_or-set_other, get_or-set_same, get_or-take, drop-set-lt, length-set, length-take-le}
 use Rattle.jc_words.specs.Layout.{top_address, packages_address, applets_address, reset_end_address, deselect_end_address, text_length_address, addresses_start}
 use Rattle.jc_words.specs.Layout.{registry_start, registry_length, text_start}
+use Rattle.jc_commit.specs.Image.{capacity_of}
 use Rattle.jc_transient.specs.declared.cell.ClearEvent.{ClearEvent}
 use Rattle.jc_transient.specs.declared.cell.ClearEvent.TheVariants.{Reset, Deselect}
 use Rattle.jc_heap.specs.Cut.{records_from, missing_words}
 use Rattle.jc_heap.specs.Image.{image, base, package_addresses, is_package, sizes, item_entry, records, missing_words_of_image, table_text, IsWellFormed}
-use Rattle.jc_heap.specs.Heap.{HeapState, read_image, heap_of, area_end, with_area_end, area_end_address, SameShape, heap_item_at, is_allocated}
-use Rattle.jc_heap.proofs.Images.{image-set, text-same}
+use Rattle.jc_heap.specs.Heap.{HeapState, head_of, read_image, heap_of, area_end, with_area_end, area_end_address, SameShape, heap_item_at, is_allocated}
+use Rattle.jc_heap.proofs.Images.{image-set, head-set, text-same}
 
 -- an image with another end of an area
 module _ (img : List ℕ) (a v : ℕ) (wide : text_start ≤ length img) (low : packages_address < a) (high : a < text_length_address) where
@@ -43,8 +44,8 @@ module _ (img : List ℕ) (a v : ℕ) (wide : text_start ≤ length img) (low : 
   pub applets-end : take registry_length (drop registry_start (set img a v)) ≡ take registry_length (drop registry_start img)
   applets-end = ap (take registry_length) (tail registry_start (omega arith))
 
-  pub head-end : take 3 (set img a v) ≡ take 3 img
-  head-end = take-set-le 3 img a v (omega arith)
+  pub head-end : head_of (set img a v) ≡ head_of img
+  head-end = head-set img a v (omega arith)
 
   pub text-end : table_text (set img a v) ≡ table_text img
   text-end = text-same img (set img a v) (word text_length_address (λ e. omega arith))
@@ -75,6 +76,7 @@ read-end img Reset v wide = λ k. record {
         (λ e. omega arith) k,
   );
   top = length-set img reset_end_address v k;
+  capacity = capacity_of img;
 }
 read-end img Deselect v wide = λ k. record {
   head = head-end img deselect_end_address v wide (lit< tt) (lit< tt) k;
@@ -91,6 +93,7 @@ read-end img Deselect v wide = λ k. record {
     own-end img deselect_end_address v wide (lit< tt) (lit< tt) k,
   );
   top = length-set img deselect_end_address v k;
+  capacity = capacity_of img;
 }
 
 -- an image with another number of applets
@@ -112,6 +115,7 @@ read-applets img v wide = λ k. record {
     other-end img applets_address v wide (lit< tt) (lit< tt) deselect_end_address (λ e. omega arith) k,
   );
   top = length-set img applets_address v k;
+  capacity = capacity_of img;
 }
 
 -- one of these words set leaves the words laid

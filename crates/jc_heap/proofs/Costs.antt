@@ -3,7 +3,6 @@ use Rattle.std.proofs.Common.{◌≡◌, ℕ, zero, suc, ◌+◌, ◌<◌, Bool,
 use Rattle.std.proofs.Common.{◌∙◌, ap, arith, add-one, nat_le}
 use Rattle.std.specs.Prelude.{if◌then◌else◌}
 use Rattle.std.proofs.lemmas.Bool.Decides.{nat_tests}
-use Rattle.jc_commit.specs.Image.{capacity}
 use Rattle.jc_commit.specs.Keeping.{Keeping, goes_back as journal_goes_back, unlogged_addresses, has_room_for as journal_room}
 use Rattle.jc_commit.specs.State.{State, keeping as journal_keeping}
 use Rattle.jc_heap.specs.declared.place.Place.{Place}
@@ -59,18 +58,18 @@ pub cost_outside : (v : HeapView) (words : List ℕ) → v.begun ≡ false → u
 unfolding unlogged_addresses
 cost_outside v words e = ap (λ (b : Bool). if b then staying v words else []) e
 
-pub fits_inside : (v : HeapView) (words : List ℕ) (room cost : ℕ) → v.begun ≡ true → room + length v.touched ≡ capacity → cost
+pub fits_inside : (v : HeapView) (words : List ℕ) (room cost : ℕ) → v.begun ≡ true → room + length v.touched ≡ v.durable.capacity → cost
     ≡ length (unlogged_places v words)
     → nat_le cost room ≡ has_room_for v words
 unfolding journal_room
 fits_inside v words room cost e left is =
-    same_test cost room (length v.touched) left ∙ ap (λ (n : ℕ). nat_le (length v.touched + n) capacity) is
-    ∙ sym (ap (λ (b : Bool). if b then nat_le (length v.touched + length (unlogged_places v words)) capacity else nat_le (length words) capacity) e)
+    same_test cost room (length v.touched) left ∙ ap (λ (n : ℕ). nat_le (length v.touched + n) v.durable.capacity) is
+    ∙ sym (ap (λ (b : Bool). if b then nat_le (length v.touched + length (unlogged_places v words)) v.durable.capacity else nat_le (length words) v.durable.capacity) e)
   where
-    same_test : (c r t : ℕ) → r + t ≡ capacity → nat_le c r ≡ nat_le (t + c) capacity
+    same_test : (c r t : ℕ) → r + t ≡ v.durable.capacity → nat_le c r ≡ nat_le (t + c) v.durable.capacity
     same_test c r t sum = grind (arith, nat_tests)
 
-pub fits_outside : (v : HeapView) (words : List ℕ) → v.begun ≡ false → nat_le (length words) capacity ≡ has_room_for v words
+pub fits_outside : (v : HeapView) (words : List ℕ) → v.begun ≡ false → nat_le (length words) v.durable.capacity ≡ has_room_for v words
 unfolding journal_room
 fits_outside v words e =
-    sym (ap (λ (b : Bool). if b then nat_le (length v.touched + length (unlogged_places v words)) capacity else nat_le (length words) capacity) e)
+    sym (ap (λ (b : Bool). if b then nat_le (length v.touched + length (unlogged_places v words)) v.durable.capacity else nat_le (length words) v.durable.capacity) e)

@@ -5,7 +5,7 @@ use Rattle.jc_commit.specs.State.{State}
 use Rattle.jc_heap.specs.Image.{IsWellFormed}
 use Rattle.jc_heap.specs.Heap.{heap_of, heap_view}
 use Rattle.jc_heap.specs.Stored.{HoldsHeap}
-use Rattle.jc_heap.proofs.RawWords.{recovered-front, head_is}
+use Rattle.jc_heap.proofs.RawWords.{recovered-head, head_is}
 
 -- a store with these words is that of a journal
 pub record IsStoreOf (w : List ℕ) (is_down : Bool) (let_pass turned_down : ℕ) (j : State) : Type 0 where
@@ -27,7 +27,7 @@ holds w is_down let_pass turned_down j n s back long =
       laid = laid;
       now = ap heap_of s.plain;
       durable = ap heap_of s.recovered;
-      head = sym (recovered-front w s.good) ∙ sym (head_is (recovered_of w) laid) ∙ ap (λ l. (heap_of l).head) s.recovered;
+      head = sym (recovered-head w s.good) ∙ sym (head_is (recovered_of w) laid) ∙ ap (λ l. (heap_of l).head) s.recovered;
       size = s.size ∙ long;
       down = s.down;
       passed = s.passed;

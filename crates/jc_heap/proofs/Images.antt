@@ -4,14 +4,15 @@ use Rattle.std.proofs.Common.{◌∙◌, ap, subst, arith, if◌then◌else◌, 
 use Rattle.std.proofs.lemmas.List.{get_or_append_left, get_or-set_other, get_or-take, get_or-drop, drop-set-add, take-set-le, length-drop, length-take}
 use Rattle.std.proofs.lemmas.List.{length-set}
 use Rattle.std.proofs.lemmas.Bool.{cases_Bool}
-use Rattle.jc_words.specs.Layout.{top_address, packages_address, applets_address, reset_end_address, deselect_end_address, text_length_address, addresses_start}
-use Rattle.jc_words.specs.Layout.{most_packages, registry_start, registry_length, text_start}
+use Rattle.jc_words.specs.Layout.{magic_address, size_address, top_address, packages_address, applets_address, reset_end_address, deselect_end_address}
+use Rattle.jc_words.specs.Layout.{text_length_address, addresses_start, most_packages, registry_start, registry_length, text_start}
+use Rattle.jc_commit.specs.Image.{capacity_of}
 use Rattle.jc_heap.specs.Cut.{Sizes, records_from, missing_words}
 use Rattle.jc_heap.specs.Table.{entry_or, has_entry, with_entry}
 use Rattle.jc_heap.specs.Object.{AnObject, APackage, object_of, cells_of, with_cell, payload}
 use Rattle.jc_heap.specs.Image.{image, base, package_addresses, is_package, sizes, item, item_entry, records, missing_words_of_image, table_text}
 use Rattle.jc_heap.specs.Image.{bytes_of_packed, IsWellFormed}
-use Rattle.jc_heap.specs.Heap.{read_image, heap_of, heap_item_at, cells, set_cell}
+use Rattle.jc_heap.specs.Heap.{head_of, read_image, heap_of, heap_item_at, cells, set_cell}
 use Rattle.jc_heap.proofs.Records.{Tells, records_from-set, named_behind, entry_or-records_from, missing_words-set, take-set_comm}
 use Rattle.jc_heap.proofs.Tables.{map-put, at_or-map, at_or-map_absent}
 
@@ -66,6 +67,13 @@ range_front ws from n a v h =
 
 pub package_addresses-set : (ws : List ℕ) (a v : ℕ) → registry_start ≤ a → package_addresses (set ws a v) ≡ package_addresses ws
 package_addresses-set ws a v h = rw (get_or_front ws a packages_address v (omega arith), range_front ws addresses_start most_packages a v h) refl
+
+-- the head hangs on its two words alone
+pub head-same : (a b : List ℕ) → get_or b magic_address 0 ≡ get_or a magic_address 0 → get_or b size_address 0 ≡ get_or a size_address 0 → head_of b ≡ head_of a
+head-same a b first second k = (first k, second k)
+
+pub head-set : (ws : List ℕ) (a v : ℕ) → size_address < a → head_of (set ws a v) ≡ head_of ws
+head-set ws a v h = head-same ws (set ws a v) (get_or_front ws a magic_address v (omega (arith, h))) (get_or_front ws a size_address v h)
 
 -- the table text hangs on its length and its words alone
 pub text-same : (a b : List ℕ) → get_or b text_length_address 0 ≡ get_or a text_length_address 0
@@ -166,7 +174,7 @@ module _ (img : List ℕ) (r i v : ℕ) where
         let second_end : get_or (set img (r + (4 + i)) v) deselect_end_address 0 ≡ get_or img deselect_end_address 0 =
         get_or_front img (r + (4 + i)) deselect_end_address v (omega arith) in
         let top : length (set img (r + (4 + i)) v) ≡ length img = length-set img (r + (4 + i)) v in
-        let head : take 3 (set img (r + (4 + i)) v) ≡ take 3 img = take-set-le 3 img (r + (4 + i)) v (omega (arith, registry)) in
+        let head : head_of (set img (r + (4 + i)) v) ≡ head_of img = head-set img (r + (4 + i)) v (omega (arith, registry)) in
         let text : table_text (set img (r + (4 + i)) v) ≡ table_text img =
         text-same img (set img (r + (4 + i)) v) (get_or_front img (r + (4 + i)) text_length_address v (omega (arith, registry)))
         (range_front img text_start ((get_or img text_length_address 0 + 1) / 2) (r + (4 + i)) v (omega (arith, cell_behind))) in
@@ -183,6 +191,7 @@ module _ (img : List ℕ) (r i v : ℕ) where
           applets = applets k;
           area_ends = (first_end k, second_end k);
           top = top k;
+          capacity = capacity_of img;
         }
 
 -- an image's own cell, in all the words

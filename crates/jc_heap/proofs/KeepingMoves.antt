@@ -10,6 +10,7 @@ use Rattle.jc_heap.specs.Object.{is_object, new_transient, transient_size}
 use Rattle.jc_heap.specs.Heap.{HeapState, HeapView, SameShape, heap_item_at, is_allocated, area_end, with_area_end, set_cell, set_cells, add_object}
 use Rattle.jc_heap.specs.Heap.{add_transient, HasEnd, heap_after_change, goes_back}
 use Rattle.jc_heap.specs.Packages.{add_package}
+use Rattle.jc_heap.specs.Statics.{set_word}
 use Rattle.jc_heap.specs.Places.{place_word, set_place, set_places}
 use Rattle.jc_heap.specs.Moves.{Move, Write, SetPlaces, WriteNonAtomic, SetCells, AddObject, AddTransient, AddPackage, Begin, Commit, Abort, apply_move}
 use Rattle.jc_heap.specs.Moves.{apply_moves, TornMovesLeave}
@@ -61,6 +62,13 @@ top-place h (Cell r i) x = top-set_cell h r i x
 top-place h (Static r j) x = top_after-set_word h r j x
 top-place h (Registry i) x = refl
 top-place h AppletCount x = refl
+
+pub capacity-place : (h : HeapState) (p : Place) (x : ℕ) → (set_place h p x).capacity ≡ h.capacity
+unfolding set_cell set_word
+capacity-place h (Cell r i) x = refl
+capacity-place h (Static r j) x = refl
+capacity-place h (Registry i) x = refl
+capacity-place h AppletCount x = refl
 
 -- places set, one after another: what may stand in one before the others are set may stand there afterwards
 reference_stays : (h : HeapState) (p : Place) (x v : ℕ) → IsReference h v → IsReference (set_place h p x) v

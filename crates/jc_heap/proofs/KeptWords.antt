@@ -2,24 +2,24 @@
 use Rattle.std.proofs.Common.{◌≡◌, ℕ, Bool, true, false, List, [], ◌++◌, refl, sym, ◌∙◌, ap, inl, inr, max, Contains, if◌then◌else◌}
 use Rattle.std.proofs.lemmas.Bool.{cases_Bool, false≢true}
 use Rattle.jc_words.specs.Layout.{addresses_start}
-use Rattle.jc_commit.specs.Image.{capacity}
 use Rattle.jc_commit.specs.Keeping.{Keeping, unlogged_addresses, with_kept, goes_back as journal_goes_back}
 use Rattle.jc_commit.proofs.WhatIsKept.{keeps_old_values}
 use Rattle.jc_heap.specs.declared.place.Place.{Place}
 use Rattle.jc_heap.specs.Heap.{HeapState, HeapView, keeping, goes_back, heap_after_change}
 use Rattle.jc_heap.specs.Places.{place_word, set_place, write_nonatomic}
-use Rattle.jc_heap.proofs.KeepingMoves.{top-place}
+use Rattle.jc_heap.proofs.KeepingMoves.{top-place, capacity-place}
 
 pub outside_none_goes_back : (v : HeapView) (a : ℕ) → v.begun ≡ false → goes_back v a ≡ false
 outside_none_goes_back v a shut = (keeps_old_values.outside (keeping v) [] shut).1 a
 
-abbrev keeping_with : HeapView → List ℕ → ℕ → Keeping
-keeping_with v touched top = record { begun = v.begun; born = max addresses_start top; touched = touched; capacity = capacity }
+abbrev keeping_with : HeapView → List ℕ → ℕ → ℕ → Keeping
+keeping_with v touched top capacity = record { begun = v.begun; born = max addresses_start top; touched = touched; capacity = capacity }
 
 keeping_changed : (v : HeapView) (h : HeapState) (places : List ℕ) (fresh : ℕ) → v.begun ≡ true
     → keeping (heap_after_change v h places fresh) ≡ with_kept (keeping v) places
 keeping_changed v h places fresh begun =
-    ap (λ (b : Bool). keeping_with v (v.touched ++ unlogged_addresses (keeping v) places) (if b then v.durable else h).top) begun
+    ap (λ (b : Bool). keeping_with v (v.touched ++ unlogged_addresses (keeping v) places) (if b then v.durable else h).top
+    (if b then v.durable else h).capacity) begun
 
 -- what goes back goes on going back
 pub goes_back_later : (v : HeapView) (h : HeapState) (places : List ℕ) (fresh a : ℕ) → goes_back v a ≡ true
@@ -37,11 +37,15 @@ goes_back_now v h places fresh a begun there =
 
 -- a place set for good changes nothing of it
 pub keeping_counted : (v : HeapView) (p : Place) (x : ℕ) → keeping (write_nonatomic v p x) ≡ keeping v
-keeping_counted v p x = ap (keeping_with v v.touched) (top_left (goes_back v (place_word p)))
+keeping_counted v p x = λ i. keeping_with v v.touched (top_left (goes_back v (place_word p)) i) (capacity_left (goes_back v (place_word p)) i)
   where
     top_left : (b : Bool) → (if b then v.durable else set_place v.durable p x).top ≡ v.durable.top
     top_left true = refl
     top_left false = top-place v.durable p x
+
+    capacity_left : (b : Bool) → (if b then v.durable else set_place v.durable p x).capacity ≡ v.durable.capacity
+    capacity_left true = refl
+    capacity_left false = capacity-place v.durable p x
 
 pub goes_back_counted : (v : HeapView) (p : Place) (x a : ℕ) → goes_back v a ≡ true → goes_back (write_nonatomic v p x) a ≡ true
 goes_back_counted v p x a back = ap (λ (k : Keeping). journal_goes_back k a) (keeping_counted v p x) ∙ back

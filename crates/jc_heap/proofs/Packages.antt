@@ -4,13 +4,14 @@ use Rattle.std.proofs.Common.{slice_index, if◌then◌else◌, ◌==◌, lit<, 
 use Rattle.std.proofs.lemmas.List.{get_or-set_other, get_or-set_same, drop-set-lt, drop-set-add, take-set-le, length-drop, length-take, length-set}
 use Rattle.std.proofs.lemmas.List.{take_more_set}
 use Rattle.std.proofs.lemmas.Bool.{ne_eqb}
-use Rattle.jc_words.specs.Layout.{packages_address, applets_address, reset_end_address, deselect_end_address, text_length_address, addresses_start}
-use Rattle.jc_words.specs.Layout.{most_packages, registry_start, registry_length, text_start}
+use Rattle.jc_words.specs.Layout.{magic_address, size_address, packages_address, applets_address, reset_end_address, deselect_end_address}
+use Rattle.jc_words.specs.Layout.{text_length_address, addresses_start, most_packages, registry_start, registry_length, text_start}
+use Rattle.jc_commit.specs.Image.{capacity_of}
 use Rattle.jc_heap.specs.Cut.{Sizes, records_from, missing_words}
 use Rattle.jc_heap.specs.Object.{AnObject, APackage, object_of, payload}
 use Rattle.jc_heap.specs.Image.{table_text, base, package_addresses, is_package, sizes, item, item_entry, records, missing_words_of_image}
-use Rattle.jc_heap.specs.Heap.{read_image}
-use Rattle.jc_heap.proofs.Images.{text-same}
+use Rattle.jc_heap.specs.Heap.{head_of, read_image}
+use Rattle.jc_heap.proofs.Images.{head-same, head-set, text-same}
 use Rattle.jc_heap.proofs.Records.{take-set_comm, records_from-same_sizes, missing_words-same_sizes}
 
 -- one package more is another answer at its own address alone
@@ -107,8 +108,8 @@ module _ (img : List ℕ) (wide : text_start ≤ length img) (few : get_or img p
       ap (take registry_length) (tail-named registry_start (lit≤ tt)) in
       let first_end : get_or named reset_end_address 0 ≡ get_or img reset_end_address 0 = word-named reset_end_address (lit< tt) (λ e. omega arith) in
       let second_end : get_or named deselect_end_address 0 ≡ get_or img deselect_end_address 0 = word-named deselect_end_address (lit< tt) (λ e. omega arith) in
-      let head : take 3 named ≡ take 3 img = take-set-le 3 (set img (addresses_start + n) (length img)) packages_address (n + 1) (lit≤ tt)
-      ∙ take-set-le 3 img (addresses_start + n) (length img) (omega arith) in
+      let head : head_of named ≡ head_of img = head-same img named (word-named magic_address (lit< tt) (λ e. omega arith))
+      (word-named size_address (lit< tt) (λ e. omega arith)) in
       let text : table_text named ≡ table_text img = text-same img named (word-named text_length_address (lit< tt) (λ e. omega arith))
       (ap (take ((get_or img text_length_address 0 + 1) / 2)) (tail-named text_start (lit≤ tt))) in
       let second_count : get_or named applets_address 0 ≡ get_or img applets_address 0 = word-named applets_address (lit< tt) (λ e. omega arith) in
@@ -121,6 +122,7 @@ module _ (img : List ℕ) (wide : text_start ≤ length img) (few : get_or img p
         applets = applets k;
         area_ends = (first_end k, second_end k);
         top = length-named k;
+        capacity = capacity_of img;
       }
 
 pub read-applet : (img : List ℕ) (a v : ℕ) → text_start ≤ length img → a < registry_length
@@ -148,7 +150,7 @@ read-applet img a v wide h =
     let first_end : get_or (set img (registry_start + a) v) reset_end_address 0 ≡ get_or img reset_end_address 0 = word reset_end_address (lit< tt) in
     let second_end : get_or (set img (registry_start + a) v) deselect_end_address 0 ≡ get_or img deselect_end_address 0 = word deselect_end_address (lit< tt) in
     let top : length (set img (registry_start + a) v) ≡ length img = length-set img (registry_start + a) v in
-    let head : take 3 (set img (registry_start + a) v) ≡ take 3 img = take-set-le 3 img (registry_start + a) v (omega arith) in
+    let head : head_of (set img (registry_start + a) v) ≡ head_of img = head-set img (registry_start + a) v (omega arith) in
     let text : table_text (set img (registry_start + a) v) ≡ table_text img = text-same img (set img (registry_start + a) v)
     (word text_length_address (lit< tt)) (ap (take ((get_or img text_length_address 0 + 1) / 2))
     (drop-set-lt text_start img (registry_start + a) v (omega arith))) in
@@ -163,4 +165,5 @@ read-applet img a v wide h =
       applets = applets k;
       area_ends = (first_end k, second_end k);
       top = top k;
+      capacity = capacity_of img;
     }

@@ -1,16 +1,16 @@
--- The words of a store under a heap: the first three stand for themselves.
+-- The words of a store under a heap: the magic word and the number of words stand for themselves.
 use Rattle.std.proofs.Common.{◌≡◌, ℕ, zero, suc, ◌+◌, ◌-◌, ◌/◌, ◌<◌, ◌≤◌, true, false, List, length, take, drop, get_or, None, unwrap_or, refl, sym, ◌∙◌, ap}
-use Rattle.std.proofs.Common.{arith, if◌then◌else◌}
-use Rattle.std.proofs.lemmas.List.{ext_get_or, get_or-take, length-take, take-take, drop-take}
+use Rattle.std.proofs.Common.{arith, if◌then◌else◌, lit<}
+use Rattle.std.proofs.lemmas.List.{get_or-take, take-take, drop-take}
 use Rattle.std.proofs.lemmas.List.FromFn.{get_or-map-range_with_len}
 use Rattle.std.proofs.lemmas.Bool.{ne_eqb}
-use Rattle.jc_words.specs.Layout.{top_address, text_length_address, text_start}
-use Rattle.jc_commit.specs.Image.{address_at, entries, entries_from, old_value, is_log, plain_of, recovered_of, words_by, IsGoodLog, IsReadable}
+use Rattle.jc_words.specs.Layout.{log_end, magic_address, size_address, top_address, text_length_address, text_start}
+use Rattle.jc_commit.specs.Image.{address_at, capacity_of, entries, entries_from, old_value, is_log, plain_of, recovered_of, words_by, IsGoodLog, IsReadable}
 use Rattle.jc_commit.proofs.Words.{get_or-words_by, is_log-readable}
-use Rattle.jc_commit.proofs.InPlace.{length-plain, length-recovered, plain_word}
+use Rattle.jc_commit.proofs.InPlace.{plain_word}
 use Rattle.jc_heap.specs.Image.{image, table_text, IsWellFormed}
-use Rattle.jc_heap.specs.Heap.{read_image, heap_of}
-use Rattle.jc_heap.proofs.Images.{text-same}
+use Rattle.jc_heap.specs.Heap.{head_of, read_image, heap_of}
+use Rattle.jc_heap.proofs.Images.{head-same, text-same}
 
 -- a word that is 0 counts as 0, whether it is the journal's or not
 pub plain_zero : (w : List ℕ) (a : ℕ) → a < length w → get_or w a 0 ≡ 0 → get_or (plain_of w) a 0 ≡ 0
@@ -33,26 +33,31 @@ recovered-front_word w a good h below =
     get_or-words_by (length w) (λ b. unwrap_or (old_value (entries w) b) (get_or w b 0)) a below (is_log-readable (length w) a (front (length w) a h below))
     ∙ ap (λ o. unwrap_or o (get_or w a 0)) (no_old w 0 (get_or w 3 0) a (λ j lt e. omega (arith, (good.places j (omega arith)).above, e)))
 
-pub plain-front : (w : List ℕ) → take 3 (plain_of w) ≡ take 3 w
-plain-front w =
-    let same : length (take 3 (plain_of w)) ≡ length (take 3 w) = omega (arith, length-take 3 (plain_of w), length-take 3 w, length-plain w) in
-    ext_get_or 0 (take 3 (plain_of w)) (take 3 w) same
-    (λ i h. let near : i < 3 = omega (arith, h, length-take 3 (plain_of w)) in
-    let below : i < length w = omega (arith, h, length-take 3 (plain_of w), length-plain w) in
-    get_or-take 3 (plain_of w) i 0 near ∙ plain_word w i (front (length w) i near below) ∙ sym (get_or-take 3 w i 0 near))
+pub plain-head : (w : List ℕ) → log_end ≤ length w → head_of (plain_of w) ≡ head_of w
+plain-head w size =
+    head-same w (plain_of w)
+    (plain_word w magic_address (front (length w) magic_address (lit< tt) (omega (arith, size))))
+    (plain_word w size_address (front (length w) size_address (lit< tt) (omega (arith, size))))
 
-pub recovered-front : (w : List ℕ) → IsGoodLog w → take 3 (recovered_of w) ≡ take 3 w
-recovered-front w good =
-    let same : length (take 3 (recovered_of w)) ≡ length (take 3 w) = omega (arith, length-take 3 (recovered_of w), length-take 3 w, length-recovered w) in
-    ext_get_or 0 (take 3 (recovered_of w)) (take 3 w) same
-    (λ i h. let near : i < 3 = omega (arith, h, length-take 3 (recovered_of w)) in
-    let below : i < length w = omega (arith, h, length-take 3 (recovered_of w), length-recovered w) in
-    get_or-take 3 (recovered_of w) i 0 near ∙ recovered-front_word w i good near below ∙ sym (get_or-take 3 w i 0 near))
+pub recovered-head : (w : List ℕ) → IsGoodLog w → head_of (recovered_of w) ≡ head_of w
+recovered-head w good =
+    let size = good.size in
+    head-same w (recovered_of w)
+    (recovered-front_word w magic_address good (lit< tt) (omega (arith, size)))
+    (recovered-front_word w size_address good (lit< tt) (omega (arith, size)))
 
--- the heap's head is the first three words
-pub head_is : (ws : List ℕ) → IsWellFormed ws → (heap_of ws).head ≡ take 3 ws
+-- the heap's head is that of its words
+pub head_is : (ws : List ℕ) → IsWellFormed ws → (heap_of ws).head ≡ head_of ws
 unfolding read_image
-head_is ws laid = take-take 3 (get_or ws top_address 0) ws (omega (arith, laid.based))
+head_is ws laid =
+    head-same ws (image ws)
+    (get_or-take (get_or ws top_address 0) ws magic_address 0 (omega (arith, laid.based)))
+    (get_or-take (get_or ws top_address 0) ws size_address 0 (omega (arith, laid.based)))
+
+-- and it can keep as many old values as they say
+pub capacity_is : (ws : List ℕ) → (heap_of ws).capacity ≡ capacity_of ws
+unfolding read_image
+capacity_is ws = refl
 
 -- and its text the table text
 pub text_is : (ws : List ℕ) → IsWellFormed ws → (heap_of ws).text ≡ table_text ws

@@ -1,20 +1,21 @@
 -- A word of a package's record changed, in all the words.
 use Rattle.std.proofs.Common.{◌≡◌, ℕ, ◌+◌, ◌-◌, ◌/◌, ◌<◌, ◌≤◌, false, inl, inr, List, [], length, take, drop, set, get_or, map, replicate, refl, sym, ◌∙◌, ap}
 use Rattle.std.proofs.Common.{subst, arith, if◌then◌else◌}
-use Rattle.std.proofs.lemmas.List.{drop-set-add, take-set-le, length-set, length-replicate}
+use Rattle.std.proofs.lemmas.List.{drop-set-add, length-set, length-replicate}
 use Rattle.std.proofs.lemmas.Bool.{cases_Bool, cases_eq}
 use Rattle.jc_words.specs.Layout.{top_address, packages_address, applets_address, reset_end_address, deselect_end_address, text_length_address, registry_start}
 use Rattle.jc_words.specs.Layout.{registry_length, text_start}
+use Rattle.jc_commit.specs.Image.{capacity_of}
 use Rattle.jc_heap.specs.Cut.{Sizes, records_from, missing_words}
 use Rattle.jc_heap.specs.Table.{entry_or, with_entry}
 use Rattle.jc_heap.specs.Object.{Item, AnObject, APackage, object_of, header_only}
 use Rattle.jc_heap.specs.Image.{image, base, package_addresses, is_package, sizes, item, item_entry, records, missing_words_of_image, table_text, IsWellFormed}
-use Rattle.jc_heap.specs.Heap.{HeapState, heap_of, read_image, heap_item_at, is_allocated, SameShape}
+use Rattle.jc_heap.specs.Heap.{HeapState, head_of, heap_of, read_image, heap_item_at, is_allocated, SameShape}
 use Rattle.jc_heap.specs.Components.{words_of, record_of}
 use Rattle.jc_heap.specs.Statics.{with_word, set_word}
 use Rattle.jc_heap.proofs.Records.{records_from-set, missing_words-set}
 use Rattle.jc_heap.proofs.Tables.{map-put, at_or-put_same, at_or-put_other, has-put, put-absent}
-use Rattle.jc_heap.proofs.Images.{sizes_tell, image-set, get_or_front, range_front, package_addresses-set, base-set, text-same}
+use Rattle.jc_heap.proofs.Images.{sizes_tell, image-set, get_or_front, range_front, package_addresses-set, base-set, head-set, text-same}
 use Rattle.jc_heap.proofs.RecordReading.{is_item, is_one, is_record, behind}
 
 module _ (ws : List ℕ) (r j v : ℕ) (laid : IsWellFormed ws) (four : 4 ≤ j) (h : j < length (record_of (heap_of ws) r)) where
@@ -93,7 +94,7 @@ module _ (ws : List ℕ) (r j v : ℕ) (laid : IsWellFormed ws) (four : 4 ≤ j)
       let second_end : get_or (set img (r + j) v) deselect_end_address 0 ≡ get_or img deselect_end_address 0 =
       get_or_front img (r + j) deselect_end_address v (omega arith) in
       let top : length (set img (r + j) v) ≡ length img = length-set img (r + j) v in
-      let head : take 3 (set img (r + j) v) ≡ take 3 img = take-set-le 3 img (r + j) v (omega (arith, registry)) in
+      let head : head_of (set img (r + j) v) ≡ head_of img = head-set img (r + j) v (omega (arith, registry)) in
       let text : table_text (set img (r + j) v) ≡ table_text img =
       text-same img (set img (r + j) v) (get_or_front img (r + j) text_length_address v (omega (arith, registry)))
       (range_front img text_start ((get_or img text_length_address 0 + 1) / 2) (r + j) v (omega (arith, low))) in
@@ -110,6 +111,7 @@ module _ (ws : List ℕ) (r j v : ℕ) (laid : IsWellFormed ws) (four : 4 ≤ j)
         applets = applets k;
         area_ends = (first_end k, second_end k);
         top = top k;
+        capacity = capacity_of img;
       }
 
   pub heap_of-set_word : heap_of (set ws (r + j) v) ≡ set_word (heap_of ws) r j v

@@ -1,6 +1,7 @@
 -- Runs of cells.
 use Rattle.std.proofs.Common.{◌≡◌, ℕ, zero, suc, ◌+◌, ◌<◌, ◌≤◌, List, [], ◌∷◌, ◌++◌, length, set, get_or, refl, sym, ◌∙◌, ap, subst, arith, false}
 use Rattle.std.proofs.Common.{add-zero}
+use Rattle.std.specs.List.{range_with_len}
 use Rattle.jc_words.specs.Layout.{top_address, text_start}
 use Rattle.jc_commit.specs.Image.{with_words, IsPlace}
 use Rattle.jc_commit.specs.Entries.{addresses_of, ArePlaces}
@@ -8,6 +9,7 @@ use Rattle.jc_heap.specs.Image.{IsWellFormed}
 use Rattle.jc_commit.specs.State.{State, Changes}
 use Rattle.jc_heap.specs.Heap.{HeapState, HeapView, heap_view, heap_of, cells, set_cell, set_cells, run_words, cell_address, heap_after_change}
 use Rattle.jc_heap.specs.Heap.{SameShape, IsSound}
+use Rattle.jc_heap.specs.Places.{run_at}
 use Rattle.jc_heap.proofs.Changing.{change_view, change_sound}
 use Rattle.jc_heap.proofs.Laws.{shape-set, length-cells-set_cell}
 use Rattle.jc_heap.proofs.Images.{set_cell-heap_of, IsWellFormed-set, top-set}
@@ -54,6 +56,12 @@ pub length-addresses : (at : ℕ) (vs : List ℕ) → length (addresses_of (run_
 length-addresses at [] = refl
 length-addresses at (v ∷ vs) = ap suc (length-addresses (suc at) vs)
 
+-- a run's words have the addresses of its cells
+pub addresses-run : (at : ℕ) (vs : List ℕ) → addresses_of (run_words at vs) ≡ range_with_len at (length vs)
+addresses-run at [] = refl
+addresses-run at (v ∷ vs) = let next : suc at ≡ at + 1 = omega arith in
+    ap (λ l. at ∷ l) (addresses-run (suc at) vs ∙ ap (λ a. range_with_len a (length vs)) next)
+
 -- a run's words are places
 pub places_of_run : (j : State) (v : HeapView) (n r i : ℕ) (vs : List ℕ) → heap_view j n ≡ v → i + length vs ≤ length (cells v.now r)
     → ArePlaces (length j.plain) (run_words (cell_address r i) vs)
@@ -91,11 +99,12 @@ shape-run d h r i (v ∷ vs) s = shape-run d (set_cell h r i v) r (suc i) vs (sh
 -- a run set through the journal is a run of the heap
 pub run_view : (j k : State) (v : HeapView) (n r i : ℕ) (vs : List ℕ) → heap_view j n ≡ v → IsWellFormed j.plain → IsWellFormed j.recovered
     → i + length vs ≤ length (cells v.now r) → Changes (run_words (cell_address r i) vs) j k →
-    heap_view k n ≡ heap_after_change v (set_cells v.now r i vs) (addresses_of (run_words (cell_address r i) vs)) 0
+    heap_view k n ≡ heap_after_change v (set_cells v.now r i vs) (run_at v.now r i (length vs)) 0
 unfolding cell_address
 run_view j k v n r i vs is laid back h c = subst (λ u. i + length vs ≤ length (cells (u.now) r)
-    → heap_view k n ≡ heap_after_change u (set_cells (u.now) r i vs) (addresses_of (run_words (r + (4 + i)) vs)) 0) is
-    (λ there. change_view (run_words (r + (4 + i)) vs) j k n (set_cells (heap_of j.plain) r i vs) back c (run-heap_of j.plain r i vs there laid).0) h
+    → heap_view k n ≡ heap_after_change u (set_cells (u.now) r i vs) (range_with_len (r + (4 + i)) (length vs)) 0) is
+    (λ there. subst (λ l. heap_view k n ≡ heap_after_change (heap_view j n) (set_cells (heap_of j.plain) r i vs) l 0) (addresses-run (r + (4 + i)) vs)
+    (change_view (run_words (r + (4 + i)) vs) j k n (set_cells (heap_of j.plain) r i vs) back c (run-heap_of j.plain r i vs there laid).0)) h
 
 run_sound_at : (j k : State) (n r i : ℕ) (vs : List ℕ) → i + length vs ≤ length (cells (heap_of j.plain) r) → j.down ≡ false → IsSound j n
     → Changes (run_words (r + (4 + i)) vs) j k → IsSound k n

@@ -2,9 +2,9 @@
 use Rattle.std.specs.Prelude.{ℕ, suc, ◌+◌, ◌-◌, ◌≡◌, ◌<◌, ◌≤◌, ◌==◌, Bool, true, false, List, [], ◌∷◌, ◌++◌, map, take, drop, length, slice_index, Option, Some}
 use Rattle.std.specs.Prelude.{None, if◌then◌else◌, ◌&&◌, nat_lt, max}
 use Rattle.jc_words.specs.Count.{saturating_count}
-use Rattle.jc_words.specs.Layout.{top_address, packages_address, applets_address, reset_end_address, deselect_end_address, registry_start, registry_length}
-use Rattle.jc_words.specs.Layout.{addresses_start}
-use Rattle.jc_commit.specs.Image.{capacity, top_of}
+use Rattle.jc_words.specs.Layout.{magic_address, size_address, top_address, packages_address, applets_address, reset_end_address, deselect_end_address}
+use Rattle.jc_words.specs.Layout.{registry_start, registry_length, addresses_start}
+use Rattle.jc_commit.specs.Image.{capacity_of, top_of}
 use Rattle.jc_commit.specs.State.{State, undo_writes}
 use Rattle.jc_commit.specs.Keeping as journal
 use Rattle.jc_heap.specs.declared.object.Facts.{Facts}
@@ -17,11 +17,15 @@ use Rattle.jc_heap.specs.Object.{is_object}
 use Rattle.jc_heap.specs.Table.{entry_or, has_entry, with_entry}
 use Rattle.jc_heap.specs.Image.{image, package_addresses, item_entry, records, table_text, IsWellFormed}
 
--- the first three words (the magic word, the version, the number of words); the table text; what stands at
--- each address, in order; the numbers of packages and of applets; the addresses of the packages, by their
--- numbers; the registry's words; the ends of the two transient areas; the first free word
+-- the magic word and the number of words, as words tell them
+abbrev pub head_of : List ℕ → ℕ × ℕ
+head_of words = (slice_index words magic_address, slice_index words size_address)
+
+-- the magic word and the number of words; the table text; what stands at each address, in order; the
+-- numbers of packages and of applets; the addresses of the packages, by their numbers; the registry's
+-- words; the ends of the two transient areas; the first free word; how many old values the journal can keep
 pub record HeapState : Type 0 where
-  pub head : List ℕ
+  pub head : ℕ × ℕ
   pub text : List ℕ
   pub items : List (ℕ × Item)
   pub counts : ℕ × ℕ
@@ -29,10 +33,11 @@ pub record HeapState : Type 0 where
   pub applets : List ℕ
   pub area_ends : ℕ × ℕ
   pub top : ℕ
+  pub capacity : ℕ
 
 unfoldable pub read_image : List ℕ → HeapState
 read_image image = record {
-  head = take 3 image;
+  head = head_of image;
   text = table_text image;
   items = map (item_entry (package_addresses image)) (records image);
   counts = (slice_index image packages_address, slice_index image applets_address);
@@ -40,6 +45,7 @@ read_image image = record {
   applets = take registry_length (drop registry_start image);
   area_ends = (slice_index image reset_end_address, slice_index image deselect_end_address);
   top = length image;
+  capacity = capacity_of image;
 }
 
 -- the heap that words stand for: words at or above the top don't matter
@@ -163,7 +169,7 @@ pub record IsSound (j : State) (size : ℕ) : Type 0 where
 
 -- what a change has to know of the transaction
 abbrev pub keeping : HeapView → journal.Keeping
-keeping v = record { begun = v.begun; born = max addresses_start v.durable.top; touched = v.touched; capacity = capacity }
+keeping v = record { begun = v.begun; born = max addresses_start v.durable.top; touched = v.touched; capacity = v.durable.capacity }
 
 -- of these places, those whose old values a change has to keep: its cost
 abbrev pub unlogged_places : HeapView → List ℕ → List ℕ
@@ -175,7 +181,7 @@ writes_for v places = journal.writes_for (keeping v) places
 
 -- how many more words' old values the transaction can keep
 abbrev pub room_left : HeapView → ℕ
-room_left v = capacity - length v.touched
+room_left v = v.durable.capacity - length v.touched
 
 -- there is room for a change of these places, in the open transaction or in one of its own
 abbrev pub has_room_for : HeapView → List ℕ → Bool
@@ -229,6 +235,10 @@ pub record IsTornChange (old new : HeapView) : Type 0 where
 abbrev pub LacksCells : HeapState → ClearEvent → ℕ → Type 0
 LacksCells h event n = area_size < area_end h event + n
 
+-- where the heap ends: no object reaches beyond
+abbrev pub limit : HeapView → ℕ
+limit v = v.size
+
 -- there is no space for so many words
 abbrev pub LacksSpace : HeapView → ℕ → Type 0
-LacksSpace v n = v.size < v.now.top + n
+LacksSpace v n = limit v < v.now.top + n

@@ -1,16 +1,15 @@
 -- Moves of a heap as data: what a power loss within some of them leaves.
-use Rattle.std.specs.Prelude.{ℕ, ◌+◌, ◌≡◌, ◌⊎◌, if◌then◌else◌, true, List, [], ◌∷◌, Option, Some, None, nat_lt, map}
+use Rattle.std.specs.Prelude.{ℕ, ◌+◌, ◌≡◌, ◌⊎◌, if◌then◌else◌, true, List, [], ◌∷◌, Option, Some, None, nat_lt, map, length}
 use Rattle.jc_transient.specs.State.{area_size}
 use Rattle.jc_words.specs.Count.{saturating_count}
-use Rattle.jc_commit.specs.Entries.{addresses_of}
 use Rattle.jc_transient.specs.declared.cell.ClearEvent.{ClearEvent}
 use Rattle.jc_heap.specs.declared.object.Kind.{Kind}
 use Rattle.jc_heap.specs.Object.{Object, new_object, object_size, transient_size}
-use Rattle.jc_heap.specs.Heap.{HeapState, HeapView, set_cells, run_words, add_object, add_transient, area_end_address, area_end, goes_back, has_room_for}
-use Rattle.jc_heap.specs.Heap.{heap_after_change, heap_after_begin, heap_after_commit, heap_after_abort, cell_address, end_address}
+use Rattle.jc_heap.specs.Heap.{HeapState, HeapView, limit, set_cells, add_object, add_transient, area_end_address, area_end, goes_back, has_room_for}
+use Rattle.jc_heap.specs.Heap.{heap_after_change, heap_after_begin, heap_after_commit, heap_after_abort, end_address}
 use Rattle.jc_heap.specs.declared.place.Place.{Place}
 use Rattle.jc_heap.specs.declared.place.AppletEntry.{AppletEntry}
-use Rattle.jc_heap.specs.Places.{place_word, set_place, write_place, write_nonatomic, places_of, set_places, applet_changes}
+use Rattle.jc_heap.specs.Places.{place_word, place_at, run_at, set_place, write_place, write_nonatomic, places_of, set_places, applet_changes}
 use Rattle.jc_heap.specs.Packages.{add_package, addresses_of_package, package_size}
 use Rattle.jc_heap.specs.Completions.{Completion, Completed, Torn, Attempt, Done, Refused}
 use Rattle.jc_heap.specs.declared.refusal.HeapRefusal.{HeapRefusal}
@@ -33,9 +32,9 @@ pub data Move : Type 0 where
 -- the heap after a move
 abbrev pub apply_move : Move → HeapView → HeapView
 apply_move (Write p v) h = write_place h p v
-apply_move (SetPlaces changes) h = heap_after_change h (set_places h.now changes) (map place_word (places_of changes)) 0
+apply_move (SetPlaces changes) h = heap_after_change h (set_places h.now changes) (map (place_at h.now) (places_of changes)) 0
 apply_move (WriteNonAtomic p v) h = write_nonatomic h p v
-apply_move (SetCells r i vs) h = heap_after_change h (set_cells h.now r i vs) (addresses_of (run_words (cell_address r i) vs)) 0
+apply_move (SetCells r i vs) h = heap_after_change h (set_cells h.now r i vs) (run_at h.now r i (length vs)) 0
 apply_move (AddTransient kind event class owner long) h = heap_after_change h (add_transient h.now kind event class owner long)
     (end_address ∷ area_end_address event ∷ []) transient_size
 apply_move (AddPackage components arrays rest) h = heap_after_change h (add_package h.now components arrays rest) (addresses_of_package h.now)
@@ -96,15 +95,15 @@ refusal_at v addresses = if has_room_for v addresses then None else Some CommitF
 
 -- why a change of these places is
 abbrev pub refusal_of_places : HeapView → List Place → Option HeapRefusal
-refusal_of_places v places = refusal_at v (map place_word places)
+refusal_of_places v places = refusal_at v (map (place_at v.now) places)
 
 -- why a change of a run of cells is
 abbrev pub refusal_of_cells : HeapView → ℕ → ℕ → List ℕ → Option HeapRefusal
-refusal_of_cells v r i values = refusal_at v (addresses_of (run_words (cell_address r i) values))
+refusal_of_cells v r i values = refusal_at v (run_at v.now r i (length values))
 
 -- why something new of so many words is: first there is no space
 abbrev pub refusal_of_space : HeapView → ℕ → List ℕ → Option HeapRefusal
-refusal_of_space v size addresses = if nat_lt v.size (v.now.top + size) then Some HeapFull else refusal_at v addresses
+refusal_of_space v size addresses = if nat_lt (limit v) (v.now.top + size) then Some HeapFull else refusal_at v addresses
 
 -- why a new persistent object with so many cells is
 abbrev pub refusal_of_object : HeapView → ℕ → Option HeapRefusal

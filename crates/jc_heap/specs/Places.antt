@@ -1,5 +1,6 @@
 -- Places: the words that a change may name.
 use Rattle.std.specs.Prelude.{ℕ, ◌+◌, ◌<◌, ◌≡◌, List, [], ◌∷◌, set, length, map, if◌then◌else◌}
+use Rattle.std.specs.List.{range_with_len}
 use Rattle.jc_words.specs.Count.{saturating_count}
 use Rattle.jc_words.specs.Layout.{applets_address, registry_start, registry_length}
 use Rattle.jc_heap.specs.RegistryLayout.{entry_start, entry_package, entry_instance}
@@ -18,6 +19,14 @@ place_word (Cell r i) = cell_address r i
 place_word (Static r j) = r + j
 place_word (Registry i) = registry_start + i
 place_word AppletCount = applets_address
+
+-- the address of a place's word in a heap
+abbrev pub place_at : HeapState → Place → ℕ
+place_at h p = place_word p
+
+-- the addresses of the words of so many cells of an object, from an index on
+abbrev pub run_at : HeapState → ℕ → ℕ → ℕ → List ℕ
+run_at h r i n = range_with_len (cell_address r i) n
 
 -- the heap has this place
 abbrev pub HasPlace : HeapState → Place → Type 0
@@ -41,7 +50,7 @@ set_place h AppletCount v = record h { counts = (h.counts.0, v) }
 
 -- a place set as one change
 abbrev pub write_place : HeapView → Place → ℕ → HeapView
-write_place v p x = heap_after_change v (set_place v.now p x) (place_word p ∷ []) 0
+write_place v p x = heap_after_change v (set_place v.now p x) (place_at v.now p ∷ []) 0
 
 -- a place set for good, where an abort does not take it back already
 abbrev pub write_nonatomic : HeapView → Place → ℕ → HeapView

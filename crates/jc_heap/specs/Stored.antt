@@ -1,8 +1,8 @@
 -- What a store is that holds a heap.
-use Rattle.std.specs.Prelude.{ℕ, ◌≡◌, Bool, false, List, length, take}
+use Rattle.std.specs.Prelude.{ℕ, ◌≡◌, Bool, false, List, length}
 use Rattle.jc_commit.specs.Image.{count_of, plain_of, recovered_of, IsGoodLog}
 use Rattle.jc_heap.specs.Image.{IsWellFormed}
-use Rattle.jc_heap.specs.Heap.{HeapView, heap_of, heap_at_rest}
+use Rattle.jc_heap.specs.Heap.{HeapView, head_of, heap_of, heap_at_rest}
 
 -- a store with these words, which is down or not, is at rest: it is up, its words are a heap's, and no entry of the log counts
 pub record IsAtRest (words : List ℕ) (is_down : Bool) : Type 0 where
@@ -22,7 +22,7 @@ pub record HoldsHeap (words : List ℕ) (is_down : Bool) (let_pass turned_down :
   pub laid : IsWellFormed (recovered_of words)
   pub now : heap_of (plain_of words) ≡ v.now
   pub durable : heap_of (recovered_of words) ≡ v.durable
-  pub head : take 3 words ≡ v.durable.head
+  pub head : head_of words ≡ v.durable.head
   pub size : length words ≡ v.size
   pub down : is_down ≡ v.down
   pub passed : let_pass ≡ v.passed

@@ -1,7 +1,7 @@
 //! A heap: reading, cells, transactions.
 ghost use Rattle.std.specs.Prelude.{ℕ, ◌≡◌, ◌<◌, ◌≤◌, [], ◌∷◌, true, false, length, slice_index, OnOk, ◌+◌, ◌↔◌, IsTrue, None, IfSome};
 ghost use Rattle.jc_words.specs.Layout.{text_start};
-ghost use Rattle.jc_commit.specs.Image.{capacity};
+ghost use Rattle.jc_commit.specs.Image.{least_capacity, most_capacity};
 ghost use Rattle.jc_heap.specs.Object.{IsElement};
 ghost use Rattle.jc_heap.specs.Image.{IsWellFormed};
 ghost use Rattle.jc_heap.specs.Heap.{HeapView, heap_view, IsSound, cells, facts, IsObject, HasEnd, next_object, run_words, cell_address, room_left};
@@ -163,10 +163,19 @@ impl<S: WordStore> Heap<S> {
         self.journal.is_open()
     }
 
+    /// How many places' old values a transaction can keep.
+    pub fn commit_capacity(&self) -> u16
+        ensures exact { result ≡ self.now.durable.capacity }
+        ensures least { least_capacity ≤ result }
+        ensures most { result ≤ most_capacity }
+    {
+        self.journal.capacity()
+    }
+
     /// How many more places' old values the transaction can keep.
     pub fn room(&self) -> u16
         ensures left { result ≡ room_left self.now }
-        ensures within { result + length self.now.touched ≡ capacity }
+        ensures within { result + length self.now.touched ≡ self.now.durable.capacity }
     {
         self.journal.room()
     }

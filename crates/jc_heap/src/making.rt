@@ -1,7 +1,7 @@
 //! New objects.
 ghost use Rattle.std.specs.Prelude.{nat_le, ◌≡◌, [], ◌∷◌, false, IfOk, Some, ◌+◌};
 ghost use Rattle.jc_heap.specs.Object.{AnObject, new_object, object_size, new_transient, header_word};
-ghost use Rattle.jc_heap.specs.Heap.{is_allocated, heap_item_at, area_end};
+ghost use Rattle.jc_heap.specs.Heap.{is_allocated, heap_item_at, area_end, limit};
 ghost use Rattle.jc_heap.specs.Moves.{AddTransient, PerformsMovesUnless, new_move, refusal_of_object, refusal_of_transient};
 ghost use Rattle.jc_heap.specs.Completions.{after_making};
 
@@ -18,7 +18,7 @@ impl<S: WordStore> Heap<S> {
     /// Whether there is space for a persistent object with so many cells.
     pub fn has_space(&self, length: u16) -> bool
         requires { self.now.down ≡ false }
-        ensures { result ≡ nat_le (self.now.now.top + object_size length) self.now.size }
+        ensures { result ≡ nat_le (self.now.now.top + object_size length) (limit self.now) }
     {
         let size = u32::from(HEADER) + u32::from(length);
         u32::from(self.top()) + size <= u32::from(self.size)

@@ -11,7 +11,7 @@ use crate::heap::Heap;
 use crate::refusal::ChangeRefusal;
 use crate::registry_layout::{ENTRY_INSTANCE, ENTRY_PACKAGE, entry_start};
 use jc_transient::Ref;
-use jc_words::layout::{APPLETS, JOURNAL_CAPACITY, REGISTRY};
+use jc_words::layout::{APPLETS, REGISTRY};
 use jc_words::{StoreDown, WordStore};
 
 /// A word that a change may name.
@@ -184,6 +184,6 @@ impl<S: WordStore> Heap<S> {
         if self.is_open() {
             return self.cost(places) <= self.room() as usize;
         }
-        places.len() <= JOURNAL_CAPACITY as usize
+        places.len() <= self.commit_capacity() as usize
     }
 }

@@ -1,26 +1,25 @@
 -- Where there is room, the store alone refuses.
 use Rattle.std.proofs.Common.{◌≡◌, ℕ, suc, ◌+◌, ◌-◌, ◌<◌, ◌≤◌, Bool, true, false, List, [], ◌∷◌, ◌++◌, length, map, refl, sym, ◌∙◌, ap, subst, arith, inl, inr}
 use Rattle.std.proofs.Common.{leb-true}
-use Rattle.std.specs.Prelude.{◌&&◌, nat_lt, Option, Some, None, Err}
+use Rattle.std.specs.Prelude.{◌&&◌, nat_lt, Option, Some, None, Err, if◌then◌else◌}
 use Rattle.std.proofs.lemmas.Bool.{true≢false, cases_Bool, ltb-false, le-ltb}
 use Rattle.std.proofs.lemmas.List.{length-map, length-append}
+use Rattle.std.proofs.lemmas.List.FromFn.{length-range_with_len}
 use Rattle.std.proofs.lemmas.Option.{none-some}
 use Rattle.jc_transient.specs.declared.cell.ClearEvent.{ClearEvent}
-use Rattle.jc_commit.specs.Entries.{addresses_of}
 use Rattle.jc_heap.specs.declared.place.Place.{Place}
 use Rattle.jc_heap.specs.declared.refusal.ChangeRefusal.{ChangeRefusal}
 use Rattle.jc_heap.specs.declared.refusal.ChangeRefusal.TheVariants as change
 use Rattle.jc_heap.specs.declared.refusal.HeapRefusal.{HeapRefusal}
 use Rattle.jc_heap.specs.declared.refusal.HeapRefusal.TheVariants as making
 use Rattle.jc_heap.specs.Object.{AnObject, Object, new_object, object_size}
-use Rattle.jc_heap.specs.Heap.{HeapState, HeapView, heap_item_at, is_allocated, add_object, heap_after_change, set_cell, set_cells, run_words, cell_address}
-use Rattle.jc_heap.specs.Heap.{end_address, keeping, room_left, has_room_for, unlogged_places}
+use Rattle.jc_heap.specs.Heap.{HeapState, HeapView, heap_item_at, is_allocated, add_object, heap_after_change, set_cell, set_cells, cell_address}
+use Rattle.jc_heap.specs.Heap.{end_address, keeping, limit, room_left, has_room_for, unlogged_places}
 use Rattle.jc_heap.specs.Moves.{Move, SetPlaces, SetCells, refusal_of_places, refusal_of_cells}
 use Rattle.jc_heap.specs.Completions.{Attempt, Done, Refused, after_change, after_making}
-use Rattle.jc_heap.specs.Places.{places_of, place_word}
+use Rattle.jc_heap.specs.Places.{places_of, place_word, run_at}
 use Rattle.jc_commit.proofs.WhatIsKept.{keeps_old_values}
 use Rattle.jc_heap.proofs.Calls.{not_full, object_fits}
-use Rattle.jc_heap.proofs.Runs.{length-addresses}
 use Rattle.jc_heap.proofs.Laws.{heap_item_at-add_object, heap_item_at-add_other, object_named}
 use Rattle.jc_memory.specs.declared.making.NewObject.{NewObject}
 use Rattle.jc_memory.specs.Owners.{owner_number}
@@ -31,8 +30,8 @@ use Rattle.jc_memory.specs.Making.{creation_move, creation_refusal, creation_ref
 use Rattle.jc_memory.specs.Room.{has_space, lacks_capacity, cells_update, places_update, KeepsObjects, KeepsRest}
 
 -- places within the room of a heap
-fits : (v : HeapView) (n : ℕ) (places : List ℕ) → (v.begun && nat_lt (room_left v) n) ≡ false → length places ≤ n → 0 < n → n ≤ 256 → has_room_for v places
-    ≡ true
+fits : (v : HeapView) (n : ℕ) (places : List ℕ) → (v.begun && nat_lt (room_left v) n) ≡ false → length places ≤ n → 0 < n → n ≤ v.durable.capacity
+    → has_room_for v places ≡ true
 fits v n places room short some most = elim (cases_Bool v.begun) [
   | inl begun ↦
       let left = ltb-false (room_left v) n (sym (ap (λ (b : Bool). b && nat_lt (room_left v) n) begun) ∙ room) in
@@ -48,8 +47,8 @@ done_is_no_refusal : {A : Type 0} (done : Attempt A) (a : A) (why : HeapRefusal)
 done_is_no_refusal done a why is e = true≢false (sym (ap is_done is) ∙ sym (ap is_done e))
 
 -- so a change of as many places is not refused
-pub has_room : (s : MemoryState) (changes : List (Place × ℕ)) → lacks_capacity s (length changes) ≡ false → 0 < length changes → length changes ≤ 256
-    → refusal_of_places s.heap (places_of changes) ≡ None
+pub has_room : (s : MemoryState) (changes : List (Place × ℕ)) → lacks_capacity s (length changes) ≡ false → 0 < length changes
+    → length changes ≤ s.heap.durable.capacity → refusal_of_places s.heap (places_of changes) ≡ None
 has_room s changes room some most =
     not_full s.heap (map place_word (places_of changes)) (fits s.heap (length changes) (map place_word (places_of changes)) room few some most)
   where
@@ -126,15 +125,15 @@ did_run None (Some why) s new r i words kept did = absurd (done_is_no_refusal (D
 did_run (Some event) reason s new r i words kept did = absurd (none-some event (sym kept))
 
 -- the room that a change leaves
-view_left : (v : HeapView) (places : List ℕ) (n k : ℕ) → length places ≡ k → (v.begun && nat_lt (room_left v) (n + k)) ≡ false →
-    (v.begun && nat_lt (256 - length (v.touched ++ unlogged_places v places)) n) ≡ false
-view_left v places n k long room = elim (cases_Bool v.begun) [
+view_left : (v : HeapView) (h : HeapState) (places : List ℕ) (n k : ℕ) → length places ≡ k → (v.begun && nat_lt (room_left v) (n + k)) ≡ false →
+    (v.begun && nat_lt ((if v.begun then v.durable else h).capacity - length (v.touched ++ unlogged_places v places)) n) ≡ false
+view_left v h places n k long room = elim (cases_Bool v.begun) [
   | inl begun ↦
       let left = ltb-false (room_left v) (n + k) (sym (ap (λ (b : Bool). b && nat_lt (room_left v) (n + k)) begun) ∙ room) in
       let grown = length-append v.touched (unlogged_places v places) in
-      ap (λ (b : Bool). b && nat_lt (256 - length (v.touched ++ unlogged_places v places)) n) begun
-      ∙ le-ltb (256 - length (v.touched ++ unlogged_places v places)) n (omega (arith, left, grown, long, keeps_old_values.few (keeping v) places))
-  | inr shut ↦ ap (λ (b : Bool). b && nat_lt (256 - length (v.touched ++ unlogged_places v places)) n) shut
+      ap (λ (b : Bool). b && nat_lt ((if b then v.durable else h).capacity - length (v.touched ++ unlogged_places v places)) n) begun
+      ∙ le-ltb (v.durable.capacity - length (v.touched ++ unlogged_places v places)) n (omega (arith, left, grown, long, keeps_old_values.few (keeping v) places))
+  | inr shut ↦ ap (λ (b : Bool). b && nat_lt ((if b then v.durable else h).capacity - length (v.touched ++ unlogged_places v places)) n) shut
 ]
 
 pub run_left : (event : Option ClearEvent) (reason : Option HeapRefusal) (s new : MemoryState) (r i : ℕ) (words : List ℕ) (n : ℕ) → event ≡ None →
@@ -142,17 +141,17 @@ pub run_left : (event : Option ClearEvent) (reason : Option HeapRefusal) (s new 
     lacks_capacity s (n + length words) ≡ false → lacks_capacity new n ≡ false
 run_left event reason s new r i words n kept did room =
     subst (λ v. lacks_capacity v n ≡ false) (sym (did_run event reason s new r i words kept did))
-    (view_left s.heap _ n (length words) (length-addresses (cell_address r i) words) room)
+    (view_left s.heap _ _ n (length words) (length-range_with_len (cell_address r i) (length words)) room)
 
 -- so a change of as many cells is not refused
-pub has_run_room : (s : MemoryState) (r i : ℕ) (words : List ℕ) → lacks_capacity s (length words) ≡ false → 0 < length words → length words ≤ 256
-    → refusal_of_cells s.heap r i words ≡ None
+pub has_run_room : (s : MemoryState) (r i : ℕ) (words : List ℕ) → lacks_capacity s (length words) ≡ false → 0 < length words
+    → length words ≤ s.heap.durable.capacity → refusal_of_cells s.heap r i words ≡ None
 has_run_room s r i words room some most =
-    let places : List ℕ = addresses_of (run_words (cell_address r i) words) in
+    let places : List ℕ = run_at s.heap.now r i (length words) in
     not_full s.heap places (fits s.heap (length words) places room few some most)
   where
-    few : length (addresses_of (run_words (cell_address r i) words)) ≤ length words
-    few = let long = length-addresses (cell_address r i) words in omega (arith, long)
+    few : length (run_at s.heap.now r i (length words)) ≤ length words
+    few = let long = length-range_with_len (cell_address r i) (length words) in omega (arith, long)
 
 pub run_rest : (event : Option ClearEvent) (reason : Option HeapRefusal) (s new : MemoryState) (r i : ℕ) (words : List ℕ) → event ≡ None →
     Completes (unless_refused (cell_refusal_in event reason) (Perform (cells_effect_in event r i words) (Finish (Done (tt {0}))))) s (Done (tt {0})) new
@@ -170,12 +169,13 @@ cut_applet None s new m n change.CommitFull none did = absurd (done_is_no_refusa
 cut_applet (Some why) s new m n e none cut = absurd (none-some why (sym none))
 
 -- a persistent object for which there is space and room is not refused
-pub object_allowed : (s : MemoryState) (o : NewObject) → o.event ≡ None → has_space s o.length ≡ true → lacks_capacity s 1 ≡ false → creation_refusal s o ≡ None
-object_allowed s o persistent space room =
-    let enough : s.heap.now.top + object_size o.length ≤ s.heap.size = leb-true (s.heap.now.top + object_size o.length) s.heap.size space in
+pub object_allowed : (s : MemoryState) (o : NewObject) → o.event ≡ None → has_space s o.length ≡ true → lacks_capacity s 1 ≡ false
+    → 1 ≤ s.heap.durable.capacity → creation_refusal s o ≡ None
+object_allowed s o persistent space room some =
+    let enough : s.heap.now.top + object_size o.length ≤ limit s.heap = leb-true (s.heap.now.top + object_size o.length) (limit s.heap) space in
     ap (λ (event : Option ClearEvent). creation_refusal_in event s o) persistent
     ∙ object_fits s.heap (object_size o.length) (end_address ∷ []) (λ lacks. omega (arith, lacks, enough))
-    (fits s.heap 1 (end_address ∷ []) room (omega arith) (omega arith) (omega arith))
+    (fits s.heap 1 (end_address ∷ []) room (omega arith) (omega arith) some)
 
 abbrev made_so : {A : Type 0} → Option ClearEvent → NewObject → (ℕ → A) → Program A
 made_so event o answer =
@@ -196,7 +196,7 @@ left_one : (event : Option ClearEvent) (s new : MemoryState) (o : NewObject) (x 
     → lacks_capacity s (n + 1) ≡ false → lacks_capacity new n ≡ false
 left_one None s new o x n none did room =
     subst (λ (v : HeapView). (v.begun && nat_lt (room_left v) n) ≡ false) (sym (ap (λ (m : MemoryState). m.heap) did.2.1))
-    (view_left s.heap (end_address ∷ []) n 1 refl room)
+    (view_left s.heap _ (end_address ∷ []) n 1 refl room)
 left_one (Some event) s new o x n none did room = absurd (none-some event (sym none))
 
 pub object_left : (reason : Option HeapRefusal) (s new : MemoryState) (o : NewObject) (x n : ℕ) → o.event ≡ None →

@@ -3,14 +3,14 @@ use Rattle.std.specs.Prelude.{ℕ, ◌+◌, ◌≡◌, ◌&&◌, Bool, nat_lt, n
 use Rattle.jc_heap.specs.declared.place.Place.{Place}
 use Rattle.jc_heap.specs.declared.place.AppletEntry.{AppletEntry}
 use Rattle.jc_heap.specs.Object.{object_size}
-use Rattle.jc_heap.specs.Heap.{HeapState, IsObject, heap_item_at, room_left}
+use Rattle.jc_heap.specs.Heap.{HeapState, IsObject, heap_item_at, limit, room_left}
 use Rattle.jc_heap.specs.Moves.{SetPlaces, SetCells, applet_move}
 use Rattle.jc_memory.specs.State.{MemoryState, HeapMove}
 use Rattle.jc_memory.specs.Programs.{Program, Finish, Perform}
 
 -- there is space for a persistent object with so many cells
 abbrev pub has_space : MemoryState → ℕ → Bool
-has_space s cells = nat_le (s.heap.now.top + object_size cells) s.heap.size
+has_space s cells = nat_le (s.heap.now.top + object_size cells) (limit s.heap)
 
 -- the open transaction has no room for so many words
 abbrev pub lacks_capacity : MemoryState → ℕ → Bool

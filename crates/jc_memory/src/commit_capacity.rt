@@ -1,7 +1,7 @@
 //! Calls of several changes ask room for all of them before the first one. After that the store alone may refuse.
 
 ghost use Rattle.std.specs.Prelude.{ℕ, ◌≡◌, ◌+◌, ◌<◌, ◌≤◌, false, true, None, length, IfOk, OnOk};
-ghost use Rattle.jc_commit.specs.Image.{capacity};
+ghost use Rattle.jc_commit.specs.Image.{least_capacity};
 ghost use Rattle.jc_heap.specs.Object.{AnObject, new_object};
 ghost use Rattle.jc_heap.specs.Heap.{heap_item_at, facts, IsObject};
 ghost use Rattle.jc_heap.specs.Keeping.{AreLegalValues};
@@ -54,6 +54,7 @@ pub fn make_within_capacity<S: WordStore>(
         → lacks_capacity memory.new n ≡ false) }
     ensures up { OnOk result (memory.new.heap.down ≡ false) }
 {
+    let _ = memory.commit_capacity(); // so that the proof knows: a transaction can keep as many as the least
     match memory.make(object) {
         Ok(made) => Ok(made),
         Err(_) => Err(StoreDown),
@@ -70,11 +71,12 @@ pub fn write_within_capacity<S: WordStore, P: PlaceChanges>(
     requires apart { AreApart (places_of (P.changes changes.now)) }
     requires references { AreLegalValues memory.old.heap.now (P.changes changes.now) }
     requires some { 0 < length (P.changes changes.now) }
-    requires few { length (P.changes changes.now) ≤ capacity }
+    requires few { length (P.changes changes.now) ≤ least_capacity }
     requires room { lacks_capacity memory.old (length (P.changes changes.now)) ≡ false }
     ensures { Executes (places_update (P.changes changes.now)) memory.old
         (after_step result memory.new) }
 {
+    let _ = memory.commit_capacity(); // so that the proof knows: a transaction can keep as many as the least
     match memory.write_all(changes) {
         Ok(()) => Ok(()),
         Err(_) => Err(StoreDown),
@@ -94,7 +96,7 @@ pub fn set_within_capacity<S: WordStore>(
     requires cells { i + length words.now ≤ (facts memory.old.heap.now object).length }
     requires values { MayHaveAll memory.old object words.now }
     requires some { 0 < length words.now }
-    requires few { length words.now ≤ capacity }
+    requires few { length words.now ≤ least_capacity }
     requires room { lacks_capacity memory.old (length words.now) ≡ false }
     ensures made { Executes (cells_update object i words.now) memory.old
         (after_step result memory.new) }
@@ -102,6 +104,7 @@ pub fn set_within_capacity<S: WordStore>(
         → lacks_capacity memory.new n ≡ false) }
     ensures rest { OnOk result (KeepsRest memory.old memory.new) }
 {
+    let _ = memory.commit_capacity(); // so that the proof knows: a transaction can keep as many as the least
     match memory.set_run(object, i, words) {
         Ok(()) => Ok(()),
         Err(_) => Err(StoreDown),
@@ -119,6 +122,7 @@ pub fn register_within_capacity<S: WordStore>(
     ensures { Executes (applet_registration memory.old.heap.now entry) memory.old
         (after_step result memory.new) }
 {
+    let _ = memory.commit_capacity(); // so that the proof knows: a transaction can keep as many as the least
     match memory.add_applet(entry) {
         Ok(_) => Ok(()),
         Err(_) => Err(StoreDown),

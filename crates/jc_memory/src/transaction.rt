@@ -1,5 +1,6 @@
 //! Transactions, and changes of places: for a while, several as one, and for good.
-ghost use Rattle.std.specs.Prelude.{◌≡◌, ◌<◌, false, true, length};
+ghost use Rattle.std.specs.Prelude.{◌≡◌, ◌<◌, ◌≤◌, false, true, length};
+ghost use Rattle.jc_commit.specs.Image.{least_capacity, most_capacity};
 ghost use Rattle.jc_heap.specs.declared.object.Kind.TheVariants.{Instance};
 ghost use Rattle.jc_heap.specs.Heap.{cells, facts};
 ghost use Rattle.jc_heap.specs.Keeping.{IsLegalValue, AreLegalValues};
@@ -81,6 +82,15 @@ impl<S: WordStore> Memory<S> {
         ensures { Executes (nonatomic_write object i v) self.old (after_step result self.new) }
     {
         self.heap.write_both(Place::Cell(object, i), v)
+    }
+
+    /// How many words' old values a transaction can keep.
+    pub fn commit_capacity(&self) -> u16
+        ensures exact { result ≡ self.now.heap.durable.capacity }
+        ensures least { least_capacity ≤ result }
+        ensures most { result ≤ most_capacity }
+    {
+        self.heap.commit_capacity()
     }
 
     /// The address that the next object gets: each object lies below it.

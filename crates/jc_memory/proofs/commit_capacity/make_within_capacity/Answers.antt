@@ -1,3 +1,4 @@
+use Rattle.std.proofs.Common.{arith}
 use Rattle.jc_memory.specs.Making.{creation_refusal}
 use Rattle.jc_memory.proofs.Room.{made_object, object_allowed, object_left, cut_object}
 use Rattle.jc_memory.proofs.commit_capacity.make_within_capacity.Goals as goal
@@ -26,4 +27,5 @@ pub returns-in-Err-clause-made : goal.returns-in-Err-clause-made
 returns-in-Err-clause-made g c =
     let s = c.args.memory.now in
     cut_object c.args.object.event (creation_refusal s c.args.object) s c.make.new.self c.args.object c.in-Err.field-0 c.requires.persistent
-    (object_allowed s c.args.object c.requires.persistent c.requires.space c.requires.room) c.in-Err.ensures
+    (object_allowed s c.args.object c.requires.persistent c.requires.space c.requires.room
+    (omega (arith, c.commit_capacity.ensures.exact, c.commit_capacity.ensures.least))) c.in-Err.ensures

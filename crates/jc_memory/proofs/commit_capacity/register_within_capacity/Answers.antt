@@ -8,4 +8,5 @@ pub returns-in-Err : goal.returns-in-Err
 returns-in-Err g c =
     let s = c.args.memory.now in
     cut_applet (refusal_of_applet s.heap c.args.entry) s c.add_applet.new.self (applet_move s.heap.now c.args.entry) s.heap.now.counts.1 c.in-Err.field-0
-    (has_room s (applet_changes s.heap.now c.args.entry) c.requires.room (omega arith) (omega arith)) c.in-Err.ensures
+    (has_room s (applet_changes s.heap.now c.args.entry) c.requires.room (omega arith)
+    (omega (arith, c.commit_capacity.ensures.exact, c.commit_capacity.ensures.least))) c.in-Err.ensures

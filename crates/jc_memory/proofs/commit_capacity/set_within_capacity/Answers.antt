@@ -1,3 +1,4 @@
+use Rattle.std.proofs.Common.{arith}
 use Rattle.jc_heap.specs.Heap.{facts}
 use Rattle.jc_heap.specs.Moves.{refusal_of_cells}
 use Rattle.jc_memory.proofs.Room.{cut_run, has_run_room, run_left, run_rest}
@@ -15,7 +16,8 @@ returns-in-Err-clause-made g c =
     let s = c.args.memory.now in
     cut_run (facts s.heap.now c.args.object).event (refusal_of_cells s.heap c.args.object c.args.i c.args.words.now) s c.set_run.new.self c.args.object c.args.i
     c.args.words.now c.in-Err.field-0
-    c.requires.persistent (has_run_room s c.args.object c.args.i c.args.words.now c.requires.room c.requires.some c.requires.few) c.in-Err.ensures
+    c.requires.persistent (has_run_room s c.args.object c.args.i c.args.words.now c.requires.room c.requires.some
+    (omega (arith, c.requires.few, c.commit_capacity.ensures.exact, c.commit_capacity.ensures.least))) c.in-Err.ensures
 
 pub returns-in-Ok-clause-rest : goal.returns-in-Ok-clause-rest
 returns-in-Ok-clause-rest g c =

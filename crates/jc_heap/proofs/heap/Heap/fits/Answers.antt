@@ -1,6 +1,5 @@
-use Rattle.std.proofs.Common.{ℕ, ap, sym, ◌∙◌, map, nat_le}
+use Rattle.std.proofs.Common.{ℕ, length, ap, sym, ◌∙◌, map, nat_le}
 use Rattle.std.proofs.lemmas.List.{length-map}
-use Rattle.jc_commit.specs.Image.{capacity}
 use Rattle.jc_heap.specs.Places.{place_word}
 use Rattle.jc_heap.proofs.Costs.{fits_inside, fits_outside}
 use Rattle.jc_heap.proofs.heap.Heap.fits.Goals as goal
@@ -12,5 +11,6 @@ returns-then-is_open g c =
 
 pub returns : goal.returns
 returns g c =
-    ap (λ (n : ℕ). nat_le n capacity) (sym (length-map c.args.places.now place_word))
+    ap (λ (n : ℕ). nat_le (length c.args.places.now) n) c.commit_capacity.ensures.exact
+    ∙ ap (λ (n : ℕ). nat_le n c.args.self.now.durable.capacity) (sym (length-map c.args.places.now place_word))
     ∙ fits_outside c.args.self.now (map place_word c.args.places.now) (sym c.is_open.ensures.open ∙ c.if-is_open.false)

@@ -4,9 +4,10 @@ use Rattle.jc_commit.specs.Keeping.{has_room_for as journal_room}
 use Rattle.jc_commit.specs.State.{Changes, keeping as journal_keeping}
 use Rattle.jc_heap.specs.Heap.{cell_address, run_words, IsSound, heap_view, has_room_for}
 use Rattle.jc_heap.specs.Moves.{SetCells, refusal_at}
+use Rattle.jc_heap.specs.Places.{run_at}
 use Rattle.jc_heap.proofs.Calls.{ok_not_err, not_false, room_is, not_full, unless_done, change_refused}
 use Rattle.jc_heap.proofs.Changing.{up_is, refusal_cases, journal_stopped_sound}
-use Rattle.jc_heap.proofs.Runs.{places_of_run, distinct-run, run_view, run_sound}
+use Rattle.jc_heap.proofs.Runs.{addresses-run, places_of_run, distinct-run, run_view, run_sound}
 use Rattle.jc_heap.proofs.heap.Heap.set_run.Goals as goal
 
 pub write_all-requires-clause-places : goal.write_all-requires-clause-places
@@ -41,10 +42,10 @@ pub returns : goal.returns
 returns g c =
     let words : c.new-run.result ≡ run_words (cell_address c.args.object c.args.i) c.args.values.now =
     c.new-run.ensures ∙ c.run_word.ensures.words in
-    let places : List ℕ = addresses_of (run_words (cell_address c.args.object c.args.i) c.args.values.now) in
+    let places : List ℕ = run_at c.args.self.now.now c.args.object c.args.i (length c.args.values.now) in
+    let same : addresses_of c.new-run.result ≡ places = ap addresses_of words ∙ addresses-run (cell_address c.args.object c.args.i) c.args.values.now in
     let room : has_room_for c.args.self.now places ≡ true =
-    not_false _ (λ f. ok_not_err _ _ (c.in_ok-write_all.ensures.full.1 (ap (λ cs. journal_room (journal_keeping c.self.inside.journal)
-    (addresses_of cs)) words ∙ sym (room_is c.self.inside.journal c.args.self.now c.self.inside.size places c.self.invariant.back c.self.view_is)
+    not_false _ (λ f. ok_not_err _ _ (c.in_ok-write_all.ensures.full.1 (ap (journal_room (journal_keeping c.self.inside.journal)) same ∙ sym (room_is c.self.inside.journal c.args.self.now c.self.inside.size places c.self.invariant.back c.self.view_is)
     ∙ f))) in
     unless_done (refusal_at c.args.self.now places) c.args.self.now (heap_view c.write_all.new.self c.self.inside.size)
     (SetCells c.args.object c.args.i c.args.values.now) tt tt (not_full c.args.self.now places room) refl
@@ -56,12 +57,13 @@ pub returns-in_err-write_all : goal.returns-in_err-write_all
 returns-in_err-write_all g c =
     let words : c.new-run.result ≡ run_words (cell_address c.args.object c.args.i) c.args.values.now =
     c.new-run.ensures ∙ c.run_word.ensures.words in
-    let places : List ℕ = addresses_of (run_words (cell_address c.args.object c.args.i) c.args.values.now) in
+    let places : List ℕ = run_at c.args.self.now.now c.args.object c.args.i (length c.args.values.now) in
+    let same : addresses_of c.new-run.result ≡ places = ap addresses_of words ∙ addresses-run (cell_address c.args.object c.args.i) c.args.values.now in
     let e = c.in_err-write_all.ensures in
     let there : has_room_for c.args.self.now places ≡ journal_room (journal_keeping c.self.inside.journal)
     (addresses_of c.new-run.result) =
     room_is c.self.inside.journal c.args.self.now c.self.inside.size places c.self.invariant.back c.self.view_is
-    ∙ ap (λ cs. journal_room (journal_keeping c.self.inside.journal) (addresses_of cs)) (sym words) in
+    ∙ ap (journal_room (journal_keeping c.self.inside.journal)) (sym same) in
     change_refused c.from_residual.result (SetCells c.args.object c.args.i c.args.values.now) c.args.self.now c.self.inside.journal c.write_all.new.self
     c.self.inside.size places (journal_room (journal_keeping c.self.inside.journal) (addresses_of c.new-run.result))
     c.in_err-write_all.field-0.0 c.from_residual.ensures.1 c.self.view_is there e.full.0 e.full.1 e.kept e.stopped
