@@ -15,6 +15,10 @@ pub record Refusals : Type 0 where
 abbrev pub no_refusals : Refusals
 no_refusals = record { count = 0; fuse = None; faults = 0 }
 
+-- the fuse is one that refuses the next write when so many have passed
+abbrev pub with_fuse_at : ℕ → Refusals → Refusals
+with_fuse_at passed r = record r { fuse = Some passed }
+
 -- whether a fuse refuses the next write when so many have passed
 abbrev pub is_at : ℕ → Option ℕ → Bool
 is_at passed None = false
