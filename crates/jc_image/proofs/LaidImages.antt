@@ -6,11 +6,12 @@ use Rattle.std.proofs.lemmas.List.{length-take-le, get_or_append_left, get_or-ap
 use Rattle.std.proofs.lemmas.List.FromFn.{length-map-range_with_len, get_or-map-range_with_len}
 use Rattle.std.proofs.lemmas.Bool.{cases_eq, cases_lt, eq-eqb, ne_eqb}
 use Rattle.jc_words.specs.Layout.{count_address, top_address, packages_address, applets_address, reset_end_address, deselect_end_address, text_length_address}
-use Rattle.jc_words.specs.Layout.{front_length, addresses_start, most_packages, registry_start, registry_length, text_start, version}
+use Rattle.jc_words.specs.Layout.{front_length, journal_capacity, addresses_start, most_packages, registry_start, registry_length, text_start, version}
+use Rattle.jc_words.specs.Layout.{version_address}
 use Rattle.jc_commit.specs.Image.{count_of, plain_of}
 use Rattle.jc_commit.proofs.InPlace.{length-plain, plain_word}
 use Rattle.jc_heap.specs.Cut.{records_from, missing_words}
-use Rattle.jc_heap.specs.Heap.{read_image, heap_of}
+use Rattle.jc_heap.specs.Heap.{head_of, read_image, heap_of}
 use Rattle.jc_heap.proofs.RawWords.{plain_zero}
 use Rattle.jc_heap.specs.Image.{packed_byte, bytes_of_packed, image, base, package_addresses, is_package, sizes, item_entry, records, missing_words_of_image}
 use Rattle.jc_heap.specs.Image.{table_text, IsWellFormed}
@@ -110,7 +111,7 @@ module _ (n : ℕ) (text : List ℕ) where
   items-laid = ap (λ l. map (item_entry (package_addresses (new_image_words n text)))
       (records_from (sizes (package_addresses (new_image_words n text))) 0 (base (new_image_words n text)) l)) table-laid
 
-  head-laid : take 3 (new_image_words n text) ≡ 0 ∷ version ∷ n ∷ []
+  head-laid : head_of (new_image_words n text) ≡ (0, n)
   unfolding new_image_words
   head-laid = refl
 
@@ -133,6 +134,7 @@ module _ (n : ℕ) (text : List ℕ) where
       applets = applets-laid k;
       area_ends = (front-word reset_end_address (lit< tt) k, front-word deselect_end_address (lit< tt) k);
       top = length-laid k;
+      capacity = journal_capacity;
     }
 
     -- the words of a store, of which these are the first
@@ -198,3 +200,6 @@ module _ (n : ℕ) (text : List ℕ) where
       -- no entry counts
       pub count-laid : count_of all ≡ 0
       count-laid = all-word 3 (omega arith) ∙ front-word 3 (lit< tt)
+
+      pub version-laid : get_or all version_address 0 ≡ version
+      version-laid = all-word version_address (omega arith) ∙ front-word version_address (lit< tt)

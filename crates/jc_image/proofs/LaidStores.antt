@@ -4,6 +4,7 @@ use Rattle.std.proofs.Common.{subst, arith, if◌then◌else◌, lit<}
 use Rattle.std.proofs.lemmas.List.{take_all, length-append, length-drop, length-take-le, get_or_append_left, get_or-take}
 use Rattle.std.proofs.lemmas.Bool.{eq-eqb}
 use Rattle.jc_words.specs.Count.{saturating_count}
+use Rattle.jc_words.specs.Layout.{version_address}
 use Rattle.jc_commit.specs.Image.{count_of, plain_of, recovered_of, touched_of, with_words, IsGoodLog}
 use Rattle.jc_commit.specs.Replay.{write_backs, torn_replay}
 use Rattle.jc_commit.specs.State.{recovered_journal}
@@ -15,7 +16,7 @@ use Rattle.jc_commit.proofs.Views.{touched_none}
 use Rattle.jc_heap.specs.Image.{IsWellFormed}
 use Rattle.jc_heap.specs.Heap.{heap_of, heap_view}
 use Rattle.jc_image.specs.Laying.{IsOfBytes, first_free, new_image_words, written_image_prefix, unsealed_heap, unsealed_view, IsPartlyWritten}
-use Rattle.jc_image.proofs.LaidImages.{length-laid, front-word, heap_of-laid, IsLaid-laid, count-laid}
+use Rattle.jc_image.proofs.LaidImages.{length-laid, front-word, version-laid, heap_of-laid, IsLaid-laid, count-laid}
 
 -- a good log is refused by a store that is down alone
 pub only_down : (w : List ℕ) (e : OpenRefusal) → IsGoodLog w → (e ≡ BadLog → IsGoodLog w → ⊥) → e ≡ StoreDown
@@ -65,7 +66,12 @@ module _ (text old w : List ℕ) (bytes : IsOfBytes text) (fits : first_free (le
   count_all = ap (λ l. get_or l 3 0) is_all ∙ count-laid (length old) text bytes rest
 
   pub good_all : IsGoodLog w
-  good_all = record { size = omega (arith, length_all, fits); few = omega (arith, count_all); places = λ k lt. absurd (omega (arith, count_all)) }
+  good_all = record {
+    size = omega (arith, length_all, fits);
+    known = ap (λ l. get_or l version_address 0) is_all ∙ version-laid (length old) text bytes rest;
+    few = omega (arith, count_all);
+    places = λ k lt. absurd (omega (arith, count_all));
+  }
 
   recovered_all : recovered_of w ≡ plain_of w
   recovered_all = recovered_plain w count_all

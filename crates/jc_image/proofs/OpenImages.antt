@@ -1,8 +1,9 @@
 -- The store of an open image.
-use Rattle.std.proofs.Common.{List, ℕ, Bool, length, take, sym, ap, ◌∙◌}
+use Rattle.std.proofs.Common.{List, ℕ, Bool, length, sym, ap, ◌∙◌}
 use Rattle.jc_commit.specs.State.{State}
+use Rattle.jc_heap.specs.Heap.{head_of}
 use Rattle.jc_heap.proofs.Holding.{IsStoreOf}
-use Rattle.jc_heap.proofs.RawWords.{plain-front}
+use Rattle.jc_heap.proofs.RawWords.{plain-head}
 use Rattle.jc_image.specs.Opening.{HoldsImage, IsOpen}
 
 pub holds_image : (w : List ℕ) (d : Bool) (p r : ℕ) (j : State) (n : ℕ) → IsStoreOf w d p r j → IsOpen j n → HoldsImage w d p r j
@@ -10,7 +11,7 @@ holds_image w d p r j n s o = record {
   good = s.good;
   plain = s.plain;
   recovered = s.recovered ∙ o.recovered;
-  head = sym (plain-front w) ∙ ap (λ (l : List ℕ). take 3 l) s.plain;
+  head = sym (plain-head w s.good.size) ∙ ap head_of s.plain;
   size = s.size ∙ ap (λ (l : List ℕ). length l) o.recovered;
   up = s.down ∙ o.up;
   closed = s.closed o.up o.closed;

@@ -1,10 +1,11 @@
 -- The magic word, written in place.
-use Rattle.std.proofs.Common.{◌≡◌, sym, subst, ℕ, ◌+◌, ◌/◌, ◌<◌, ◌&&◌, Bool, true, false, List, [], ◌∷◌, length, take, drop, set, get_or, map, refl, ◌∙◌, ap}
+use Rattle.std.proofs.Common.{◌≡◌, sym, subst, ℕ, ◌+◌, ◌/◌, ◌<◌, ◌&&◌, Bool, true, false, List, length, take, drop, set, get_or, map, refl, ◌∙◌, ap}
 use Rattle.std.proofs.Common.{arith, if◌then◌else◌, lit<}
-use Rattle.std.proofs.lemmas.List.{get_or-set_other, drop-set-lt, length-set, length-take-le}
+use Rattle.std.proofs.lemmas.List.{get_or-set_other, get_or-set_same, drop-set-lt, length-set, length-take-le}
 use Rattle.std.proofs.lemmas.Bool.{true≢false}
-use Rattle.jc_words.specs.Layout.{top_address, packages_address, applets_address, reset_end_address, deselect_end_address, text_length_address, addresses_start}
-use Rattle.jc_words.specs.Layout.{registry_start, registry_length, text_start, magic}
+use Rattle.jc_words.specs.Layout.{size_address, top_address, packages_address, applets_address, reset_end_address, deselect_end_address, text_length_address}
+use Rattle.jc_words.specs.Layout.{addresses_start, registry_start, registry_length, text_start, magic}
+use Rattle.jc_commit.specs.Image.{capacity_of}
 use Rattle.jc_commit.specs.State.{State, after_refusal, after_write_in_place, is_touched}
 use Rattle.jc_heap.specs.Cut.{records_from, missing_words}
 use Rattle.jc_heap.specs.Image.{image, base, package_addresses, is_package, sizes, item_entry, records, missing_words_of_image, table_text, IsWellFormed}
@@ -50,14 +51,10 @@ module _ (img : List ℕ) (v : ℕ) where
   text-magic = text-same img (set img 0 v) (word text_length_address (lit< tt)) (ap (take ((get_or img text_length_address 0 + 1) / 2))
       (tail text_start (lit< tt)))
 
-head-magic : (img : List ℕ) (v : ℕ) → 0 < length img → take 3 (set img 0 v) ≡ v ∷ drop 1 (take 3 img)
-head-magic [] v h = absurd (omega arith)
-head-magic (w ∷ ws) v h = refl
-
-read-magic : (img : List ℕ) (v : ℕ) → 0 < length img → read_image (set img 0 v) ≡ record (read_image img) { head = v ∷ drop 1 ((read_image img).head) }
+read-magic : (img : List ℕ) (v : ℕ) → 0 < length img → read_image (set img 0 v) ≡ record (read_image img) { head = (v, (read_image img).head.1) }
 unfolding read_image
 read-magic img v h = λ k. record {
-  head = head-magic img v h k;
+  head = (get_or-set_same img 0 v 0 h k, word img v size_address (lit< tt) k);
   text = text-magic img v k;
   items = items-magic img v k;
   counts = (word img v packages_address (lit< tt) k, word img v applets_address (lit< tt) k);
@@ -65,12 +62,13 @@ read-magic img v h = λ k. record {
   applets = ap (take registry_length) (tail img v registry_start (lit< tt)) k;
   area_ends = (word img v reset_end_address (lit< tt) k, word img v deselect_end_address (lit< tt) k);
   top = length-set img 0 v k;
+  capacity = capacity_of img;
 }
 
 image-magic : (ws : List ℕ) (v : ℕ) → image (set ws 0 v) ≡ set (image ws) 0 v
 image-magic ws v = ap (λ t. take t (set ws 0 v)) (word ws v top_address (lit< tt)) ∙ take-set_comm (get_or ws top_address 0) ws 0 v
 
-heap_of-magic : (ws : List ℕ) (v : ℕ) → IsWellFormed ws → heap_of (set ws 0 v) ≡ record (heap_of ws) { head = v ∷ drop 1 ((heap_of ws).head) }
+heap_of-magic : (ws : List ℕ) (v : ℕ) → IsWellFormed ws → heap_of (set ws 0 v) ≡ record (heap_of ws) { head = (v, (heap_of ws).head.1) }
 heap_of-magic ws v laid = ap read_image (image-magic ws v) ∙ read-magic (image ws) v
     (omega (arith, laid.based, length-take-le (get_or ws top_address 0) ws laid.fits))
 

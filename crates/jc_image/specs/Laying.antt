@@ -32,7 +32,7 @@ IsPartlyWritten text old new = (k : ℕ) × (k ≤ first_free (length text)) × 
 -- the heap without objects, of an image of n words that has no magic word yet
 abbrev pub unsealed_heap : ℕ → List ℕ → HeapState
 unsealed_heap n text = record {
-  head = 0 ∷ version ∷ n ∷ [];
+  head = (0, n);
   text = text;
   items = [];
   counts = (0, 0);
@@ -40,6 +40,7 @@ unsealed_heap n text = record {
   applets = replicate registry_length 0;
   area_ends = (0, 0);
   top = first_free (length text);
+  capacity = journal_capacity;
 }
 
 -- what the layers above see of it
@@ -48,7 +49,7 @@ unsealed_view n text passed refused = heap_at_rest (unsealed_heap n text) passed
 
 -- the heap with the magic word in its image
 abbrev pub sealed_heap : HeapState → HeapState
-sealed_heap h = record h { head = magic ∷ drop 1 h.head }
+sealed_heap h = record h { head = (magic, h.head.1) }
 
 -- what the layers above see of it: one more write has passed
 abbrev pub sealed_view : HeapView → HeapView

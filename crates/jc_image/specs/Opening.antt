@@ -1,8 +1,9 @@
 -- What opening an image leaves.
-use Rattle.std.specs.Prelude.{ℕ, ◌≡◌, ◌<◌, ◌≤◌, Bool, false, List, length, take}
+use Rattle.std.specs.Prelude.{ℕ, ◌≡◌, ◌<◌, ◌≤◌, Bool, false, List, length}
 use Rattle.jc_words.specs.Layout.{text_start}
 use Rattle.jc_commit.specs.Image.{count_of, plain_of, recovered_of, IsGoodLog}
 use Rattle.jc_commit.specs.State.{State}
+use Rattle.jc_heap.specs.Heap.{head_of}
 
 -- what the journal of a recovered image meets
 pub record IsOpen (j : State) (size : ℕ) : Type 0 where
@@ -19,7 +20,7 @@ pub record HoldsImage (words : List ℕ) (is_down : Bool) (let_pass turned_down 
   pub good : IsGoodLog words
   pub plain : plain_of words ≡ j.plain
   pub recovered : recovered_of words ≡ j.plain
-  pub head : take 3 words ≡ take 3 j.plain
+  pub head : head_of words ≡ head_of j.plain
   pub size : length words ≡ length j.plain
   pub up : is_down ≡ false
   pub closed : count_of words ≡ 0
