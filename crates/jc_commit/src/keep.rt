@@ -1,6 +1,7 @@
 //! Changes in a transaction: a word's first old value is kept, and none of a word born in it.
 ghost use Rattle.std.specs.Prelude.{◌≡◌, ◌<◌, ◌≤◌, ◌+◌, ◌*◌, ◌++◌, ◌==◌, [], ◌∷◌, length, OnOk, OnErr, IfOk, slice_set, filter, not, is_ok, true, if◌then◌else◌};
 ghost use Rattle.jc_words.specs.Count.{saturating_count};
+ghost use Rattle.jc_words.specs.Refusals.{refused_once};
 ghost use Rattle.jc_words.specs.Layout.{count_address, log_end};
 ghost use Rattle.jc_commit.specs.Image.{capacity, count_of, entries, plain_of, recovered_of, touched_of, top_of, with_words, IsGoodLog, IsPlace};
 ghost use Rattle.jc_commit.specs.Entries.{addresses_of, AreDistinct, ArePlaces, SameBefore};
@@ -86,8 +87,8 @@ fn put_entry<S: WordStore>(store: &mut S, k: u16, address: u16) -> Result<(), St
     ensures same { SameBefore k (S.words store.old) (S.words store.new) }
     ensures passed { OnOk result (S.passed store.new ≡ saturating_count (S.passed store.old) 2) }
     ensures down { S.down store.new ≡ (if is_ok result then S.down store.old else true) }
-    ensures refused { S.refused store.new ≡ (if is_ok result then S.refused store.old else
-        saturating_count (S.refused store.old) 1) }
+    ensures refusals { S.refusals store.new ≡ (if is_ok result then S.refusals store.old else
+        refused_once (S.down store.old) (S.passed store.new) (S.refusals store.old)) }
 {
     let old = store.read(address);
     let slot = address_word(k);
@@ -120,8 +121,8 @@ fn put_change<S: WordStore>(
     ensures passed { OnOk result (S.passed store.new ≡ saturating_count (S.passed store.old)
         (2 * length (needing (named_by (S.words store.old) k) born (change ∷ [])))) }
     ensures down { S.down store.new ≡ (if is_ok result then S.down store.old else true) }
-    ensures refused { S.refused store.new ≡ (if is_ok result then S.refused store.old else
-        saturating_count (S.refused store.old) 1) }
+    ensures refusals { S.refusals store.new ≡ (if is_ok result then S.refusals store.old else
+        refused_once (S.down store.old) (S.passed store.new) (S.refusals store.old)) }
 {
     let (address, _) = change;
     if is_taken_back(store, k, numbers.as_slice(), born, address) {
@@ -156,8 +157,8 @@ fn put_needing<S: WordStore, C: WordChanges>(
     ensures passed { OnOk result (S.passed store.new ≡ saturating_count (S.passed store.old)
         (2 * length (needing (named_by (S.words store.old) first) born (C.changes changes.now)))) }
     ensures down { S.down store.new ≡ (if is_ok result then S.down store.old else true) }
-    ensures refused { S.refused store.new ≡ (if is_ok result then S.refused store.old else
-        saturating_count (S.refused store.old) 1) }
+    ensures refusals { S.refusals store.new ≡ (if is_ok result then S.refusals store.old else
+        refused_once (S.down store.old) (S.passed store.new) (S.refusals store.old)) }
 {
     let mut k = first;
     for i in 0..changes.count() {
@@ -176,8 +177,8 @@ fn count_entries<S: WordStore>(store: &mut S, before: u16, behind: u16) -> Resul
     ensures passed { OnOk result (S.passed store.new ≡ saturating_count (S.passed store.old)
         (if before == behind then 0 else 1)) }
     ensures down { S.down store.new ≡ (if is_ok result then S.down store.old else true) }
-    ensures refused { S.refused store.new ≡ (if is_ok result then S.refused store.old else
-        saturating_count (S.refused store.old) 1) }
+    ensures refusals { S.refusals store.new ≡ (if is_ok result then S.refusals store.old else
+        refused_once (S.down store.old) (S.passed store.new) (S.refusals store.old)) }
 {
     if before == behind {
         return Ok(());
@@ -211,8 +212,8 @@ fn write_through<S: WordStore, C: WordChanges>(
     ensures passed { OnOk result (S.passed store.new ≡ saturating_count (S.passed store.old)
         (length (C.changes changes.now))) }
     ensures down { S.down store.new ≡ (if is_ok result then S.down store.old else true) }
-    ensures refused { S.refused store.new ≡ (if is_ok result then S.refused store.old else
-        saturating_count (S.refused store.old) 1) }
+    ensures refusals { S.refusals store.new ≡ (if is_ok result then S.refusals store.old else
+        refused_once (S.down store.old) (S.passed store.new) (S.refusals store.old)) }
 {
     for i in 0..changes.count() {
         let (address, value) = changes.change(i);
@@ -255,8 +256,8 @@ pub(crate) fn keep_and_write<S: WordStore, C: WordChanges>(
         (writes_inside (length (C.changes changes.now)) (length (needing (touched_of (S.words store.old)) born
         (C.changes changes.now))))) }
     ensures down { S.down store.new ≡ (if is_ok result then S.down store.old else true) }
-    ensures refused { S.refused store.new ≡ (if is_ok result then S.refused store.old else
-        saturating_count (S.refused store.old) 1) }
+    ensures refusals { S.refusals store.new ≡ (if is_ok result then S.refusals store.old else
+        refused_once (S.down store.old) (S.passed store.new) (S.refusals store.old)) }
 {
     let first = store.read(COUNT);
     let behind = put_needing(store, first, numbers, born, changes)?;

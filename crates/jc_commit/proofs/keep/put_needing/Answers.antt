@@ -66,5 +66,5 @@ loop-i-preserved g c =
       same = same_more first c.loop-i.k initial w v (omega (arith, i.k)) i.same c.put_change.ensures.same;
       passed = omega (arith, e.passed, i.passed, long, more);
       down = search rules;
-      refused = search rules;
+      refusals = search rules;
     }

@@ -17,5 +17,5 @@ invariant-loop-i g l =
       same : SameBefore l.first initial words;
       passed : g.S.WordStore.passed l.store ≡ saturating_count (g.S.WordStore.passed l.initial.store) (2 * length done);
       down : g.S.WordStore.down l.store ≡ g.S.WordStore.down l.initial.store;
-      refused : g.S.WordStore.refused l.store ≡ g.S.WordStore.refused l.initial.store;
+      refusals : g.S.WordStore.refusals l.store ≡ g.S.WordStore.refusals l.initial.store;
     }

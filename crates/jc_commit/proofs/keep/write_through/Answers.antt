@@ -32,5 +32,5 @@ loop-i-preserved g c =
       plain = step.plain ∙ ap (λ (p : List ℕ). set p a x) i.plain ∙ sym (with_words_more _ changes k inside);
       passed = search rules;
       down = search rules;
-      refused = search rules;
+      refusals = search rules;
     }

@@ -20,5 +20,5 @@ invariant-loop-i g l =
       plain : plain_of words ≡ with_words (plain_of initial) (take l.i (g.C.WordChanges.changes l.changes));
       passed : g.S.WordStore.passed l.store ≡ saturating_count (g.S.WordStore.passed l.initial.store) l.i;
       down : g.S.WordStore.down l.store ≡ g.S.WordStore.down l.initial.store;
-      refused : g.S.WordStore.refused l.store ≡ g.S.WordStore.refused l.initial.store;
+      refusals : g.S.WordStore.refusals l.store ≡ g.S.WordStore.refusals l.initial.store;
     }
