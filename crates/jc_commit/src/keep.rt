@@ -167,6 +167,40 @@ fn put_needing<S: WordStore, C: WordChanges>(
     Ok(k)
 }
 
+// The same, where it is known how many they are: where there are none, nothing is looked up.
+fn put_counted<S: WordStore, C: WordChanges>(
+    store: &mut S,
+    first: u16,
+    needed: usize,
+    numbers: &mut EntryIndex,
+    born: u16,
+    changes: &C,
+) -> Result<u16, StoreDown>
+    requires size { log_end ≤ length (S.words store.old) }
+    requires index { IsIndexOf (S.words store.old) first numbers.old.items }
+    requires places { ArePlaces (length (S.words store.old)) (C.changes changes.now) }
+    requires distinct { AreDistinct (addresses_of (C.changes changes.now)) }
+    requires needed { needed ≡ length (needing (named_by (S.words store.old) first) born
+        (C.changes changes.now)) }
+    requires room { first + needed ≤ capacity }
+    ensures behind { IfOk result (λ n. n ≡ first + length
+        (needing (named_by (S.words store.old) first) born (C.changes changes.now))) }
+    ensures words { OnOk result (S.words store.new ≡ with_entries (S.words store.old) first
+        (needing (named_by (S.words store.old) first) born (C.changes changes.now))) }
+    ensures index { IfOk result (λ n. IsIndexOf (S.words store.new) n numbers.new.items) }
+    ensures same { SameBefore first (S.words store.old) (S.words store.new) }
+    ensures passed { OnOk result (S.passed store.new ≡ saturating_count (S.passed store.old)
+        (2 * length (needing (named_by (S.words store.old) first) born (C.changes changes.now)))) }
+    ensures down { S.down store.new ≡ (if is_ok result then S.down store.old else true) }
+    ensures refusals { S.refusals store.new ≡ (if is_ok result then S.refusals store.old else
+        refused_once (S.down store.old) (S.passed store.new) (S.refusals store.old)) }
+{
+    if needed == 0 {
+        return Ok(first);
+    }
+    put_needing(store, first, numbers, born, changes)
+}
+
 // Counts the entries, where there are more.
 fn count_entries<S: WordStore>(store: &mut S, before: u16, behind: u16) -> Result<(), StoreDown>
     requires size { log_end ≤ length (S.words store.old) }
@@ -226,6 +260,7 @@ fn write_through<S: WordStore, C: WordChanges>(
 // and then writes the words.
 pub(crate) fn keep_and_write<S: WordStore, C: WordChanges>(
     store: &mut S,
+    needed: usize,
     numbers: &mut EntryIndex,
     born: u16,
     changes: &C,
@@ -236,8 +271,9 @@ pub(crate) fn keep_and_write<S: WordStore, C: WordChanges>(
     requires distinct { AreDistinct (addresses_of (C.changes changes.now)) }
     requires top { top_of (recovered_of (S.words store.old)) ≤ born }
     requires low { log_end ≤ born }
-    requires room { count_of (S.words store.old) + length
-        (needing (touched_of (S.words store.old)) born (C.changes changes.now)) ≤ capacity }
+    requires needed { needed
+        ≡ length (needing (touched_of (S.words store.old)) born (C.changes changes.now)) }
+    requires room { count_of (S.words store.old) + needed ≤ capacity }
     ensures good { IsGoodLog (S.words store.new) }
     ensures size { length (S.words store.new) ≡ length (S.words store.old) }
     // What a recovery leaves stays, below the top that the transaction found.
@@ -260,7 +296,7 @@ pub(crate) fn keep_and_write<S: WordStore, C: WordChanges>(
         refused_once (S.down store.old) (S.passed store.new) (S.refusals store.old)) }
 {
     let first = store.read(COUNT);
-    let behind = put_needing(store, first, numbers, born, changes)?;
+    let behind = put_counted(store, first, needed, numbers, born, changes)?;
     count_entries(store, first, behind)?;
     write_through(store, born, changes)?;
     Ok(())

@@ -7,29 +7,29 @@ use Rattle.jc_commit.proofs.Counted.{kept_before, touched_counted, touched_same}
 use Rattle.jc_commit.proofs.EntryKeeping.{Ready, ready_is, named_touched, all_go_back, count_by, index_of_all, writes_sum}
 use Rattle.jc_commit.proofs.keep.keep_and_write.Goals as goal
 
-pub put_needing-requires-clause-room : goal.put_needing-requires-clause-room
-put_needing-requires-clause-room g c =
+pub put_counted-requires-clause-needed : goal.put_counted-requires-clause-needed
+put_counted-requires-clause-needed g c =
     let w = g.S.WordStore.words c.args.store.now in
     let names : named_by w c.read-first.result ≡ _ = ap (named_by w) c.read-first.ensures ∙ named_touched w in
     let long = ap (λ (t : List ℕ). length (needing t c.args.born (g.C.WordChanges.changes c.args.changes.now))) names in
-    omega (arith, long, c.read-first.ensures, c.requires.room)
+    omega (arith, long, c.requires.needed)
 
 pub returns-in_err-behind-clause-live : goal.returns-in_err-behind-clause-live
 returns-in_err-behind-clause-live g c = ap live_words (kept_before _ _ c.read-first.result c.requires.good c.read-first.ensures
-    c.put_needing.ensures.same).recovered
+    c.put_counted.ensures.same).recovered
 
 pub returns-in_err-behind-clause-top : goal.returns-in_err-behind-clause-top
-returns-in_err-behind-clause-top g c = ap top_of (kept_before _ _ c.read-first.result c.requires.good c.read-first.ensures c.put_needing.ensures.same).recovered
+returns-in_err-behind-clause-top g c = ap top_of (kept_before _ _ c.read-first.result c.requires.good c.read-first.ensures c.put_counted.ensures.same).recovered
 
 pub returns-in_err-count_entries-clause-live : goal.returns-in_err-count_entries-clause-live
 returns-in_err-count_entries-clause-live g c =
     ap (λ (u : List ℕ). live_words (recovered_of u)) c.in_err-count_entries.ensures.kept
-    ∙ ap live_words (kept_before _ _ c.read-first.result c.requires.good c.read-first.ensures c.put_needing.ensures.same).recovered
+    ∙ ap live_words (kept_before _ _ c.read-first.result c.requires.good c.read-first.ensures c.put_counted.ensures.same).recovered
 
 pub returns-in_err-count_entries-clause-top : goal.returns-in_err-count_entries-clause-top
 returns-in_err-count_entries-clause-top g c =
     ap (λ (u : List ℕ). top_of (recovered_of u)) c.in_err-count_entries.ensures.kept ∙ ap top_of
-    (kept_before _ _ c.read-first.result c.requires.good c.read-first.ensures c.put_needing.ensures.same).recovered
+    (kept_before _ _ c.read-first.result c.requires.good c.read-first.ensures c.put_counted.ensures.same).recovered
 
 pub write_through-requires-clause-good : goal.write_through-requires-clause-good
 write_through-requires-clause-good g c =
@@ -37,9 +37,9 @@ write_through-requires-clause-good g c =
     let u = g.S.WordStore.words c.count_entries.new.store in
     let names : named_by w c.read-first.result ≡ _ = ap (named_by w) c.read-first.ensures ∙ named_touched w in
     let long = ap (λ (t : List ℕ). length (needing t c.args.born (g.C.WordChanges.changes c.args.changes.now))) names in
-    let now : Ready w _ u = ready_is w (g.S.WordStore.words c.put_needing.new.store) u c.read-first.result c.in_ok-behind.behind c.args.born (g.C.WordChanges.changes c.args.changes.now)
+    let now : Ready w _ u = ready_is w (g.S.WordStore.words c.put_counted.new.store) u c.read-first.result c.in_ok-behind.behind c.args.born (g.C.WordChanges.changes c.args.changes.now)
     c.requires.good c.requires.places c.read-first.ensures
-    (omega (arith, long, c.read-first.ensures, c.requires.room)) c.in_ok-behind.ensures.words c.in_ok-behind.ensures.behind c.in_ok-count_entries.ensures.words
+    (omega (arith, long, c.read-first.ensures, c.requires.needed, c.requires.room)) c.in_ok-behind.ensures.words c.in_ok-behind.ensures.behind c.in_ok-count_entries.ensures.words
     in
     now.good
 
@@ -49,9 +49,9 @@ write_through-requires-clause-kept g c =
     let u = g.S.WordStore.words c.count_entries.new.store in
     let names : named_by w c.read-first.result ≡ _ = ap (named_by w) c.read-first.ensures ∙ named_touched w in
     let long = ap (λ (t : List ℕ). length (needing t c.args.born (g.C.WordChanges.changes c.args.changes.now))) names in
-    let now : Ready w _ u = ready_is w (g.S.WordStore.words c.put_needing.new.store) u c.read-first.result c.in_ok-behind.behind c.args.born (g.C.WordChanges.changes c.args.changes.now)
+    let now : Ready w _ u = ready_is w (g.S.WordStore.words c.put_counted.new.store) u c.read-first.result c.in_ok-behind.behind c.args.born (g.C.WordChanges.changes c.args.changes.now)
     c.requires.good c.requires.places c.read-first.ensures
-    (omega (arith, long, c.read-first.ensures, c.requires.room)) c.in_ok-behind.ensures.words c.in_ok-behind.ensures.behind c.in_ok-count_entries.ensures.words
+    (omega (arith, long, c.read-first.ensures, c.requires.needed, c.requires.room)) c.in_ok-behind.ensures.words c.in_ok-behind.ensures.behind c.in_ok-count_entries.ensures.words
     in
     all_go_back w u c.args.born (g.C.WordChanges.changes c.args.changes.now) now.entries
 
@@ -61,9 +61,9 @@ write_through-requires-clause-top g c =
     let u = g.S.WordStore.words c.count_entries.new.store in
     let names : named_by w c.read-first.result ≡ _ = ap (named_by w) c.read-first.ensures ∙ named_touched w in
     let long = ap (λ (t : List ℕ). length (needing t c.args.born (g.C.WordChanges.changes c.args.changes.now))) names in
-    let now : Ready w _ u = ready_is w (g.S.WordStore.words c.put_needing.new.store) u c.read-first.result c.in_ok-behind.behind c.args.born (g.C.WordChanges.changes c.args.changes.now)
+    let now : Ready w _ u = ready_is w (g.S.WordStore.words c.put_counted.new.store) u c.read-first.result c.in_ok-behind.behind c.args.born (g.C.WordChanges.changes c.args.changes.now)
     c.requires.good c.requires.places c.read-first.ensures
-    (omega (arith, long, c.read-first.ensures, c.requires.room)) c.in_ok-behind.ensures.words c.in_ok-behind.ensures.behind c.in_ok-count_entries.ensures.words
+    (omega (arith, long, c.read-first.ensures, c.requires.needed, c.requires.room)) c.in_ok-behind.ensures.words c.in_ok-behind.ensures.behind c.in_ok-count_entries.ensures.words
     in
     let top = ap top_of now.recovered in omega (arith, top, c.requires.top)
 
@@ -73,9 +73,9 @@ returns-in_err-write_through-clause-live g c =
     let u = g.S.WordStore.words c.count_entries.new.store in
     let names : named_by w c.read-first.result ≡ _ = ap (named_by w) c.read-first.ensures ∙ named_touched w in
     let long = ap (λ (t : List ℕ). length (needing t c.args.born (g.C.WordChanges.changes c.args.changes.now))) names in
-    let now : Ready w _ u = ready_is w (g.S.WordStore.words c.put_needing.new.store) u c.read-first.result c.in_ok-behind.behind c.args.born (g.C.WordChanges.changes c.args.changes.now)
+    let now : Ready w _ u = ready_is w (g.S.WordStore.words c.put_counted.new.store) u c.read-first.result c.in_ok-behind.behind c.args.born (g.C.WordChanges.changes c.args.changes.now)
     c.requires.good c.requires.places c.read-first.ensures
-    (omega (arith, long, c.read-first.ensures, c.requires.room)) c.in_ok-behind.ensures.words c.in_ok-behind.ensures.behind c.in_ok-count_entries.ensures.words
+    (omega (arith, long, c.read-first.ensures, c.requires.needed, c.requires.room)) c.in_ok-behind.ensures.words c.in_ok-behind.ensures.behind c.in_ok-count_entries.ensures.words
     in
     c.write_through.ensures.live ∙ ap live_words now.recovered
 
@@ -85,9 +85,9 @@ returns-in_err-write_through-clause-top g c =
     let u = g.S.WordStore.words c.count_entries.new.store in
     let names : named_by w c.read-first.result ≡ _ = ap (named_by w) c.read-first.ensures ∙ named_touched w in
     let long = ap (λ (t : List ℕ). length (needing t c.args.born (g.C.WordChanges.changes c.args.changes.now))) names in
-    let now : Ready w _ u = ready_is w (g.S.WordStore.words c.put_needing.new.store) u c.read-first.result c.in_ok-behind.behind c.args.born (g.C.WordChanges.changes c.args.changes.now)
+    let now : Ready w _ u = ready_is w (g.S.WordStore.words c.put_counted.new.store) u c.read-first.result c.in_ok-behind.behind c.args.born (g.C.WordChanges.changes c.args.changes.now)
     c.requires.good c.requires.places c.read-first.ensures
-    (omega (arith, long, c.read-first.ensures, c.requires.room)) c.in_ok-behind.ensures.words c.in_ok-behind.ensures.behind c.in_ok-count_entries.ensures.words
+    (omega (arith, long, c.read-first.ensures, c.requires.needed, c.requires.room)) c.in_ok-behind.ensures.words c.in_ok-behind.ensures.behind c.in_ok-count_entries.ensures.words
     in
     c.write_through.ensures.top ∙ ap top_of now.recovered
 
@@ -97,9 +97,9 @@ returns-clause-live g c =
     let u = g.S.WordStore.words c.count_entries.new.store in
     let names : named_by w c.read-first.result ≡ _ = ap (named_by w) c.read-first.ensures ∙ named_touched w in
     let long = ap (λ (t : List ℕ). length (needing t c.args.born (g.C.WordChanges.changes c.args.changes.now))) names in
-    let now : Ready w _ u = ready_is w (g.S.WordStore.words c.put_needing.new.store) u c.read-first.result c.in_ok-behind.behind c.args.born (g.C.WordChanges.changes c.args.changes.now)
+    let now : Ready w _ u = ready_is w (g.S.WordStore.words c.put_counted.new.store) u c.read-first.result c.in_ok-behind.behind c.args.born (g.C.WordChanges.changes c.args.changes.now)
     c.requires.good c.requires.places c.read-first.ensures
-    (omega (arith, long, c.read-first.ensures, c.requires.room)) c.in_ok-behind.ensures.words c.in_ok-behind.ensures.behind c.in_ok-count_entries.ensures.words
+    (omega (arith, long, c.read-first.ensures, c.requires.needed, c.requires.room)) c.in_ok-behind.ensures.words c.in_ok-behind.ensures.behind c.in_ok-count_entries.ensures.words
     in
     c.write_through.ensures.live ∙ ap live_words now.recovered
 
@@ -109,9 +109,9 @@ returns-clause-top g c =
     let u = g.S.WordStore.words c.count_entries.new.store in
     let names : named_by w c.read-first.result ≡ _ = ap (named_by w) c.read-first.ensures ∙ named_touched w in
     let long = ap (λ (t : List ℕ). length (needing t c.args.born (g.C.WordChanges.changes c.args.changes.now))) names in
-    let now : Ready w _ u = ready_is w (g.S.WordStore.words c.put_needing.new.store) u c.read-first.result c.in_ok-behind.behind c.args.born (g.C.WordChanges.changes c.args.changes.now)
+    let now : Ready w _ u = ready_is w (g.S.WordStore.words c.put_counted.new.store) u c.read-first.result c.in_ok-behind.behind c.args.born (g.C.WordChanges.changes c.args.changes.now)
     c.requires.good c.requires.places c.read-first.ensures
-    (omega (arith, long, c.read-first.ensures, c.requires.room)) c.in_ok-behind.ensures.words c.in_ok-behind.ensures.behind c.in_ok-count_entries.ensures.words
+    (omega (arith, long, c.read-first.ensures, c.requires.needed, c.requires.room)) c.in_ok-behind.ensures.words c.in_ok-behind.ensures.behind c.in_ok-count_entries.ensures.words
     in
     c.write_through.ensures.top ∙ ap top_of now.recovered
 
@@ -121,9 +121,9 @@ returns-clause-plain g c =
     let u = g.S.WordStore.words c.count_entries.new.store in
     let names : named_by w c.read-first.result ≡ _ = ap (named_by w) c.read-first.ensures ∙ named_touched w in
     let long = ap (λ (t : List ℕ). length (needing t c.args.born (g.C.WordChanges.changes c.args.changes.now))) names in
-    let now : Ready w _ u = ready_is w (g.S.WordStore.words c.put_needing.new.store) u c.read-first.result c.in_ok-behind.behind c.args.born (g.C.WordChanges.changes c.args.changes.now)
+    let now : Ready w _ u = ready_is w (g.S.WordStore.words c.put_counted.new.store) u c.read-first.result c.in_ok-behind.behind c.args.born (g.C.WordChanges.changes c.args.changes.now)
     c.requires.good c.requires.places c.read-first.ensures
-    (omega (arith, long, c.read-first.ensures, c.requires.room)) c.in_ok-behind.ensures.words c.in_ok-behind.ensures.behind c.in_ok-count_entries.ensures.words
+    (omega (arith, long, c.read-first.ensures, c.requires.needed, c.requires.room)) c.in_ok-behind.ensures.words c.in_ok-behind.ensures.behind c.in_ok-count_entries.ensures.words
     in
     c.in_ok-write_through.ensures.plain ∙ ap (λ (p : List ℕ). with_words p (g.C.WordChanges.changes c.args.changes.now)) now.plain
 
@@ -133,9 +133,9 @@ returns-clause-touched g c =
     let u = g.S.WordStore.words c.count_entries.new.store in
     let names : named_by w c.read-first.result ≡ _ = ap (named_by w) c.read-first.ensures ∙ named_touched w in
     let long = ap (λ (t : List ℕ). length (needing t c.args.born (g.C.WordChanges.changes c.args.changes.now))) names in
-    let now : Ready w _ u = ready_is w (g.S.WordStore.words c.put_needing.new.store) u c.read-first.result c.in_ok-behind.behind c.args.born (g.C.WordChanges.changes c.args.changes.now)
+    let now : Ready w _ u = ready_is w (g.S.WordStore.words c.put_counted.new.store) u c.read-first.result c.in_ok-behind.behind c.args.born (g.C.WordChanges.changes c.args.changes.now)
     c.requires.good c.requires.places c.read-first.ensures
-    (omega (arith, long, c.read-first.ensures, c.requires.room)) c.in_ok-behind.ensures.words c.in_ok-behind.ensures.behind c.in_ok-count_entries.ensures.words
+    (omega (arith, long, c.read-first.ensures, c.requires.needed, c.requires.room)) c.in_ok-behind.ensures.words c.in_ok-behind.ensures.behind c.in_ok-count_entries.ensures.words
     in
     touched_same u (g.S.WordStore.words c.write_through.new.store) c.write_through.ensures.entries ∙ touched_counted w u _ now.entries
 
@@ -145,11 +145,11 @@ returns-clause-passed g c =
     let u = g.S.WordStore.words c.count_entries.new.store in
     let names : named_by w c.read-first.result ≡ _ = ap (named_by w) c.read-first.ensures ∙ named_touched w in
     let long = ap (λ (t : List ℕ). length (needing t c.args.born (g.C.WordChanges.changes c.args.changes.now))) names in
-    let now : Ready w _ u = ready_is w (g.S.WordStore.words c.put_needing.new.store) u c.read-first.result c.in_ok-behind.behind c.args.born (g.C.WordChanges.changes c.args.changes.now)
+    let now : Ready w _ u = ready_is w (g.S.WordStore.words c.put_counted.new.store) u c.read-first.result c.in_ok-behind.behind c.args.born (g.C.WordChanges.changes c.args.changes.now)
     c.requires.good c.requires.places c.read-first.ensures
-    (omega (arith, long, c.read-first.ensures, c.requires.room)) c.in_ok-behind.ensures.words c.in_ok-behind.ensures.behind c.in_ok-count_entries.ensures.words
+    (omega (arith, long, c.read-first.ensures, c.requires.needed, c.requires.room)) c.in_ok-behind.ensures.words c.in_ok-behind.ensures.behind c.in_ok-count_entries.ensures.words
     in
-    writes_sum (g.S.WordStore.passed c.args.store.now) (g.S.WordStore.passed c.put_needing.new.store) (g.S.WordStore.passed c.count_entries.new.store)
+    writes_sum (g.S.WordStore.passed c.args.store.now) (g.S.WordStore.passed c.put_counted.new.store) (g.S.WordStore.passed c.count_entries.new.store)
     (g.S.WordStore.passed c.write_through.new.store) c.read-first.result c.in_ok-behind.behind
     (length (g.C.WordChanges.changes c.args.changes.now)) _ (c.in_ok-behind.ensures.behind ∙ ap (λ (n : ℕ). c.read-first.result + n) long) (c.in_ok-behind.ensures.passed
     ∙ ap (λ (n : ℕ). saturating_count (g.S.WordStore.passed c.args.store.now) (2 * n)) long) c.in_ok-count_entries.ensures.passed
@@ -161,13 +161,13 @@ returns-clause-index g c =
     let u = g.S.WordStore.words c.count_entries.new.store in
     let names : named_by w c.read-first.result ≡ _ = ap (named_by w) c.read-first.ensures ∙ named_touched w in
     let long = ap (λ (t : List ℕ). length (needing t c.args.born (g.C.WordChanges.changes c.args.changes.now))) names in
-    let now : Ready w _ u = ready_is w (g.S.WordStore.words c.put_needing.new.store) u c.read-first.result c.in_ok-behind.behind c.args.born (g.C.WordChanges.changes c.args.changes.now)
+    let now : Ready w _ u = ready_is w (g.S.WordStore.words c.put_counted.new.store) u c.read-first.result c.in_ok-behind.behind c.args.born (g.C.WordChanges.changes c.args.changes.now)
     c.requires.good c.requires.places c.read-first.ensures
-    (omega (arith, long, c.read-first.ensures, c.requires.room)) c.in_ok-behind.ensures.words c.in_ok-behind.ensures.behind c.in_ok-count_entries.ensures.words
+    (omega (arith, long, c.read-first.ensures, c.requires.needed, c.requires.room)) c.in_ok-behind.ensures.words c.in_ok-behind.ensures.behind c.in_ok-count_entries.ensures.words
     in
-    let both = count_by w (g.S.WordStore.words c.put_needing.new.store) u c.read-first.result c.in_ok-behind.behind c.put_needing.ensures.same
+    let both = count_by w (g.S.WordStore.words c.put_counted.new.store) u c.read-first.result c.in_ok-behind.behind c.put_counted.ensures.same
     c.read-first.ensures c.requires.good.size c.in_ok-count_entries.ensures.words in
-    index_of_all (g.S.WordStore.words c.put_needing.new.store) u (g.S.WordStore.words c.write_through.new.store) c.in_ok-behind.behind
-    c.put_needing.new.numbers.items c.in_ok-behind.ensures.index
-    (omega (arith, c.in_ok-behind.ensures.behind, long, c.read-first.ensures, c.requires.room)) both.1 c.write_through.ensures.addresses
+    index_of_all (g.S.WordStore.words c.put_counted.new.store) u (g.S.WordStore.words c.write_through.new.store) c.in_ok-behind.behind
+    c.put_counted.new.numbers.items c.in_ok-behind.ensures.index
+    (omega (arith, c.in_ok-behind.ensures.behind, long, c.read-first.ensures, c.requires.needed, c.requires.room)) both.1 c.write_through.ensures.addresses
     (c.write_through.ensures.count ∙ both.0)
