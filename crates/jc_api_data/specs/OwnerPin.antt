@@ -1,5 +1,5 @@
 -- OwnerPIN (API specification).
-use Rattle.std.specs.Prelude.{ℕ, ◌==◌, nat_le, false, List, if◌then◌else◌, Option, Some, None, Result, Ok, Err}
+use Rattle.std.specs.Prelude.{ℕ, ◌==◌, false, List, if◌then◌else◌, Option, Some, None, Result, Ok, Err}
 use Rattle.std.specs.Int.{w16, cast_signed}
 use Rattle.jc_transient.specs.State.{flag_of}
 use Rattle.jc_frames.specs.declared.cell.Cell.{Cell}
@@ -64,9 +64,9 @@ owner_pin_init args m =
     if_some (receiver m args) (λ pin. if_some (short_argument args 1) (λ limit. if_some (short_argument args 2) (λ maximum.
     if_ok (at_least_1 limit) (λ l. if_ok (at_least_1 maximum) (λ n. changed_or_thrown (pin_init m pin l n) m)))))
 
--- the bytes that are compared: none, where the arguments are bad; nor can more be equal than an update can set
+-- the bytes that are compared: none, where the arguments are bad
 abbrev pub guess_of : MemoryState → Result Stretch FrameExit → Option (List ℕ)
-guess_of m (Ok e) = if nat_le e.count 254 then Some (bytes_in m e) else None
+guess_of m (Ok e) = Some (bytes_in m e)
 guess_of m (Err stop) = None
 
 -- check of a PIN: where a try is left it is counted, and bad arguments throw after that

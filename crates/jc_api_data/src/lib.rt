@@ -9,6 +9,7 @@ mod apdu_phase;
 mod apdu_receive;
 mod apdu_send;
 pub mod exceptions;
+mod lengths;
 pub mod objects;
 mod owner_pin;
 mod owner_pin_arguments;

@@ -5,6 +5,7 @@ ghost use Rattle.jc_pin.specs.Pins.{IsPin};
 ghost use Rattle.jc_world.specs.Arrays.{IsBytesArgument, IsInArray};
 ghost use Rattle.jc_api_data.specs.OwnerPinArguments.{at_least_1, array_arguments, argument_bytes, receiver, is_own_value};
 
+use crate::lengths::MOST_ELEMENTS;
 use jc_frames::reasons::ILLEGAL_PIN_VALUE;
 use jc_frames::{Cell, CodeFault, Exception, FrameExit};
 use jc_heap::Facts;
@@ -80,6 +81,7 @@ pub(crate) fn argument_bytes<S: WordStore>(
     requires there { IsBytesArgument memory.now given.now.array given.now.header }
     ensures named { result ≡ argument_bytes given.now linked.now memory.now }
     ensures there { IfOk result (IsInArray memory.now) }
+    ensures few { IfOk result (λ e. e.count ≤ MOST_ELEMENTS) }
 {
     elements(
         given.array,

@@ -1,22 +1,43 @@
 //! `owner_pin_check` of `OwnerPIN`.
-ghost use Rattle.std.specs.Prelude.{◌≡◌, false, Ok, IfOk};
+ghost use Rattle.std.specs.Prelude.{◌≡◌, ◌≤◌, false, Some, IfOk};
 ghost use Rattle.jc_memory.specs.Programs.{Executes};
 ghost use Rattle.jc_heap.specs.Completions.{after_step};
 ghost use Rattle.jc_world.specs.NativeCalls.{after_call};
 ghost use Rattle.jc_pin.specs.Checking.{pin_check};
 ghost use Rattle.jc_pin.specs.Pins.{IsPin};
 ghost use Rattle.jc_world.specs.Arrays.{IsInArray};
-ghost use Rattle.jc_api_data.specs.OwnerPin.{pin_comparison, guess_of, owner_pin_check};
+ghost use Rattle.jc_api_data.specs.OwnerPin.{bytes_in, pin_comparison, owner_pin_check};
 
+use crate::lengths::MOST_ELEMENTS;
 use crate::owner_pin_arguments::{argument_bytes, array_arguments, receiver};
-use crate::owner_pin_update::MOST_VALUE;
 use jc_frames::{Cell, FrameExit};
 use jc_linker::linked::Linked;
-use jc_memory::Memory;
+use jc_memory::{MOST_COMMAND, Memory};
 use jc_pin::tries;
 use jc_transient::Ref;
 use jc_words::{StoreDown, WordStore};
 use jc_world::{NativeResult, StepExit, Stretch};
+
+// Compares at most so many bytes of an array with the value, once a try was counted.
+#[inline(never)]
+fn compare_most<const MOST: usize, S: WordStore>(
+    memory: &mut Memory<S>,
+    pin: Ref,
+    bytes: Stretch,
+) -> Result<bool, StoreDown>
+    requires up { memory.old.heap.down ≡ false }
+    requires pin { IsPin memory.old pin }
+    requires bytes { IsInArray memory.old bytes }
+    requires few { bytes.count ≤ MOST }
+    requires most { MOST ≤ MOST_ELEMENTS }
+    ensures { Executes (pin_check memory.old pin (Some (bytes_in memory.old bytes))) memory.old
+        (after_step result memory.new) }
+{
+    let mut buffer = [0; MOST];
+    let guess = &mut buffer[..bytes.count as usize];
+    memory.bytes(bytes.array, bytes.start, guess);
+    jc_pin::check(memory, pin, Some(guess))
+}
 
 // Compares bytes of an array with the value, once a try was counted.
 fn compare_bytes<S: WordStore>(
@@ -27,16 +48,14 @@ fn compare_bytes<S: WordStore>(
     requires up { memory.old.heap.down ≡ false }
     requires pin { IsPin memory.old pin }
     requires bytes { IsInArray memory.old bytes }
-    ensures { Executes (pin_check memory.old pin (guess_of memory.old (Ok bytes))) memory.old
+    requires few { bytes.count ≤ MOST_ELEMENTS }
+    ensures { Executes (pin_check memory.old pin (Some (bytes_in memory.old bytes))) memory.old
         (after_step result memory.new) }
 {
-    if bytes.count > MOST_VALUE {
-        return jc_pin::check(memory, pin, None);
+    if bytes.count as usize <= MOST_COMMAND {
+        return compare_most::<MOST_COMMAND, S>(memory, pin, bytes);
     }
-    let mut guess = [0; MOST_VALUE as usize];
-    let guess = &mut guess[..bytes.count as usize];
-    memory.bytes(bytes.array, bytes.start, guess);
-    jc_pin::check(memory, pin, Some(guess))
+    compare_most::<MOST_ELEMENTS, S>(memory, pin, bytes)
 }
 
 // Compares, where a try is left; bad arguments throw once it was counted.
@@ -49,6 +68,7 @@ fn pin_comparison<S: WordStore>(
     requires up { memory.old.heap.down ≡ false }
     requires pin { IsPin memory.old pin }
     requires bytes { IfOk bytes (IsInArray memory.old) }
+    requires few { IfOk bytes (λ e. e.count ≤ MOST_ELEMENTS) }
     ensures { Executes (pin_comparison memory.old pin bytes) memory.old
         (after_call result memory.new) }
 {

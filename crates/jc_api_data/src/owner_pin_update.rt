@@ -1,28 +1,26 @@
 //! `<init>` and `update` of `OwnerPIN`.
-ghost use Rattle.std.specs.Prelude.{◌≡◌, false, nat_lt, if◌then◌else◌};
+ghost use Rattle.std.specs.Prelude.{◌≡◌, ◌≤◌, false};
 ghost use Rattle.jc_memory.specs.Programs.{Executes};
 ghost use Rattle.jc_world.specs.NativeCalls.{after_call};
-ghost use Rattle.jc_pin.specs.Pins.{IsPin, record_of};
+ghost use Rattle.jc_pin.specs.Pins.{IsPin};
 ghost use Rattle.jc_pin.specs.PinInit.{pin_init};
 ghost use Rattle.jc_pin.specs.Updating.{after_pin, pin_update};
 ghost use Rattle.jc_world.specs.Arrays.{IsInArray};
 ghost use Rattle.jc_api_data.specs.OwnerPin.{answer_of, bytes_in, owner_pin_init, changed_or_thrown, owner_pin_update};
 
+use crate::lengths::MOST_ELEMENTS;
 use crate::owner_pin_arguments::{
     argument_bytes, array_arguments, at_least_1, is_own_value, receiver,
 };
 use jc_frames::Cell;
 use jc_frames::reasons::{BUFFER_FULL, ILLEGAL_PIN_VALUE, NO_RESOURCE};
 use jc_linker::linked::Linked;
-use jc_memory::Memory;
-use jc_pin::{PinRefusal, init, record, update};
+use jc_memory::{MOST_COMMAND, Memory};
+use jc_pin::{PinRefusal, init, update};
 use jc_transient::Ref;
 use jc_words::WordStore;
 use jc_world::arguments::short_argument;
 use jc_world::{NativeResult, StepExit, Stretch};
-
-/// How many bytes an update can set at most.
-pub(crate) const MOST_VALUE: u16 = 254;
 
 // What a call answers that changes a PIN.
 fn answer_of(change: Result<(), PinRefusal>) -> Result<NativeResult, StepExit>
@@ -70,18 +68,25 @@ pub(crate) fn owner_pin_init<S: WordStore>(
     set_up(memory, pin, limit, maximum)
 }
 
-// Why bytes are refused of which there are more than an update can set.
-fn refusal_of<S: WordStore>(memory: &Memory<S>, pin: Ref, count: u16) -> PinRefusal
-    requires up { memory.now.heap.down ≡ false }
-    requires pin { IsPin memory.now pin }
-    ensures { result ≡ (if nat_lt (record_of memory.now pin).maximum count then
-        PinRefusal.IllegalValue else PinRefusal.CommitFull) }
+// Gives a PIN at most so many bytes of an array as its value.
+#[inline(never)]
+fn set_most<const MOST: usize, S: WordStore>(
+    memory: &mut Memory<S>,
+    pin: Ref,
+    bytes: Stretch,
+) -> Result<(), PinRefusal>
+    requires up { memory.old.heap.down ≡ false }
+    requires pin { IsPin memory.old pin }
+    requires bytes { IsInArray memory.old bytes }
+    requires few { bytes.count ≤ MOST }
+    requires most { MOST ≤ MOST_ELEMENTS }
+    ensures { Executes (pin_update memory.old pin (bytes_in memory.old bytes)) memory.old
+        (after_pin result memory.new) }
 {
-    if count > record(memory, pin).maximum {
-        PinRefusal::IllegalValue
-    } else {
-        PinRefusal::CommitFull
-    }
+    let mut buffer = [0; MOST];
+    let value = &mut buffer[..bytes.count as usize];
+    memory.bytes(bytes.array, bytes.start, value);
+    update(memory, pin, value)
 }
 
 // Gives a PIN bytes of an array as its value.
@@ -93,16 +98,14 @@ fn set_bytes<S: WordStore>(
     requires up { memory.old.heap.down ≡ false }
     requires pin { IsPin memory.old pin }
     requires bytes { IsInArray memory.old bytes }
+    requires few { bytes.count ≤ MOST_ELEMENTS }
     ensures { Executes (pin_update memory.old pin (bytes_in memory.old bytes)) memory.old
         (after_pin result memory.new) }
 {
-    if bytes.count > MOST_VALUE {
-        return Err(refusal_of(memory, pin, bytes.count));
+    if bytes.count as usize <= MOST_COMMAND {
+        return set_most::<MOST_COMMAND, S>(memory, pin, bytes);
     }
-    let mut value = [0; MOST_VALUE as usize];
-    let value = &mut value[..bytes.count as usize];
-    memory.bytes(bytes.array, bytes.start, value);
-    update(memory, pin, value)
+    set_most::<MOST_ELEMENTS, S>(memory, pin, bytes)
 }
 
 // The same, as a call answers it.
@@ -114,6 +117,7 @@ fn set_named<S: WordStore>(
     requires up { memory.old.heap.down ≡ false }
     requires pin { IsPin memory.old pin }
     requires bytes { IsInArray memory.old bytes }
+    requires few { bytes.count ≤ MOST_ELEMENTS }
     ensures { Executes (changed_or_thrown (pin_update memory.old pin (bytes_in memory.old bytes))
         memory.old) memory.old (after_call result memory.new) }
 {

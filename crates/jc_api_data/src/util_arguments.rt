@@ -1,8 +1,9 @@
 //! The array arguments of `Util`'s methods, all checked.
-ghost use Rattle.std.specs.Prelude.{◌≡◌, false, IfOk, pos};
+ghost use Rattle.std.specs.Prelude.{◌≡◌, ◌≤◌, false, IfOk, pos};
 ghost use Rattle.jc_world.specs.Arrays.{IsInArray};
 ghost use Rattle.jc_api_data.specs.UtilArguments.{pair_arguments, pair_of, two_of};
 
+use crate::lengths::MOST_ELEMENTS;
 use jc_frames::{Cell, FrameExit};
 use jc_linker::linked::Linked;
 use jc_memory::Memory;
@@ -59,6 +60,7 @@ pub(crate) fn pair_of<S: WordStore>(
     ensures from { IfOk result (λ a. IsInArray memory.now a.from) }
     ensures to { IfOk result (λ a. IsInArray memory.now a.to) }
     ensures count { IfOk result (λ a. a.from.count ≡ a.to.count) }
+    ensures few { IfOk result (λ a. a.from.count ≤ MOST_ELEMENTS) }
 {
     let source = bytes_argument(named.source, memory)?;
     let destination = bytes_argument(named.destination, memory)?;

@@ -1,10 +1,11 @@
 //! Copying between arrays of bytes.
-ghost use Rattle.std.specs.Prelude.{◌≡◌, ◌≤◌, false, length, take};
+ghost use Rattle.std.specs.Prelude.{◌≡◌, ◌≤◌, false, length};
 ghost use Rattle.jc_memory.specs.Programs.{Executes};
 ghost use Rattle.jc_heap.specs.Completions.{after_change};
 ghost use Rattle.jc_memory.specs.Cells.{cells_store};
 ghost use Rattle.jc_world.specs.Arrays.{IsInArray, bytes_in};
 
+use crate::lengths::MOST_ELEMENTS;
 use jc_heap::ChangeRefusal;
 use jc_memory::{MOST_COMMAND, Memory};
 use jc_transient::AREA_CELLS;
@@ -13,34 +14,6 @@ use jc_world::{Stretch, put};
 
 // How many elements a transient array has at most.
 const MOST_TRANSIENT: usize = AREA_CELLS as usize;
-
-// Bytes as words.
-fn widen(words: &mut [u16], bytes: &[u8])
-    requires { length bytes.now ≤ length words.old }
-    ensures { take (length bytes.now) words.new ≡ bytes.now }
-{
-    for (k, byte) in bytes.iter().enumerate() {
-        words[k] = u16::from(*byte);
-    }
-}
-
-// Sets elements of an array of bytes, at most as many as there are transient cells.
-fn put_many<S: WordStore>(
-    memory: &mut Memory<S>,
-    to: Stretch,
-    bytes: &[u8],
-) -> Result<(), ChangeRefusal>
-    requires up { memory.old.heap.down ≡ false }
-    requires there { IsInArray memory.old to }
-    requires all { length bytes.now ≡ to.count }
-    requires few { length bytes.now ≤ MOST_TRANSIENT }
-    ensures { Executes (cells_store memory.old to.array to.start bytes.now) memory.old
-        (after_change result memory.new) }
-{
-    let mut words = [0; MOST_TRANSIENT];
-    widen(&mut words, bytes);
-    memory.set_run(to.array, to.start, &words[..bytes.len()])
-}
 
 // Copies no more bytes than a command has.
 fn copy_few<S: WordStore>(
@@ -62,8 +35,21 @@ fn copy_few<S: WordStore>(
     put(memory, to, &bytes[..count])
 }
 
-// Copies bytes, at most as many as there are transient cells.
-fn copy_many<S: WordStore>(
+// Reads bytes of an array, each as a word.
+fn read_bytes<S: WordStore>(memory: &Memory<S>, from: Stretch, words: &mut [u16])
+    requires up { memory.now.heap.down ≡ false }
+    requires from { IsInArray memory.now from }
+    requires all { length words.old ≡ from.count }
+    ensures { words.new ≡ bytes_in memory.now from }
+{
+    for k in 0..words.len() {
+        words[k] = u16::from(memory.byte(from.array, from.start + k as u16));
+    }
+}
+
+// Copies at most so many bytes.
+#[inline(never)]
+fn copy_most<const MOST: usize, S: WordStore>(
     memory: &mut Memory<S>,
     from: Stretch,
     to: Stretch,
@@ -72,14 +58,15 @@ fn copy_many<S: WordStore>(
     requires from { IsInArray memory.old from }
     requires to { IsInArray memory.old to }
     requires all { from.count ≡ to.count }
-    requires few { from.count ≤ MOST_TRANSIENT }
+    requires few { from.count ≤ MOST }
+    requires most { MOST ≤ MOST_ELEMENTS }
     ensures { Executes (cells_store memory.old to.array to.start (bytes_in memory.old from))
         memory.old (after_change result memory.new) }
 {
-    let count = from.count as usize;
-    let mut bytes = [0; MOST_TRANSIENT];
-    memory.bytes(from.array, from.start, &mut bytes[..count]);
-    put_many(memory, to, &bytes[..count])
+    let mut buffer = [0; MOST];
+    let words = &mut buffer[..from.count as usize];
+    read_bytes(memory, from, words);
+    memory.set_run(to.array, to.start, words)
 }
 
 /// Copies bytes as if they were first copied elsewhere, and as one change.
@@ -92,14 +79,16 @@ pub(crate) fn copy<S: WordStore>(
     requires from { IsInArray memory.old from }
     requires to { IsInArray memory.old to }
     requires all { from.count ≡ to.count }
+    requires few { from.count ≤ MOST_ELEMENTS }
     ensures { Executes (cells_store memory.old to.array to.start (bytes_in memory.old from))
         memory.old (after_change result memory.new) }
 {
-    if from.count as usize <= MOST_COMMAND {
+    let count = from.count as usize;
+    if count <= MOST_COMMAND {
         return copy_few(memory, from, to);
     }
-    match memory.facts(to.array).event {
-        None => Err(ChangeRefusal::CommitFull),
-        Some(_) => copy_many(memory, from, to),
+    if count <= MOST_TRANSIENT {
+        return copy_most::<MOST_TRANSIENT, S>(memory, from, to);
     }
+    copy_most::<MOST_ELEMENTS, S>(memory, from, to)
 }

@@ -56,7 +56,10 @@ abbrev pub jc_system_get_transaction_depth : Depth → ℤ
 jc_system_get_transaction_depth Outside = pos 0
 jc_system_get_transaction_depth Inside = pos 1
 
--- JCSystem.getUnusedCommitCapacity: the commit capacity that is left in bytes, four for each word whose old
--- value can be kept
+-- JCSystem.getMaxCommitCapacity: the commit capacity in bytes, four for each word whose old value can be kept
+abbrev pub jc_system_get_max_commit_capacity : MemoryState → ℤ
+jc_system_get_max_commit_capacity m = cast_signed w16 (4 * m.heap.durable.capacity)
+
+-- JCSystem.getUnusedCommitCapacity: what of it is left
 abbrev pub jc_system_get_unused_commit_capacity : MemoryState → ℤ
 jc_system_get_unused_commit_capacity m = cast_signed w16 (4 * room_left m.heap)

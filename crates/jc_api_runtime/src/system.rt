@@ -10,7 +10,8 @@ use crate::system_sharing::{
 };
 use crate::system_transactions::{
     jc_system_abort_transaction, jc_system_begin_transaction, jc_system_commit_transaction,
-    jc_system_get_transaction_depth, jc_system_get_unused_commit_capacity,
+    jc_system_get_max_commit_capacity, jc_system_get_transaction_depth,
+    jc_system_get_unused_commit_capacity,
 };
 use crate::system_transient::{jc_system_is_transient, jc_system_make_transient_array};
 use jc_frames::{Cell, Outcome};
@@ -28,8 +29,7 @@ use jc_platform::names::PlatformMethod::{
 use jc_words::WordStore;
 use jc_world::{NativeResult, StepExit, short};
 
-/// `JCSystem.getMaxCommitCapacity`: returns 1,024 bytes; each other method of `JCSystem` is called here too. A
-/// method of another class is a code fault.
+/// A call of a method of `JCSystem`. A method of another class is a code fault.
 #[tactic(auto, unfolding(crate::specs::System::system_call))]
 pub fn call_system<S: WordStore>(
     method: PlatformMethod,
@@ -48,7 +48,7 @@ pub fn call_system<S: WordStore>(
         JcSystemGetAid => Ok(NativeResult::ReturnValue(Cell::Reference(jc_system_get_aid(memory)))),
         JcSystemGetAppletShareableInterfaceObject =>
             jc_system_get_applet_shareable_interface_object(args, memory, linked),
-        JcSystemGetMaxCommitCapacity => Ok(short(1024)),
+        JcSystemGetMaxCommitCapacity => Ok(short(jc_system_get_max_commit_capacity(memory))),
         JcSystemGetPreviousContextAid => Ok(NativeResult::ReturnValue(Cell::Reference(
             jc_system_get_previous_context_aid(memory),
         ))),

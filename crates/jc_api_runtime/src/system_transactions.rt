@@ -4,7 +4,8 @@ ghost use Rattle.jc_memory.specs.State.{apply_effect};
 ghost use Rattle.jc_memory.specs.Programs.{Executes};
 ghost use Rattle.jc_world.specs.NativeCalls.{after_call};
 ghost use Rattle.jc_api_runtime.specs.SystemTransactions.{jc_system_begin_transaction, jc_system_commit_transaction, jc_system_abort_transaction, set_level};
-ghost use Rattle.jc_api_runtime.specs.SystemTransactions.{jc_system_get_transaction_depth, jc_system_get_unused_commit_capacity};
+ghost use Rattle.jc_api_runtime.specs.SystemTransactions.{jc_system_get_transaction_depth, jc_system_get_max_commit_capacity};
+ghost use Rattle.jc_api_runtime.specs.SystemTransactions.{jc_system_get_unused_commit_capacity};
 
 use jc_frames::Outcome;
 use jc_frames::reasons::{IN_PROGRESS, NOT_IN_PROGRESS};
@@ -96,6 +97,13 @@ pub(crate) fn jc_system_get_transaction_depth(depth: Depth) -> i16
         Depth::Outside => 0,
         Depth::Inside => 1,
     }
+}
+
+/// `JCSystem.getMaxCommitCapacity`: returns the commit capacity, in bytes.
+pub(crate) fn jc_system_get_max_commit_capacity<S: WordStore>(memory: &Memory<S>) -> i16
+    ensures { result ≡ jc_system_get_max_commit_capacity memory.now }
+{
+    (4 * memory.commit_capacity()).cast_signed()
 }
 
 /// `JCSystem.getUnusedCommitCapacity`: returns the commit capacity that is left, in bytes.

@@ -1,11 +1,11 @@
 -- The objects of the runtime environment, as they are made.
-use Rattle.std.proofs.Common.{◌≡◌, ℕ, Bool, ◌+◌, ◌<◌, ◌≤◌, ◌&&◌, ◌||◌, ◌==◌, nat_lt, false, true, List, [], ◌∷◌, ◌++◌, drop, Option, Some, None, Err, inl, inr}
+use Rattle.std.proofs.Common.{◌≡◌, ℕ, Bool, ◌+◌, ◌<◌, ◌≤◌, ◌&&◌, ◌||◌, ◌==◌, nat_lt, false, true, List, [], ◌∷◌, ◌++◌, Option, Some, None, Err, inl, inr}
 use Rattle.std.proofs.Common.{refl, sym, ◌∙◌, ap}
 use Rattle.std.proofs.Common.{subst, arith, lit≤, if◌then◌else◌}
 use Rattle.std.proofs.lemmas.Bool.{lt-ltb, le-ltb, eq-eqb, ne_eqb, true≢false}
 use Rattle.std.proofs.lemmas.List.{append-nil, append_assoc}
 use Rattle.std.proofs.lemmas.Option.{none-some}
-use Rattle.jc_words.specs.Layout.{magic, version}
+use Rattle.jc_words.specs.Layout.{magic}
 use Rattle.jc_transient.specs.State.{area_size}
 use Rattle.jc_transient.specs.declared.cell.ClearEvent.{ClearEvent}
 use Rattle.jc_transient.specs.declared.cell.ClearEvent.TheVariants.{Reset, Deselect}
@@ -18,7 +18,7 @@ use Rattle.jc_heap.specs.declared.refusal.HeapRefusal.{HeapRefusal}
 use Rattle.jc_heap.specs.declared.refusal.HeapRefusal.TheVariants as refusal
 use Rattle.jc_heap.specs.Object.{Item, AnObject, APackage, is_object, facts_of, new_transient, transient_size}
 use Rattle.jc_heap.specs.Heap.{HeapState, HeapView, add_transient, add_object, area_end, first_above, next_object, heap_item_at, facts, is_allocated}
-use Rattle.jc_heap.specs.Heap.{area_end_address, end_address, keeping}
+use Rattle.jc_heap.specs.Heap.{area_end_address, end_address, keeping, limit}
 use Rattle.jc_heap.specs.Whole.{IsConsistent, IsFilledArea}
 use Rattle.jc_heap.proofs.Calls.{has_some_cells, object_fits}
 use Rattle.jc_heap.proofs.Keeping.{empty_whole, transient_whole}
@@ -51,12 +51,12 @@ durable-changed v kind class owner n out settled =
     ∙ ap (λ h. h.head) (sym settled)
 
 -- outside a transaction there is room, so that the store alone refuses
-pub transient_allowed : (v : HeapView) (n : ℕ) → v.begun ≡ false → v.now.top + transient_size ≤ v.size → area_end v.now Reset + n ≤ area_size
-    → refusal_of_transient v Reset n ≡ None
-transient_allowed v n out space area =
+pub transient_allowed : (v : HeapView) (n : ℕ) → v.begun ≡ false → v.now.top + transient_size ≤ limit v → area_end v.now Reset + n ≤ area_size
+    → 2 ≤ v.durable.capacity → refusal_of_transient v Reset n ≡ None
+transient_allowed v n out space area two =
     let places : List ℕ = end_address ∷ area_end_address Reset ∷ [] in
     has_some_cells v Reset n (λ lacks. omega (arith, lacks, area))
-    ∙ object_fits v transient_size places (λ lacks. omega (arith, lacks, space)) (keeps_old_values.alone (keeping v) places out (omega arith))
+    ∙ object_fits v transient_size places (λ lacks. omega (arith, lacks, space)) (keeps_old_values.alone (keeping v) places out two)
 
 pub only_torn : (reason : Option HeapRefusal) (e : HeapRefusal) (old new : HeapView) (m : Move) (a : ℕ) → reason ≡ None
     → PerformsMovesUnless reason old (after_making {A = ℕ} (Err e) new) (m ∷ []) a → AreTornMoves (m ∷ []) old new
@@ -250,8 +250,8 @@ unfolding HeapBeginsWith
 begins-new_card_heap n text t = sealed_heap-follow (with_objects t (unsealed_heap n text) fixed_objects) 0 (fixed_facts t 0 fixed_objects)
     (follow-made t (unsealed_heap n text) 0 fixed_objects (record { absent = λ q le. refl; none = λ q le. refl }) refl (omega arith))
 
-pub head-new_card_heap : (n : ℕ) (text : List ℕ) (t : Tokens) → (new_card_heap n text t).head ≡ magic ∷ version ∷ n ∷ []
-head-new_card_heap n text t = ap (λ l. magic ∷ drop 1 l) (head-all t (unsealed_heap n text) fixed_objects)
+pub head-new_card_heap : (n : ℕ) (text : List ℕ) (t : Tokens) → (new_card_heap n text t).head ≡ (magic, n)
+head-new_card_heap n text t = ap (λ (h : ℕ × ℕ). (magic, h.1)) (head-all t (unsealed_heap n text) fixed_objects)
 
 pub text-new_card_heap : (n : ℕ) (text : List ℕ) (t : Tokens) → (new_card_heap n text t).text ≡ text
 text-new_card_heap n text t = text-all t (unsealed_heap n text) fixed_objects

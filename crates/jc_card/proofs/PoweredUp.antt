@@ -2,16 +2,15 @@
 use Rattle.std.proofs.Common.{◌≡◌, ℕ, ◌+◌, ◌/◌, ◌≤◌, ◌<◌, ◌⊎◌, inl, inr, List, [], ◌∷◌, take, length, get_or, lit<, refl, sym, ◌∙◌, ap, subst, arith, Ok, Err}
 use Rattle.std.specs.Prelude.{Result, ◌↔◌, IsOk, IfOk, IfErr, OnOk, Some}
 use Rattle.std.proofs.lemmas.Bool.{false≢true}
-use Rattle.std.proofs.lemmas.List.{get_or-take}
 use Rattle.jc_words.specs.Image.{HasSize}
 use Rattle.jc_words.specs.declared.image.ImageFault.{ImageFault}
 use Rattle.jc_words.specs.Layout.{magic_address, version_address, size_address, text_length_address, text_start, magic, version}
 use Rattle.jc_commit.specs.Image.{IsGoodLog, recovered_of}
 use Rattle.jc_heap.specs.Image.{IsWellFormed, base, image}
-use Rattle.jc_heap.specs.Heap.{HeapState, heap_of}
+use Rattle.jc_heap.specs.Heap.{HeapState, head_of, heap_of}
 use Rattle.jc_card_checks.specs.Sound.{IsSound}
 use Rattle.jc_card_load.specs.Reading.{packages_of}
-use Rattle.jc_heap.proofs.RawWords.{recovered-front, head_is, text_is}
+use Rattle.jc_heap.proofs.RawWords.{recovered-head, head_is, text_is}
 use Rattle.jc_heap.proofs.Following.{base_is}
 use Rattle.jc_image.proofs.TextBytes.{length-table_text}
 use Rattle.jc_linker.specs.Values.{Packages}
@@ -32,19 +31,12 @@ head_found (Ok u) w n f =
     record { magic = h.0; version = h.1; size = h.2 }
 head_found (Err e) w n f = absurd (n e refl)
 
-three : (w : List ℕ) → 3 ≤ length w → take 3 w ≡ get_or w magic_address 0 ∷ get_or w version_address 0 ∷ get_or w size_address 0 ∷ []
-three [] h = absurd (omega arith)
-three (a ∷ []) h = absurd (omega arith)
-three (a ∷ b ∷ []) h = absurd (omega arith)
-three (a ∷ b ∷ c ∷ ws) h = refl
-
 pub made_found : (w : List ℕ) → HasHead w → IsGoodLog w → (t : Tokens) → HasTable (recovered_of w) t → HasHeap t (recovered_of w) → IsMade w
 made_found w head log t table heap = record {
   log = log;
   laid = heap.0;
   heap = record {
-    head = head_is (recovered_of w) heap.0 ∙ recovered-front w log ∙ three w (omega (arith, head.size.enough))
-        ∙ (λ i. head.magic i ∷ head.version i ∷ head.size.told i ∷ []);
+    head = head_is (recovered_of w) heap.0 ∙ recovered-head w log ∙ (λ i. (head.magic i, head.size.told i));
     enough = head.size.enough;
     platform = (t, subst (λ l. Reads l (Ok t)) (sym (text_is (recovered_of w) heap.0)) table.1, heap.2, heap.3);
     whole = heap.1;
@@ -56,14 +48,17 @@ pub too_long : (w : List ℕ) → 16384 < get_or w text_length_address 0 → (t 
 too_long w h t table = omega (arith, table.1.0, length-table_text w)
 
 -- an image that the product made has a head and a table
-head_made : (w : List ℕ) → IsMade w → take 3 w ≡ magic ∷ version ∷ length w ∷ []
-head_made w made = sym (recovered-front w made.log) ∙ sym (head_is (recovered_of w) made.laid) ∙ made.heap.head
+head_made : (w : List ℕ) → IsMade w → head_of w ≡ (magic, length w)
+head_made w made = sym (recovered-head w made.log) ∙ sym (head_is (recovered_of w) made.laid) ∙ made.heap.head
 
 pub has_head : (w : List ℕ) → IsMade w → HasHead w
 has_head w made =
-    let word : (k : ℕ) → k < 3 → get_or w k 0 ≡ get_or (magic ∷ version ∷ length w ∷ []) k 0 = λ k h. sym (get_or-take 3 w k 0 h)
-    ∙ ap (λ l. get_or l k 0) (head_made w made) in
-    record { magic = word 0 (lit< tt); version = word 1 (lit< tt); size = record { told = word 2 (lit< tt); enough = made.heap.enough } }
+    let is = head_made w made in
+    record {
+      magic = ap (λ (h : ℕ × ℕ). h.0) is;
+      version = made.log.known;
+      size = record { told = ap (λ (h : ℕ × ℕ). h.1) is; enough = made.heap.enough };
+    }
 
 text_fits : (w : List ℕ) → IsWellFormed w → text_start + (get_or w text_length_address 0 + 1) / 2 ≤ length w
 text_fits w laid =

@@ -1,6 +1,6 @@
 -- The images that the product makes.
-use Rattle.std.specs.Prelude.{ℕ, ◌≡◌, ◌≤◌, List, [], ◌∷◌, length, Ok}
-use Rattle.jc_words.specs.Layout.{magic, version, least_size}
+use Rattle.std.specs.Prelude.{ℕ, ◌≡◌, ◌≤◌, List, length, Ok}
+use Rattle.jc_words.specs.Layout.{magic, least_size}
 use Rattle.jc_commit.specs.Image.{IsGoodLog, recovered_of}
 use Rattle.jc_heap.specs.Image.{IsWellFormed}
 use Rattle.jc_heap.specs.Heap.{HeapState, heap_of}
@@ -17,7 +17,7 @@ HasPlatform h = (t : Tokens) × Reads h.text (Ok t) × BeginsWithFixed t h × Ha
 
 -- the heap of a card with an image of n words
 pub record IsCardHeap (n : ℕ) (h : HeapState) : Type 0 where
-  pub head : h.head ≡ magic ∷ version ∷ n ∷ []
+  pub head : h.head ≡ (magic, n)
   pub enough : least_size ≤ n
   pub platform : HasPlatform h
   pub whole : IsConsistent h

@@ -52,14 +52,16 @@ RecoveredWordsFail BadPackage w = (t : Tokens) × HasTable w t × (HasHeap t w �
 RecoveredWordsFail NoMemory w = Unit {0}
 RecoveredWordsFail StoreDown w = ⊥
 
--- the words are these recovered ones, and no entry counts
+-- the words are these recovered ones, the log is good, and no entry counts
 pub record IsRecovered (to new : List ℕ) : Type 0 where
+  pub good : IsGoodLog new
   pub plain : plain_of new ≡ to
   pub recovered : recovered_of new ≡ to
   pub closed : count_of new ≡ 0
 
--- the words stand for the heap of these recovered ones, are laid where those are, and no entry counts
+-- the words stand for the heap of these recovered ones, are laid where those are, the log is good, and no entry counts
 pub record StandsFor (to new : List ℕ) : Type 0 where
+  pub good : IsGoodLog new
   pub plain : heap_of (plain_of new) ≡ heap_of to
   pub recovered : heap_of (recovered_of new) ≡ heap_of to
   pub laid : IsWellFormed (recovered_of new) ↔ IsWellFormed to

@@ -4,7 +4,7 @@ ghost use Rattle.jc_words.specs.Refusals.{refused_once};
 ghost use Rattle.jc_transient.specs.State.{area_size};
 ghost use Rattle.jc_transient.specs.declared.cell.ClearEvent.TheVariants.{Reset};
 ghost use Rattle.jc_heap.specs.Object.{transient_size};
-ghost use Rattle.jc_heap.specs.Heap.{IsObject, area_end};
+ghost use Rattle.jc_heap.specs.Heap.{IsObject, area_end, limit};
 ghost use Rattle.jc_card.specs.Fixed.{fixed_objects, fixed_size, class_number_of, facts_of_fixed, cells_of_all, fixed_facts, fixed_of, last_fixed};
 ghost use Rattle.jc_card.specs.Fixed.{next_or_null, with_objects};
 
@@ -132,7 +132,7 @@ pub(crate) fn make_fixed<S: WordStore>(heap: &mut Heap<S>, table: &Table) -> Res
     requires up { heap.old.down ≡ false }
     requires outside { heap.old.begun ≡ false }
     requires settled { heap.old.durable ≡ heap.old.now }
-    requires space { heap.old.now.top + fixed_size ≤ heap.old.size }
+    requires space { heap.old.now.top + fixed_size ≤ limit heap.old }
     requires area { area_end heap.old.now Reset + 269 ≤ area_size }
     ensures made { OnOk result (heap.new.now ≡ with_objects table.now heap.old.now fixed_objects) }
     ensures size { heap.new.size ≡ heap.old.size }
@@ -156,7 +156,7 @@ fn make_all<S: WordStore>(
     requires up { heap.old.down ≡ false }
     requires outside { heap.old.begun ≡ false }
     requires settled { heap.old.durable ≡ heap.old.now }
-    requires space { heap.old.now.top + transient_size * length objects.now ≤ heap.old.size }
+    requires space { heap.old.now.top + transient_size * length objects.now ≤ limit heap.old }
     requires area { area_end heap.old.now Reset + cells_of_all objects.now ≤ area_size }
     ensures made { OnOk result (heap.new.now ≡ with_objects table.now heap.old.now objects.now) }
     ensures size { heap.new.size ≡ heap.old.size }
@@ -184,7 +184,7 @@ fn make<S: WordStore>(
     requires up { heap.old.down ≡ false }
     requires outside { heap.old.begun ≡ false }
     requires settled { heap.old.durable ≡ heap.old.now }
-    requires space { heap.old.now.top + transient_size ≤ heap.old.size }
+    requires space { heap.old.now.top + transient_size ≤ limit heap.old }
     requires area { area_end heap.old.now Reset + object.now.cells ≤ area_size }
     ensures made { OnOk result (heap.new.now ≡ with_objects table.now heap.old.now
         (object.now ∷ [])) }
@@ -200,6 +200,7 @@ fn make<S: WordStore>(
         refused_once heap.old.down heap.new.passed heap.old.refusals) }
     ensures head { heap.new.durable.head ≡ heap.old.durable.head }
 {
+    let _ = heap.commit_capacity(); // so that the proof knows: there is room for two words
     let class = class_number(table, object.class);
     match heap.new_transient(
         object.kind,

@@ -176,6 +176,7 @@ impl<S: WordStore> Heap<S> {
     pub fn room(&self) -> u16
         ensures left { result ≡ room_left self.now }
         ensures within { result + length self.now.touched ≡ self.now.durable.capacity }
+        ensures most { result ≤ most_capacity }
     {
         self.journal.room()
     }

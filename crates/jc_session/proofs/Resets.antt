@@ -1,7 +1,6 @@
 -- A reset that finds a fault leaves what was there.
-use Rattle.std.proofs.Common.{arith, ◌≡◌, ◌≤◌, ◌<◌, List, ℕ, false, length, refl, sym, ◌∙◌, ap, subst}
-use Rattle.jc_commit.specs.Image.{IsGoodLog, count_of, recovered_of}
-use Rattle.jc_words.specs.Layout.{log_end}
+use Rattle.std.proofs.Common.{◌≡◌, List, ℕ, false, length, refl, sym, ◌∙◌, ap, subst}
+use Rattle.jc_commit.specs.Image.{IsGoodLog, recovered_of}
 use Rattle.jc_heap.specs.Heap.{heap_of}
 use Rattle.jc_card.specs.PowerUp.{PowerUpRefuses, RefusalLeaves}
 use Rattle.jc_card.specs.declared.power_up.PowerFault.{PowerFault as Fault}
@@ -10,32 +9,24 @@ use Rattle.jc_session.specs.Power.{KeptState, PowerState, StoreState, IsStoreOf}
 use Rattle.jc_session.specs.Starting.{FailsToReset, FailsToStart}
 use Rattle.jc_session.proofs.Laid.{laid_still}
 
--- no entry counts
-closed_log : (old new : List ℕ) → IsGoodLog old → length new ≡ length old → count_of new ≡ 0 → IsGoodLog new
-closed_log old new good size closed = record {
-  size = subst (λ n. log_end ≤ n) (sym size) good.size;
-  few = omega (arith, closed);
-  places = λ k below. absurd (omega (arith, below, closed));
-}
-
 -- what a power up that found a fault leaves: its log is good, and it recovers to the same heap
-still_left : (fault : Fault) (old new : List ℕ) → (fault ≡ StoreDown → ⊥) → IsGoodLog old → length new ≡ length old → RefusalLeaves fault old new
+still_left : (fault : Fault) (old new : List ℕ) → (fault ≡ StoreDown → ⊥) → IsGoodLog old → RefusalLeaves fault old new
     → IsGoodLog new × (heap_of (recovered_of new) ≡ heap_of (recovered_of old))
-still_left BadMagic old new other good size stands = (subst IsGoodLog (sym stands) good, ap (λ w. heap_of (recovered_of w)) stands)
-still_left BadVersion old new other good size stands = (subst IsGoodLog (sym stands) good, ap (λ w. heap_of (recovered_of w)) stands)
-still_left BadSize old new other good size stands = (subst IsGoodLog (sym stands) good, ap (λ w. heap_of (recovered_of w)) stands)
-still_left BadLog old new other good size stands = (subst IsGoodLog (sym stands) good, ap (λ w. heap_of (recovered_of w)) stands)
-still_left BadTable old new other good size stands = (closed_log old new good size stands.closed, ap heap_of stands.recovered)
-still_left BadPackage old new other good size stands = (closed_log old new good size stands.closed, stands.recovered)
-still_left NoMemory old new other good size stands = (closed_log old new good size stands.closed, stands.recovered)
-still_left StoreDown old new other good size stands = absurd (other refl)
+still_left BadMagic old new other good stands = (subst IsGoodLog (sym stands) good, ap (λ w. heap_of (recovered_of w)) stands)
+still_left BadVersion old new other good stands = (subst IsGoodLog (sym stands) good, ap (λ w. heap_of (recovered_of w)) stands)
+still_left BadSize old new other good stands = (subst IsGoodLog (sym stands) good, ap (λ w. heap_of (recovered_of w)) stands)
+still_left BadLog old new other good stands = (subst IsGoodLog (sym stands) good, ap (λ w. heap_of (recovered_of w)) stands)
+still_left BadTable old new other good stands = (stands.good, ap heap_of stands.recovered)
+still_left BadPackage old new other good stands = (stands.good, stands.recovered)
+still_left NoMemory old new other good stands = (stands.good, stands.recovered)
+still_left StoreDown old new other good stands = absurd (other refl)
 
 -- a reset that finds a fault leaves what was there, with the power on
 pub fails_to_reset : (fault : Fault) (s : PowerState) (before after : StoreState) → IsStoreOf s before → PowerUpRefuses fault before.words
     → (fault ≡ StoreDown → ⊥) → length after.words ≡ length before.words → RefusalLeaves fault before.words after.words → after.down ≡ false
     → after.refusals ≡ before.refusals → FailsToReset fault s after
 fails_to_reset fault s before after held cause other size stands up refusals =
-    let left = still_left fault before.words after.words other held.good size stands in (
+    let left = still_left fault before.words after.words other held.good stands in (
       before,
       held,
       cause,

@@ -1,6 +1,6 @@
 -- The heap of a card as commands leave it.
-use Rattle.std.specs.Prelude.{ℕ, ◌≡◌, ◌<◌, ◌≤◌, false, [], ◌∷◌, length, Ok, Some}
-use Rattle.jc_words.specs.Layout.{magic, version, least_size, registry_length}
+use Rattle.std.specs.Prelude.{ℕ, ◌≡◌, ◌<◌, ◌≤◌, false, length, Ok, Some}
+use Rattle.jc_words.specs.Layout.{magic, least_size, registry_length}
 use Rattle.jc_heap.specs.Heap.{HeapState, IsObject, facts}
 use Rattle.jc_heap.specs.Keeping.{IsConsistentHeap}
 use Rattle.jc_platform.specs.Tokens.{Tokens}
@@ -12,9 +12,9 @@ use Rattle.jc_card.specs.Fixed.{BeginsWithFixed, last_fixed}
 use Rattle.law_soundness.specs.Environment.{AreEnvironmentObjects}
 use Rattle.law_soundness.specs.State.{IsSoundUpTo}
 
--- what no command changes of a heap: the first words of its image, its table, and the objects of the runtime environment with which it begins
+-- what no command changes of a heap: the magic word and the number of words of its image, its table, and the objects of the runtime environment with which it begins
 pub record HasBeginning (n : ℕ) (t : Tokens) (h : HeapState) : Type 0 where
-  pub head : h.head ≡ magic ∷ version ∷ n ∷ []
+  pub head : h.head ≡ (magic, n)
   pub enough : least_size ≤ n
   pub table : Reads h.text (Ok t)
   pub begins : BeginsWithFixed t h

@@ -1,4 +1,4 @@
-use Rattle.std.proofs.Common.{◌∙◌, ap}
+use Rattle.std.proofs.Common.{◌∙◌, ap, arith}
 use Rattle.jc_transient.specs.declared.cell.ClearEvent.TheVariants.{Reset}
 use Rattle.jc_heap.specs.Heap.{area_end}
 use Rattle.jc_heap.specs.Moves.{AddTransient, refusal_of_transient}
@@ -23,26 +23,30 @@ pub returns-in-Err-clause-stopped : goal.returns-in-Err-clause-stopped
 returns-in-Err-clause-stopped g c =
     let torn = only_torn (refusal_of_transient c.args.heap.now Reset c.args.object.now.cells) c.in-Err.field-0 c.args.heap.now c.new_transient.new.self
     (AddTransient c.args.object.now.kind Reset c.class_number-class.result 0 c.args.object.now.cells) c.args.heap.now.now.top
-    (transient_allowed c.args.heap.now c.args.object.now.cells c.requires.outside c.requires.space c.requires.area) c.in-Err.ensures.moves in
+    (transient_allowed c.args.heap.now c.args.object.now.cells c.requires.outside c.requires.space c.requires.area
+    (omega (arith, c.commit_capacity.ensures.exact, c.commit_capacity.ensures.least))) c.in-Err.ensures.moves in
     torn.down
 
 pub returns-in-Err-clause-refusals : goal.returns-in-Err-clause-refusals
 returns-in-Err-clause-refusals g c =
     let torn = only_torn (refusal_of_transient c.args.heap.now Reset c.args.object.now.cells) c.in-Err.field-0 c.args.heap.now c.new_transient.new.self
     (AddTransient c.args.object.now.kind Reset c.class_number-class.result 0 c.args.object.now.cells) c.args.heap.now.now.top
-    (transient_allowed c.args.heap.now c.args.object.now.cells c.requires.outside c.requires.space c.requires.area) c.in-Err.ensures.moves in
+    (transient_allowed c.args.heap.now c.args.object.now.cells c.requires.outside c.requires.space c.requires.area
+    (omega (arith, c.commit_capacity.ensures.exact, c.commit_capacity.ensures.least))) c.in-Err.ensures.moves in
     torn.refusals
 
 pub returns-in-Err-clause-size : goal.returns-in-Err-clause-size
 returns-in-Err-clause-size g c =
     let torn = only_torn (refusal_of_transient c.args.heap.now Reset c.args.object.now.cells) c.in-Err.field-0 c.args.heap.now c.new_transient.new.self
     (AddTransient c.args.object.now.kind Reset c.class_number-class.result 0 c.args.object.now.cells) c.args.heap.now.now.top
-    (transient_allowed c.args.heap.now c.args.object.now.cells c.requires.outside c.requires.space c.requires.area) c.in-Err.ensures.moves in
+    (transient_allowed c.args.heap.now c.args.object.now.cells c.requires.outside c.requires.space c.requires.area
+    (omega (arith, c.commit_capacity.ensures.exact, c.commit_capacity.ensures.least))) c.in-Err.ensures.moves in
     torn.size
 
 pub returns-in-Err-clause-head : goal.returns-in-Err-clause-head
 returns-in-Err-clause-head g c =
     let torn = only_torn (refusal_of_transient c.args.heap.now Reset c.args.object.now.cells) c.in-Err.field-0 c.args.heap.now c.new_transient.new.self
     (AddTransient c.args.object.now.kind Reset c.class_number-class.result 0 c.args.object.now.cells) c.args.heap.now.now.top
-    (transient_allowed c.args.heap.now c.args.object.now.cells c.requires.outside c.requires.space c.requires.area) c.in-Err.ensures.moves in
+    (transient_allowed c.args.heap.now c.args.object.now.cells c.requires.outside c.requires.space c.requires.area
+    (omega (arith, c.commit_capacity.ensures.exact, c.commit_capacity.ensures.least))) c.in-Err.ensures.moves in
     torn_head (AddTransient c.args.object.now.kind Reset c.class_number-class.result 0 c.args.object.now.cells) c.args.heap.now c.new_transient.new.self torn

@@ -10,3 +10,6 @@ returns-clause-within g c =
 
 pub returns-clause-left : goal.returns-clause-left
 returns-clause-left g c = let within = returns-clause-within g c in omega (arith, within)
+
+pub returns-clause-most : goal.returns-clause-most
+returns-clause-most g c = omega (arith, c.room.ensures)
