@@ -1,6 +1,7 @@
 -- A new image is one that the product makes.
 use Rattle.std.proofs.Common.{◌≡◌, ◌∙◌, ℕ, ◌≤◌, Bool, List, length, sym, subst, Ok, Err}
 use Rattle.std.specs.Prelude.{Result, IfOk}
+use Rattle.jc_words.specs.Refusals.{Refusals}
 use Rattle.jc_words.specs.Layout.{least_size}
 use Rattle.jc_commit.specs.Image.{IsGoodLog, recovered_of}
 use Rattle.jc_heap.specs.Image.{IsWellFormed}
@@ -28,13 +29,13 @@ made-new_card_heap w n text t log laid heap size enough reads = record {
   heap = subst (λ k. IsCardHeap k (heap_of (recovered_of w))) (sym size) (subst (IsCardHeap n) (sym heap) (card-new_card_heap n text t enough reads));
 }
 
-pub made_if : {A E : Type 0} (words : A → List ℕ) (down : A → Bool) (passed refused : A → ℕ) (r : Result A E) (v : HeapView) (n : ℕ) (text : List ℕ)
+pub made_if : {A E : Type 0} (words : A → List ℕ) (down : A → Bool) (passed : A → ℕ) (refusals : A → Refusals) (r : Result A E) (v : HeapView) (n : ℕ) (text : List ℕ)
     (t : Tokens) →
-    IfOk r (λ s. HoldsHeap (words s) (down s) (passed s) (refused s) v) → v.durable ≡ new_card_heap n text t → v.size ≡ n → least_size ≤ n → Reads text (Ok t)
+    IfOk r (λ s. HoldsHeap (words s) (down s) (passed s) (refusals s) v) → v.durable ≡ new_card_heap n text t → v.size ≡ n → least_size ≤ n → Reads text (Ok t)
     → IfOk r (λ s. IsMade (words s))
-made_if words down passed refused (Ok s) v n text t holds heap size enough reads =
+made_if words down passed refusals (Ok s) v n text t holds heap size enough reads =
     made-new_card_heap (words s) n text t holds.good holds.laid (holds.durable ∙ heap) (holds.size ∙ size) enough reads
-made_if words down passed refused (Err e) v n text t holds heap size enough reads = tt
+made_if words down passed refusals (Err e) v n text t holds heap size enough reads = tt
 
 pub mapped_if : {A E : Type 0} (r : Result A E) (P Q : A → Type 0) → ((a : A) → P a → Q a) → IfOk r P → IfOk r Q
 mapped_if (Ok a) P Q f p = f a p

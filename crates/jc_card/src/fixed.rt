@@ -1,6 +1,6 @@
 //! The objects that the runtime environment owns from an image's making on.
 ghost use Rattle.std.specs.Prelude.{◌≡◌, ◌≤◌, ◌<◌, ◌+◌, ◌*◌, false, true, OnOk, OnErr, is_ok, if◌then◌else◌, length, slice_index, [], ◌∷◌, ◌++◌};
-ghost use Rattle.jc_words.specs.Count.{saturating_count};
+ghost use Rattle.jc_words.specs.Refusals.{refused_once};
 ghost use Rattle.jc_transient.specs.State.{area_size};
 ghost use Rattle.jc_transient.specs.declared.cell.ClearEvent.TheVariants.{Reset};
 ghost use Rattle.jc_heap.specs.Object.{transient_size};
@@ -140,8 +140,8 @@ pub(crate) fn make_fixed<S: WordStore>(heap: &mut Heap<S>, table: &Table) -> Res
     ensures outside { OnOk result (heap.new.begun ≡ false) }
     ensures settled { OnOk result (heap.new.durable ≡ heap.new.now) }
     ensures stopped { OnErr result (heap.new.down ≡ true) }
-    ensures refused { heap.new.refused ≡ (if is_ok result then heap.old.refused else
-        saturating_count heap.old.refused 1) }
+    ensures refusals { heap.new.refusals ≡ (if is_ok result then heap.old.refusals else
+        refused_once heap.old.down heap.new.passed heap.old.refusals) }
     ensures head { heap.new.durable.head ≡ heap.old.durable.head }
 {
     make_all(heap, table, all_fixed())
@@ -164,8 +164,8 @@ fn make_all<S: WordStore>(
     ensures outside { OnOk result (heap.new.begun ≡ false) }
     ensures settled { OnOk result (heap.new.durable ≡ heap.new.now) }
     ensures stopped { OnErr result (heap.new.down ≡ true) }
-    ensures refused { heap.new.refused ≡ (if is_ok result then heap.old.refused else
-        saturating_count heap.old.refused 1) }
+    ensures refusals { heap.new.refusals ≡ (if is_ok result then heap.old.refusals else
+        refused_once heap.old.down heap.new.passed heap.old.refusals) }
     ensures head { heap.new.durable.head ≡ heap.old.durable.head }
 {
     let Some((first, more)) = objects.split_first() else {
@@ -196,8 +196,8 @@ fn make<S: WordStore>(
     ensures end { OnOk result (area_end heap.new.now Reset ≡ area_end heap.old.now Reset
         + object.now.cells) }
     ensures stopped { OnErr result (heap.new.down ≡ true) }
-    ensures refused { heap.new.refused ≡ (if is_ok result then heap.old.refused else
-        saturating_count heap.old.refused 1) }
+    ensures refusals { heap.new.refusals ≡ (if is_ok result then heap.old.refusals else
+        refused_once heap.old.down heap.new.passed heap.old.refusals) }
     ensures head { heap.new.durable.head ≡ heap.old.durable.head }
 {
     let _ = heap.commit_capacity(); // so that the proof knows: there is room for two words

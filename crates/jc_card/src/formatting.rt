@@ -1,6 +1,6 @@
 //! Making an image.
 ghost use Rattle.std.specs.Prelude.{ℕ, ◌≡◌, ◌≢◌, ◌<◌, ◌≤◌, ◌+◌, ◌⊎◌, ◌↔◌, true, false, length, slice_index, Ok, Err, IfOk, IfErr, OnOk, OnErr, IsErrOf, Result};
-ghost use Rattle.jc_words.specs.Count.{saturating_count};
+ghost use Rattle.jc_words.specs.Refusals.{refused_once};
 ghost use Rattle.jc_words.specs.Layout.{magic_address, magic, least_size};
 ghost use Rattle.jc_image.specs.Laying.{first_free};
 ghost use Rattle.jc_heap.specs.Heap.{heap_of};
@@ -49,7 +49,7 @@ pub fn format<S: WordStore>(store: S, text: &[u8]) -> (S, Result<(), FormatFault
         (length (S.words store)) text.now t)) }
     ensures size { length (S.words result.0) ≡ length (S.words store) }
     ensures up { OnOk result.1 (S.down result.0 ≡ false) }
-    ensures none_refused { OnOk result.1 (S.refused result.0 ≡ S.refused store) }
+    ensures none_refused { OnOk result.1 (S.refusals result.0 ≡ S.refusals store) }
     ensures bad_size { (result.1 ≡ Err FormatFault.BadSize)
         ↔ (length (S.words store) < least_size) }
     ensures bad_table { (line : ℕ) → (result.1 ≡ Err (FormatFault.BadTable line))
@@ -60,7 +60,8 @@ pub fn format<S: WordStore>(store: S, text: &[u8]) -> (S, Result<(), FormatFault
         < first_free (length text.now) + fixed_size) × ((t : Tokens) × Reads text.now (Ok t))) }
     ensures kept { OnErr result.1 ((result.1 ≡ Err FormatFault.StoreDown → ⊥) → result.0 ≡ store) }
     ensures stopped { result.1 ≡ Err FormatFault.StoreDown
-        → (S.down result.0 ≡ true) × (S.refused result.0 ≡ saturating_count (S.refused store) 1)
+        → (S.down result.0 ≡ true)
+        × (S.refusals result.0 ≡ refused_once (S.down store) (S.passed result.0) (S.refusals store))
         × ((S.words result.0 ≡ S.words store) ⊎ (slice_index
         (S.words result.0) magic_address ≢ magic)) }
 {
@@ -91,9 +92,10 @@ fn make_image<S: WordStore>(store: S, text: &[u8], table: &Table) -> Result<S, S
         ≡ new_card_heap (length (S.words store)) text.now table.now) }
     ensures size { IfOk result (λ s. length (S.words s) ≡ length (S.words store)) }
     ensures up { IfOk result (λ s. S.down s ≡ false) }
-    ensures none_refused { IfOk result (λ s. S.refused s ≡ S.refused store) }
+    ensures none_refused { IfOk result (λ s. S.refusals s ≡ S.refusals store) }
     ensures size_kept { IfErr result (λ s. length (S.words s) ≡ length (S.words store)) }
-    ensures refused { IfErr result (λ s. S.refused s ≡ saturating_count (S.refused store) 1) }
+    ensures refused { IfErr result (λ s. S.refusals s
+        ≡ refused_once (S.down store) (S.passed s) (S.refusals store)) }
     ensures down { IfErr result (λ s. S.down s ≡ true) }
     ensures unmarked { IfErr result (λ s. (S.words s ≡ S.words store)
         ⊎ (slice_index (S.words s) magic_address ≢ magic)) }

@@ -1,6 +1,6 @@
 //! Powering a card up over the words of its image.
 ghost use Rattle.std.specs.Prelude.{ℕ, List, ◌≡◌, ◌⊎◌, ◌+◌, ◌/◌, ◌≤◌, [], length, slice_index, None, Some, IfOk, IfErr, OnOk, false, true, MatchResult};
-ghost use Rattle.jc_words.specs.Count.{saturating_count};
+ghost use Rattle.jc_words.specs.Refusals.{refused_once};
 ghost use Rattle.jc_words.specs.Layout.{text_length_address, text_start, magic, version};
 ghost use Rattle.jc_commit.specs.Replay.{IsPartOfReplay};
 ghost use Rattle.jc_commit.specs.State.{recovered_journal};
@@ -81,7 +81,7 @@ impl<S: WordStore> Card<S> {
     pub fn power_up(alloc: Global, store: S) -> Result<Card<S>, (PowerFault, S)>
         ensures made { OnOk result (IsMade (S.words store)) }
         ensures heap { IfOk result (λ card. card.memory.heap
-            ≡ heap_view (recovered_journal (S.words store) (S.passed store) (S.refused store))
+            ≡ heap_view (recovered_journal (S.words store) (S.passed store) (S.refusals store))
             (length (S.words store))) }
         ensures blank { IfOk result (λ card. IsCleared card.memory.ram) }
         ensures load { IfOk result (λ card. card.load ≡ None) }
@@ -99,13 +99,13 @@ impl<S: WordStore> Card<S> {
         ensures untouched { IfErr result (λ e. IsFoundFirst e.0 → e.1 ≡ store) }
         ensures after { IfErr result (λ e. IsFoundAfter e.0
             → (S.down e.1 ≡ false) × (S.passed e.1 ≡ (recovered_journal (S.words store)
-            (S.passed store) (S.refused store)).passed) × (S.refused e.1 ≡ S.refused store)) }
+            (S.passed store) (S.refusals store)).passed) × (S.refusals e.1 ≡ S.refusals store)) }
         ensures good { IfErr result (λ e. IsFoundAfter e.0 → IsGoodLog (S.words e.1)) }
         ensures size { IfErr result (λ e. length (S.words e.1) ≡ length (S.words store)) }
         ensures part { IfErr result (λ e. e.0 ≡ PowerFault.StoreDown
             → IsPartOfReplay (S.words store) (S.words e.1) (S.passed store) (S.passed e.1)) }
         ensures refused { IfErr result (λ e. e.0 ≡ PowerFault.StoreDown → S.down store ≡ false
-            → S.refused e.1 ≡ saturating_count (S.refused store) 1) }
+            → S.refusals e.1 ≡ refused_once false (S.passed e.1) (S.refusals store)) }
     {
         if let Err(fault) = check_image(&store) {
             return Err((PowerFault::from(fault), store));
@@ -133,7 +133,7 @@ fn start<S: WordStore>(alloc: Global, image: OpenImage<S>) -> Result<Card<S>, (P
     ensures stands { IfErr result (λ e. LateFaultLeaves e.0 image.plain (S.words e.1)) }
     ensures up { IfErr result (λ e. S.down e.1 ≡ false) }
     ensures counts { IfErr result (λ e. (S.passed e.1 ≡ image.passed)
-        × (S.refused e.1 ≡ image.refused)) }
+        × (S.refusals e.1 ≡ image.refusals)) }
     ensures found { IfErr result (λ e. IsFoundAfter e.0) }
 {
     let table = match platform_of(alloc, &image) {
@@ -176,7 +176,7 @@ fn link_packages<S: WordStore>(
     ensures load { IfOk result (λ card. card.load ≡ None) }
     ensures cause { IfErr result (λ e. FailsToLink e.0 platform heap.now) }
     ensures store { IfErr result (λ e. HoldsHeap (S.words e.1) (S.down e.1) (S.passed e.1)
-        (S.refused e.1) heap) }
+        (S.refusals e.1) heap) }
 {
     let Ok(marks) = Marks::new(alloc) else {
         return Err((PowerFault::NoMemory, heap.into_store()));

@@ -24,7 +24,7 @@ use Rattle.jc_heap.proofs.JournalViews.{keeping_view}
 use Rattle.jc_heap.proofs.Changing.{stopped_view}
 
 pub cut_one : (m : Move) (old new : HeapView) → IsTornChange old new → AreTornMoves (m ∷ []) old new
-cut_one m old new st = record { left = inl st.durable; down = st.down; refused = st.refused; size = st.size }
+cut_one m old new st = record { left = inl st.durable; down = st.down; refusals = st.refusals; size = st.size }
 
 module _ {A : Type 0} (reason : Option HeapRefusal) (old new : HeapView) where
   pub unless_refused : (r : HeapRefusal) (ms : List Move) (a : A) → reason ≡ Some r → new ≡ old
@@ -115,7 +115,7 @@ change_stops m v j k n places room StoreDown is there full has kept stopped =
     let st = stopped refl in
     unless_cut {A = Unit {0}} (refusal_at v places) v (heap_view k n) m tt
     (not_full v places (there ∙ not_false room (λ none. down_not_full (has none))))
-    (stopped_view j k v n is st.recovered st.down st.refused)
+    (stopped_view j k v n is st.recovered st.down st.refusals)
 change_stops m v j k n places room Full is there full has kept stopped =
     unless_refused {A = Unit {0}} (refusal_at v places) v (heap_view k n) CommitFull (m ∷ []) tt
     (is_full v places (there ∙ full refl)) (ap (λ (i : State). heap_view i n) (kept refl) ∙ is)

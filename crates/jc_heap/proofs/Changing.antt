@@ -5,6 +5,7 @@ use Rattle.std.specs.Prelude.{MatchBool}
 use Rattle.std.proofs.lemmas.List.{length-take, length-take-le, get_or-take}
 use Rattle.std.proofs.lemmas.Bool.{false≢true}
 use Rattle.jc_words.specs.Count.{saturating_count}
+use Rattle.jc_words.specs.Refusals.{refused_once}
 use Rattle.jc_words.specs.Layout.{top_address, text_start}
 use Rattle.jc_commit.specs.Image.{with_words, top_of}
 use Rattle.jc_commit.specs.Entries.{addresses_of}
@@ -112,7 +113,7 @@ change_view cs k m n h back c is =
       touched = touched i;
       down = c.down i;
       passed = passed i;
-      refused = c.refused i;
+      refusals = c.refusals i;
       size = n;
     }
 
@@ -131,9 +132,9 @@ stopped_sound k m n same long down back size small = record {
 }
 
 pub stopped_view : (k m : State) (v : HeapView) (n : ℕ) → heap_view k n ≡ v → live_words m.recovered ≡ live_words k.recovered → m.down ≡ true
-    → m.refused ≡ saturating_count k.refused 1 → IsTornChange v (heap_view m n)
-stopped_view k m v n is same down refused = subst (λ u. IsTornChange u (heap_view m n)) is
-    (record { durable = heap_of-live_words k.recovered m.recovered same; down = down; refused = refused; size = refl })
+    → m.refusals ≡ refused_once k.down m.passed k.refusals → IsTornChange v (heap_view m n)
+stopped_view k m v n is same down refusals = subst (λ u. IsTornChange u (heap_view m n)) is
+    (record { durable = heap_of-live_words k.recovered m.recovered same; down = down; refusals = refusals; size = refl })
 
 pub journal_stopped_sound : (k m : State) (n : ℕ) → JournalStopped k m → IsSound k n → IsSound m n
 journal_stopped_sound k m n st s = stopped_sound k m n st.recovered st.size_recovered st.down s.back s.size_recovered s.small

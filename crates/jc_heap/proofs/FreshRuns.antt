@@ -27,7 +27,7 @@ fills_more at ws old j v f h =
       words = rw (more, take_more_set j.plain (at + length ws) v h, f.words) (append_assoc (take at old.plain) ws (v ∷ []));
       down = f.down;
       passed = omega (arith, f.passed, length_push ws v);
-      refused = f.refused;
+      refusals = f.refusals;
     }
 
 -- what is free stays free while words are written there
@@ -63,5 +63,5 @@ fills_then at xs ys a b c f g =
       words = ap (λ n. take n c.plain) long ∙ g.words ∙ ap (λ l. l ++ ys) f.words ∙ append_assoc (take at a.plain) xs ys;
       down = g.down ∙ f.down;
       passed = omega (arith, g.passed, f.passed, length-append xs ys);
-      refused = g.refused ∙ f.refused;
+      refusals = g.refusals ∙ f.refusals;
     }

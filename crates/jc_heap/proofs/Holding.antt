@@ -1,5 +1,6 @@
 -- The store of a journal holds the journal's heap.
 use Rattle.std.proofs.Common.{◌≡◌, ℕ, Bool, false, List, length, sym, ◌∙◌, ap, subst}
+use Rattle.jc_words.specs.Refusals.{Refusals}
 use Rattle.jc_commit.specs.Image.{count_of, plain_of, recovered_of, IsGoodLog}
 use Rattle.jc_commit.specs.State.{State}
 use Rattle.jc_heap.specs.Image.{IsWellFormed}
@@ -8,17 +9,17 @@ use Rattle.jc_heap.specs.Stored.{HoldsHeap}
 use Rattle.jc_heap.proofs.RawWords.{recovered-head, head_is}
 
 -- a store with these words is that of a journal
-pub record IsStoreOf (w : List ℕ) (is_down : Bool) (let_pass turned_down : ℕ) (j : State) : Type 0 where
+pub record IsStoreOf (w : List ℕ) (is_down : Bool) (let_pass : ℕ) (turned_down : Refusals) (j : State) : Type 0 where
   pub good : IsGoodLog w
   pub plain : plain_of w ≡ j.plain
   pub recovered : recovered_of w ≡ j.recovered
   pub size : length w ≡ length j.recovered
   pub down : is_down ≡ j.down
   pub passed : let_pass ≡ j.passed
-  pub refused : turned_down ≡ j.refused
+  pub refusals : turned_down ≡ j.refusals
   pub closed : j.down ≡ false → j.in_transaction ≡ false → count_of w ≡ 0
 
-pub holds : (w : List ℕ) (is_down : Bool) (let_pass turned_down : ℕ) (j : State) (n : ℕ) → IsStoreOf w is_down let_pass turned_down j → IsWellFormed j.recovered
+pub holds : (w : List ℕ) (is_down : Bool) (let_pass : ℕ) (turned_down : Refusals) (j : State) (n : ℕ) → IsStoreOf w is_down let_pass turned_down j → IsWellFormed j.recovered
     → length j.recovered ≡ n → HoldsHeap w is_down let_pass turned_down (heap_view j n)
 holds w is_down let_pass turned_down j n s back long =
     let laid : IsWellFormed (recovered_of w) = subst IsWellFormed (sym s.recovered) back in
@@ -31,6 +32,6 @@ holds w is_down let_pass turned_down j n s back long =
       size = s.size ∙ long;
       down = s.down;
       passed = s.passed;
-      refused = s.refused;
+      refusals = s.refusals;
       rests = λ up outside. record { up = s.down ∙ up; good = s.good; laid = laid; closed = s.closed up outside };
     }

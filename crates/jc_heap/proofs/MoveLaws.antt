@@ -4,7 +4,7 @@ use Rattle.jc_heap.specs.Heap.{HeapState, HeapView}
 use Rattle.jc_heap.specs.Moves.{Move, Write, SetPlaces, WriteNonAtomic, SetCells, AddObject, AddTransient, AddPackage, Begin, Commit, Abort, apply_move}
 use Rattle.jc_heap.specs.Moves.{apply_moves, with_nonatomic_writes, KeepsDurable}
 
--- moves neither clear nor set what is down or refused
+-- moves neither clear nor set what is down, and refuse nothing
 down-apply_move : (m : Move) (h : HeapView) → (apply_move m h).down ≡ h.down
 down-apply_move (Write p v) h = refl
 down-apply_move (SetPlaces cs) h = refl
@@ -17,17 +17,17 @@ down-apply_move Begin h = refl
 down-apply_move Commit h = refl
 down-apply_move Abort h = refl
 
-refused-apply_move : (m : Move) (h : HeapView) → (apply_move m h).refused ≡ h.refused
-refused-apply_move (Write p v) h = refl
-refused-apply_move (SetPlaces cs) h = refl
-refused-apply_move (WriteNonAtomic p v) h = refl
-refused-apply_move (SetCells r i vs) h = refl
-refused-apply_move (AddObject o size) h = refl
-refused-apply_move (AddTransient kind event class owner long) h = refl
-refused-apply_move (AddPackage components arrays rest) h = refl
-refused-apply_move Begin h = refl
-refused-apply_move Commit h = refl
-refused-apply_move Abort h = refl
+refusals-apply_move : (m : Move) (h : HeapView) → (apply_move m h).refusals ≡ h.refusals
+refusals-apply_move (Write p v) h = refl
+refusals-apply_move (SetPlaces cs) h = refl
+refusals-apply_move (WriteNonAtomic p v) h = refl
+refusals-apply_move (SetCells r i vs) h = refl
+refusals-apply_move (AddObject o size) h = refl
+refusals-apply_move (AddTransient kind event class owner long) h = refl
+refusals-apply_move (AddPackage components arrays rest) h = refl
+refusals-apply_move Begin h = refl
+refusals-apply_move Commit h = refl
+refusals-apply_move Abort h = refl
 
 size-apply_move : (m : Move) (h : HeapView) → (apply_move m h).size ≡ h.size
 size-apply_move (Write p v) h = refl
@@ -45,9 +45,9 @@ pub down-apply_moves : (ms : List Move) (h : HeapView) → (apply_moves ms h).do
 down-apply_moves [] h = refl
 down-apply_moves (m ∷ ms) h = down-apply_moves ms (apply_move m h) ∙ down-apply_move m h
 
-pub refused-apply_moves : (ms : List Move) (h : HeapView) → (apply_moves ms h).refused ≡ h.refused
-refused-apply_moves [] h = refl
-refused-apply_moves (m ∷ ms) h = refused-apply_moves ms (apply_move m h) ∙ refused-apply_move m h
+pub refusals-apply_moves : (ms : List Move) (h : HeapView) → (apply_moves ms h).refusals ≡ h.refusals
+refusals-apply_moves [] h = refl
+refusals-apply_moves (m ∷ ms) h = refusals-apply_moves ms (apply_move m h) ∙ refusals-apply_move m h
 
 pub size-apply_moves : (ms : List Move) (h : HeapView) → (apply_moves ms h).size ≡ h.size
 size-apply_moves [] h = refl

@@ -6,6 +6,7 @@ use Rattle.jc_commit.specs.declared.refusal.WriteRefusal.{WriteRefusal}
 use Rattle.jc_commit.specs.declared.refusal.WriteRefusal.TheVariants.{StoreDown, Full}
 use Rattle.std.proofs.lemmas.List.{length-replicate, length-take-le}
 use Rattle.jc_words.specs.Count.{saturating_count}
+use Rattle.jc_words.specs.Refusals.{refused_once}
 use Rattle.jc_words.specs.Layout.{top_address}
 use Rattle.jc_commit.specs.Image.{with_words}
 use Rattle.jc_commit.specs.Entries.{addresses_of}
@@ -86,7 +87,7 @@ module _ (j k : State) (n : ℕ) (s : IsSound j n) (up : j.down ≡ false) (b : 
   fresh_stopped_sound st = stopped_sound j k n live_back b.size_recovered st.down s.back s.size_recovered s.small
 
   pub fresh_stopped_view : (v : HeapView) → heap_view j n ≡ v → IsTornFresh j k → IsTornChange v (heap_view k n)
-  fresh_stopped_view v is st = stopped_view j k v n is live_back st.down st.refused
+  fresh_stopped_view v is st = stopped_view j k v n is live_back st.down st.refusals
 
   module _ (rec : List ℕ) (f : Fills (get_or j.plain top_address 0) rec j k) where
     -- the store refused the top's change
@@ -94,7 +95,7 @@ module _ (j k : State) (n : ℕ) (s : IsSound j n) (up : j.down ≡ false) (b : 
     top_stopped_sound m st = stopped_sound k m n st.recovered st.size_recovered st.down laid_back (b.size_recovered ∙ s.size_recovered) s.small
 
     pub top_stopped_view : (m : State) (v : HeapView) → heap_view j n ≡ v → JournalStopped k m → IsTornChange v (heap_view m n)
-    top_stopped_view m v is st = stopped_view j m v n is (st.recovered ∙ live_back) st.down (st.refused ∙ ap (λ r. saturating_count r 1) f.refused)
+    top_stopped_view m v is st = stopped_view j m v n is (st.recovered ∙ live_back) st.down (st.refusals ∙ (λ i. refused_once (f.down i) m.passed (f.refusals i)))
 
     raised_twice : (p q a w : ℕ) → q ≡ saturating_count p a → saturating_count q (0 + w) ≡ saturating_count p (a + w)
     raised_twice p q a w e = omega (arith, e)
@@ -124,7 +125,7 @@ module _ (j k : State) (n : ℕ) (s : IsSound j n) (up : j.down ≡ false) (b : 
           touched = touched i;
           down = f.down i;
           passed = passed i;
-          refused = f.refused i;
+          refusals = f.refusals i;
           size = n;
         })
 

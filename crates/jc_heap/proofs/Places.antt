@@ -262,7 +262,7 @@ both_at j n p x h up s =
         touched = j.touched;
         down = j.down;
         passed = saturating_count j.passed 1;
-        refused = j.refused;
+        refusals = j.refusals;
         size = n;
       }),
       record {

@@ -1,6 +1,7 @@
 -- Words written at or above the top, which have no meaning until the top moves.
 use Rattle.std.specs.Prelude.{ℕ, ◌+◌, ◌≡◌, ◌≤◌, ◌<◌, List, ◌++◌, take, length, true, false}
 use Rattle.jc_words.specs.Count.{saturating_count}
+use Rattle.jc_words.specs.Refusals.{refused_once}
 use Rattle.jc_words.specs.Layout.{addresses_start}
 use Rattle.jc_commit.specs.Image.{top_of, limit_of}
 use Rattle.jc_commit.specs.State.{State}
@@ -28,9 +29,9 @@ pub record Fills (at : ℕ) (run : List ℕ) (old new : State) : Type 0 where
   pub words : take (at + length run) new.plain ≡ take at old.plain ++ run
   pub down : new.down ≡ old.down
   pub passed : new.passed ≡ saturating_count old.passed (length run)
-  pub refused : new.refused ≡ old.refused
+  pub refusals : new.refusals ≡ old.refusals
 
 -- the store refused a write on the way
 pub record IsTornFresh (old new : State) : Type 0 where
   pub down : new.down ≡ true
-  pub refused : new.refused ≡ saturating_count old.refused 1
+  pub refusals : new.refusals ≡ refused_once old.down new.passed old.refusals

@@ -2,6 +2,7 @@
 use Rattle.std.specs.Prelude.{ℕ, suc, ◌+◌, ◌-◌, ◌≡◌, ◌<◌, ◌≤◌, ◌==◌, Bool, true, false, List, [], ◌∷◌, ◌++◌, map, take, drop, length, slice_index, Option, Some}
 use Rattle.std.specs.Prelude.{None, if◌then◌else◌, ◌&&◌, nat_lt, max}
 use Rattle.jc_words.specs.Count.{saturating_count}
+use Rattle.jc_words.specs.Refusals.{Refusals, refused_once}
 use Rattle.jc_words.specs.Layout.{magic_address, size_address, top_address, packages_address, applets_address, reset_end_address, deselect_end_address}
 use Rattle.jc_words.specs.Layout.{registry_start, registry_length, addresses_start}
 use Rattle.jc_commit.specs.Image.{capacity_of, top_of}
@@ -138,7 +139,7 @@ pub record HeapView : Type 0 where
   pub touched : List ℕ
   pub down : Bool
   pub passed : ℕ
-  pub refused : ℕ
+  pub refusals : Refusals
   pub size : ℕ
 
 -- what the words of a journal stand for
@@ -150,7 +151,7 @@ heap_view j size = record {
   touched = j.touched;
   down = j.down;
   passed = j.passed;
-  refused = j.refused;
+  refusals = j.refusals;
   size = size;
 }
 
@@ -188,8 +189,8 @@ abbrev pub has_room_for : HeapView → List ℕ → Bool
 has_room_for v places = journal.has_room_for (keeping v) places
 
 -- a heap at rest: no transaction is open, and a loss of power leaves it as it is
-abbrev pub heap_at_rest : HeapState → ℕ → ℕ → ℕ → HeapView
-heap_at_rest h passed refused size = record { now = h; durable = h; begun = false; touched = []; down = false; passed = passed; refused = refused; size = size }
+abbrev pub heap_at_rest : HeapState → ℕ → Refusals → ℕ → HeapView
+heap_at_rest h passed refusals size = record { now = h; durable = h; begun = false; touched = []; down = false; passed = passed; refusals = refusals; size = size }
 
 -- one change, to another heap, by writes to these places and to so many fresh words
 abbrev pub heap_after_change : HeapView → HeapState → List ℕ → ℕ → HeapView
@@ -228,7 +229,7 @@ heap_after_abort v = record v { begun = false; now = v.durable; touched = []; pa
 pub record IsTornChange (old new : HeapView) : Type 0 where
   pub durable : new.durable ≡ old.durable
   pub down : new.down ≡ true
-  pub refused : new.refused ≡ saturating_count old.refused 1
+  pub refusals : new.refusals ≡ refused_once old.down new.passed old.refusals
   pub size : new.size ≡ old.size
 
 -- an event's area has no space for so many cells

@@ -2,6 +2,7 @@
 use Rattle.std.specs.Prelude.{ℕ, ◌+◌, ◌≡◌, ◌⊎◌, if◌then◌else◌, true, List, [], ◌∷◌, Option, Some, None, nat_lt, map, length}
 use Rattle.jc_transient.specs.State.{area_size}
 use Rattle.jc_words.specs.Count.{saturating_count}
+use Rattle.jc_words.specs.Refusals.{refused_once}
 use Rattle.jc_transient.specs.declared.cell.ClearEvent.{ClearEvent}
 use Rattle.jc_heap.specs.declared.object.Kind.{Kind}
 use Rattle.jc_heap.specs.Object.{Object, new_object, object_size, transient_size}
@@ -77,7 +78,7 @@ TornMovesLeave (m ∷ ms) h d = (d ≡ h.durable) ⊎ TornMovesLeave ms (apply_m
 pub record IsTorn (May : HeapState → Type 0) (old new : HeapView) : Type 0 where
   pub left : May new.durable
   pub down : new.down ≡ true
-  pub refused : new.refused ≡ saturating_count old.refused 1
+  pub refusals : new.refusals ≡ refused_once old.down new.passed old.refusals
   pub size : new.size ≡ old.size
 
 -- the store refused a write within these moves

@@ -1,5 +1,6 @@
 -- What a store is that holds a heap.
 use Rattle.std.specs.Prelude.{ℕ, ◌≡◌, Bool, false, List, length}
+use Rattle.jc_words.specs.Refusals.{Refusals}
 use Rattle.jc_commit.specs.Image.{count_of, plain_of, recovered_of, IsGoodLog}
 use Rattle.jc_heap.specs.Image.{IsWellFormed}
 use Rattle.jc_heap.specs.Heap.{HeapView, head_of, heap_of, heap_at_rest}
@@ -11,13 +12,13 @@ pub record IsAtRest (words : List ℕ) (is_down : Bool) : Type 0 where
   pub laid : IsWellFormed (recovered_of words)
   pub closed : count_of words ≡ 0
 
--- the heap of a store at rest, which has let so many writes pass and refused so many
-abbrev pub heap_of_store_at_rest : List ℕ → ℕ → ℕ → HeapView
-heap_of_store_at_rest words passed refused = heap_at_rest (heap_of (recovered_of words)) passed refused (length words)
+-- the heap of a store at rest, which has let so many writes pass and refused these
+abbrev pub heap_of_store_at_rest : List ℕ → ℕ → Refusals → HeapView
+heap_of_store_at_rest words passed refusals = heap_at_rest (heap_of (recovered_of words)) passed refusals (length words)
 
--- a store with these words, which is down or not, has let so many writes pass and refused so many, holds this heap: its words stand
+-- a store with these words, which is down or not, has let so many writes pass and refused these, holds this heap: its words stand
 -- for the heap as it is, and a recovery of them leaves the durable one. The first three are not the journal's
-pub record HoldsHeap (words : List ℕ) (is_down : Bool) (let_pass turned_down : ℕ) (v : HeapView) : Type 0 where
+pub record HoldsHeap (words : List ℕ) (is_down : Bool) (let_pass : ℕ) (turned_down : Refusals) (v : HeapView) : Type 0 where
   pub good : IsGoodLog words
   pub laid : IsWellFormed (recovered_of words)
   pub now : heap_of (plain_of words) ≡ v.now
@@ -26,6 +27,6 @@ pub record HoldsHeap (words : List ℕ) (is_down : Bool) (let_pass turned_down :
   pub size : length words ≡ v.size
   pub down : is_down ≡ v.down
   pub passed : let_pass ≡ v.passed
-  pub refused : turned_down ≡ v.refused
+  pub refusals : turned_down ≡ v.refusals
   -- outside a transaction nothing is to be recovered
   pub rests : v.down ≡ false → v.begun ≡ false → IsAtRest words is_down

@@ -239,7 +239,7 @@ impl<S: WordStore> Heap<S> {
     pub fn resume(store: S) -> Heap<S>
         requires { IsAtRest (S.words store) (S.down store) }
         ensures { result ≡ heap_of_store_at_rest (S.words store) (S.passed store)
-            (S.refused store) }
+            (S.refusals store) }
     {
         let size = store.size();
         Heap {
@@ -251,7 +251,7 @@ impl<S: WordStore> Heap<S> {
     /// The store, for a power up or for `resume`.
     pub fn into_store(self) -> S
         ensures { HoldsHeap (S.words result) (S.down result) (S.passed result)
-            (S.refused result) self }
+            (S.refusals result) self }
     {
         let Heap { journal, size: _ } = self;
         journal.into_store()

@@ -4,6 +4,7 @@ use Rattle.std.proofs.Common.{subst, arith, if◌then◌else◌, lit<}
 use Rattle.std.proofs.lemmas.List.{take_all, length-append, length-drop, length-take-le, get_or_append_left, get_or-take}
 use Rattle.std.proofs.lemmas.Bool.{eq-eqb}
 use Rattle.jc_words.specs.Count.{saturating_count}
+use Rattle.jc_words.specs.Refusals.{Refusals}
 use Rattle.jc_words.specs.Layout.{version_address}
 use Rattle.jc_commit.specs.Image.{count_of, plain_of, recovered_of, touched_of, with_words, IsGoodLog}
 use Rattle.jc_commit.specs.Replay.{write_backs, torn_replay}
@@ -85,12 +86,12 @@ module _ (text old w : List ℕ) (bytes : IsOfBytes text) (fits : first_free (le
   heap_all : heap_of (recovered_of w) ≡ unsealed_heap (length old) text
   heap_all = ap heap_of recovered_all ∙ ap (λ l. heap_of (plain_of l)) is_all ∙ heap_of-laid (length old) text bytes rest
 
-  pub view_all : (p r : ℕ) → heap_view (recovered_journal w p r) (length old) ≡ unsealed_view (length old) text p r
+  pub view_all : (p : ℕ) (r : Refusals) → heap_view (recovered_journal w p r) (length old) ≡ unsealed_view (length old) text p r
   view_all p r =
       let none : touched_of w ≡ [] = touched_none w count_all in
       let passed : saturating_count p (if length (touched_of w) == 0 then 0 else length (touched_of w) + 1) ≡ p =
       ap (λ t. saturating_count p (if length t == 0 then 0 else length t + 1)) none ∙ (omega arith) in
-      λ i. record { now = heap_all i; durable = heap_all i; begun = false; touched = []; down = false; passed = passed i; refused = r; size = length old }
+      λ i. record { now = heap_all i; durable = heap_all i; begun = false; touched = []; down = false; passed = passed i; refusals = r; size = length old }
 
   -- what a replay leaves of these words is these words
   pub part_after : (new : List ℕ) (n : ℕ) → new ≡ torn_replay n w → IsPartlyWritten text old new

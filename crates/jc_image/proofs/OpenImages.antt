@@ -1,12 +1,13 @@
 -- The store of an open image.
 use Rattle.std.proofs.Common.{List, ℕ, Bool, length, sym, ap, ◌∙◌}
+use Rattle.jc_words.specs.Refusals.{Refusals}
 use Rattle.jc_commit.specs.State.{State}
 use Rattle.jc_heap.specs.Heap.{head_of}
 use Rattle.jc_heap.proofs.Holding.{IsStoreOf}
 use Rattle.jc_heap.proofs.RawWords.{plain-head}
 use Rattle.jc_image.specs.Opening.{HoldsImage, IsOpen}
 
-pub holds_image : (w : List ℕ) (d : Bool) (p r : ℕ) (j : State) (n : ℕ) → IsStoreOf w d p r j → IsOpen j n → HoldsImage w d p r j
+pub holds_image : (w : List ℕ) (d : Bool) (p : ℕ) (r : Refusals) (j : State) (n : ℕ) → IsStoreOf w d p r j → IsOpen j n → HoldsImage w d p r j
 holds_image w d p r j n s o = record {
   good = s.good;
   plain = s.plain;
@@ -16,5 +17,5 @@ holds_image w d p r j n s o = record {
   up = s.down ∙ o.up;
   closed = s.closed o.up o.closed;
   passed = s.passed;
-  refused = s.refused;
+  refusals = s.refusals;
 }

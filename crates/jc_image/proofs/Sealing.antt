@@ -3,6 +3,7 @@ use Rattle.std.proofs.Common.{◌≡◌, sym, subst, ℕ, ◌+◌, ◌/◌, ◌<
 use Rattle.std.proofs.Common.{arith, if◌then◌else◌, lit<}
 use Rattle.std.proofs.lemmas.List.{get_or-set_other, get_or-set_same, drop-set-lt, length-set, length-take-le}
 use Rattle.std.proofs.lemmas.Bool.{true≢false}
+use Rattle.jc_words.specs.Refusals.{Refusals}
 use Rattle.jc_words.specs.Layout.{size_address, top_address, packages_address, applets_address, reset_end_address, deselect_end_address, text_length_address}
 use Rattle.jc_words.specs.Layout.{addresses_start, registry_start, registry_length, text_start, magic}
 use Rattle.jc_commit.specs.Image.{capacity_of}
@@ -113,7 +114,7 @@ view_sealed j v n is s =
     λ i. record (sealed_view (is i)) { now = s.now i; durable = durable i }
 
 -- the store of a journal that wrote the magic word
-pub holds_sealed : (w : List ℕ) (d : Bool) (p r : ℕ) (k j : State) (v : HeapView) (n : ℕ) → IsStoreOf w d p r k → k ≡ after_write_in_place j 0 magic
+pub holds_sealed : (w : List ℕ) (d : Bool) (p : ℕ) (r : Refusals) (k j : State) (v : HeapView) (n : ℕ) → IsStoreOf w d p r k → k ≡ after_write_in_place j 0 magic
     → heap_view j n ≡ v → IsSound j n → v.down ≡ false → v.begun ≡ false → HoldsHeap w d p r (sealed_view v)
 holds_sealed w d p r k j v n store same is sound up closed =
     let s : IsSealed v (after_write_in_place j 0 magic) = is_sealed j v n is sound up closed in
@@ -123,7 +124,7 @@ holds_sealed w d p r k j v n store same is sound up closed =
     (holds w d p r (after_write_in_place j 0 magic) n (subst (IsStoreOf w d p r) same store) (subst IsWellFormed (sym s.recovered) s.laid) long)
 
 -- and that of one whose store refused it
-pub holds_unsealed : (w : List ℕ) (d : Bool) (p r : ℕ) (k j : State) (v : HeapView) (n : ℕ) → IsStoreOf w d p r k → k ≡ after_refusal j → heap_view j n ≡ v
+pub holds_unsealed : (w : List ℕ) (d : Bool) (p : ℕ) (r : Refusals) (k j : State) (v : HeapView) (n : ℕ) → IsStoreOf w d p r k → k ≡ after_refusal j → heap_view j n ≡ v
     → IsSound j n → HoldsHeap w d p r (heap_after_refused_seal v)
 holds_unsealed w d p r k j v n store same is sound =
     subst (HoldsHeap w d p r) (ap heap_after_refused_seal is)

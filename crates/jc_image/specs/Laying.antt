@@ -1,6 +1,7 @@
 -- An image without objects: the words that are written, and the heap that they stand for.
 use Rattle.std.specs.Prelude.{ℕ, true, ◌+◌, ◌-◌, ◌/◌, ◌≡◌, ◌<◌, ◌≤◌, List, [], ◌∷◌, ◌++◌, take, drop, length, slice_index, replicate}
 use Rattle.jc_words.specs.Count.{saturating_count}
+use Rattle.jc_words.specs.Refusals.{Refusals, refused_once}
 use Rattle.jc_words.specs.Layout.{front_length, registry_length, text_start, magic, version, journal_capacity}
 use Rattle.jc_heap.specs.Packed.{packed_words}
 use Rattle.jc_heap.specs.Heap.{HeapState, HeapView, heap_at_rest}
@@ -44,8 +45,8 @@ unsealed_heap n text = record {
 }
 
 -- what the layers above see of it
-abbrev pub unsealed_view : ℕ → List ℕ → ℕ → ℕ → HeapView
-unsealed_view n text passed refused = heap_at_rest (unsealed_heap n text) passed refused n
+abbrev pub unsealed_view : ℕ → List ℕ → ℕ → Refusals → HeapView
+unsealed_view n text passed refusals = heap_at_rest (unsealed_heap n text) passed refusals n
 
 -- the heap with the magic word in its image
 abbrev pub sealed_heap : HeapState → HeapState
@@ -57,4 +58,4 @@ sealed_view v = record v { now = sealed_heap v.now; durable = sealed_heap v.now;
 
 -- the heap where the store refused that write
 abbrev pub heap_after_refused_seal : HeapView → HeapView
-heap_after_refused_seal v = record v { down = true; refused = saturating_count v.refused 1 }
+heap_after_refused_seal v = record v { down = true; refusals = refused_once v.down v.passed v.refusals }

@@ -1,5 +1,6 @@
 -- What opening an image leaves.
 use Rattle.std.specs.Prelude.{ℕ, ◌≡◌, ◌<◌, ◌≤◌, Bool, false, List, length}
+use Rattle.jc_words.specs.Refusals.{Refusals}
 use Rattle.jc_words.specs.Layout.{text_start}
 use Rattle.jc_commit.specs.Image.{count_of, plain_of, recovered_of, IsGoodLog}
 use Rattle.jc_commit.specs.State.{State}
@@ -14,9 +15,9 @@ pub record IsOpen (j : State) (size : ℕ) : Type 0 where
   pub small : size < 65536
   pub wide : text_start ≤ size
 
--- a store with these words, which is down or not, has let so many writes pass and refused so many, holds this recovered image: its
+-- a store with these words, which is down or not, has let so many writes pass and refused these, holds this recovered image: its
 -- words are the image's, as they are and after another recovery, and no entry of the log counts
-pub record HoldsImage (words : List ℕ) (is_down : Bool) (let_pass turned_down : ℕ) (j : State) : Type 0 where
+pub record HoldsImage (words : List ℕ) (is_down : Bool) (let_pass : ℕ) (turned_down : Refusals) (j : State) : Type 0 where
   pub good : IsGoodLog words
   pub plain : plain_of words ≡ j.plain
   pub recovered : recovered_of words ≡ j.plain
@@ -25,4 +26,4 @@ pub record HoldsImage (words : List ℕ) (is_down : Bool) (let_pass turned_down 
   pub up : is_down ≡ false
   pub closed : count_of words ≡ 0
   pub passed : let_pass ≡ j.passed
-  pub refused : turned_down ≡ j.refused
+  pub refusals : turned_down ≡ j.refusals

@@ -2,6 +2,7 @@
 ghost use Rattle.std.specs.Prelude.{◌≡◌, ◌<◌, ◌≤◌, ◌+◌, ◌-◌, ◌*◌, ◌/◌, ◌++◌, ◌⊎◌, true, false, drop, length, slice_index, take, is_ok, if◌then◌else◌, OnOk};
 ghost use Rattle.std.specs.Prelude.{OnErr, IfOk, IfErr};
 ghost use Rattle.jc_words.specs.Count.{saturating_count};
+ghost use Rattle.jc_words.specs.Refusals.{refused_once};
 ghost use Rattle.jc_words.specs.Layout.{magic_address, text_start};
 ghost use Rattle.jc_heap.specs.Stored.{HoldsHeap};
 ghost use Rattle.jc_image.specs.Laying.{IsOfBytes, IsPartlyWritten, first_free, image_front, written_image_prefix, unsealed_view, new_image_words, sealed_view};
@@ -73,12 +74,13 @@ fn write_image<S: WordStore>(store: &mut S, text: &[u8]) -> Result<(), StoreDown
     ensures part { IsPartlyWritten text.now (S.words store.old) (S.words store.new) }
     ensures size { length (S.words store.new) ≡ length (S.words store.old) }
     ensures bytes { OnOk result (IsOfBytes text.now) }
+    ensures was_up { OnOk result (S.down store.old ≡ false) }
     ensures up { OnOk result (S.down store.new ≡ false) }
     ensures down { OnErr result (S.down store.new ≡ true) }
     ensures passed { OnOk result (S.passed store.new
         ≡ saturating_count (S.passed store.old) (first_free (length text.now))) }
-    ensures refused { S.refused store.new ≡ (if is_ok result then S.refused store.old else
-        saturating_count (S.refused store.old) 1) }
+    ensures refusals { S.refusals store.new ≡ (if is_ok result then S.refusals store.old else
+        refused_once (S.down store.old) (S.passed store.new) (S.refusals store.old)) }
 {
     let n = store.size();
     for i in 0..first_free(text.len() as u16) as u16 {
@@ -93,9 +95,10 @@ pub fn lay<S: WordStore>(mut store: S, text: &[u8]) -> Result<Heap<S>, S>
     requires short { length text.now < 65536 }
     requires fits { first_free (length text.now) ≤ length (S.words store) }
     ensures done { IfOk result (λ h. h ≡ unsealed_view (length (S.words store)) text.now
-        (saturating_count (S.passed store) (first_free (length text.now))) (S.refused store)) }
+        (saturating_count (S.passed store) (first_free (length text.now))) (S.refusals store)) }
     ensures down { IfErr result (λ s. S.down s ≡ true) }
-    ensures refused { IfErr result (λ s. S.refused s ≡ saturating_count (S.refused store) 1) }
+    ensures refused { IfErr result (λ s. S.refusals s
+        ≡ refused_once (S.down store) (S.passed s) (S.refusals store)) }
     ensures part { IfErr result (λ s. IsPartlyWritten text.now (S.words store) (S.words s)) }
     ensures size { IfErr result (λ s. length (S.words s) ≡ length (S.words store)) }
     ensures unmarked { IfErr result (λ s. (S.words s ≡ S.words store)
@@ -115,9 +118,9 @@ pub fn lay<S: WordStore>(mut store: S, text: &[u8]) -> Result<Heap<S>, S>
 pub fn seal<S: WordStore>(heap: Heap<S>) -> Result<S, S>
     requires up { heap.down ≡ false }
     requires outside { heap.begun ≡ false }
-    ensures sealed { IfOk result (λ s. HoldsHeap (S.words s) (S.down s) (S.passed s) (S.refused s)
+    ensures sealed { IfOk result (λ s. HoldsHeap (S.words s) (S.down s) (S.passed s) (S.refusals s)
         (sealed_view heap)) }
-    ensures stopped { IfErr result (λ s. HoldsHeap (S.words s) (S.down s) (S.passed s) (S.refused s)
+    ensures stopped { IfErr result (λ s. HoldsHeap (S.words s) (S.down s) (S.passed s) (S.refusals s)
         (heap_after_refused_seal heap)) }
     ensures settled { heap.durable ≡ heap.now }
 {

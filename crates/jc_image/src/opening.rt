@@ -1,6 +1,6 @@
 //! Opening an image, and whether its heap is whole.
 ghost use Rattle.std.specs.Prelude.{ℕ, ◌+◌, ◌/◌, ◌≡◌, ◌<◌, ◌≤◌, ◌^◌, ◌↔◌, IsTrue, IsOk, IfOk, IfErr, OnOk, true, false, length, slice_index, take};
-ghost use Rattle.jc_words.specs.Count.{saturating_count};
+ghost use Rattle.jc_words.specs.Refusals.{refused_once};
 ghost use Rattle.jc_words.specs.Layout.{top_address, text_length_address, text_start};
 ghost use Rattle.jc_commit.specs.Image.{IsGoodLog, StillRecovers};
 ghost use Rattle.jc_commit.specs.Replay.{IsPartOfReplay};
@@ -107,7 +107,7 @@ impl<S: WordStore> OpenImage<S> {
     pub fn open(store: S) -> Result<OpenImage<S>, (OpenRefusal, S)>
         requires { text_start ≤ length (S.words store) }
         ensures ok { IfOk result (λ o. o ≡ recovered_journal (S.words store) (S.passed store)
-            (S.refused store)) }
+            (S.refusals store)) }
         ensures good { OnOk result (IsGoodLog (S.words store)) }
         ensures bad_log { IfErr result (λ e. e.0 ≡ OpenRefusal.BadLog
             → (IsGoodLog (S.words store) → ⊥) × (e.1 ≡ store)) }
@@ -119,7 +119,7 @@ impl<S: WordStore> OpenImage<S> {
         ensures was_up { OnOk result (S.down store ≡ false) }
         ensures was_down { IfErr result (λ e. S.down store ≡ true → e.1 ≡ store) }
         ensures refused { IfErr result (λ e. e.0 ≡ OpenRefusal.StoreDown → S.down store ≡ false
-            → S.refused e.1 ≡ saturating_count (S.refused store) 1) }
+            → S.refusals e.1 ≡ refused_once false (S.passed e.1) (S.refusals store)) }
     {
         let size = store.size();
         match Journal::open(store) {
@@ -177,7 +177,7 @@ impl<S: WordStore> OpenImage<S> {
     /// The store, with its recovered words.
     pub fn into_store(self) -> S
         ensures { HoldsImage (S.words result) (S.down result) (S.passed result)
-            (S.refused result) self }
+            (S.refusals result) self }
     {
         let OpenImage { journal, size: _ } = self;
         journal.into_store()
@@ -192,7 +192,7 @@ impl<S: WordStore> OpenImage<S> {
         ensures whole { IfOk result (λ h. IsConsistent h.now) }
         ensures heap { IfOk result (λ h. h ≡ heap_view self (length self.plain)) }
         ensures store { IfErr result (λ s. HoldsImage (S.words s) (S.down s) (S.passed s)
-            (S.refused s) self) }
+            (S.refusals s) self) }
     {
         let OpenImage { journal, size } = self;
         if !is_heap(&journal, size) {

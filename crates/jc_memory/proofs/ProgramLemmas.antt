@@ -1,10 +1,10 @@
 -- Laws of what may be done, by induction on it.
 use Rattle.std.proofs.Common.{◌≡◌, List, [], ◌∷◌, ◌++◌, refl, sym, subst, ap, ◌∙◌, inl, inr}
 use Rattle.std.specs.Prelude.{◌⊎◌}
-use Rattle.jc_words.specs.Count.{saturating_count}
+use Rattle.jc_words.specs.Refusals.{refused_once}
 use Rattle.jc_heap.specs.Heap.{HeapState, HeapView}
 use Rattle.jc_heap.specs.Moves.{TornMovesLeave, Move, apply_move, apply_moves}
-use Rattle.jc_heap.proofs.MoveLaws.{refused-apply_moves, down-apply_moves, size-apply_moves}
+use Rattle.jc_heap.proofs.MoveLaws.{refusals-apply_moves, down-apply_moves, size-apply_moves}
 use Rattle.jc_memory.specs.State.{MemoryState, Effect, HeapMove, apply_effect, apply_effects, moves_of}
 use Rattle.jc_memory.specs.Programs.{Program, Finish, Perform, Choose, Either, Completes, TearLeaves, IsTornIn, Executes, bind}
 use Rattle.jc_heap.specs.Completions.{Completion, Completed, Torn}
@@ -85,8 +85,8 @@ module _ {B : Type 0} (f : HeapView → B) (kept : (m : Move) (h : HeapView) →
   kept_did (Either x y) s new a (inl did) = kept_did x s new a did
   kept_did (Either x y) s new a (inr did) = kept_did y s new a did
 
-pub refused_did : {A : Type 0} (d : Program A) (s new : MemoryState) (a : A) → Completes d s a new → new.heap.refused ≡ s.heap.refused
-refused_did d s new a did = kept_did (λ v. v.refused) (λ m h. refused-apply_moves (m ∷ []) h) d s new a did
+pub refusals_did : {A : Type 0} (d : Program A) (s new : MemoryState) (a : A) → Completes d s a new → new.heap.refusals ≡ s.heap.refusals
+refusals_did d s new a did = kept_did (λ v. v.refusals) (λ m h. refusals-apply_moves (m ∷ []) h) d s new a did
 
 pub down_did : {A : Type 0} (d : Program A) (s new : MemoryState) (a : A) → Completes d s a new → new.heap.down ≡ s.heap.down
 down_did d s new a did = kept_did (λ v. v.down) (λ m h. down-apply_moves (m ∷ []) h) d s new a did
@@ -99,7 +99,7 @@ pub bind_cut : {A B : Type 0} (more : A → MemoryState → Program B) (d : Prog
 bind_cut more d s new cut = record {
   left = left_before more d s new.heap.durable cut.left;
   down = cut.down;
-  refused = cut.refused;
+  refusals = cut.refusals;
   size = cut.size;
 }
 
@@ -109,13 +109,13 @@ bind_made more d s mid a (Completed b new) first second = bind_did more d s mid 
 bind_made more d s mid a (Torn new) first second = record {
   left = left_after more d s mid a new.heap.durable first second.left;
   down = second.down;
-  refused = second.refused
-      ∙ ap (λ n. saturating_count n 1) (refused_did d s mid a first);
+  refusals = second.refusals
+      ∙ (λ i. refused_once (down_did d s mid a first i) new.heap.passed (refusals_did d s mid a first i));
   size = second.size ∙ size_did d s mid a first;
 }
 
 -- the steps by which a call of two parts is seen to end as its definition says: both were made, or one was cut
-pub ruleset in_two_steps = (bind_did, left_before, left_after, refused_did, size_did, down_did)
+pub ruleset in_two_steps = (bind_did, left_before, left_after, refusals_did, size_did, down_did)
 
 -- the same, where the parts stand as whole calls
 pub ruleset in_two_calls = (bind_made, bind_cut, down_did)

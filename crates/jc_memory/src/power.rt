@@ -47,7 +47,7 @@ impl<S: WordStore> Memory<S> {
     /// The store, and what is not kept in it.
     pub fn into_store(self) -> (S, Volatile)
         ensures store { HoldsHeap (S.words result.0) (S.down result.0) (S.passed result.0)
-            (S.refused result.0) self.heap }
+            (S.refusals result.0) self.heap }
         ensures whole { self.heap.down ≡ false → IsConsistent self.heap.durable }
         ensures volatile { result.1 ≡ volatile_of self }
     {
@@ -77,7 +77,7 @@ impl<S: WordStore> Memory<S> {
         requires rests { IsAtRest (S.words store) (S.down store) }
         requires whole { IsConsistent (heap_of (recovered_of (S.words store))) }
         ensures { result ≡ resumed_memory (heap_of_store_at_rest (S.words store) (S.passed store)
-            (S.refused store)) volatile }
+            (S.refusals store)) volatile }
     {
         let Volatile {
             ram,

@@ -24,8 +24,8 @@ still_left StoreDown old new other good stands = absurd (other refl)
 -- a reset that finds a fault leaves what was there, with the power on
 pub fails_to_reset : (fault : Fault) (s : PowerState) (before after : StoreState) → IsStoreOf s before → PowerUpRefuses fault before.words
     → (fault ≡ StoreDown → ⊥) → length after.words ≡ length before.words → RefusalLeaves fault before.words after.words → after.down ≡ false
-    → after.refused ≡ before.refused → FailsToReset fault s after
-fails_to_reset fault s before after held cause other size stands up refused =
+    → after.refusals ≡ before.refusals → FailsToReset fault s after
+fails_to_reset fault s before after held cause other size stands up refusals =
     let left = still_left fault before.words after.words other held.good stands in (
       before,
       held,
@@ -37,8 +37,9 @@ fails_to_reset fault s before after held cause other size stands up refused =
           durable = (left.1 ∙ ap (λ (k : KeptState). k.durable) held.kept) i;
           laid = (laid_still fault before.words after.words other stands ∙ ap (λ (k : KeptState). k.laid) held.kept) i;
           down = up i;
-          refused =
-              (refused ∙ ap (λ (k : KeptState). k.refused) held.kept) i;
+          passed = after.passed;
+          refusals =
+              (refusals ∙ ap (λ (k : KeptState). k.refusals) held.kept) i;
           size = (size ∙ ap (λ (k : KeptState). k.size) held.kept) i;
         };
       },
@@ -46,4 +47,4 @@ fails_to_reset fault s before after held cause other size stands up refused =
 
 pub start_fails : (fault : Fault) (s : PowerState) (before after : StoreState) → IsStoreOf s before → FailsToStart fault before after
     → FailsToReset fault s after
-start_fails fault s before after held fails = fails_to_reset fault s before after held fails.cause fails.other fails.size fails.stands fails.up fails.refused
+start_fails fault s before after held fails = fails_to_reset fault s before after held fails.cause fails.other fails.size fails.stands fails.up fails.refusals

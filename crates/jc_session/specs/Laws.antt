@@ -1,6 +1,6 @@
 -- Laws of sessions.
 use Rattle.std.specs.Prelude.{ℕ, ◌≡◌, true, false, List, Some, None}
-use Rattle.jc_words.specs.Count.{saturating_count}
+use Rattle.jc_words.specs.Refusals.{refused_once}
 use Rattle.jc_transient.specs.State.{IsCleared}
 use Rattle.jc_card.specs.Apdu.{Apdu, apdu_of}
 use Rattle.jc_card.specs.CardState.{CardState}
@@ -17,7 +17,7 @@ use Rattle.jc_session.specs.WholeCopies.{IsWholeSession, RefusesNone}
 -- over a store that refuses no write a session is that of a card that keeps whole copies of its heap
 abbrev pub AreWholeSessions : Type 0
 AreWholeSessions = (before after : StoreState) (events : List Event) (answers : List Answer) (last : PowerState) →
-    IsSession before events answers last → IsStoreOf last after → RefusesNone before.refused after.refused → IsWholeSession before events answers after
+    IsSession before events answers last → IsStoreOf last after → RefusesNone before.refusals.count after.refusals.count → IsWholeSession before events answers after
 
 -- nothing is left of what died with the power: the present heap is the durable one, no transaction is open, the transient
 -- contents are blank, nothing is selected, and no load is open
@@ -40,15 +40,15 @@ ManagerUnselects = (card next : CardState) (bytes response : List ℕ) (c : Apdu
 abbrev pub IsToldByAnswer : Answer → PowerState → PowerState → Type 0
 IsToldByAnswer Down s (Off k) = Unit {0}
 IsToldByAnswer Down s (Up card) = ⊥
-IsToldByAnswer (Response r) s (Up card) = (durable_state (Up card)).refused ≡ (durable_state s).refused
+IsToldByAnswer (Response r) s (Up card) = (durable_state (Up card)).refusals ≡ (durable_state s).refusals
 IsToldByAnswer (Response r) s (Off k) = ⊥
-IsToldByAnswer Ready s (Up card) = (durable_state (Up card)).refused ≡ (durable_state s).refused
+IsToldByAnswer Ready s (Up card) = (durable_state (Up card)).refusals ≡ (durable_state s).refusals
 IsToldByAnswer Ready s (Off k) = ⊥
 
 -- and down is told where the store has refused one more, or the card was off and is asked by a command
 abbrev pub IsToldOfRefusal : Event → PowerState → PowerState → Type 0
 IsToldOfRefusal (Command bytes) (Off k) next = next ≡ Off k
-IsToldOfRefusal event s next = (durable_state next).refused ≡ saturating_count (durable_state s).refused 1
+IsToldOfRefusal event s next = (durable_state next).refusals ≡ refused_once false (durable_state next).passed (durable_state s).refusals
 
 pub record TellsRefusals (s : PowerState) (event : Event) (answer : Answer) (next : PowerState) : Type 0 where
   pub told : IsToldByAnswer answer s next

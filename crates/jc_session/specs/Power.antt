@@ -2,19 +2,20 @@
 use Rattle.std.specs.Prelude.{ℕ, ◌≡◌, ◌==◌, ◌&&◌, nat_le, nat_lt, Bool, true, false, List, length, slice_index}
 use Rattle.std.specs.List.{list_all}
 use Rattle.jc_words.specs.Layout.{top_address}
-use Rattle.jc_words.specs.Count.{saturating_count}
+use Rattle.jc_words.specs.Refusals.{Refusals, refused_once}
 use Rattle.jc_commit.specs.Image.{IsGoodLog, recovered_of}
 use Rattle.jc_heap.specs.Heap.{HeapState, HeapView, heap_of}
 use Rattle.jc_heap.specs.Image.{base, image, missing_words_of_image, package_addresses}
 use Rattle.jc_card.specs.CardState.{CardState}
 
 -- what is left of a card without power: the heap that a recovery gives, and whether its words are laid; of its store, whether it is
--- down, how many writes it has refused, and its number of words
+-- down, how many writes have passed, those that it has refused, and its number of words
 pub record KeptState : Type 0 where
   pub durable : HeapState
   pub laid : Bool
   pub down : Bool
-  pub refused : ℕ
+  pub passed : ℕ
+  pub refusals : Refusals
   pub size : ℕ
 
 -- a card is up, or it is off
@@ -24,26 +25,27 @@ pub data PowerState : Type 0 where
 
 -- what a loss of power leaves of a heap, whose words are laid
 abbrev pub durable_rest : HeapView → KeptState
-durable_rest v = record { durable = v.durable; laid = true; down = v.down; refused = v.refused; size = v.size }
+durable_rest v = record { durable = v.durable; laid = true; down = v.down; passed = v.passed; refusals = v.refusals; size = v.size }
 
 -- what a loss of power leaves now
 abbrev pub durable_state : PowerState → KeptState
 durable_state (Up card) = durable_rest card.memory.heap
 durable_state (Off k) = k
 
--- one more write was refused
-abbrev pub with_refusal : KeptState → KeptState
-with_refusal k = record { durable = k.durable; laid = k.laid; down = true; refused = saturating_count k.refused 1; size = k.size }
+-- so many writes have passed, and one more was refused
+abbrev pub with_refusal : ℕ → KeptState → KeptState
+with_refusal passed k = record k { down = true; passed = passed; refusals = refused_once false passed k.refusals }
 
--- the power is back
-abbrev pub with_power : KeptState → KeptState
-with_power k = record { durable = k.durable; laid = k.laid; down = false; refused = k.refused; size = k.size }
+-- the power is back, and so many writes have passed
+abbrev pub with_power : ℕ → KeptState → KeptState
+with_power passed k = record k { down = false; passed = passed }
 
--- the words of a store, whether it is down, and how many writes it has refused
+-- the words of a store, whether it is down, how many writes have passed, and those that it has refused
 pub record StoreState : Type 0 where
   pub words : List ℕ
   pub down : Bool
-  pub refused : ℕ
+  pub passed : ℕ
+  pub refusals : Refusals
 
 -- whether words are laid: the top is not below the places that every heap has nor above the words, the records reach up to it, and no
 -- package stands at or above it
@@ -57,7 +59,8 @@ durable_state_in_store store = record {
   durable = heap_of (recovered_of store.words);
   laid = is_well_formed (recovered_of store.words);
   down = store.down;
-  refused = store.refused;
+  passed = store.passed;
+  refusals = store.refusals;
   size = length store.words;
 }
 

@@ -1,6 +1,6 @@
 -- What a card answers to commands and resets, and what becomes of it.
 use Rattle.std.specs.Prelude.{ℕ, ◌≡◌, true, List, [], ◌∷◌}
-use Rattle.jc_words.specs.Count.{saturating_count}
+use Rattle.jc_words.specs.Refusals.{refused_once}
 use Rattle.jc_memory.specs.Programs.{Completes, TearLeaves}
 use Rattle.jc_card.specs.Answers.{exchange}
 use Rattle.jc_card.specs.Dispatching.{with_response}
@@ -17,7 +17,7 @@ abbrev pub AnswersCommand : PowerState → List ℕ → Answer → PowerState �
 AnswersCommand (Up card) bytes (Response r) (Up next) = Completes (exchange bytes card) card.memory (with_response next r) next.memory
 -- a write was refused within it: this heap a loss within it may leave, laid in a store of the same size
 AnswersCommand (Up card) bytes Down (Off k) = TearLeaves (exchange bytes card) card.memory k.durable × (k.down ≡ true)
-    × (k.refused ≡ saturating_count card.memory.heap.refused 1) × (k.size ≡ card.memory.heap.size) × (k.laid ≡ true)
+    × (k.refusals ≡ refused_once false k.passed card.memory.heap.refusals) × (k.size ≡ card.memory.heap.size) × (k.laid ≡ true)
 -- without power nothing is done
 AnswersCommand (Off k) bytes Down (Off l) = l ≡ k
 AnswersCommand (Up card) bytes (Response r) (Off k) = ⊥
@@ -32,7 +32,7 @@ abbrev pub AnswersReset : PowerState → Answer → PowerState → Type 0
 -- no write was refused
 AnswersReset s Ready (Up card) = IsPoweredUp (durable_state s) card
 -- a write was refused: the same is left
-AnswersReset s Down (Off k) = k ≡ with_refusal (durable_state s)
+AnswersReset s Down (Off k) = k ≡ with_refusal k.passed (durable_state s)
 AnswersReset s Ready (Off k) = ⊥
 AnswersReset s Down (Up card) = ⊥
 AnswersReset s (Response r) next = ⊥

@@ -12,13 +12,13 @@ use Rattle.jc_session.specs.Power.{PowerState, Up, Off, KeptState, StoreState, I
 -- the card of what was left: its heap is the durable one, at rest, and all else is as after a reset
 pub record IsPoweredUp (k : KeptState) (card : CardState) : Type 0 where
   pub made : IsCardHeap k.size k.durable
-  pub heap : card.memory.heap ≡ heap_at_rest k.durable card.memory.heap.passed k.refused k.size
+  pub heap : card.memory.heap ≡ heap_at_rest k.durable card.memory.heap.passed k.refusals k.size
   pub reset : IsAtReset k.durable card
 
 -- a power up over a store ends so: the card is up, over words that the product makes; or a write was refused
 abbrev pub Starts : StoreState → PowerState → Type 0
 Starts store (Up card) = IsMade store.words × IsPoweredUp (durable_state_in_store store) card
-Starts store (Off k) = PowerUpRefuses StoreDown store.words × (k ≡ with_refusal (durable_state_in_store store))
+Starts store (Off k) = PowerUpRefuses StoreDown store.words × (k ≡ with_refusal k.passed (durable_state_in_store store))
 
 -- a power up over a store finds this fault, which its words have and which is not that a write was refused; the words that
 -- it leaves are these
@@ -28,9 +28,9 @@ pub record FailsToStart (fault : PowerFault) (before after : StoreState) : Type 
   pub stands : RefusalLeaves fault before.words after.words
   pub size : length after.words ≡ length before.words
   pub up : after.down ≡ false
-  pub refused : after.refused ≡ before.refused
+  pub refusals : after.refusals ≡ before.refusals
 
 -- a reset of a card that is so finds this fault, which the words of its store have; what was left of it stays, with the power on
 abbrev pub FailsToReset : PowerFault → PowerState → StoreState → Type 0
 FailsToReset fault s after = (before : StoreState) × IsStoreOf s before × PowerUpRefuses fault before.words × (fault ≡ StoreDown → ⊥)
-    × IsStoreOf (Off (with_power (durable_state s))) after
+    × IsStoreOf (Off (with_power after.passed (durable_state s))) after

@@ -29,25 +29,25 @@ pub fn session<S: WordStore>(
     events: &[Event],
 ) -> (S, Result<Vec<Answer>, SessionFault>)
     ensures session { SessionEnds (answers_of result.1)
-        (record { words = S.words store; down = S.down store; refused = S.refused store })
+        (record { words = S.words store; down = S.down store; passed = S.passed store; refusals = S.refusals store })
         events.now
         (record {
           words = S.words result.0;
           down = S.down result.0;
-          refused = S.refused result.0;
+          passed = S.passed result.0; refusals = S.refusals result.0;
         }) }
     // While the store refuses no write, the answers and the heap are those of a card that keeps whole copies of its heap.
-    ensures whole { RefusesNone (S.refused store) (S.refused result.0)
+    ensures whole { RefusesNone (S.refusals store).count (S.refusals result.0).count
         → IfOk (answers_of result.1) (λ answers.
         IsWholeSession (record {
           words = S.words store;
           down = S.down store;
-          refused = S.refused store;
+          passed = S.passed store; refusals = S.refusals store;
         }) events.now answers
         (record {
           words = S.words result.0;
           down = S.down result.0;
-          refused = S.refused result.0;
+          passed = S.passed result.0; refusals = S.refusals result.0;
         })) }
 {
     let Ok(room) = Vec::with_capacity(alloc, events.len()) else {

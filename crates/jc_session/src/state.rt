@@ -1,6 +1,6 @@
 //! A card that is up, or the store of a card that is down.
 ghost use Rattle.std.specs.Prelude.{◌≡◌, true, false, IfOk, IfErr, MatchResult};
-ghost use Rattle.jc_words.specs.Count.{saturating_count};
+ghost use Rattle.jc_words.specs.Refusals.{refused_once};
 ghost use Rattle.jc_commit.specs.Image.{IsGoodLog};
 ghost use Rattle.jc_memory.specs.Programs.{Completes, TearLeaves};
 ghost use Rattle.jc_card.specs.Answers.{exchange};
@@ -51,7 +51,7 @@ impl<S: WordStore> PoweredCard<S> {
             (λ r. Completes (exchange command.now self) self.memory
             (with_response r.0 r.1) r.0.memory)
             (λ k. TearLeaves (exchange command.now self) self.memory k.durable × (k.down ≡ true)
-            × (k.refused ≡ saturating_count self.memory.heap.refused 1)
+            × (k.refusals ≡ refused_once false k.passed self.memory.heap.refusals)
             × (k.size ≡ self.memory.heap.size) × (k.laid ≡ true)) }
     {
         let PoweredCard { mut card } = self;
@@ -75,7 +75,7 @@ impl<S: WordStore> Model for DownStore<S> {
     ghost Value = { KeptState };
 
     ghost view = { λ u. durable_state_in_store (record
-        { words = S.words u.store; down = S.down u.store; refused = S.refused u.store }) };
+        { words = S.words u.store; down = S.down u.store; passed = S.passed u.store; refusals = S.refusals u.store }) };
 
     ghost invariant = { λ u. IsGoodLog (S.words u.store) };
 }
@@ -85,7 +85,7 @@ impl<S: WordStore> DownStore<S> {
     fn of_store(store: S) -> DownStore<S>
         requires { IsGoodLog (S.words store) }
         ensures { result ≡ durable_state_in_store (record
-            { words = S.words store; down = S.down store; refused = S.refused store }) }
+            { words = S.words store; down = S.down store; passed = S.passed store; refusals = S.refusals store }) }
     {
         DownStore { store }
     }
@@ -95,7 +95,7 @@ impl<S: WordStore> DownStore<S> {
         ensures { IsStoreOf (Off self) (record {
           words = S.words result;
           down = S.down result;
-          refused = S.refused result;
+          passed = S.passed result; refusals = S.refusals result;
         }) }
     {
         self.store
@@ -116,11 +116,11 @@ impl<S: WordStore> SessionState<S> {
     /// store comes back.
     pub fn start(alloc: Global, mut store: S) -> Result<SessionState<S>, (PowerFault, S)>
         ensures powered { IfOk result (λ held. Starts (record
-            { words = S.words store; down = S.down store; refused = S.refused store })
+            { words = S.words store; down = S.down store; passed = S.passed store; refusals = S.refusals store })
             (power_of held)) }
         ensures fault { IfErr result (λ e. FailsToStart e.0
-            (record { words = S.words store; down = S.down store; refused = S.refused store })
-            (record { words = S.words e.1; down = S.down e.1; refused = S.refused e.1 })) }
+            (record { words = S.words store; down = S.down store; passed = S.passed store; refusals = S.refusals store })
+            (record { words = S.words e.1; down = S.down e.1; passed = S.passed e.1; refusals = S.refusals e.1 })) }
         ensures good { IfErr result (λ e. IsGoodLog (S.words store) → IsGoodLog (S.words e.1)) }
     {
         store.power_on();
@@ -139,7 +139,7 @@ impl<S: WordStore> SessionState<S> {
         ensures { IsStoreOf (power_of self) (record {
           words = S.words result;
           down = S.down result;
-          refused = S.refused result;
+          passed = S.passed result; refusals = S.refusals result;
         }) }
     {
         match self {
@@ -165,7 +165,7 @@ impl<S: WordStore> SessionState<S> {
     pub fn reset(self, alloc: Global) -> Result<(SessionState<S>, Answer), (PowerFault, S)>
         ensures reset { IfOk result (λ r. AnswersReset (power_of self) r.1 (power_of r.0)) }
         ensures fault { IfErr result (λ e. FailsToReset e.0 (power_of self)
-            (record { words = S.words e.1; down = S.down e.1; refused = S.refused e.1 })) }
+            (record { words = S.words e.1; down = S.down e.1; passed = S.passed e.1; refusals = S.refusals e.1 })) }
     {
         let store = self.into_store();
         match SessionState::start(alloc, store) {
@@ -198,7 +198,7 @@ impl<S: WordStore> SessionState<S> {
             × FailsToReset e.0 (power_of self) (record {
               words = S.words e.1;
               down = S.down e.1;
-              refused = S.refused e.1;
+              passed = S.passed e.1; refusals = S.refusals e.1;
             })) }
     {
         match event {

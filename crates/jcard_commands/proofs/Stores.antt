@@ -2,6 +2,7 @@
 use Rattle.std.proofs.Common.{◌≡◌, ◌∙◌, ◌⊎◌, ℕ, Bool, true, false, List, [], Option, Some, None, Result, Err, refl, sym, subst, inl, inr, arith}
 use Rattle.std.specs.Prelude.{◌<◌, ◌≤◌, ◌+◌, ◌≢◌, length, replicate, slice_index}
 use Rattle.jc_words.specs.Layout.{least_size, magic, magic_address}
+use Rattle.jc_words.specs.Refusals.{Refusals, no_refusals}
 use Rattle.jc_words.specs.Stores.{FuseStoreValue}
 use Rattle.jc_image.specs.Laying.{first_free}
 use Rattle.jc_platform.specs.Table.{Reads}
@@ -17,22 +18,20 @@ use Rattle.jcard_commands.specs.declared.fault.Fault.{Fault}
 use Rattle.jcard_commands.specs.declared.fault.Fault.TheVariants.{CannotWrite, ImageTooSmall, NoMemory}
 
 -- a store under a fuse that is not armed
-abbrev pub under_fuse : List ℕ → Bool → ℕ → ℕ → FuseStoreValue
-under_fuse w down passed refused = record {
+abbrev pub under_fuse : List ℕ → Bool → ℕ → Refusals → FuseStoreValue
+under_fuse w down passed refusals = record {
   words = w;
   down = down;
   passed = 0;
-  refused = 0;
-  fuse = None;
+  refusals = record { count = 0; fuse = None; faults = refusals.count };
   down_below = down;
   passed_below = passed;
-  refused_below = refused;
 }
 
 -- one that was just opened
-pub fresh_under_fuse : (w : List ℕ) (down : Bool) (passed refused : ℕ) → down ≡ false → passed ≡ 0 → refused ≡ 0
-    → under_fuse w down passed refused ≡ fresh_store w
-fresh_under_fuse w down passed refused d p r = λ i. under_fuse w (d i) (p i) (r i)
+pub fresh_under_fuse : (w : List ℕ) (down : Bool) (passed : ℕ) (refusals : Refusals) → down ≡ false → passed ≡ 0
+    → refusals ≡ no_refusals → under_fuse w down passed refusals ≡ fresh_store w
+fresh_under_fuse w down passed refusals d p r = λ i. under_fuse w (d i) (p i) (r i)
 
 -- a format that ended by a fault
 pub laid_with : (image : List ℕ) (n : ℕ) (text : List ℕ) (made : Result (Unit {0}) FormatFault) (cause : FormatFault) (fault : Fault) (after : FuseStoreValue)
@@ -41,7 +40,7 @@ pub laid_with : (image : List ℕ) (n : ℕ) (text : List ℕ) (made : Result (U
     → ((line : ℕ) → made ≡ Err (BadTable line) → Reads text (Err (BadLine line)))
     → (made ≡ Err TooSmall → n < first_free (length text) + fixed_size)
     → ((made ≡ Err StoreDown → ⊥) → after ≡ fresh_store (replicate n 0))
-    → (made ≡ Err StoreDown → (after.refused_below ≡ 1) × (after.down ≡ true)
+    → (made ≡ Err StoreDown → (after.refusals.faults ≡ 1) × (after.down ≡ true)
     × ((after.words ≡ replicate n 0) ⊎ (slice_index after.words magic_address ≢ magic)))
     → IsFormatFault image cause fault → IsLaid image n text (Err fault) after
 laid_with image n text made StoreDown fault after is table enough size line small kept stopped told =

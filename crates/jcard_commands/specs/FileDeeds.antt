@@ -1,5 +1,6 @@
 -- What is done with the files of a disk.
 use Rattle.std.specs.Prelude.{ℕ, List, false, Bool, Option, Some, None, Result, Ok, Err}
+use Rattle.jc_words.specs.Refusals.{no_refusals}
 use Rattle.jc_words.specs.Stores.{FuseStoreValue}
 
 -- one thing that is done with a file, by its name. Of what could not be opened or made nothing is told
@@ -21,11 +22,9 @@ fresh_store w = record {
   words = w;
   down = false;
   passed = 0;
-  refused = 0;
-  fuse = None;
+  refusals = no_refusals;
   down_below = false;
   passed_below = 0;
-  refused_below = 0;
 }
 
 -- what is told of a file that was asked for

@@ -54,8 +54,8 @@ IsFormatFault image format.TooSmall fault = fault ≡ ImageTooSmall
 -- how a store of n zero words ended as the image of this name, from this table's text: it is a new image, and refused no write; or it
 -- refused one, and has no magic word; or the table and the objects of the runtime environment do not fit, and no write was asked for
 abbrev pub IsLaid : List ℕ → ℕ → List ℕ → Result Unit Fault → FuseStoreValue → Type 0
-IsLaid image n text (Ok done) store = IsNewImage n text store.words × (store.refused_below ≡ 0) × (store.passed ≡ 0)
-IsLaid image n text (Err (CannotWrite path)) store = (path.now ≡ image) × (store.refused_below ≡ 1) × (store.down ≡ true)
+IsLaid image n text (Ok done) store = IsNewImage n text store.words × (store.refusals.faults ≡ 0) × (store.passed ≡ 0)
+IsLaid image n text (Err (CannotWrite path)) store = (path.now ≡ image) × (store.refusals.faults ≡ 1) × (store.down ≡ true)
     × ((store.words ≡ replicate n 0) ⊎ (slice_index store.words magic_address ≢ magic))
 IsLaid image n text (Err ImageTooSmall) store = (n < first_free (length text) + fixed_size) × (store ≡ fresh_store (replicate n 0))
 IsLaid image n text (Err other) store = ⊥

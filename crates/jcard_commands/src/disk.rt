@@ -1,6 +1,8 @@
 //! The files that the program uses.
 ghost use Rattle.std.specs.Prelude.{◌≡◌, ◌++◌, ◌*◌, ◌∷◌, [], List, ℕ, false, is_ok, IfOk, IfErr, length, replicate};
 ghost use Rattle.jc_words.specs.Files.{IsImageSize};
+ghost use Rattle.jc_words.specs.Refusals.{no_refusals};
+ghost use Rattle.jc_words.specs.Stores.{refusals_of_file};
 ghost use Rattle.jcard_commands.specs.FileDeeds.{FileDeed, ClosesImage, MakesImage, OpensImage, ReadsImage, ReadsText, told_of};
 ghost use Rattle.jcard_commands.specs.Images.{IsCreateFault, IsCreatedAs, IsNotMade, IsNotOpened, IsNotOpenedToWrite, IsOpenedAs, IsOpenFault, IsReadFault, IsUnopened};
 
@@ -38,7 +40,7 @@ pub trait Disk {
         ensures size { IfOk result (λ store. IsImageSize (2 * length (Self.Image.words store))) }
         ensures up { IfOk result (λ store. Self.Image.down store ≡ false) }
         ensures none_passed { IfOk result (λ store. Self.Image.passed store ≡ 0) }
-        ensures none_refused { IfOk result (λ store. Self.Image.refused store ≡ 0) }
+        ensures none_refused { IfOk result (λ store. Self.Image.refusals store ≡ no_refusals) }
         ensures refused { IfErr result (λ fault. IsNotOpenedToWrite image.now fault) }
         ensures does { does self.old (OpensImage image.now (told_of Self.Image.words result) ∷ [])
             self.new };
@@ -48,7 +50,7 @@ pub trait Disk {
         ensures size { IfOk result (λ store. IsImageSize (2 * length (Self.Image.words store))) }
         ensures up { IfOk result (λ store. Self.Image.down store ≡ false) }
         ensures none_passed { IfOk result (λ store. Self.Image.passed store ≡ 0) }
-        ensures none_refused { IfOk result (λ store. Self.Image.refused store ≡ 0) }
+        ensures none_refused { IfOk result (λ store. Self.Image.refusals store ≡ no_refusals) }
         ensures refused { IfErr result (λ fault. IsNotOpened image.now fault) }
         ensures does { does self.old (ReadsImage image.now (told_of Self.Image.words result) ∷ [])
             self.new };
@@ -59,7 +61,7 @@ pub trait Disk {
         ensures words { IfOk result (λ store. Self.Image.words store ≡ replicate n 0) }
         ensures up { IfOk result (λ store. Self.Image.down store ≡ false) }
         ensures none_passed { IfOk result (λ store. Self.Image.passed store ≡ 0) }
-        ensures none_refused { IfOk result (λ store. Self.Image.refused store ≡ 0) }
+        ensures none_refused { IfOk result (λ store. Self.Image.refusals store ≡ no_refusals) }
         ensures refused { IfErr result (λ fault. IsNotMade image.now fault) }
         ensures does { does self.old (MakesImage image.now n (is_ok result) ∷ []) self.new };
 
@@ -116,7 +118,7 @@ where
         ensures size { IfOk result (λ store. IsImageSize (2 * length store.words)) }
         ensures up { IfOk result (λ store. store.down ≡ false) }
         ensures none_passed { IfOk result (λ store. store.passed ≡ 0) }
-        ensures none_refused { IfOk result (λ store. store.refused ≡ 0) }
+        ensures none_refused { IfOk result (λ store. refusals_of_file store ≡ no_refusals) }
         ensures refused { IfErr result (λ fault. IsNotOpenedToWrite image.now fault) }
         ensures does { Unit {0} }
         ensures opened { IsOpenedAs (IsOpenFault image.now) R.File.lock_gives R.File.remaining
@@ -132,7 +134,7 @@ where
         ensures size { IfOk result (λ store. IsImageSize (2 * length store.words)) }
         ensures up { IfOk result (λ store. store.down ≡ false) }
         ensures none_passed { IfOk result (λ store. store.passed ≡ 0) }
-        ensures none_refused { IfOk result (λ store. store.refused ≡ 0) }
+        ensures none_refused { IfOk result (λ store. refusals_of_file store ≡ no_refusals) }
         ensures refused { IfErr result (λ fault. IsNotOpened image.now fault) }
         ensures does { Unit {0} }
         ensures opened { IsOpenedAs (IsReadFault image.now) R.File.lock_gives R.File.remaining
@@ -148,7 +150,7 @@ where
         ensures words { IfOk result (λ store. store.words ≡ replicate n 0) }
         ensures up { IfOk result (λ store. store.down ≡ false) }
         ensures none_passed { IfOk result (λ store. store.passed ≡ 0) }
-        ensures none_refused { IfOk result (λ store. store.refused ≡ 0) }
+        ensures none_refused { IfOk result (λ store. refusals_of_file store ≡ no_refusals) }
         ensures refused { IfErr result (λ fault. IsNotMade image.now fault) }
         ensures does { Unit {0} }
         ensures created { IsCreatedAs (IsCreateFault image.now) R.File.lock_gives R.File.contents n

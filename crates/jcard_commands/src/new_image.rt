@@ -1,6 +1,7 @@
 //! Making an image.
 ghost use Rattle.std.specs.Prelude.{ℕ, ◌≡◌, ◌≤◌, List, None, false, MatchResult, IfOk, IfErr, IfSome, length, replicate, take};
 ghost use Rattle.jc_words.specs.Layout.{least_size};
+ghost use Rattle.jc_words.specs.Refusals.{no_refusals};
 ghost use Rattle.jcard_commands.specs.FileDeeds.{FileDeed};
 ghost use Rattle.jcard_commands.specs.Images.{IsNotRead};
 ghost use Rattle.jcard_commands.specs.NewImages.{IsFormatFault, IsLaid, IsMadeFrom, IsNew, IsTable, IsRead, IsUnread, IsWordCount};
@@ -114,7 +115,7 @@ fn lay_image<'a, S: WordStore + Drop>(
     requires zeros { S.words store ≡ replicate (length (S.words store)) 0 }
     requires up { S.down store ≡ false }
     requires none_passed { S.passed store ≡ 0 }
-    requires none_refused { S.refused store ≡ 0 }
+    requires none_refused { S.refusals store ≡ no_refusals }
     requires table { IsTable text.now }
     ensures { IsLaid image.now (length (S.words store)) text.now result.1 result.0 }
 {

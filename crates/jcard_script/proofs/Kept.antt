@@ -11,8 +11,8 @@ use Rattle.jcard_script.specs.ScriptStates.{ScriptState, Down, IsSessionStore, F
 abbrev pub Found : Fault → FuseStoreValue → FuseStoreValue → Type 0
 Found fault before after = PowerUpRefuses fault before.words × RefusalLeaves fault before.words after.words × (length after.words ≡ length before.words)
     × (IsFoundFirst fault → after ≡ before)
-    × (IsFoundAfter fault → (after.down ≡ false) × (after.passed ≡ (recovered_journal before.words before.passed before.refused).passed)
-    × (after.refused ≡ before.refused))
+    × (IsFoundAfter fault → (after.down ≡ false) × (after.passed ≡ (recovered_journal before.words before.passed before.refusals).passed)
+    × (after.refusals ≡ before.refusals))
 
 -- a fault is found before a recovery or after it
 first_or_after : (fault : Fault) → (fault ≡ StoreDown → ⊥) → IsFoundFirst fault ⊎ IsFoundAfter fault
@@ -35,8 +35,8 @@ of_powered before after fault other found = record {
     | inl first ↦ ap (λ f. f.down) (found.3 first)
     | inr late ↦ (found.4 late).0
   ];
-  refused = elim (first_or_after fault other) [
-    | inl first ↦ ap (λ f. f.refused) (found.3 first)
+  refusals = elim (first_or_after fault other) [
+    | inl first ↦ ap (λ f. f.refusals) (found.3 first)
     | inr late ↦ (found.4 late).2
   ];
   untouched = found.3;

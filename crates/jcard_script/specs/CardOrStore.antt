@@ -1,5 +1,6 @@
 -- What a session holds.
 use Rattle.std.specs.Prelude.{◌≡◌, [], true, false, Option, Some, None}
+use Rattle.jc_words.specs.Refusals.{no_refusals}
 use Rattle.jc_words.specs.Stores.{FuseStoreValue}
 use Rattle.jcard_script.specs.ScriptStates.{ScriptState, Up, Down}
 use Rattle.jcard_script.specs.declared.card_or_store.CardOrStore.{CardOrStore}
@@ -12,7 +13,7 @@ state_of_card (Store store) = Down store
 
 -- the store of no words
 abbrev nowhere : FuseStoreValue
-nowhere = record { words = []; down = true; passed = 0; refused = 0; fuse = None; down_below = true; passed_below = 0; refused_below = 0 }
+nowhere = record { words = []; down = true; passed = 0; refusals = no_refusals; down_below = true; passed_below = 0 }
 
 -- the standing of what is held; nothing is held only while a reset is carried out or the fuse is armed
 abbrev pub state_of_held : {S : Type 0} → Option (CardOrStore S) → ScriptState

@@ -1,7 +1,8 @@
 -- How a session stands, and what a power up makes of it.
 use Rattle.std.specs.Prelude.{ℕ, ◌≡◌, List, length, true, false, Some, None}
 use Rattle.jc_words.specs.Count.{saturating_count}
-use Rattle.jc_words.specs.Stores.{FuseStoreValue}
+use Rattle.jc_words.specs.Refusals.{refused_once, with_fuse_at}
+use Rattle.jc_words.specs.Stores.{FuseStoreValue, with_fuse_armed}
 use Rattle.jc_commit.specs.Image.{IsGoodLog, StillRecovers, recovered_of}
 use Rattle.jc_commit.specs.Replay.{IsPartOfReplay}
 use Rattle.jc_commit.specs.State.{recovered_journal}
@@ -29,7 +30,7 @@ pub data ScriptState : Type 0 where
 abbrev pub Exchanges : List ℕ → CardState → Completion MemoryState LoadResponse → Type 0
 Exchanges bytes card after = Executes (exchange bytes card) card.memory after
 
--- the store of a heap: its words stand for the durable heap, and its counts are the heap's
+-- the store of a heap: its words stand for the durable heap, and its counts and its fuse are the heap's
 pub record IsStoreOf (heap : HeapView) (store : FuseStoreValue) : Type 0 where
   pub good : IsGoodLog store.words
   pub laid : IsWellFormed (recovered_of store.words)
@@ -37,7 +38,7 @@ pub record IsStoreOf (heap : HeapView) (store : FuseStoreValue) : Type 0 where
   pub size : length store.words ≡ heap.size
   pub down : store.down ≡ heap.down
   pub passed : store.passed ≡ heap.passed
-  pub refused : store.refused ≡ heap.refused
+  pub refusals : store.refusals ≡ heap.refusals
 
 -- the session's store is so
 abbrev pub IsSessionStore : ScriptState → FuseStoreValue → Type 0
@@ -48,11 +49,11 @@ IsSessionStore (Down held) store = store ≡ held
 -- load, as after a reset, and no write was refused; or one was, and a part of the recovery was done, so that another leaves what
 -- this one would have left
 abbrev pub PowersUp : FuseStoreValue → ScriptState → Type 0
-PowersUp before (Up card) = IsMade before.words × (card.memory.heap ≡ heap_view (recovered_journal before.words before.passed before.refused)
+PowersUp before (Up card) = IsMade before.words × (card.memory.heap ≡ heap_view (recovered_journal before.words before.passed before.refusals)
     (length before.words)) × IsCleared card.memory.ram × (card.load ≡ None)
     × IsAtReset (heap_of (recovered_of before.words)) card
 PowersUp before (Down after) = PowerUpRefuses StoreDown before.words × StillRecovers before.words after.words × (after.down ≡ true)
-    × (after.refused ≡ saturating_count before.refused 1)
+    × (after.refusals ≡ refused_once false after.passed before.refusals)
     × IsPartOfReplay before.words after.words before.passed after.passed
 
 -- the power is back, in the store below too
@@ -67,9 +68,9 @@ pub record FailsUp (before : FuseStoreValue) (fault : Fault) (after : FuseStoreV
   pub stands : RefusalLeaves fault before.words after.words
   pub size : length after.words ≡ length before.words
   pub up : after.down ≡ false
-  pub refused : after.refused ≡ before.refused
+  pub refusals : after.refusals ≡ before.refusals
   pub untouched : IsFoundFirst fault → after ≡ with_power before
-  pub recovered : IsFoundAfter fault → after.passed ≡ (recovered_journal before.words before.passed before.refused).passed
+  pub recovered : IsFoundAfter fault → after.passed ≡ (recovered_journal before.words before.passed before.refusals).passed
 
 -- a reset: the power comes back to the session's store, and the card powers up
 abbrev pub IsReset : ScriptState → ScriptState → Type 0
@@ -79,11 +80,12 @@ IsReset s t = (store : FuseStoreValue) × IsSessionStore s store × PowersUp sto
 abbrev pub FailsReset : Fault → ScriptState → ScriptState → Type 0
 FailsReset fault s t = (before after : FuseStoreValue) × IsSessionStore s before × FailsUp before fault after × (t ≡ Down after)
 
--- the fuse is armed with k. The state of a card that is up does not tell its fuse: the card is as it was, at rest
+-- the fuse is armed: k further writes pass. A card that is up is as it was, at rest
 abbrev pub with_fuse : ℕ → ScriptState → ScriptState
 with_fuse k (Up card) = Up (record card {
   memory = record card.memory {
-    heap = heap_at_rest card.memory.heap.durable card.memory.heap.passed card.memory.heap.refused card.memory.heap.size;
+    heap = heap_at_rest card.memory.heap.durable card.memory.heap.passed
+        (with_fuse_at (saturating_count card.memory.heap.passed k) card.memory.heap.refusals) card.memory.heap.size;
   };
 })
-with_fuse k (Down store) = Down (record store { fuse = Some k })
+with_fuse k (Down store) = Down (with_fuse_armed k store)

@@ -2,6 +2,7 @@
 use Rattle.std.proofs.Common.{◌≡◌, ℕ, Bool, List, [], length, refl, sym, ◌∙◌, ap, subst}
 use Rattle.std.specs.Prelude.{Ok}
 use Rattle.std.proofs.lemmas.Option.{none-some}
+use Rattle.jc_words.specs.Refusals.{Refusals}
 use Rattle.jc_commit.specs.Image.{recovered_of}
 use Rattle.jc_heap.specs.Heap.{HeapState, heap_of}
 use Rattle.jc_heap.specs.Stored.{HoldsHeap}
@@ -71,9 +72,9 @@ new_kept t text words k made reads is keeps =
       counted = subst CountsPackages same (new_counted (length words) text t);
     }
 
-card_made : (t : Tokens) (words : List ℕ) (down : Bool) (passed refused : ℕ) (card : CardState) → IsOwnCard t card
-    → HoldsHeap words down passed refused card.memory.heap → IsMade words
-card_made t words down passed refused card own holds =
+card_made : (t : Tokens) (words : List ℕ) (down : Bool) (passed : ℕ) (refusals : Refusals) (card : CardState) → IsOwnCard t card
+    → HoldsHeap words down passed refusals card.memory.heap → IsMade words
+card_made t words down passed refusals card own holds =
     kept_made t words (durable_rest card.memory.heap) (kept_own t (Up card) own) (record
     { good = holds.good; laid = holds.laid; durable = holds.durable; size = holds.size })
 

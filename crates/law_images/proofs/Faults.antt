@@ -106,7 +106,7 @@ reset_own : (t : Tokens) (s : PowerState) (after : StoreState) (fault : Fault) â
 reset_own t s after fault own laid fails =
     let left = kept_own t s own in (
       no_other fault fails.0.words (made_of t fails.0 (store_own t s fails.0 own laid fails.1)) fails.2 fails.3,
-      store_own t (Off (with_power (durable_state s))) after (record {
+      store_own t (Off (with_power after.passed (durable_state s))) after (record {
         packages = left.packages;
         linked = left.linked;
         heap = left.heap;

@@ -60,7 +60,7 @@ rests v down shut settled empty = λ i. record {
   touched = empty i;
   down = down i;
   passed = v.passed;
-  refused = v.refused;
+  refusals = v.refusals;
   size = v.size;
 }
 
@@ -79,5 +79,5 @@ leave_at_rest bytes card a new rest did =
 pub rests_so : (k : KeptState) (card : CardState) → IsPoweredUp k card → IsResting card.memory.heap
 rests_so k card up =
     let same = up.heap in
-    same ∙ (λ i. heap_at_rest (sym (ap (λ (v : HeapView). v.now) same) i) card.memory.heap.passed (sym (ap (λ (v : HeapView). v.refused) same) i)
+    same ∙ (λ i. heap_at_rest (sym (ap (λ (v : HeapView). v.now) same) i) card.memory.heap.passed (sym (ap (λ (v : HeapView). v.refusals) same) i)
     (sym (ap (λ (v : HeapView). v.size) same) i))

@@ -1,8 +1,10 @@
 -- Lines of a script as events of a session.
-use Rattle.std.proofs.Common.{◌≡◌, inl, inr, ℕ, List, [], ◌∷◌, ◌++◌, refl, sym, ◌∙◌, ap, subst, length}
+use Rattle.std.proofs.Common.{◌≡◌, ◌<◌, ◌≤◌, inl, inr, ℕ, List, [], ◌∷◌, ◌++◌, refl, sym, ◌∙◌, ap, subst, length, arith}
 use Rattle.std.specs.Prelude.{◌⊎◌, Bool, false, Result, Ok, Err}
 use Rattle.std.proofs.lemmas.List.{append_assoc, append-nil}
 use Rattle.std.specs.Str.Lines.{lines}
+use Rattle.jc_words.specs.Count.{saturating_count}
+use Rattle.jc_words.specs.Refusals.{with_fuse_at}
 use Rattle.jc_words.specs.Stores.{FuseStoreValue}
 use Rattle.jc_commit.specs.Image.{IsGoodLog, recovered_of}
 use Rattle.jc_heap.specs.Heap.{HeapState, HeapView, heap_at_rest}
@@ -15,14 +17,15 @@ use Rattle.jc_session.specs.declared.event.Event.TheVariants as event
 use Rattle.jc_session.specs.declared.event.Answer.{Answer}
 use Rattle.jc_session.specs.declared.event.Answer.TheVariants.{Response, Down}
 use Rattle.jc_session.specs.SessionStates.{answer_of_power_up}
-use Rattle.jc_session.specs.Power.{PowerState, Up, Off, StoreState, IsStoreOf, durable_state, durable_rest, durable_state_in_store, with_refusal}
+use Rattle.jc_session.specs.Power.{PowerState, Up, Off, KeptState, StoreState, IsStoreOf, durable_state, durable_rest, durable_state_in_store, with_refusal}
 use Rattle.jc_session.specs.Serving.{AnswersCommand, AnswersReset, SessionRun}
 use Rattle.jc_session.specs.Starting.{FailsToReset, IsPoweredUp, Starts}
 use Rattle.jc_card.specs.declared.power_up.PowerFault.{PowerFault as Fault}
 use Rattle.jc_card.specs.PowerUp.{RefusalLeaves}
 use Rattle.jc_session.proofs.Laid.{if_laid}
 use Rattle.jc_session.proofs.Resets.{fails_to_reset}
-use Rattle.jc_session.proofs.WholeSessions.{are_whole}
+use Rattle.jc_session.proofs.Refusals.{command_grows, is_same, reset_grows}
+use Rattle.jc_session.proofs.WholeSessions.{command_whole, reset_whole, start_count, started_up}
 use Rattle.jcard_script.specs.declared.script.ScriptFault.{ScriptFault}
 use Rattle.jcard_script.specs.declared.script.ScriptFault.TheVariants.{ReadFailed, WriteFailed, BadLine, TooLong, PowerFault}
 use Rattle.jcard_script.specs.ScriptStates.{ScriptState, Up as UpIn, Down as DownIn, Exchanges, FailsReset, IsStoreOf as IsStoreOfHeap, IsSessionStore}
@@ -34,7 +37,7 @@ use Rattle.law_images.proofs.Rest.{leave_at_rest, rests_so}
 use Rattle.law_images.proofs.Steps.{cut_kept, starts_off, starts_up}
 use Rattle.law_images.specs.Rest.{IsResting}
 use Rattle.law_images.specs.Scripts.{AreAnswered, AreSessionsOfScript, AreSessions, AreWholeSessions, EndsAsSession, IsWrittenFirst, Leaves, Spell, SpellsFirst}
-use Rattle.law_images.specs.Scripts.{state_of, text_of_answer}
+use Rattle.law_images.specs.Scripts.{ServeAsEvents, ServeLines, ServeLinesWhole, ServesForm, ServesFormWhole, armed, armed_card, state_of, text_of_answer}
 
 -- how the card of a script stands, as a session sees it
 abbrev power_in : ScriptState → PowerState
@@ -51,7 +54,8 @@ same_kept heap store h = λ i. record {
   durable = h.durable i;
   laid = if_laid (recovered_of store.words) h.laid i;
   down = h.down i;
-  refused = h.refused i;
+  passed = h.passed i;
+  refusals = h.refusals i;
   size = h.size i;
 }
 
@@ -79,7 +83,8 @@ told_after bytes card (Completed a memory) t text rest made says = (
   subst IsGood (sym says.1) (leave_at_rest bytes card a memory rest made),
 )
 told_after bytes card (Torn memory) t text rest cut says =
-    let left = cut_kept card bytes memory (state_of says.1) cut says.2.durable says.2.down says.2.refused says.2.size says.2.laid in
+    let left = cut_kept card bytes memory (state_of says.1) (ap (λ (v : HeapView). v.down) rest) cut says.2.durable says.2.down says.2.passed says.2.refusals
+    says.2.size says.2.laid in
     (Down, subst (λ (u : ScriptState). AnswersCommand (Up card) bytes Down (power_in u)) (sym says.3) left, says.0, subst IsGood (sym says.3) says.2.good)
 
 told_of : (bytes : List ℕ) (s t : ScriptState) (text : List ℕ) → IsGood s → IsAnswered bytes s t text → IsTold bytes (power_in s) t text
@@ -100,94 +105,60 @@ started before (DownIn after) h = (starts_off (state_of before) (state_of after)
 reset_by : (s : PowerState) (store : StoreState) (t : PowerState) → durable_state_in_store store ≡ durable_state s → Starts store t
     → AnswersReset s (answer_of_power_up t) t
 reset_by s store (Up card) same h = subst (λ k. IsPoweredUp k card) same h.1
-reset_by s store (Off k) same h = h.1 ∙ ap with_refusal same
+reset_by s store (Off k) same h = h.1 ∙ ap (with_refusal k.passed) same
 
 text_told : (t : ScriptState) → power_text t ≡ text_of_answer (answer_of_power_up (power_in t))
 text_told (UpIn card) = refl
 text_told (DownIn store) = refl
 
--- arming the fuse leaves a card as it is
-same_armed : (k : ℕ) (s : ScriptState) → IsGood s → power_in (with_fuse k s) ≡ power_in s
-same_armed k (UpIn card) rest = ap (λ (v : HeapView). Up (record card { memory = record card.memory { heap = v } }))
-    (sym (rest ∙ (λ i. heap_at_rest (sym (ap (λ (v : HeapView). v.durable) rest) i) card.memory.heap.passed card.memory.heap.refused card.memory.heap.size)))
+-- arming the fuse leaves a card as it is but for that
+same_armed : (k : ℕ) (s : ScriptState) → IsGood s → power_in (with_fuse k s) ≡ armed k (power_in s)
+same_armed k (UpIn card) rest =
+    let heap = card.memory.heap in
+    let fuse = with_fuse_at (saturating_count heap.passed k) heap.refusals in
+    ap (λ (v : HeapView). Up (record card { memory = record card.memory { heap = v } }))
+    (sym (ap (λ (v : HeapView). record v { refusals = fuse }) rest ∙ (λ i. heap_at_rest (sym (ap (λ (v : HeapView). v.durable) rest) i) heap.passed fuse heap.size)))
 same_armed k (DownIn store) good = refl
 
 good_armed : (k : ℕ) (s : ScriptState) → IsGood s → IsGood (with_fuse k s)
 good_armed k (UpIn card) rest = refl
 good_armed k (DownIn store) good = good
 
--- some lines, from one standing to the other, as a run of a session
-record Ran (carried : List (List ℕ)) (s t : ScriptState) (text : List ℕ) (events : List Event) : Type 0 where
-  pub answers : List Answer
-  pub run : SessionRun (power_in s) events answers (power_in t)
-  pub written : AreAnswered carried answers text
-  pub good : IsGood t
-
--- the same of the first of some lines, of which this is asked
-abbrev RanFirst : Form → (List Answer → List ℕ → Type 0) → ScriptState → ScriptState → List ℕ → List Event → Type 0
-RanFirst form rest s t text events = (answers : List Answer) × SessionRun (power_in s) events answers (power_in t) × IsWrittenFirst form rest answers text
-    × IsGood t
-
-one_line : (form : Form) (more : List (List ℕ)) (s u t : ScriptState) (first rest text : List ℕ) (events : List Event) → IsGood s → text ≡ first ++ rest
-    → IsWrittenFor form s u first → SpellsFirst form (Spell more) events →
-    ((others : List Event) → IsGood u → Spell more others → Ran more u t rest others) → RanFirst form (AreAnswered more) s t text events
-one_line Skipped more s u t first rest text events good is written spells then =
-    let ran = then events (subst IsGood (sym written.0) good) spells in (
-      ran.answers,
-      subst (λ p. SessionRun (power_in p) events ran.answers (power_in t)) written.0 ran.run,
-      subst (AreAnswered more ran.answers) (sym (is ∙ ap (λ l. l ++ rest) written.1)) ran.written,
-      ran.good,
-    )
-one_line (ArmsFuse k) more s u t first rest text events good is written spells then =
-    let ran = then events (subst IsGood (sym written.0) (good_armed k s good)) spells in
-    let from = ap power_in written.0 ∙ same_armed k s good in
-    (ran.answers, subst (λ p. SessionRun p events ran.answers (power_in t)) from ran.run, (rest, is ∙ ap (λ l. l ++ rest) written.1, ran.written), ran.good)
-one_line (Command bytes) more s u t first rest text (event.Command v ∷ events) good is written spells then =
-    let said = told_of bytes s u first good written in
-    let ran = then events said.3 spells.1 in (
-      said.0 ∷ ran.answers,
-      (power_in u, subst (λ b. AnswersCommand (power_in s) b said.0 (power_in u)) (sym spells.0) said.1, ran.run),
-      (rest, is ∙ ap (λ l. l ++ rest) said.2, ran.written),
-      ran.good,
-    )
-one_line Resets more s u t first rest text (event.Reset ∷ events) good is written spells then =
-    let up = started written.0.0 u written.0.2 in
-    let ran = then events up.1 spells in (
-      answer_of_power_up (power_in u) ∷ ran.answers,
+-- a line, from one standing to the other
+one_line : (form : Form) (s u : ScriptState) (first : List ℕ) → IsGood s → IsWrittenFor form s u first
+    → ServesForm form (power_in s) (power_in u) first × IsGood u
+one_line Skipped s u first good h = ((ap power_in h.0, h.1), subst IsGood (sym h.0) good)
+one_line (ArmsFuse k) s u first good h = ((ap power_in h.0 ∙ same_armed k s good, h.1), subst IsGood (sym h.0) (good_armed k s good))
+one_line (Command bytes) s u first good h = let said = told_of bytes s u first good h in ((said.0, said.1, said.2), said.3)
+one_line Resets s u first good h =
+    let up = started h.0.0 u h.0.2 in (
       (
-        power_in u,
-        reset_by (power_in s) (state_of written.0.0) (power_in u)
-            (kept_held s written.0.0 written.0.1) up.0,
-        ran.run,
+        answer_of_power_up (power_in u),
+        reset_by (power_in s) (state_of h.0.0) (power_in u) (kept_held s h.0.0 h.0.1) up.0,
+        h.1 ∙ text_told u,
       ),
-      (rest, is ∙ ap (λ l. l ++ rest) (written.1 ∙ text_told u), ran.written),
-      ran.good,
+      up.1,
     )
-one_line form more s u t first rest text events good is written spells then = absurd spells
+one_line Bad s u first good h = absurd h
 
-all_lines : (all : List (List ℕ)) (s t : ScriptState) (text : List ℕ) (events : List Event) → IsGood s → AreCarriedOut all s t text → Spell all events
-    → Ran all s t text events
-all_lines [] s t text events good h spells =
-    record {
-      answers = [];
-      run = subst (λ es. SessionRun (power_in s) es [] (power_in t)) (sym spells) (ap power_in h.0);
-      written = (refl, h.1);
-      good = subst IsGood (sym h.0) good;
-    }
-all_lines (line ∷ more) s t text events good h spells =
-    let ran = one_line (form_of line) more s h.2 t h.0 h.1 text events good h.3 h.4 spells
-    (λ others fine spelt. all_lines more h.2 t h.1 others fine h.5 spelt) in
-    record { answers = ran.0; run = ran.1; written = ran.2; good = ran.3 }
+-- some lines
+all_lines : (all : List (List ℕ)) (s t : ScriptState) (text : List ℕ) → IsGood s → AreCarriedOut all s t text
+    → ServeLines all (power_in s) (power_in t) text × IsGood t
+all_lines [] s t text good h = ((ap power_in h.0, h.1), subst IsGood (sym h.0) good)
+all_lines (line ∷ more) s t text good h =
+    let one = one_line (form_of line) s h.2 h.0 good h.4 in
+    let rest = all_lines more h.2 t h.1 one.1 h.5 in
+    ((h.0, h.1, power_in h.2, h.3, one.0, rest.0), rest.1)
 
 -- ---- whole scripts
 
 -- lines that were carried out from a power up on are served
 served : (before : FuseStoreValue) (carried : List (List ℕ)) (s t : ScriptState) (text : List ℕ) (leads : PowerState → Type 0) → PowersUp before s
     → AreCarriedOut carried s t text → (IsGood t → leads (power_in t)) → AreSessionsOfScript before carried text leads
-served before carried s t text leads up h ends events spells =
+served before carried s t text leads up h ends =
     let first = started before s up in
-    let ran = all_lines carried s t text events first.1 h spells in
-    (power_in t, record { answers = ran.answers; session = (power_in s, first.0, ran.run); written = ran.written }, ends ran.good)
+    let ran = all_lines carried s t text first.1 h in
+    (power_in t, (power_in s, first.0, ran.0), ends ran.1)
 
 -- a reset that finds a fault leaves what was there, with the power on
 reset_fails : (fault : Fault) (s t : ScriptState) (after : FuseStoreValue) → IsGood s → FailsReset fault s t → IsSessionStore t after
@@ -197,7 +168,7 @@ reset_fails fault s t after good h holds =
     fails_to_reset fault (power_in s) (state_of h.0) (state_of after) (store_held s h.0 good h.2) h.3.cause h.3.other
     (ap (λ (f : FuseStoreValue). length f.words) left ∙ h.3.size)
     (subst (λ (f : FuseStoreValue). RefusalLeaves fault h.0.words f.words) (sym left) h.3.stands) (ap (λ (f : FuseStoreValue). f.down) left ∙ h.3.up)
-    (ap (λ (f : FuseStoreValue). f.refused) left ∙ h.3.refused)
+    (ap (λ (f : FuseStoreValue). f.refusals) left ∙ h.3.refusals)
 
 -- one more line behind some that were carried out
 one_more : (all : List (List ℕ)) (line : List ℕ) (s u t : ScriptState) (whole answer : List ℕ) → AreCarriedOut all s u whole
@@ -232,7 +203,7 @@ are_sessions (Err (PowerFault fault)) before after at_end script text (inl fails
         stands = fails.0.stands;
         size = fails.0.size;
         up = fails.0.up;
-        refused = fails.0.refused;
+        refusals = fails.0.refusals;
       },
       fails.2,
     )
@@ -262,12 +233,88 @@ are_sessions (Err WriteFailed) before after at_end script text (inr h) =
       ),
     )
 
--- a script of these events that was carried out to its end
-ended : (before after : FuseStoreValue) (at_end : Bool) (script text : List ℕ) → Ends (Ok tt) before after at_end script text
-    → AreSessionsOfScript before (lines script) text (Leaves after)
-ended before after at_end script text h = are_sessions (Ok tt) before after at_end script text h
+-- ---- lines as events
+
+first_events : (form : Form) (more : List (List ℕ)) (s u t : PowerState) (first rest text : List ℕ) (events : List Event) → text ≡ first ++ rest
+    → ServesForm form s u first → SpellsFirst form (Spell more) events →
+    ((others : List Event) → Spell more others → (answers : List Answer) × SessionRun u others answers t × AreAnswered more answers rest) →
+    (answers : List Answer) × SessionRun s events answers t × IsWrittenFirst form (AreAnswered more) answers text
+first_events Skipped more s u t first rest text events is h spells then =
+    let ran = then events spells in
+    (ran.0, subst (λ p. SessionRun p events ran.0 t) h.0 ran.1, subst (AreAnswered more ran.0) (sym (is ∙ ap (λ l. l ++ rest) h.1)) ran.2)
+first_events (Command bytes) more s u t first rest text (event.Command v ∷ events) is h spells then =
+    let ran = then events spells.1 in (
+      h.0 ∷ ran.0,
+      (u, subst (λ b. AnswersCommand s b h.0 u) (sym spells.0) h.1, ran.1),
+      (rest, is ∙ ap (λ l. l ++ rest) h.2, ran.2),
+    )
+first_events Resets more s u t first rest text (event.Reset ∷ events) is h spells then =
+    let ran = then events spells in (h.0 ∷ ran.0, (u, h.1, ran.1), (rest, is ∙ ap (λ l. l ++ rest) h.2, ran.2))
+first_events form more s u t first rest text events is h spells then = absurd spells
+
+pub serve_as_events : ServeAsEvents
+serve_as_events [] s t text events h spells = ([], subst (λ es. SessionRun s es [] t) (sym spells) h.0, (refl, h.1))
+serve_as_events (line ∷ more) s t text events h spells =
+    first_events (form_of line) more s h.2 t h.0 h.1 text events h.3 h.4 spells (λ others spelt. serve_as_events more h.2 t h.1 others h.5 spelt)
+
+-- ---- scripts that refuse nothing
+
+-- no line lowers the count of refusals
+line_grows : (form : Form) (s t : PowerState) (text : List ℕ) → ServesForm form s t text → (durable_state s).refusals.count ≤ (durable_state t).refusals.count
+line_grows Skipped s t text h = is_same _ _ (ap (λ p. (durable_state p).refusals.count) h.0)
+line_grows (Command bytes) s t text h = command_grows s bytes h.0 t h.1
+line_grows Resets s t text h = reset_grows s h.0 t h.1
+line_grows (ArmsFuse k) s t text h = is_same _ _ (ap (λ p. (durable_state p).refusals.count) h.0 ∙ counts_on s)
+  where
+    counts_on : (p : PowerState) → (durable_state (armed k p)).refusals.count ≡ (durable_state p).refusals.count
+    counts_on (Up card) = refl
+    counts_on (Off kept) = refl
+line_grows Bad s t text h = absurd h
+
+lines_grow : (all : List (List ℕ)) (s t : PowerState) (text : List ℕ) → ServeLines all s t text
+    → (durable_state s).refusals.count ≤ (durable_state t).refusals.count
+lines_grow [] s t text h = is_same _ _ (ap (λ p. (durable_state p).refusals.count) h.0)
+lines_grow (line ∷ more) s t text h =
+    let first = line_grows (form_of line) s h.2 h.0 h.4 in
+    let rest = lines_grow more h.2 t h.1 h.5 in
+    omega (arith, first, rest)
+
+-- where the count does not rise, the card stays up, and serves a line as one with whole copies
+line_whole : (form : Form) (card : CardState) (next : PowerState) (text : List ℕ) → ServesForm form (Up card) next text
+    → card.memory.heap.refusals.count < 18446744073709551615 → (durable_state next).refusals.count ≡ card.memory.heap.refusals.count →
+    (mid : CardState) × (next ≡ Up mid) × ServesFormWhole form card mid text
+line_whole Skipped card next text h small same = (card, h.0, (refl, h.1))
+line_whole (Command bytes) card next text h small same =
+    let w = command_whole card bytes h.0 next h.1 small same in (w.1, w.3, (w.0, w.4, h.2 ∙ ap text_of_answer w.2))
+line_whole Resets card next text h small same =
+    let w = reset_whole card h.0 next h.1 small same in (w.0, w.2, (w.3, h.2 ∙ ap text_of_answer w.1))
+line_whole (ArmsFuse k) card next text h small same = (armed_card k card, h.0, (refl, h.1))
+line_whole Bad card next text h small same = absurd h
+
+lines_whole : (all : List (List ℕ)) (card : CardState) (last : PowerState) (text : List ℕ) → ServeLines all (Up card) last text
+    → card.memory.heap.refusals.count < 18446744073709551615 → (durable_state last).refusals.count ≡ card.memory.heap.refusals.count →
+    (end : CardState) × (last ≡ Up end) × ServeLinesWhole all card end text
+lines_whole [] card last text h small same = (card, h.0, (refl, h.1))
+lines_whole (line ∷ more) card last text h small same =
+    let up = line_grows (form_of line) (Up card) h.2 h.0 h.4 in
+    let on = lines_grow more h.2 last h.1 h.5 in
+    let stays : (durable_state h.2).refusals.count ≡ card.memory.heap.refusals.count = omega (arith, up, on, same) in
+    let first = line_whole (form_of line) card h.2 h.0 h.4 small stays in
+    let count : first.0.memory.heap.refusals.count ≡ card.memory.heap.refusals.count = sym (ap (λ p. (durable_state p).refusals.count) first.1) ∙ stays in
+    let rest = lines_whole more first.0 last h.1 (subst (λ p. ServeLines more p last h.1) first.1 h.5) (omega (arith, count, small)) (same ∙ sym count) in
+    (rest.0, rest.1, (h.0, h.1, first.0, h.3, first.2, rest.2))
 
 pub are_whole_sessions : AreWholeSessions
-are_whole_sessions before after at_end script text events ends spells none =
-    let s = ended before after at_end script text ends events spells in
-    (s.1.answers, are_whole (state_of before) (state_of after) events s.1.answers s.0 s.1.session s.2 none, s.1.written)
+are_whole_sessions before after at_end script text ends none =
+    let s : AreSessionsOfScript before (lines script) text (Leaves after) = are_sessions (Ok tt) before after at_end script text ends in
+    let last = s.0 in
+    let ran = s.1 in
+    let left : after.refusals.count ≡ (durable_state last).refusals.count = ap (λ (x : KeptState). x.refusals.count) s.2.kept in
+    let up = start_count (state_of before) ran.0 ran.1 in
+    let on = lines_grow (lines script) ran.0 last text ran.2 in
+    let stays : (durable_state ran.0).refusals.count ≡ before.refusals.count = omega (arith, left, up, on, none.1) in
+    let first = started_up (state_of before) ran.0 ran.1 none.0 stays in
+    let count : first.0.memory.heap.refusals.count ≡ before.refusals.count = sym (ap (λ p. (durable_state p).refusals.count) first.1) ∙ stays in
+    let whole = lines_whole (lines script) first.0 last text (subst (λ p. ServeLines (lines script) p last text) first.1 ran.2) (omega (arith, count, none.0))
+    (sym left ∙ (none.1 ∙ sym count)) in
+    (first.0, whole.0, first.2, whole.2, subst (λ p. IsStoreOf p (state_of after)) whole.1 s.2)

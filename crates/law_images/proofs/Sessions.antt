@@ -5,6 +5,7 @@ use Rattle.std.specs.Prelude.{IfSome, Ok, is_some, slice_index}
 use Rattle.std.specs.Option.{option_map}
 use Rattle.std.proofs.lemmas.List.Elements.{All-drop, All-nil, All-take}
 use Rattle.std.proofs.lemmas.Option.{none-some, same_Some}
+use Rattle.jc_words.specs.Refusals.{Refusals}
 use Rattle.jc_heap.specs.Heap.{HeapState, HeapView, heap_at_rest}
 use Rattle.jc_heap.specs.Keeping.{AreConsistent}
 use Rattle.jc_heap.proofs.Changing.{shape-same}
@@ -164,11 +165,11 @@ kept_own t (Up card) own = record {
 kept_own t (Off k) own = own
 
 module _ (n : ℕ) (t : Tokens) (p : Packages) (h : HeapState) (own : IsOwnHeap n t p h) (linked : AreLinkedWell p) (counted : CountsPackages h)
-    (passed refused : ℕ) (m : MemoryState) where
+    (passed : ℕ) (refusals : Refusals) (m : MemoryState) where
   abbrev reset_memory : MemoryState
-  reset_memory = record m { heap = heap_at_rest h passed refused n; fixed = fixed_of h; registers = at_reset }
+  reset_memory = record m { heap = heap_at_rest h passed refusals n; fixed = fixed_of h; registers = at_reset }
 
-  reset_whole : AreConsistent (heap_at_rest h passed refused n)
+  reset_whole : AreConsistent (heap_at_rest h passed refusals n)
   reset_whole = record { now = own.stands; durable = own.stands; shape = shape-same h; order = omega arith }
 
   reset_sound : IsSoundMemory p reset_memory
@@ -204,10 +205,10 @@ powered_own g t k card own up =
     let table : up.reset.packages.0 ≡ t = g k.durable.text up.reset.packages.0 t up.reset.packages.1 own.heap.beginning.table in
     let read : packages_of t k.durable ≡ Some card.packages = subst (λ u. packages_of u k.durable ≡ Some card.packages) table up.reset.packages.2 in
     let same : card.packages ≡ own.packages = same_Some card.packages own.packages (sym read ∙ own.heap.packages) in
-    let reset = reset_own k.size t own.packages k.durable own.heap own.linked own.counted card.memory.heap.passed k.refused card.memory in
+    let reset = reset_own k.size t own.packages k.durable own.heap own.linked own.counted card.memory.heap.passed k.refusals card.memory in
     let path : card ≡ record {
       memory = record card.memory {
-        heap = heap_at_rest k.durable card.memory.heap.passed k.refused k.size;
+        heap = heap_at_rest k.durable card.memory.heap.passed k.refusals k.size;
         fixed = fixed_of k.durable;
         registers = at_reset;
       };

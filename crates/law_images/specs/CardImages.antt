@@ -1,5 +1,6 @@
 -- Images that the product's commands made.
 use Rattle.std.specs.Prelude.{ℕ, ◌≡◌, Bool, List, length, Ok}
+use Rattle.jc_words.specs.Refusals.{Refusals}
 use Rattle.jc_commit.specs.Image.{IsGoodLog, recovered_of}
 use Rattle.jc_heap.specs.Heap.{heap_of}
 use Rattle.jc_heap.specs.Image.{IsWellFormed}
@@ -24,5 +25,5 @@ pub record ImagesStayMade : Type 0 where
   pub new : (t : Tokens) (text words : List ℕ) (k : KeptState) → IsMade words → Reads text (Ok t)
       → heap_of (recovered_of words) ≡ new_card_heap (length words) text t → Keeps words k → IsOwnKept t k
   pub kept : (t : Tokens) (words : List ℕ) (k : KeptState) → IsOwnKept t k → Keeps words k → IsMade words
-  pub card : (t : Tokens) (words : List ℕ) (down : Bool) (passed refused : ℕ) (card : CardState) → IsOwnCard t card
-      → HoldsHeap words down passed refused card.memory.heap → IsMade words
+  pub card : (t : Tokens) (words : List ℕ) (down : Bool) (passed : ℕ) (refusals : Refusals) (card : CardState) → IsOwnCard t card
+      → HoldsHeap words down passed refusals card.memory.heap → IsMade words

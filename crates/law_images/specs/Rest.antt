@@ -9,7 +9,7 @@ use Rattle.jc_card.specs.Loads.{LoadResponse}
 
 -- no transaction is open, and a loss of power leaves the heap as it is
 abbrev pub IsResting : HeapView → Type 0
-IsResting v = v ≡ heap_at_rest v.now v.passed v.refused v.size
+IsResting v = v ≡ heap_at_rest v.now v.passed v.refusals v.size
 
 -- a command that was done leaves the heap of a card at rest, as it found it
 abbrev pub LeaveAtRest : Type 0

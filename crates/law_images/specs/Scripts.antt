@@ -1,15 +1,21 @@
 -- Scripts as sessions.
 use Rattle.std.specs.Prelude.{ℕ, ◌≡◌, ◌+◌, ◌⊎◌, List, [], ◌∷◌, ◌++◌, length, Bool, false, Result, Ok, Err}
 use Rattle.std.specs.Str.Lines.{lines}
+use Rattle.jc_words.specs.Count.{saturating_count}
+use Rattle.jc_words.specs.Refusals.{with_fuse_at}
 use Rattle.jc_words.specs.Stores.{FuseStoreValue}
+use Rattle.jc_memory.specs.Programs.{Completes}
+use Rattle.jc_card.specs.Answers.{exchange}
+use Rattle.jc_card.specs.CardState.{CardState}
+use Rattle.jc_card.specs.Dispatching.{with_response}
 use Rattle.jc_session.specs.declared.event.Event.{Event}
 use Rattle.jc_session.specs.declared.event.Event.TheVariants as event
 use Rattle.jc_session.specs.declared.event.Answer.{Answer}
 use Rattle.jc_session.specs.declared.event.Answer.TheVariants.{Response, Ready, Down}
-use Rattle.jc_session.specs.Power.{PowerState, StoreState, IsStoreOf}
-use Rattle.jc_session.specs.Sessions.{IsSession}
-use Rattle.jc_session.specs.Starting.{FailsToReset, FailsToStart}
-use Rattle.jc_session.specs.WholeCopies.{IsWholeSession, RefusesNone}
+use Rattle.jc_session.specs.Power.{PowerState, Up, Off, StoreState, IsStoreOf, durable_rest, durable_state_in_store}
+use Rattle.jc_session.specs.Serving.{AnswersCommand, AnswersReset, SessionRun}
+use Rattle.jc_session.specs.Starting.{FailsToReset, FailsToStart, IsPoweredUp, Starts}
+use Rattle.jc_session.specs.WholeCopies.{RefusesNone}
 use Rattle.jcard_script.specs.declared.script.ScriptFault.{ScriptFault}
 use Rattle.jcard_script.specs.declared.script.ScriptFault.TheVariants.{ReadFailed, WriteFailed, BadLine, TooLong, PowerFault}
 use Rattle.jcard_script.specs.Script.{Ends, Form, Skipped, Command, Resets, ArmsFuse, Bad, armed_text, down_text, form_of, lines_so_far, ready_text, text_of}
@@ -17,25 +23,20 @@ use Rattle.jcard_script.specs.Texts.{IsCutOf}
 
 -- what a session sees of a store with a fuse
 abbrev pub state_of : FuseStoreValue → StoreState
-state_of store = record { words = store.words; down = store.down; refused = store.refused }
+state_of store = record { words = store.words; down = store.down; passed = store.passed; refusals = store.refusals }
 
--- a line that asks for this spells the first of these events, and the lines behind it the others. An empty line, a comment and a
--- line that arms the fuse spell none; one that has no form spells no events that there are
-abbrev pub SpellsFirst : Form → (List Event → Type 0) → List Event → Type 0
-SpellsFirst Skipped rest events = rest events
-SpellsFirst (ArmsFuse k) rest events = rest events
-SpellsFirst (Command bytes) rest (event.Command v ∷ events) = (v.items ≡ bytes) × rest events
-SpellsFirst Resets rest (event.Reset ∷ events) = rest events
-SpellsFirst (Command bytes) rest (event.Reset ∷ events) = ⊥
-SpellsFirst (Command bytes) rest [] = ⊥
-SpellsFirst Resets rest (event.Command v ∷ events) = ⊥
-SpellsFirst Resets rest [] = ⊥
-SpellsFirst Bad rest events = ⊥
+-- the fuse of its store is armed, so that k further writes pass, and nothing else changes
+abbrev pub armed_card : ℕ → CardState → CardState
+armed_card k card = record card {
+  memory = record card.memory {
+    heap = record card.memory.heap { refusals = with_fuse_at (saturating_count card.memory.heap.passed k) card.memory.heap.refusals };
+  };
+}
 
--- the lines spell these events, one after another
-abbrev pub Spell : List (List ℕ) → List Event → Type 0
-Spell [] events = events ≡ []
-Spell (line ∷ more) events = SpellsFirst (form_of line) (Spell more) events
+-- the same of a card that is off
+abbrev pub armed : ℕ → PowerState → PowerState
+armed k (Up card) = Up (armed_card k card)
+armed k (Off kept) = Off (record kept { refusals = with_fuse_at (saturating_count kept.passed k) kept.refusals })
 
 -- the line of an answer
 abbrev pub text_of_answer : Answer → List ℕ
@@ -43,36 +44,28 @@ text_of_answer (Response response) = text_of response
 text_of_answer Ready = ready_text
 text_of_answer Down = down_text
 
--- a text begins with another one, and the rest is so
-abbrev pub IsBegun : List ℕ → (List ℕ → Type 0) → List ℕ → Type 0
-IsBegun first rest text = (more : List ℕ) × (text ≡ first ++ more) × rest more
+-- a line that asks for this is served so, and this is written for it: a command and a reset as in a session, with the line of the
+-- answer; or the fuse is armed
+abbrev pub ServesForm : Form → PowerState → PowerState → List ℕ → Type 0
+ServesForm Skipped s t text = (t ≡ s) × (text ≡ [])
+ServesForm (Command bytes) s t text = (answer : Answer) × AnswersCommand s bytes answer t × (text ≡ text_of_answer answer)
+ServesForm Resets s t text = (answer : Answer) × AnswersReset s answer t × (text ≡ text_of_answer answer)
+ServesForm (ArmsFuse k) s t text = (t ≡ armed k s) × (text ≡ armed_text k)
+ServesForm Bad s t text = ⊥
 
--- what is written for a line that asks for this, and then for those behind it, where a session answers so: the line of its answer, or
--- that the fuse is armed
-abbrev pub IsWrittenFirst : Form → (List Answer → List ℕ → Type 0) → List Answer → List ℕ → Type 0
-IsWrittenFirst Skipped rest answers text = rest answers text
-IsWrittenFirst (ArmsFuse k) rest answers text = IsBegun (armed_text k) (rest answers) text
-IsWrittenFirst (Command bytes) rest (answer ∷ answers) text = IsBegun (text_of_answer answer) (rest answers) text
-IsWrittenFirst Resets rest (answer ∷ answers) text = IsBegun (text_of_answer answer) (rest answers) text
-IsWrittenFirst (Command bytes) rest [] text = ⊥
-IsWrittenFirst Resets rest [] text = ⊥
-IsWrittenFirst Bad rest answers text = ⊥
+-- these lines are served, one after another, from one state to the other, and this is written for them
+abbrev pub ServeLines : List (List ℕ) → PowerState → PowerState → List ℕ → Type 0
+ServeLines [] s t text = (t ≡ s) × (text ≡ [])
+ServeLines (line ∷ more) s t text = (first rest : List ℕ) × (next : PowerState) × (text ≡ first ++ rest) × ServesForm (form_of line) s next first
+    × ServeLines more next t rest
 
--- what is written for these lines, where a session answers so
-abbrev pub AreAnswered : List (List ℕ) → List Answer → List ℕ → Type 0
-AreAnswered [] answers text = (answers ≡ []) × (text ≡ [])
-AreAnswered (line ∷ more) answers text = IsWrittenFirst (form_of line) (AreAnswered more) answers text
+-- a session of these lines over a store: a power up, and then the lines are served so and lead there
+abbrev pub IsSessionOfScript : FuseStoreValue → List (List ℕ) → List ℕ → PowerState → Type 0
+IsSessionOfScript before carried text last = (first : PowerState) × Starts (state_of before) first × ServeLines carried first last text
 
--- these lines spell these events, and a session of them over a store leads there; this is what is written for the lines
-pub record IsSessionOfScript (before : FuseStoreValue) (carried : List (List ℕ)) (events : List Event) (text : List ℕ) (last : PowerState) : Type 0 where
-  pub answers : List Answer
-  pub session : IsSession (state_of before) events answers last
-  pub written : AreAnswered carried answers text
-
--- whatever events some lines spell, they were carried out as a session of these, which leads to such a state
+-- they were carried out as a session, which leads to such a state
 abbrev pub AreSessionsOfScript : FuseStoreValue → List (List ℕ) → List ℕ → (PowerState → Type 0) → Type 0
-AreSessionsOfScript before carried text leads = (events : List Event) → Spell carried events
-    → (last : PowerState) × IsSessionOfScript before carried events text last × leads last
+AreSessionsOfScript before carried text leads = (last : PowerState) × IsSessionOfScript before carried text last × leads last
 
 -- the store is the one of such a state
 abbrev pub Leaves : FuseStoreValue → PowerState → Type 0
@@ -105,9 +98,65 @@ abbrev pub AreSessions : Type 0
 AreSessions = (result : Result Unit ScriptFault) (before after : FuseStoreValue) (at_end : Bool) (script text : List ℕ)
     → Ends result before after at_end script text → EndsAsSession result before after at_end script text
 
+-- a line that asks for this spells the first of these events, and the lines behind it the others. An empty line and a comment spell
+-- none; one that arms the fuse, and one that has no form, spells no events that there are
+abbrev pub SpellsFirst : Form → (List Event → Type 0) → List Event → Type 0
+SpellsFirst Skipped rest events = rest events
+SpellsFirst (Command bytes) rest (event.Command v ∷ events) = (v.items ≡ bytes) × rest events
+SpellsFirst Resets rest (event.Reset ∷ events) = rest events
+SpellsFirst (Command bytes) rest (event.Reset ∷ events) = ⊥
+SpellsFirst (Command bytes) rest [] = ⊥
+SpellsFirst Resets rest (event.Command v ∷ events) = ⊥
+SpellsFirst Resets rest [] = ⊥
+SpellsFirst (ArmsFuse k) rest events = ⊥
+SpellsFirst Bad rest events = ⊥
+
+-- the lines spell these events, one after another
+abbrev pub Spell : List (List ℕ) → List Event → Type 0
+Spell [] events = events ≡ []
+Spell (line ∷ more) events = SpellsFirst (form_of line) (Spell more) events
+
+-- a text begins with another one, and the rest is so
+abbrev pub IsBegun : List ℕ → (List ℕ → Type 0) → List ℕ → Type 0
+IsBegun first rest text = (more : List ℕ) × (text ≡ first ++ more) × rest more
+
+-- what is written for a line that asks for this, and then for those behind it, where a session answers so: the line of its answer
+abbrev pub IsWrittenFirst : Form → (List Answer → List ℕ → Type 0) → List Answer → List ℕ → Type 0
+IsWrittenFirst Skipped rest answers text = rest answers text
+IsWrittenFirst (Command bytes) rest (answer ∷ answers) text = IsBegun (text_of_answer answer) (rest answers) text
+IsWrittenFirst Resets rest (answer ∷ answers) text = IsBegun (text_of_answer answer) (rest answers) text
+IsWrittenFirst (Command bytes) rest [] text = ⊥
+IsWrittenFirst Resets rest [] text = ⊥
+IsWrittenFirst (ArmsFuse k) rest answers text = ⊥
+IsWrittenFirst Bad rest answers text = ⊥
+
+-- what is written for these lines, where a session answers so
+abbrev pub AreAnswered : List (List ℕ) → List Answer → List ℕ → Type 0
+AreAnswered [] answers text = (answers ≡ []) × (text ≡ [])
+AreAnswered (line ∷ more) answers text = IsWrittenFirst (form_of line) (AreAnswered more) answers text
+
+-- lines that spell events are served as a run of these, and what is written for them are its answers
+abbrev pub ServeAsEvents : Type 0
+ServeAsEvents = (carried : List (List ℕ)) (first last : PowerState) (text : List ℕ) (events : List Event) → ServeLines carried first last text
+    → Spell carried events → (answers : List Answer) × SessionRun first events answers last × AreAnswered carried answers text
+
+-- a line that asks for this is served so by a card that keeps whole copies of its heap, and this is written for it
+abbrev pub ServesFormWhole : Form → CardState → CardState → List ℕ → Type 0
+ServesFormWhole Skipped card next text = (next ≡ card) × (text ≡ [])
+ServesFormWhole (Command bytes) card next text = (response : List ℕ)
+    × Completes (exchange bytes card) card.memory (with_response next response) next.memory × (text ≡ text_of response)
+ServesFormWhole Resets card next text = IsPoweredUp (durable_rest card.memory.heap) next × (text ≡ ready_text)
+ServesFormWhole (ArmsFuse k) card next text = (next ≡ armed_card k card) × (text ≡ armed_text k)
+ServesFormWhole Bad card next text = ⊥
+
+-- these lines, one after another
+abbrev pub ServeLinesWhole : List (List ℕ) → CardState → CardState → List ℕ → Type 0
+ServeLinesWhole [] card last text = (last ≡ card) × (text ≡ [])
+ServeLinesWhole (line ∷ more) card last text = (first rest : List ℕ) × (next : CardState) × (text ≡ first ++ rest)
+    × ServesFormWhole (form_of line) card next first × ServeLinesWhole more next last rest
+
 -- and where the store refused no write, a script that was carried out to its end is a session of a card that keeps whole copies of its heap
 abbrev pub AreWholeSessions : Type 0
-AreWholeSessions = (before after : FuseStoreValue) (at_end : Bool) (script text : List ℕ) (events : List Event) → Ends (Ok tt) before after at_end script text
-    → Spell (lines script) events →
-    RefusesNone before.refused after.refused → (answers : List Answer) × IsWholeSession (state_of before) events answers (state_of after)
-    × AreAnswered (lines script) answers text
+AreWholeSessions = (before after : FuseStoreValue) (at_end : Bool) (script text : List ℕ) → Ends (Ok tt) before after at_end script text
+    → RefusesNone before.refusals.count after.refusals.count → (first last : CardState) × IsPoweredUp (durable_state_in_store (state_of before)) first
+    × ServeLinesWhole (lines script) first last text × IsStoreOf (Up last) (state_of after)

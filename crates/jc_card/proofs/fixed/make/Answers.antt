@@ -27,13 +27,13 @@ returns-in-Err-clause-stopped g c =
     (omega (arith, c.commit_capacity.ensures.exact, c.commit_capacity.ensures.least))) c.in-Err.ensures.moves in
     torn.down
 
-pub returns-in-Err-clause-refused : goal.returns-in-Err-clause-refused
-returns-in-Err-clause-refused g c =
+pub returns-in-Err-clause-refusals : goal.returns-in-Err-clause-refusals
+returns-in-Err-clause-refusals g c =
     let torn = only_torn (refusal_of_transient c.args.heap.now Reset c.args.object.now.cells) c.in-Err.field-0 c.args.heap.now c.new_transient.new.self
     (AddTransient c.args.object.now.kind Reset c.class_number-class.result 0 c.args.object.now.cells) c.args.heap.now.now.top
     (transient_allowed c.args.heap.now c.args.object.now.cells c.requires.outside c.requires.space c.requires.area
     (omega (arith, c.commit_capacity.ensures.exact, c.commit_capacity.ensures.least))) c.in-Err.ensures.moves in
-    torn.refused
+    torn.refusals
 
 pub returns-in-Err-clause-size : goal.returns-in-Err-clause-size
 returns-in-Err-clause-size g c =

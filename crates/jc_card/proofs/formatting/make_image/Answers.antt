@@ -9,14 +9,14 @@ use Rattle.jc_card.proofs.formatting.make_image.Goals as goal
 pub returns-clause-size : goal.returns-clause-size
 returns-clause-size g c =
     let S = g.S.WordStore in
-    mapped_if c.seal.result (λ s. HoldsHeap (S.words s) (S.down s) (S.passed s) (S.refused s) (sealed_view c.make_fixed.new.heap))
+    mapped_if c.seal.result (λ s. HoldsHeap (S.words s) (S.down s) (S.passed s) (S.refusals s) (sealed_view c.make_fixed.new.heap))
     (λ s. length (S.words s) ≡ length (S.words c.args.store))
     (λ s h. h.size ∙ c.in-Ok.ensures.size ∙ ap (λ v. v.size) c.in_ok-heap.ensures.done) c.seal.ensures.sealed
 
 pub returns-clause-made : goal.returns-clause-made
 returns-clause-made g c =
     let S = g.S.WordStore in
-    made_if S.words S.down S.passed S.refused c.seal.result (sealed_view c.make_fixed.new.heap)
+    made_if S.words S.down S.passed S.refusals c.seal.result (sealed_view c.make_fixed.new.heap)
     (length (S.words c.args.store)) c.args.text.now c.args.table.now c.seal.ensures.sealed
     (ap sealed_heap c.in-Ok.ensures.made ∙ ap (λ v. sealed_heap (with_objects c.args.table.now (v.now) fixed_objects)) c.in_ok-heap.ensures.done)
     (c.in-Ok.ensures.size ∙ ap (λ v. v.size) c.in_ok-heap.ensures.done)

@@ -1,5 +1,6 @@
 use Rattle.std.proofs.Common.{◌≡◌, ◌∙◌, sym, ap, subst, length, arith}
 use Rattle.jc_words.specs.Count.{saturating_count}
+use Rattle.jc_words.specs.Refusals.{refused_once}
 use Rattle.jc_commit.specs.Image.{recovered_of, IsGoodLog}
 use Rattle.jc_commit.specs.State.{State, recovered_journal}
 use Rattle.jc_commit.specs.declared.refusal.OpenRefusal.TheVariants.{StoreDown}
@@ -40,12 +41,12 @@ returns-in-Ok-open-clause-done g c =
     let old = g.S.WordStore.words c.args.store in
     c.of_journal.ensures
     ∙ ap (λ (j : State). heap_view j c.size-size.result) c.in-Ok-open.ensures.ok
-    ∙ ap (heap_view (recovered_journal w (g.S.WordStore.passed c.write_image.new.store) (g.S.WordStore.refused c.write_image.new.store))) c.size-size.ensures
+    ∙ ap (heap_view (recovered_journal w (g.S.WordStore.passed c.write_image.new.store) (g.S.WordStore.refusals c.write_image.new.store))) c.size-size.ensures
     ∙ view_all c.args.text.now old w c.in-Ok.ensures.bytes c.requires.fits c.in-Ok.ensures.done (g.S.WordStore.passed c.write_image.new.store)
-    (g.S.WordStore.refused c.write_image.new.store)
-    ∙ ap (λ p. unsealed_view (length old) c.args.text.now p (g.S.WordStore.refused c.write_image.new.store)) c.in-Ok.ensures.passed
+    (g.S.WordStore.refusals c.write_image.new.store)
+    ∙ ap (λ p. unsealed_view (length old) c.args.text.now p (g.S.WordStore.refusals c.write_image.new.store)) c.in-Ok.ensures.passed
     ∙ ap (unsealed_view (length old) c.args.text.now (saturating_count (g.S.WordStore.passed c.args.store) (first_free (length c.args.text.now))))
-    c.in-Ok.ensures.refused
+    c.in-Ok.ensures.refusals
 
 pub returns-in-Err-clause-down : goal.returns-in-Err-clause-down
 returns-in-Err-clause-down g c =
@@ -61,7 +62,8 @@ returns-in-Err-clause-refused g c =
     (g.S.WordStore.words c.write_image.new.store) c.in-Ok.ensures.bytes c.requires.fits c.in-Ok.ensures.done in
     let down : c.in-Err.field-0-0 ≡ StoreDown = only_down (g.S.WordStore.words c.write_image.new.store) c.in-Err.field-0-0 good
     (λ e. (c.in-Err.ensures.bad_log e).0) in
-    c.in-Err.ensures.refused down c.in-Ok.ensures.up ∙ ap (λ r. saturating_count r 1) c.in-Ok.ensures.refused
+    c.in-Err.ensures.refusals down c.in-Ok.ensures.up
+    ∙ (λ i. refused_once (sym c.in-Ok.ensures.was_up i) (g.S.WordStore.passed c.in-Err.store) (c.in-Ok.ensures.refusals i))
 
 pub returns-in-Err-clause-part : goal.returns-in-Err-clause-part
 returns-in-Err-clause-part g c =

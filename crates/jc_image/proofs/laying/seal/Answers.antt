@@ -12,7 +12,7 @@ returns-in-Ok-clause-sealed g c =
       size = e.size;
       down = e.down;
       passed = e.passed;
-      refused = e.refused;
+      refusals = e.refusals;
       closed = e.closed;
     })
     c.in-Ok.ensures.ok c.into_journal-journal.ensures.view c.into_journal-journal.ensures.sound c.requires.up c.requires.outside
@@ -33,7 +33,7 @@ returns-in-Err-clause-stopped g c =
       size = e.size;
       down = e.down;
       passed = e.passed;
-      refused = e.refused;
+      refusals = e.refusals;
       closed = e.closed;
     })
     c.in-Err.ensures.err c.into_journal-journal.ensures.view c.into_journal-journal.ensures.sound

@@ -28,7 +28,8 @@ loop-i-preserved g c =
       size = ap (λ (ws : List ℕ). length ws) written ∙ length-set now i c.new_image_word.result ∙ inv.size;
       up = λ _. c.in_ok-write.ensures.down;
       passed = search rules;
-      refused = search rules;
+      down = search rules;
+      refusals = search rules;
       bytes = λ k lt. elim (cases_lt (text_start + k) i) [
         | inl before ↦ inv.bytes k before
         | inr here ↦

@@ -14,6 +14,7 @@ invariant-loop-i g l =
       size : length now ≡ length first;
       up : 1 ≤ l.i → g.S.WordStore.down l.store ≡ false;
       passed : g.S.WordStore.passed l.store ≡ saturating_count (g.S.WordStore.passed l.initial.store) l.i;
-      refused : g.S.WordStore.refused l.store ≡ g.S.WordStore.refused l.initial.store;
+      down : g.S.WordStore.down l.store ≡ g.S.WordStore.down l.initial.store;
+      refusals : g.S.WordStore.refusals l.store ≡ g.S.WordStore.refusals l.initial.store;
       bytes : (k : ℕ) → text_start + k < l.i → (get_or l.text (2 * k) 0 < 256) × (get_or l.text (2 * k + 1) 0 < 256);
     }

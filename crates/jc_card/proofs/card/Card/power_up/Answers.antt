@@ -29,7 +29,7 @@ returns-in-Err-clause-of_made g c = λ made. absurd (no_image_fault c.check_imag
 pub returns-in-Ok-clause-heap : goal.returns-in-Ok-clause-heap
 returns-in-Ok-clause-heap g c =
     let w = g.S.WordStore.words c.args.store in
-    let state = recovered_journal w (g.S.WordStore.passed c.args.store) (g.S.WordStore.refused c.args.store) in
+    let state = recovered_journal w (g.S.WordStore.passed c.args.store) (g.S.WordStore.refusals c.args.store) in
     mapped_if c.start.result (λ card. card.memory.heap ≡ heap_view c.in-Ok.image (length c.in-Ok.image.plain))
     (λ card. card.memory.heap ≡ heap_view state (length w))
     (λ card e. e ∙ ap (λ j. heap_view j (length (j.plain))) c.in-Ok.ensures.ok ∙ ap (heap_view state) (length-recovered w)) c.start.ensures.heap

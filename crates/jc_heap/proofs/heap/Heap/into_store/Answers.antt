@@ -7,7 +7,7 @@ pub returns : goal.returns
 returns g c =
     let w = g.S.WordStore.words c.into_store.result in
     let e = c.into_store.ensures in
-    subst (HoldsHeap w (g.S.WordStore.down c.into_store.result) (g.S.WordStore.passed c.into_store.result) (g.S.WordStore.refused c.into_store.result))
+    subst (HoldsHeap w (g.S.WordStore.down c.into_store.result) (g.S.WordStore.passed c.into_store.result) (g.S.WordStore.refusals c.into_store.result))
     c.self.view_is
     (holds w _ _ _ c.self.inside.journal c.self.inside.size
     (record {
@@ -17,7 +17,7 @@ returns g c =
       size = e.size;
       down = e.down;
       passed = e.passed;
-      refused = e.refused;
+      refusals = e.refusals;
       closed = e.closed;
     })
     c.self.invariant.back c.self.invariant.size_recovered)

@@ -19,4 +19,4 @@ pub returns : goal.returns
 returns g c =
     let w = g.S.WordStore.words c.args.store in
     ap (λ (j : State). heap_view j c.size-size.result) c.resume.ensures.state
-    ∙ ap (heap_view (resumed_journal w (g.S.WordStore.passed c.args.store) (g.S.WordStore.refused c.args.store))) c.size-size.ensures
+    ∙ ap (heap_view (resumed_journal w (g.S.WordStore.passed c.args.store) (g.S.WordStore.refusals c.args.store))) c.size-size.ensures

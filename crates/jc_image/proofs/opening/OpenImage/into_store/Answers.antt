@@ -7,7 +7,7 @@ pub returns : goal.returns
 returns g c =
     let s = c.into_store.result in
     let e = c.into_store.ensures in
-    subst (HoldsImage (g.S.WordStore.words s) (g.S.WordStore.down s) (g.S.WordStore.passed s) (g.S.WordStore.refused s)) c.self.view_is
+    subst (HoldsImage (g.S.WordStore.words s) (g.S.WordStore.down s) (g.S.WordStore.passed s) (g.S.WordStore.refusals s)) c.self.view_is
     (holds_image _ _ _ _ c.self.inside.journal c.self.inside.size
     (record {
       good = e.good;
@@ -16,7 +16,7 @@ returns g c =
       size = e.size;
       down = e.down;
       passed = e.passed;
-      refused = e.refused;
+      refusals = e.refusals;
       closed = e.closed;
     })
     c.self.invariant)
