@@ -12,6 +12,9 @@ use Rattle.jc_firewall.specs.Reach.{IsInReach}
 use Rattle.jc_world.specs.Contexts.{situation_of}
 use Rattle.jc_world.specs.Making.{new_on_top}
 use Rattle.law_isolation.specs.Groups.{ArraysSpare, FieldsSpare, ObjectsSpare}
+use Rattle.jc_frames.specs.declared.cell.Cell.TheVariants.{Reference}
+use Rattle.jc_world.specs.Instructions.{continue_with}
+use Rattle.jc_world.specs.Values.{with_top}
 use Rattle.law_isolation.specs.Reach.{IsOutside}
 use Rattle.law_isolation.specs.Sparing.{LeavesObject}
 use Rattle.law_isolation.proofs.Due.{due_unless}
@@ -26,7 +29,8 @@ module _ (p : Packages) (m : MemoryState) (q : ℕ) (out : IsOutside p m q) wher
 
   new_due : (o : NewObject) (s : Frames) → AllDue (LeavesObject q) (new_on_top o s m) m
   unfolding new_on_top
-  new_due o s = due_unless (LeavesObject q) m s (creation_refusal m o) _ (new_spares q o _ m out.there (λ r v other. tt))
+  new_due o s = due_unless (LeavesObject q) m s (creation_refusal m o) _
+      (new_spares q o (λ r. continue_with (with_top (Reference r) s)) m out.there (λ r v other. tt))
 
   pub fields_pass : FieldsPass (LeavesObject q) p m
   fields_pass = record {

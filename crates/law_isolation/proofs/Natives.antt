@@ -24,6 +24,9 @@ use Rattle.jc_api_runtime.specs.AidCells.{aid_cell, cells_of_aid}
 use Rattle.jc_api_data.specs.ApduBuffer.{data_of}
 use Rattle.jc_api_runtime.specs.Register.{registration}
 use Rattle.jc_api_data.specs.OwnerPinArguments.{is_own_value}
+use Rattle.jc_frames.specs.declared.cell.Cell.TheVariants.{Reference}
+use Rattle.jc_world.specs.declared.native_result.NativeResult.TheVariants.{ReturnValue}
+use Rattle.jc_world.specs.NativeCalls.{return_value}
 use Rattle.law_isolation.specs.Natives.{NativesSpare, ReachesCalled, sets_receiver}
 use Rattle.law_isolation.specs.Reach.{IsOutside}
 use Rattle.law_isolation.specs.Sparing.{LeavesObject}
@@ -95,7 +98,7 @@ module _ (method : PlatformMethod) (args : List Cell) (p : Packages) (m : Memory
         (let l = long.cells in let n = nine bytes in omega (arith, l, n));
     buffer = λ r is. run_spares q m r 5 (data_of m.command) (λ same. out.others (16, sym same ∙ is.is))
         (let d = data_fits m.command few in let l = is.long in omega (arith, d, l));
-    transient = λ kind count event o none fine room. new_spares q o _ m out.there (λ r v new. tt);
+    transient = λ kind count event o none fine room. new_spares q o (λ r. return_value (ReturnValue (Reference r))) m out.there (λ r v new. tt);
     starts = λ pin is limit maximum.
         let ne = other_pin pin is in
         new_spares q (value_array m maximum) (recorded pin limit maximum) m out.there (λ value v new. (inl (ne, (ne, (ne, (ne, (ne, tt))))), (tt, tt)));
