@@ -96,6 +96,7 @@ pub fn lay<S: WordStore>(mut store: S, text: &[u8]) -> Result<Heap<S>, S>
     requires fits { first_free (length text.now) ≤ length (S.words store) }
     ensures done { IfOk result (λ h. h ≡ unsealed_view (length (S.words store)) text.now
         (saturating_count (S.passed store) (first_free (length text.now))) (S.refusals store)) }
+    ensures was_up { OnOk result (S.down store ≡ false) }
     ensures down { IfErr result (λ s. S.down s ≡ true) }
     ensures refused { IfErr result (λ s. S.refusals s
         ≡ refused_once (S.down store) (S.passed s) (S.refusals store)) }
