@@ -65,10 +65,10 @@ run_whole [] (answer ∷ answers) card last h small same = absurd h
 run_whole (event ∷ events) [] card last h small same = absurd h
 
 pub start_count : (before : StoreState) (first : PowerState) → Starts before first → before.refusals.count ≤ (durable_state first).refusals.count
-start_count before (Up card) h = 
+start_count before (Up card) h =
     let e : card.memory.heap.refusals.count ≡ before.refusals.count = ap (λ (x : Refusals). x.count) (powered_refusals (durable_state_in_store before) card h.1) in
     omega (arith, e)
-start_count before (Off k) h = 
+start_count before (Off k) h =
     let e = count_raised k.passed before.refusals k.refusals (ap (λ (x : KeptState). x.refusals) h.1) in omega (arith, e)
 
 pub started_up : (before : StoreState) (first : PowerState) → Starts before first → before.refusals.count < 18446744073709551615

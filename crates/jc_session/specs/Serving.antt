@@ -1,5 +1,5 @@
 -- What a card answers to commands and resets, and what becomes of it.
-use Rattle.std.specs.Prelude.{ℕ, ◌≡◌, true, List, [], ◌∷◌}
+use Rattle.std.specs.Prelude.{ℕ, ◌≡◌, false, true, List, [], ◌∷◌}
 use Rattle.jc_words.specs.Refusals.{refused_once}
 use Rattle.jc_memory.specs.Programs.{Completes, TearLeaves}
 use Rattle.jc_card.specs.Answers.{exchange}

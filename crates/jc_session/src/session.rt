@@ -34,7 +34,8 @@ pub fn session<S: WordStore>(
         (record {
           words = S.words result.0;
           down = S.down result.0;
-          passed = S.passed result.0; refusals = S.refusals result.0;
+          passed = S.passed result.0;
+          refusals = S.refusals result.0;
         }) }
     // While the store refuses no write, the answers and the heap are those of a card that keeps whole copies of its heap.
     ensures whole { RefusesNone (S.refusals store).count (S.refusals result.0).count
@@ -42,12 +43,14 @@ pub fn session<S: WordStore>(
         IsWholeSession (record {
           words = S.words store;
           down = S.down store;
-          passed = S.passed store; refusals = S.refusals store;
+          passed = S.passed store;
+          refusals = S.refusals store;
         }) events.now answers
         (record {
           words = S.words result.0;
           down = S.down result.0;
-          passed = S.passed result.0; refusals = S.refusals result.0;
+          passed = S.passed result.0;
+          refusals = S.refusals result.0;
         })) }
 {
     let Ok(room) = Vec::with_capacity(alloc, events.len()) else {

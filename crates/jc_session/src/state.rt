@@ -95,7 +95,8 @@ impl<S: WordStore> DownStore<S> {
         ensures { IsStoreOf (Off self) (record {
           words = S.words result;
           down = S.down result;
-          passed = S.passed result; refusals = S.refusals result;
+          passed = S.passed result;
+          refusals = S.refusals result;
         }) }
     {
         self.store
@@ -139,7 +140,8 @@ impl<S: WordStore> SessionState<S> {
         ensures { IsStoreOf (power_of self) (record {
           words = S.words result;
           down = S.down result;
-          passed = S.passed result; refusals = S.refusals result;
+          passed = S.passed result;
+          refusals = S.refusals result;
         }) }
     {
         match self {
@@ -198,7 +200,8 @@ impl<S: WordStore> SessionState<S> {
             × FailsToReset e.0 (power_of self) (record {
               words = S.words e.1;
               down = S.down e.1;
-              passed = S.passed e.1; refusals = S.refusals e.1;
+              passed = S.passed e.1;
+              refusals = S.refusals e.1;
             })) }
     {
         match event {

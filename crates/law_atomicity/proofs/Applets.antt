@@ -39,7 +39,7 @@ while_open m aid instance k may = open_in m.heap.begun m aid instance (open_inst
 registered_orderly : (aid : List ℕ) (instance : ℕ) (p : Packages) (m : MemoryState) → AllDue KeepsTransactionOrder (registration aid instance p m) m
 unfolding registration aid_object_creation registry_entry
 registered_orderly aid instance p m =
-    orderly_ok (registration_package m aid instance) _ m (λ k may. λ r new. (tt, (tt, (tt, (tt, (while_open m aid instance k may, (tt, tt)))))))
+    orderly_ok (registration_package m aid instance) _ m (λ k may. λ r new. (tt, (tt, (tt, (while_open m aid instance k may, (tt, tt))))))
 
 as_orderly : (instance : ℕ) (p : Packages) (m : MemoryState) (aid : Option (List ℕ)) → AllDue KeepsTransactionOrder (register_with instance p m aid) m
 as_orderly instance p m None = tt

@@ -68,7 +68,7 @@ called_orderly budget p name applet arguments owner m = method_orderly budget p 
 closing_orderly : (stands : Bool) (m : MemoryState) → m.heap.begun ≡ stands → AllDue KeepsTransactionOrder
     (abort_if_open stands (λ v. then_with (SetRegisters (registers_released v.registers)) v (λ w. Finish (tt {0}))) m) m
 closing_orderly false m e = (tt, tt)
-closing_orderly true m e = (e, (tt, (tt, tt)))
+closing_orderly true m e = (e, (tt, tt))
 
 pub closed_orderly : (m : MemoryState) → AllDue KeepsTransactionOrder (close m) m
 unfolding close

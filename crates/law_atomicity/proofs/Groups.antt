@@ -21,6 +21,9 @@ use Rattle.jc_world.specs.Making.{new_on_top}
 use Rattle.jc_interp_objects.specs.ArrayElements.{has_elements}
 use Rattle.jc_interp_objects.specs.declared.static_images.ImageWord.{ImageWord}
 use Rattle.jc_interp_objects.specs.StaticImages.{place_of}
+use Rattle.jc_frames.specs.declared.cell.Cell.TheVariants.{Reference}
+use Rattle.jc_world.specs.Instructions.{continue_with}
+use Rattle.jc_world.specs.Values.{with_top}
 use Rattle.law_isolation.proofs.Due.{due_unless}
 use Rattle.law_isolation.proofs.Instructions.{static_due}
 use Rattle.law_isolation.proofs.Passing.{ArraysPass, FieldsPass, InstancesPass}
@@ -43,7 +46,7 @@ no_cell q w e = subst IsNoCell e tt
 
 new_due : (q : ℕ) (m : MemoryState) (o : NewObject) (s : Frames) → AllDue (Leaves q) (new_on_top o s m) m
 unfolding new_on_top
-new_due q m o s = due_unless (Leaves q) m s (creation_refusal m o) _ (new_leaves q o _ m (λ r v. tt))
+new_due q m o s = due_unless (Leaves q) m s (creation_refusal m o) _ (new_leaves q o (λ r. continue_with (with_top (Reference r) s)) m (λ r v. tt))
 
 module _ (p : Packages) (m : MemoryState) (q : ℕ) where
   pub fields_pass : ((number index class : ℕ) (reference : Bool) → target_at p number index ≡ Some (targets.InstanceField class 2 reference)

@@ -17,6 +17,9 @@ use Rattle.jc_world.specs.Arrays.{bytes_in}
 use Rattle.jc_api_runtime.specs.AidCells.{cells_of_aid}
 use Rattle.jc_api_data.specs.ApduBuffer.{data_of}
 use Rattle.jc_api_runtime.specs.Register.{registration}
+use Rattle.jc_frames.specs.declared.cell.Cell.TheVariants.{Reference}
+use Rattle.jc_world.specs.declared.native_result.NativeResult.TheVariants.{ReturnValue}
+use Rattle.jc_world.specs.NativeCalls.{return_value}
 use Rattle.law_isolation.specs.Natives.{IsNotCalled}
 use Rattle.law_isolation.proofs.Applets.{registered_due}
 use Rattle.law_isolation.proofs.Methods.{method_due}
@@ -63,7 +66,7 @@ module _ (method : PlatformMethod) (args : List Cell) (p : Packages) (m : Memory
     stretch = λ r count e words is long. run_leaves q m e.array e.start words (λ same. bytes_other m q r own is.kind (sym is.array ∙ same));
     aid = λ init r bytes is long fine. run_leaves q m r 0 (cells_of_aid bytes) (other init r is);
     buffer = λ r is. run_leaves q m r 5 (data_of m.command) (λ same. own.others (16, sym same ∙ is.is));
-    transient = λ kind count event o none fine room. new_leaves q o _ m (λ r v. tt);
+    transient = λ kind count event o none fine room. new_leaves q o (λ r. return_value (ReturnValue (Reference r))) m (λ r v. tt);
     starts = λ pin is limit maximum. new_leaves q (value_array m maximum) (recorded pin limit maximum) m
         (λ value v. (first_leaves q pin limit maximum value v, (tt, tt)));
     counts = λ pin is n. tt;

@@ -26,12 +26,15 @@ use Rattle.jc_interp_objects.specs.ArrayOps.{array_instruction}
 use Rattle.jc_interp_objects.specs.TypeChecks.{checkcast, instanceof, own_type, type_test}
 use Rattle.jc_interp_objects.specs.ObjectCreation.{cells_for, new_instance, instantiable_class}
 use Rattle.jc_interp_objects.specs.StackRoom.{if_room}
+use Rattle.jc_frames.specs.declared.cell.Cell.TheVariants.{Reference}
+use Rattle.jc_world.specs.Instructions.{continue_with}
+use Rattle.jc_world.specs.Values.{with_top}
 use Rattle.law_atomicity.proofs.Plain.{AllPlain, plain_if, plain_sets, plain_makes_new}
 use Rattle.law_atomicity.proofs.Checks.{plain_some, plain_ok, plain_stopped, plain_unless}
 
 new_plain : (o : NewObject) (s : Frames) (m : MemoryState) → AllPlain (new_on_top o s m)
 unfolding new_on_top
-new_plain o s m = plain_unless s (creation_refusal m o) _ (plain_makes_new o _ (λ r. tt))
+new_plain o s m = plain_unless s (creation_refusal m o) _ (plain_makes_new o (λ r. continue_with (with_top (Reference r) s)) (λ r. tt))
 
 -- ---- arrays
 

@@ -33,6 +33,9 @@ use Rattle.jc_api_runtime.specs.SystemTransient.{jc_system_make_transient_array,
 use Rattle.jc_api_runtime.specs.SystemSharing.{jc_system_lookup_aid, server_call_result, server_call_by_aid, server_call_if_known}
 use Rattle.jc_api_runtime.specs.SystemSharing.{jc_system_get_applet_shareable_interface_object}
 use Rattle.jc_api_runtime.specs.System.{system_call}
+use Rattle.jc_frames.specs.declared.cell.Cell.TheVariants.{Reference}
+use Rattle.jc_world.specs.declared.native_result.NativeResult.TheVariants.{ReturnValue}
+use Rattle.jc_world.specs.NativeCalls.{return_value}
 use Rattle.law_atomicity.specs.Orderly.{KeepsTransactionOrder}
 use Rattle.law_atomicity.proofs.Plain.{AllPlain, due_if, plain_due, plain_if, plain_makes_new}
 use Rattle.law_atomicity.proofs.CallChecks.{plain_some, plain_ok, plain_unless}
@@ -59,7 +62,7 @@ after_orderly (Registered home) m = tt
 
 aborted_orderly : (depth : Depth) (m : MemoryState) → AllDue KeepsTransactionOrder (jc_system_abort_transaction depth m) m
 aborted_orderly Outside m = tt
-aborted_orderly Inside m = due_if m.heap.begun _ _ m (λ e. (e, (tt, (tt, after_orderly m.registers.installation _))))
+aborted_orderly Inside m = due_if m.heap.begun _ _ m (λ e. (e, (tt, after_orderly m.registers.installation _)))
     (λ e. (tt, after_orderly m.registers.installation _))
 
 -- ---- all else
@@ -68,7 +71,7 @@ array_plain : (kind : Kind) (args : List Cell) (p : Packages) (m : MemoryState) 
 unfolding jc_system_make_transient_array
 array_plain kind args p m = plain_some (short_argument args 0) _ (λ count. plain_some (short_argument args 1) _
     (λ event. plain_ok (requested_array kind count event p m) _ (λ o.
-    plain_unless (creation_refusal m o) _ (plain_makes_new o _ (λ r. tt)))))
+    plain_unless (creation_refusal m o) _ (plain_makes_new o (λ r. return_value (ReturnValue (Reference r))) (λ r. tt)))))
 
 event_plain : (args : List Cell) (m : MemoryState) → AllPlain (jc_system_is_transient args m)
 unfolding jc_system_is_transient

@@ -14,7 +14,8 @@ loop-event-preserved g c =
     let before : StoreState = record {
       words = g.S.WordStore.words c.args.store;
       down = g.S.WordStore.down c.args.store;
-      passed = g.S.WordStore.passed c.args.store; refusals = g.S.WordStore.refusals c.args.store;
+      passed = g.S.WordStore.passed c.args.store;
+      refusals = g.S.WordStore.refusals c.args.store;
     } in
     record {
       session = session_more before (take n c.args.events.now) (take (n + 1) c.args.events.now) c.loop-event.answers.items c.push.new.self.items
@@ -32,12 +33,14 @@ returns-in-Err-serve-clause-session g c =
     let before : StoreState = record {
       words = g.S.WordStore.words c.args.store;
       down = g.S.WordStore.down c.args.store;
-      passed = g.S.WordStore.passed c.args.store; refusals = g.S.WordStore.refusals c.args.store;
+      passed = g.S.WordStore.passed c.args.store;
+      refusals = g.S.WordStore.refusals c.args.store;
     } in
     let after : StoreState = record {
       words = g.S.WordStore.words c.in-Err-serve.store;
       down = g.S.WordStore.down c.in-Err-serve.store;
-      passed = g.S.WordStore.passed c.in-Err-serve.store; refusals = g.S.WordStore.refusals c.in-Err-serve.store;
+      passed = g.S.WordStore.passed c.in-Err-serve.store;
+      refusals = g.S.WordStore.refusals c.in-Err-serve.store;
     } in
     inr (stops_at_reset before after c.args.events.now c.loop-event.answers.items (power_of c.loop-event.held) n c.event-item.result c.in-Err-serve.fault below
     c.event-item.is c.loop-event.invariant.session c.in-Err-serve.ensures.fault)
@@ -47,7 +50,8 @@ returns-clause-session g c =
     let before : StoreState = record {
       words = g.S.WordStore.words c.args.store;
       down = g.S.WordStore.down c.args.store;
-      passed = g.S.WordStore.passed c.args.store; refusals = g.S.WordStore.refusals c.args.store;
+      passed = g.S.WordStore.passed c.args.store;
+      refusals = g.S.WordStore.refusals c.args.store;
     } in
     let over : length c.args.events.now ≤ c.loop-event.event-index = omega arith in (
       power_of c.loop-event.held,
@@ -61,12 +65,14 @@ returns-clause-whole g c = λ none.
     let before : StoreState = record {
       words = g.S.WordStore.words c.args.store;
       down = g.S.WordStore.down c.args.store;
-      passed = g.S.WordStore.passed c.args.store; refusals = g.S.WordStore.refusals c.args.store;
+      passed = g.S.WordStore.passed c.args.store;
+      refusals = g.S.WordStore.refusals c.args.store;
     } in
     let after : StoreState = record {
       words = g.S.WordStore.words c.into_store-2.result;
       down = g.S.WordStore.down c.into_store-2.result;
-      passed = g.S.WordStore.passed c.into_store-2.result; refusals = g.S.WordStore.refusals c.into_store-2.result;
+      passed = g.S.WordStore.passed c.into_store-2.result;
+      refusals = g.S.WordStore.refusals c.into_store-2.result;
     } in
     let over : length c.args.events.now ≤ c.loop-event.event-index = omega arith in
     are_whole before after c.args.events.now c.loop-event.answers.items (power_of c.loop-event.held)

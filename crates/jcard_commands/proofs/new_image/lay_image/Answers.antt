@@ -18,7 +18,7 @@ returns-in-Err g c =
     ∙ (fresh_under_fuse words _ _ _ c.requires.up c.requires.none_passed c.requires.none_refused ∙ ap fresh_store c.requires.zeros)))
     (λ e. let stopped = f.stopped e in (
       ap (λ t. t.refusals.faults) c.new-store.ensures ∙ (ap (λ (r : Refusals). r.count) stopped.1 ∙ (count-refused_once _ _ _
-      ∙ ap (λ (r : Refusals). saturating_count r.count 1) c.requires.none_refused)),
+          ∙ ap (λ (r : Refusals). saturating_count r.count 1) c.requires.none_refused)),
       ap (λ t. t.down) c.new-store.ensures ∙ stopped.0,
       stopped_words (length words) words (s.words c.format-store.result.0) c.new-store.result.words (ap (λ t. t.words) c.new-store.ensures) c.requires.zeros
           stopped.2,
