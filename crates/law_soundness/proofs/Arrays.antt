@@ -33,6 +33,9 @@ use Rattle.jc_world.specs.Types.{class_named, class_of}
 use Rattle.jc_world.specs.Values.{keepable}
 use Rattle.jc_interp_objects.specs.ArrayElements.{assignable_or_null, element_value, has_elements, element_if_assignable}
 use Rattle.jc_interp_objects.specs.ArrayCreation.{kind_of}
+use Rattle.jc_frames.specs.declared.cell.Cell.TheVariants.{Reference}
+use Rattle.jc_world.specs.Instructions.{continue_with}
+use Rattle.jc_world.specs.Values.{with_top}
 use Rattle.law_soundness.specs.Classes.{KnowsClasses}
 use Rattle.law_soundness.specs.Fit.{FitsNew, FitsPlace, IsFit}
 use Rattle.law_soundness.specs.State.{IsSoundMemory, IsSteady}
@@ -85,7 +88,8 @@ module _ (p : Packages) (m : MemoryState) where
 pub new_due : (p : Packages) (m : MemoryState) (o : NewObject) (s : Frames) → o.event ≡ None → FitsNew p m o.kind o.class (owner_number o.owner) o.length
     → AllDue (IsFit p) (new_on_top o s m) m
 unfolding new_on_top
-new_due p m o s kept fits = due_unless (IsFit p) m s (creation_refusal m o) _ (new_kept p o _ m fits kept (λ r new. tt))
+new_due p m o s kept fits = due_unless (IsFit p) m s (creation_refusal m o) _
+    (new_kept p o (λ r. continue_with (with_top (Reference r) s)) m fits kept (λ r new. tt))
 
 module _ (p : Packages) (m : MemoryState) (known : KnowsClasses p) (sound : IsSoundMemory p m) (steady : IsSteady m) where
   array_due : (kind : Kind) (class n : ℕ) (s : Frames) → is_instance kind ≡ false → fits_class p kind class n ≡ true

@@ -21,6 +21,9 @@ use Rattle.jc_api_runtime.specs.AidCells.{cells_of_aid, is_aid_length}
 use Rattle.jc_api_data.specs.ApduBuffer.{data_of}
 use Rattle.jc_interp.specs.declared.parts.Part.TheVariants.{CardExceptions}
 use Rattle.jc_interp.specs.Parts.{part_of, part_of_class}
+use Rattle.jc_frames.specs.declared.cell.Cell.TheVariants.{Reference}
+use Rattle.jc_world.specs.declared.native_result.NativeResult.TheVariants.{ReturnValue}
+use Rattle.jc_world.specs.NativeCalls.{return_value}
 use Rattle.law_isolation.specs.Natives.{sets_receiver}
 use Rattle.law_isolation.proofs.Arguments.{length_bytes}
 use Rattle.law_isolation.proofs.Methods.{method_due}
@@ -105,7 +108,8 @@ module _ (method : PlatformMethod) (args : List Cell) (p : Packages) (m : Memory
     aid = λ init own bytes is there long. run_in p m own 0 (cells_of_aid bytes) (facts m.heap.now own).event
         (aid_fits p m known sound own bytes (called_on Aid (minds_init method init) (class_init method init) own is) (receiver.owned init own is) there long);
     buffer = λ r is. bytes_fit p m r 5 (data_of m.command) is.kind;
-    transient = λ kind count event o none fine room. transient_fits p m known sound steady kind count event o _ none fine room (λ r v. tt);
+    transient = λ kind count event o none fine room. transient_fits p m known sound steady kind count event o
+        (λ r. return_value (ReturnValue (Reference r))) none fine room (λ r v. tt);
     starts = λ pin is limit maximum. starts p m sound steady pin limit maximum (object_of pin is);
     counts = λ pin is n. (pin, refl, after_flag p m pin false (object_of pin is));
     refills = λ pin is n limit. (pin, refl, after_count p _ pin n (after_flag p m pin false (object_of pin is)));

@@ -29,11 +29,15 @@ use Rattle.jc_interp_objects.specs.ArrayCreation.{array_creation, kind_of, newar
 use Rattle.jc_interp_objects.specs.TypeChecks.{checkcast, instanceof, own_type, type_test}
 use Rattle.jc_interp_objects.specs.ObjectCreation.{cells_for, new_instance, instantiable_class}
 use Rattle.jc_interp_objects.specs.StackRoom.{if_room}
+use Rattle.jc_frames.specs.declared.cell.Cell.TheVariants.{Reference}
+use Rattle.jc_world.specs.Instructions.{continue_with}
+use Rattle.jc_world.specs.Values.{with_top}
 use Rattle.law_soundness.proofs.Quiet.{Stays, quiet_sets, stays_if, stays_new, stays_ok, stays_some, stays_stopped, stays_unless}
 
 new_stays : (o : NewObject) (s : Frames) (m : MemoryState) → Stays s.callers s.current.origin (new_on_top o s m)
 unfolding new_on_top
-new_stays o s m = stays_unless s (creation_refusal m o) _ (stays_new s.callers s.current.origin o _ (λ r. (refl, refl)))
+new_stays o s m = stays_unless s (creation_refusal m o) _
+    (stays_new s.callers s.current.origin o (λ r. continue_with (with_top (Reference r) s)) (λ r. (refl, refl)))
 
 -- ---- arrays
 

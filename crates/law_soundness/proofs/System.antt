@@ -24,6 +24,9 @@ use Rattle.jc_world.specs.Arrays.{bytes_argument, elements_of}
 use Rattle.jc_api_runtime.specs.SystemSharing.{jc_system_lookup_aid, server_call_result, server_call_by_aid, server_call_if_known}
 use Rattle.jc_api_runtime.specs.SystemSharing.{jc_system_get_applet_shareable_interface_object}
 use Rattle.jc_api_runtime.specs.SystemTransient.{jc_system_make_transient_array, jc_system_is_transient, requested_array}
+use Rattle.jc_frames.specs.declared.cell.Cell.TheVariants.{Reference}
+use Rattle.jc_world.specs.declared.native_result.NativeResult.TheVariants.{ReturnValue}
+use Rattle.jc_world.specs.NativeCalls.{return_value}
 use Rattle.law_soundness.specs.State.{IsSteady, is_open, is_owner_up_to, most_owner}
 use Rattle.law_soundness.specs.Calls.{IsCallResult}
 use Rattle.law_soundness.proofs.Leaving.{left_if, left_some, stays}
@@ -34,7 +37,7 @@ module _ (g : Registers) (args : List Cell) (p : Packages) (m : MemoryState) whe
   unfolding jc_system_make_transient_array
   array_still kind = still_some g (short_argument args 0) _ (λ count. still_some g (short_argument args 1) _
       (λ event. still_ok g (requested_array kind count event p m) _ (λ o.
-      still_unless g (creation_refusal m o) _ (still_makes_new g AsksNone o _ (λ r. tt)))))
+      still_unless g (creation_refusal m o) _ (still_makes_new g AsksNone o (λ r. return_value (ReturnValue (Reference r))) (λ r. tt)))))
 
   pub event_still : IsStillCall g (jc_system_is_transient args m)
   unfolding jc_system_is_transient
