@@ -84,7 +84,7 @@ class Package:
         reasons = Reasons()
         for each in file.fields:
             with reasons:
-                self.check_type(each.descriptor, f"{file.place()}: {each.name}")
+                self.check_type(each.descriptor, f"{file.place()}: the field {each.name} has ")
         for method in file.methods:
             with reasons:
                 self.check_method(file, method)
@@ -93,7 +93,7 @@ class Package:
     def check_type(self, descriptor, where):
         fault = fault_of_type(descriptor)
         if fault:
-            raise Refusal(f"{where}: {fault}, which the card does not have")
+            raise Refusal(f"{where}{fault}, which the card does not have")
 
     def check_method(self, file, method):
         where = file.place(method)
@@ -105,7 +105,7 @@ class Package:
             raise Refusal(f"{where}: an interface has code, which the card does not have")
         parameters, result = types_of(method.descriptor)
         for descriptor in parameters + [result]:
-            self.check_type(descriptor, f"{where}: a parameter or the result")
+            self.check_type(descriptor, f"{where}: a parameter or the result has ")
 
     def is_own(self, info):
         return info.package is self.info

@@ -72,7 +72,7 @@ def fault_of_type(descriptor):
     """Why a card cannot have the type; None where it can."""
     element = descriptor.lstrip("[")
     if len(descriptor) - len(element) > 1:
-        return f"{type_name(descriptor)}, an array of arrays"
+        return f"type {type_name(descriptor)}, an array of arrays"
     if element[0] == "L" or element in CARD_TYPES or descriptor == "V":
         return None
     return f"type {type_name(descriptor)}"

@@ -99,7 +99,8 @@ class Translation:
         elif name == "constant":
             self.put(code.constant(pc, operand))
         elif name == "ldc":
-            self.put(code.constant(pc, self.constants.value(operand)))
+            value = self.constants.value(operand) & 0xFFFF
+            self.put(code.constant(pc, value - 0x10000 if value > 32767 else value))
         elif name in LOCALS:
             self.put(code.local(pc, LOCALS[name], operand, self.style.short_locals))
         elif name in DUP_X:

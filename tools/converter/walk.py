@@ -10,7 +10,7 @@ CONSTANTS = {STRING: "a string", CLASS: "a class literal", FLOAT: "a float"}
 OFTEN = 8  # visits after which a bound that moves is given up
 DUPLICATES = {"dup": (1, 1), "dup_x1": (1, 2), "dup_x2": (1, 3), "dup2": (2, 2), "dup2_x1": (2, 3), "dup2_x2": (2, 4)}
 NOT_THERE = {
-    "invokedynamic": "a lambda, a string or a pattern (invokedynamic)", "multianewarray": "an array of arrays",
+    "invokedynamic": "a lambda, a joined string or a pattern (invokedynamic)", "multianewarray": "an array of arrays",
     "monitorenter": "synchronized", "monitorexit": "synchronized", "jsr": "a subroutine of old class files (jsr)",
     "ret": "a subroutine of old class files (ret)", "i2c": "type char", "caload": "type char[]", "castore": "type char[]",
     "iaload": "type int[]", "iastore": "type int[]", "ldc2_w": "a long or double",
@@ -32,11 +32,9 @@ class Walk:
 
     def __init__(self, owner, method, code):
         self.owner, self.method, self.code, self.constants = owner, method, code, owner.constants
-        parameters, self.result = types_of(method.descriptor)
-        for descriptor in parameters + [self.result]:
-            self.check_type(descriptor, "a parameter or the result has ")
-        for variable in code.variables:
-            self.check_type(variable.descriptor, f"the variable {variable.name} has ", variable.start)
+        parameters, _ = types_of(method.descriptor)
+        for variable in code.variables:  # one begins behind the instruction that first stores it
+            self.check_type(variable.descriptor, f"the variable {variable.name} has ", max(variable.start - 1, 0))
         self.types = ([] if method.is_static else [f"L{owner.name};"]) + parameters
         self.instructions = decode(code.bytes)
         self.at = {instruction.pc: instruction for instruction in self.instructions}
@@ -179,8 +177,6 @@ class Step:
         tag, value = self.walk.constants.entries[self.operand]
         if tag != INTEGER:
             self.refuse(f"{CONSTANTS.get(tag, 'a constant')}, which the card does not have")
-        if not arithmetic.LOWEST <= value <= arithmetic.HIGHEST:
-            self.refuse(f"the constant {value} is no short")
         self.push(between(value, value))
 
     def load(self):
@@ -250,8 +246,9 @@ class Step:
     def invoke(self):
         owner, method, descriptor = self.walk.constants.member_at(self.operand)
         parameters, result = types_of(descriptor)
-        for parameter in parameters + [result]:
-            self.walk.check_type(parameter, f"{class_name(owner)}.{method} has ", self.pc)
+        called = class_name(owner) if method == "<init>" else f"{class_name(owner)}.{method}"
+        for each in parameters + [result]:
+            self.walk.check_type(each, f"a parameter or the result of {called} has ", self.pc)
         for parameter in reversed(parameters):
             self.of_type(parameter, "an argument")
         if self.name != "invokestatic":
