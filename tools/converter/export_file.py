@@ -1,7 +1,7 @@
 """Export files: what other packages may name of a package, and by which numbers. Format 2.1 is written, and 2.1 to 2.3 read."""
 from .class_file import ABSTRACT, FINAL, INTERFACE, PUBLIC, STATIC, Bytes
 from .library import Classes, ClassInfo, PackageInfo
-from .refusal import Refusal
+from .refusal import Refusal, class_name
 
 MAGIC = 0x00FACADE
 UTF8, INTEGER, CLASS, PACKAGE = 1, 3, 7, 13
@@ -198,7 +198,7 @@ def link(readers, packages):
         for name, above in reader.above.items():
             for each in above:
                 if each not in known:
-                    raise Refusal(f"{reader.package.name} needs the export file of {each.rpartition('/')[0]}")
+                    raise Refusal(f"{class_name(reader.package.name)} needs the export file of {class_name(each.rpartition('/')[0])}")
             # The class right above is the one that has most classes above it.
             known[name].superclass = max(above, key=lambda each: depths.get(each, chain_length(known, each)), default=None)
     Classes(packages).set_ends()
