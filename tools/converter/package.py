@@ -84,6 +84,8 @@ class Package:
         reasons = Reasons()
         for each in file.fields:
             with reasons:
+                if each.name == "$assertionsDisabled":
+                    raise Refusal(f"{file.place()}: assert, which the card does not have")
                 self.check_type(each.descriptor, f"{file.place()}: the field {each.name} has ")
         for method in file.methods:
             with reasons:

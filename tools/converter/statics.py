@@ -95,16 +95,17 @@ class StaticImage:
 
     @staticmethod
     def sort(package, file, arrays, nulls, zeros, numbers):
-        """Sorts the fields of a class by how they begin, and gives tokens to those that other packages may name."""
-        info, values = package.classes.known[file.name], first_values(file)
+        """Gives tokens to the fields of a class that other packages may name, and sorts its fields by how they begin."""
+        info, found = package.classes.known[file.name], []
         for each in file.fields:
             constant = file.constant(each) if each.is_static else None
             if not each.is_static or constant is not None and each.is_final:
                 continue  # javac puts the value of a constant wherever it is named
-            if each.is_visible:
-                info.static_fields[each.name] = sum(token is not None for token in info.static_fields.values())
-            else:
-                info.static_fields[each.name] = None
+            tokens = [token for token in info.static_fields.values() if token is not None]
+            info.static_fields[each.name] = len(tokens) if each.is_visible else None
+            found.append((each, constant))
+        values = first_values(file)
+        for each, constant in found:
             key, value = (file.name, each.name), values.get(each.name, constant)
             if isinstance(value, Array):
                 arrays.append((key, 2, value))

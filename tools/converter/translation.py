@@ -18,6 +18,8 @@ ELEMENTS = {4: 10, 8: 11, 9: 12}  # of newarray: the class file's number, and th
 ARRAYS = {"[Z": 10, "[B": 11, "[S": 12}  # of checkcast and instanceof
 ARRAY_OF_REFERENCES, CLASS = 14, 0
 LETTERS = {"Z": "b", "B": "b", "S": "s"}
+REQUIRE_NON_NULL = ("java/util/Objects", "requireNonNull", "(Ljava/lang/Object;)Ljava/lang/Object;")
+GET_CLASS = ("getClass", "()Ljava/lang/Class;")
 
 
 class Translation:
@@ -112,6 +114,8 @@ class Translation:
             self.put(code.Branch(pc, name.replace("icmp", "scmp"), 0 if name == "goto" else 2 if "cmp" in name else 1, operand))
         elif name in SWITCHES:
             self.switch(instruction)
+        elif self.is_check_for_null(instruction):
+            self.check_for_null(instruction)
         elif name != "i2s":
             getattr(self, name)(pc, operand)
 
@@ -154,6 +158,22 @@ class Translation:
         """Of a call without its object: the cells that it takes, and those that it puts."""
         parameters, result = types_of(self.constants.member_at(operand)[2])
         return len(parameters), 0 if result == "V" else 1
+
+    def check_for_null(self, instruction):
+        """Throws a NullPointerException where the reference on the stack is null, and leaves it there. Throwing null does so."""
+        pc = instruction.pc
+        self.put(code.plain(pc, "dup"))
+        self.put(code.Branch(pc, "ifnonnull", 1, instruction.next_pc))
+        self.put(code.plain(pc, "aconst_null"))
+        self.put(code.plain(pc, "athrow"))
+
+    def is_check_for_null(self, instruction):
+        """Whether a call is a check that javac writes where an object is named and not used."""
+        if instruction.name not in ("invokestatic", "invokevirtual"):
+            return False
+        owner, *key = self.constants.member_at(instruction.operand)
+        after = self.walk.at.get(instruction.next_pc)
+        return (owner, *key) == REQUIRE_NON_NULL or tuple(key) == GET_CLASS and after is not None and after.name == "pop"
 
     def invokestatic(self, pc, operand):
         taken, put = self.effect(operand)

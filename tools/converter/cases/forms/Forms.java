@@ -44,7 +44,7 @@ class Forms {
             case 1:
                 return new Inside().both(this);
             case 2:
-                return new Bound().twice();
+                return (short) (new Bound().twice() + bound(a));
             case 3:
                 return farBranch(a);
             case 4:
@@ -65,6 +65,16 @@ class Forms {
                 return fields(a);
             default:
                 return switches(which, a);
+        }
+    }
+
+    /** Names an object that may be null, and uses nothing of it. */
+    private short bound(short a) {
+        Forms around = a > 0 ? this : null;
+        try {
+            return around.new Bound().twice();
+        } catch (NullPointerException e) {
+            return -1;
         }
     }
 
