@@ -12,12 +12,14 @@ LOWEST, HIGHEST = -32768, 32767
 class Value:
     """A reference, or an int between two bounds, which are None where it is not exact.
 
-    Of a reference that was loaded from the local 0 of a method and nowhere else, `origin` is where that was."""
+    Of a reference that was loaded from the local 0 of a method and nowhere else, `origin` is where that was. Of an int that was
+    loaded from a local, which has not changed since, `variable` is its number."""
 
     is_reference: bool
     low: int | None = None
     high: int | None = None
     origin: int | None = None
+    variable: int | None = None
 
     @property
     def is_exact(self):
@@ -26,8 +28,8 @@ class Value:
     def is_one(self):
         return self.low is not None and self.low == self.high
 
-    def without_origin(self):
-        return replace(self, origin=None)
+    def of_variable(self, number):
+        return replace(self, variable=number)
 
 
 REFERENCE = Value(True)
@@ -134,8 +136,29 @@ OPERATIONS = {
 }
 
 
+def narrowed(condition, a, b):
+    """What is known of two ints for which a comparison holds."""
+    if condition in ("gt", "ge"):
+        b, a = narrowed({"gt": "lt", "ge": "le"}[condition], b, a)
+        return a, b
+    difference = 1 if condition == "lt" else 0
+    low, high = b.low, a.high
+    if condition in ("lt", "le", "eq"):
+        a, b = limited(a, a.low, b.high - difference), limited(b, a.low + difference, b.high)
+    if condition == "eq":
+        a, b = limited(a, low, a.high), limited(b, b.low, high)
+    return a, b
+
+
+def limited(value, low, high):
+    """The value within more bounds, unless it cannot be there."""
+    low, high = max(value.low, low), min(value.high, high)
+    return replace(value, low=low, high=high) if low <= high else value
+
+
 def merged(a, b, is_wide):
-    """What is known where two ways meet; a bound that moves goes to the end of the shorts where the way was taken often."""
+    """What is known where two ways meet. Where they were taken often, a bound that moves goes to the end of the shorts; the upper
+    one first stops before it, where the index of a loop over an array ends."""
     if a is None or b is None or a.is_reference != b.is_reference:
         return None
     if a.is_reference:
@@ -143,4 +166,8 @@ def merged(a, b, is_wide):
     if not (a.is_exact and b.is_exact):
         return INEXACT
     low, high = min(a.low, b.low), max(a.high, b.high)
-    return SHORT if is_wide and (low, high) != (a.low, a.high) else Value(False, low, high)
+    if is_wide and low < a.low:
+        low = LOWEST
+    if is_wide and high > a.high:
+        high = HIGHEST - 1 if high < HIGHEST else HIGHEST
+    return Value(False, low, high, variable=a.variable if a.variable == b.variable else None)

@@ -112,6 +112,8 @@ class Translation:
             self.put(code.Fixed(pc, "swap_x", 2, 2, code.SWAP_X, SWAP))
         elif name in BRANCHES:
             self.put(code.Branch(pc, name.replace("icmp", "scmp"), 0 if name == "goto" else 2 if "cmp" in name else 1, operand))
+        elif name == "iinc":
+            self.put(code.increment(pc, *operand))
         elif name in SWITCHES:
             self.switch(instruction)
         elif self.is_check_for_null(instruction):

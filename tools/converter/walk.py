@@ -15,6 +15,7 @@ NOT_THERE = {
     "ret": "a subroutine of old class files (ret)", "i2c": "type char", "caload": "type char[]", "castore": "type char[]",
     "iaload": "type int[]", "iastore": "type int[]", "ldc2_w": "a long or double",
 }
+OPPOSITES = {"eq": "ne", "ne": "eq", "lt": "ge", "ge": "lt", "gt": "le", "le": "gt"}
 LETTERS = {"l": "long", "f": "float", "d": "double"}
 
 
@@ -86,11 +87,12 @@ class Walk:
         for handler in self.code.handlers:
             if handler.start <= instruction.pc < handler.end:
                 self.go(handler.at, list(variables), [REFERENCE])
-        Step(self, instruction, variables, stack).carry_out()
+        step = Step(self, instruction, variables, stack)
+        step.carry_out()
         for target in instruction.targets():
-            self.go(target, list(variables), list(stack))
+            self.go(target, step.narrowed(step.condition), list(stack))
         if instruction.name not in ENDS:
-            self.go(instruction.next_pc, variables, stack)
+            self.go(instruction.next_pc, step.narrowed(OPPOSITES.get(step.condition)), stack)
 
 
 class Step:
@@ -99,6 +101,16 @@ class Step:
     def __init__(self, walk, instruction, variables, stack):
         self.walk, self.instruction, self.variables, self.stack = walk, instruction, variables, stack
         self.name, self.operand, self.pc = instruction.name, instruction.operand, instruction.pc
+        self.condition, self.compared = None, None  # of a branch: what is compared, and how
+
+    def narrowed(self, condition):
+        """The variables where a comparison holds."""
+        variables = list(self.variables)
+        if condition:
+            for value in arithmetic.narrowed(condition, *self.compared):
+                if value.variable is not None:
+                    variables[value.variable] = value.of_variable(None)
+        return variables
 
     def refuse(self, what):
         self.walk.refuse(what, self.pc)
@@ -145,15 +157,15 @@ class Step:
             values = self.top(depth)
             self.stack[len(self.stack) - depth:len(self.stack) - depth] = values[-count:]
         elif name.startswith("if_icmp"):
-            self.exact("an operand of a comparison")
-            self.exact("an operand of a comparison")
+            b = self.exact("an operand of a comparison")
+            self.condition, self.compared = name[-2:], (self.exact("an operand of a comparison"), b)
         elif name.startswith("if_acmp"):
             self.reference()
             self.reference()
         elif name in ("ifnull", "ifnonnull"):
             self.reference()
         elif name.startswith("if"):
-            self.exact("a condition")
+            self.condition, self.compared = name[-2:], (self.exact("a condition"), between(0, 0))
         else:
             self.refuse(f"{what_is_not_there(name)}, which the card does not have")
 
@@ -184,15 +196,21 @@ class Step:
         if value is None or value.is_reference != (self.name == "aload"):
             self.refuse("a variable of another kind")
         if value.is_reference:
-            value = arithmetic.Value(True, origin=self.pc if self.operand == 0 and self.walk.keeps_this else None)
-        self.push(value)
+            self.push(arithmetic.Value(True, origin=self.pc if self.operand == 0 and self.walk.keeps_this else None))
+        else:
+            self.push(value.of_variable(self.operand))
+
+    def set(self, number, value):
+        """Changes a variable; values that were loaded from it before no longer are what it has."""
+        self.variables[number] = value
+        self.stack[:] = [each.of_variable(None) if each and each.variable == number else each for each in self.stack]
 
     def store_integer(self):
-        self.variables[self.operand] = self.exact("the value of a variable")
+        self.set(self.operand, self.exact("the value of a variable").of_variable(None))
 
     def store_reference(self):
         self.walk.mixed.add(self.reference().origin)
-        self.variables[self.operand] = REFERENCE
+        self.set(self.operand, REFERENCE)
 
     def load_element(self):
         self.exact("an index")
@@ -219,7 +237,13 @@ class Step:
         self.push(arithmetic.cast(self.integer(), arithmetic.BYTE if self.name == "i2b" else SHORT))
 
     def increment(self):
-        self.refuse("an int variable is counted up or down; the card does not have int")
+        """Of an int variable. javac makes them for a loop over an array, and these stay within the array's length."""
+        number, difference = self.operand
+        value = self.variables[number]
+        result = between(value.low + difference, value.high + difference) if value and value.is_exact else arithmetic.INEXACT
+        if not result.is_exact:
+            self.refuse("an int variable is counted beyond 16 bits, and the card does not have int")
+        self.set(number, result)
 
     def switch(self):
         self.exact("the value of a switch")

@@ -184,6 +184,17 @@ class Forms {
         bits[1] = a > 0;
         short[] row = (short[]) things[1];
         short sum = (short) (row[0] + row.length + things.length + (bits[1] ? 50 : 20));
+        for (short each : row) {
+            for (boolean bit : bits) {
+                sum += bit ? each : 1;
+            }
+        }
+        for (Object thing : things) {
+            if (thing == null) {
+                continue;
+            }
+            sum++;
+        }
         try {
             Shape[] shapes = new Square[1];
             Object[] any = shapes;
