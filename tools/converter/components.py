@@ -82,7 +82,7 @@ class Components:
     # Method
 
     def method_component(self):
-        bodies = [(key, translation, arguments) for *key, translation, arguments in self.bodies()]
+        bodies = [((name, *key), body, arguments) for name, key, body, arguments in self.package.bodies]
         contents = {id(body): body.lay_out(self.indices) for _, body, _ in bodies if body is not None}
         rows = {id(body): body.handler_rows() for _, body, _ in bodies if body is not None}
         count = sum(map(len, rows.values()))
@@ -90,7 +90,7 @@ class Components:
             raise Refusal(f"the package has more than {LARGEST_BYTE} exception handlers")
         at, handlers, methods = 1 + 8 * count, b"", b""
         for key, body, arguments in bodies:
-            self.methods[tuple(key)] = at
+            self.methods[key] = at
             header = self.method_header(body, arguments)
             start = at + len(header)
             methods += header
@@ -103,10 +103,6 @@ class Components:
         if at > LONGEST_METHODS:
             raise Refusal(f"the methods of the package take {at} bytes, and at most {LONGEST_METHODS} can be named")
         return bytes([count]) + handlers + methods
-
-    def bodies(self):
-        for name, key, translation, arguments in self.package.bodies:
-            yield (name, *key, translation, arguments)
 
     def method_header(self, body, arguments):
         if body is None:

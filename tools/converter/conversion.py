@@ -1,5 +1,6 @@
 """The way from class files to a package's CAP file and export file."""
 import os
+from dataclasses import replace
 
 from . import export_file
 from .cap_file import cap_file
@@ -10,7 +11,7 @@ from .library import APPLET
 from .package import INSTALL, Package
 from .platform import read_table
 from .refusal import Refusal, class_name
-from .style import SHORT, Style
+from .style import SHORT
 
 UNREGISTERED = b"\xF0"  # begins the AIDs that nobody has registered
 SHORTEST_AID, LONGEST_AID = 5, 16
@@ -25,8 +26,7 @@ class Converted:
             self.package = Package(request, files, packages, style)
             self.contents = Components(self.package, minor).contents
         except TooManyFields:
-            style = Style(False, style.short_locals, style.increments, style.tables, style.narrow_branches, style.short_headers)
-            self.package = Package(request, files, packages, style)
+            self.package = Package(request, files, packages, replace(style, this_forms=False))
             self.contents = Components(self.package, minor).contents
         self.request = request
         self.cap = cap_file(request.name, self.contents)

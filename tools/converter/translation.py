@@ -1,7 +1,7 @@
 """Makes the card's instructions of a method from those of its class file."""
 from . import code
 from .bytecode import BRANCHES, SWITCHES
-from .refusal import is_reference, types_of
+from .refusal import types_of
 from .walk import Walk
 
 PLAIN = {

@@ -3,7 +3,7 @@ from . import arithmetic
 from .arithmetic import BOOLEAN, REFERENCE, SHORT, between, value_of_type
 from .bytecode import ENDS, decode
 from .class_file import FLOAT, INTEGER, STRING, CLASS
-from .refusal import Refusal, class_name, fault_of_type, is_reference, type_name, types_of
+from .refusal import Refusal, class_name, fault_of_type, is_reference, types_of
 
 ELEMENTS = {4: "Z", 8: "B", 9: "S", 5: "C", 6: "F", 7: "D", 10: "I", 11: "J"}  # of newarray
 CONSTANTS = {STRING: "a string", CLASS: "a class literal", FLOAT: "a float"}

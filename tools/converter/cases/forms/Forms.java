@@ -46,7 +46,7 @@ class Forms {
             case 2:
                 return (short) (new Bound().twice() + bound(a));
             case 3:
-                return farBranch(a);
+                return (short) (farBranch(a) + compared(a));
             case 4:
                 return counting(a);
             case 5:
@@ -118,6 +118,20 @@ class Forms {
             sum = (short) (sum + (sum >> 3 & 0x0F0F));
         }
         return sum;
+    }
+
+    /** Intermediate values that stay within 16 bits, since a comparison says so. */
+    private short compared(short a) {
+        if (a > 0) {
+            return (short) ((a - 32767) / 2);
+        }
+        if (a == -1) {
+            return (short) ((a - 32767) / 3);
+        }
+        if (!(a >= 0)) {
+            return (short) ((a + 32767) / 5);
+        }
+        return (short) ((a + 32767) / 7);
     }
 
     private short counting(short a) {

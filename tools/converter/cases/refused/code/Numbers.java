@@ -75,6 +75,28 @@ class Numbers {
         return a < 100000; //! largeConstant: an operand of a comparison may leave 16 bits; cast the intermediate value to short or byte
     }
 
+    short comparedAsOtherwise(short x) {
+        if (x < 100) {
+            return (short) ((x - 32767) / 2); //! comparedAsOtherwise: a dividend may leave 16 bits; cast the intermediate value to short or byte
+        }
+        return 0;
+    }
+
+    short changedBehindTheComparison(short x) {
+        if (x > 0) {
+            x = a;
+            return (short) ((x - 32767) / 2); //! changedBehindTheComparison: a dividend may leave 16 bits; cast the intermediate value to short or byte
+        }
+        return 0;
+    }
+
+    short changedWithinTheComparison(short x) {
+        if (x > ((x = a) & 7)) {
+            return (short) ((x - 32767) / 2); //! changedWithinTheComparison: a dividend may leave 16 bits; cast the intermediate value to short or byte
+        }
+        return 0;
+    }
+
     short ofLong() {
         return (short) (a + 5000000000L); //! ofLong: type long, which the card does not have
     }
