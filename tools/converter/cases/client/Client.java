@@ -28,7 +28,7 @@ class Client {
         }
 
         public short count() {
-            return calls;
+            return (short) (calls + reached());
         }
 
         public short add(short amount) {

@@ -150,6 +150,8 @@ class Forms {
         y += 100;
         short before = x++;
         short behind = ++x;
+        behind = (short) ((a > 3 ? x : behind) + 1);
+        before = (short) ((a > 3 ? before : x) - 1);
         return (short) (before * 7 + behind * 3 + x + y--);
     }
 

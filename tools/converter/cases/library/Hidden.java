@@ -5,4 +5,8 @@ abstract class Hidden {
     public short hidden() {
         return 1000;
     }
+
+    protected short reached() {
+        return 2000;
+    }
 }

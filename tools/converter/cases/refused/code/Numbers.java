@@ -39,6 +39,10 @@ class Numbers {
         return (short) ((a + b) >> 1); //! shifted: the value of a right shift may leave 16 bits; cast the intermediate value to short or byte
     }
 
+    short masked() {
+        return (short) (((a + b) & a) / 2); //! masked: a dividend may leave 16 bits; cast the intermediate value to short or byte
+    }
+
     byte index() {
         return bytes[a + b]; //! index: an index may leave 16 bits; cast the intermediate value to short or byte
     }
