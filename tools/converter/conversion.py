@@ -63,16 +63,24 @@ def read_packages(table, exports):
     return export_file.link(export_file.read_exports(exports), read_table(table))
 
 
-def is_applet(file, files):
+def superclasses(packages, imported):
+    """The superclass of each class of some packages of class files, and of those that are imported."""
+    found = {name: info.superclass for package in imported for name, info in package.classes.items()}
+    found.update((name, file.superclass) for files in packages.values() for name, file in files.items())
+    return found
+
+
+def is_applet(file, above):
     """Whether a class can be installed."""
     name = file.name
-    while name in files:
-        name = files[name].superclass
+    while name not in (APPLET, None):
+        name = above.get(name)
     return name == APPLET and not file.flags & (ABSTRACT | INTERFACE) and file.method(INSTALL) is not None
 
 
-def applets_of(files):
-    return [name for name in sorted(files) if is_applet(files[name], files)]
+def applets_of(files, above):
+    """The names of the applets among classes; `above` tells the superclass of each class."""
+    return [name for name in sorted(files) if is_applet(files[name], above)]
 
 
 def default_aid(package_name):

@@ -1,26 +1,16 @@
 package client;
 
-import javacard.framework.APDU;
-import javacard.framework.Applet;
-import javacard.framework.ISO7816;
-import javacard.framework.Util;
+import library.Base;
 
-/** Asks on a card: the command's instruction is the number of a test, its data are a short. */
-public class Subject extends Applet {
+/** Asks on a card. */
+public class Subject extends Base {
     private final Client core = new Client();
 
     public static void install(byte[] bArray, short bOffset, byte bLength) {
         new Subject().register();
     }
 
-    public void process(APDU apdu) {
-        if (selectingApplet()) {
-            return;
-        }
-        byte[] buffer = apdu.getBuffer();
-        apdu.setIncomingAndReceive();
-        short result = core.run(buffer[ISO7816.OFFSET_INS], Util.getShort(buffer, ISO7816.OFFSET_CDATA));
-        Util.setShort(buffer, (short) 0, result);
-        apdu.setOutgoingAndSend((short) 0, (short) 2);
+    protected short answer(byte which, short a) {
+        return core.run(which, a);
     }
 }
