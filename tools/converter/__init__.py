@@ -1,4 +1,4 @@
-"""The parts of tools/convert, tools/applet and tools/export2table.
+"""The parts of tools/convert, tools/applet and tools/exp2table.
 
 class_file reads class files, and bytecode the instructions of a method. walk follows the values through a method, and arithmetic
 tells what becomes of an int. translation makes the card's instructions, in forms that style chooses, and code lays them out.
