@@ -1,0 +1,5 @@
+package vault;
+
+/** An exception of an applet's own. */
+public class Alarm extends RuntimeException {
+}

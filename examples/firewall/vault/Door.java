@@ -1,0 +1,6 @@
+package vault;
+
+/** An interface that is not shareable. */
+public interface Door {
+    short knock();
+}

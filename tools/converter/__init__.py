@@ -1,0 +1,11 @@
+"""The parts of tools/convert, tools/applet and tools/exp2table.
+
+class_file reads class files, and bytecode the instructions of a method. walk follows the values through a method, and arithmetic
+tells what becomes of an int. translation makes the card's instructions, in forms that style chooses, and code lays them out.
+
+library tells what is known of packages and classes; platform reads those of a platform table, export_file those of export files,
+and writes such a file. package gives tokens to the classes of one package and finds what its code names, statics makes its static
+fields, components its components, cap_file the archive. conversion is the whole way from class files, and compiling is javac's part.
+
+refusal says why something is refused, words reads words of a command line. stubs are Java sources of the API. random_java and the
+Java sources in cases are for tools/convert_test."""

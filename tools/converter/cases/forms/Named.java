@@ -1,0 +1,5 @@
+package forms;
+
+interface Named extends Sized {
+    byte name();
+}

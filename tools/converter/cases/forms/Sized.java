@@ -1,0 +1,7 @@
+package forms;
+
+interface Sized {
+    short UNIT = 10;
+
+    short size();
+}

@@ -1,0 +1,5 @@
+package library;
+
+public interface Countable {
+    short count();
+}

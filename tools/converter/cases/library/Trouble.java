@@ -1,0 +1,9 @@
+package library;
+
+public class Trouble extends RuntimeException {
+    public final short reason;
+
+    public Trouble(short reason) {
+        this.reason = reason;
+    }
+}

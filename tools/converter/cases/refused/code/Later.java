@@ -1,0 +1,20 @@
+package refused.code;
+
+import javacard.framework.JCSystem;
+import javacard.framework.Later;
+import javacard.framework.Util;
+
+/** Compiled with an API of a later release. */
+class Uses {
+    void method() {
+        Util.arrayFill(null, (short) 0, (short) 1, (byte) 2); //! method: javacard.framework.Util.arrayFill(byte[], short, short, byte) is not on the card
+    }
+
+    void object() {
+        new Later(); //! object: class javacard.framework.Later is neither on the card nor in an export file
+    }
+
+    void field() {
+        JCSystem.number = 1; //! field: javacard.framework.JCSystem.number is not there
+    }
+}

@@ -1,0 +1,125 @@
+"""The way from class files to a package's CAP file and export file."""
+import os
+from dataclasses import replace
+
+from . import export_file
+from .cap_file import cap_file
+from .class_file import ABSTRACT, CLASS, INTERFACE, read_class
+from .code import TooManyFields
+from .components import Components
+from .library import APPLET
+from .package import INSTALL, Package
+from .platform import read_table
+from .refusal import Refusal, class_name
+from .style import SHORT
+
+UNREGISTERED = b"\xF0"  # begins the AIDs that nobody has registered
+SHORTEST_AID, LONGEST_AID = 5, 16
+OF_OTHERS = ("java/", "javacard/", "javacardx/")
+
+
+class Converted:
+    """What becomes of a package."""
+
+    def __init__(self, request, files, packages, style=SHORT, minor=1):
+        try:
+            self.package = Package(request, files, packages, style)
+            self.contents = Components(self.package, minor).contents
+        except TooManyFields:
+            self.package = Package(request, files, packages, replace(style, this_forms=False))
+            self.contents = Components(self.package, minor).contents
+        self.request = request
+        self.cap = cap_file(request.name, self.contents)
+
+    def export(self):
+        """The export file, or None where other packages can name nothing."""
+        return export_file.Writer(self.package).content if self.package.exports else None
+
+
+def read_classes(folder):
+    """The class files of a folder and those below it: their packages, and in each the classes by their names."""
+    packages = {}
+    if not os.path.isdir(folder):
+        raise Refusal(f"{folder} is no folder")
+    for place, folders, names in os.walk(folder):
+        folders.sort()
+        for name in sorted(names):
+            if name.endswith(".class"):
+                path = os.path.join(place, name)
+                with open(path, "rb") as file:
+                    found = read_class(file.read(), path)
+                if name != "package-info.class" and not found.name.startswith(OF_OTHERS):
+                    packages.setdefault(found.package, {})[found.name] = found
+    if not packages:
+        raise Refusal(f"{folder} has no class files")
+    if "" in packages:
+        file = next(iter(packages[""].values()))
+        raise Refusal(f"{file.place()}: a class of no package; a card has packages with names")
+    return packages
+
+
+def read_packages(table, exports):
+    """The packages that can be imported: the platform's by a table, and those of export files, which go before it."""
+    return export_file.link(export_file.read_exports(exports), read_table(table))
+
+
+def superclasses(packages, imported):
+    """The superclass of each class of some packages of class files, and of those that are imported."""
+    found = {name: info.superclass for package in imported for name, info in package.classes.items()}
+    found.update((name, file.superclass) for files in packages.values() for name, file in files.items())
+    return found
+
+
+def is_applet(file, above):
+    """Whether a class can be installed."""
+    name = file.name
+    while name not in (APPLET, None):
+        name = above.get(name)
+    return name == APPLET and not file.flags & (ABSTRACT | INTERFACE) and file.method(INSTALL) is not None
+
+
+def applets_of(files, above):
+    """The names of the applets among classes; `above` tells the superclass of each class."""
+    return [name for name in sorted(files) if is_applet(files[name], above)]
+
+
+def default_aid(package_name):
+    """The AID that a package has where none is given: F0, and the last part of its name in ASCII, with bytes 00 up to five."""
+    name = package_name.rpartition("/")[2].encode("ascii", "replace")[:LONGEST_AID - 2]
+    return (UNREGISTERED + name).ljust(SHORTEST_AID, b"\0")
+
+
+def applet_aids(package_aid, names):
+    """The AIDs that the applets of a package have where none are given: the package's with a byte behind it, from 01 on."""
+    if len(package_aid) == LONGEST_AID and names:
+        raise Refusal(f"the package's AID has {LONGEST_AID} bytes, so those of its applets have to be given: --applet CLASS=AID")
+    return [(package_aid + bytes([number]), name) for number, name in enumerate(names, 1)]
+
+
+def dependencies(files):
+    """The packages that the classes of a package name."""
+    found = set()
+    for file in files.values():
+        for entry in file.constants.entries:
+            if entry and entry[0] == CLASS:
+                name = file.constants.value(entry[1])
+                name = name.lstrip("[").removeprefix("L").removesuffix(";") if name[0] == "[" else name
+                found.add(name.rpartition("/")[0])
+    return found
+
+
+def in_order(packages):
+    """The names of packages, each behind those that it needs."""
+    found = []
+
+    def add(name, path):
+        if name in path:
+            raise Refusal("these packages need each other: " + ", ".join(map(class_name, path[path.index(name):])))
+        if name in packages and name not in found:
+            for other in sorted(dependencies(packages[name]) - {name}):
+                add(other, path + [name])
+            found.append(name)
+
+    for name in sorted(packages):
+        add(name, [])
+    return found

@@ -1,0 +1,78 @@
+"""What is refused, and how types and methods are called in Java."""
+
+PRIMITIVE = {"B": "byte", "S": "short", "Z": "boolean", "V": "void", "I": "int", "J": "long", "F": "float", "D": "double", "C": "char"}
+CARD_TYPES = ("B", "S", "Z")
+
+
+class Refusal(Exception):
+    """Why something is not converted, a line for each reason."""
+
+    def __init__(self, *reasons):
+        super().__init__("\n".join(reasons))
+        self.reasons = list(reasons)
+
+
+class Reasons:
+    """Gathers refusals, so that all of a package are told at once."""
+
+    def __init__(self):
+        self.reasons = []
+
+    def __enter__(self):
+        return self
+
+    def __exit__(self, kind, error, trace):
+        if kind is not None and issubclass(kind, Refusal):
+            self.reasons += [reason for reason in error.reasons if reason not in self.reasons]
+            return True
+        return False
+
+    def end(self):
+        if self.reasons:
+            raise Refusal(*self.reasons)
+
+
+def class_name(name):
+    return name.replace("/", ".")
+
+
+def type_name(descriptor):
+    """A type as Java writes it."""
+    dimensions = len(descriptor) - len(descriptor.lstrip("["))
+    element = descriptor[dimensions:]
+    name = class_name(element[1:-1]) if element[0] == "L" else PRIMITIVE[element]
+    return name + "[]" * dimensions
+
+
+def types_of(descriptor):
+    """The types of a method's parameters, and its result."""
+    parameters, at = [], 1
+    while descriptor[at] != ")":
+        end = at
+        while descriptor[end] == "[":
+            end += 1
+        end = descriptor.index(";", end) + 1 if descriptor[end] == "L" else end + 1
+        parameters.append(descriptor[at:end])
+        at = end
+    return parameters, descriptor[at + 1:]
+
+
+def is_reference(descriptor):
+    return descriptor[0] in "L["
+
+
+def method_name(owner, name, descriptor):
+    """A method as Java names it, with its parameters."""
+    parameters = ", ".join(map(type_name, types_of(descriptor)[0]))
+    called = class_name(owner) if name == "<init>" else f"{class_name(owner)}.{name}"
+    return f"{called}({parameters})"
+
+
+def fault_of_type(descriptor):
+    """Why a card cannot have the type; None where it can."""
+    element = descriptor.lstrip("[")
+    if len(descriptor) - len(element) > 1:
+        return f"type {type_name(descriptor)}, an array of arrays"
+    if element[0] == "L" or element in CARD_TYPES or descriptor == "V":
+        return None
+    return f"type {type_name(descriptor)}"
