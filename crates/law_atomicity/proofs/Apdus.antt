@@ -11,7 +11,7 @@ use Rattle.jc_platform.specs.declared.names.PlatformMethod.TheVariants.{ApduSetO
 use Rattle.jc_world.specs.NativeCalls.{NativeProgram}
 use Rattle.jc_world.specs.Objects.{short_argument}
 use Rattle.jc_api_data.specs.ApduBuffer.{buffer_of, data_of}
-use Rattle.jc_api_data.specs.Apdu.{then_call, apdu_call, apdu_set_outgoing_and_send, apdu_get_buffer, apdu_send_bytes, send_in_phase, length_of}
+use Rattle.jc_api_data.specs.Apdu.{then_call, apdu_call, apdu_set_outgoing_and_send, apdu_send_bytes, send_in_phase, length_of}
 use Rattle.jc_api_data.specs.Apdu.{apdu_set_outgoing_length, set_length_in_phase, apdu_set_outgoing, set_outgoing_in_phase, phase_of, piece_of}
 use Rattle.jc_api_data.specs.Apdu.{apdu_set_incoming_and_receive, receive_in_phase, apdu_receive_bytes}
 use Rattle.law_atomicity.proofs.Plain.{AllPlain, plain_bind, plain_sets_run}

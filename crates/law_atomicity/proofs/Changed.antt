@@ -1,8 +1,8 @@
 -- PINs that the open transaction changes.
-use Rattle.std.proofs.Common.{◌≡◌, ℕ, suc, arith, Contains, Bool, true, false, List, [], ◌∷◌, ◌++◌, length, map, refl, sym, subst, ap, ◌∙◌, inl, inr, if◌then◌else◌}
+use Rattle.std.proofs.Common.{◌≡◌, ℕ, suc, arith, Contains, Bool, true, false, List, [], ◌∷◌, ◌++◌, length, map, refl, sym, subst, ap, ◌∙◌, if◌then◌else◌}
 use Rattle.std.proofs.Common.{Option, Some, None, Result, Ok, Err}
 use Rattle.std.specs.Prelude.{nat_lt, not}
-use Rattle.std.proofs.lemmas.Bool.{false≢true, eq-eqb, cases_eq}
+use Rattle.std.proofs.lemmas.Bool.{false≢true}
 use Rattle.jc_heap.specs.declared.place.Place.{Place}
 use Rattle.jc_heap.specs.declared.place.Place.TheVariants.{Cell}
 use Rattle.jc_heap.specs.declared.refusal.HeapRefusal.{HeapRefusal}

@@ -1,5 +1,5 @@
 -- Calls of OwnerPIN set for good nothing but the counter of its tries.
-use Rattle.std.proofs.Common.{◌≡◌, true, false, refl, subst, sym, if◌then◌else◌}
+use Rattle.std.proofs.Common.{◌≡◌, true, false, refl, subst, if◌then◌else◌}
 use Rattle.std.specs.Prelude.{ℕ, ◌==◌, Bool, List, Option, Some, None, Result, Ok, Err}
 use Rattle.std.specs.Option.{option_and_then}
 use Rattle.jc_frames.specs.declared.cell.Cell.{Cell}

@@ -30,7 +30,7 @@ use Rattle.jc_frames.specs.declared.cell.Cell.TheVariants.{Reference}
 use Rattle.jc_world.specs.Instructions.{continue_with}
 use Rattle.jc_world.specs.Values.{with_top}
 use Rattle.law_atomicity.proofs.Plain.{AllPlain, plain_if, plain_sets, plain_makes_new}
-use Rattle.law_atomicity.proofs.Checks.{plain_some, plain_ok, plain_stopped, plain_unless}
+use Rattle.law_atomicity.proofs.Checks.{plain_some, plain_ok, plain_unless}
 
 new_plain : (o : NewObject) (s : Frames) (m : MemoryState) → AllPlain (new_on_top o s m)
 unfolding new_on_top

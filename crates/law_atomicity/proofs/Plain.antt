@@ -1,16 +1,15 @@
 -- What is done by effects that are orderly in every memory.
 use Rattle.std.proofs.Common.{◌≡◌, refl}
 use Rattle.std.specs.Prelude.{ℕ, true, false, Bool, List, if◌then◌else◌, Option, Some, None}
-use Rattle.jc_heap.specs.declared.refusal.HeapRefusal.{HeapRefusal}
 use Rattle.jc_transient.specs.declared.cell.ClearEvent.{ClearEvent}
 use Rattle.jc_transient.specs.declared.cell.CellValue.{CellValue}
 use Rattle.jc_heap.specs.Heap.{facts}
 use Rattle.jc_memory.specs.declared.making.NewObject.{NewObject}
-use Rattle.jc_memory.specs.State.{MemoryState, Effect, HeapMove, SetTransient, SetFlag, ClearTransient, SetRegisters, BeginCommand, SendBytes}
+use Rattle.jc_memory.specs.State.{MemoryState, Effect, HeapMove}
 use Rattle.jc_memory.specs.State.{apply_effect}
 use Rattle.jc_heap.specs.Moves.{Write, SetPlaces, WriteNonAtomic, SetCells, AddObject, AddTransient, AddPackage, Begin, Commit, Abort}
 use Rattle.jc_memory.specs.Programs.{Program, Finish, Perform, Choose, Either, bind}
-use Rattle.jc_memory.specs.Reading.{AllDue, AllResults}
+use Rattle.jc_memory.specs.Reading.{AllDue}
 use Rattle.jc_memory.specs.Cells.{cell_effect, cell_effect_in, cells_effect, cells_effect_in}
 use Rattle.jc_memory.specs.Making.{object_creation, creation_move}
 use Rattle.jc_memory.proofs.ProgramLemmas.{due_bind, each_always}

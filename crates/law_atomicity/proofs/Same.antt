@@ -12,7 +12,7 @@ use Rattle.jc_memory.specs.State.{MemoryState, Effect, HeapMove, SetTransient, S
 use Rattle.jc_memory.specs.State.{apply_effect}
 use Rattle.jc_pin.specs.Pins.{counter}
 use Rattle.law_atomicity.specs.Tears.{SavedHeapAfter}
-use Rattle.law_atomicity.specs.Same.{TriesWereCounted, IsSameButTries, SameButTries}
+use Rattle.law_atomicity.specs.Same.{IsSameButTries, SameButTries}
 
 -- ---- a cell is set twice
 

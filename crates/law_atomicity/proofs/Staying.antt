@@ -10,7 +10,7 @@ use Rattle.jc_heap.specs.Heap.{HeapState, add_object, add_transient, heap_item_a
 use Rattle.jc_heap.specs.Moves.{Write, SetPlaces, WriteNonAtomic, SetCells, AddObject, AddTransient, AddPackage, Begin, Commit, Abort}
 use Rattle.jc_heap.specs.Places.{set_place, set_places}
 use Rattle.jc_heap.proofs.Laws.{heap_item_at-add_other, heap_item_at-set_cell, object_named}
-use Rattle.jc_memory.specs.State.{MemoryState, Effect, HeapMove, SetTransient, SetFlag, ClearTransient, SetRegisters, BeginCommand, SendBytes}
+use Rattle.jc_memory.specs.State.{MemoryState, Effect, HeapMove}
 use Rattle.jc_memory.specs.State.{apply_effect, apply_effects}
 use Rattle.jc_memory.specs.Reading.{AllEffectsDue}
 use Rattle.law_isolation.proofs.OnHeap.{StandsBeside, cells_set, count_set, not_top, place_set, registry_set, transient_added}

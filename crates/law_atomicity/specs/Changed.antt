@@ -1,5 +1,5 @@
 -- PINs that the open transaction changes.
-use Rattle.std.specs.Prelude.{ℕ, ◌≡◌, true, List, Result, Ok}
+use Rattle.std.specs.Prelude.{ℕ, ◌≡◌, true, List, Ok}
 use Rattle.jc_heap.specs.Heap.{HeapState, goes_back, heap_item_at}
 use Rattle.jc_heap.specs.Places.{place_word}
 use Rattle.jc_heap.specs.Moves.{IsInside}

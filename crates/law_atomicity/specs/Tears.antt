@@ -1,7 +1,6 @@
 -- What a loss of power, or an abort, leaves.
-use Rattle.std.specs.Prelude.{ℕ, ◌≡◌, ◌⊎◌, ◌++◌, true, false, List, [], ◌∷◌, slice_index, if◌then◌else◌}
-use Rattle.jc_heap.specs.Object.{header_only}
-use Rattle.jc_heap.specs.Heap.{HeapState, cells, goes_back, heap_item_at, is_allocated}
+use Rattle.std.specs.Prelude.{◌≡◌, ◌⊎◌, ◌++◌, true, false, List, [], ◌∷◌, if◌then◌else◌}
+use Rattle.jc_heap.specs.Heap.{HeapState, goes_back}
 use Rattle.jc_heap.specs.Places.{place_word, set_place}
 use Rattle.jc_heap.specs.Moves.{WriteNonAtomic, Begin, Abort, IsInside}
 use Rattle.jc_memory.specs.State.{MemoryState, Effect, HeapMove, apply_effect, apply_effects, moves_of}

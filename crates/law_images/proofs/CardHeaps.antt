@@ -1,6 +1,6 @@
 -- The heap that a loss of power leaves of a card.
-use Rattle.std.proofs.Common.{◌≡◌, ℕ, ◌<◌, ◌≤◌, ◌⊎◌, inl, inr, length, get_or, refl, sym, ◌∙◌, ap, subst, arith}
-use Rattle.jc_heap.specs.Heap.{HeapState, facts, heap_item_at}
+use Rattle.std.proofs.Common.{◌≡◌, ℕ, length, get_or, sym, ◌∙◌, ap, subst, arith}
+use Rattle.jc_heap.specs.Heap.{HeapState, heap_item_at}
 use Rattle.jc_heap.proofs.Laws.{same_facts}
 use Rattle.jc_memory.specs.State.{MemoryState, Effect, HeapMove, SetTransient, SetFlag, ClearTransient, SetRegisters, BeginCommand, SendBytes}
 use Rattle.jc_memory.specs.State.{apply_effect}

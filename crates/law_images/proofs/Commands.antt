@@ -1,27 +1,22 @@
 -- Commands leave a card as it should be.
-use Rattle.std.proofs.Common.{◌≡◌, ℕ, ◌+◌, ◌<◌, ◌≤◌, ◌⊎◌, ◌&&◌, ◌==◌, nat_lt, nat_le, Bool, true, false, inl, inr, List, [], ◌∷◌, ◌++◌, length, find, Option}
-use Rattle.std.proofs.Common.{Some, None, refl, sym, ◌∙◌, ap, subst, arith, if◌then◌else◌}
-use Rattle.std.specs.Prelude.{IfSome, min, is_some, Err}
+use Rattle.std.proofs.Common.{◌≡◌, ℕ, ◌≤◌, nat_lt, Bool, true, false, List, [], ◌∷◌, Option}
+use Rattle.std.proofs.Common.{Some, None, refl, sym, ap, subst, arith, if◌then◌else◌}
+use Rattle.std.specs.Prelude.{IfSome, Err}
 use Rattle.std.specs.Option.{option_map}
-use Rattle.std.specs.List.{range_with_len}
 use Rattle.std.specs.Str.{bytes_eq}
 use Rattle.std.proofs.lemmas.Bool.{and_from, le-leb, lt-ltb}
 use Rattle.std.proofs.lemmas.Option.{none-some, same_Some}
-use Rattle.jc_words.specs.Layout.{most_applets}
 use Rattle.jc_heap.specs.Heap.{HeapState}
-use Rattle.jc_frames.specs.declared.outcome.Outcome.{Outcome}
 use Rattle.jc_memory.specs.declared.registers.AppletNumber.{AppletNumber}
 use Rattle.jc_memory.specs.State.{MemoryState, BeginCommand, apply_effect}
-use Rattle.jc_memory.specs.Programs.{Program, Finish, Either, Completes, TearLeaves, bind}
-use Rattle.jc_memory.specs.Reading.{AllDue, AllResults}
+use Rattle.jc_memory.specs.Programs.{Program, Finish, Completes, TearLeaves}
 use Rattle.jc_memory.proofs.ProgramLemmas.{due_keeps, due_left, each_did, size_did}
 use Rattle.jc_linker.specs.Values.{Packages}
 use Rattle.jc_platform.specs.Tokens.{Tokens}
 use Rattle.jc_registry.specs.Registry.{applet_count, applet_with_aid, first_with_aid}
 use Rattle.jc_card_load.specs.declared.load.OpenLoad.{OpenLoad}
 use Rattle.jc_card_load.specs.declared.load_refusal.LoadRefusal.TheVariants.{OutOfSequence}
-use Rattle.jc_card_load.specs.Loading.{CommandResult, empty_load, component_begin, component_end, component_append, no_memory}
-use Rattle.jc_dispatch.specs.declared.applet_result.AppletResult.{AppletResult}
+use Rattle.jc_card_load.specs.Loading.{CommandResult, component_append, no_memory}
 use Rattle.jc_dispatch.specs.declared.applet_result.AppletResult.TheVariants.{NotSelected}
 use Rattle.jc_dispatch.specs.Creating.{applet_creation}
 use Rattle.jc_dispatch.specs.AdHocCode.{ad_hoc_run}
@@ -30,7 +25,7 @@ use Rattle.jc_card.specs.Apdu.{Apdu}
 use Rattle.jc_card.specs.CardState.{CardState}
 use Rattle.jc_card.specs.Dispatching.{with_response, create_applet, dispatch, expected_by, is_select, manager_aid, most_instructions, route, to_named}
 use Rattle.jc_card.specs.Dispatching.{to_selected}
-use Rattle.jc_card.specs.Loads.{LoadResponse, begin_component, end_component, append_component, begin_load, load_command, on_load}
+use Rattle.jc_card.specs.Loads.{LoadResponse, append_component, load_command, on_load}
 use Rattle.law_images.specs.Loaded.{AreBytes}
 use Rattle.law_images.specs.ReadingLoads.{IsOpenReadable}
 use Rattle.law_images.proofs.OpenLoads.{are_readable}
@@ -40,7 +35,6 @@ use Rattle.law_soundness.specs.Commands.{CommandsAreSound, IsReady, IsServed, Le
 use Rattle.law_soundness.proofs.Commands.{in_range}
 use Rattle.law_soundness.proofs.Phases.{Good, good_bind, good_gives, good_more, good_then}
 use Rattle.law_soundness.proofs.Serving.{serving_keeps}
-use Rattle.law_images.specs.Heaps.{IsOwnHeap}
 use Rattle.law_images.specs.NewImages.{EffectsKeepBeginnings, KeepsBeginning}
 use Rattle.law_images.specs.Cards.{IsOwnCard}
 use Rattle.law_images.proofs.CardHeaps.{IsLeft, IsOwnMemory, left_own, still_own}

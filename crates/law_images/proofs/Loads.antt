@@ -1,5 +1,5 @@
 -- The end of a load leaves a card as it should be.
-use Rattle.std.proofs.Common.{◌≡◌, ℕ, ◌<◌, ◌≤◌, ◌⊎◌, ◌++◌, nat_le, Bool, true, false, inl, inr, List, [], ◌∷◌, length, Option, Some, None, refl, sym, ◌∙◌, ap}
+use Rattle.std.proofs.Common.{◌≡◌, ℕ, ◌<◌, ◌++◌, nat_le, Bool, true, false, inl, inr, [], ◌∷◌, length, Option, Some, None, refl, sym, ap}
 use Rattle.std.proofs.Common.{subst, arith, if◌then◌else◌}
 use Rattle.std.specs.Prelude.{IfSome, Result, Ok, Err, is_none}
 use Rattle.std.proofs.lemmas.Bool.{leb-false}
@@ -7,10 +7,9 @@ use Rattle.jc_cap.specs.declared.texts.LoadedComponents.{LoadedComponents}
 use Rattle.jc_heap.specs.declared.refusal.HeapRefusal.{HeapRefusal}
 use Rattle.jc_heap.specs.Heap.{HeapState}
 use Rattle.jc_heap.specs.Moves.{AddPackage, refusal_of_package}
-use Rattle.jc_heap.specs.Completions.{Attempt, Done, Refused}
+use Rattle.jc_heap.specs.Completions.{Done, Refused}
 use Rattle.jc_memory.specs.State.{MemoryState, HeapMove, apply_effect}
 use Rattle.jc_memory.specs.Programs.{Program, Finish, Perform, Choose, Completes, TearLeaves, bind, unless_refused}
-use Rattle.jc_memory.specs.Changing.{package_addition}
 use Rattle.jc_memory.proofs.ProgramLemmas.{did_bind, left_bind, size_did}
 use Rattle.jc_linker.specs.Values.{Packages}
 use Rattle.jc_platform.specs.Tokens.{Tokens}
@@ -23,7 +22,7 @@ use Rattle.jc_card_load.specs.declared.package_refusal.PackageRefusal.TheVariant
 use Rattle.jc_card_load.specs.declared.load.OpenLoad.{OpenLoad}
 use Rattle.jc_card_load.specs.declared.load_refusal.LoadRefusal.{LoadRefusal}
 use Rattle.jc_card_load.specs.declared.load_refusal.LoadRefusal.TheVariants.{HeapFull, Refused, OutOfSequence}
-use Rattle.jc_card_load.specs.Ending.{LoadResult, package_entry, assembly_result, with_dropped_load, after_addition, after_preparation, end_of_load}
+use Rattle.jc_card_load.specs.Ending.{LoadResult, assembly_result, with_dropped_load, after_addition, after_preparation, end_of_load}
 use Rattle.jc_card.specs.CardState.{CardState}
 use Rattle.jc_card.specs.Loads.{LoadResponse, answer_of_left, end_load}
 use Rattle.law_images.specs.Loaded.{AreBytes, IsReadable}
@@ -32,7 +31,6 @@ use Rattle.law_images.proofs.Ends.{ends_keep}
 use Rattle.law_images.proofs.OneMore.{growth_keeps_read}
 use Rattle.law_soundness.specs.State.{is_open}
 use Rattle.law_images.specs.Loads.{IsSoundForLoads, LoadsKeepSound, load_move}
-use Rattle.law_images.specs.Heaps.{IsOwnHeap}
 use Rattle.law_images.specs.NewImages.{EffectsKeepBeginnings, KeepsBeginning}
 use Rattle.law_images.specs.Cards.{AreLinkedWell, IsOwnCard}
 use Rattle.law_images.proofs.Commands.{own_memory}

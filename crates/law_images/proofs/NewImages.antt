@@ -1,5 +1,5 @@
 -- The heap of a new image fits its packages.
-use Rattle.std.proofs.Common.{◌≡◌, ℕ, zero, suc, ◌<◌, ◌≤◌, ◌&&◌, ◌==◌, not, Bool, true, false, inl, inr, List, [], ◌∷◌, ◌++◌, length, Option, Some, None, Ok}
+use Rattle.std.proofs.Common.{◌≡◌, ℕ, suc, ◌<◌, ◌≤◌, ◌&&◌, ◌==◌, not, Bool, true, false, inl, inr, List, [], ◌∷◌, ◌++◌, length, Option, Some, None, Ok}
 use Rattle.std.proofs.Common.{refl, sym, ◌∙◌, ap, subst, arith, if◌then◌else◌}
 use Rattle.std.specs.Prelude.{unwrap_or}
 use Rattle.std.proofs.lemmas.Bool.{cases_lt, false≢true}
@@ -11,7 +11,7 @@ use Rattle.jc_heap.specs.Object.{AnObject, APackage, Item, facts_of, is_object, 
 use Rattle.jc_heap.specs.Table.{entry_or}
 use Rattle.jc_heap.specs.Heap.{HeapState, add_object, add_transient, area_end, heap_item_at, is_allocated, next_object}
 use Rattle.jc_heap.specs.Keeping.{IsConsistentHeap}
-use Rattle.jc_image.specs.Laying.{unsealed_heap, sealed_heap}
+use Rattle.jc_image.specs.Laying.{unsealed_heap}
 use Rattle.jc_platform.specs.declared.names.PlatformClass.{PlatformClass}
 use Rattle.jc_platform.specs.Hierarchy.{is_interface}
 use Rattle.jc_platform.specs.Table.{Reads}

@@ -1,16 +1,14 @@
 -- A command leaves a heap at rest.
-use Rattle.std.proofs.Common.{◌≡◌, true, false, List, ℕ, [], ◌∷◌, ◌++◌, refl, sym, ap, ◌∙◌, subst}
+use Rattle.std.proofs.Common.{◌≡◌, false, List, ℕ, [], ◌∷◌, ◌++◌, refl, sym, ap, ◌∙◌, subst}
 use Rattle.std.proofs.lemmas.Bool.{true≢false}
 use Rattle.jc_commit.proofs.WhatIsKept.{keeps_old_values}
 use Rattle.jc_heap.specs.Heap.{HeapView, heap_at_rest, keeping, unlogged_places}
 use Rattle.jc_heap.specs.Moves.{Write, SetPlaces, WriteNonAtomic, SetCells, AddObject, AddTransient, AddPackage, Begin, Commit, Abort}
 use Rattle.jc_memory.specs.State.{MemoryState, Effect, HeapMove, SetTransient, SetFlag, ClearTransient, SetRegisters, BeginCommand, SendBytes}
 use Rattle.jc_memory.specs.State.{apply_effect, apply_effects}
-use Rattle.jc_memory.specs.Programs.{Completes}
 use Rattle.jc_memory.proofs.ProgramLemmas.{down_did, each_did, took}
 use Rattle.jc_card.specs.Answers.{exchange}
 use Rattle.jc_card.specs.CardState.{CardState}
-use Rattle.jc_card.specs.Loads.{LoadResponse}
 use Rattle.jc_session.specs.Power.{KeptState}
 use Rattle.jc_session.specs.Starting.{IsPoweredUp}
 use Rattle.law_atomicity.specs.Tears.{IsDurableOutside}

@@ -1,13 +1,13 @@
 -- Lines of a script as events of a session.
 use Rattle.std.proofs.Common.{◌≡◌, ◌<◌, ◌≤◌, inl, inr, ℕ, List, [], ◌∷◌, ◌++◌, refl, sym, ◌∙◌, ap, subst, length, arith}
-use Rattle.std.specs.Prelude.{◌⊎◌, Bool, false, Result, Ok, Err}
+use Rattle.std.specs.Prelude.{false, Ok, Err}
 use Rattle.std.proofs.lemmas.List.{append_assoc, append-nil}
 use Rattle.std.specs.Str.Lines.{lines}
 use Rattle.jc_words.specs.Count.{saturating_count}
 use Rattle.jc_words.specs.Refusals.{with_fuse_at}
 use Rattle.jc_words.specs.Stores.{FuseStoreValue}
 use Rattle.jc_commit.specs.Image.{IsGoodLog, recovered_of}
-use Rattle.jc_heap.specs.Heap.{HeapState, HeapView, heap_at_rest}
+use Rattle.jc_heap.specs.Heap.{HeapView, heap_at_rest}
 use Rattle.jc_memory.specs.State.{MemoryState}
 use Rattle.jc_heap.specs.Completions.{Completion, Completed, Torn}
 use Rattle.jc_card.specs.CardState.{CardState}
@@ -26,17 +26,16 @@ use Rattle.jc_session.proofs.Laid.{if_laid}
 use Rattle.jc_session.proofs.Resets.{fails_to_reset}
 use Rattle.jc_session.proofs.Refusals.{command_grows, is_same, reset_grows}
 use Rattle.jc_session.proofs.WholeSessions.{command_whole, reset_whole, start_count, started_up}
-use Rattle.jcard_script.specs.declared.script.ScriptFault.{ScriptFault}
 use Rattle.jcard_script.specs.declared.script.ScriptFault.TheVariants.{ReadFailed, WriteFailed, BadLine, TooLong, PowerFault}
 use Rattle.jcard_script.specs.ScriptStates.{ScriptState, Up as UpIn, Down as DownIn, Exchanges, FailsReset, IsStoreOf as IsStoreOfHeap, IsSessionStore}
 use Rattle.jcard_script.specs.ScriptStates.{PowersUp, with_fuse}
-use Rattle.jcard_script.specs.Script.{AreCarriedOut, Ends, Form, Skipped, Command, Resets, ArmsFuse, Bad, IsAnswered, IsToldOf, IsWrittenFor, armed_text}
+use Rattle.jcard_script.specs.Script.{AreCarriedOut, Form, Skipped, Command, Resets, ArmsFuse, Bad, IsAnswered, IsToldOf, IsWrittenFor}
 use Rattle.jcard_script.specs.Script.{form_of, lines_so_far, power_text}
 use Rattle.jcard_script.specs.Texts.{IsCutOf}
 use Rattle.law_images.proofs.Rest.{leave_at_rest, rests_so}
 use Rattle.law_images.proofs.Steps.{cut_kept, starts_off, starts_up}
 use Rattle.law_images.specs.Rest.{IsResting}
-use Rattle.law_images.specs.Scripts.{AreAnswered, AreSessionsOfScript, AreSessions, AreWholeSessions, EndsAsSession, IsWrittenFirst, Leaves, Spell, SpellsFirst}
+use Rattle.law_images.specs.Scripts.{AreAnswered, AreSessionsOfScript, AreSessions, AreWholeSessions, IsWrittenFirst, Leaves, Spell, SpellsFirst}
 use Rattle.law_images.specs.Scripts.{ServeAsEvents, ServeLines, ServeLinesWhole, ServesForm, ServesFormWhole, armed, armed_card, state_of, text_of_answer}
 
 -- how the card of a script stands, as a session sees it

@@ -1,12 +1,12 @@
 -- Sessions leave a card as it should be.
-use Rattle.std.proofs.Common.{◌≡◌, ℕ, ◌+◌, ◌<◌, ◌==◌, ◌||◌, nat_le, nat_lt, Bool, true, false, inl, inr, List, [], ◌∷◌, length, drop, take, Option, Some, None}
+use Rattle.std.proofs.Common.{◌≡◌, ℕ, ◌+◌, ◌<◌, ◌==◌, nat_le, nat_lt, Bool, true, false, List, [], ◌∷◌, length, drop, take, Option, Some, None}
 use Rattle.std.proofs.Common.{refl, sym, ◌∙◌, ap, subst, arith, if◌then◌else◌}
-use Rattle.std.specs.Prelude.{IfSome, Ok, is_some, slice_index}
+use Rattle.std.specs.Prelude.{Ok, slice_index}
 use Rattle.std.specs.Option.{option_map}
 use Rattle.std.proofs.lemmas.List.Elements.{All-drop, All-nil, All-take}
 use Rattle.std.proofs.lemmas.Option.{none-some, same_Some}
 use Rattle.jc_words.specs.Refusals.{Refusals}
-use Rattle.jc_heap.specs.Heap.{HeapState, HeapView, heap_at_rest}
+use Rattle.jc_heap.specs.Heap.{HeapState, heap_at_rest}
 use Rattle.jc_heap.specs.Keeping.{AreConsistent}
 use Rattle.jc_heap.proofs.Changing.{shape-same}
 use Rattle.jc_memory.specs.Owners.{at_reset}

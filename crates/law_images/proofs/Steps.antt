@@ -1,5 +1,5 @@
 -- How a power up and a command end, as steps of a session.
-use Rattle.std.proofs.Common.{arith, ◌≡◌, ◌≤◌, ◌<◌, List, ℕ, true, false, length, refl, sym, ◌∙◌, ap, subst}
+use Rattle.std.proofs.Common.{◌≡◌, List, ℕ, true, false, length, sym, ◌∙◌, ap, subst}
 use Rattle.jc_words.specs.Refusals.{refused_once}
 use Rattle.jc_commit.specs.Image.{StillRecovers, recovered_of}
 use Rattle.jc_commit.specs.State.{recovered_journal}
@@ -9,11 +9,11 @@ use Rattle.jc_memory.specs.State.{MemoryState}
 use Rattle.jc_memory.specs.Programs.{IsTornIn, TearLeaves}
 use Rattle.jc_card.specs.Answers.{exchange}
 use Rattle.jc_card.specs.CardState.{CardState}
-use Rattle.jc_card.specs.Made.{IsCardHeap, IsMade}
+use Rattle.jc_card.specs.Made.{IsMade}
 use Rattle.jc_card.specs.Reset.{IsAtReset}
 use Rattle.jc_card.specs.PowerUp.{PowerUpRefuses}
 use Rattle.jc_card.specs.declared.power_up.PowerFault.TheVariants.{StoreDown}
-use Rattle.jc_session.specs.Power.{PowerState, Up, Off, StoreState, is_well_formed, durable_state_in_store}
+use Rattle.jc_session.specs.Power.{Up, Off, StoreState, is_well_formed, durable_state_in_store}
 use Rattle.jc_session.specs.Starting.{Starts}
 use Rattle.jc_session.proofs.Laid.{if_laid}
 

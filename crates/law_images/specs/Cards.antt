@@ -1,6 +1,5 @@
 -- Cards as the product's commands leave them, and their sessions.
-use Rattle.std.specs.Prelude.{ℕ, ◌≡◌, ◌<◌, List, [], ◌∷◌, IfSome, Option, Some, Ok}
-use Rattle.jc_heap.specs.Heap.{HeapState}
+use Rattle.std.specs.Prelude.{List, [], ◌∷◌, IfSome}
 use Rattle.jc_platform.specs.Tokens.{Tokens}
 use Rattle.jc_linker.specs.Values.{Packages}
 use Rattle.jc_linker.specs.declared.components.LinkerComponents.{LinkerComponents}

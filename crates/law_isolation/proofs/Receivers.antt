@@ -14,7 +14,7 @@ use Rattle.jc_cap_linkage.specs.declared.pool.VirtualToken.{VirtualToken}
 use Rattle.jc_linker.specs.declared.target.Method.{Method}
 use Rattle.jc_linker.specs.declared.target.Method.TheVariants.{Native}
 use Rattle.jc_linker.specs.declared.target.Target.{Target}
-use Rattle.jc_linker.specs.declared.target.Target.TheVariants.{Class, VirtualMethod, SuperMethod, StaticMethod, InstanceField, StaticField}
+use Rattle.jc_linker.specs.declared.target.Target.TheVariants.{Class, VirtualMethod, SuperMethod, StaticMethod}
 use Rattle.jc_linker.specs.Classes.{is_shareable}
 use Rattle.jc_linker.specs.Lookups.{target_at}
 use Rattle.jc_linker.specs.Methods.{interface_method_at, method_at}

@@ -1,26 +1,24 @@
 -- Selecting, installing and answering.
 use Rattle.std.proofs.Common.{◌≡◌, ℕ, zero, suc, ◌+◌, ◌<◌, ◌≤◌, ◌-◌, ◌==◌, ◌⊎◌, ◌&&◌, ◌||◌, nat_lt, nat_le, Bool, true, false, inl, inr, List, [], ◌∷◌, length}
 use Rattle.std.proofs.Common.{find, Option, Some, None, refl, sym, ◌∙◌, ap, subst, arith, if◌then◌else◌}
-use Rattle.std.specs.Prelude.{pos, is_some}
+use Rattle.std.specs.Prelude.{pos}
 use Rattle.std.specs.List.{range_with_len}
 use Rattle.std.specs.Option.{option_map}
 use Rattle.std.proofs.lemmas.Bool.{and_from, and_parts, both_ways, false≢true, true≢false, le-leb, leb-true, lt-ltb, ltb-true, or_left, or_right}
 use Rattle.std.proofs.lemmas.Option.{none-some, option_and_then_some, same_Some}
 use Rattle.jc_words.specs.Layout.{most_applets}
 use Rattle.jc_transient.specs.declared.cell.ClearEvent.TheVariants.{Deselect}
-use Rattle.jc_heap.specs.Heap.{HeapState, HeapView}
+use Rattle.jc_heap.specs.Heap.{HeapState}
 use Rattle.jc_heap.specs.Moves.{Begin}
 use Rattle.jc_frames.specs.declared.cell.Cell.TheVariants.{Short, Reference}
-use Rattle.jc_frames.specs.declared.outcome.Outcome.{Outcome}
 use Rattle.jc_memory.specs.declared.registers.AppletNumber.{AppletNumber}
 use Rattle.jc_memory.specs.declared.registers.Installation.TheVariants.{Idle, Open}
-use Rattle.jc_memory.specs.declared.registers.Owner.{Owner}
 use Rattle.jc_memory.specs.declared.registers.Owner.TheVariants.{Applet, Runtime}
 use Rattle.jc_memory.specs.declared.registers.PackageNumber.{PackageNumber}
 use Rattle.jc_memory.specs.declared.registers.Registers.{Registers}
 use Rattle.jc_memory.specs.Owners.{owner_number}
-use Rattle.jc_memory.specs.State.{MemoryState, Effect, HeapMove, SetRegisters, ClearTransient, apply_effect}
-use Rattle.jc_memory.specs.Programs.{Program, Finish, Perform, bind}
+use Rattle.jc_memory.specs.State.{MemoryState, HeapMove, SetRegisters, ClearTransient, apply_effect}
+use Rattle.jc_memory.specs.Programs.{Program, Finish}
 use Rattle.jc_linker.specs.Lookups.{applet_entry, entry_with_aid}
 use Rattle.jc_linker.specs.Values.{Packages}
 use Rattle.jc_platform.specs.declared.names.PlatformMethod.TheVariants.{AppletDeselect, AppletProcess, AppletSelect}
@@ -34,7 +32,7 @@ use Rattle.jc_dispatch.specs.Creating.{applet_named, applet_creation, creation_i
 use Rattle.jc_dispatch.specs.AppletResults.{is_select_accepted}
 use Rattle.jc_dispatch.specs.Installing.{applet_installation, next_applet, with_installation}
 use Rattle.jc_dispatch.specs.AdHocCode.{ad_hoc_run}
-use Rattle.jc_dispatch.specs.Phases.{then_with, applet_method_call, close, instance_of, method_run}
+use Rattle.jc_dispatch.specs.Phases.{applet_method_call, close, instance_of, method_run}
 use Rattle.jc_dispatch.specs.Selecting.{after_select, header_of, deselection, manager_selection, process_command, applet_selection, with_command, with_selected}
 use Rattle.law_soundness.specs.Environment.{HasEnvironment}
 use Rattle.law_soundness.specs.Fit.{FitsTurn, IsFit}
@@ -42,8 +40,8 @@ use Rattle.law_soundness.specs.State.{IsSoundMemory, IsSteady, is_applet, is_hom
 use Rattle.law_soundness.proofs.Kept.{owner_more}
 use Rattle.law_soundness.specs.Machines.{IsSoundMachine}
 use Rattle.law_soundness.specs.Soundness.{AreKnown, RunsAreSound}
-use Rattle.law_soundness.specs.Commands.{CommandsAreSound, IsReady, IsServed, LeavesReady, OpensInstallation, ServingKeeps}
-use Rattle.law_soundness.proofs.Phases.{Good, HasRun, IsClosed, IsFilled, MayRun, called_good, closed_good, filled_good, good_bind, good_gives, good_more}
+use Rattle.law_soundness.specs.Commands.{CommandsAreSound, IsReady, LeavesReady, OpensInstallation}
+use Rattle.law_soundness.proofs.Phases.{Good, IsFilled, MayRun, called_good, closed_good, filled_good, good_bind, good_gives, good_more}
 use Rattle.law_soundness.proofs.Phases.{good_then, run_for_good}
 use Rattle.law_soundness.proofs.Serving.{StandsBehind, all_served, behind_both, behind_each, behind_itself, behind_one, same_fits, serving_keeps}
 

@@ -13,7 +13,7 @@ use Rattle.jc_heap.specs.Moves.{Move, Write, SetPlaces, WriteNonAtomic, SetCells
 use Rattle.jc_heap.specs.Places.{place_word, set_place, set_places}
 use Rattle.jc_heap.proofs.Laws.{header_only-set_cell, heap_item_at-add_object, heap_item_at-add_other, same_facts}
 use Rattle.jc_heap.proofs.RecordWords.{header_only-set_word}
-use Rattle.jc_memory.specs.State.{MemoryState, Effect, HeapMove, SetTransient, SetFlag, ClearTransient, SetRegisters, BeginCommand, SendBytes}
+use Rattle.jc_memory.specs.State.{MemoryState, Effect, HeapMove}
 use Rattle.jc_memory.specs.State.{apply_effect}
 use Rattle.jc_linker.specs.Values.{Packages}
 use Rattle.jc_card_checks.specs.Objects.{is_instance, is_object_address}

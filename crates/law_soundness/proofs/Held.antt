@@ -1,7 +1,7 @@
 -- No entry names the counter of an OwnerPIN, and the constructor of AID is not called on one.
-use Rattle.std.proofs.Common.{◌≡◌, ◌≤◌, ◌∙◌, ℕ, Bool, true, false, inl, inr, List, Option, Some, None, Ok, Err, refl, sym, ap, subst, arith}
+use Rattle.std.proofs.Common.{◌≡◌, ◌≤◌, ℕ, Bool, true, false, List, Option, Some, None, Ok, refl, ap, subst, arith}
 use Rattle.std.specs.Prelude.{◌==◌}
-use Rattle.std.proofs.lemmas.Bool.{cases_Bool, eqb-true}
+use Rattle.std.proofs.lemmas.Bool.{eqb-true}
 use Rattle.jc_heap.specs.Heap.{facts}
 use Rattle.jc_frames.specs.declared.cell.Cell.{Cell}
 use Rattle.jc_frames.specs.Calls.{arguments_on}
@@ -11,7 +11,6 @@ use Rattle.jc_opcodes.specs.declared.instr.InvokeOp.{InvokeOp}
 use Rattle.jc_opcodes.specs.declared.instr.InvokeOp.TheVariants.{Virtual, Special, Static, Interface}
 use Rattle.jc_platform.specs.declared.names.PlatformClass.TheVariants.{Aid, OwnerPin}
 use Rattle.jc_platform.specs.declared.names.PlatformMethod.TheVariants.{AidInit}
-use Rattle.jc_platform.specs.Distinct.{class_of}
 use Rattle.jc_platform.specs.Names.{methods}
 use Rattle.jc_platform.specs.Hierarchy.{cells_of, is_interface}
 use Rattle.jc_linker.specs.declared.target.Method.TheVariants.{Native}
@@ -21,12 +20,10 @@ use Rattle.jc_linker.specs.Classes.{is_below, package_in}
 use Rattle.jc_linker.specs.Lookups.{target_at}
 use Rattle.jc_linker.specs.Values.{Packages}
 use Rattle.jc_card_checks.specs.Objects.{is_a}
-use Rattle.jc_world.specs.Objects.{reference_argument}
 use Rattle.jc_interp.specs.Stepping.{at_place}
 use Rattle.jc_interp_calls.specs.declared.invoke.MethodCall.{MethodCall}
 use Rattle.jc_interp_calls.specs.Invoke.{method_selection, interface_by, special_by, static_by, virtual_by}
 use Rattle.law_isolation.specs.Natives.{IsNotCalled, sets_receiver}
-use Rattle.law_isolation.specs.Steps.{IsCalled}
 use Rattle.law_isolation.proofs.Reaching.{err_not_ok}
 use Rattle.law_soundness.specs.Classes.{has_instances}
 use Rattle.law_soundness.specs.Machines.{IsSoundMachine}

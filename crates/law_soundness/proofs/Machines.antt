@@ -17,7 +17,6 @@ use Rattle.jc_frames.specs.Calls.{arguments_on}
 use Rattle.jc_frames.specs.Frames.{Caller, Frame, Frames, Next, GoesOn, Throws, Ends, in_frame}
 use Rattle.jc_world.specs.Instructions.{if_ok, if_some, exit_of}
 use Rattle.jc_interp_calls.specs.declared.invoke.MethodCall.{MethodCall}
-use Rattle.jc_interp_calls.specs.Invoke.{method_selection}
 use Rattle.law_soundness.specs.Environment.{HasEnvironment, KeepsEnvironment}
 use Rattle.law_soundness.specs.Fit.{IsFit, KeepsSound}
 use Rattle.law_soundness.specs.State.{IsSoundMemory, IsSteady}

@@ -1,5 +1,5 @@
 -- What the runtime environment does with an applet leaves a memory sound.
-use Rattle.std.proofs.Common.{◌≡◌, ℕ, ◌-◌, ◌⊎◌, ◌&&◌, Bool, true, false, inl, inr, List, [], Option, Some, None, refl, sym, ap, subst, if◌then◌else◌}
+use Rattle.std.proofs.Common.{◌≡◌, ℕ, ◌⊎◌, ◌&&◌, Bool, true, false, inl, inr, List, [], Option, Some, None, refl, sym, ap, subst, if◌then◌else◌}
 use Rattle.std.specs.Prelude.{is_some}
 use Rattle.std.proofs.lemmas.Bool.{and_parts, both_ways, false≢true}
 use Rattle.std.proofs.lemmas.Option.{cond_some, option_and_then_some}

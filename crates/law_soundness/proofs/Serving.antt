@@ -1,14 +1,12 @@
 -- What effects of commands leave.
-use Rattle.std.proofs.Common.{◌≡◌, ℕ, zero, suc, ◌+◌, ◌<◌, ◌≤◌, ◌&&◌, nat_lt, nat_le, Bool, true, false, inl, inr, List, refl, sym, ◌∙◌, ap, subst, arith, Some}
+use Rattle.std.proofs.Common.{◌≡◌, ℕ, ◌+◌, ◌≤◌, true, false, inl, inr, List, sym, ◌∙◌, ap, subst, arith}
 use Rattle.std.proofs.Common.{if◌then◌else◌}
-use Rattle.std.proofs.lemmas.Bool.{and_from, and_parts, both_ways, cases_Bool, leb-true, le-leb, lt-ltb}
+use Rattle.std.proofs.lemmas.Bool.{both_ways, cases_Bool}
 use Rattle.jc_heap.specs.declared.place.Place.{Place}
 use Rattle.jc_heap.specs.declared.place.Place.TheVariants.{Cell, Static, Registry, AppletCount}
 use Rattle.jc_heap.specs.Heap.{HeapState, goes_back}
 use Rattle.jc_heap.specs.Places.{place_word, set_place, set_places}
 use Rattle.jc_heap.specs.Moves.{Move, Write, SetPlaces, WriteNonAtomic, SetCells, AddObject, AddTransient, AddPackage, Begin, Commit, Abort}
-use Rattle.jc_memory.specs.declared.registers.AppletNumber.{AppletNumber}
-use Rattle.jc_memory.specs.declared.registers.Installation.{Installation}
 use Rattle.jc_memory.specs.declared.registers.Registers.{Registers}
 use Rattle.jc_memory.specs.Owners.{owner_number}
 use Rattle.jc_memory.specs.State.{MemoryState, Effect, HeapMove, SetTransient, SetFlag, ClearTransient, SetRegisters, BeginCommand, SendBytes}
@@ -16,12 +14,12 @@ use Rattle.jc_memory.specs.State.{apply_effect}
 use Rattle.jc_memory.specs.Programs.{Program, Finish, Perform, Choose, Either}
 use Rattle.jc_memory.specs.Reading.{AllDue, AllResults}
 use Rattle.jc_linker.specs.Values.{Packages}
-use Rattle.law_soundness.specs.Environment.{HasEnvironment, KeepsEnvironment}
+use Rattle.law_soundness.specs.Environment.{HasEnvironment}
 use Rattle.jc_pin.specs.Pins.{counter, record_of as pin_of}
 use Rattle.jc_pin.specs.PinInit.{first_record}
 use Rattle.jc_pin.specs.Updating.{changes_of_update}
-use Rattle.law_soundness.specs.Fit.{FitsChange, FitsMove, FitsPlace, FitsTurn, IsFit, KeepsSound, OfPin, OfRegistry, OfStatics, OfValue}
-use Rattle.law_soundness.specs.State.{IsSoundMemory, is_applet, is_home, is_open, is_owner_up_to, most_owner}
+use Rattle.law_soundness.specs.Fit.{FitsChange, FitsMove, FitsPlace, FitsTurn, IsFit, OfPin, OfRegistry, OfStatics, OfValue}
+use Rattle.law_soundness.specs.State.{IsSoundMemory, is_home, is_open, is_owner_up_to, most_owner}
 use Rattle.law_soundness.proofs.Effects.{keeps_sound}
 use Rattle.law_soundness.proofs.Environment.{keeps_environment}
 use Rattle.law_soundness.proofs.Frames.{bytes_held, cell_frames, object_frames, places_frames, run_frames, statics_held, transient_frames, word_frames}

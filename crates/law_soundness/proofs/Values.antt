@@ -7,7 +7,7 @@ use Rattle.jc_transient.specs.declared.cell.ClearEvent.{ClearEvent}
 use Rattle.jc_platform.specs.declared.names.PlatformClass.TheVariants.{Aid, OwnerPin}
 use Rattle.jc_platform.specs.Distinct.{class_word}
 use Rattle.jc_heap.specs.declared.object.Kind.{Kind}
-use Rattle.jc_heap.specs.declared.object.Kind.TheVariants.{Instance, BooleanArray, ByteArray, ShortArray, ReferenceArray}
+use Rattle.jc_heap.specs.declared.object.Kind.TheVariants.{Instance}
 use Rattle.jc_heap.specs.Heap.{HeapState, facts, set_cell, set_cells}
 use Rattle.jc_heap.proofs.Laws.{facts-set_cell}
 use Rattle.jc_linker.specs.Classes.{any_is, is_below, lineage_from, most_classes, reference_cell}
