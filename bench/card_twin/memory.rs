@@ -186,6 +186,8 @@ pub struct Facts {
     pub owner: u16,
     pub length: u16,
     pub place: u16,
+    /// Two elements stand in a word.
+    pub packed: bool,
 }
 
 #[derive(Clone, Copy, PartialEq)]
@@ -251,8 +253,8 @@ impl Memory {
     pub fn facts(&self, object: u16) -> Facts {
         let first = self.word(object);
         let kind = match first % 256 {
-            2 => Kind::Booleans,
-            3 => Kind::Bytes,
+            2 | 6 => Kind::Booleans,
+            3 | 7 => Kind::Bytes,
             4 => Kind::Shorts,
             5 => Kind::References,
             _ => Kind::Instance,
@@ -266,6 +268,7 @@ impl Memory {
             owner: self.word(object + 2),
             length: self.word(object + 3),
             place,
+            packed: matches!(first, 6 | 7),
         }
     }
 
@@ -280,6 +283,9 @@ impl Memory {
     }
 
     pub fn get(&self, object: u16, facts: Facts, index: u16) -> u16 {
+        if facts.packed {
+            return self.byte_at(object + HEADER, index);
+        }
         if facts.event == 0 {
             return self.word(object + HEADER + index);
         }
@@ -290,12 +296,45 @@ impl Memory {
         }
     }
 
+    /// A byte of the words from an address on, two in a word.
+    fn byte_at(&self, at: u16, index: u16) -> u16 {
+        let word = self.word(at + index / 2);
+        if index % 2 == 0 { word >> 8 } else { word & 0xFF }
+    }
+
+    /// The words from an address on in which bytes stand from an index on: the bytes beside them stay.
+    fn packed_run(&self, at: u16, index: u16, bytes: &[u8]) -> Vec<(u16, u16)> {
+        let mut changes = Vec::with_capacity(bytes.len() / 2 + 1);
+        let mut at = at + index / 2;
+        let mut rest = bytes;
+        if let (1, [byte, behind @ ..]) = (index % 2, bytes) {
+            changes.push((at, self.word(at) & 0xFF00 | u16::from(*byte)));
+            at += 1;
+            rest = behind;
+        }
+        let mut pairs = rest.chunks_exact(2);
+        for pair in &mut pairs {
+            changes.push((at, u16::from_be_bytes([pair[0], pair[1]])));
+            at += 1;
+        }
+        if let [byte] = pairs.remainder() {
+            changes.push((at, u16::from(*byte) << 8 | self.word(at) & 0xFF));
+        }
+        changes
+    }
+
     pub fn set(&mut self, object: u16, facts: Facts, index: u16, value: Cell) -> Result<(), Break> {
         let word = match value {
             Cell::Short(value) => value as u16,
             Cell::Reference(reference) => reference,
             Cell::ReturnAddress(_) => return Err(Break::Fault),
         };
+        if facts.packed {
+            let at = object + HEADER + index / 2;
+            let old = self.word(at);
+            let new = if index % 2 == 0 { word << 8 | old & 0xFF } else { old & 0xFF00 | word & 0xFF };
+            return self.journal.write_all(&[(at, new)]);
+        }
         if facts.event == 0 {
             return self.journal.write_all(&[(object + HEADER + index, word)]);
         }
@@ -304,6 +343,10 @@ impl Memory {
     }
 
     pub fn set_bytes(&mut self, object: u16, facts: Facts, index: u16, bytes: &[u8]) -> Result<(), Break> {
+        if facts.packed {
+            let changes = self.packed_run(object + HEADER, index, bytes);
+            return self.journal.write_all(&changes);
+        }
         if facts.event == 0 {
             let at = object + HEADER + index;
             let change = |(k, byte): (usize, &u8)| (at + k as u16, u16::from(*byte));
@@ -323,8 +366,11 @@ impl Memory {
         if event != 0 {
             self.used += length;
         }
-        self.top += HEADER + if event == 0 { length } else { 1 };
-        let header = [kind + 256 * event, class, self.registers.active, length, place];
+        let packed = event == 0 && (kind == 2 || kind == 3);
+        let words = if packed { length.div_ceil(2) } else { length };
+        self.top += HEADER + if event == 0 { words } else { 1 };
+        let number = if packed { kind + 4 } else { kind };
+        let header = [number + 256 * event, class, self.registers.active, length, place];
         let length = if event == 0 { 4 } else { 5 };
         for (k, word) in header[..length].iter().enumerate() {
             self.journal.store.write(object + k as u16, *word)?;

@@ -15,38 +15,6 @@ use jc_world::{Stretch, put};
 // How many elements a transient array has at most.
 const MOST_TRANSIENT: usize = AREA_CELLS as usize;
 
-// Copies no more bytes than a command has.
-fn copy_few<S: WordStore>(
-    memory: &mut Memory<S>,
-    from: Stretch,
-    to: Stretch,
-) -> Result<(), ChangeRefusal>
-    requires up { memory.old.heap.down ≡ false }
-    requires from { IsInArray memory.old from }
-    requires to { IsInArray memory.old to }
-    requires all { from.count ≡ to.count }
-    requires few { from.count ≤ MOST_COMMAND }
-    ensures { Executes (cells_store memory.old to.array to.start (bytes_in memory.old from))
-        memory.old (after_change result memory.new) }
-{
-    let count = from.count as usize;
-    let mut bytes = [0; MOST_COMMAND];
-    memory.bytes(from.array, from.start, &mut bytes[..count]);
-    put(memory, to, &bytes[..count])
-}
-
-// Reads bytes of an array, each as a word.
-fn read_bytes<S: WordStore>(memory: &Memory<S>, from: Stretch, words: &mut [u16])
-    requires up { memory.now.heap.down ≡ false }
-    requires from { IsInArray memory.now from }
-    requires all { length words.old ≡ from.count }
-    ensures { words.new ≡ bytes_in memory.now from }
-{
-    for k in 0..words.len() {
-        words[k] = u16::from(memory.byte(from.array, from.start + k as u16));
-    }
-}
-
 // Copies at most so many bytes.
 #[inline(never)]
 fn copy_most<const MOST: usize, S: WordStore>(
@@ -64,9 +32,9 @@ fn copy_most<const MOST: usize, S: WordStore>(
         memory.old (after_change result memory.new) }
 {
     let mut buffer = [0; MOST];
-    let words = &mut buffer[..from.count as usize];
-    read_bytes(memory, from, words);
-    memory.set_run(to.array, to.start, words)
+    let bytes = &mut buffer[..from.count as usize];
+    memory.bytes(from.array, from.start, bytes);
+    put(memory, to, bytes)
 }
 
 /// Copies bytes as if they were first copied elsewhere, and as one change.
@@ -85,7 +53,7 @@ pub(crate) fn copy<S: WordStore>(
 {
     let count = from.count as usize;
     if count <= MOST_COMMAND {
-        return copy_few(memory, from, to);
+        return copy_most::<MOST_COMMAND, S>(memory, from, to);
     }
     if count <= MOST_TRANSIENT {
         return copy_most::<MOST_TRANSIENT, S>(memory, from, to);

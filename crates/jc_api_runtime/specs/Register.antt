@@ -78,7 +78,7 @@ touched_by_registration applets = HeapEnd ∷ (touched_new_cells aid_cells ++ to
 -- there is space and room for all of it
 abbrev pub unless_full : MemoryState → PackageNumber → Result PackageNumber FrameExit
 unless_full m p =
-    if has_space m aid_cells then (if lacks_capacity m (touched_by_registration m.heap.now.counts.1) then Err (Throw buffer_full) else Ok p) else Err
+    if has_space m Instance aid_cells then (if lacks_capacity m (touched_by_registration m.heap.now.counts.1) then Err (Throw buffer_full) else Ok p) else Err
     (Throw no_resource)
 
 -- the applet may be registered, in this package; else what throws

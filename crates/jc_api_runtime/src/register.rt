@@ -54,7 +54,7 @@ fn make_aid<S: WordStore>(
 ) -> Result<Ref, StoreDown>
     requires up { memory.old.heap.down ≡ false }
     requires few { length aid.now ≤ 16 }
-    requires space { has_space memory.old 9 ≡ true }
+    requires space { has_space memory.old Instance 9 ≡ true }
     requires room { lacks_capacity memory.old
         (touched_by_registration memory.old.heap.now.counts.1) ≡ false }
     ensures made { Executes (aid_object_creation linked.now aid.now memory.old) memory.old

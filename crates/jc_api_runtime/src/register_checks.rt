@@ -2,6 +2,7 @@
 ghost use Rattle.std.specs.Prelude.{◌≡◌, ◌<◌, false, true, IfOk};
 ghost use Rattle.jc_words.specs.Layout.{most_applets};
 ghost use Rattle.jc_memory.specs.Cells.{header_at};
+ghost use Rattle.jc_heap.specs.declared.object.Kind.TheVariants.{Instance};
 ghost use Rattle.jc_memory.specs.Room.{has_space, lacks_capacity};
 ghost use Rattle.jc_api_runtime.specs.Register.{installation_in_transaction, is_inside, is_owned, may_be_added, open_installation, registration_package};
 ghost use Rattle.jc_api_runtime.specs.Register.{touched_by_registration, unless_full};
@@ -9,7 +10,7 @@ ghost use Rattle.jc_api_runtime.specs.Register.{touched_by_registration, unless_
 use jc_frames::FrameExit;
 use jc_frames::reasons::{BUFFER_FULL, ILLEGAL_AID, IN_PROGRESS, NO_RESOURCE};
 use jc_heap::registry_layout::{ENTRY_INSTANCE, ENTRY_PACKAGE, entry_start};
-use jc_heap::{Place, Touch};
+use jc_heap::{Kind, Place, Touch};
 use jc_memory::{Depth, Installation, Memory, PackageNumber, has_space, lacks_capacity};
 use jc_registry::{AID_CELLS, applet_with_aid};
 use jc_transient::{OwnerWord, Ref};
@@ -104,11 +105,11 @@ fn unless_full<S: WordStore>(
     requires up { memory.now.heap.down ≡ false }
     requires few { memory.now.heap.now.counts.1 < most_applets }
     ensures asked { result ≡ unless_full memory.now package_number }
-    ensures space { IfOk result (λ p. has_space memory.now 9 ≡ true) }
+    ensures space { IfOk result (λ p. has_space memory.now Instance 9 ≡ true) }
     ensures room { IfOk result (λ p. lacks_capacity memory.now
         (touched_by_registration memory.now.heap.now.counts.1) ≡ false) }
 {
-    if !has_space(memory, AID_CELLS) {
+    if !has_space(memory, Kind::Instance, AID_CELLS) {
         return Err(FrameExit::Throw(NO_RESOURCE));
     }
     let touches = touched_by_registration(memory.heap().applets());
@@ -129,7 +130,7 @@ pub(crate) fn registration_package<S: WordStore>(
     ensures asked { result ≡ registration_package memory.now aid.now instance }
     ensures open { IfOk result (λ p. memory.now.heap.begun ≡ true) }
     ensures few { IfOk result (λ p. memory.now.heap.now.counts.1 < most_applets) }
-    ensures space { IfOk result (λ p. has_space memory.now 9 ≡ true) }
+    ensures space { IfOk result (λ p. has_space memory.now Instance 9 ≡ true) }
     ensures room { IfOk result (λ p. lacks_capacity memory.now
         (touched_by_registration memory.now.heap.now.counts.1) ≡ false) }
 {

@@ -1,7 +1,6 @@
 -- What a package's components say is read again.
 use Rattle.std.proofs.Common.{◌≡◌, Result, Ok, Err}
 use Rattle.jc_cap_linkage.specs.declared.fault.CapFault.{CapFault}
-use Rattle.jc_cap_linkage.specs.Reading.{◌>>=◌}
 use Rattle.jc_cap_linkage.proofs.Many.{bind_ok}
 use Rattle.jc_cap.specs.declared.texts.PackageBytes.{PackageBytes}
 use Rattle.jc_cap.specs.Reading.{contents_of}

@@ -1,19 +1,17 @@
 -- Offsets that fit name records and methods.
 use Rattle.std.proofs.Common.{◌≡◌, ℕ, zero, suc, ◌<◌, Bool, true, false, ◌&&◌, ◌||◌, eqb, List, [], ◌∷◌, length, slice_index_or, Option, Some, None, Result, Ok}
-use Rattle.std.proofs.Common.{Err, refl, sym, ap, subst, ◌∙◌, arith, inl, inr, ◌⊎◌}
+use Rattle.std.proofs.Common.{Err, refl, subst, arith, inl, inr, ◌⊎◌}
 use Rattle.std.specs.Prelude.{IfOk, is_some}
-use Rattle.std.specs.List.{All}
 use Rattle.std.proofs.lemmas.Bool.{eqb-true}
 use Rattle.jc_cap_linkage.specs.declared.fault.CapFault.{CapFault}
 use Rattle.jc_cap_linkage.specs.declared.fault.CapFault.TheVariants.{SizesDisagree, BadOffset}
 use Rattle.jc_cap_linkage.specs.declared.class_refs.ClassRef.{ClassRef}
 use Rattle.jc_cap_linkage.specs.declared.class_refs.ClassRef.TheVariants as classes
-use Rattle.jc_cap_linkage.specs.Reading.{◌>>=◌, ParsesAs}
+use Rattle.jc_cap_linkage.specs.Reading.{ParsesAs}
 use Rattle.jc_cap_linkage.proofs.Many.{bind_ok, ok_is}
 use Rattle.jc_cap_linkage.proofs.Telling.{wanted_ok}
 use Rattle.jc_cap_linkage.proofs.Wholes.{whole_takes}
 use Rattle.jc_cap_linkage.specs.Envelope.{info_at}
-use Rattle.jc_cap_linkage.specs.Applets.{AppletNamed}
 use Rattle.jc_cap_linkage.specs.declared.exports.ExportedClass.{ExportedClass}
 use Rattle.jc_cap_linkage.specs.declared.pool.StaticRef.{StaticRef}
 use Rattle.jc_cap_linkage.specs.declared.pool.StaticRef.TheVariants as statics
@@ -26,7 +24,7 @@ use Rattle.jc_cap_code.specs.ClassGrammar.{AreClasses}
 use Rattle.jc_cap_code.specs.ClassReading.{is_among, classes_of}
 use Rattle.jc_cap_code.specs.StaticReading.{statics_at}
 use Rattle.jc_cap_code.specs.StaticGrammar.{AreStatics}
-use Rattle.jc_cap_code.specs.MethodValues.{MethodParts, MethodText}
+use Rattle.jc_cap_code.specs.MethodValues.{MethodParts}
 use Rattle.jc_cap_code.specs.MethodReading.{method_at, has_room}
 use Rattle.jc_cap_code.specs.Tables as tables
 use Rattle.jc_cap_code.specs.Tables.{all_of_list, tables_fit}
@@ -110,16 +108,16 @@ export_named placed methods x e =
 
 -- ---- what was read
 
-parts : (t : PackageBytes) (c : PackageContents) → reading.contents_of t ≡ Ok c → (classes_in t.format t.classes ≡ Ok c.classes)
+parts : (t : PackageBytes) (c : PackageContents) → reading.contents_of t ≡ Ok c → (classes_in c.header.format t.classes ≡ Ok c.classes)
     × (statics_in t.statics ≡ Ok c.statics)
 unfolding reading.contents_of
 parts t c e =
-    let header = bind_ok (header_in t.format t.header) _ c e in
-    let directory = bind_ok (directory_in t.format t.directory) _ c header.2 in
+    let header = bind_ok (header_in t.header) _ c e in
+    let directory = bind_ok (directory_in header.0.format t.directory) _ c header.2 in
     let applets = bind_ok (applets_in t.applets) _ c directory.2 in
     let imports = bind_ok (imports_in t.imports) _ c applets.2 in
     let pool = bind_ok (pool_in t.pool) _ c imports.2 in
-    let classes = bind_ok (classes_in t.format t.classes) _ c pool.2 in
+    let classes = bind_ok (classes_in header.0.format t.classes) _ c pool.2 in
     let methods = bind_ok (methods_in t.methods) _ c classes.2 in
     let statics = bind_ok (statics_in t.statics) _ c methods.2 in
     let exports = bind_ok (exports_in t.exports) _ c statics.2 in
@@ -135,12 +133,13 @@ parts t c e =
       exports = exports.0;
     } in
     let same : made ≡ c = ok_is made c exports.2 in
-    (classes.1 ∙ ap (λ (x : PackageContents). Ok x.classes) same, statics.1 ∙ ap (λ (x : PackageContents). Ok x.statics) same)
+    subst (λ (x : PackageContents). (classes_in x.header.format t.classes ≡ Ok x.classes) × (statics_in t.statics ≡ Ok x.statics)) same (classes.1, statics.1)
 
-are_classes : (t : PackageBytes) (c : PackageContents) → classes_in t.format t.classes ≡ Ok c.classes → (info : List ℕ) × AreClasses t.format c.classes info
+are_classes : (t : PackageBytes) (c : PackageContents) → classes_in c.header.format t.classes ≡ Ok c.classes
+    → (info : List ℕ) × AreClasses c.header.format c.classes info
 are_classes t c e =
-    let info = bind_ok (info_at 6 t.classes) (λ i. classes_of t.format i) c.classes e in
-    (info.0, classes_take t.format info.0 c.classes info.2)
+    let info = bind_ok (info_at 6 t.classes) (λ i. classes_of c.header.format i) c.classes e in
+    (info.0, classes_take c.header.format info.0 c.classes info.2)
 
 are_statics : (t : PackageBytes) (c : PackageContents) → statics_in t.statics ≡ Ok c.statics → (info : List ℕ) × AreStatics c.statics info
 are_statics t c e =

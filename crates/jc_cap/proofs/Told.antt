@@ -1,15 +1,15 @@
 -- What is read of a component stands in its bytes, and the other way round.
-use Rattle.std.proofs.Common.{◌≡◌, ℕ, eqb, cond, Bool, List, Result, Ok, Err, refl, sym, ap, subst, ◌∙◌, inl, inr, ◌⊎◌}
+use Rattle.std.proofs.Common.{◌≡◌, ℕ, eqb, List, Result, Ok, Err, refl, sym, ap, subst, inl, inr}
 use Rattle.std.specs.Prelude.{IfOk}
 use Rattle.std.proofs.lemmas.Bool.{eqb-true, eqb-false, ne_eqb}
 use Rattle.jc_cap_linkage.specs.declared.fault.CapFault.{CapFault}
 use Rattle.jc_cap_linkage.specs.declared.formats.Format.{Format}
-use Rattle.jc_cap_linkage.specs.Reading.{◌>>=◌, Field, ParsesAs, value_of_whole}
+use Rattle.jc_cap_linkage.specs.Reading.{Field, ParsesAs, value_of_whole}
 use Rattle.jc_cap_linkage.specs.Telling.{ReadsEncodings}
 use Rattle.jc_cap_linkage.proofs.Many.{bind_ok, ok_is}
 use Rattle.jc_cap_linkage.proofs.Telling.{chosen}
 use Rattle.jc_cap_linkage.proofs.Wholes.{whole_takes, whole_again}
-use Rattle.jc_cap_linkage.specs.Envelope.{info_at, IsEnvelope}
+use Rattle.jc_cap_linkage.specs.Envelope.{info_at}
 use Rattle.jc_cap_linkage.specs.Header.{header_at, IsHeader}
 use Rattle.jc_cap_linkage.specs.Directory.{directory_at, IsDirectory}
 use Rattle.jc_cap_linkage.specs.Applets.{applets_at, IsApplets}
@@ -25,7 +25,6 @@ use Rattle.jc_cap_code.specs.ClassReading.{classes_of}
 use Rattle.jc_cap_code.specs.ClassValues.{RecordAt}
 use Rattle.jc_cap_code.specs.ClassGrammar.{AreClasses}
 use Rattle.jc_cap_code.specs.MethodReading.{methods_of}
-use Rattle.jc_cap_code.specs.MethodGrammar.{AreMethods}
 use Rattle.jc_cap_code.specs.StaticReading.{statics_at}
 use Rattle.jc_cap_code.specs.StaticGrammar.{AreStatics}
 use Rattle.jc_cap_code.proofs.RecordWalk.{classes_found, classes_only}
@@ -79,7 +78,7 @@ unfolding content_at
 content_takes format tag info x e =
     let Goal : Content → Type 0 = λ y. IsContent format tag y info in
     elim (chosen (eqb tag 1) _ _ _ e) [
-      | inl is1 ↦ (let w = whole_is contents.header (header_at format) (IsHeader format) (header_tells format) info x is1.1 in subst Goal w.2
+      | inl is1 ↦ (let w = whole_is contents.header header_at IsHeader header_tells info x is1.1 in subst Goal w.2
           (eqb-true _ _ is1.0, w.1))
       | inr not1 ↦ elim (chosen (eqb tag 2) _ _ _ not1.1) [
         | inl is2 ↦ (let w = whole_is contents.directory (directory_at format) (IsDirectory format) (directory_tells format) info x is2.1 in subst Goal w.2
@@ -123,8 +122,7 @@ content_takes format tag info x e =
 
 content_again : (format : Format) (tag : ℕ) (x : Content) (info : List ℕ) → IsContent format tag x info → content_at format tag info ≡ Ok x
 unfolding content_at
-content_again format tag (contents.header x) info is = rw is.0 (whole_said contents.header (header_at format) (IsHeader format)
-    (header_tells format) info x is.1)
+content_again format tag (contents.header x) info is = rw is.0 (whole_said contents.header header_at IsHeader header_tells info x is.1)
 content_again format tag (contents.directory x) info is = rw is.0 (whole_said contents.directory (directory_at format) (IsDirectory format)
     (directory_tells format) info x is.1)
 content_again format tag (contents.applets x) info is = rw is.0 (whole_said contents.applets applets_at IsApplets applets_tells info x is.1)

@@ -2,7 +2,6 @@
 use Rattle.std.specs.Prelude.{ℕ, Bool, List, Option, Some, None, Result, Ok, Err, if◌then◌else◌}
 use Rattle.jc_cap_linkage.specs.declared.fault.CapFault.{CapFault}
 use Rattle.jc_cap_linkage.specs.declared.fault.CapFault.TheVariants.{Missing, SizesDisagree, BadOffset}
-use Rattle.jc_cap_linkage.specs.declared.formats.Format.{Format}
 use Rattle.jc_cap_linkage.specs.Reading.{◌>>=◌}
 use Rattle.jc_cap_linkage.specs.Tags.{header_tag, directory_tag, applet_tag, import_tag, constant_pool_tag, class_tag, method_tag, static_field_tag, export_tag}
 use Rattle.jc_cap.specs.declared.texts.LoadedComponents.{LoadedComponents}
@@ -22,15 +21,15 @@ flagged_component tag flag (Some text) = Ok (Some text)
 flagged_component tag flag None = if flag then Err (Missing tag) else Ok None
 
 -- whether the header asks for an Export, and for an Applet component
-abbrev pub flags_in : Format → List ℕ → Result (Bool × Bool) CapFault
-flags_in format header = reading.header_in format header >>= λ head. Ok (head.exports, head.has_applets)
+abbrev pub flags_in : List ℕ → Result (Bool × Bool) CapFault
+flags_in header = reading.header_in header >>= λ head. Ok (head.exports, head.has_applets)
 
 -- all that a package needs, or the lowest tag that is missing
 unfoldable pub required_components : LoadedComponents → Result PackageBytes CapFault
 required_components load = do
   header ← required_component header_tag load.header
   directory ← required_component directory_tag load.directory
-  flags ← flags_in load.format header
+  flags ← flags_in header
   applets ← flagged_component applet_tag flags.1 load.applets
   imports ← required_component import_tag load.imports
   pool ← required_component constant_pool_tag load.pool
@@ -39,7 +38,6 @@ required_components load = do
   statics ← required_component static_field_tag load.statics
   exports ← flagged_component export_tag flags.0 load.exports
   Ok (record {
-    format = load.format;
     header = header;
     directory = directory;
     applets = applets;

@@ -1,5 +1,5 @@
 -- Whole components: the tag, the size, and the info, which is read by the tag.
-use Rattle.std.specs.Prelude.{◌≡◌, ◌≢◌, ℕ, List, Result, Ok, Err, ◌==◌, if◌then◌else◌}
+use Rattle.std.specs.Prelude.{◌≡◌, ◌≢◌, ℕ, List, Result, Ok, ◌==◌, if◌then◌else◌}
 use Rattle.jc_cap_linkage.specs.declared.fault.CapFault.{CapFault}
 use Rattle.jc_cap_linkage.specs.declared.formats.Format.{Format}
 use Rattle.jc_cap_linkage.specs.Reading.{◌>>=◌, value_of_whole}
@@ -24,10 +24,10 @@ use Rattle.jc_cap.specs.Contents as contents
 abbrev pub content_result : {A : Type 0} → (A → Content) → Result A CapFault → Result Content CapFault
 content_result wrap read = read >>= λ x. Ok (wrap x)
 
--- what the info of the component with this tag says; the infos of ReferenceLocation, Descriptor, Debug and custom components are not looked at
+-- what the info of the component with this tag says, of a Directory and a Class component in this format; the infos of ReferenceLocation, Descriptor, Debug and custom components are not looked at
 unfoldable pub content_at : Format → ℕ → List ℕ → Result Content CapFault
 content_at format tag info =
-    if tag == header_tag then content_result contents.header (value_of_whole (header_at format info))
+    if tag == header_tag then content_result contents.header (value_of_whole (header_at info))
     else if tag == directory_tag then content_result contents.directory (value_of_whole (directory_at format info))
     else if tag == applet_tag then content_result contents.applets (value_of_whole (applets_at info))
     else if tag == import_tag then content_result contents.imports (value_of_whole (imports_at info))
@@ -46,7 +46,7 @@ component_at format tag bytes = do
 
 -- the info of the component with this tag says this
 abbrev pub IsContent : Format → ℕ → Content → List ℕ → Type 0
-IsContent format tag (contents.header h) info = (tag ≡ header_tag) × IsHeader format h info
+IsContent format tag (contents.header h) info = (tag ≡ header_tag) × IsHeader h info
 IsContent format tag (contents.directory d) info = (tag ≡ directory_tag) × IsDirectory format d info
 IsContent format tag (contents.applets xs) info = (tag ≡ applet_tag) × IsApplets xs info
 IsContent format tag (contents.imports xs) info = (tag ≡ import_tag) × IsImports xs info

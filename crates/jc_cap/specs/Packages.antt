@@ -73,5 +73,5 @@ pub record IsPackage (t : PackageBytes) : Type 0 where
   pub applets : AllIfPresent (AppletNames contents.methods) contents.applets
   pub exports : AllIfPresent (ExportNames contents.classes contents.methods) contents.exports
   pub tables : All (RecordNamed contents.methods) (contents_of contents.classes)
-  pub classes : (info : List ℕ) × AreClasses t.format contents.classes info
+  pub classes : (info : List ℕ) × AreClasses contents.header.format contents.classes info
   pub statics : (info : List ℕ) × AreStatics contents.statics info

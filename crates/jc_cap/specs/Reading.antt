@@ -1,5 +1,5 @@
--- Reading the components of a package, the one with the lowest tag first.
-use Rattle.std.specs.Prelude.{ℕ, List, Option, Some, None, Result, Ok, Err, if◌then◌else◌}
+-- Reading the components of a package, the one with the lowest tag first. Its header tells the format of the others.
+use Rattle.std.specs.Prelude.{ℕ, List, Option, Some, None, Result, Ok}
 use Rattle.jc_cap_linkage.specs.declared.fault.CapFault.{CapFault}
 use Rattle.jc_cap_linkage.specs.declared.formats.Format.{Format}
 use Rattle.jc_cap_linkage.specs.Reading.{◌>>=◌, value_of_whole}
@@ -24,8 +24,8 @@ use Rattle.jc_cap_code.specs.StaticReading.{statics_at}
 use Rattle.jc_cap.specs.declared.texts.PackageBytes.{PackageBytes}
 use Rattle.jc_cap.specs.Contents.{PackageContents}
 
-abbrev pub header_in : Format → List ℕ → Result HeaderValue CapFault
-header_in format text = info_at header_tag text >>= λ info. value_of_whole (header_at format info)
+abbrev pub header_in : List ℕ → Result HeaderValue CapFault
+header_in text = info_at header_tag text >>= λ info. value_of_whole (header_at info)
 
 abbrev pub directory_in : Format → List ℕ → Result Directory CapFault
 directory_in format text = info_at directory_tag text >>= λ info. value_of_whole (directory_at format info)
@@ -55,12 +55,12 @@ exports_in (Some text) = info_at export_tag text >>= λ info. value_of_whole (ex
 
 unfoldable pub contents_of : PackageBytes → Result PackageContents CapFault
 contents_of texts = do
-  header ← header_in texts.format texts.header
-  directory ← directory_in texts.format texts.directory
+  header ← header_in texts.header
+  directory ← directory_in header.format texts.directory
   applets ← applets_in texts.applets
   imports ← imports_in texts.imports
   pool ← pool_in texts.pool
-  classes ← classes_in texts.format texts.classes
+  classes ← classes_in header.format texts.classes
   methods ← methods_in texts.methods
   statics ← statics_in texts.statics
   exports ← exports_in texts.exports

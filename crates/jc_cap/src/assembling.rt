@@ -11,7 +11,6 @@ use crate::fitting::offsets_fit;
 use crate::sizes::sizes_agree;
 use crate::texts::{ComponentBytes, LoadedComponents, PackageBytes};
 use jc_cap_linkage::fault::CapFault;
-use jc_cap_linkage::formats::Format;
 use jc_cap_linkage::tags;
 use std::marker::Model;
 
@@ -43,10 +42,10 @@ fn flagged_component(
 }
 
 /// Which components the header asks for: Export, and Applet.
-fn flags_in(format: Format, header: &ComponentBytes) -> Result<(bool, bool), CapFault>
-    ensures { ParsesAs (λ x. x) result (flags_in format header.now) }
+fn flags_in(header: &ComponentBytes) -> Result<(bool, bool), CapFault>
+    ensures { ParsesAs (λ x. x) result (flags_in header.now) }
 {
-    let header = header_in(format, header.bytes())?;
+    let header = header_in(header.bytes())?;
     Ok((header.exports, header.has_applets))
 }
 
@@ -57,7 +56,7 @@ fn required_components(load: LoadedComponents) -> Result<PackageBytes, CapFault>
 {
     let header = required_component(tags::HEADER, load.header)?;
     let directory = required_component(tags::DIRECTORY, load.directory)?;
-    let (exports, has_applets) = flags_in(load.format, &header)?;
+    let (exports, has_applets) = flags_in(&header)?;
     let applets = flagged_component(tags::APPLET, has_applets, load.applets)?;
     let imports = required_component(tags::IMPORT, load.imports)?;
     let pool = required_component(tags::CONSTANT_POOL, load.pool)?;
@@ -66,7 +65,6 @@ fn required_components(load: LoadedComponents) -> Result<PackageBytes, CapFault>
     let statics = required_component(tags::STATIC_FIELD, load.statics)?;
     let exports = flagged_component(tags::EXPORT, exports, load.exports)?;
     Ok(PackageBytes {
-        format: load.format,
         header,
         directory,
         applets,

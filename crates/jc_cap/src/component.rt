@@ -35,14 +35,14 @@ pub enum Component<'a> {
     Unused,
 }
 
-/// What the info of the component with this tag says.
+/// What the info of the component with this tag says. Directory and Class components are read in this format.
 #[tactic(auto, unfolding(crate::specs::Components::content_at))]
 fn of_info(format: Format, tag: u8, info: &[u8]) -> Result<Component<'_>, CapFault>
     requires { length info.now < 2 ^ 16 }
     ensures { ParsesAs content result (content_at format tag info.now) }
 {
     match tag {
-        tags::HEADER => Ok(Component::Header(read_header(format, info)?)),
+        tags::HEADER => Ok(Component::Header(read_header(info)?)),
         tags::DIRECTORY => Ok(Component::Directory(read_directory(format, info)?)),
         tags::APPLET => Ok(Component::Applet(read_applets(info)?)),
         tags::IMPORT => Ok(Component::Import(read_imports(info)?)),
@@ -65,7 +65,8 @@ fn of_bytes(format: Format, tag: u8, bytes: &[u8]) -> Result<Component<'_>, CapF
 
 /// The component with this tag that the bytes are, all of the bytes: the tag, two bytes of size, and the info.
 ///
-/// The tag is 1 to 12 or 128 to 255. No memory is taken, and nothing is copied.
+/// The format is that of the package's Header component; those of Directory and Class alone depend on it. The tag is 1 to
+/// 12 or 128 to 255. No memory is taken, and nothing is copied.
 pub fn read_component(format: Format, tag: u8, bytes: &[u8]) -> Result<Component<'_>, CapFault>
     // What is read stands in the bytes.
     ensures found { IfOk result (λ c. IsComponent format tag (content c) bytes.now) }

@@ -37,11 +37,11 @@ pub struct Contents<'a> {
     pub exports: Option<Exports<'a>>,
 }
 
-pub(crate) fn header_in(format: Format, bytes: &[u8]) -> Result<Header<'_>, CapFault>
-    ensures { ParsesAs head result (header_in format bytes.now) }
+pub(crate) fn header_in(bytes: &[u8]) -> Result<Header<'_>, CapFault>
+    ensures { ParsesAs head result (header_in bytes.now) }
 {
     let info = info_of(tags::HEADER, bytes)?;
-    read_header(format, info)
+    read_header(info)
 }
 
 fn directory_in(format: Format, bytes: &[u8]) -> Result<Directory<'_>, CapFault>
@@ -117,12 +117,12 @@ fn exports_in(text: &Option<ComponentBytes>) -> Result<Option<Exports<'_>>, CapF
 pub fn read_contents(texts: &PackageBytes) -> Result<Contents<'_>, CapFault>
     ensures { ParsesAs package_contents result (contents_of texts.now) }
 {
-    let header = header_in(texts.format, texts.header.bytes())?;
-    let directory = directory_in(texts.format, texts.directory.bytes())?;
+    let header = header_in(texts.header.bytes())?;
+    let directory = directory_in(header.format, texts.directory.bytes())?;
     let applets = applets_in(&texts.applets)?;
     let imports = imports_in(texts.imports.bytes())?;
     let pool = pool_in(texts.pool.bytes())?;
-    let classes = classes_in(texts.format, texts.classes.bytes())?;
+    let classes = classes_in(header.format, texts.classes.bytes())?;
     let methods = methods_in(texts.methods.bytes())?;
     let statics = statics_in(texts.statics.bytes())?;
     let exports = exports_in(&texts.exports)?;

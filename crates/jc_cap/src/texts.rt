@@ -2,7 +2,6 @@
 ghost use Rattle.std.specs.Prelude.{◌≡◌, ◌<◌, ◌-◌, length};
 ghost use Rattle.jc_cap.specs.Texts.{no_components, with_component};
 
-use jc_cap_linkage::formats::Format;
 use jc_cap_linkage::tags;
 use std::marker::Model;
 
@@ -39,7 +38,6 @@ impl ComponentBytes {
 /// The components of a package that have come, those that are used.
 #[derive(Drop)]
 pub struct LoadedComponents {
-    pub format: Format,
     pub header: Option<ComponentBytes>,
     pub directory: Option<ComponentBytes>,
     pub applets: Option<ComponentBytes>,
@@ -61,7 +59,6 @@ impl LoadedComponents {
         ensures { result ≡ no_components }
     {
         LoadedComponents {
-            format: Format::V2_1,
             header: None,
             directory: None,
             applets: None,
@@ -113,7 +110,6 @@ fn size_of(bytes: &[u8]) -> u16
 /// The components of a package, all that it needs.
 #[derive(Drop)]
 pub struct PackageBytes {
-    pub format: Format,
     pub header: ComponentBytes,
     pub directory: ComponentBytes,
     pub applets: Option<ComponentBytes>,

@@ -5,7 +5,6 @@ use Rattle.std.specs.Prelude.{slice_get}
 use Rattle.std.proofs.lemmas.List.{append-nil}
 use Rattle.std.proofs.lemmas.Bool.{ne_eqb}
 use Rattle.jc_cap_linkage.specs.declared.formats.Format.{Format}
-use Rattle.jc_cap_linkage.specs.declared.formats.Format.TheVariants.{V2_1}
 use Rattle.jc_cap_code.specs.declared.class_records.ClassRecord.{ClassRecord}
 use Rattle.jc_cap_code.specs.ClassValues.{RecordAt, offsets_of, contents_of}
 use Rattle.jc_cap_code.specs.ClassReading.{is_among, classes_of}
@@ -29,9 +28,9 @@ back_from at before (x ∷ rs) text (suc i) r are e =
 
 pub looks_back_to : (format : Format) (info : List ℕ) (rs value : List RecordAt) (i : ℕ) (r : ClassRecord) → classes_of format info ≡ Ok rs → rs ≡ value
     → slice_get (contents_of value) i ≡ Some r → LooksBack (take i (offsets_of value)) r
-looks_back_to V2_1 info rs value i r e same there =
-    let are = classes_take V2_1 info value (e ∙ ap Ok same) in
-    back_from 0 [] value info i r are.1 there
+looks_back_to format info rs value i r e same there =
+    let are = classes_take format info value (e ∙ ap Ok same) in
+    back_from (length are.0) [] value are.1 i r are.5 there
 
 -- ---- the first place of an offset
 

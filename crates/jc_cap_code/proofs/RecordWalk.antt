@@ -8,7 +8,6 @@ use Rattle.std.proofs.lemmas.Option.{get_or_from_slice_get}
 use Rattle.jc_cap_linkage.specs.declared.fault.CapFault.{CapFault}
 use Rattle.jc_cap_linkage.specs.declared.fault.CapFault.TheVariants.{BadOffset}
 use Rattle.jc_cap_linkage.specs.declared.formats.Format.{Format}
-use Rattle.jc_cap_linkage.specs.declared.formats.Format.TheVariants.{V2_1}
 use Rattle.jc_cap_linkage.specs.declared.class_refs.ClassRef.{ClassRef}
 use Rattle.jc_cap_linkage.specs.Reading.{◌>>=◌, Field, ParsesAs}
 use Rattle.jc_cap_linkage.proofs.Many.{bind_ok, ok_is}
@@ -17,6 +16,7 @@ use Rattle.jc_cap_code.specs.ClassValues.{RecordAt, offsets_of, contents_of}
 use Rattle.jc_cap_code.specs.ClassReading.{is_among, is_earlier, any_class, record_at, records_at, records_start, classes_of, record_offsets_or_none}
 use Rattle.jc_cap_code.specs.ClassGrammar.{AreRecords, AreClasses}
 use Rattle.jc_cap_code.proofs.Among.{looks_back, knows_back}
+use Rattle.jc_cap_code.proofs.Starts.{start_place, start_again}
 use Rattle.jc_cap_code.proofs.ClassTelling.{record_takes, record_again, record_long, record_reread}
 
 abbrev Records : Type 0
@@ -92,15 +92,19 @@ records_again (suc most) total at before (r ∷ rs) text few sum are =
     records_step most total before text are.1 r.contents (omega (arith, long, size)) read ∙ rw (there, place, sym are.2) refl
 
 pub classes_take : (format : Format) (info : List ℕ) (rs : List RecordAt) → classes_of format info ≡ Ok rs → AreClasses format rs info
-unfolding classes_of records_start
-classes_take V2_1 info rs e =
-    let s = records_take 256 (length info) [] info rs (omega arith) e in
-    let none : length info - length info ≡ 0 = omega arith in
-    (s.few, subst (λ (k : ℕ). AreRecords k [] rs info) none s.are)
+unfolding classes_of
+classes_take format info rs e =
+    let start = bind_ok (records_start format info) _ rs e in
+    let place = start_place format info start.0 start.1 in
+    let s = records_take 256 (length info) [] start.0 rs place.long start.2 in
+    (place.front.text, start.0, place.front.is, place.front.parts, s.few, subst (λ (k : ℕ). AreRecords k [] rs start.0) place.at s.are)
 
 pub classes_again : (format : Format) (info : List ℕ) (rs : List RecordAt) → AreClasses format rs info → classes_of format info ≡ Ok rs
-unfolding classes_of records_start
-classes_again V2_1 info rs are = records_again 256 (length info) 0 [] rs info are.0 (omega arith) are.1
+unfolding classes_of
+classes_again format info rs are =
+    let start : records_start format info ≡ Ok are.1 = ap (records_start format) are.3 ∙ start_again format are.0 are.1 are.2 in
+    let size : length info ≡ length are.0 + length are.1 = ap length are.3 ∙ length-append are.0 are.1 in
+    rw start (records_again 256 (length info) (length are.0) [] rs are.1 are.4 size are.5)
 
 pub classes_found : {X : Type 0} (view : X → List RecordAt) (format : Format) (info : List ℕ) (r : Result X CapFault) → ParsesAs view r (classes_of format info)
     → IfOk r (λ x. AreClasses format (view x) info)
@@ -260,10 +264,11 @@ record_there (suc most) before info (b ∷ bytes) rs (suc j) le place e lt =
     subst (λ (y : List RecordAt). At info y (suc j)) all (record { contents = ih.contents; rest = ih.rest; reads = ih.reads; is = ih.is; within = ih.within })
 
 pub class_there : (format : Format) (info : List ℕ) (rs : List RecordAt) (i : ℕ) → classes_of format info ≡ Ok rs → i < length rs → At info rs i
-unfolding classes_of records_start
-class_there V2_1 info rs i e lt =
-    let start : info ≡ drop (length info - length info) info = ap (λ (k : ℕ). drop k info) (let z : 0 ≡ length info - length info = omega arith in z) in
-    record_there 256 [] info info rs i (omega arith) start e lt
+unfolding classes_of
+class_there format info rs i e lt =
+    let start = bind_ok (records_start format info) _ rs e in
+    let place = start_place format info start.0 start.1 in
+    record_there 256 [] info start.0 rs i place.long place.there start.2 lt
 
 contents-get : (rs : List RecordAt) (i : ℕ) (r : RecordAt) → slice_get rs i ≡ Some r → slice_get (contents_of rs) i ≡ Some r.contents
 contents-get [] i r e = absurd cc
@@ -310,8 +315,7 @@ fail_not (Ok rs) f ok e = cc
 fail_not (Err g) f ok e = absurd (false≢true ok)
 
 pub start_long : (format : Format) (info start : List ℕ) → records_start format info ≡ Ok start → length start ≤ length info
-unfolding records_start
-start_long V2_1 info start e = (let same : length info ≡ length start = ap length (ok_is info start e) in omega (arith, same))
+start_long format info start e = (start_place format info start e).long
 
 -- ---- an offset among others
 

@@ -1,7 +1,7 @@
 -- Which bytes are a Class component.
 use Rattle.std.specs.Prelude.{◌≡◌, ℕ, ◌+◌, ◌*◌, ◌%◌, ◌<◌, ◌≤◌, ◌⊎◌, Bool, true, false, List, [], ◌∷◌, ◌++◌, length, Contains, if◌then◌else◌}
 use Rattle.jc_cap_linkage.specs.declared.formats.Format.{Format}
-use Rattle.jc_cap_linkage.specs.declared.formats.Format.TheVariants.{V2_1}
+use Rattle.jc_cap_linkage.specs.declared.formats.Format.TheVariants.{V2_1, V2_2}
 use Rattle.jc_cap_linkage.specs.declared.class_refs.ClassRef.{ClassRef}
 use Rattle.jc_cap_linkage.specs.declared.class_refs.ClassRef.TheVariants.{Internal, External}
 use Rattle.jc_cap_linkage.specs.Grammar.{AreEncodedInTurn, IsU2, IsClassRef}
@@ -69,6 +69,12 @@ AreRecords at before (r ∷ rs) text = (front : List ℕ) × (back : List ℕ)
     × (r.offset ≡ at) × IsRecord r.contents front × LooksBack before r.contents
     × (text ≡ front ++ back) × AreRecords (at + length front) (before ++ at ∷ []) rs back
 
--- in format 2.1 the info is the records, 256 at most
+-- what stands in front of the records: nothing in format 2.1, in format 2.2 a signature pool of any bytes behind its length
+abbrev pub IsInFront : Format → List ℕ → Type 0
+IsInFront V2_1 front = front ≡ []
+IsInFront V2_2 front = (size : List ℕ) × (pool : List ℕ) × IsU2 (length pool) size × (front ≡ size ++ pool)
+
+-- the info is what stands in front, and the records, 256 at most
 abbrev pub AreClasses : Format → List RecordAt → List ℕ → Type 0
-AreClasses V2_1 rs info = (length rs ≤ 256) × AreRecords 0 [] rs info
+AreClasses format rs info = (front : List ℕ) × (back : List ℕ) × IsInFront format front × (info ≡ front ++ back)
+    × (length rs ≤ 256) × AreRecords (length front) [] rs back

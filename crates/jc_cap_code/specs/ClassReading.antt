@@ -4,10 +4,10 @@ use Rattle.std.specs.Prelude.{if◌then◌else◌}
 use Rattle.jc_cap_linkage.specs.declared.fault.CapFault.{CapFault}
 use Rattle.jc_cap_linkage.specs.declared.fault.CapFault.TheVariants.{BadOffset, Remote}
 use Rattle.jc_cap_linkage.specs.declared.formats.Format.{Format}
-use Rattle.jc_cap_linkage.specs.declared.formats.Format.TheVariants.{V2_1}
+use Rattle.jc_cap_linkage.specs.declared.formats.Format.TheVariants.{V2_1, V2_2}
 use Rattle.jc_cap_linkage.specs.declared.class_refs.ClassRef.{ClassRef}
 use Rattle.jc_cap_linkage.specs.declared.class_refs.ClassRef.TheVariants.{Internal, External}
-use Rattle.jc_cap_linkage.specs.Reading.{◌>>=◌, Field, u1_at, u2_at, many_at}
+use Rattle.jc_cap_linkage.specs.Reading.{◌>>=◌, Field, u1_at, u2_at, run_at, many_at}
 use Rattle.jc_cap_linkage.specs.ClassRefs.{class_ref_at}
 use Rattle.jc_cap_code.specs.declared.class_records.RecordFlags.{RecordFlags}
 use Rattle.jc_cap_code.specs.declared.class_records.ReferenceFields.{ReferenceFields}
@@ -123,11 +123,15 @@ records_at (suc most) total before (b ∷ bytes) = do
   others ← records_at most total (before ++ (total - suc (length bytes)) ∷ []) first.1
   Ok (record { offset = total - suc (length bytes); contents = first.0 } ∷ others)
 
--- what stands in front of the records: nothing in format 2.1
+-- the bytes behind what stands in front of the records: in format 2.2 the signature pool behind its length
 unfoldable pub records_start : Format → List ℕ → Result (List ℕ) CapFault
 records_start V2_1 info = Ok info
+records_start V2_2 info = do
+  size ← u2_at info
+  pool ← run_at size.0 size.1
+  Ok pool.1
 
--- a class's number is its place among the records, which are 256 at most
+-- a class's number is its place among the records, which are 256 at most; their offsets count from the info's first byte
 unfoldable pub classes_of : Format → List ℕ → Result (List RecordAt) CapFault
 classes_of format info = do
   start ← records_start format info

@@ -9,15 +9,22 @@ use crate::class_reading::{Known, is_among, read_record};
 use crate::class_records::ClassRecord;
 use arrayvec::ArrayVec;
 use jc_cap_linkage::fault::CapFault;
+use jc_cap_linkage::fields::{run, u2};
 use jc_cap_linkage::formats::Format;
 use std::marker::Model;
 
-/// What stands behind the things in front of the records.
+/// The bytes behind what stands in front of the records: in format 2.2 the signature pool.
+#[tactic(auto, unfolding(crate::specs::ClassReading::records_start))]
 fn records_start(format: Format, info: &[u8]) -> Result<&[u8], CapFault>
     ensures { ParsesAs (λ x. x.now) result (records_start format info.now) }
 {
     match format {
         Format::V2_1 => Ok(info),
+        Format::V2_2 => {
+            let (count, rest) = u2(info)?;
+            let (_, records) = run(count as usize, rest)?;
+            Ok(records)
+        }
     }
 }
 
@@ -63,7 +70,8 @@ fn index_of(offset: u16, offsets: &[u16]) -> Option<usize>
 
 /// The classes and interfaces of a package, in the order of their records. They are lent from the component.
 ///
-/// A class's number is its place among the records, of which there are 256 at most.
+/// A class's number is its place among the records, of which there are 256 at most. Offsets count from the info's first
+/// byte, in format 2.2 too, so that none of a record lies in the signature pool.
 #[derive(Drop)]
 pub struct Classes<'a> {
     format: Format,
@@ -100,7 +108,7 @@ fn read_classes(format: Format, info: &[u8]) -> Result<Classes<'_>, CapFault>
 
 /// Reads the info of a Class component.
 ///
-/// The faults, record after record from the left: BadOffset for a 257th record; Remote for a remote interface; BadOffset
+/// The faults, first that of a signature pool that is cut, and then record after record from the left: BadOffset for a 257th record; Remote for a remote interface; BadOffset
 /// for a reserved flag, for a superclass or superinterface of this package that is no earlier record, and where the
 /// fields that hold references don't lie among the declared ones; Truncated.
 pub fn read_class(format: Format, info: &[u8]) -> Result<Classes<'_>, CapFault>

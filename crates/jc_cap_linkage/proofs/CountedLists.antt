@@ -1,10 +1,10 @@
 -- Lists behind a byte of count.
-use Rattle.std.proofs.Common.{◌≡◌, ℕ, List, [], ◌∷◌, ◌++◌, length, Ok, refl, sym, ap, ◌∙◌, append_assoc}
+use Rattle.std.proofs.Common.{◌≡◌, ℕ, List, ◌∷◌, ◌++◌, length, Ok, sym, ap, ◌∙◌, append_assoc}
 use Rattle.jc_cap_linkage.specs.Reading.{◌>>=◌, Field, u1_at, many_at}
 use Rattle.jc_cap_linkage.specs.Grammar.{AreEncodedInTurn}
-use Rattle.jc_cap_linkage.specs.Telling.{IsPrefixEncoding, ReadsEncodings}
+use Rattle.jc_cap_linkage.specs.Telling.{ReadsEncodings}
 use Rattle.jc_cap_linkage.proofs.Many.{bind_ok}
-use Rattle.jc_cap_linkage.proofs.Telling.{u1_takes, many_takes, many_again}
+use Rattle.jc_cap_linkage.proofs.Telling.{u1_takes, many_takes}
 
 pub counted_takes : {A : Type 0} (read : List ℕ → Field A) (Is : A → List ℕ → Type 0) → ReadsEncodings read Is → (bytes : List ℕ) (xs : List A) (rest : List ℕ)
     → (u1_at bytes >>= λ count. many_at read count.0 count.1) ≡ Ok (xs, rest)

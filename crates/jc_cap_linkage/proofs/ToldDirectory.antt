@@ -1,10 +1,10 @@
 -- The same of directories.
-use Rattle.std.proofs.Common.{◌≡◌, ◌≤◌, ℕ, Bool, ltb, List, [], ◌∷◌, ◌++◌, length, Result, Ok, Err, refl, sym, ap, subst, ◌∙◌, append_assoc}
+use Rattle.std.proofs.Common.{◌≡◌, ℕ, ltb, List, ◌∷◌, ◌++◌, length, Ok, refl, sym, ap, subst, ◌∙◌, append_assoc}
 use Rattle.std.proofs.lemmas.Bool.{ltb-false, le-ltb}
 use Rattle.jc_cap_linkage.specs.declared.fault.CapFault.TheVariants.{BadOffset}
 use Rattle.jc_cap_linkage.specs.declared.formats.Format.{Format}
-use Rattle.jc_cap_linkage.specs.Reading.{◌>>=◌, Field, u1_at, u2_at, aid_at, many_at}
-use Rattle.jc_cap_linkage.specs.Grammar.{AreEncodedInTurn, IsU2, IsAid}
+use Rattle.jc_cap_linkage.specs.Reading.{u1_at, u2_at, aid_at, many_at}
+use Rattle.jc_cap_linkage.specs.Grammar.{IsU2}
 use Rattle.jc_cap_linkage.specs.Telling.{IsPrefixEncoding, ReadsEncodings}
 use Rattle.jc_cap_linkage.proofs.Many.{bind_ok, ok_is}
 use Rattle.jc_cap_linkage.proofs.Telling.{guard_ok, u1_takes, u2_tells, aid_tells, many_takes, many_again}

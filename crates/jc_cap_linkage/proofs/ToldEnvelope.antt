@@ -1,8 +1,8 @@
 -- The same of the envelope.
-use Rattle.std.proofs.Common.{◌≡◌, ℕ, ◌≤◌, ltb, eqb, List, [], ◌∷◌, ◌++◌, length, Result, Ok, Err, refl, sym, ap, subst, ◌∙◌, arith}
+use Rattle.std.proofs.Common.{◌≡◌, ℕ, ltb, eqb, List, [], ◌∷◌, length, Ok, refl, ap, subst, ◌∙◌, arith}
 use Rattle.std.proofs.lemmas.Bool.{ltb-false, le-ltb, eqb-true, eq-eqb}
 use Rattle.jc_cap_linkage.specs.declared.fault.CapFault.TheVariants.{Truncated, Trailing, Missing}
-use Rattle.jc_cap_linkage.specs.Reading.{◌>>=◌, u2_at}
+use Rattle.jc_cap_linkage.specs.Reading.{u2_at}
 use Rattle.jc_cap_linkage.specs.Grammar.{IsU2}
 use Rattle.jc_cap_linkage.proofs.Many.{bind_ok, ok_is}
 use Rattle.jc_cap_linkage.proofs.Telling.{guard_ok, wanted_ok, u2_tells}

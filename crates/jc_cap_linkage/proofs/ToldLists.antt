@@ -1,8 +1,8 @@
 -- The same of imports, applets and exports.
-use Rattle.std.proofs.Common.{◌≡◌, ℕ, List, [], ◌∷◌, ◌++◌, length, Result, Ok, Err, refl, sym, ap, subst, ◌∙◌, append_assoc}
-use Rattle.jc_cap_linkage.specs.Reading.{◌>>=◌, Field, u1_at, u2_at, aid_at, many_at}
+use Rattle.std.proofs.Common.{◌≡◌, ℕ, List, ◌∷◌, ◌++◌, length, Ok, refl, sym, ap, subst, ◌∙◌, append_assoc}
+use Rattle.jc_cap_linkage.specs.Reading.{u1_at, u2_at, aid_at, many_at}
 use Rattle.jc_cap_linkage.specs.Packages.{NamedPackage, package_at}
-use Rattle.jc_cap_linkage.specs.Grammar.{AreEncodedInTurn, IsU2, IsAid, IsPackageInfo}
+use Rattle.jc_cap_linkage.specs.Grammar.{IsU2, IsPackageInfo}
 use Rattle.jc_cap_linkage.specs.Telling.{IsPrefixEncoding, ReadsEncodings}
 use Rattle.jc_cap_linkage.proofs.Many.{bind_ok, ok_is}
 use Rattle.jc_cap_linkage.proofs.Telling.{u1_takes, u2_tells, aid_tells, package_tells, many_takes, many_again}

@@ -1,11 +1,11 @@
 -- Walking to the part at a place.
-use Rattle.std.proofs.Common.{◌≡◌, ℕ, zero, suc, ◌-◌, ◌+◌, ◌*◌, ◌≤◌, ◌<◌, List, [], ◌∷◌, length, drop, get_or, Option, Some, Result, Ok, Err, refl, sym, ap}
+use Rattle.std.proofs.Common.{◌≡◌, ℕ, zero, suc, ◌-◌, ◌+◌, ◌*◌, ◌≤◌, ◌<◌, List, ◌∷◌, length, drop, get_or, Some, Result, Ok, Err, sym, ap}
 use Rattle.std.proofs.Common.{subst, ◌∙◌, arith}
 use Rattle.std.specs.Prelude.{slice_get}
 use Rattle.std.proofs.lemmas.List.{drop_more, drop-drop, length-drop}
 use Rattle.std.proofs.lemmas.Option.{slice_get-get_or}
 use Rattle.jc_cap_linkage.specs.declared.fault.CapFault.{CapFault}
-use Rattle.jc_cap_linkage.specs.Reading.{◌>>=◌, Field, many_at, rest_after, list_or_empty, BeginsWithList}
+use Rattle.jc_cap_linkage.specs.Reading.{Field, many_at, rest_after, list_or_empty, BeginsWithList}
 use Rattle.jc_cap_linkage.specs.Places.{IsList, IsAtPlace}
 use Rattle.jc_cap_linkage.proofs.Many.{Begins, BeginsWithList-begins, BeginsWithList-length, Begins-no_fault, after_ok, after_err, ok_is}
 

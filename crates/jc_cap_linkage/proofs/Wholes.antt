@@ -1,11 +1,11 @@
 -- Texts that a field is all of.
-use Rattle.std.proofs.Common.{◌≡◌, ℕ, List, [], ◌++◌, length, eqb, Result, Ok, Err, refl, sym, ap, subst, ◌∙◌}
+use Rattle.std.proofs.Common.{◌≡◌, ℕ, List, [], length, eqb, Result, Ok, Err, refl, sym, ap, subst, ◌∙◌}
 use Rattle.std.specs.Prelude.{IfOk}
 use Rattle.std.proofs.lemmas.Bool.{eqb-true}
 use Rattle.std.proofs.lemmas.List.{append-nil, nil_from_length}
 use Rattle.jc_cap_linkage.specs.declared.fault.CapFault.{CapFault}
 use Rattle.jc_cap_linkage.specs.declared.fault.CapFault.TheVariants.{Trailing}
-use Rattle.jc_cap_linkage.specs.Reading.{◌>>=◌, Field, ParsesAs, value_of_whole}
+use Rattle.jc_cap_linkage.specs.Reading.{Field, ParsesAs, value_of_whole}
 use Rattle.jc_cap_linkage.specs.Telling.{IsPrefixEncoding, ReadsEncodings}
 use Rattle.jc_cap_linkage.proofs.Many.{bind_ok, ok_is}
 use Rattle.jc_cap_linkage.proofs.Telling.{wanted_ok}

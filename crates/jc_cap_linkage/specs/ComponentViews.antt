@@ -8,7 +8,13 @@ use Rattle.jc_cap_linkage.specs.Applets.{AppletNamed}
 use Rattle.jc_cap_linkage.specs.Customs.{CustomNamed}
 
 abbrev pub head : Header → HeaderValue
-head h = record { exports = h.exports; has_applets = h.has_applets; this_package = package_info h.this_package }
+head h = record {
+  format = h.format;
+  exports = h.exports;
+  has_applets = h.has_applets;
+  this_package = package_info h.this_package;
+  name = h.name.now;
+}
 
 abbrev pub applet_info : AppletInfo → AppletNamed
 applet_info a = record { aid = a.aid.now; install_method_offset = a.install_method_offset }

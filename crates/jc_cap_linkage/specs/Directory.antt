@@ -1,16 +1,17 @@
 -- The Directory component.
 use Rattle.std.specs.Prelude.{◌≡◌, ℕ, List, ◌∷◌, ◌++◌, length, Ok}
 use Rattle.jc_cap_linkage.specs.declared.formats.Format.{Format}
-use Rattle.jc_cap_linkage.specs.declared.formats.Format.TheVariants.{V2_1}
+use Rattle.jc_cap_linkage.specs.declared.formats.Format.TheVariants.{V2_1, V2_2}
 use Rattle.jc_cap_linkage.specs.declared.directory.Directory.{Directory}
 use Rattle.jc_cap_linkage.specs.declared.directory.StaticFieldSize.{StaticFieldSize}
 use Rattle.jc_cap_linkage.specs.Reading.{◌>>=◌, Field, u1_at, u2_at, many_at}
 use Rattle.jc_cap_linkage.specs.Grammar.{AreEncodedInTurn, IsU2}
 use Rattle.jc_cap_linkage.specs.Customs.{custom_at, IsCustom}
 
--- how many sizes a directory has
+-- how many sizes a directory has; the twelfth is that of the Debug component
 abbrev pub sizes_of : Format → ℕ
 sizes_of V2_1 = 11
+sizes_of V2_2 = 12
 
 -- three times two bytes
 unfoldable pub static_field_size_at : List ℕ → Field StaticFieldSize

@@ -1,5 +1,5 @@
 -- The Import component.
-use Rattle.std.specs.Prelude.{◌≡◌, ℕ, List, ◌∷◌, length, Ok}
+use Rattle.std.specs.Prelude.{◌≡◌, ℕ, List, ◌∷◌, length}
 use Rattle.jc_cap_linkage.specs.Packages.{NamedPackage, package_at}
 use Rattle.jc_cap_linkage.specs.Reading.{◌>>=◌, Field, u1_at, many_at}
 use Rattle.jc_cap_linkage.specs.Grammar.{AreEncodedInTurn, IsPackageInfo}

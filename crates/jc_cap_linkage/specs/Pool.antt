@@ -1,5 +1,5 @@
 -- The ConstantPool component.
-use Rattle.std.specs.Prelude.{◌≡◌, ◌<◌, ℕ, ◌+◌, ◌-◌, ◌*◌, List, [], ◌∷◌, ◌++◌, length, Ok, Err, nat_lt, ◌==◌, if◌then◌else◌}
+use Rattle.std.specs.Prelude.{◌≡◌, ◌<◌, ℕ, ◌+◌, ◌-◌, List, [], ◌∷◌, ◌++◌, length, Ok, Err, nat_lt, ◌==◌, if◌then◌else◌}
 use Rattle.jc_cap_linkage.specs.declared.fault.CapFault.TheVariants.{BadOffset}
 use Rattle.jc_cap_linkage.specs.declared.pool.VirtualToken.{VirtualToken}
 use Rattle.jc_cap_linkage.specs.declared.pool.VirtualToken.TheVariants.{Public, PackageVisible}

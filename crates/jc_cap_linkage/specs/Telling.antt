@@ -1,6 +1,6 @@
 -- Reading and grammar say the same.
 use Rattle.std.specs.Prelude.{◌≡◌, ◌↔◌, ℕ, List, ◌++◌, length, Ok}
-use Rattle.jc_cap_linkage.specs.Reading.{◌>>=◌, Field, many_at, value_of_whole}
+use Rattle.jc_cap_linkage.specs.Reading.{Field, many_at, value_of_whole}
 use Rattle.jc_cap_linkage.specs.Grammar.{AreEncodedInTurn}
 
 -- The bytes begin with a text of x, behind which the rest stands.

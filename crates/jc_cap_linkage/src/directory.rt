@@ -39,7 +39,7 @@ fn static_field_size(bytes: &[u8]) -> Result<(StaticFieldSize, &[u8]), CapFault>
 /// What the package says of its components.
 #[derive(Drop)]
 pub struct Directory<'a> {
-    /// The sizes of the components' infos, tag 1 first; 0 where one is absent.
+    /// The sizes of the components' infos, tag 1 first; 0 where one is absent. There are eleven, in format 2.2 twelve.
     pub component_sizes: U2List<'a>,
     pub static_field_size: StaticFieldSize,
     pub import_count: u8,
@@ -53,6 +53,7 @@ fn size_count(format: Format) -> u16
 {
     match format {
         Format::V2_1 => 11,
+        Format::V2_2 => 12,
     }
 }
 

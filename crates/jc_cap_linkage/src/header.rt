@@ -1,23 +1,27 @@
 //! The Header component.
 ghost use Rattle.std.specs.Prelude.{◌≡◌, Ok, IfOk};
 ghost use Rattle.jc_cap_linkage.specs.Reading.{ParsesAs, value_of_whole};
-ghost use Rattle.jc_cap_linkage.specs.Header.{HeaderValue, magic_at, minor_of, version_at, flags_at, header_at, IsHeader};
+ghost use Rattle.jc_cap_linkage.specs.Header.{HeaderValue, magic_at, format_of, version_at, flags_at, name_at, header_at, IsHeader};
 ghost use Rattle.jc_cap_linkage.specs.ComponentViews.{head};
 
 use crate::fault::CapFault;
-use crate::fields::u1;
+use crate::fields::{run, u1};
 use crate::formats::Format;
 use crate::packages::{PackageInfo, package_info};
 
-/// What a package says of itself. Its format and its profile without int are checked as it is read.
+/// What a package says of itself. That it does without int is checked as it is read.
 #[derive(Clone, Copy, Debug, Drop)]
 pub struct Header<'a> {
+    /// The format of its components.
+    pub format: Format,
     /// It has an Export component (ACC_EXPORT).
     pub exports: bool,
     /// It has an Applet component (ACC_APPLET).
     pub has_applets: bool,
-    /// The package's own name.
+    /// The package's own version and AID.
     pub this_package: PackageInfo<'a>,
+    /// The package's name, which is not looked at; empty in format 2.1, which has none.
+    pub name: &'a [u8],
 }
 
 /// The bytes after the magic number.
@@ -44,29 +48,29 @@ fn after_magic(bytes: &[u8]) -> Result<&[u8], CapFault>
     }
 }
 
-/// The minor version of a format; the major version of all is 2.
-fn minor_version(format: Format) -> u8
-    ensures { result ≡ minor_of format }
+/// The format with this minor version; the major version of all is 2.
+fn format_of(minor: u8) -> Result<Format, CapFault>
+    ensures { ParsesAs (λ x. x) result (format_of minor) }
 {
-    match format {
-        Format::V2_1 => 1,
+    match minor {
+        1 => Ok(Format::V2_1),
+        2 => Ok(Format::V2_2),
+        _ => Err(CapFault::BadVersion),
     }
 }
 
-/// The bytes after the format's version.
+/// The format.
 #[tactic(auto, unfolding(crate::specs::Header::version_at))]
-fn after_version(format: Format, bytes: &[u8]) -> Result<&[u8], CapFault>
-    ensures { ParsesAs (λ x. x.now) result (version_at format bytes.now) }
+fn version(bytes: &[u8]) -> Result<(Format, &[u8]), CapFault>
+    ensures { ParsesAs (λ x. (x.0, x.1.now)) result (version_at bytes.now) }
 {
     let (minor, rest) = u1(bytes)?;
-    if minor != minor_version(format) {
-        return Err(CapFault::BadVersion);
-    }
+    let format = format_of(minor)?;
     let (major, rest) = u1(rest)?;
     if major != 2 {
         return Err(CapFault::BadVersion);
     }
-    Ok(rest)
+    Ok((format, rest))
 }
 
 /// Whether the package exports, and whether it has applets.
@@ -86,40 +90,57 @@ fn flags(bytes: &[u8]) -> Result<((bool, bool), &[u8]), CapFault>
     Ok(((exports, has_applets), rest))
 }
 
+/// The package's name behind its length, which format 2.2 alone has.
+#[tactic(auto, unfolding(crate::specs::Header::name_at))]
+fn name(format: Format, bytes: &[u8]) -> Result<(&[u8], &[u8]), CapFault>
+    ensures { ParsesAs (λ x. (x.0.now, x.1.now)) result (name_at format bytes.now) }
+{
+    match format {
+        Format::V2_1 => Ok((&[], bytes)),
+        Format::V2_2 => {
+            let (count, rest) = u1(bytes)?;
+            run(count as usize, rest)
+        }
+    }
+}
+
 #[tactic(auto, unfolding(crate::specs::Header::header_at))]
-fn header_of(format: Format, bytes: &[u8]) -> Result<(Header<'_>, &[u8]), CapFault>
-    ensures { ParsesAs (λ x. (head x.0, x.1.now)) result (header_at format bytes.now) }
+fn header_of(bytes: &[u8]) -> Result<(Header<'_>, &[u8]), CapFault>
+    ensures { ParsesAs (λ x. (head x.0, x.1.now)) result (header_at bytes.now) }
 {
     let rest = after_magic(bytes)?;
-    let rest = after_version(format, rest)?;
+    let (format, rest) = version(rest)?;
     let ((exports, has_applets), rest) = flags(rest)?;
     let (this_package, rest) = package_info(rest)?;
+    let (name, rest) = name(format, rest)?;
     let header = Header {
+        format,
         exports,
         has_applets,
         this_package,
+        name,
     };
     Ok((header, rest))
 }
 
-fn whole_header(format: Format, info: &[u8]) -> Result<Header<'_>, CapFault>
-    ensures { ParsesAs head result (value_of_whole (header_at format info.now)) }
+fn whole_header(info: &[u8]) -> Result<Header<'_>, CapFault>
+    ensures { ParsesAs head result (value_of_whole (header_at info.now)) }
 {
-    let (header, rest) = header_of(format, info)?;
+    let (header, rest) = header_of(info)?;
     if !rest.is_empty() {
         return Err(CapFault::Trailing);
     }
     Ok(header)
 }
 
-/// The header that an info is.
-pub fn read_header(format: Format, info: &[u8]) -> Result<Header<'_>, CapFault>
+/// The header that an info is. It tells its format.
+pub fn read_header(info: &[u8]) -> Result<Header<'_>, CapFault>
     // What is read stands in the info.
-    ensures found { IfOk result (λ x. IsHeader format (head x) info.now) }
+    ensures found { IfOk result (λ x. IsHeader (head x) info.now) }
     // A header that the info is is read.
-    ensures only { (x : HeaderValue) → IsHeader format x info.now → ParsesAs head result (Ok x) }
+    ensures only { (x : HeaderValue) → IsHeader x info.now → ParsesAs head result (Ok x) }
     // Otherwise the fault is the first one from the left.
-    ensures exact { ParsesAs head result (value_of_whole (header_at format info.now)) }
+    ensures exact { ParsesAs head result (value_of_whole (header_at info.now)) }
 {
-    whole_header(format, info)
+    whole_header(info)
 }

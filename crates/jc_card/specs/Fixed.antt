@@ -1,6 +1,6 @@
 -- The objects that the runtime environment owns from an image's making on: one exception of each class that it
 -- throws itself, the APDU object and the APDU buffer. All are cleared at a reset.
-use Rattle.std.specs.Prelude.{ℕ, zero, suc, ◌+◌, List, [], ◌∷◌, map, Option, Some, None, unwrap_or}
+use Rattle.std.specs.Prelude.{ℕ, zero, suc, ◌+◌, false, List, [], ◌∷◌, map, Option, Some, None, unwrap_or}
 use Rattle.std.specs.List.{range_with_len}
 use Rattle.jc_transient.specs.State.{buffer_size}
 use Rattle.jc_transient.specs.declared.cell.ClearEvent.TheVariants.{Reset}
@@ -54,7 +54,7 @@ class_number_of t (Some class) = class_word t class
 
 -- what the header of such an object says, whose cells stand from a place on
 abbrev pub facts_of_fixed : Tokens → FixedObject → ℕ → Facts
-facts_of_fixed t o place = record { kind = o.kind; event = Some Reset; class = class_number_of t o.class; owner = 0; length = o.cells; place = place }
+facts_of_fixed t o place = record { kind = o.kind; event = Some Reset; class = class_number_of t o.class; owner = 0; length = o.cells; place = place; packed = false }
 
 -- how many cells these objects have together
 abbrev pub cells_of_all : List FixedObject → ℕ

@@ -1,14 +1,14 @@
 -- The images that the product makes.
-use Rattle.std.specs.Prelude.{ℕ, ◌≡◌, ◌≤◌, List, length, Ok}
-use Rattle.jc_words.specs.Layout.{magic, least_size}
+use Rattle.std.specs.Prelude.{ℕ, ◌+◌, ◌≡◌, ◌≤◌, List, [], ◌∷◌, length, Ok}
+use Rattle.jc_words.specs.Layout.{journal_capacity, least_size, magic, version}
 use Rattle.jc_commit.specs.Image.{IsGoodLog, recovered_of}
 use Rattle.jc_heap.specs.Image.{IsWellFormed}
 use Rattle.jc_heap.specs.Heap.{HeapState, heap_of}
 use Rattle.jc_heap.specs.Whole.{IsConsistent}
-use Rattle.jc_image.specs.Laying.{unsealed_heap, sealed_heap}
+use Rattle.jc_image.specs.Laying.{first_free, unsealed_heap, sealed_heap}
 use Rattle.jc_platform.specs.Tokens.{Tokens}
 use Rattle.jc_platform.specs.Table.{Reads}
-use Rattle.jc_card.specs.Fixed.{fixed_objects, BeginsWithFixed, with_objects}
+use Rattle.jc_card.specs.Fixed.{cells_of_all, fixed_objects, fixed_size, BeginsWithFixed, with_objects}
 use Rattle.jc_card.specs.PowerUp.{HasPackages}
 
 -- a heap that begins with the objects of the runtime environment, whose classes its own table names, and that fits its packages
@@ -31,3 +31,8 @@ pub record IsMade (w : List ℕ) : Type 0 where
 -- the heap of a new image
 abbrev pub new_card_heap : ℕ → List ℕ → Tokens → HeapState
 new_card_heap n text t = sealed_heap (with_objects t (unsealed_heap n text) fixed_objects)
+
+-- the first sixteen words of a new image of n words, whose table text has so many bytes
+abbrev pub new_front : ℕ → ℕ → List ℕ
+new_front n long = magic ∷ version ∷ n ∷ 0 ∷ journal_capacity ∷ (first_free long + fixed_size) ∷ 0 ∷ 0 ∷ cells_of_all fixed_objects ∷ 0 ∷ long
+    ∷ 0 ∷ 0 ∷ 0 ∷ 0 ∷ 0 ∷ []

@@ -1,14 +1,14 @@
 //! Making an image.
-ghost use Rattle.std.specs.Prelude.{ℕ, ◌≡◌, ◌≢◌, ◌<◌, ◌≤◌, ◌+◌, ◌⊎◌, ◌↔◌, true, false, length, slice_index, Ok, Err, IfOk, IfErr, OnOk, OnErr, IsErrOf, Result};
+ghost use Rattle.std.specs.Prelude.{ℕ, ◌≡◌, ◌≢◌, ◌<◌, ◌≤◌, ◌+◌, ◌⊎◌, ◌↔◌, true, false, length, slice_index, take, Ok, Err, IfOk, IfErr, OnOk, OnErr, IsErrOf, Result};
 ghost use Rattle.jc_words.specs.Refusals.{refused_once};
-ghost use Rattle.jc_words.specs.Layout.{magic_address, magic, least_size};
+ghost use Rattle.jc_words.specs.Layout.{front_length, magic_address, magic, least_size};
 ghost use Rattle.jc_image.specs.Laying.{first_free};
 ghost use Rattle.jc_heap.specs.Heap.{heap_of};
 ghost use Rattle.jc_commit.specs.Image.{recovered_of};
 ghost use Rattle.jc_platform.specs.Tokens.{Tokens};
 ghost use Rattle.jc_platform.specs.Table.{Reads};
 ghost use Rattle.jc_card.specs.Fixed.{fixed_size};
-ghost use Rattle.jc_card.specs.Made.{IsMade, new_card_heap};
+ghost use Rattle.jc_card.specs.Made.{IsMade, new_card_heap, new_front};
 
 use crate::fixed::make_fixed;
 use jc_heap::Heap;
@@ -47,6 +47,8 @@ pub fn format<S: WordStore>(store: S, text: &[u8]) -> (S, Result<(), FormatFault
     ensures heap { OnOk result.1 ((t : Tokens) × Reads text.now (Ok t)
         × (heap_of (recovered_of (S.words result.0)) ≡ new_card_heap
         (length (S.words store)) text.now t)) }
+    ensures front { OnOk result.1 (take front_length (S.words result.0)
+        ≡ new_front (length (S.words store)) (length text.now)) }
     ensures size { length (S.words result.0) ≡ length (S.words store) }
     ensures up { OnOk result.1 (S.down result.0 ≡ false) }
     ensures none_refused { OnOk result.1 (S.refusals result.0 ≡ S.refusals store) }
@@ -90,6 +92,8 @@ fn make_image<S: WordStore>(store: S, text: &[u8], table: &Table) -> Result<S, S
     ensures made { IfOk result (λ s. IsMade (S.words s)) }
     ensures heap { IfOk result (λ s. heap_of (recovered_of (S.words s))
         ≡ new_card_heap (length (S.words store)) text.now table.now) }
+    ensures front { IfOk result (λ s. take front_length (S.words s)
+        ≡ new_front (length (S.words store)) (length text.now)) }
     ensures size { IfOk result (λ s. length (S.words s) ≡ length (S.words store)) }
     ensures up { IfOk result (λ s. S.down s ≡ false) }
     ensures none_refused { IfOk result (λ s. S.refusals s ≡ S.refusals store) }

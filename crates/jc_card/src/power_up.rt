@@ -203,6 +203,7 @@ fn link_packages<S: WordStore>(
 // The fault of packages that are not read.
 fn fault_of(fault: RecordFault) -> PowerFault
     ensures damaged { result ≡ PowerFault.BadPackage → fault ≡ RecordFault.Damaged }
+    ensures memory { result ≡ PowerFault.NoMemory → fault ≡ RecordFault.NoMemory }
     ensures one { (result ≡ PowerFault.BadPackage) ⊎ (result ≡ PowerFault.NoMemory) }
 {
     match fault {

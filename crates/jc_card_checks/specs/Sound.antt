@@ -6,7 +6,7 @@ use Rattle.jc_platform.specs.Distinct.{class_word}
 use Rattle.jc_heap.specs.declared.object.Facts.{Facts}
 use Rattle.jc_heap.specs.Components.{record_of, words_for}
 use Rattle.jc_heap.specs.Heap.{HeapState, facts, cells, IsObject}
-use Rattle.jc_heap.specs.Image.{bytes_of_packed}
+use Rattle.jc_heap.specs.Packed.{bytes_of_packed}
 use Rattle.jc_heap.specs.Statics.{statics_of}
 use Rattle.jc_linker.specs.Lookups.{statics_at}
 use Rattle.jc_linker.specs.Values.{Packages}

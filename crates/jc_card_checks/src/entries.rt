@@ -3,7 +3,7 @@ ghost use Rattle.std.specs.Prelude.{ℕ, ◌≡◌, ◌<◌, ◌≤◌, ◌↔�
 ghost use Rattle.jc_words.specs.Layout.{most_applets};
 ghost use Rattle.jc_heap.specs.RegistryLayout.{entry_length};
 ghost use Rattle.jc_heap.specs.Heap.{cells, facts};
-ghost use Rattle.jc_heap.specs.Image.{packed_byte};
+ghost use Rattle.jc_heap.specs.Packed.{packed_byte};
 ghost use Rattle.jc_heap.specs.Whole.{IsConsistent};
 ghost use Rattle.jc_card_checks.specs.Objects.{is_a, is_instance, is_object_address};
 ghost use Rattle.jc_card_checks.specs.Sound.{HasOwnAid, IsRegistered, aid_in, aid_of_entry, entry_word, holds_aid};
@@ -110,7 +110,7 @@ fn aid_byte<S: WordStore>(memory: &Memory<S>, object: Ref, long: u16, i: u16) ->
 }
 
 // The AID that an AID object's cells tell.
-#[tactic(auto, unfolding(jc_heap::specs::Image::bytes_of_packed))]
+#[tactic(auto, unfolding(jc_heap::specs::Packed::bytes_of_packed))]
 fn aid_in<S: WordStore>(memory: &Memory<S>, object: Ref, long: u16) -> ArrayVec<u8, 16>
     requires up { memory.now.heap.down ≡ false }
     requires long { length (cells memory.now.heap.now object) ≡ long }

@@ -2,11 +2,14 @@
 use Rattle.std.specs.Prelude.{ℕ, ◌+◌, ◌-◌, ◌==◌, ◌≡◌, ◌&&◌, ◌||◌, nat_lt, nat_le, Bool, true, false, List, [], ◌++◌, length, replicate, slice_set}
 use Rattle.std.specs.Prelude.{slice_index_or, Option, Some, None, is_some, Result, Ok, Err, if◌then◌else◌}
 use Rattle.jc_cap_linkage.specs.declared.fault.CapFault.{CapFault}
-use Rattle.jc_cap_linkage.specs.declared.fault.CapFault.TheVariants.{Trailing, Repeated, NoMemory}
+use Rattle.jc_cap_linkage.specs.declared.fault.CapFault.TheVariants.{Trailing, Missing, Repeated, NoMemory}
+use Rattle.jc_cap_linkage.specs.declared.formats.Format.{Format}
 use Rattle.jc_cap_linkage.specs.declared.formats.Format.TheVariants.{V2_1}
+use Rattle.jc_cap_linkage.specs.Tags.{header_tag, directory_tag, class_tag}
 use Rattle.jc_cap.specs.declared.texts.LoadedComponents.{LoadedComponents}
 use Rattle.jc_cap.specs.Texts.{no_components, with_component}
 use Rattle.jc_cap.specs.Contents.{Content}
+use Rattle.jc_cap.specs.Contents as contents
 use Rattle.jc_cap.specs.Components.{component_at}
 use Rattle.jc_card_load.specs.declared.package_refusal.PackageRefusal.TheVariants.{BadComponents}
 use Rattle.jc_card_load.specs.declared.load_refusal.LoadRefusal.{LoadRefusal}
@@ -41,7 +44,7 @@ component_with_bytes more c = if nat_lt 65538 (length c.bytes + length more) the
 
 -- no component has come yet
 unfoldable pub empty_load : OpenLoad
-empty_load = record { texts = no_components; came = replicate 256 false; coming = None }
+empty_load = record { format = None; texts = no_components; came = replicate 256 false; coming = None }
 
 -- 1 to 12, and 128 and above for custom components
 abbrev pub is_tag : ℕ → Bool
@@ -67,19 +70,38 @@ more_of more load (Some c) = with_incoming load (component_with_bytes more c)
 abbrev pub component_append : List ℕ → OpenLoad → CommandResult × OpenLoad
 component_append more load = more_of more load load.coming
 
+-- what the component with this tag says, where the header that came, if one came, told this format: a Directory and a Class
+-- component are not read before a header, and the others are read alike in each format
+abbrev pub content_in : Option Format → ℕ → List ℕ → Result Content CapFault
+content_in (Some format) tag bytes = component_at format tag bytes
+content_in None tag bytes = if tag == directory_tag || tag == class_tag then Err (Missing header_tag) else component_at V2_1 tag bytes
+
+-- the format that a load's header has told behind a component that says this
+abbrev pub format_behind : Option Format → Content → Option Format
+format_behind told (contents.header h) = Some h.format
+format_behind told x = told
+
 -- a component that was read is kept; one that cannot be read is dropped
 abbrev pub load_with : OpenLoad → IncomingValue → Result Content CapFault → CommandResult × OpenLoad
 load_with load c (Err fault) = (Err (Refused (BadComponents fault)), record load { coming = None })
-load_with load c (Ok x) = (Ok tt, record load { texts = with_component load.texts c.tag c.bytes; came = slice_set load.came c.tag true; coming = None })
+load_with load c (Ok x) = (
+  Ok tt,
+  record load {
+    format = format_behind load.format x;
+    texts = with_component load.texts c.tag c.bytes;
+    came = slice_set load.came c.tag true;
+    coming = None;
+  },
+)
 
 abbrev pub read_of : OpenLoad → Option IncomingValue → CommandResult × OpenLoad
 read_of load None = (Err OutOfSequence, load)
-read_of load (Some c) = load_with load c (component_at V2_1 c.tag c.bytes)
+read_of load (Some c) = load_with load c (content_in load.format c.tag c.bytes)
 
--- what was found: the component, or its fault
-abbrev pub Checks : Result Content CapFault → Result (Unit {0}) CapFault → Type 0
-Checks said (Ok done) = (x : Content) × (said ≡ Ok x)
-Checks said (Err fault) = said ≡ Err fault
+-- what was found: the format that is told behind the component, or its fault
+abbrev pub TellsFormat : Option Format → Result Content CapFault → Result (Option Format) CapFault → Type 0
+TellsFormat told said (Ok format) = (x : Content) × (said ≡ Ok x) × (format_behind told x ≡ format)
+TellsFormat told said (Err fault) = said ≡ Err fault
 
 -- the component that is open ends
 abbrev pub component_end : OpenLoad → CommandResult × OpenLoad

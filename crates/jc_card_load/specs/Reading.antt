@@ -1,13 +1,12 @@
 -- Packages as the records of a heap have them.
 use Rattle.std.specs.Prelude.{ℕ, ◌/◌, ◌%◌, List, [], ◌∷◌, drop, map, Option, Some, None, Result, Ok, Err}
 use Rattle.std.specs.Option.{option_and_then, option_map}
-use Rattle.jc_cap_linkage.specs.declared.formats.Format.TheVariants.{V2_1}
 use Rattle.jc_cap_linkage.specs.Tags.{header_tag, directory_tag, applet_tag, import_tag, constant_pool_tag, class_tag, method_tag, static_field_tag, export_tag}
 use Rattle.jc_cap.specs.declared.texts.LoadedComponents.{LoadedComponents}
 use Rattle.jc_heap.specs.declared.component.Span.{Span}
 use Rattle.jc_heap.specs.Components.{info_of, record_of}
 use Rattle.jc_heap.specs.Heap.{HeapState}
-use Rattle.jc_heap.specs.Image.{bytes_of_packed}
+use Rattle.jc_heap.specs.Packed.{bytes_of_packed}
 use Rattle.jc_linker.specs.Values.{Packages}
 use Rattle.jc_platform.specs.Tokens.{Tokens}
 use Rattle.jc_linker.specs.Linking.{with_package}
@@ -25,7 +24,6 @@ text_in words tag = option_map (text_at tag words) (info_of words tag)
 -- the components of a record
 abbrev pub load_of : List ℕ → LoadedComponents
 load_of words = record {
-  format = V2_1;
   header = text_in words header_tag;
   directory = text_in words directory_tag;
   applets = text_in words applet_tag;

@@ -1,25 +1,28 @@
 //! An open load.
 ghost use Rattle.std.specs.Prelude.{◌≡◌, ◌⊎◌, Err};
-ghost use Rattle.jc_cap.specs.Components.{component_at};
-ghost use Rattle.jc_cap_linkage.specs.declared.formats.Format.TheVariants.{V2_1};
-ghost use Rattle.jc_card_load.specs.Loading.{empty_load, component_begin, component_end, component_append, no_memory, command_result, Checks};
+ghost use Rattle.jc_cap.specs.Views.{content};
+ghost use Rattle.jc_cap_linkage.specs.Reading.{ParsesAs};
+ghost use Rattle.jc_card_load.specs.Loading.{empty_load, component_begin, component_end, component_append, no_memory, command_result};
+ghost use Rattle.jc_card_load.specs.Loading.{TellsFormat, content_in, format_behind};
 
 use crate::incoming::IncomingComponent;
 use crate::load_refusal::LoadRefusal;
 use crate::package_refusal::PackageRefusal;
-use jc_cap::component::read_component;
+use jc_cap::component::{Component, read_component};
 use jc_cap::texts::LoadedComponents;
 use jc_cap_linkage::fault::CapFault;
 use jc_cap_linkage::formats::Format;
+use jc_cap_linkage::tags;
 use std::alloc::Global;
 
 /// How many tags there are.
 const ALL_TAGS: usize = 256;
 
-/// A load that is open: the components that came and are used, by each tag whether its component came, and the
-/// component that is coming.
+/// A load that is open: the format that its header told, if that came, the components that came and are used, by each tag
+/// whether its component came, and the component that is coming.
 #[derive(Drop)]
 pub struct OpenLoad {
+    pub format: Option<Format>,
     pub texts: LoadedComponents,
     pub came: [bool; ALL_TAGS],
     pub coming: Option<IncomingComponent>,
@@ -32,6 +35,7 @@ impl OpenLoad {
         ensures { result ≡ empty_load }
     {
         OpenLoad {
+            format: None,
             texts: LoadedComponents::new(),
             came: [false; ALL_TAGS],
             coming: None,
@@ -76,8 +80,9 @@ impl OpenLoad {
             return Err(LoadRefusal::OutOfSequence);
         };
         let tag = coming.tag();
-        match check(&coming) {
-            Ok(()) => {
+        match format_told(self.format, &coming) {
+            Ok(format) => {
+                self.format = format;
                 self.came[tag as usize] = true;
                 self.texts.keep(tag, coming.into_bytes());
                 Ok(())
@@ -87,10 +92,31 @@ impl OpenLoad {
     }
 }
 
-// Whether a component can be read.
-fn check(coming: &IncomingComponent) -> Result<(), CapFault>
-    ensures { Checks (component_at V2_1 coming.now.tag coming.now.bytes) result }
+// What a component says. A Directory and a Class component are read in the format that the header told; before one came
+// they are refused.
+fn read_in(format: Option<Format>, tag: u8, bytes: &[u8]) -> Result<Component<'_>, CapFault>
+    ensures { ParsesAs content result (content_in format tag bytes.now) }
 {
-    let _ = read_component(Format::V2_1, coming.tag(), coming.bytes())?;
-    Ok(())
+    match format {
+        Some(format) => read_component(format, tag, bytes),
+        None => {
+            if tag == tags::DIRECTORY || tag == tags::CLASS {
+                return Err(CapFault::Missing(tags::HEADER));
+            }
+            read_component(Format::V2_1, tag, bytes)
+        }
+    }
+}
+
+// The format that is told behind a component that can be read.
+fn format_told(
+    format: Option<Format>,
+    coming: &IncomingComponent,
+) -> Result<Option<Format>, CapFault>
+    ensures { TellsFormat format (content_in format coming.now.tag coming.now.bytes) result }
+{
+    match read_in(format, coming.tag(), coming.bytes())? {
+        Component::Header(header) => Ok(Some(header.format)),
+        _ => Ok(format),
+    }
 }

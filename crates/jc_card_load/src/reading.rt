@@ -8,7 +8,6 @@ ghost use Rattle.jc_card_load.specs.PendingPackages.{PendingPackageValue, linked
 use crate::package_refusal::PackageRefusal;
 use crate::pending_package::assemble_and_link;
 use jc_cap::texts::{ComponentBytes, LoadedComponents};
-use jc_cap_linkage::formats::Format;
 use jc_cap_linkage::tags;
 use jc_heap::{Heap, Span};
 use jc_linker::fault::LinkFault;
@@ -35,7 +34,7 @@ fn push_byte(bytes: &mut Vec<u8>, byte: u8) -> Result<(), AllocError>
 }
 
 // The bytes of a component whose info stands there, with its tag and its size in front.
-#[tactic(auto, unfolding(jc_heap::specs::Image::bytes_of_packed))]
+#[tactic(auto, unfolding(jc_heap::specs::Packed::bytes_of_packed))]
 fn read_text<S: WordStore>(
     alloc: Global,
     heap: &Heap<S>,
@@ -98,7 +97,6 @@ fn load_of<S: WordStore>(
     let statics = text_in(alloc, heap, at, tags::STATIC_FIELD)?;
     let exports = text_in(alloc, heap, at, tags::EXPORT)?;
     Ok(LoadedComponents {
-        format: Format::V2_1,
         header,
         directory,
         applets,

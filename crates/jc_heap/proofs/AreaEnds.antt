@@ -10,6 +10,9 @@ use Rattle.jc_heap.specs.Cut.{records_from, missing_words}
 use Rattle.jc_heap.specs.Image.{image, base, package_addresses, is_package, sizes, item_entry, records, missing_words_of_image, table_text, IsWellFormed}
 use Rattle.jc_heap.specs.Heap.{HeapState, head_of, read_image, heap_of, area_end, with_area_end, area_end_address, SameShape, heap_item_at, is_allocated}
 use Rattle.jc_heap.proofs.Images.{image-set, head-set, text-same}
+use Rattle.jc_heap.proofs.Images.{unread-same}
+use Rattle.jc_heap.specs.Image.{unread_words}
+use Rattle.jc_words.specs.Layout.{capacity_address}
 
 -- an image with another end of an area
 module _ (img : List ℕ) (a v : ℕ) (wide : text_start ≤ length img) (low : packages_address < a) (high : a < text_length_address) where
@@ -54,6 +57,9 @@ module _ (img : List ℕ) (a v : ℕ) (wide : text_start ≤ length img) (low : 
   pub other-end : (k : ℕ) → (k ≡ a → ⊥) → get_or (set img a v) k 0 ≡ get_or img k 0
   other-end k ne = word k ne
 
+  pub unread-end : unread_words (set img a v) ≡ unread_words img
+  unread-end = unread-same img (set img a v) (word capacity_address (λ e. omega arith)) (λ k above below. word k (λ e. omega arith))
+
   pub own-end : get_or (set img a v) a 0 ≡ v
   own-end = get_or-set_same img a v 0 (omega arith)
 
@@ -77,6 +83,7 @@ read-end img Reset v wide = λ k. record {
   );
   top = length-set img reset_end_address v k;
   capacity = capacity_of img;
+  unread = unread-end img reset_end_address v wide (lit< tt) (lit< tt) k;
 }
 read-end img Deselect v wide = λ k. record {
   head = head-end img deselect_end_address v wide (lit< tt) (lit< tt) k;
@@ -94,6 +101,7 @@ read-end img Deselect v wide = λ k. record {
   );
   top = length-set img deselect_end_address v k;
   capacity = capacity_of img;
+  unread = unread-end img deselect_end_address v wide (lit< tt) (lit< tt) k;
 }
 
 -- an image with another number of applets
@@ -116,6 +124,7 @@ read-applets img v wide = λ k. record {
   );
   top = length-set img applets_address v k;
   capacity = capacity_of img;
+  unread = unread-end img applets_address v wide (lit< tt) (lit< tt) k;
 }
 
 -- one of these words set leaves the words laid

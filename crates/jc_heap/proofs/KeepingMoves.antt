@@ -147,7 +147,7 @@ changed_whole v h addresses fresh s shape order w = record {
 
 pub keeps : (m : Move) (v : HeapView) → MoveIsLegal v m → AreConsistent v → AreConsistent (apply_move m v)
 keeps (Write p x) v suit w =
-    changed_whole v (set_place v.now p x) (place_word p ∷ []) 0 (place_whole v.now p x suit w.now)
+    changed_whole v (set_place v.now p x) _ 0 (place_whole v.now p x suit w.now)
     (place_shape v.durable v.now p x w.shape) (omega (arith, w.order, top-place v.now p x)) w
 keeps (SetPlaces cs) v suit w =
     changed_whole v (set_places v.now cs) _ 0 (places_whole v.now cs suit w.now)

@@ -1,5 +1,6 @@
 pub mod Records
 pub mod Tables
+pub mod SettingBytes
 pub mod Images
 pub mod Added
 pub mod Packages
@@ -12,6 +13,7 @@ pub mod Views
 pub mod Reading
 pub mod NewObjects
 pub mod Packing
+pub mod PackedBytes
 pub mod Streams
 pub mod PackageAdded
 pub mod NewPackages
@@ -25,6 +27,10 @@ pub mod OwnCells
 pub mod RecordWords
 pub mod StaticImages
 pub mod Runs
+pub mod WordsAt
+pub mod RunWords
+pub mod Written
+pub mod RunsSet
 pub mod AreaEnds
 pub mod Places
 pub mod MoveLaws
@@ -33,6 +39,7 @@ pub mod RawWords
 pub mod Holding
 pub mod AreaRuns
 pub mod Several
+pub mod RunPlaces
 pub mod ReadBack
 pub mod KeptWords
 pub mod Costs

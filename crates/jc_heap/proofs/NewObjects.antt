@@ -1,5 +1,5 @@
 -- A new object through the journal: fresh words, then the top.
-use Rattle.std.proofs.Common.{◌≡◌, ℕ, ◌+◌, ◌<◌, ◌≤◌, true, false, List, [], ◌∷◌, ◌++◌, length, get_or, set, replicate, refl, sym, ◌∙◌, ap, subst, arith}
+use Rattle.std.proofs.Common.{◌≡◌, ℕ, ◌+◌, ◌/◌, ◌<◌, ◌≤◌, true, false, List, [], ◌∷◌, ◌++◌, length, get_or, set, replicate, refl, sym, ◌∙◌, ap, subst, arith}
 use Rattle.std.proofs.Common.{if◌then◌else◌, Some}
 use Rattle.std.proofs.lemmas.Bool.{false≢true}
 use Rattle.jc_commit.specs.declared.refusal.WriteRefusal.{WriteRefusal}
@@ -17,11 +17,13 @@ use Rattle.jc_heap.specs.declared.object.Kind.{Kind}
 use Rattle.jc_heap.specs.declared.object.Kind.TheVariants.{Instance, BooleanArray, ByteArray, ShortArray, ReferenceArray}
 use Rattle.jc_transient.specs.declared.cell.ClearEvent.{ClearEvent}
 use Rattle.jc_transient.specs.declared.cell.ClearEvent.TheVariants.{Reset, Deselect}
-use Rattle.jc_heap.specs.Object.{Object, AnObject, header_word, new_transient, kind_number, transient_size, object_of, new_object, payload}
+use Rattle.jc_heap.specs.Object.{Object, AnObject, header_word, header_number, has_bytes, words_of_cells, cells_of_words, object_size, new_transient, transient_size}
+use Rattle.jc_heap.specs.Object.{object_of, new_object, payload}
 use Rattle.jc_heap.specs.Image.{IsWellFormed}
 use Rattle.jc_heap.specs.Fresh.{KeepsBelow, Fills, IsTornFresh}
 use Rattle.jc_heap.specs.Heap.{HeapState, HeapView, heap_view, read_image, heap_of, add_object, end_address, heap_after_change, keeping, IsSound, IsTornChange}
 use Rattle.jc_heap.specs.Heap.{LacksSpace, SameShape, is_allocated, heap_item_at, add_transient, area_end_address, area_end, with_area_end}
+use Rattle.jc_heap.proofs.PackedBytes.{bytes_of_zeros, bytes_of_all}
 use Rattle.jc_heap.proofs.Laws.{shape-add, heap_item_at-add_object}
 use Rattle.jc_heap.proofs.Added.{heap_of-grown, top-moved, IsLaid-grown, image-same_below, IsWellFormed-same_below}
 use Rattle.jc_heap.proofs.Changing.{change_view, change_sound, stopped_sound, stopped_view, top-live_words}
@@ -43,30 +45,45 @@ fills_same at word k l m n rest old new class owner f = subst (λ x. Fills at (w
     (subst (λ x. Fills at (word ∷ k ∷ x ∷ rest) old new) owner f)
 
 -- the words that a new object takes
-unfoldable pub new_record : ℕ → ℕ → ℕ → ℕ → List ℕ
-new_record word class owner length = (word ∷ class ∷ owner ∷ length ∷ []) ++ replicate length 0
+unfoldable pub new_record : Kind → ℕ → ℕ → ℕ → List ℕ
+new_record kind class owner long = (header_number kind (has_bytes kind) ∷ class ∷ owner ∷ long ∷ []) ++ replicate (words_of_cells (has_bytes kind) long) 0
 
-pub object_of-new_record : (kind : Kind) (class owner length : ℕ) → object_of (new_record (kind_number kind) class owner length)
-    ≡ new_object kind class owner length
+pub fills_new : (t at word k l zeros : ℕ) (kind : Kind) (class owner long : ℕ) (old new : State) → t ≡ at → word ≡ header_number kind (has_bytes kind)
+    → k ≡ class → l ≡ owner → zeros ≡ words_of_cells (has_bytes kind) long → Fills t ((word ∷ k ∷ l ∷ long ∷ []) ++ replicate zeros 0) old new
+    → Fills at (new_record kind class owner long) old new
 unfolding new_record
-object_of-new_record Instance class owner length = refl
-object_of-new_record BooleanArray class owner length = refl
-object_of-new_record ByteArray class owner length = refl
-object_of-new_record ShortArray class owner length = refl
-object_of-new_record ReferenceArray class owner length = refl
+fills_new t at word k l zeros kind class owner long old new there number class_is owner_is count f =
+    subst (λ x. Fills x (new_record kind class owner long) old new) there
+    (subst (λ x. Fills t ((x ∷ class ∷ owner ∷ long ∷ []) ++ replicate (words_of_cells (has_bytes kind) long) 0) old new) number
+    (subst (λ x. Fills t ((word ∷ x ∷ owner ∷ long ∷ []) ++ replicate (words_of_cells (has_bytes kind) long) 0) old new) class_is
+    (subst (λ x. Fills t ((word ∷ k ∷ x ∷ long ∷ []) ++ replicate (words_of_cells (has_bytes kind) long) 0) old new) owner_is
+    (subst (λ x. Fills t ((word ∷ k ∷ l ∷ long ∷ []) ++ replicate x 0) old new) count f))))
 
-pub own-new_record : (kind : Kind) (class owner n : ℕ) → 3 + payload (get_or (new_record (kind_number kind) class owner n) 0 0)
-    (get_or (new_record (kind_number kind) class owner n) 3 0) + 1 ≡ length (new_record (kind_number kind) class owner n)
+zero_cells : (long : ℕ) → cells_of_words true long (replicate (words_of_cells true long) 0) ≡ replicate long 0
+zero_cells long =
+    let words : List ℕ = replicate (words_of_cells true long) 0 in
+    bytes_of_all long words (omega (arith, length-replicate {A = ℕ} ((long + 1) / 2) 0)) ∙ bytes_of_zeros long (words_of_cells true long)
+
+object_of-new_record : (kind : Kind) (class owner long : ℕ) → object_of (new_record kind class owner long) ≡ new_object kind class owner long
+unfolding new_record
+object_of-new_record Instance class owner long = refl
+object_of-new_record BooleanArray class owner long = ap (λ l. record (new_object BooleanArray class owner long) { cells = l }) (zero_cells long)
+object_of-new_record ByteArray class owner long = ap (λ l. record (new_object ByteArray class owner long) { cells = l }) (zero_cells long)
+object_of-new_record ShortArray class owner long = refl
+object_of-new_record ReferenceArray class owner long = refl
+
+own-new_record : (kind : Kind) (class owner n : ℕ) → 3 + payload (get_or (new_record kind class owner n) 0 0)
+    (get_or (new_record kind class owner n) 3 0) + 1 ≡ length (new_record kind class owner n)
 unfolding new_record
 own-new_record Instance class owner n = omega (arith, length-replicate {A = ℕ} n 0)
-own-new_record BooleanArray class owner n = omega (arith, length-replicate {A = ℕ} n 0)
-own-new_record ByteArray class owner n = omega (arith, length-replicate {A = ℕ} n 0)
+own-new_record BooleanArray class owner n = omega (arith, length-replicate {A = ℕ} ((n + 1) / 2) 0)
+own-new_record ByteArray class owner n = omega (arith, length-replicate {A = ℕ} ((n + 1) / 2) 0)
 own-new_record ShortArray class owner n = omega (arith, length-replicate {A = ℕ} n 0)
 own-new_record ReferenceArray class owner n = omega (arith, length-replicate {A = ℕ} n 0)
 
-pub length-new_record : (word class owner n : ℕ) → length (new_record word class owner n) ≡ 4 + n
+length-new_record : (kind : Kind) (class owner n : ℕ) → length (new_record kind class owner n) ≡ object_size kind n
 unfolding new_record
-length-new_record word class owner n = omega (arith, length-replicate {A = ℕ} n 0)
+length-new_record kind class owner n = omega (arith, length-replicate {A = ℕ} (words_of_cells (has_bytes kind) n) 0)
 
 module _ (j k : State) (n : ℕ) (s : IsSound j n) (up : j.down ≡ false) (b : KeepsBelow (get_or j.plain top_address 0) j k) where
   far : top_address < get_or j.plain top_address 0
@@ -176,34 +193,33 @@ module _ (j k : State) (n : ℕ) (s : IsSound j n) (up : j.down ≡ false) (b : 
       view_made_at m c = view_then ((top_address, get_or j.plain top_address 0 + length rec) ∷ [])
           (add_object (heap_of j.plain) (object_of rec) (length rec)) m c heap_now
 
-pub view_made : (j k m : State) (v : HeapView) (n : ℕ) (kind : Kind) (class owner count end : ℕ) → heap_view j n ≡ v → IsSound j n → j.down ≡ false
-    → KeepsBelow (get_or j.plain top_address 0) j k →
-    Fills (get_or j.plain top_address 0) (new_record (kind_number kind) class owner count) j k → end ≡ get_or j.plain top_address 0 + (4 + count) → end ≤ n
-    → Changes ((top_address, end) ∷ []) k m →
-    heap_view m n ≡ heap_after_change v (add_object v.now (new_object kind class owner count) (4 + count)) (end_address ∷ []) (4 + count)
-unfolding end_address
-view_made j k m v n kind class owner count end is s up b f e fits c =
-    let long : length (new_record (kind_number kind) class owner count) ≡ 4 + count = length-new_record (kind_number kind) class owner count in
-    let there : Changes ((top_address, get_or j.plain top_address 0 + length (new_record (kind_number kind) class owner count)) ∷ []) k m =
-    subst (λ t. Changes ((top_address, t) ∷ []) k m) (e ∙ ap (λ l. get_or j.plain top_address 0 + l) (sym long)) c in
-    subst (λ u. heap_view m n ≡ heap_after_change u (add_object (u.now) (new_object kind class owner count) (4 + count)) (top_address ∷ []) (4 + count)) is
-    (subst (λ o. heap_view m n ≡ heap_after_change (heap_view j n) (add_object (heap_of j.plain) o (4 + count)) (top_address ∷ []) (4 + count))
-    (object_of-new_record kind class owner count)
-    (subst (λ l. heap_view m n ≡ heap_after_change (heap_view j n) (add_object (heap_of j.plain)
-    (object_of (new_record (kind_number kind) class owner count)) l) (top_address ∷ []) l) long
-    (view_made_at j k n s up b (new_record (kind_number kind) class owner count) f (own-new_record kind class owner count)
-    (omega (arith, long, e, fits)) m there)))
+module _ (j k m : State) (n : ℕ) (kind : Kind) (class owner long end : ℕ) (s : IsSound j n) (up : j.down ≡ false)
+    (b : KeepsBelow (get_or j.plain top_address 0) j k) (f : Fills (get_or j.plain top_address 0) (new_record kind class owner long) j k)
+    (e : end ≡ get_or j.plain top_address 0 + object_size kind long) (fits : end ≤ n) (c : Changes ((top_address, end) ∷ []) k m) where
+  abbrev new : List ℕ
+  new = new_record kind class owner long
 
-pub sound_made : (j k m : State) (n : ℕ) (kind : Kind) (class owner count end : ℕ) → IsSound j n → j.down ≡ false
-    → KeepsBelow (get_or j.plain top_address 0) j k →
-    Fills (get_or j.plain top_address 0) (new_record (kind_number kind) class owner count) j k → end ≡ get_or j.plain top_address 0 + (4 + count) → end ≤ n
-    → Changes ((top_address, end) ∷ []) k m → IsSound m n
-sound_made j k m n kind class owner count end s up b f e fits c =
-    let long : length (new_record (kind_number kind) class owner count) ≡ 4 + count = length-new_record (kind_number kind) class owner count in
-    let there : Changes ((top_address, get_or j.plain top_address 0 + length (new_record (kind_number kind) class owner count)) ∷ []) k m =
-    subst (λ t. Changes ((top_address, t) ∷ []) k m) (e ∙ ap (λ l. get_or j.plain top_address 0 + l) (sym long)) c in
-    sound_made_at j k n s up b (new_record (kind_number kind) class owner count) f (own-new_record kind class owner count)
-    (omega (arith, long, e, fits)) m there
+  size : length new ≡ object_size kind long
+  size = length-new_record kind class owner long
+
+  new_fits : get_or j.plain top_address 0 + length new ≤ n
+  new_fits = omega (arith, size, e, fits)
+
+  top_there : Changes ((top_address, get_or j.plain top_address 0 + length new) ∷ []) k m
+  top_there = subst (λ t. Changes ((top_address, t) ∷ []) k m) (e ∙ ap (λ l. get_or j.plain top_address 0 + l) (sym size)) c
+
+  pub sound_made : IsSound m n
+  sound_made = sound_made_at j k n s up b new f (own-new_record kind class owner long) new_fits m top_there
+
+  pub view_made : (v : HeapView) → heap_view j n ≡ v → heap_view m n ≡ heap_after_change v
+      (add_object v.now (new_object kind class owner long) (object_size kind long)) (end_address ∷ []) (object_size kind long)
+  unfolding end_address
+  view_made v is = subst (λ u. heap_view m n ≡ heap_after_change u (add_object (u.now) (new_object kind class owner long) (object_size kind long))
+      (top_address ∷ []) (object_size kind long)) is
+      (subst (λ o. heap_view m n ≡ heap_after_change (heap_view j n) (add_object (heap_of j.plain) o (object_size kind long)) (top_address ∷ [])
+      (object_size kind long)) (object_of-new_record kind class owner long)
+      (subst (λ l. heap_view m n ≡ heap_after_change (heap_view j n) (add_object (heap_of j.plain) (object_of new) l) (top_address ∷ []) l) size
+      (view_made_at j k n s up b new f (own-new_record kind class owner long) new_fits m top_there)))
 
 -- what stands at a new object's address
 pub made_object : (v : HeapView) (o : Object) (size fresh : ℕ) (places : List ℕ) → is_allocated v.now v.now.top ≡ false

@@ -13,7 +13,7 @@ use Rattle.jc_heap.specs.Fresh.{KeepsBelow, Fills}
 use Rattle.jc_heap.specs.Heap.{HeapState, HeapView, heap_view, read_image, heap_of, add_object, end_address, heap_after_change, has_room_for, IsSound}
 use Rattle.jc_heap.specs.Heap.{SameShape, is_allocated, heap_item_at}
 use Rattle.jc_heap.specs.Packages.{components_words, image_words, record_size, package_record, package_size, package_owner, package_words, addresses_of_package}
-use Rattle.jc_heap.specs.Packages.{push_package, add_arrays, add_package, array_object, array_size, arrays_words, array_addresses}
+use Rattle.jc_heap.specs.Packages.{push_package, add_arrays, add_package, array_object, array_size, arrays_words, array_addresses, AreArraysOfBytes}
 use Rattle.jc_heap.specs.Packed.{packed_words}
 use Rattle.jc_heap.proofs.Tables.{at_or-push_same, at_or-push_other, has-push}
 use Rattle.jc_heap.proofs.Laws.{shape-add, heap_item_at-add_other, top-add_object}
@@ -123,7 +123,8 @@ top_is ws laid = length-take-le (get_or ws top_address 0) ws laid.fits
 pub view_count : (j : State) (v : HeapView) (n : ℕ) → heap_view j n ≡ v → IsWellFormed j.plain → v.now.counts.0 ≡ get_or j.plain packages_address 0
 view_count j v n is laid = ap (λ u. u.now.counts.0) (sym is) ∙ count_is j.plain laid
 
-module _ (j k m : State) (n : ℕ) (cs : List (ℕ × List ℕ)) (xs : List (Kind × List ℕ)) (rest : List ℕ) (number end : ℕ) (s : IsSound j n) (up : j.down ≡ false)
+module _ (j k m : State) (n : ℕ) (cs : List (ℕ × List ℕ)) (xs : List (Kind × List ℕ)) (rest : List ℕ) (number end : ℕ) (bytes : AreArraysOfBytes xs) (s : IsSound j n)
+    (up : j.down ≡ false)
     (b : KeepsBelow (get_or j.plain top_address 0) j k)
     (f : Fills (get_or j.plain top_address 0) (package_words (get_or j.plain top_address 0) (number + 1) cs xs rest) j k)
     (is_number : number ≡ get_or j.plain packages_address 0) (few : number < most_packages)
@@ -160,7 +161,7 @@ module _ (j k m : State) (n : ℕ) (cs : List (ℕ × List ℕ)) (xs : List (Kin
 
   heap_words : heap_of (with_words k.plain (cs_written (get_or j.plain packages_address 0) (get_or j.plain top_address 0 + length new)))
       ≡ add_arrays (push_package (heap_of j.plain) rec) (package_owner (number + 1)) xs
-  heap_words = heap_of-packaged j.plain k.plain rec (package_owner (number + 1)) xs (s.now up) few_there f.words fits_now own some
+  heap_words = heap_of-packaged j.plain k.plain rec (package_owner (number + 1)) xs bytes (s.now up) few_there f.words fits_now own some
 
   heap_is : heap_of (with_words k.plain (cs_written (get_or j.plain packages_address 0) (get_or j.plain top_address 0 + length new)))
       ≡ add_package (heap_of j.plain) cs xs rest
@@ -171,11 +172,11 @@ module _ (j k m : State) (n : ℕ) (cs : List (ℕ × List ℕ)) (xs : List (Kin
       (is_number ∙ sym (count_is j.plain (s.now up)))
 
   laid_is : IsWellFormed (with_words k.plain (cs_written (get_or j.plain packages_address 0) (get_or j.plain top_address 0 + length new)))
-  laid_is = laid-packaged j.plain k.plain rec (package_owner (number + 1)) xs (s.now up) few_there f.words fits_now own some
+  laid_is = laid-packaged j.plain k.plain rec (package_owner (number + 1)) xs bytes (s.now up) few_there f.words fits_now own some
 
   top_new : get_or (with_words k.plain (cs_written (get_or j.plain packages_address 0) (get_or j.plain top_address 0 + length new))) top_address 0
       ≡ get_or j.plain top_address 0 + length new
-  top_new = top-packaged j.plain k.plain rec (package_owner (number + 1)) xs (s.now up) few_there f.words fits_now own some
+  top_new = top-packaged j.plain k.plain rec (package_owner (number + 1)) xs bytes (s.now up) few_there f.words fits_now own some
 
   tops : (heap_of j.recovered).top ≤ (heap_of j.plain).top
   tops = omega (arith, top_is j.plain (s.now up), top_is j.recovered s.back, s.order up)

@@ -9,11 +9,14 @@ use Rattle.std.proofs.lemmas.Bool.{eq-eqb}
 use Rattle.jc_words.specs.Layout.{top_address, packages_address, addresses_start, most_packages, text_start}
 use Rattle.jc_heap.specs.declared.object.Kind.{Kind}
 use Rattle.jc_heap.specs.declared.object.Kind.TheVariants.{Instance, BooleanArray, ByteArray, ShortArray, ReferenceArray}
-use Rattle.jc_heap.specs.Object.{AnObject, APackage, object_of, payload}
+use Rattle.jc_heap.specs.Object.{AnObject, APackage, object_of, payload, cells_of_words}
 use Rattle.jc_heap.specs.Image.{image, base, package_addresses, is_package, sizes, item, missing_words_of_image, IsWellFormed}
 use Rattle.jc_heap.specs.Heap.{read_image, heap_of, add_object}
-use Rattle.jc_heap.specs.Packages.{push_package, add_arrays, array_object, array_words, arrays_words, array_size}
+use Rattle.jc_heap.specs.Packages.{push_package, add_arrays, array_object, array_words, arrays_words, array_size, AreArraysOfBytes}
+use Rattle.jc_heap.specs.Packed.{packed_words}
 use Rattle.jc_heap.proofs.Records.{take-set_comm}
+use Rattle.jc_heap.proofs.Packing.{length-packed_words}
+use Rattle.jc_heap.proofs.PackedBytes.{bytes_of_packed_words, bytes_of_all}
 use Rattle.jc_heap.proofs.Added.{add_item, heap_of-grown, IsLaid-grown, packages-grown, base-grown, missing-grown, read-grown}
 use Rattle.jc_heap.proofs.Packages.{is_package-push, base-named, length-named, packages-named, missing-named, read-named}
 
@@ -50,30 +53,34 @@ behind_set ws xs m a v e h le =
     ∙ ap (λ l. l ++ xs) (sym (take-set_comm m ws a v))
 
 -- the words of an object say it
-object_of-array : (owner : ℕ) (a : Kind × List ℕ) → object_of (array_words owner a) ≡ array_object owner a
-object_of-array owner (Instance, bytes) = refl
-object_of-array owner (BooleanArray, bytes) = refl
-object_of-array owner (ByteArray, bytes) = refl
-object_of-array owner (ShortArray, bytes) = refl
-object_of-array owner (ReferenceArray, bytes) = refl
+array_cells : (bytes : List ℕ) → ((i : ℕ) → get_or bytes i 0 < 256) → cells_of_words true (length bytes) (packed_words bytes) ≡ bytes
+array_cells bytes small =
+    bytes_of_all (length bytes) (packed_words bytes) (omega (arith, length-packed_words bytes)) ∙ bytes_of_packed_words bytes small
+
+object_of-array : (owner : ℕ) (a : Kind × List ℕ) → ((i : ℕ) → get_or a.1 i 0 < 256) → object_of (array_words owner a) ≡ array_object owner a
+object_of-array owner (Instance, bytes) small = refl
+object_of-array owner (BooleanArray, bytes) small = ap (λ l. record (array_object owner (BooleanArray, bytes)) { cells = l }) (array_cells bytes small)
+object_of-array owner (ByteArray, bytes) small = ap (λ l. record (array_object owner (ByteArray, bytes)) { cells = l }) (array_cells bytes small)
+object_of-array owner (ShortArray, bytes) small = refl
+object_of-array owner (ReferenceArray, bytes) small = refl
 
 own-array : (owner : ℕ) (a : Kind × List ℕ) → 3 + payload (get_or (array_words owner a) 0 0) (get_or (array_words owner a) 3 0) + 1
     ≡ length (array_words owner a)
 own-array owner (Instance, bytes) = omega arith
-own-array owner (BooleanArray, bytes) = omega arith
-own-array owner (ByteArray, bytes) = omega arith
+own-array owner (BooleanArray, bytes) = omega (arith, length-packed_words bytes)
+own-array owner (ByteArray, bytes) = omega (arith, length-packed_words bytes)
 own-array owner (ShortArray, bytes) = omega arith
 own-array owner (ReferenceArray, bytes) = omega arith
 
 -- the top moves over objects that stand there
-pub arrays-grown : (ws : List ℕ) (t owner : ℕ) (xs : List (Kind × List ℕ)) → get_or ws top_address 0 ≡ t → IsWellFormed ws
+pub arrays-grown : (ws : List ℕ) (t owner : ℕ) (xs : List (Kind × List ℕ)) → AreArraysOfBytes xs → get_or ws top_address 0 ≡ t → IsWellFormed ws
     → take (t + length (arrays_words owner xs)) ws ≡ take t ws ++ arrays_words owner xs → t + length (arrays_words owner xs) ≤ length ws →
     (heap_of (set ws top_address (t + length (arrays_words owner xs))) ≡ add_arrays (heap_of ws) owner xs)
     × IsWellFormed (set ws top_address (t + length (arrays_words owner xs)))
-arrays-grown ws t owner [] is laid e fits =
+arrays-grown ws t owner [] bytes is laid e fits =
     let same : set ws top_address (t + 0) ≡ ws = ap (set ws top_address) (add-zero t ∙ sym is) ∙ set-get_or ws top_address 0 in
     (ap heap_of same, subst IsWellFormed (sym same) laid)
-arrays-grown ws t owner (x ∷ xs) is laid e fits =
+arrays-grown ws t owner (x ∷ xs) bytes is laid e fits =
     let rec : List ℕ = array_words owner x in
     let rest : List ℕ = arrays_words owner xs in
     let all : length (rec ++ rest) ≡ length rec + length rest = length-append rec rest in
@@ -88,14 +95,14 @@ arrays-grown ws t owner (x ∷ xs) is laid e fits =
     let at : set ws top_address (get_or ws top_address 0 + length rec) ≡ moved = ap (λ n. set ws top_address (n + length rec)) is in
     let one : heap_of moved ≡ add_object (heap_of ws) (array_object owner x) (array_size x) =
     ap heap_of (sym at) ∙ heap_of-grown ws ws rec laid first_at fits_at (own-array owner x)
-    ∙ ap (λ o. add_object (heap_of ws) o (length rec)) (object_of-array owner x) ∙ ap (add_object (heap_of ws) (array_object owner x)) (omega arith) in
+    ∙ ap (λ o. add_object (heap_of ws) o (length rec)) (object_of-array owner x bytes.0) ∙ ap (add_object (heap_of ws) (array_object owner x)) (omega arith) in
     let laid_one : IsWellFormed moved = subst IsWellFormed at (IsLaid-grown ws ws rec laid first_at fits_at (own-array owner x)) in
     let top_one : get_or moved top_address 0 ≡ t + length rec = get_or-set_same ws top_address (t + length rec) 0 (omega arith) in
     let rest_one : take (t + length rec + length rest) moved ≡ take (t + length rec) moved ++ rest =
     behind_set ws rest (t + length rec) top_address (t + length rec) second (omega arith) (omega (arith, all)) in
     let ih : (heap_of (set moved top_address (t + length rec + length rest)) ≡ add_arrays (heap_of moved) owner xs)
     × IsWellFormed (set moved top_address (t + length rec + length rest)) =
-    arrays-grown moved (t + length rec) owner xs top_one laid_one rest_one (omega (arith, all, length-set ws top_address (t + length rec))) in
+    arrays-grown moved (t + length rec) owner xs bytes.1 top_one laid_one rest_one (omega (arith, all, length-set ws top_address (t + length rec))) in
     let last : set moved top_address (t + length rec + length rest) ≡ set ws top_address (t + length (rec ++ rest)) =
     set-set ws top_address (t + length rec) (t + length rec + length rest) ∙ ap (set ws top_address) (omega (arith, all)) in
     (ap heap_of (sym last) ∙ ih.0 ∙ ap (λ h. add_arrays h owner xs) one, subst IsWellFormed last ih.1)
@@ -226,7 +233,7 @@ module _ (old ws rec : List ℕ) (laid : IsWellFormed old) (few : get_or old pac
   }
 
 -- the same with arrays behind the record, which get their owner
-module _ (old ws rec : List ℕ) (owner : ℕ) (xs : List (Kind × List ℕ)) (laid : IsWellFormed old) (few : get_or old packages_address 0 < most_packages)
+module _ (old ws rec : List ℕ) (owner : ℕ) (xs : List (Kind × List ℕ)) (bytes : AreArraysOfBytes xs) (laid : IsWellFormed old) (few : get_or old packages_address 0 < most_packages)
     (e : take (get_or old top_address 0 + length (rec ++ arrays_words owner xs)) ws ≡ take (get_or old top_address 0) old ++ (rec ++ arrays_words owner xs))
     (fits : get_or old top_address 0 + length (rec ++ arrays_words owner xs) ≤ length ws)
     (own : get_or rec 0 0 ≡ length rec) (some : 0 < length rec) where
@@ -290,7 +297,7 @@ module _ (old ws rec : List ℕ) (owner : ℕ) (xs : List (Kind × List ℕ)) (l
 
   both : (heap_of (set one top_address (get_or old top_address 0 + length rec + length (arrays_words owner xs))) ≡ add_arrays (heap_of one) owner xs)
       × IsWellFormed (set one top_address (get_or old top_address 0 + length rec + length (arrays_words owner xs)))
-  both = arrays-grown one (get_or old top_address 0 + length rec) owner xs top_one laid_one behind_one
+  both = arrays-grown one (get_or old top_address 0 + length rec) owner xs bytes top_one laid_one behind_one
       (omega (
         arith,
         all,

@@ -12,6 +12,9 @@ use Rattle.jc_heap.specs.Object.{AnObject, APackage, object_of, payload}
 use Rattle.jc_heap.specs.Image.{table_text, base, package_addresses, is_package, sizes, item, item_entry, records, missing_words_of_image}
 use Rattle.jc_heap.specs.Heap.{head_of, read_image}
 use Rattle.jc_heap.proofs.Images.{head-same, head-set, text-same}
+use Rattle.jc_heap.proofs.Images.{unread-same}
+use Rattle.jc_heap.specs.Image.{unread_words}
+use Rattle.jc_words.specs.Layout.{capacity_address}
 use Rattle.jc_heap.proofs.Records.{take-set_comm, records_from-same_sizes, missing_words-same_sizes}
 
 -- one package more is another answer at its own address alone
@@ -113,6 +116,8 @@ module _ (img : List ℕ) (wide : text_start ≤ length img) (few : get_or img p
       let text : table_text named ≡ table_text img = text-same img named (word-named text_length_address (lit< tt) (λ e. omega arith))
       (ap (take ((get_or img text_length_address 0 + 1) / 2)) (tail-named text_start (lit≤ tt))) in
       let second_count : get_or named applets_address 0 ≡ get_or img applets_address 0 = word-named applets_address (lit< tt) (λ e. omega arith) in
+      let unread : unread_words named ≡ unread_words img = unread-same img named (word-named capacity_address (lit< tt) (λ e. omega arith))
+      (λ a above below. word-named a (omega arith) (λ e. omega arith)) in
       λ k. record {
         head = head k;
         text = text k;
@@ -123,6 +128,7 @@ module _ (img : List ℕ) (wide : text_start ≤ length img) (few : get_or img p
         area_ends = (first_end k, second_end k);
         top = length-named k;
         capacity = capacity_of img;
+        unread = unread k;
       }
 
 pub read-applet : (img : List ℕ) (a v : ℕ) → text_start ≤ length img → a < registry_length
@@ -155,6 +161,8 @@ read-applet img a v wide h =
     (word text_length_address (lit< tt)) (ap (take ((get_or img text_length_address 0 + 1) / 2))
     (drop-set-lt text_start img (registry_start + a) v (omega arith))) in
     let first_count : get_or (set img (registry_start + a) v) packages_address 0 ≡ get_or img packages_address 0 = word packages_address (lit< tt) in
+    let unread : unread_words (set img (registry_start + a) v) ≡ unread_words img = unread-same img (set img (registry_start + a) v)
+    (word capacity_address (lit< tt)) (λ k above below. word k (omega arith)) in
     let second_count : get_or (set img (registry_start + a) v) applets_address 0 ≡ get_or img applets_address 0 = word applets_address (lit< tt) in
     λ k. record {
       head = head k;
@@ -166,4 +174,5 @@ read-applet img a v wide h =
       area_ends = (first_end k, second_end k);
       top = top k;
       capacity = capacity_of img;
+      unread = unread k;
     }

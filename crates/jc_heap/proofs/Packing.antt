@@ -1,6 +1,6 @@
 -- Lists of words that a package is made from.
 use Rattle.std.proofs.Common.{◌≡◌, ℕ, true, false, if◌then◌else◌, zero, suc, ◌+◌, ◌*◌, ◌/◌, ◌%◌, ◌<◌, ◌≤◌, List, [], ◌∷◌, ◌++◌, length, take, drop, map, get_or}
-use Rattle.std.proofs.Common.{refl, sym, ◌∙◌, ap, arith, add-zero, append_assoc}
+use Rattle.std.proofs.Common.{refl, sym, ◌∙◌, ap, subst, arith, add-zero, append_assoc}
 use Rattle.std.proofs.lemmas.List.{take_more, map-append, length-append, append-nil, length-take-le, take-append-drop}
 use Rattle.jc_heap.specs.declared.object.Kind.{Kind}
 use Rattle.jc_heap.specs.declared.object.Kind.TheVariants.{Instance}
@@ -8,7 +8,7 @@ use Rattle.jc_heap.specs.declared.package.RecordComponent.{RecordComponent}
 use Rattle.jc_heap.specs.declared.package.StaticArray.{StaticArray}
 use Rattle.jc_heap.specs.Object.{has_bytes}
 use Rattle.jc_heap.specs.Packages.{part, parts, array_init, array_inits, component_words, components_words, elements, array_words, arrays_words, array_size}
-use Rattle.jc_heap.specs.Packages.{AreComponents, AreArrays, arrays_size, array_addresses}
+use Rattle.jc_heap.specs.Packages.{AreComponents, AreArrays, AreArraysOfBytes, arrays_size, array_addresses}
 use Rattle.jc_heap.specs.Packed.{packed_words}
 
 pub length-packed_words : (bs : List ℕ) → length (packed_words bs) ≡ length bs / 2 + length bs % 2
@@ -113,18 +113,17 @@ pub info_words : (cs : List RecordComponent) (k : ℕ) → AreComponents (parts 
     → length (packed_words ((get_or cs k no_component).info.now)) < 32769
 info_words cs k a h = omega (arith, length-packed_words ((get_or cs k no_component).info.now), info_small cs k a h)
 
-length_elements : (a : Kind × List ℕ) → length a.1 < 65536 → length (elements a) < 65536
-length_elements a h = elim (has_bytes a.0) as (λ b. length (if b then a.1 else packed_words a.1) < 65536)
-    [ true ↦ h | false ↦ omega (arith, length-packed_words a.1, h) ]
+-- an array has no more cells than bytes
+pub length-elements : (a : Kind × List ℕ) → length (elements a) ≤ length a.1
+length-elements a = elim (has_bytes a.0) as (λ b. length (if b then a.1 else packed_words a.1) ≤ length a.1)
+    [ true ↦ omega arith | false ↦ omega (arith, length-packed_words a.1) ]
 
-pub values_small : (xs : List StaticArray) (k : ℕ) → AreArrays (array_inits xs) → k < length xs → length (elements (array_init (get_or xs k no_array))) < 65536
-values_small xs k a h =
-    let small : length ((get_or xs k no_array).values.now) < 65536 = omega (
-      arith,
-      a.sizes k (omega (arith, length-array_inits xs)),
-      ap (λ p. length (p.1)) (array_init-at xs k),
-    ) in
-    length_elements (array_init (get_or xs k no_array)) small
+pub values_small : (xs : List StaticArray) (k : ℕ) → AreArrays (array_inits xs) → k < length xs → length ((get_or xs k no_array).values.now) < 65536
+values_small xs k a h = omega (arith, a.sizes k (omega (arith, length-array_inits xs)), ap (λ p. length (p.1)) (array_init-at xs k))
+
+pub values_words : (xs : List StaticArray) (k : ℕ) → AreArrays (array_inits xs) → k < length xs
+    → length (packed_words ((get_or xs k no_array).values.now)) < 32769
+values_words xs k a h = omega (arith, length-packed_words ((get_or xs k no_array).values.now), values_small xs k a h)
 
 -- one more is counted
 pub components-counted : (cs : List RecordComponent) (k : ℕ) → k < length cs →
@@ -138,7 +137,7 @@ components-counted cs k h =
     ∙ (omega arith)
 
 pub arrays-counted : (xs : List StaticArray) (k : ℕ) → k < length xs →
-    arrays_size (array_inits (take (k + 1) xs)) ≡ arrays_size (array_inits (take k xs)) + (4 + length (elements (array_init (get_or xs k no_array))))
+    arrays_size (array_inits (take (k + 1) xs)) ≡ arrays_size (array_inits (take k xs)) + (4 + length (packed_words ((get_or xs k no_array).values.now)))
 arrays-counted xs k h =
     ap arrays_size (array_inits-push xs k no_array h) ∙ arrays_size-append (array_inits (take k xs)) (array_init (get_or xs k no_array) ∷ []) ∙ (omega arith)
 
@@ -168,6 +167,16 @@ addresses-step first address xs k h e =
     ap (array_addresses first) (array_inits-push xs k no_array h)
     ∙ addresses-append first (array_inits (take k xs)) (array_init (get_or xs k no_array) ∷ [])
     ∙ ap (λ a. array_addresses first (array_inits (take k xs)) ++ a ∷ []) (sym e)
+
+-- one more is of bytes
+are_bytes-push : (xs : List (Kind × List ℕ)) (a : Kind × List ℕ) → AreArraysOfBytes xs → ((i : ℕ) → get_or a.1 i 0 < 256) → AreArraysOfBytes (xs ++ a ∷ [])
+are_bytes-push [] a all here = (here, tt)
+are_bytes-push (x ∷ xs) a all here = (all.0, are_bytes-push xs a all.1 here)
+
+pub are_bytes-step : (xs : List StaticArray) (k : ℕ) → k < length xs → AreArraysOfBytes (array_inits (take k xs))
+    → ((i : ℕ) → get_or ((get_or xs k no_array).values.now) i 0 < 256) → AreArraysOfBytes (array_inits (take (k + 1) xs))
+are_bytes-step xs k h all here = subst AreArraysOfBytes (sym (array_inits-push xs k no_array h))
+    (are_bytes-push (array_inits (take k xs)) (array_init (get_or xs k no_array)) all here)
 
 -- what is written so far is a part of all
 components-all : (cs : List RecordComponent) (k : ℕ) → components_words (parts cs) ≡ components_words (parts (take k cs))

@@ -1,9 +1,9 @@
 -- A place set, in the words and in the heap.
-use Rattle.std.proofs.Common.{◌≡◌, ℕ, ◌+◌, ◌<◌, ◌≤◌, ◌&&◌, ◌||◌, Bool, true, false, List, [], ◌∷◌, length, get_or, set, drop, inl, inr, refl, sym, ◌∙◌, ap}
+use Rattle.std.proofs.Common.{◌≡◌, ℕ, ◌+◌, ◌/◌, ◌<◌, ◌≤◌, ◌&&◌, ◌||◌, Bool, true, false, List, [], ◌∷◌, length, get_or, set, drop, inl, inr, refl, sym, ◌∙◌, ap}
 use Rattle.std.proofs.Common.{subst}
 use Rattle.std.proofs.Common.{arith, lit<, if◌then◌else◌, nat_le, leb-true}
 use Rattle.std.proofs.lemmas.List.{length-set, length-take-le, get_or-set_other, get_or-take, get_or-drop, drop-set-lt}
-use Rattle.std.proofs.lemmas.Bool.{false≢true, cases_lt}
+use Rattle.std.proofs.lemmas.Bool.{false≢true, cases_lt, and_parts}
 use Rattle.jc_words.specs.Count.{saturating_count}
 use Rattle.jc_words.specs.Layout.{top_address, applets_address, registry_start, registry_length, text_start}
 use Rattle.jc_commit.specs.Image.{IsPlace, IsReadable, IsUnlogged}
@@ -12,22 +12,25 @@ use Rattle.jc_commit.specs.State.{State, Changes, after_write_in_place, born_of,
 use Rattle.jc_heap.specs.declared.place.Place.{Place}
 use Rattle.jc_heap.specs.declared.place.Place.TheVariants.{Cell, Static, Registry, AppletCount}
 use Rattle.jc_heap.specs.Cut.{missing_words}
-use Rattle.jc_heap.specs.Object.{header_only}
+use Rattle.jc_heap.specs.Object.{header_only, is_packed, has_bytes, IsElement}
 use Rattle.jc_heap.specs.Image.{IsWellFormed, image, base, package_addresses, is_package, sizes, missing_words_of_image}
 use Rattle.jc_heap.specs.Heap.{HeapState, HeapView, heap_view, heap_of, cells, cell_address, keeping, IsSound, SameShape, read_image, heap_item_at}
-use Rattle.jc_heap.specs.Heap.{is_allocated}
-use Rattle.jc_heap.specs.Places.{place_word, HasPlace, set_place, write_place, write_nonatomic}
+use Rattle.jc_heap.specs.Heap.{is_allocated, facts}
+use Rattle.jc_heap.specs.Places.{place_word, place_at, cell_at, HasPlace, MayHold, IsPlain, set_place, write_place, write_nonatomic}
+use Rattle.jc_heap.specs.Elements.{word_for}
+use Rattle.jc_heap.specs.Packed.{with_byte}
+use Rattle.jc_heap.specs.declared.object.Facts.{Facts}
 use Rattle.jc_heap.specs.Components.{record_of}
 use Rattle.jc_heap.specs.Statics.{set_word}
 use Rattle.jc_heap.proofs.Laws.{shape-set, shape-set_both, is_allocated-heap_of, header_only-set_cell, same_length}
-use Rattle.jc_heap.proofs.Images.{image-set, set_cell-heap_of, IsWellFormed-set, top-set, package_addresses-set, base-set}
+use Rattle.jc_heap.proofs.Images.{image-set, set_cell-heap_of, IsWellFormed-set, top-set, package_addresses-set, base-set, cell_at_of, cell_set_of, cell_set, cell_offset}
 use Rattle.jc_heap.proofs.Packages.{read-applet}
 use Rattle.jc_heap.proofs.AreaEnds.{read-applets, laid-front}
 use Rattle.jc_heap.proofs.RecordReading.{record_low, record_within, record_view, length_record}
 use Rattle.jc_heap.proofs.RecordWords.{heap_of-set_word, laid-set_word, top-set_word, set_word-absent, same_words, shape-set_word, shape-set_word_both}
 use Rattle.jc_heap.proofs.RecordWords.{header_only-set_word}
 use Rattle.jc_heap.proofs.StaticImages.{static_behind}
-use Rattle.jc_heap.proofs.Views.{cell_spot, back_set, top_is, above_top}
+use Rattle.jc_heap.proofs.Views.{cell_spot, back_set, plain_set, top_is, above_top}
 use Rattle.jc_heap.proofs.JournalViews.{keeping_view}
 use Rattle.jc_heap.proofs.Changing.{change_view, change_sound}
 
@@ -114,20 +117,62 @@ word_stays h p x (Static r j) there = (there.0, omega (arith, there.1, same_word
 word_stays h p x (Registry i) there = there
 word_stays h p x AppletCount there = tt
 
+-- a place that has a word of its own stands at it
+pub plain_at : (h : HeapState) (p : Place) → IsPlain h p → place_at h p ≡ place_word p
+plain_at h (Cell r i) plain = ap (λ (b : Bool). cell_address r (if b then i / 2 else i)) plain
+plain_at h (Static r j) plain = refl
+plain_at h (Registry i) plain = refl
+plain_at h AppletCount plain = refl
+
+-- its word is its value
+pub plain_word : (ws : List ℕ) (p : Place) (x : ℕ) → IsPlain (heap_of ws) p → word_for ws p x ≡ x
+plain_word ws (Cell r i) x plain = ap (λ (b : Bool). if b then with_byte (get_or ws (cell_address r (i / 2)) 0) i x else x) plain
+plain_word ws (Static r j) x plain = refl
+plain_word ws (Registry i) x plain = refl
+plain_word ws AppletCount x plain = refl
+
+-- what a cell's word says once the cell is set
+cell_word_for : (ws : List ℕ) (r i x : ℕ) → word_for ws (Cell r i) x ≡ cell_set_of ws r i x
+unfolding cell_address
+cell_word_for ws r i x = elim (is_packed (facts (heap_of ws) r)) as (λ (b : Bool). (if b then with_byte (get_or ws (r + (4 + i / 2)) 0) i x else x)
+    ≡ cell_set b (get_or ws (r + (4 + cell_offset b i)) 0) i x) [ true ↦ refl | false ↦ refl ]
+
+-- a byte, where two elements stand in a word
+byte_for : (f : Facts) (x : ℕ) → IsElement f.kind x → is_packed f ≡ true → x < 256
+byte_for f x is packed = is ((and_parts (has_bytes f.kind) f.packed packed).0)
+
 -- words with a place set stand for the heap with it set
-pub word_set : (ws : List ℕ) (p : Place) (x : ℕ) → IsWellFormed ws → HasWord (heap_of ws) p →
+pub word_set : (ws : List ℕ) (p : Place) (x : ℕ) → IsWellFormed ws → HasWord (heap_of ws) p → MayHold (heap_of ws) p x →
+    (heap_of (set ws (place_at (heap_of ws) p) (word_for ws p x)) ≡ set_place (heap_of ws) p x)
+    × IsWellFormed (set ws (place_at (heap_of ws) p) (word_for ws p x))
+    × (get_or (set ws (place_at (heap_of ws) p) (word_for ws p x)) top_address 0 ≡ get_or ws top_address 0)
+unfolding cell_address
+word_set ws (Cell r i) x laid h may = (
+  ap (λ (w : ℕ). heap_of (set ws (cell_at_of ws r i) w)) (cell_word_for ws r i x) ∙ set_cell-heap_of ws r i x h (byte_for (facts (heap_of ws) r) x may),
+  IsWellFormed-set ws r i (word_for ws (Cell r i) x) h laid,
+  top-set ws r i (word_for ws (Cell r i) x) h,
+)
+word_set ws (Static r j) x laid h may =
+    (heap_of-set_word ws r j x laid h.0 h.1, laid-set_word ws r j x laid h.0 h.1, top-set_word ws r j x laid h.0 h.1)
+word_set ws (Registry a) x laid h may = (registry-heap_of ws a x laid h, IsWellFormed-registry ws a x laid h, top-registry ws a x)
+word_set ws AppletCount x laid h may = count_set ws x laid
+
+pub place_set : (ws : List ℕ) (p : Place) (x : ℕ) → IsWellFormed ws → HasPlace (heap_of ws) p → MayHold (heap_of ws) p x →
+    (heap_of (set ws (place_at (heap_of ws) p) (word_for ws p x)) ≡ set_place (heap_of ws) p x)
+    × IsWellFormed (set ws (place_at (heap_of ws) p) (word_for ws p x))
+    × (get_or (set ws (place_at (heap_of ws) p) (word_for ws p x)) top_address 0 ≡ get_or ws top_address 0)
+place_set ws p x laid h may = word_set ws p x laid (has_word (heap_of ws) p h) may
+
+-- the same of a place that has a word of its own, whatever it is set to
+pub plain_word_set : (ws : List ℕ) (p : Place) (x : ℕ) → IsWellFormed ws → HasWord (heap_of ws) p → IsPlain (heap_of ws) p →
     (heap_of (set ws (place_word p) x) ≡ set_place (heap_of ws) p x) × IsWellFormed (set ws (place_word p) x)
     × (get_or (set ws (place_word p) x) top_address 0 ≡ get_or ws top_address 0)
 unfolding cell_address
-word_set ws (Cell r i) x laid h = (set_cell-heap_of ws r i x h, IsWellFormed-set ws r i x h laid, top-set ws r i x h)
-word_set ws (Static r j) x laid h = (heap_of-set_word ws r j x laid h.0 h.1, laid-set_word ws r j x laid h.0 h.1, top-set_word ws r j x laid h.0 h.1)
-word_set ws (Registry a) x laid h = (registry-heap_of ws a x laid h, IsWellFormed-registry ws a x laid h, top-registry ws a x)
-word_set ws AppletCount x laid h = count_set ws x laid
-
-pub place_set : (ws : List ℕ) (p : Place) (x : ℕ) → IsWellFormed ws → HasPlace (heap_of ws) p →
-    (heap_of (set ws (place_word p) x) ≡ set_place (heap_of ws) p x) × IsWellFormed (set ws (place_word p) x)
-    × (get_or (set ws (place_word p) x) top_address 0 ≡ get_or ws top_address 0)
-place_set ws p x laid h = word_set ws p x laid (has_word (heap_of ws) p h)
+plain_word_set ws (Cell r i) x laid h plain = plain_set ws r i x h plain laid
+plain_word_set ws (Static r j) x laid h plain =
+    (heap_of-set_word ws r j x laid h.0 h.1, laid-set_word ws r j x laid h.0 h.1, top-set_word ws r j x laid h.0 h.1)
+plain_word_set ws (Registry a) x laid h plain = (registry-heap_of ws a x laid h, IsWellFormed-registry ws a x laid h, top-registry ws a x)
+plain_word_set ws AppletCount x laid h plain = count_set ws x laid
 
 -- a static image's word in the recovered words: in the same record, or above their top
 word_back : (j : State) (n r i x : ℕ) → 4 ≤ i → i < length (record_of (heap_of j.plain) r) → j.down ≡ false → IsSound j n →
@@ -156,14 +201,14 @@ word_back j n r i x four h up s = elim (cases_lt r (get_or j.recovered top_addre
 ]
 
 -- in the recovered words too, or the place lies above their top
-place_back : (j : State) (n : ℕ) (p : Place) (x : ℕ) → HasPlace (heap_of j.plain) p → j.down ≡ false → IsSound j n →
+place_back : (j : State) (n : ℕ) (p : Place) (x : ℕ) → HasPlace (heap_of j.plain) p → IsPlain (heap_of j.plain) p → j.down ≡ false → IsSound j n →
     (heap_of (set j.recovered (place_word p) x) ≡ set_place (heap_of j.recovered) p x) × IsWellFormed (set j.recovered (place_word p) x)
     × (get_or (set j.recovered (place_word p) x) top_address 0 ≡ get_or j.recovered top_address 0)
 unfolding cell_address
-place_back j n (Cell r i) x h up s = back_set j n r i x h up s
-place_back j n (Static r i) x h up s = word_back j n r i x (static_behind (record_of (heap_of j.plain) r) i h) h.within up s
-place_back j n (Registry a) x h up s = (registry-heap_of j.recovered a x s.back h, IsWellFormed-registry j.recovered a x s.back h, top-registry j.recovered a x)
-place_back j n AppletCount x h up s = count_set j.recovered x s.back
+place_back j n (Cell r i) x h plain up s = back_set j n r i x h plain up s
+place_back j n (Static r i) x h plain up s = word_back j n r i x (static_behind (record_of (heap_of j.plain) r) i h) h.within up s
+place_back j n (Registry a) x h plain up s = (registry-heap_of j.recovered a x s.back h, IsWellFormed-registry j.recovered a x s.back h, top-registry j.recovered a x)
+place_back j n AppletCount x h plain up s = count_set j.recovered x s.back
 
 pub place_shape : (d h : HeapState) (p : Place) (x : ℕ) → SameShape d h → SameShape d (set_place h p x)
 unfolding heap_item_at is_allocated
@@ -189,10 +234,10 @@ pub far_spot : (n a : ℕ) → a < n → registry_start ≤ a → PlaceSpot n a
 far_spot n a below high = record { below = below; high = omega (arith, high); beside = λ _. high }
 
 pub place_spot : (j : State) (v : HeapView) (n : ℕ) (p : Place) → heap_view j n ≡ v → IsWellFormed j.plain → HasPlace v.now p
-    → PlaceSpot (length j.plain) (place_word p)
+    → PlaceSpot (length j.plain) (place_at v.now p)
 place_spot j v n (Cell r i) is laid h =
-    let spot : (cell_address r i < length j.plain) × (text_start ≤ cell_address r i) = cell_spot j v n r i is h in
-    far_spot (length j.plain) (cell_address r i) spot.0 (omega (arith, spot.1))
+    let spot = cell_spot j v n r i is h in
+    far_spot (length j.plain) (cell_at (facts v.now r) r i) spot.0 (omega (arith, spot.1))
 place_spot j v n (Static r i) is laid h =
     let some : 0 < length (record_of (v.now) r) = omega (arith, h.within) in
     let there : 0 < length (record_of (heap_of j.plain) r) = record_view j v n r is some in
@@ -212,17 +257,19 @@ place_unlogged n a s = record { below = s.below; not_top = λ e. omega (arith, s
 
 -- a place set through the journal is a place set in the heap
 pub place_view : (j k : State) (v : HeapView) (n : ℕ) (p : Place) (x : ℕ) → heap_view j n ≡ v → IsWellFormed j.plain → IsWellFormed j.recovered
-    → HasPlace v.now p → Changes ((place_word p, x) ∷ []) j k → heap_view k n ≡ write_place v p x
-place_view j k v n p x is laid back h c = subst (λ u. HasPlace (u.now) p → heap_view k n ≡ write_place u p x) is
-    (λ there. change_view ((place_word p, x) ∷ []) j k n (set_place (heap_of j.plain) p x) back c (place_set j.plain p x laid there).0) h
+    → HasPlace v.now p → MayHold v.now p x → Changes ((place_at v.now p, word_for j.plain p x) ∷ []) j k → heap_view k n ≡ write_place v p x
+place_view j k v n p x is laid back h may c = subst (λ u. HasPlace (u.now) p → MayHold (u.now) p x
+    → Changes ((place_at (u.now) p, word_for j.plain p x) ∷ []) j k → heap_view k n ≡ write_place u p x) is
+    (λ there fits made. change_view ((place_at (heap_of j.plain) p, word_for j.plain p x) ∷ []) j k n (set_place (heap_of j.plain) p x) back made
+    (place_set j.plain p x laid there fits).0) h may c
 
-pub place_sound : (j k : State) (v : HeapView) (n : ℕ) (p : Place) (x : ℕ) → heap_view j n ≡ v → HasPlace v.now p → j.down ≡ false → IsSound j n
-    → Changes ((place_word p, x) ∷ []) j k → IsSound k n
-place_sound j k v n p x is h up s c =
-    let t : (heap_of (set j.plain (place_word p) x) ≡ set_place (heap_of j.plain) p x) × IsWellFormed (set j.plain (place_word p) x)
-    × (get_or (set j.plain (place_word p) x) top_address 0 ≡ get_or j.plain top_address 0) =
-    place_set j.plain p x (s.now up) (subst (λ u. HasPlace (u.now) p) (sym is) h) in
-    change_sound ((place_word p, x) ∷ []) j k n c up s.back s.size_recovered (s.size_now up) s.small t.1
+pub place_sound : (j k : State) (v : HeapView) (n : ℕ) (p : Place) (x : ℕ) → heap_view j n ≡ v → HasPlace v.now p → MayHold v.now p x → j.down ≡ false
+    → IsSound j n → Changes ((place_at v.now p, word_for j.plain p x) ∷ []) j k → IsSound k n
+place_sound j k v n p x is h may up s c =
+    let same : v.now ≡ heap_of j.plain = ap (λ u. u.now) (sym is) in
+    let t = place_set j.plain p x (s.now up) (subst (λ (u : HeapState). HasPlace u p) same h) (subst (λ (u : HeapState). MayHold u p x) same may) in
+    change_sound ((place_at (heap_of j.plain) p, word_for j.plain p x) ∷ []) j k n
+    (subst (λ (u : HeapState). Changes ((place_at u p, word_for j.plain p x) ∷ []) j k) same c) up s.back s.size_recovered (s.size_now up) s.small t.1
     (λ _. omega (arith, s.order up, t.2))
     (λ _. subst (SameShape (heap_of j.recovered)) (sym t.0) (place_shape (heap_of j.recovered) (heap_of j.plain) p x (s.shape up)))
 
@@ -234,7 +281,7 @@ settled_both : (b c : Bool) (rec plain : List ℕ) (a x : ℕ) → b ≡ false �
 settled_both true c rec plain a x f e = absurd (false≢true (sym f))
 settled_both false c rec plain a x f e = ap (λ l. set l a x) e
 
-both_at : (j : State) (n : ℕ) (p : Place) (x : ℕ) → HasPlace (heap_of j.plain) p → j.down ≡ false → IsSound j n →
+both_at : (j : State) (n : ℕ) (p : Place) (x : ℕ) → HasPlace (heap_of j.plain) p → IsPlain (heap_of j.plain) p → j.down ≡ false → IsSound j n →
     (heap_view (after_write_in_place j (place_word p) x) n ≡ record (heap_view j n) {
       now = set_place (heap_of j.plain) p x;
       durable = (if j.in_transaction && is_kept j (place_word p) then heap_of j.recovered else set_place
@@ -242,11 +289,11 @@ both_at : (j : State) (n : ℕ) (p : Place) (x : ℕ) → HasPlace (heap_of j.pl
       passed = saturating_count j.passed 1;
     })
     × IsSound (after_write_in_place j (place_word p) x) n
-both_at j n p x h up s =
+both_at j n p x h plain up s =
     let b : (heap_of (set j.recovered (place_word p) x) ≡ set_place (heap_of j.recovered) p x) × IsWellFormed (set j.recovered (place_word p) x)
-    × (get_or (set j.recovered (place_word p) x) top_address 0 ≡ get_or j.recovered top_address 0) = place_back j n p x h up s in
+    × (get_or (set j.recovered (place_word p) x) top_address 0 ≡ get_or j.recovered top_address 0) = place_back j n p x h plain up s in
     let t : (heap_of (set j.plain (place_word p) x) ≡ set_place (heap_of j.plain) p x) × IsWellFormed (set j.plain (place_word p) x)
-    × (get_or (set j.plain (place_word p) x) top_address 0 ≡ get_or j.plain top_address 0) = place_set j.plain p x (s.now up) h in
+    × (get_or (set j.plain (place_word p) x) top_address 0 ≡ get_or j.plain top_address 0) = plain_word_set j.plain p x (s.now up) (has_word (heap_of j.plain) p h) plain in
     let now : heap_of (set j.plain (place_word p) x) ≡ set_place (heap_of j.plain) p x = t.0 in
     let laid : IsWellFormed (set j.plain (place_word p) x) = t.1 in
     let top : get_or (set j.plain (place_word p) x) top_address 0 ≡ get_or j.plain top_address 0 = t.2 in
@@ -295,32 +342,32 @@ kept_or_born true false true old set_there d is new = new refl
 kept_or_born true false false old set_there d is new = refl
 kept_or_born false kept born old set_there d is new = refl
 
-both_back : (j : State) (n : ℕ) (p : Place) (x : ℕ) → HasPlace (heap_of j.plain) p → j.down ≡ false → IsSound j n →
+both_back : (j : State) (n : ℕ) (p : Place) (x : ℕ) → HasPlace (heap_of j.plain) p → IsPlain (heap_of j.plain) p → j.down ≡ false → IsSound j n →
     (if j.in_transaction && is_kept j (place_word p) then heap_of j.recovered else set_place (heap_of j.recovered) p x)
     ≡ (if goes_back (keeping (heap_view j n)) (place_word p) then heap_of j.recovered else set_place (heap_of j.recovered) p x)
 unfolding goes_back
-both_back j n p x h up s =
+both_back j n p x h plain up s =
     let a = place_word p in
     let same : goes_back (keeping (heap_view j n)) a ≡ goes_back (journal_keeping j) a = ap (λ k. goes_back k a) (keeping_view j n s.back) in
-    let b = place_back j n p x h up s in
+    let b = place_back j n p x h plain up s in
     kept_or_born j.in_transaction (is_kept j a) (nat_le (born_of j.recovered) a) (heap_of j.recovered) (set_place (heap_of j.recovered) p x)
     (set_place (heap_of j.recovered) p x) refl
     (λ born. sym b.0 ∙ (above_top j.recovered a x s.back (omega (arith, leb-true (born_of j.recovered) a born))).0)
     ∙ sym (ap (λ (g : Bool). if g then heap_of j.recovered else set_place (heap_of j.recovered) p x) same)
 
-both_here : (j : State) (n : ℕ) (p : Place) (x : ℕ) → HasPlace (heap_of j.plain) p → j.down ≡ false → IsSound j n
+both_here : (j : State) (n : ℕ) (p : Place) (x : ℕ) → HasPlace (heap_of j.plain) p → IsPlain (heap_of j.plain) p → j.down ≡ false → IsSound j n
     → heap_view (after_write_in_place j (place_word p) x) n ≡ write_nonatomic (heap_view j n) p x
-both_here j n p x h up s = (both_at j n p x h up s).0 ∙ ap (λ (d : HeapState). record (heap_view j n) {
+both_here j n p x h plain up s = (both_at j n p x h plain up s).0 ∙ ap (λ (d : HeapState). record (heap_view j n) {
   now = set_place (heap_of j.plain) p x;
   durable = d;
   passed = saturating_count j.passed 1;
-}) (both_back j n p x h up s)
+}) (both_back j n p x h plain up s)
 
-pub both_view : (j : State) (v : HeapView) (n : ℕ) (p : Place) (x : ℕ) → heap_view j n ≡ v → HasPlace v.now p → j.down ≡ false → IsSound j n
+pub both_view : (j : State) (v : HeapView) (n : ℕ) (p : Place) (x : ℕ) → heap_view j n ≡ v → HasPlace v.now p → IsPlain v.now p → j.down ≡ false → IsSound j n
     → heap_view (after_write_in_place j (place_word p) x) n ≡ write_nonatomic v p x
-both_view j v n p x is h up s = subst (λ u. HasPlace (u.now) p → heap_view (after_write_in_place j (place_word p) x) n ≡ write_nonatomic u p x) is
-    (λ k. both_here j n p x k up s) h
+both_view j v n p x is h plain up s = subst (λ u. HasPlace (u.now) p → IsPlain (u.now) p
+    → heap_view (after_write_in_place j (place_word p) x) n ≡ write_nonatomic u p x) is (λ k own. both_here j n p x k own up s) h plain
 
-pub both_sound : (j : State) (v : HeapView) (n : ℕ) (p : Place) (x : ℕ) → heap_view j n ≡ v → HasPlace v.now p → j.down ≡ false → IsSound j n
+pub both_sound : (j : State) (v : HeapView) (n : ℕ) (p : Place) (x : ℕ) → heap_view j n ≡ v → HasPlace v.now p → IsPlain v.now p → j.down ≡ false → IsSound j n
     → IsSound (after_write_in_place j (place_word p) x) n
-both_sound j v n p x is h up s = (both_at j n p x (subst (λ u. HasPlace (u.now) p) (sym is) h) up s).1
+both_sound j v n p x is h plain up s = (both_at j n p x (subst (λ u. HasPlace (u.now) p) (sym is) h) (subst (λ u. IsPlain (u.now) p) (sym is) plain) up s).1

@@ -1,16 +1,16 @@
 -- What is read of a record that was written.
-use Rattle.std.proofs.Common.{◌≡◌, ℕ, zero, suc, ◌+◌, ◌*◌, ◌/◌, ◌%◌, ◌<◌, ◌==◌, inl, inr, get_or, List, [], ◌∷◌, ◌++◌, length, take, drop, refl, sym, ◌∙◌, ap}
+use Rattle.std.proofs.Common.{◌≡◌, ℕ, zero, suc, ◌+◌, ◌<◌, ◌==◌, inl, inr, get_or, List, [], ◌∷◌, ◌++◌, length, take, drop, refl, sym, ◌∙◌, ap}
 use Rattle.std.proofs.Common.{arith, append_assoc, Option, Some, None, if◌then◌else◌}
-use Rattle.std.proofs.lemmas.List.{length-append, get_or_append_left, drop-drop}
+use Rattle.std.proofs.lemmas.List.{length-append, drop-drop}
 use Rattle.std.proofs.lemmas.Bool.{cases_eq, eq-eqb, ne_eqb}
 use Rattle.jc_heap.specs.declared.object.Kind.{Kind}
 use Rattle.jc_heap.specs.declared.component.Span.{Span}
 use Rattle.jc_heap.specs.Cut.{records_from}
-use Rattle.jc_heap.specs.Image.{packed_byte}
+use Rattle.jc_heap.specs.Packed.{packed_byte, packed_words}
 use Rattle.jc_heap.specs.Packages.{component_words, components_words, image_words, record_size, package_record, AreComponents}
-use Rattle.jc_heap.specs.Packed.{packed_words}
 use Rattle.jc_heap.specs.Components.{words_for, part_sizes, info_span, info_of, ReadsBack}
-use Rattle.jc_heap.proofs.Packing.{length-packed_words, packed_words-at}
+use Rattle.jc_heap.proofs.Packing.{length-packed_words}
+use Rattle.jc_heap.proofs.PackedBytes.{packed_byte-is}
 use Rattle.jc_heap.proofs.RecordReading.{info-here, info-next, info-image, span-whole}
 
 drop-front : (xs ys : List ℕ) → drop (length xs) (xs ++ ys) ≡ ys
@@ -97,29 +97,6 @@ info_words_at (c ∷ cs) (suc k) tail h =
           ∙ ap (drop n) (drop-front (component_words c) (components_words cs ++ tail))
           ∙ ih.1,
     )
-
--- a byte of packed bytes
-packed_byte-is : (bs more : List ℕ) (i : ℕ) → i < length bs → ((k : ℕ) → get_or bs k 0 < 256) → packed_byte (packed_words bs ++ more) i ≡ get_or bs i 0
-packed_byte-is bs more i h small =
-    let within : i / 2 < length (packed_words bs) = omega (arith, length-packed_words bs) in
-    let word : get_or (packed_words bs ++ more) (i / 2) 0 ≡ get_or bs (2 * (i / 2)) 0 * 256 + get_or bs (2 * (i / 2) + 1) 0 =
-    get_or_append_left (packed_words bs) more 0 (i / 2) within ∙ packed_words-at bs (i / 2) within in
-    let high : get_or bs (2 * (i / 2)) 0 < 256 = small (2 * (i / 2)) in
-    let low : get_or bs (2 * (i / 2) + 1) 0 < 256 = small (2 * (i / 2) + 1) in
-    elim (cases_eq (i % 2) 0) [
-      | inl e ↦
-          let at : 2 * (i / 2) ≡ i = omega arith in
-          ap (λ b. if b then get_or (packed_words bs ++ more) (i / 2) 0 / 256 else get_or (packed_words bs ++ more) (i / 2) 0 % 256) (eq-eqb (i % 2) 0 e)
-          ∙ ap (λ w. w / 256) word
-          ∙ (omega arith)
-          ∙ ap (λ k. get_or bs k 0) at
-      | inr n ↦
-          let at : 2 * (i / 2) + 1 ≡ i = omega arith in
-          ap (λ b. if b then get_or (packed_words bs ++ more) (i / 2) 0 / 256 else get_or (packed_words bs ++ more) (i / 2) 0 % 256) (ne_eqb (i % 2) 0 n)
-          ∙ ap (λ w. w % 256) word
-          ∙ (omega arith)
-          ∙ ap (λ k. get_or bs k 0) at
-    ]
 
 -- the record's words behind its length
 behind_length : (at : ℕ) (cs : List (ℕ × List ℕ)) (xs : List (Kind × List ℕ)) (rest : List ℕ) (n : ℕ)

@@ -1,5 +1,5 @@
 -- What the words of an object's record say.
-use Rattle.std.proofs.Common.{◌≡◌, ℕ, suc, ◌+◌, ◌-◌, ◌/◌, ◌%◌, ◌<◌, ◌≤◌, ◌==◌, Bool, true, false, inl, inr, List, [], ◌∷◌, length, get_or, drop, refl, sym, ◌∙◌}
+use Rattle.std.proofs.Common.{◌≡◌, ℕ, suc, ◌+◌, ◌-◌, ◌*◌, ◌/◌, ◌%◌, min, ◌<◌, ◌≤◌, ◌==◌, Bool, true, false, inl, inr, List, [], ◌∷◌, length, get_or, drop, refl, sym, ◌∙◌}
 use Rattle.std.proofs.Common.{ap, subst, arith, if◌then◌else◌, Option, Some, None, is_some, lit≤, IsTrue, not, ◌&&◌}
 use Rattle.jc_transient.specs.declared.cell.ClearEvent.{ClearEvent}
 use Rattle.jc_transient.specs.declared.cell.ClearEvent.TheVariants.{Reset, Deselect}
@@ -10,7 +10,11 @@ use Rattle.jc_words.specs.Layout.{top_address, text_start}
 use Rattle.jc_commit.specs.State.{State}
 use Rattle.jc_heap.specs.declared.object.Facts.{Facts}
 use Rattle.jc_heap.specs.Table.{entry_or, has_entry}
-use Rattle.jc_heap.specs.Object.{AnObject, APackage, object_of, cells_of, facts_of, is_object, is_header, payload, kind_of, event_of}
+use Rattle.jc_heap.specs.Object.{AnObject, APackage, object_of, cells_of, facts_of, is_object, is_header, is_packed, is_packed_header, payload, kind_of, event_of}
+use Rattle.jc_heap.specs.Object.{words_of_cells, cells_of_words}
+use Rattle.jc_heap.proofs.Images.{packed_of}
+use Rattle.jc_heap.proofs.PackedBytes.{length-bytes_of_packed}
+use Rattle.std.proofs.Math.Nat.{min-eq_left}
 use Rattle.jc_heap.specs.Image.{image, base, package_addresses, is_package, sizes, item, records, missing_words_of_image, IsWellFormed}
 use Rattle.jc_heap.specs.Heap.{heap_of, read_image, heap_item_at, is_allocated, cells, facts, IsObject}
 use Rattle.jc_heap.proofs.Records.{entry_or-records_from, has_behind, length-record}
@@ -25,6 +29,7 @@ said word class owner long place = record {
   owner = owner;
   length = long;
   place = (if word / 256 == 0 then 0 else place);
+  packed = is_packed_header word;
 }
 
 pub said-object_of : (rec : List ℕ) → 4 ≤ length rec → (object_of rec).facts ≡ said (get_or rec 0 0) (get_or rec 1 0) (get_or rec 2 0) (get_or rec 3 0)
@@ -36,21 +41,29 @@ said-object_of (a ∷ b ∷ c ∷ []) h = absurd (omega arith)
 said-object_of (a ∷ b ∷ c ∷ d ∷ []) h = refl
 said-object_of (a ∷ b ∷ c ∷ d ∷ e ∷ rest) h = refl
 
+-- as many words as so many cells take hold so many cells
+pub length-cells_of_words : (packed : Bool) (long : ℕ) (words : List ℕ) → length words ≡ words_of_cells packed long → length (cells_of_words packed long words) ≡ long
+length-cells_of_words false long words e = e
+length-cells_of_words true long words e = length-bytes_of_packed (min long (2 * length words)) words ∙ min-eq_left (omega (arith, e))
+
 pub cells-object_of : (rec : List ℕ) → length rec ≡ 4 + payload (get_or rec 0 0) (get_or rec 3 0) → length rec < 65536 → get_or rec 0 0 / 256 ≡ 0
     → length ((object_of rec).cells) ≡ get_or rec 3 0
-cells-object_of [] h small e = absurd (omega arith)
-cells-object_of (a ∷ []) h small e = absurd (omega arith)
-cells-object_of (a ∷ b ∷ []) h small e = absurd (omega arith)
-cells-object_of (a ∷ b ∷ c ∷ []) h small e = absurd (omega arith)
+cells-object_of [] h small e = absurd (omega (arith, h))
+cells-object_of (a ∷ []) h small e = absurd (omega (arith, h))
+cells-object_of (a ∷ b ∷ []) h small e = absurd (omega (arith, h))
+cells-object_of (a ∷ b ∷ c ∷ []) h small e = absurd (omega (arith, h))
 cells-object_of (a ∷ b ∷ c ∷ d ∷ rest) h small e =
     let t : (a / 256 == 0) ≡ true = eq-eqb (a / 256) 0 e in
     elim (cases_Bool (is_header a)) [
       | inl y ↦
-          let n : length (a ∷ b ∷ c ∷ d ∷ rest) ≡ 4 + d = h ∙ ap (λ g. 4 + (if g then (if a / 256 == 0 then d else 1) else 65536)) y
-          ∙ ap (λ g. 4 + (if g then d else 1)) t in
-          rw t (omega arith)
+          let n : length (a ∷ b ∷ c ∷ d ∷ rest) ≡ 4 + words_of_cells (is_packed_header a) d = h
+          ∙ ap (λ g. 4 + (if g then (if a / 256 == 0 then words_of_cells (is_packed_header a) d else 1) else 65536)) y
+          ∙ ap (λ g. 4 + (if g then words_of_cells (is_packed_header a) d else 1)) t in
+          ap (λ g. length (if g then cells_of_words (is_packed_header a) d rest else [])) t
+          ∙ length-cells_of_words (is_packed_header a) d rest (omega (arith, n))
       | inr y ↦
-          let n : length (a ∷ b ∷ c ∷ d ∷ rest) ≡ 4 + 65536 = h ∙ ap (λ g. 4 + (if g then (if a / 256 == 0 then d else 1) else 65536)) y in absurd (omega arith)
+          let n : length (a ∷ b ∷ c ∷ d ∷ rest) ≡ 4 + 65536 = h
+          ∙ ap (λ g. 4 + (if g then (if a / 256 == 0 then words_of_cells (is_packed_header a) d else 1) else 65536)) y in absurd (omega (arith, n, small))
     ]
 
 at_least_one : (b : Bool) → 1 ≤ (if b then 1 else 65536)
@@ -145,7 +158,7 @@ module _ (ws : List ℕ) (r : ℕ) (laid : IsWellFormed ws) (there : IsObject (h
     arith,
     at_least_one (is_header (get_or rec 0 0)),
     whole_record
-        ∙ ap (λ b. 4 + (if is_header (get_or rec 0 0) then (if b then get_or rec 3 0 else 1) else 65536)) (ne_eqb (get_or rec 0 0 / 256) 0 n),
+        ∙ ap (λ b. 4 + (if is_header (get_or rec 0 0) then (if b then words_of_cells (is_packed_header (get_or rec 0 0)) (get_or rec 3 0) else 1) else 65536)) (ne_eqb (get_or rec 0 0 / 256) 0 n),
   )
 
   -- the word behind a transient object's header
@@ -164,6 +177,10 @@ module _ (ws : List ℕ) (r : ℕ) (laid : IsWellFormed ws) (there : IsObject (h
       ap facts_of item_is ∙ said-object_of rec four ∙ last_word
       ∙ (λ k. said (first_word k) ((word_is 1 (omega (arith, four))).1 k) ((word_is 2 (omega (arith, four))).1 k) ((word_is 3 (omega (arith, four))).1 k)
       (get_or ws (r + 4) 0))
+
+  -- whether two of its elements stand in a word
+  pub packed_said : is_packed (facts (heap_of ws) r) ≡ is_packed_header (get_or ws r 0)
+  packed_said = ap (λ t. is_packed (facts_of t)) item_is ∙ packed_of rec ∙ ap (λ f. f.packed) (said-object_of rec four) ∙ ap is_packed_header first_word
 
   pub record_within : r + length rec ≤ get_or ws top_address 0
   record_within = omega (arith, four, (word_is (length rec - 1) (omega (arith, four))).0)
@@ -213,10 +230,12 @@ spot_at j r a laid small there e =
 
 -- facts read word by word are the object's
 pub facts_built : (ws : List ℕ) (r : ℕ) → IsWellFormed ws → IsObject (heap_of ws) r →
-    (w : ℕ) (kind : Kind) (event : Option ClearEvent) (class owner long place : ℕ) → w ≡ get_or ws r 0 → kind ≡ kind_of (w % 256) → event ≡ event_of (w / 256) →
+    (w : ℕ) (kind : Kind) (event : Option ClearEvent) (class owner long place : ℕ) (packed : Bool) → w ≡ get_or ws r 0 → kind ≡ kind_of (w % 256) → event ≡ event_of (w / 256) →
     class ≡ get_or ws (r + 1) 0 → owner ≡ get_or ws (r + 2) 0 → long ≡ get_or ws (r + 3) 0 → place ≡ (if w / 256 == 0 then 0 else get_or ws (r + 4) 0) →
-    (let built : Facts = record { kind = kind; event = event; class = class; owner = owner; length = long; place = place } in built) ≡ facts (heap_of ws) r
-facts_built ws r laid there w kind event class owner long place we ke ee ce oe le pe =
+    packed ≡ is_packed_header w →
+    (let built : Facts = record { kind = kind; event = event; class = class; owner = owner; length = long; place = place; packed = packed } in built)
+    ≡ facts (heap_of ws) r
+facts_built ws r laid there w kind event class owner long place packed we ke ee ce oe le pe ke_packed =
     (λ i. record {
       kind = (ke ∙ ap (λ u. kind_of (u % 256)) we) i;
       event = (ee ∙ ap (λ u. event_of (u / 256)) we) i;
@@ -224,6 +243,7 @@ facts_built ws r laid there w kind event class owner long place we ke ee ce oe l
       owner = oe i;
       length = le i;
       place = (pe ∙ ap (λ u. if u / 256 == 0 then 0 else get_or ws (r + 4) 0) we) i;
+      packed = (ke_packed ∙ ap is_packed_header we) i;
     })
     ∙ sym (facts_are ws r laid there)
 

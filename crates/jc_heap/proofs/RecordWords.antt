@@ -15,7 +15,7 @@ use Rattle.jc_heap.specs.Components.{words_of, record_of}
 use Rattle.jc_heap.specs.Statics.{with_word, set_word}
 use Rattle.jc_heap.proofs.Records.{records_from-set, missing_words-set}
 use Rattle.jc_heap.proofs.Tables.{map-put, at_or-put_same, at_or-put_other, has-put, put-absent}
-use Rattle.jc_heap.proofs.Images.{sizes_tell, image-set, get_or_front, range_front, package_addresses-set, base-set, head-set, text-same}
+use Rattle.jc_heap.proofs.Images.{image-set, get_or_front, package_addresses-set, base-set, read-set, missing-set}
 use Rattle.jc_heap.proofs.RecordReading.{is_item, is_one, is_record, behind}
 
 module _ (ws : List ℕ) (r j v : ℕ) (laid : IsWellFormed ws) (four : 4 ≤ j) (h : j < length (record_of (heap_of ws) r)) where
@@ -34,42 +34,11 @@ module _ (ws : List ℕ) (r j v : ℕ) (laid : IsWellFormed ws) (four : 4 ≤ j)
   low : base (image ws) ≤ r
   low = behind ws r laid some
 
-  offset : ℕ
-  offset = r + j - base (image ws)
-
-  offset_is : base (image ws) + offset ≡ r + j
-  unfolding offset
-  offset_is = omega (arith, low)
-
   far : registry_start ≤ r + j
   far = omega (arith, low)
 
   same_packages : package_addresses (set img (r + j) v) ≡ package_addresses img
   same_packages = package_addresses-set img (r + j) v far
-
-  tail : drop (base img) (set img (r + j) v) ≡ set (drop (base img) img) offset v
-  tail = ap (λ n. drop (base img) (set img n v)) (sym offset_is) ∙ drop-set-add (base img) img offset v
-
-  table-set : {X : Type 0} (F : Sizes → ℕ → List ℕ → X) →
-      F (sizes (package_addresses (set img (r + j) v))) (base (set img (r + j) v)) (drop (base (set img (r + j) v)) (set img (r + j) v))
-      ≡ F (sizes (package_addresses img)) (base img) (set (drop (base img) img) offset v)
-  table-set F =
-      ap (λ ps. F (sizes ps) (base (set img (r + j) v)) (drop (base (set img (r + j) v)) (set img (r + j) v))) same_packages
-      ∙ ap (λ b. F (sizes (package_addresses img)) b (drop b (set img (r + j) v))) (base-set img (r + j) v far)
-      ∙ ap (F (sizes (package_addresses img)) (base img)) tail
-
-  records-set : records (set img (r + j) v) ≡ with_entry (records img) r (set old j v)
-  records-set =
-      table-set (λ more b us. records_from more 0 b us)
-      ∙ records_from-set (sizes (package_addresses img)) (sizes_tell (package_addresses img)) 0 (base img)
-      (drop (base img) img) r j offset v four within offset_is
-
-  missing-set : missing_words_of_image (set img (r + j) v) ≡ missing_words_of_image img
-  unfolding missing_words_of_image
-  missing-set =
-      table-set (λ more b us. missing_words more 0 b us)
-      ∙ missing_words-set (sizes (package_addresses img)) (sizes_tell (package_addresses img)) 0 (base img)
-      (drop (base img) img) r j offset v four within offset_is
 
   as_package : (us : List ℕ) → item (package_addresses img) r us ≡ APackage us
   as_package us = ap (λ b. if b then APackage us else AnObject (object_of us)) (is_one ws r laid some)
@@ -77,45 +46,12 @@ module _ (ws : List ℕ) (r j v : ℕ) (laid : IsWellFormed ws) (four : 4 ≤ j)
   item-set : item (package_addresses img) r (set old j v) ≡ with_word (heap_item_at (heap_of ws) r) j v
   item-set = as_package (set old j v) ∙ ap (λ t. with_word t j v) (sym (as_package old) ∙ sym (is_item ws r laid some))
 
-  read-set : read_image (set img (r + j) v) ≡ set_word (read_image img) r j v
-  unfolding read_image set_word
-  read-set =
-      let registry : text_start ≤ r + j = omega (arith, low) in
-      let items : map (item_entry (package_addresses (set img (r + j) v))) (records (set img (r + j) v))
-      ≡ with_entry (map (item_entry (package_addresses img)) (records img)) r (with_word (heap_item_at (heap_of ws) r) j v) =
-      ap (λ ps. map (item_entry ps) (records (set img (r + j) v))) same_packages
-      ∙ ap (map (item_entry (package_addresses img))) records-set
-      ∙ map-put (item (package_addresses img)) (records img) r (set old j v)
-      ∙ ap (with_entry (map (item_entry (package_addresses img)) (records img)) r) item-set in
-      let applets : take registry_length (drop registry_start (set img (r + j) v)) ≡ take registry_length (drop registry_start img) =
-      range_front img registry_start registry_length (r + j) v registry in
-      let first_end : get_or (set img (r + j) v) reset_end_address 0 ≡ get_or img reset_end_address 0 =
-      get_or_front img (r + j) reset_end_address v (omega arith) in
-      let second_end : get_or (set img (r + j) v) deselect_end_address 0 ≡ get_or img deselect_end_address 0 =
-      get_or_front img (r + j) deselect_end_address v (omega arith) in
-      let top : length (set img (r + j) v) ≡ length img = length-set img (r + j) v in
-      let head : head_of (set img (r + j) v) ≡ head_of img = head-set img (r + j) v (omega (arith, registry)) in
-      let text : table_text (set img (r + j) v) ≡ table_text img =
-      text-same img (set img (r + j) v) (get_or_front img (r + j) text_length_address v (omega (arith, registry)))
-      (range_front img text_start ((get_or img text_length_address 0 + 1) / 2) (r + j) v (omega (arith, low))) in
-      let first_count : get_or (set img (r + j) v) packages_address 0 ≡ get_or img packages_address 0 =
-      get_or_front img (r + j) packages_address v (omega arith) in
-      let second_count : get_or (set img (r + j) v) applets_address 0 ≡ get_or img applets_address 0 =
-      get_or_front img (r + j) applets_address v (omega arith) in
-      λ k. record {
-        head = head k;
-        text = text k;
-        items = items k;
-        counts = (first_count k, second_count k);
-        packages = same_packages k;
-        applets = applets k;
-        area_ends = (first_end k, second_end k);
-        top = top k;
-        capacity = capacity_of img;
-      }
+  set_word-read : read_image (set img (r + j) v) ≡ set_word (read_image img) r j v
+  unfolding set_word
+  set_word-read = read-set img r j v four within ∙ ap (λ t. record (read_image img) { items = with_entry ((read_image img).items) r t }) item-set
 
   pub heap_of-set_word : heap_of (set ws (r + j) v) ≡ set_word (heap_of ws) r j v
-  heap_of-set_word = ap read_image (image-set ws (r + j) v (omega (arith, far))) ∙ read-set
+  heap_of-set_word = ap read_image (image-set ws (r + j) v (omega (arith, far))) ∙ set_word-read
 
   pub top-set_word : get_or (set ws (r + j) v) top_address 0 ≡ get_or ws top_address 0
   top-set_word = get_or_front ws (r + j) top_address v (omega (arith, far))
@@ -127,7 +63,7 @@ module _ (ws : List ℕ) (r j v : ℕ) (laid : IsWellFormed ws) (four : 4 ≤ j)
       record {
         based = rw (same_base, top-set_word) laid.based;
         fits = rw (top-set_word, length-set ws (r + j) v) laid.fits;
-        whole = ap missing_words_of_image same_image ∙ missing-set ∙ laid.whole;
+        whole = ap missing_words_of_image same_image ∙ missing-set img r j v four within ∙ laid.whole;
         packages = λ a le. ap (λ ps. is_package ps a) (ap package_addresses same_image ∙ same_packages) ∙ laid.packages a (rw top-set_word at le);
       }
 

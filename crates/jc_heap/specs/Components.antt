@@ -5,7 +5,7 @@ use Rattle.jc_heap.specs.declared.component.Span.{Span}
 use Rattle.jc_heap.specs.Cut.{Sizes, records_from}
 use Rattle.jc_heap.specs.Object.{Item, AnObject, APackage}
 use Rattle.jc_heap.specs.declared.object.Kind.{Kind}
-use Rattle.jc_heap.specs.Image.{packed_byte}
+use Rattle.jc_heap.specs.Packed.{packed_byte}
 use Rattle.jc_heap.specs.Heap.{HeapState, heap_item_at}
 use Rattle.jc_heap.specs.Packages.{AreComponents, package_record}
 

@@ -16,7 +16,7 @@ use Rattle.jc_heap.specs.declared.object.Kind.{Kind}
 use Rattle.jc_heap.specs.Object.{Object, header_size, new_transient, transient_size, Item, AnObject, APackage, cells_of, with_cell, header_only, facts_of}
 use Rattle.jc_heap.specs.Object.{is_object}
 use Rattle.jc_heap.specs.Table.{entry_or, has_entry, with_entry}
-use Rattle.jc_heap.specs.Image.{image, package_addresses, item_entry, records, table_text, IsWellFormed}
+use Rattle.jc_heap.specs.Image.{image, package_addresses, item_entry, records, table_text, unread_words, IsWellFormed}
 
 -- the magic word and the number of words, as words tell them
 abbrev pub head_of : List ℕ → ℕ × ℕ
@@ -24,7 +24,8 @@ head_of words = (slice_index words magic_address, slice_index words size_address
 
 -- the magic word and the number of words; the table text; what stands at each address, in order; the
 -- numbers of packages and of applets; the addresses of the packages, by their numbers; the registry's
--- words; the ends of the two transient areas; the first free word; how many old values the journal can keep
+-- words; the ends of the two transient areas; the first free word; how many old values the journal can keep;
+-- the words of the front that nothing reads
 pub record HeapState : Type 0 where
   pub head : ℕ × ℕ
   pub text : List ℕ
@@ -35,6 +36,7 @@ pub record HeapState : Type 0 where
   pub area_ends : ℕ × ℕ
   pub top : ℕ
   pub capacity : ℕ
+  pub unread : List ℕ
 
 unfoldable pub read_image : List ℕ → HeapState
 read_image image = record {
@@ -47,6 +49,7 @@ read_image image = record {
   area_ends = (slice_index image reset_end_address, slice_index image deselect_end_address);
   top = length image;
   capacity = capacity_of image;
+  unread = unread_words image;
 }
 
 -- the heap that words stand for: words at or above the top don't matter

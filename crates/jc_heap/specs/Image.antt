@@ -1,9 +1,10 @@
 -- Where an image keeps what.
-use Rattle.std.specs.Prelude.{ℕ, ◌+◌, ◌-◌, ◌/◌, ◌%◌, ◌==◌, Bool, false, List, map, take, drop, slice_index, length, ◌≤◌, ◌≡◌, if◌then◌else◌}
+use Rattle.std.specs.Prelude.{ℕ, ◌+◌, ◌-◌, ◌/◌, ◌%◌, ◌==◌, Bool, false, List, [], ◌∷◌, map, take, drop, slice_index, length, ◌≤◌, ◌≡◌, if◌then◌else◌}
 use Rattle.std.specs.List.{list_any, range_with_len}
-use Rattle.jc_words.specs.Layout.{top_address, packages_address, text_length_address, addresses_start, most_packages, text_start}
+use Rattle.jc_words.specs.Layout.{capacity_address, top_address, packages_address, text_length_address, addresses_start, most_packages, text_start}
 use Rattle.jc_heap.specs.Cut.{Sizes, records_from, missing_words}
 use Rattle.jc_heap.specs.Object.{Item, AnObject, APackage, object_of, payload}
+use Rattle.jc_heap.specs.Packed.{bytes_of_packed}
 
 -- the words below the top: the others have no meaning
 abbrev pub image : List ℕ → List ℕ
@@ -37,14 +38,6 @@ records image = records_from (sizes (package_addresses image)) 0 (base image) (d
 unfoldable pub missing_words_of_image : List ℕ → ℕ
 missing_words_of_image image = missing_words (sizes (package_addresses image)) 0 (base image) (drop (base image) image)
 
--- a byte of packed words: two in a word, the high one first
-abbrev pub packed_byte : List ℕ → ℕ → ℕ
-packed_byte words i = if i % 2 == 0 then slice_index words (i / 2) / 256 else slice_index words (i / 2) % 256
-
--- so many bytes of packed words
-unfoldable pub bytes_of_packed : ℕ → List ℕ → List ℕ
-bytes_of_packed count words = map (packed_byte words) (range_with_len 0 count)
-
 -- the words of the table text
 abbrev pub text_words : List ℕ → List ℕ
 text_words words = take ((slice_index words text_length_address + 1) / 2) (drop text_start words)
@@ -56,6 +49,10 @@ table_text words = bytes_of_packed (slice_index words text_length_address) (text
 -- a byte of the table text
 abbrev pub text_byte : List ℕ → ℕ → ℕ
 text_byte words i = if i % 2 == 0 then slice_index words (text_start + i / 2) / 256 else slice_index words (text_start + i / 2) % 256
+
+-- the words of the front that the making of an image writes, and nothing reads: the journal's capacity, and the last five
+abbrev pub unread_words : List ℕ → List ℕ
+unread_words words = map (slice_index words) (capacity_address ∷ 11 ∷ 12 ∷ 13 ∷ 14 ∷ 15 ∷ [])
 
 -- words as the heap lays them: the top lies between the table's begin and the words' end, and the table ends there;
 -- a record that is no package's and begins with no header lacks words, so there is none

@@ -16,5 +16,6 @@ pub mod Statics
 pub mod Completions
 pub mod Moves
 pub mod Packed
+pub mod Elements
 pub mod RegistryLayout
 pub mod WordRuns

@@ -10,7 +10,7 @@ use Rattle.jc_heap.specs.Heap.{HeapState, HeapView, limit, set_cells, add_object
 use Rattle.jc_heap.specs.Heap.{heap_after_change, heap_after_begin, heap_after_commit, heap_after_abort, end_address}
 use Rattle.jc_heap.specs.declared.place.Place.{Place}
 use Rattle.jc_heap.specs.declared.place.AppletEntry.{AppletEntry}
-use Rattle.jc_heap.specs.Places.{place_word, place_at, run_at, set_place, write_place, write_nonatomic, places_of, set_places, applet_changes}
+use Rattle.jc_heap.specs.Places.{place_word, words_at, cells_from, set_place, write_place, write_nonatomic, places_of, set_places, applet_changes}
 use Rattle.jc_heap.specs.Packages.{add_package, addresses_of_package, package_size}
 use Rattle.jc_heap.specs.Completions.{Completion, Completed, Torn, Attempt, Done, Refused}
 use Rattle.jc_heap.specs.declared.refusal.HeapRefusal.{HeapRefusal}
@@ -33,9 +33,9 @@ pub data Move : Type 0 where
 -- the heap after a move
 abbrev pub apply_move : Move → HeapView → HeapView
 apply_move (Write p v) h = write_place h p v
-apply_move (SetPlaces changes) h = heap_after_change h (set_places h.now changes) (map (place_at h.now) (places_of changes)) 0
+apply_move (SetPlaces changes) h = heap_after_change h (set_places h.now changes) (words_at h.now (places_of changes)) 0
 apply_move (WriteNonAtomic p v) h = write_nonatomic h p v
-apply_move (SetCells r i vs) h = heap_after_change h (set_cells h.now r i vs) (run_at h.now r i (length vs)) 0
+apply_move (SetCells r i vs) h = heap_after_change h (set_cells h.now r i vs) (words_at h.now (cells_from r i (length vs))) 0
 apply_move (AddTransient kind event class owner long) h = heap_after_change h (add_transient h.now kind event class owner long)
     (end_address ∷ area_end_address event ∷ []) transient_size
 apply_move (AddPackage components arrays rest) h = heap_after_change h (add_package h.now components arrays rest) (addresses_of_package h.now)
@@ -96,19 +96,19 @@ refusal_at v addresses = if has_room_for v addresses then None else Some CommitF
 
 -- why a change of these places is
 abbrev pub refusal_of_places : HeapView → List Place → Option HeapRefusal
-refusal_of_places v places = refusal_at v (map (place_at v.now) places)
+refusal_of_places v places = refusal_at v (words_at v.now places)
 
 -- why a change of a run of cells is
 abbrev pub refusal_of_cells : HeapView → ℕ → ℕ → List ℕ → Option HeapRefusal
-refusal_of_cells v r i values = refusal_at v (run_at v.now r i (length values))
+refusal_of_cells v r i values = refusal_at v (words_at v.now (cells_from r i (length values)))
 
 -- why something new of so many words is: first there is no space
 abbrev pub refusal_of_space : HeapView → ℕ → List ℕ → Option HeapRefusal
 refusal_of_space v size addresses = if nat_lt (limit v) (v.now.top + size) then Some HeapFull else refusal_at v addresses
 
--- why a new persistent object with so many cells is
-abbrev pub refusal_of_object : HeapView → ℕ → Option HeapRefusal
-refusal_of_object v long = refusal_of_space v (object_size long) (end_address ∷ [])
+-- why a new persistent object of a kind with so many cells is
+abbrev pub refusal_of_object : HeapView → Kind → ℕ → Option HeapRefusal
+refusal_of_object v kind long = refusal_of_space v (object_size kind long) (end_address ∷ [])
 
 -- why a new transient object with so many cells is: first its area has no space
 abbrev pub refusal_of_transient : HeapView → ClearEvent → ℕ → Option HeapRefusal
@@ -121,7 +121,7 @@ refusal_of_package v components arrays rest = refusal_of_space v (package_size c
 
 -- the move that makes a new persistent object
 abbrev pub new_move : Kind → ℕ → ℕ → ℕ → Move
-new_move kind class owner long = AddObject (new_object kind class owner long) (object_size long)
+new_move kind class owner long = AddObject (new_object kind class owner long) (object_size kind long)
 
 -- the move that adds an applet
 abbrev pub applet_move : HeapState → AppletEntry → Move

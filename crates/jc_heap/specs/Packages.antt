@@ -1,11 +1,11 @@
 -- A package's record, its initialised arrays, and a heap with one package more.
-use Rattle.std.specs.Prelude.{ℕ, ◌+◌, ◌*◌, ◌≡◌, ◌<◌, ◌≤◌, Bool, true, false, List, [], ◌∷◌, ◌++◌, length, map, slice_index_or, None, if◌then◌else◌}
+use Rattle.std.specs.Prelude.{ℕ, ◌+◌, ◌*◌, ◌≡◌, ◌<◌, ◌≤◌, Bool, true, false, List, [], ◌∷◌, ◌++◌, length, map, slice_index, slice_index_or, None, if◌then◌else◌}
 use Rattle.jc_words.specs.Layout.{packages_address, addresses_start}
 use Rattle.jc_heap.specs.declared.object.Kind.{Kind}
 use Rattle.jc_heap.specs.declared.object.Kind.TheVariants.{Instance, ReferenceArray}
 use Rattle.jc_heap.specs.declared.package.RecordComponent.{RecordComponent}
 use Rattle.jc_heap.specs.declared.package.StaticArray.{StaticArray}
-use Rattle.jc_heap.specs.Object.{Object, APackage, kind_number, has_bytes, object_size}
+use Rattle.jc_heap.specs.Object.{Object, APackage, header_number, has_bytes, header_size}
 use Rattle.jc_heap.specs.Heap.{HeapState, add_object, end_address}
 use Rattle.jc_heap.specs.Packed.{packed_words}
 
@@ -39,13 +39,13 @@ elements a = if has_bytes a.0 then a.1 else packed_words a.1
 -- an initialised array as an object
 abbrev pub array_object : ℕ → Kind × List ℕ → Object
 array_object owner a = record {
-  facts = record { kind = a.0; event = None; class = 0; owner = owner; length = length (elements a); place = 0 };
+  facts = record { kind = a.0; event = None; class = 0; owner = owner; length = length (elements a); place = 0; packed = has_bytes a.0 };
   cells = elements a;
 }
 
--- the words that such an object takes, with its owner
+-- the words that such an object takes, with its owner: two bytes stand in a word, and so does a short
 abbrev pub array_words : ℕ → Kind × List ℕ → List ℕ
-array_words owner a = kind_number a.0 ∷ 0 ∷ owner ∷ length (elements a) ∷ elements a
+array_words owner a = header_number a.0 (has_bytes a.0) ∷ 0 ∷ owner ∷ length (elements a) ∷ packed_words a.1
 
 -- the words that such objects take, one behind another
 abbrev pub arrays_words : ℕ → List (Kind × List ℕ) → List ℕ
@@ -54,7 +54,7 @@ arrays_words owner (a ∷ xs) = array_words owner a ++ arrays_words owner xs
 
 -- how many words the object takes
 abbrev pub array_size : Kind × List ℕ → ℕ
-array_size a = object_size (length (elements a))
+array_size a = header_size + length (packed_words a.1)
 
 -- how many words the objects take
 abbrev pub arrays_size : List (Kind × List ℕ) → ℕ
@@ -132,6 +132,11 @@ is_array_init _ = true
 pub record AreArrays (xs : List (Kind × List ℕ)) : Type 0 where
   pub kinds : (k : ℕ) → k < length xs → is_array_init ((slice_index_or xs k (Instance, [])).0) ≡ true
   pub sizes : (k : ℕ) → k < length xs → length ((slice_index_or xs k (Instance, [])).1) < 65536
+
+-- the values of these arrays are bytes
+abbrev pub AreArraysOfBytes : List (Kind × List ℕ) → Type 0
+AreArraysOfBytes [] = Unit {0}
+AreArraysOfBytes (a ∷ xs) = ((i : ℕ) → slice_index a.1 i < 256) × AreArraysOfBytes xs
 
 -- how many bytes a static image has
 abbrev pub image_size : List (Kind × List ℕ) → List ℕ → ℕ

@@ -1,5 +1,5 @@
 -- Places: the words that a change may name.
-use Rattle.std.specs.Prelude.{ℕ, ◌+◌, ◌<◌, ◌≡◌, List, [], ◌∷◌, set, length, map, if◌then◌else◌}
+use Rattle.std.specs.Prelude.{ℕ, suc, ◌+◌, ◌/◌, ◌<◌, ◌≡◌, ◌==◌, ◌&&◌, Bool, true, false, List, [], ◌∷◌, set, length, map, if◌then◌else◌}
 use Rattle.std.specs.List.{range_with_len}
 use Rattle.jc_words.specs.Count.{saturating_count}
 use Rattle.jc_words.specs.Layout.{applets_address, registry_start, registry_length}
@@ -7,26 +7,62 @@ use Rattle.jc_heap.specs.RegistryLayout.{entry_start, entry_package, entry_insta
 use Rattle.jc_heap.specs.declared.place.Place.{Place}
 use Rattle.jc_heap.specs.declared.place.Place.TheVariants.{Cell, Static, Registry, AppletCount}
 use Rattle.jc_heap.specs.declared.place.AppletEntry.{AppletEntry}
-use Rattle.jc_heap.specs.Object.{IsElement}
+use Rattle.jc_heap.specs.declared.object.Facts.{Facts}
+use Rattle.jc_heap.specs.Object.{IsElement, is_packed}
 use Rattle.jc_heap.specs.Image.{IsWellFormed}
 use Rattle.jc_heap.specs.Heap.{HeapState, HeapView, cells, facts, heap_of, set_cell, cell_address, heap_after_change, goes_back}
 use Rattle.jc_heap.specs.Components.{record_of}
 use Rattle.jc_heap.specs.Statics.{set_word, IsStatic}
 
--- the address of a place's word
+-- the address of a place's word, where each cell has one of its own
 abbrev pub place_word : Place → ℕ
 place_word (Cell r i) = cell_address r i
 place_word (Static r j) = r + j
 place_word (Registry i) = registry_start + i
 place_word AppletCount = applets_address
 
+-- the address of the word of an object's cell: two elements of a packed array have one
+abbrev pub cell_at : Facts → ℕ → ℕ → ℕ
+cell_at f r i = cell_address r (if is_packed f then i / 2 else i)
+
 -- the address of a place's word in a heap
 abbrev pub place_at : HeapState → Place → ℕ
-place_at h p = place_word p
+place_at h (Cell r i) = cell_at (facts h r) r i
+place_at h (Static r j) = place_word (Static r j)
+place_at h (Registry i) = place_word (Registry i)
+place_at h AppletCount = place_word AppletCount
 
--- the addresses of the words of so many cells of an object, from an index on
-abbrev pub run_at : HeapState → ℕ → ℕ → ℕ → List ℕ
-run_at h r i n = range_with_len (cell_address r i) n
+-- the place has a word of its own: it is no element of a packed array
+abbrev pub IsPlain : HeapState → Place → Type 0
+IsPlain h (Cell r i) = is_packed (facts h r) ≡ false
+IsPlain h (Static r j) = Unit {0}
+IsPlain h (Registry i) = Unit {0}
+IsPlain h AppletCount = Unit {0}
+
+-- each of these has
+abbrev pub ArePlain : HeapState → List Place → Type 0
+ArePlain h [] = Unit {0}
+ArePlain h (p ∷ ps) = IsPlain h p × ArePlain h ps
+
+-- two places stand in one word: they are elements 2j or 2j + 1 of one packed array
+abbrev pub share_word : HeapState → Place → Place → Bool
+share_word h (Cell r i) (Cell q j) = (r == q) && (is_packed (facts h r) && (i / 2 == j / 2))
+share_word h _ _ = false
+
+-- the addresses of the words of places, one for those that stand in the word of the place behind them
+abbrev pub words_at : HeapState → List Place → List ℕ
+words_at h [] = []
+words_at h (p ∷ []) = place_at h p ∷ []
+words_at h (p ∷ q ∷ ps) = if share_word h p q then words_at h (q ∷ ps) else place_at h p ∷ words_at h (q ∷ ps)
+
+-- so many cells of an object, from an index on
+abbrev pub cells_from : ℕ → ℕ → ℕ → List Place
+cells_from r i n = map (λ k. Cell r k) (range_with_len i n)
+
+-- these values stand in an object's cells from an index on
+abbrev pub cell_changes : ℕ → ℕ → List ℕ → List (Place × ℕ)
+cell_changes r i [] = []
+cell_changes r i (v ∷ vs) = (Cell r i, v) ∷ cell_changes r (suc i) vs
 
 -- the heap has this place
 abbrev pub HasPlace : HeapState → Place → Type 0
@@ -100,7 +136,7 @@ applet_changes h entry =
 abbrev pub applet_places : ℕ → List Place
 applet_places n = Registry (entry_start n) ∷ Registry (entry_start n + entry_package) ∷ Registry (entry_start n + entry_instance) ∷ AppletCount ∷ []
 
--- places that differ have different words, in the heap of words that are laid
+-- places that differ have different words, in the heap of words that are laid, but for elements that stand in one word
 abbrev pub HaveOwnWords : Type 0
 HaveOwnWords = (words : List ℕ) → IsWellFormed words → (p q : Place) → HasPlace (heap_of words) p → HasPlace (heap_of words) q → (p ≡ q → ⊥)
-    → place_word p ≡ place_word q → ⊥
+    → place_at (heap_of words) p ≡ place_at (heap_of words) q → share_word (heap_of words) p q ≡ true

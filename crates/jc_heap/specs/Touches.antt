@@ -6,7 +6,7 @@ use Rattle.jc_heap.specs.declared.place.Place.TheVariants.{Cell}
 use Rattle.jc_heap.specs.declared.touch.Touch.{Touch}
 use Rattle.jc_heap.specs.declared.touch.Touch.TheVariants as touch
 use Rattle.jc_heap.specs.Heap.{HeapState, HeapView, limit, cell_address, end_address}
-use Rattle.jc_heap.specs.Places.{place_at, HasPlace}
+use Rattle.jc_heap.specs.Places.{place_at, cells_from, HasPlace}
 
 -- the address of a word that is touched
 abbrev pub touch_word : HeapState → Touch → ℕ
@@ -30,7 +30,7 @@ touched_places places = map (λ p. touch.Place p) places
 
 -- so many cells of an object, from an index on
 abbrev pub touched_cells : ℕ → ℕ → ℕ → List Touch
-touched_cells r i n = map (λ k. touch.Place (Cell r k)) (range_with_len i n)
+touched_cells r i n = touched_places (cells_from r i n)
 
 -- so many first cells of the object that the heap makes next
 abbrev pub touched_new_cells : ℕ → List Touch

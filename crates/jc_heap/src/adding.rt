@@ -7,7 +7,7 @@ ghost use Rattle.jc_heap.specs.Moves.{AddPackage, PerformsMovesUnless, refusal_o
 ghost use Rattle.jc_heap.specs.Completions.{after_making};
 ghost use Rattle.jc_heap.specs.Heap.{heap_after_change, IsTornChange, has_room_for, LacksSpace, is_allocated, heap_item_at};
 ghost use Rattle.jc_heap.specs.Packages.{parts, array_inits, AreComponents, AreArrays, image_size, record_size, package_record, package_size, package_words};
-ghost use Rattle.jc_heap.specs.Packages.{add_package, addresses_of_package};
+ghost use Rattle.jc_heap.specs.Packages.{add_package, addresses_of_package, AreArraysOfBytes};
 
 use crate::heap::Heap;
 use crate::package::{RecordComponent, StaticArray, size_of_arrays, size_of_record};
@@ -35,10 +35,12 @@ fn write_package<S: WordStore>(
         (array_inits arrays.now) image.now) journal.old }
     requires size { size ≡ record_size (parts components.now) (array_inits arrays.now) image.now }
     requires components { AreComponents (parts components.now) }
+    requires arrays { AreArrays (array_inits arrays.now) }
     requires number { number < 256 }
     ensures below { KeepsBelow at journal.old journal.new }
     ensures done { OnOk result (Fills at (package_words at number (parts components.now)
         (array_inits arrays.now) image.now) journal.old journal.new) }
+    ensures bytes { OnOk result (AreArraysOfBytes (array_inits arrays.now)) }
     ensures stopped { OnErr result (IsTornFresh journal.old journal.new) }
 {
     write_package_record(journal, at, size, components, arrays, image)?;

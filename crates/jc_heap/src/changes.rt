@@ -1,10 +1,9 @@
 //! Changes of several words, made up as they are read.
-ghost use Rattle.std.specs.Prelude.{◌≡◌, ◌<◌, ◌≤◌, ◌+◌, ℕ, List, length, slice_index_or};
+ghost use Rattle.std.specs.Prelude.{◌≡◌, ◌<◌, ◌≤◌, ◌+◌, ◌^◌, ◌++◌, ℕ, List, length, slice_index, slice_index_or};
 ghost use Rattle.jc_heap.specs.Heap.{run_words};
 ghost use Rattle.jc_heap.specs.Places.{place_word, words_of};
-ghost use Rattle.jc_heap.specs.declared.place.Place.{Place};
-ghost use Rattle.jc_heap.specs.declared.place.Place.TheVariants.{AppletCount};
 ghost use Rattle.jc_heap.specs.WordRuns.{AreWords};
+ghost use Rattle.jc_heap.specs.Elements.{elements_of, byte_or_none, bytes_with, FitPacking, packing_words};
 
 use crate::layout::HEADER;
 use crate::place::Place;
@@ -12,38 +11,164 @@ use jc_commit::WordChanges;
 use jc_words::layout::{APPLETS, REGISTRY};
 use std::marker::Model;
 
-/// Places that are to be set as one change, with their values. They may be made up as they are asked for,
-/// so that no buffer bounds how many there are.
-pub trait PlaceChanges {
-    /// The places and the values, in the order in which they are set.
-    ghost changes: { Self → List (Place × ℕ) };
-
-    /// How many places there are.
-    fn count(&self) -> usize
-        ensures { result ≡ length (changes self.now) };
-
-    /// One of the places, and its value.
-    fn change(&self, k: usize) -> (Place, u16)
-        requires { k < length (changes self.now) }
-        ensures { result ≡ slice_index_or (changes self.now) k (AppletCount, 0) };
+/// Values for cells, one behind another.
+#[derive(Clone, Copy)]
+pub enum Elements<'a> {
+    Bytes(&'a [u8]),
+    Words(&'a [u16]),
 }
 
-impl<const N: usize> PlaceChanges for [(Place, u16); N] {
-    ghost use Rattle.std.specs.Prelude.{List, ℕ};
-    ghost use Rattle.jc_heap.specs.declared.place.Place.{Place};
+impl<'a> Elements<'a> {
+    /// How many there are.
+    #[inline(always)]
+    pub(crate) fn count(self) -> usize
+        ensures { result ≡ length (elements_of self.entry) }
+    {
+        match self {
+            Elements::Bytes(bytes) => bytes.len(),
+            Elements::Words(words) => words.len(),
+        }
+    }
 
-    ghost changes = { λ pairs. pairs };
+    // One of them.
+    #[inline(always)]
+    fn element(self, k: usize) -> u16
+        requires { k < length (elements_of self) }
+        ensures { result ≡ slice_index (elements_of self.entry) k }
+    {
+        match self {
+            Elements::Bytes(bytes) => u16::from(bytes[k]),
+            Elements::Words(words) => words[k],
+        }
+    }
+}
 
+/// How the values of a run stand in words.
+#[derive(Clone, Copy)]
+pub(crate) enum Packing {
+    /// One in a word.
+    Single,
+    /// Two in a word: the first one behind this byte, where there is one, and the last one before that byte.
+    Double {
+        before: Option<u8>,
+        behind: Option<u8>,
+    },
+}
+
+// A byte, 0 where there is none.
+#[inline(always)]
+fn optional_byte(byte: Option<u8>) -> u16
+    ensures value { result ≡ slice_index (byte_or_none byte) 0 }
+    ensures small { result < 256 }
+{
+    match byte {
+        Some(byte) => u16::from(byte),
+        None => 0,
+    }
+}
+
+// The byte of an index among the bytes of a run: those that stay before and behind it count.
+#[inline(always)]
+fn byte_of_run(before: Option<u8>, values: Elements, behind: Option<u8>, j: usize) -> u16
+    requires { (k : ℕ) → k < length (elements_of values) → slice_index (elements_of values) k < 256 }
+    ensures value { result ≡ slice_index (bytes_with before (elements_of values.entry) behind) j }
+    ensures small { result < 256 }
+{
+    let first = usize::from(before.is_some());
+    if j < first {
+        return optional_byte(before);
+    }
+    let k = j - first;
+    let count = values.count();
+    if k < count {
+        return values.element(k);
+    }
+    if k == count {
+        return optional_byte(behind);
+    }
+    0
+}
+
+/// The words of a run of cells from an address on.
+#[derive(Drop)]
+pub(crate) struct CellRun<'a> {
+    at: u16,
+    values: Elements<'a>,
+    packing: Packing,
+}
+
+impl<'a> Model for CellRun<'a> {
+    ghost use Rattle.std.specs.Prelude.{List, ℕ, length, ◌+◌, ◌≤◌};
+    ghost use Rattle.jc_heap.specs.Heap.{run_words};
+    ghost use Rattle.jc_heap.specs.Elements.{elements_of, packing_words, FitPacking};
+
+    ghost Value = { List (ℕ × ℕ) };
+
+    ghost view = { λ r. run_words r.at (packing_words r.packing (elements_of r.values)) };
+
+    ghost invariant = { λ r. (r.at + length (packing_words r.packing (elements_of r.values)) ≤ 65536)
+        × FitPacking r.packing (elements_of r.values) };
+}
+
+impl<'a> CellRun<'a> {
+    pub(crate) fn new(at: u16, values: Elements<'a>, packing: Packing) -> Self
+        requires fits { at + length (packing_words packing (elements_of values)) ≤ 65536 }
+        requires packing { FitPacking packing (elements_of values) }
+        ensures { result ≡ run_words at (packing_words packing (elements_of values.entry)) }
+    {
+        CellRun {
+            at,
+            values,
+            packing,
+        }
+    }
+
+    // A word of the run.
+    #[inline(always)]
+    fn word(&self, k: usize) -> (u16, u16)
+        requires { k < length self.now }
+        ensures { result ≡ slice_index_or self.now k (0, 0) }
+    {
+        let value = match self.packing {
+            Packing::Single => self.values.element(k),
+            Packing::Double { before, behind } => {
+                256 * byte_of_run(before, self.values, behind, 2 * k)
+                    + byte_of_run(before, self.values, behind, 2 * k + 1)
+            }
+        };
+        (self.at + k as u16, value)
+    }
+
+    // How many words there are.
+    #[inline(always)]
+    fn length(&self) -> usize
+        ensures { result ≡ length self.now }
+    {
+        let count = self.values.count();
+        match self.packing {
+            Packing::Single => count,
+            Packing::Double { before, behind } => {
+                (usize::from(before.is_some()) + count + usize::from(behind.is_some())).div_ceil(2)
+            }
+        }
+    }
+}
+
+impl<'a> WordChanges for CellRun<'a> {
+    ghost changes = { λ words. words };
+
+    #[inline(always)]
     fn count(&self) -> usize {
-        self.len()
+        self.length()
     }
 
-    fn change(&self, k: usize) -> (Place, u16) {
-        self[k]
+    #[inline(always)]
+    fn change(&self, k: usize) -> (u16, u16) {
+        self.word(k)
     }
 }
 
-// The word of a place that the heap has.
+// The word of a place that has one of its own.
 #[inline(always)]
 #[tactic(auto, unfolding(crate::specs::Heap::cell_address))]
 pub(crate) fn word_of(place: Place) -> u16
@@ -58,81 +183,94 @@ pub(crate) fn word_of(place: Place) -> u16
     }
 }
 
-/// The words of places that are to be set.
+/// The words of places that are to be set, and that have words of their own.
 #[derive(Drop)]
-pub(crate) struct PlaceWords<'a, P: PlaceChanges> {
-    places: &'a P,
+pub(crate) struct PlaceWords<'a> {
+    places: &'a [(Place, u16)],
 }
 
-impl<'a, P: PlaceChanges> Model for PlaceWords<'a, P> {
+impl<'a> Model for PlaceWords<'a> {
     ghost use Rattle.std.specs.Prelude.{List, ℕ};
     ghost use Rattle.jc_heap.specs.Places.{words_of};
     ghost use Rattle.jc_heap.specs.WordRuns.{AreWords};
 
     ghost Value = { List (ℕ × ℕ) };
 
-    ghost view = { λ w. words_of (P.changes w.places.now) };
+    ghost view = { λ w. words_of w.places.now };
 
-    ghost invariant = { λ w. AreWords (words_of (P.changes w.places.now)) };
+    ghost invariant = { λ w. AreWords (words_of w.places.now) };
 }
 
-impl<'a, P: PlaceChanges> PlaceWords<'a, P> {
-    pub(crate) fn new(places: &'a P) -> Self
-        requires { AreWords (words_of (P.changes places.now)) }
-        ensures { result ≡ words_of (P.changes places.now) }
+impl<'a> PlaceWords<'a> {
+    pub(crate) fn new(places: &'a [(Place, u16)]) -> Self
+        requires { AreWords (words_of places.now) }
+        ensures { result ≡ words_of places.now }
     {
         PlaceWords { places }
     }
+
+    // How many there are.
+    fn length(&self) -> usize
+        ensures exact { result ≡ length self.now }
+        ensures most { result < 2 ^ 63 }
+    {
+        let places = self.places;
+        places.len()
+    }
 }
 
-impl<'a, P: PlaceChanges> WordChanges for PlaceWords<'a, P> {
+impl<'a> WordChanges for PlaceWords<'a> {
     ghost changes = { λ words. words };
 
     fn count(&self) -> usize {
-        self.places.count()
+        self.length()
     }
 
     fn change(&self, k: usize) -> (u16, u16) {
-        let (place, value) = self.places.change(k);
+        let places = self.places;
+        let (place, value) = places[k];
         (word_of(place), value)
     }
 }
 
-/// The words of a run from an address on.
+/// The words of a run of cells, and those of places behind them.
 #[derive(Drop)]
-pub(crate) struct Run<'a> {
-    at: u16,
-    values: &'a [u16],
+pub(crate) struct RunAndPlaces<'a> {
+    run: CellRun<'a>,
+    places: PlaceWords<'a>,
 }
 
-impl<'a> Model for Run<'a> {
-    ghost use Rattle.std.specs.Prelude.{List, ℕ, length, ◌+◌, ◌≤◌};
-    ghost use Rattle.jc_heap.specs.Heap.{run_words};
+impl<'a> Model for RunAndPlaces<'a> {
+    ghost use Rattle.std.specs.Prelude.{List, ℕ, ◌++◌, length, ◌≤◌};
 
     ghost Value = { List (ℕ × ℕ) };
 
-    ghost view = { λ r. run_words r.at r.values.now };
+    ghost view = { λ c. c.run ++ c.places };
 
-    ghost invariant = { λ r. r.at + length r.values.now ≤ 65536 };
+    ghost invariant = { λ c. length c.run ≤ 65536 };
 }
 
-impl<'a> Run<'a> {
-    pub(crate) fn new(at: u16, values: &'a [u16]) -> Self
-        requires { at + length values.now ≤ 65536 }
-        ensures { result ≡ run_words at values.now }
+impl<'a> RunAndPlaces<'a> {
+    pub(crate) fn new(run: CellRun<'a>, places: PlaceWords<'a>) -> Self
+        requires { length run ≤ 65536 }
+        ensures { result ≡ run.entry ++ places.entry }
     {
-        Run { at, values }
+        RunAndPlaces { run, places }
     }
 }
 
-impl<'a> WordChanges for Run<'a> {
+impl<'a> WordChanges for RunAndPlaces<'a> {
     ghost changes = { λ words. words };
 
     fn count(&self) -> usize {
-        self.values.len()
+        self.run.count() + self.places.length()
     }
 
     fn change(&self, k: usize) -> (u16, u16) {
-        (self.at + k as u16, self.values[k])
+        let first = self.run.count();
+        if k < first {
+            return self.run.change(k);
+        }
+        self.places.change(k - first)
     }
 }

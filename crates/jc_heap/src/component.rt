@@ -1,7 +1,7 @@
 //! Reading the components of a package.
 ghost use Rattle.std.specs.Prelude.{◌≡◌, ◌<◌, ◌≤◌, ◌+◌, ◌/◌, false, length, slice_index, take, drop, IfSome, Some, None};
 ghost use Rattle.jc_words.specs.Layout.{text_start};
-ghost use Rattle.jc_heap.specs.Image.{packed_byte};
+ghost use Rattle.jc_heap.specs.Packed.{packed_byte};
 ghost use Rattle.jc_heap.specs.Components.{record_of, info_of, span_in, IsWithin, words_for};
 
 use crate::heap::Heap;

@@ -4,15 +4,16 @@ ghost use Rattle.jc_words.specs.Layout.{text_start};
 ghost use Rattle.jc_commit.specs.Image.{least_capacity, most_capacity};
 ghost use Rattle.jc_heap.specs.Object.{IsElement};
 ghost use Rattle.jc_heap.specs.Image.{IsWellFormed};
-ghost use Rattle.jc_heap.specs.Heap.{HeapView, heap_view, IsSound, cells, facts, IsObject, HasEnd, next_object, run_words, cell_address, room_left};
+ghost use Rattle.jc_heap.specs.Heap.{HeapView, heap_view, IsSound, cells, facts, IsObject, HasEnd, next_object, room_left};
 ghost use Rattle.jc_heap.specs.Heap.{KeepsBelowTop};
+ghost use Rattle.jc_heap.specs.Elements.{elements_of};
 ghost use Rattle.jc_heap.specs.Stored.{HoldsHeap, IsAtRest, heap_of_store_at_rest};
 ghost use Rattle.jc_heap.specs.declared.place.Place.TheVariants.{Cell};
 ghost use Rattle.jc_heap.specs.Moves.{Write, SetCells, Begin, Commit, Abort, PerformsMoves, PerformsMovesUnless, refusal_of_places, refusal_of_cells};
 ghost use Rattle.jc_heap.specs.Completions.{Completed, after_change, after_step};
 
-use crate::changes::Run;
-use crate::layout::HEADER;
+use crate::changes::Elements;
+use crate::elements::{cell_value, run_for};
 use crate::lookup::{facts_at, next_behind};
 use crate::object::Facts;
 use crate::place::Place;
@@ -46,32 +47,6 @@ impl<S: WordStore> Model for Heap<S> {
 }
 
 impl<S: WordStore> Heap<S> {
-    // The word of a cell.
-    #[inline(always)]
-    pub(crate) fn cell_word(&self, object: Ref, i: u16) -> u16
-        requires up { self.now.down ≡ false }
-        requires cell { i < length (cells self.now.now object) }
-        ensures { result ≡ cell_address object i }
-    {
-        let _ = &self.journal; // so that the proof knows what holds of every heap: cells lie below its end
-        let offset = u32::from(HEADER) + u32::from(i);
-        (u32::from(object.address()) + offset) as u16
-    }
-
-    // The word of the first of so many cells; any word, where there are none.
-    fn run_word(&self, object: Ref, i: u16, values: &[u16]) -> u16
-        requires up { self.now.down ≡ false }
-        requires cells { i + length values.now ≤ length (cells self.now.now object) }
-        ensures words { run_words result values.now ≡ run_words (cell_address object i) values.now }
-        ensures fits { result + length values.now ≤ 65536 }
-    {
-        if values.is_empty() {
-            return 0;
-        }
-        let _ = &self.journal; // so that the proof knows what holds of every heap
-        self.cell_word(object, i)
-    }
-
     /// A cell of a persistent object.
     #[inline(always)]
     pub fn get(&self, object: Ref, i: u16) -> u16
@@ -79,8 +54,7 @@ impl<S: WordStore> Heap<S> {
         requires cell { i < length (cells self.now.now object) }
         ensures { result ≡ slice_index (cells self.now.now object) i }
     {
-        let word = self.cell_word(object, i);
-        self.journal.read(word)
+        cell_value(&self.journal, object, i)
     }
 
     /// What an object's header says.
@@ -140,16 +114,18 @@ impl<S: WordStore> Heap<S> {
         self.write(Place::Cell(object, i), v)
     }
 
-    /// Sets the cells of a persistent object from an index on, as one change.
-    pub fn set_run(&mut self, object: Ref, i: u16, values: &[u16]) -> Result<(), ChangeRefusal>
+    /// Sets the cells of a persistent object from an index on, as one change. Elements that share a word with one of them
+    /// stay.
+    pub fn set_run(&mut self, object: Ref, i: u16, values: Elements) -> Result<(), ChangeRefusal>
         requires up { self.old.down ≡ false }
-        requires cells { i + length values.now ≤ length (cells self.old.now object) }
-        requires values { (k : ℕ) → k < length values.now
-            → IsElement (facts self.old.now object).kind (slice_index values.now k) }
-        ensures { PerformsMovesUnless (refusal_of_cells self.old object i values.now) self.old
-            (after_change result self.new) (SetCells object i values.now ∷ []) tt }
+        requires cells { i + length (elements_of values) ≤ length (cells self.old.now object) }
+        requires values { (k : ℕ) → k < length (elements_of values)
+            → IsElement (facts self.old.now object).kind (slice_index (elements_of values) k) }
+        ensures { PerformsMovesUnless (refusal_of_cells self.old object i (elements_of values.entry))
+            self.old (after_change result self.new)
+            (SetCells object i (elements_of values.entry) ∷ []) tt }
     {
-        let run = Run::new(self.run_word(object, i, values), values);
+        let run = run_for(&self.journal, object, i, values);
         self.journal.write_all(&run)?;
         Ok(())
     }

@@ -5,6 +5,7 @@
 mod adding;
 mod changes;
 mod component;
+mod elements;
 mod fresh;
 mod heap;
 mod heap_laws;
@@ -23,7 +24,7 @@ mod statics;
 mod touch;
 pub mod walk;
 
-pub use changes::PlaceChanges;
+pub use changes::Elements;
 pub use component::Span;
 pub use heap::Heap;
 pub use heap_laws::{

@@ -6,7 +6,7 @@ ghost use Rattle.jc_heap.specs.Image.{IsWellFormed};
 ghost use Rattle.jc_heap.specs.Heap.{heap_of, cells, facts, IsObject, next_object};
 
 use crate::layout::{HEADER, LENGTH};
-use crate::object::{Facts, Kind, event_of_number};
+use crate::object::{Facts, Kind, event_of_number, is_packed_header};
 use crate::walk::first_object;
 use jc_commit::Journal;
 use jc_transient::Ref;
@@ -48,6 +48,7 @@ pub fn facts_at<S: WordStore>(journal: &Journal<S>, object: Ref) -> Facts
         owner: journal.read(at + 2),
         length: journal.read(at + LENGTH),
         place,
+        packed: is_packed_header(word),
     }
 }
 

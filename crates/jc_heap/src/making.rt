@@ -8,23 +8,22 @@ ghost use Rattle.jc_heap.specs.Completions.{after_making};
 use crate::fresh::{write_record, write_run};
 use crate::heap::Heap;
 use crate::layout::{HEADER, area_word};
-use crate::object::Kind;
+use crate::object::{Kind, words_of_cells};
 use crate::refusal::HeapRefusal;
 use jc_transient::{AREA_CELLS, ClassWord, ClearEvent, OwnerWord, Ref};
 use jc_words::WordStore;
 use jc_words::layout::TOP;
 
 impl<S: WordStore> Heap<S> {
-    /// Whether there is space for a persistent object with so many cells.
-    pub fn has_space(&self, length: u16) -> bool
+    /// Whether there is space for a new persistent object of a kind, with so many cells.
+    pub fn has_space(&self, kind: Kind, length: u16) -> bool
         requires { self.now.down ≡ false }
-        ensures { result ≡ nat_le (self.now.now.top + object_size length) (limit self.now) }
+        ensures { result ≡ nat_le (self.now.now.top + object_size kind length) (limit self.now) }
     {
-        let size = u32::from(HEADER) + u32::from(length);
-        u32::from(self.top()) + size <= u32::from(self.size)
+        u32::from(self.top()) + object_size(kind, length) <= u32::from(self.size)
     }
 
-    /// Makes a persistent object whose cells are zero.
+    /// Makes a persistent object whose cells are zero. Of arrays of bytes and of booleans two elements stand in a word.
     pub fn new_persistent(
         &mut self,
         kind: Kind,
@@ -33,7 +32,7 @@ impl<S: WordStore> Heap<S> {
         length: u16,
     ) -> Result<Ref, HeapRefusal>
         requires { self.old.down ≡ false }
-        ensures moves { PerformsMovesUnless (refusal_of_object self.old length) self.old
+        ensures moves { PerformsMovesUnless (refusal_of_object self.old kind length) self.old
             (after_making result self.new) (new_move kind class owner length ∷ [])
             self.old.now.top }
         ensures made { IfOk result (λ r. heap_item_at self.new.now r
@@ -41,15 +40,16 @@ impl<S: WordStore> Heap<S> {
         ensures free { is_allocated self.old.now self.old.now.top ≡ false }
     {
         let top = self.journal.read(TOP);
-        let end = u32::from(top) + u32::from(HEADER) + u32::from(length);
+        let end = u32::from(top) + object_size(kind, length);
         if end > u32::from(self.size) {
             return Err(HeapRefusal::HeapFull);
         }
         if !self.journal.fits(&[TOP]) {
             return Err(HeapRefusal::CommitFull);
         }
-        let header = [kind.number(), class.0, owner.0, length];
-        let Ok(()) = write_record(&mut self.journal, top, &header, length) else {
+        let header = [kind.header_number(), class.0, owner.0, length];
+        let zeros = words_of_cells(kind.has_bytes(), length) as u16;
+        let Ok(()) = write_record(&mut self.journal, top, &header, zeros) else {
             return Err(HeapRefusal::StoreDown);
         };
         // There is room for the top's old value, so the store alone can refuse.
@@ -103,6 +103,13 @@ impl<S: WordStore> Heap<S> {
         };
         Ok(Ref::at(top))
     }
+}
+
+// How many words a new persistent object of a kind takes, with so many cells.
+fn object_size(kind: Kind, length: u16) -> u32
+    ensures { result ≡ object_size kind length }
+{
+    u32::from(HEADER) + words_of_cells(kind.has_bytes(), length)
 }
 
 // The first word of a transient object's header.

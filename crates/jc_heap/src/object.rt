@@ -1,6 +1,6 @@
 //! What an object is.
-ghost use Rattle.std.specs.Prelude.{◌≡◌};
-ghost use Rattle.jc_heap.specs.Object.{kind_number, kind_of, event_of, is_header};
+ghost use Rattle.std.specs.Prelude.{◌≡◌, false};
+ghost use Rattle.jc_heap.specs.Object.{kind_number, header_number, kind_of, event_of, is_header, is_packed_header, has_bytes, is_packed, words_of_cells};
 
 use jc_transient::{ClassWord, ClearEvent, OwnerWord};
 
@@ -29,14 +29,31 @@ impl Kind {
         }
     }
 
+    // The first word of the header of a persistent object of this kind: of a new one two bytes stand in a word.
+    pub(crate) fn header_number(self) -> u16
+        ensures { result ≡ header_number self (has_bytes self) }
+    {
+        if self.has_bytes() {
+            return self.number() + 4;
+        }
+        self.number()
+    }
+
+    /// Whether the elements are bytes: those of byte and boolean arrays.
+    pub(crate) fn has_bytes(self) -> bool
+        ensures { result ≡ has_bytes self }
+    {
+        matches!(self, Kind::BooleanArray | Kind::ByteArray)
+    }
+
     // The kind of a number of the image.
     #[inline(always)]
     pub(crate) fn of(number: u16) -> Kind
         ensures { result ≡ kind_of number }
     {
         match number {
-            2 => Kind::BooleanArray,
-            3 => Kind::ByteArray,
+            2 | 6 => Kind::BooleanArray,
+            3 | 7 => Kind::ByteArray,
             4 => Kind::ShortArray,
             5 => Kind::ReferenceArray,
             _ => Kind::Instance,
@@ -49,7 +66,25 @@ pub(crate) fn begins_header(word: u16) -> bool
     ensures { result ≡ is_header word }
 {
     let kind = word % 256;
-    kind > 0 && kind < 6 && word / 256 < 3
+    is_packed_header(word) || (kind > 0 && kind < 6 && word / 256 < 3)
+}
+
+// The word is the first one of the header of an array of which two elements stand in a word.
+#[inline(always)]
+pub(crate) fn is_packed_header(word: u16) -> bool
+    ensures { result ≡ is_packed_header word }
+{
+    word == 6 || word == 7
+}
+
+// How many words hold so many cells, where two stand in a word or not.
+pub(crate) fn words_of_cells(packed: bool, length: u16) -> u32
+    ensures { result ≡ words_of_cells packed length }
+{
+    if packed {
+        return (u32::from(length) + 1) / 2;
+    }
+    u32::from(length)
 }
 
 // The event of a number of the image.
@@ -77,10 +112,14 @@ pub struct Facts {
     pub length: u16,
     /// The first cell of a transient object in its area, 0 of a persistent one.
     pub place: u16,
+    /// Whether two elements stand in a word: those of persistent arrays of bytes and of booleans, but for the ones of
+    /// older images.
+    pub packed: bool,
 }
 
 impl Facts {
-    /// What a header says of an object with this kind, event, class and owner, so many cells, and its first cell there.
+    /// What a header says of an object with this kind, event, class and owner, so many cells, its first cell there, and
+    /// a word for each cell.
     pub const fn new(
         kind: Kind,
         event: Option<ClearEvent>,
@@ -96,6 +135,7 @@ impl Facts {
           owner = owner;
           length = length;
           place = place;
+          packed = false;
         } }
     {
         Facts {
@@ -105,6 +145,7 @@ impl Facts {
             owner: owner.0,
             length,
             place,
+            packed: false,
         }
     }
 

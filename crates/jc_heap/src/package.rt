@@ -57,7 +57,7 @@ pub(crate) fn size_of_arrays(arrays: &[StaticArray]) -> u32
 {
     let mut size = 0;
     for array in arrays {
-        size += u32::from(HEADER) + cell_count(array) as u32;
+        size += u32::from(HEADER) + packed_size(array.values) as u32;
     }
     size
 }

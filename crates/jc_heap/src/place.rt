@@ -1,11 +1,15 @@
 //! Words that a change names: cells, the words of static images and of the registry.
-ghost use Rattle.std.specs.Prelude.{◌≡◌, ◌<◌, false, [], ◌∷◌, slice_index};
+ghost use Rattle.std.specs.Prelude.{ℕ, ◌≡◌, ◌<◌, ◌≤◌, ◌+◌, ◌++◌, false, [], ◌∷◌, length, slice_index};
 ghost use Rattle.jc_words.specs.Layout.{registry_length, most_applets};
 ghost use Rattle.jc_heap.specs.Moves.{Write, SetPlaces, WriteNonAtomic, PerformsMoves, PerformsMovesUnless, refusal_of_places, refusal_of_applet, applet_move};
 ghost use Rattle.jc_heap.specs.Completions.{after_change, after_step};
-ghost use Rattle.jc_heap.specs.Places.{HasPlace, MayHold, AreThere, AreApart, place_word, places_of, words_of};
+ghost use Rattle.jc_heap.specs.Object.{IsElement};
+ghost use Rattle.jc_heap.specs.Heap.{cells, facts};
+ghost use Rattle.jc_heap.specs.Elements.{elements_of};
+ghost use Rattle.jc_heap.specs.Places.{HasPlace, MayHold, AreThere, AreApart, IsPlain, ArePlain, place_at, places_of, words_of, cell_changes};
 
-use crate::changes::{PlaceChanges, PlaceWords, word_of};
+use crate::changes::{Elements, PlaceWords, RunAndPlaces};
+use crate::elements::{cell_word, run_for, word_for};
 use crate::heap::Heap;
 use crate::refusal::ChangeRefusal;
 use crate::registry_layout::{ENTRY_INSTANCE, ENTRY_PACKAGE, entry_start};
@@ -43,21 +47,22 @@ impl<S: WordStore> Heap<S> {
     pub(crate) fn place_word(&self, place: Place) -> u16
         requires up { self.now.down ≡ false }
         requires there { HasPlace self.now.now place }
-        ensures { result ≡ place_word place }
+        ensures { result ≡ place_at self.now.now place }
     {
         match place {
-            Place::Cell(object, i) => self.cell_word(object, i),
+            Place::Cell(object, i) => cell_word(&self.journal, object, i),
             Place::Static(package, j) => self.static_word(package, j),
             Place::Registry(i) => REGISTRY + i,
             Place::AppletCount => APPLETS,
         }
     }
 
-    // The words of places that are to be set.
-    fn words_of_places<'a, P: PlaceChanges>(&self, changes: &'a P) -> PlaceWords<'a, P>
+    // The words of places that have words of their own.
+    fn words_of_places<'a>(&self, changes: &'a [(Place, u16)]) -> PlaceWords<'a>
         requires up { self.now.down ≡ false }
-        requires there { AreThere self.now.now (P.changes changes.now) }
-        ensures { result ≡ words_of (P.changes changes.now) }
+        requires there { AreThere self.now.now changes.now }
+        requires plain { ArePlain self.now.now (places_of changes.now) }
+        ensures { result ≡ words_of changes.now }
     {
         let _ = &self.journal; // so that the proof knows what holds of every heap
         PlaceWords::new(changes)
@@ -90,21 +95,49 @@ impl<S: WordStore> Heap<S> {
             (after_change result self.new) (Write place v ∷ []) tt }
     {
         let word = self.place_word(place);
-        self.journal.write(word, v)?;
+        let value = word_for(&self.journal, &place, v);
+        self.journal.write(word, value)?;
         Ok(())
     }
 
-    /// Writes several places, of which none stands twice, as one change.
-    pub fn set_all<P: PlaceChanges>(&mut self, changes: &P) -> Result<(), ChangeRefusal>
+    /// Writes several places, of which none stands twice, as one change. Each has a word of its own.
+    pub fn set_all(&mut self, changes: &[(Place, u16)]) -> Result<(), ChangeRefusal>
         requires up { self.old.down ≡ false }
-        requires there { AreThere self.old.now (P.changes changes.now) }
-        requires apart { AreApart (places_of (P.changes changes.now)) }
-        ensures { PerformsMovesUnless (refusal_of_places self.old
-            (places_of (P.changes changes.now))) self.old (after_change result self.new)
-            (SetPlaces (P.changes changes.now) ∷ []) tt }
+        requires there { AreThere self.old.now changes.now }
+        requires plain { ArePlain self.old.now (places_of changes.now) }
+        requires apart { AreApart (places_of changes.now) }
+        ensures { PerformsMovesUnless (refusal_of_places self.old (places_of changes.now)) self.old
+            (after_change result self.new) (SetPlaces changes.now ∷ []) tt }
     {
         let words = self.words_of_places(changes);
         self.journal.write_all(&words)?;
+        Ok(())
+    }
+
+    /// Sets the cells of a persistent object from an index on, and behind them other places that have words of their
+    /// own, as one change.
+    pub fn set_run_and_places(
+        &mut self,
+        object: Ref,
+        i: u16,
+        values: Elements,
+        places: &[(Place, u16)],
+    ) -> Result<(), ChangeRefusal>
+        requires up { self.old.down ≡ false }
+        requires cells { i + length (elements_of values) ≤ length (cells self.old.now object) }
+        requires values { (k : ℕ) → k < length (elements_of values)
+            → IsElement (facts self.old.now object).kind (slice_index (elements_of values) k) }
+        requires there { AreThere self.old.now places.now }
+        requires plain { ArePlain self.old.now (places_of places.now) }
+        requires apart { AreApart (places_of
+            (cell_changes object i (elements_of values) ++ places.now)) }
+        ensures { let changes = cell_changes object i (elements_of values.entry) ++ places.now in
+            PerformsMovesUnless (refusal_of_places self.old (places_of changes)) self.old
+            (after_change result self.new) (SetPlaces changes ∷ []) tt }
+    {
+        let run = run_for(&self.journal, object, i, values);
+        let both = RunAndPlaces::new(run, self.words_of_places(places));
+        self.journal.write_all(&both)?;
         Ok(())
     }
 
@@ -132,10 +165,11 @@ impl<S: WordStore> Heap<S> {
     }
 
     /// Writes a place for good: no abort takes it back, unless an earlier change of the transaction
-    /// has touched it, or it was born in the transaction.
+    /// has touched it, or it was born in the transaction. It has a word of its own.
     pub fn write_both(&mut self, place: Place, v: u16) -> Result<(), StoreDown>
         requires up { self.old.down ≡ false }
         requires there { HasPlace self.old.now place }
+        requires plain { IsPlain self.old.now place }
         requires value { MayHold self.old.now place v }
         ensures { PerformsMoves self.old (after_step result self.new)
             (WriteNonAtomic place v ∷ []) tt }

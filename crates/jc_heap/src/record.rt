@@ -1,13 +1,12 @@
 //! The words of a package above the top: its record and its initialised arrays.
 ghost use Rattle.std.specs.Prelude.{ℕ, ◌≡◌, ◌<◌, ◌+◌, ◌*◌, [], ◌∷◌, ◌++◌, length, slice_index, slice_index_or, OnOk, OnErr, IfOk};
 ghost use Rattle.jc_heap.specs.Fresh.{IsFree, KeepsBelow, Fills, IsTornFresh};
-ghost use Rattle.jc_heap.specs.Packages.{part, parts, array_init, array_inits, elements, component_words, components_words, array_addresses, arrays_size};
+ghost use Rattle.jc_heap.specs.Packages.{part, parts, array_init, array_inits, AreArrays, AreArraysOfBytes, component_words, components_words, array_addresses, arrays_size};
 ghost use Rattle.jc_heap.specs.Packages.{image_words, record_size, package_record, AreComponents, array_words, arrays_words};
 ghost use Rattle.jc_heap.specs.Packed.{packed_words};
 
 use crate::fresh::write_run;
 use crate::layout::HEADER;
-use crate::object::Kind;
 use crate::package::{RecordComponent, StaticArray, cell_count};
 use crate::packed::{packed_size, packed_word};
 use jc_commit::Journal;
@@ -23,27 +22,11 @@ fn write_packed<S: WordStore>(
     requires { IsFree at (length (packed_words bytes.now)) journal.old }
     ensures below { KeepsBelow at journal.old journal.new }
     ensures done { OnOk result (Fills at (packed_words bytes.now) journal.old journal.new) }
+    ensures bytes { OnOk result ((i : ℕ) → slice_index bytes.now i < 256) }
     ensures stopped { OnErr result (IsTornFresh journal.old journal.new) }
 {
     for k in 0..packed_size(bytes) {
         journal.write_fresh(at + k as u16, packed_word(bytes, k as u16))?;
-    }
-    Ok(())
-}
-
-// Writes bytes from an address on, one a word.
-fn write_bytes<S: WordStore>(
-    journal: &mut Journal<S>,
-    at: u16,
-    bytes: &[u8],
-) -> Result<(), StoreDown>
-    requires { IsFree at (length bytes.now) journal.old }
-    ensures below { KeepsBelow at journal.old journal.new }
-    ensures done { OnOk result (Fills at bytes.now journal.old journal.new) }
-    ensures stopped { OnErr result (IsTornFresh journal.old journal.new) }
-{
-    for (k, byte) in bytes.iter().enumerate() {
-        journal.write_fresh(at + k as u16, u16::from(*byte))?;
     }
     Ok(())
 }
@@ -107,7 +90,7 @@ fn write_references<S: WordStore>(
     let mut address = first;
     for (k, array) in arrays.iter().enumerate() {
         journal.write_fresh(at + k as u16, address)?;
-        address += HEADER + cell_count(array) as u16;
+        address += HEADER + packed_size(array.values) as u16;
     }
     Ok(())
 }
@@ -132,25 +115,6 @@ fn write_static_image<S: WordStore>(
     Ok(())
 }
 
-// Writes the cells of an initialised array.
-fn write_elements<S: WordStore>(
-    journal: &mut Journal<S>,
-    at: u16,
-    array: &StaticArray,
-) -> Result<(), StoreDown>
-    requires { IsFree at (length (elements (array_init array.now))) journal.old }
-    ensures below { KeepsBelow at journal.old journal.new }
-    ensures done { OnOk result (Fills at (elements (array_init array.now)) journal.old
-        journal.new) }
-    ensures stopped { OnErr result (IsTornFresh journal.old journal.new) }
-{
-    match array.kind {
-        Kind::BooleanArray | Kind::ByteArray => write_bytes(journal, at, array.values)?,
-        _ => write_packed(journal, at, array.values)?,
-    }
-    Ok(())
-}
-
 // Writes an initialised array: its header, its cells.
 fn write_array<S: WordStore>(
     journal: &mut Journal<S>,
@@ -158,19 +122,21 @@ fn write_array<S: WordStore>(
     array: &StaticArray,
     owner: OwnerWord,
 ) -> Result<(), StoreDown>
-    requires { IsFree at (length (array_words owner (array_init array.now))) journal.old }
+    requires free { IsFree at (length (array_words owner (array_init array.now))) journal.old }
+    requires small { length array.now.values.now < 65536 }
     ensures below { KeepsBelow at journal.old journal.new }
     ensures done { OnOk result (Fills at (array_words owner (array_init array.now)) journal.old
         journal.new) }
+    ensures bytes { OnOk result ((i : ℕ) → slice_index (array_init array.now).1 i < 256) }
     ensures stopped { OnErr result (IsTornFresh journal.old journal.new) }
 {
     let cells = cell_count(array) as u16;
     write_run(
         journal,
         at,
-        &[array.kind.number(), NO_CLASS.0, owner.0, cells],
+        &[array.kind.header_number(), NO_CLASS.0, owner.0, cells],
     )?;
-    write_elements(journal, at + HEADER, array)?;
+    write_packed(journal, at + HEADER, array.values)?;
     Ok(())
 }
 
@@ -181,16 +147,18 @@ pub(crate) fn write_arrays<S: WordStore>(
     arrays: &[StaticArray],
     owner: OwnerWord,
 ) -> Result<(), StoreDown>
-    requires { IsFree at (length (arrays_words owner (array_inits arrays.now))) journal.old }
+    requires free { IsFree at (length (arrays_words owner (array_inits arrays.now))) journal.old }
+    requires arrays { AreArrays (array_inits arrays.now) }
     ensures below { KeepsBelow at journal.old journal.new }
     ensures done { OnOk result (Fills at (arrays_words owner (array_inits arrays.now)) journal.old
         journal.new) }
+    ensures bytes { OnOk result (AreArraysOfBytes (array_inits arrays.now)) }
     ensures stopped { OnErr result (IsTornFresh journal.old journal.new) }
 {
     let mut next = at;
     for array in arrays {
         write_array(journal, next, array, owner)?;
-        next += HEADER + cell_count(array) as u16;
+        next += HEADER + packed_size(array.values) as u16;
     }
     Ok(())
 }

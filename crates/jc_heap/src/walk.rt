@@ -8,7 +8,7 @@ ghost use Rattle.jc_heap.specs.Image.{item_entry};
 ghost use Rattle.jc_heap.specs.Heap.{first_above};
 
 use crate::layout::{HEADER, LENGTH, TRANSIENT};
-use crate::object::begins_header;
+use crate::object::{begins_header, is_packed_header, words_of_cells};
 use jc_commit::Journal;
 use jc_transient::Ref;
 use jc_words::WordStore;
@@ -57,7 +57,7 @@ pub fn record_size<S: WordStore>(journal: &Journal<S>, at: u16, top: u16) -> u32
     if top - at < HEADER {
         return u32::from(HEADER);
     }
-    u32::from(HEADER) + u32::from(journal.read(at + LENGTH))
+    u32::from(HEADER) + words_of_cells(is_packed_header(word), journal.read(at + LENGTH))
 }
 
 // An object begins at the address of a record, and it lies above the other address.

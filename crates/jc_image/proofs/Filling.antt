@@ -1,11 +1,12 @@
 -- The objects of an event in its area, one behind another.
 use Rattle.std.proofs.Common.{◌≡◌, ℕ, ◌+◌, ◌/◌, ◌%◌, ◌<◌, ◌==◌, ◌&&◌, nat_lt, Bool, true, false, inl, inr, List, take, drop, length, get_or, refl, sym, ◌∙◌, ap}
 use Rattle.std.proofs.Common.{arith, if◌then◌else◌, Some, lit<}
-use Rattle.std.proofs.lemmas.Bool.{cases_eq, cases_Bool, eq-eqb, ne_eqb, false≢true, le-ltb, cases_lt, eqb-true}
+use Rattle.std.proofs.lemmas.Bool.{cases_eq, cases_Bool, eq-eqb, ne_eqb, false≢true, le-ltb, cases_lt, eqb-true, or_cases}
 use Rattle.jc_words.specs.Layout.{top_address}
 use Rattle.jc_transient.specs.declared.cell.ClearEvent.{ClearEvent}
 use Rattle.jc_transient.specs.declared.cell.ClearEvent.TheVariants.{Reset, Deselect}
-use Rattle.jc_heap.specs.Object.{APackage, facts_of, is_header, event_of, event_number}
+use Rattle.jc_heap.proofs.Images.{no_event}
+use Rattle.jc_heap.specs.Object.{APackage, facts_of, is_header, is_packed_header, event_of, event_number}
 use Rattle.jc_heap.specs.Image.{image, package_addresses, is_package, IsWellFormed}
 use Rattle.jc_image.specs.Steps.{IsAt, size_from, item_from}
 use Rattle.jc_heap.specs.Whole.{lies_in, cells_in}
@@ -27,9 +28,12 @@ and-third true false c e = absurd (false≢true e)
 and-third false b c e = absurd (false≢true e)
 
 event_small : (w : ℕ) → is_header w ≡ true → w / 256 < 3
-event_small w e = elim (cases_lt (w / 256) 3) [
-  | inl h ↦ h
-  | inr h ↦ absurd (false≢true (sym (le-ltb (w / 256) 3 h) ∙ and-third (nat_lt 0 (w % 256)) (nat_lt (w % 256) 6) (nat_lt (w / 256) 3) e))
+event_small w e = elim (or_cases (is_packed_header w) (nat_lt 0 (w % 256) && (nat_lt (w % 256) 6 && nat_lt (w / 256) 3)) e) [
+  | inl packed ↦ omega (arith, eqb-true (w / 256) 0 (no_event w packed))
+  | inr single ↦ elim (cases_lt (w / 256) 3) [
+    | inl h ↦ h
+    | inr h ↦ absurd (false≢true (sym (le-ltb (w / 256) 3 h) ∙ and-third (nat_lt 0 (w % 256)) (nat_lt (w % 256) 6) (nat_lt (w / 256) 3) single))
+  ]
 ]
 
 none_lies : (event : ClearEvent) (ws : List ℕ) → lies_in event (APackage ws) ≡ false

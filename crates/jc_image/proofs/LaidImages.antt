@@ -8,14 +8,16 @@ use Rattle.std.proofs.lemmas.Bool.{cases_eq, cases_lt, eq-eqb, ne_eqb}
 use Rattle.jc_words.specs.Layout.{count_address, top_address, packages_address, applets_address, reset_end_address, deselect_end_address, text_length_address}
 use Rattle.jc_words.specs.Layout.{front_length, journal_capacity, addresses_start, most_packages, registry_start, registry_length, text_start, version}
 use Rattle.jc_words.specs.Layout.{version_address}
+use Rattle.jc_words.specs.Layout.{capacity_address}
+use Rattle.jc_heap.specs.Image.{unread_words}
 use Rattle.jc_commit.specs.Image.{count_of, plain_of}
 use Rattle.jc_commit.proofs.InPlace.{length-plain, plain_word}
 use Rattle.jc_heap.specs.Cut.{records_from, missing_words}
 use Rattle.jc_heap.specs.Heap.{head_of, read_image, heap_of}
 use Rattle.jc_heap.proofs.RawWords.{plain_zero}
-use Rattle.jc_heap.specs.Image.{packed_byte, bytes_of_packed, image, base, package_addresses, is_package, sizes, item_entry, records, missing_words_of_image}
+use Rattle.jc_heap.specs.Image.{image, base, package_addresses, is_package, sizes, item_entry, records, missing_words_of_image}
+use Rattle.jc_heap.specs.Packed.{packed_byte, bytes_of_packed, packed_words}
 use Rattle.jc_heap.specs.Image.{table_text, IsWellFormed}
-use Rattle.jc_heap.specs.Packed.{packed_words}
 use Rattle.jc_heap.proofs.Packing.{packed_words-word}
 use Rattle.jc_image.specs.Laying.{IsOfBytes, first_free, image_front, new_image_words, unsealed_heap}
 
@@ -115,6 +117,10 @@ module _ (n : ℕ) (text : List ℕ) where
   unfolding new_image_words
   head-laid = refl
 
+  unread-laid : unread_words (new_image_words n text) ≡ journal_capacity ∷ 0 ∷ 0 ∷ 0 ∷ 0 ∷ 0 ∷ []
+  unread-laid = λ k. front-word capacity_address (lit< tt) k ∷ front-word 11 (lit< tt) k ∷ front-word 12 (lit< tt) k
+      ∷ front-word 13 (lit< tt) k ∷ front-word 14 (lit< tt) k ∷ front-word 15 (lit< tt) k ∷ []
+
   module _ (bytes : IsOfBytes text) where
     text-laid : table_text (new_image_words n text) ≡ text
     text-laid =
@@ -135,6 +141,7 @@ module _ (n : ℕ) (text : List ℕ) where
       area_ends = (front-word reset_end_address (lit< tt) k, front-word deselect_end_address (lit< tt) k);
       top = length-laid k;
       capacity = journal_capacity;
+      unread = unread-laid k;
     }
 
     -- the words of a store, of which these are the first

@@ -9,3 +9,4 @@ pub mod Filling
 pub mod Referring
 pub mod Stepping
 pub mod OpenImages
+pub mod NewFronts

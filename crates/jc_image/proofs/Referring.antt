@@ -1,12 +1,12 @@
 -- The references that the cells of a heap hold.
-use Rattle.std.proofs.Common.{◌≡◌, ℕ, zero, suc, ◌+◌, ◌/◌, ◌%◌, ◌<◌, ◌≤◌, ◌||◌, not, Bool, true, false, inl, inr, List, [], ◌∷◌, length, get_or, drop, map}
+use Rattle.std.proofs.Common.{◌≡◌, ℕ, zero, suc, ◌+◌, ◌/◌, ◌%◌, ◌<◌, ◌≤◌, ◌||◌, ◌==◌, if◌then◌else◌, not, Bool, true, false, inl, inr, List, [], ◌∷◌, length, get_or, drop, map}
 use Rattle.std.proofs.Common.{refl, sym, ◌∙◌, ap, subst, arith}
-use Rattle.std.proofs.lemmas.Bool.{cases_eq, cases_Bool, eq-eqb, ne_eqb, false≢true}
+use Rattle.std.proofs.lemmas.Bool.{cases_eq, cases_Bool, eqb-true, eq-eqb, ne_eqb, false≢true}
 use Rattle.jc_words.specs.Layout.{top_address}
 use Rattle.jc_heap.specs.declared.object.Kind.TheVariants.{Instance, BooleanArray, ByteArray, ShortArray, ReferenceArray}
 use Rattle.jc_heap.specs.Cut.{Sizes, records_from}
 use Rattle.jc_heap.specs.Table.{entry_or, has_entry}
-use Rattle.jc_heap.specs.Object.{Item, APackage, facts_of, cells_of, kind_of}
+use Rattle.jc_heap.specs.Object.{Item, APackage, facts_of, cells_of, kind_of, is_packed_header}
 use Rattle.jc_heap.specs.Image.{image, base, package_addresses, is_package, sizes, item, item_entry, IsWellFormed}
 use Rattle.jc_heap.specs.Heap.{HeapState, heap_of, read_image, heap_item_at}
 use Rattle.jc_image.specs.Steps.{IsAt, item_from}
@@ -17,19 +17,16 @@ use Rattle.jc_image.proofs.Stepping.{package_here, facts_here, cells_long, cell_
 
 -- a kind's number
 kind_five : (n : ℕ) → kind_of n ≡ ReferenceArray → n ≡ 5
-kind_five n e = elim (cases_eq n 2) [
-  | inl a ↦ let k : BooleanArray ≡ ReferenceArray = sym (rw (eq-eqb n 2 a) refl) ∙ e in absurd (cc)
-  | inr a ↦ elim (cases_eq n 3) [
-    | inl b ↦ let k : ByteArray ≡ ReferenceArray = sym (rw (ne_eqb n 2 a, eq-eqb n 3 b) refl) ∙ e in absurd (cc)
-    | inr b ↦ elim (cases_eq n 4) [
-      | inl c ↦ let k : ShortArray ≡ ReferenceArray = sym (rw (ne_eqb n 2 a, ne_eqb n 3 b, eq-eqb n 4 c) refl) ∙ e in absurd (cc)
-      | inr c ↦ elim (cases_eq n 5) [
-        | inl d ↦ d
-        | inr d ↦ let k : Instance ≡ ReferenceArray = sym (rw (ne_eqb n 2 a, ne_eqb n 3 b, ne_eqb n 4 c, ne_eqb n 5 d) refl) ∙ e in absurd (cc)
-      ]
-    ]
-  ]
-]
+kind_five n e = by_tests (n == 2 || n == 6) (n == 3 || n == 7) (n == 4) (n == 5) refl e
+  where
+    by_tests : (booleans bytes shorts references : Bool) → (n == 5) ≡ references →
+        (if booleans then BooleanArray else (if bytes then ByteArray else (if shorts then ShortArray else (if references then ReferenceArray else Instance))))
+        ≡ ReferenceArray → n ≡ 5
+    by_tests true bytes shorts references is e = absurd (cc)
+    by_tests false true shorts references is e = absurd (cc)
+    by_tests false false true references is e = absurd (cc)
+    by_tests false false false true is e = eqb-true n 5 is
+    by_tests false false false false is e = absurd (cc)
 
 -- the record at an address
 module _ (h : HeapState) (ws : List ℕ) (at : ℕ) (laid : IsWellFormed ws) (here : IsAt ws at) (below : at < get_or ws top_address 0) where
@@ -54,6 +51,9 @@ module _ (h : HeapState) (ws : List ℕ) (at : ℕ) (laid : IsWellFormed ws) (he
       persistent : get_or ws at 0 / 256 ≡ 0
       persistent = omega arith
 
+      single : is_packed_header (get_or ws at 0) ≡ false
+      single = ap is_packed_header five
+
       is_array : (facts_of (item_from ws at)).kind ≡ ReferenceArray
       is_array = kind_here ∙ ap (λ w. kind_of (w % 256)) five
 
@@ -61,10 +61,10 @@ module _ (h : HeapState) (ws : List ℕ) (at : ℕ) (laid : IsWellFormed ws) (he
       cells_count = cells_long ws at laid here below small other persistent
 
       pub cell_within_at : (i : ℕ) → i < get_or ws (at + 3) 0 → at + 4 + i < get_or ws top_address 0
-      cell_within_at i lt = omega (arith, (cell_here ws at laid here below small other persistent i (omega (arith, cells_count, lt))).0)
+      cell_within_at i lt = omega (arith, (cell_here ws at laid here below small other persistent single i (omega (arith, cells_count, lt))).0)
 
       cell_is : (i : ℕ) → i < length (cells_of (item_from ws at)) → get_or (cells_of (item_from ws at)) i 0 ≡ get_or ws (at + 4 + i) 0
-      cell_is i lt = (cell_here ws at laid here below small other persistent i lt).1 ∙ ap (λ a. get_or ws a 0) (omega arith)
+      cell_is i lt = (cell_here ws at laid here below small other persistent single i lt).1 ∙ ap (λ a. get_or ws a 0) (omega arith)
 
       pub holds_of : ((i : ℕ) → i < get_or ws (at + 3) 0 → IsReference h (get_or ws (at + 4 + i) 0)) → HoldsReferences h (item_from ws at)
       holds_of all kind i lt = subst (IsReference h) (sym (cell_is i lt)) (all i (omega (arith, cells_count, lt)))

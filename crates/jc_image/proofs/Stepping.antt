@@ -1,16 +1,16 @@
 -- One step over the records of a heap's words.
 use Rattle.std.proofs.Common.{◌≡◌, ℕ, ◌+◌, ◌-◌, add-zero, ◌/◌, ◌<◌, ◌≤◌, true, false, inl, inr, List, [], ◌∷◌, length, get_or, set, take, drop, map, refl, sym}
-use Rattle.std.proofs.Common.{◌∙◌, ap, arith, if◌then◌else◌, ◌==◌}
+use Rattle.std.proofs.Common.{◌∙◌, ap, subst, arith, if◌then◌else◌, ◌==◌, Bool}
 use Rattle.std.proofs.lemmas.List.{length-drop, length-take, length-take-le, get_or-take, drop_all}
 use Rattle.std.proofs.lemmas.Bool.{cases_Bool, cases_eq, eq-eqb, ne_eqb}
 use Rattle.jc_words.specs.Layout.{top_address, text_length_address, text_start}
 use Rattle.jc_heap.specs.Cut.{records_from, missing_words}
-use Rattle.jc_heap.specs.Object.{AnObject, APackage, object_of, facts_of, cells_of, is_header, payload}
+use Rattle.jc_heap.specs.Object.{AnObject, APackage, object_of, facts_of, cells_of, is_header, is_packed, is_packed_header, words_of_cells, payload}
 use Rattle.jc_heap.specs.Image.{image, base, package_addresses, is_package, sizes, item_entry, IsWellFormed}
 use Rattle.jc_heap.specs.Heap.{heap_of, read_image}
 use Rattle.jc_image.specs.Steps.{IsAt, items_from, size_from, item_from}
 use Rattle.jc_heap.proofs.Walks.{word_from, word_at}
-use Rattle.jc_heap.proofs.Images.{object_cell}
+use Rattle.jc_heap.proofs.Images.{object_cell, packed_of, cell_offset, cell_said}
 use Rattle.jc_heap.proofs.Reading.{said, said-object_of, cells-object_of}
 use Rattle.jc_heap.proofs.Following.{base_is, whole_first, step_fits, step_whole, item_here}
 
@@ -89,7 +89,8 @@ module _ (ws : List ℕ) (at : ℕ) (laid : IsWellFormed ws) (here : IsAt ws at)
       | inr e ↦
           let none : is_header (get_or (drop at (image ws)) 0 0) ≡ false = ap is_header first_word ∙ e in
           let long : size_from ws at ≡ 4 + 65536 = object_size ∙ ap (λ b. 4 + (if b then
-          (if get_or (drop at (image ws)) 0 0 / 256 == 0 then get_or (drop at (image ws)) 3 0 else 1) else 65536)) none in
+          (if get_or (drop at (image ws)) 0 0 / 256 == 0 then words_of_cells (is_packed_header (get_or (drop at (image ws)) 0 0))
+          (get_or (drop at (image ws)) 3 0) else 1) else 65536)) none in
           absurd (omega (arith, long, size_fits, laid.fits))
     ]
 
@@ -100,18 +101,19 @@ module _ (ws : List ℕ) (at : ℕ) (laid : IsWellFormed ws) (here : IsAt ws at)
     fourth_word = word_from ws at 3 (omega (arith, four, size_fits))
 
     -- how many words an object's record has
-    pub object_words : size_from ws at ≡ 4 + (if get_or ws at 0 / 256 == 0 then get_or ws (at + 3) 0 else 1)
+    pub object_words : size_from ws at ≡ 4 + (if get_or ws at 0 / 256 == 0 then words_of_cells (is_packed_header (get_or ws at 0)) (get_or ws (at + 3) 0) else 1)
     object_words =
         object_size
         ∙ ap (λ w. 4 + payload w (get_or (drop at (image ws)) 3 0)) first_word
         ∙ ap (λ l. 4 + payload (get_or ws at 0) l) fourth_word
-        ∙ ap (λ b. 4 + (if b then (if get_or ws at 0 / 256 == 0 then get_or ws (at + 3) 0 else 1) else 65536)) header_here
+        ∙ ap (λ b. 4 + (if b then (if get_or ws at 0 / 256 == 0 then words_of_cells (is_packed_header (get_or ws at 0)) (get_or ws (at + 3) 0) else 1)
+        else 65536)) header_here
 
     pub header_within : at + 3 < get_or ws top_address 0
     header_within = omega (arith, four, size_fits)
 
     pub place_within : (get_or ws at 0 / 256 ≡ 0 → ⊥) → at + 4 < get_or ws top_address 0
-    place_within n = omega (arith, size_fits, object_words ∙ ap (λ b. 4 + (if b then get_or ws (at + 3) 0 else 1)) (ne_eqb (get_or ws at 0 / 256) 0 n))
+    place_within n = omega (arith, size_fits, object_words ∙ ap (λ b. 4 + (if b then words_of_cells (is_packed_header (get_or ws at 0)) (get_or ws (at + 3) 0) else 1)) (ne_eqb (get_or ws at 0 / 256) 0 n))
 
     pub object_here : item_from ws at ≡ AnObject (object_of rec)
     unfolding item_from
@@ -122,7 +124,7 @@ module _ (ws : List ℕ) (at : ℕ) (laid : IsWellFormed ws) (here : IsAt ws at)
     last_word = elim (cases_eq (get_or ws at 0 / 256) 0) [
       | inl e ↦ rw (eq-eqb (get_or rec 0 0 / 256) 0 (ap (λ w. w / 256) zeroth ∙ e)) refl
       | inr n ↦ ap (said (get_or rec 0 0) (get_or rec 1 0) (get_or rec 2 0) (get_or rec 3 0))
-          (rec_word 4 (omega (arith, object_words ∙ ap (λ b. 4 + (if b then get_or ws (at + 3) 0 else 1)) (ne_eqb (get_or ws at 0 / 256) 0 n))))
+          (rec_word 4 (omega (arith, object_words ∙ ap (λ b. 4 + (if b then words_of_cells (is_packed_header (get_or ws at 0)) (get_or ws (at + 3) 0) else 1)) (ne_eqb (get_or ws at 0 / 256) 0 n))))
     ]
       where
         zeroth : get_or rec 0 0 ≡ get_or ws at 0
@@ -148,7 +150,7 @@ module _ (ws : List ℕ) (at : ℕ) (laid : IsWellFormed ws) (here : IsAt ws at)
   unfolding item_from
   package_here there = ap (λ b. if b then APackage rec else AnObject (object_of rec)) there
 
-  -- a persistent object's cells are the words behind its header
+  -- a persistent object's cells are the words behind its header, where each has a word of its own
   module _ (small : length ws < 65536) (no : is_package (package_addresses (image ws)) at ≡ false) (persistent : get_or ws at 0 / 256 ≡ 0) where
     words_small : length rec < 65536
     words_small = omega (arith, rec_long, size_fits, laid.fits)
@@ -168,13 +170,18 @@ module _ (ws : List ℕ) (at : ℕ) (laid : IsWellFormed ws) (here : IsAt ws at)
         ∙ cells-object_of rec own_size words_small (ap (λ w. w / 256) zeroth_word ∙ persistent)
         ∙ rec_word 3 (omega (arith, four small no))
 
-    pub cell_here : (i : ℕ) → i < length (cells_of (item_from ws at)) → (at + (4 + i) < get_or ws top_address 0)
+    single_here : is_packed_header (get_or ws at 0) ≡ false → is_packed ((object_of rec).facts) ≡ false
+    single_here single = packed_of rec ∙ ap (λ f. f.packed) (said-object_of rec (omega (arith, rec_long, four small no)))
+        ∙ ap is_packed_header zeroth_word ∙ single
+
+    pub cell_here : is_packed_header (get_or ws at 0) ≡ false → (i : ℕ) → i < length (cells_of (item_from ws at)) → (at + (4 + i) < get_or ws top_address 0)
         × (get_or (cells_of (item_from ws at)) i 0 ≡ get_or ws (at + (4 + i)) 0)
-    cell_here i h =
+    cell_here single i h =
         let h' : i < length ((object_of rec).cells) = omega (arith, h, ap (λ t. length (cells_of t)) (object_here small no)) in
-        let o : (4 + i < length rec) × (get_or ((object_of rec).cells) i 0 ≡ get_or rec (4 + i) 0)
-        × (object_of (set rec (4 + i) 0) ≡ record (object_of rec) { cells = set ((object_of rec).cells) i 0 }) = object_cell rec i 0 h' in (
-          omega (arith, o.0, rec_long, size_fits),
-          ap (λ t. get_or (cells_of t) i 0) (object_here small no) ∙ o.1
-              ∙ rec_word (4 + i) (omega (arith, o.0, rec_long)),
+        let o = object_cell rec i 0 h' in
+        let within : 4 + i < length rec = subst (λ (b : Bool). 4 + cell_offset b i < length rec) (single_here single) o.within in
+        let said : get_or ((object_of rec).cells) i 0 ≡ get_or rec (4 + i) 0 =
+        subst (λ (b : Bool). get_or ((object_of rec).cells) i 0 ≡ cell_said b (get_or rec (4 + cell_offset b i) 0) i) (single_here single) o.said in (
+          omega (arith, within, rec_long, size_fits),
+          ap (λ t. get_or (cells_of t) i 0) (object_here small no) ∙ said ∙ rec_word (4 + i) (omega (arith, within, rec_long)),
         )

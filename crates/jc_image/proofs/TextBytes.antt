@@ -3,7 +3,8 @@ use Rattle.std.proofs.Common.{◌≡◌, ℕ, ◌+◌, ◌/◌, ◌%◌, ◌==�
 use Rattle.std.proofs.lemmas.List.{get_or-take, get_or-drop}
 use Rattle.std.proofs.lemmas.List.FromFn.{length-map-range_with_len, get_or-map-range_with_len}
 use Rattle.jc_words.specs.Layout.{text_length_address, text_start}
-use Rattle.jc_heap.specs.Image.{packed_byte, bytes_of_packed, text_words, text_byte, table_text}
+use Rattle.jc_heap.specs.Image.{text_words, text_byte, table_text}
+use Rattle.jc_heap.specs.Packed.{packed_byte, bytes_of_packed}
 
 pub length-table_text : (ws : List ℕ) → length (table_text ws) ≡ get_or ws text_length_address 0
 unfolding bytes_of_packed

@@ -18,6 +18,11 @@ first_free long = text_start + (long + 1) / 2
 abbrev pub image_front : ℕ → ℕ → List ℕ
 image_front n long = 0 ∷ version ∷ n ∷ 0 ∷ journal_capacity ∷ first_free long ∷ 0 ∷ 0 ∷ 0 ∷ 0 ∷ long ∷ 0 ∷ 0 ∷ 0 ∷ 0 ∷ 0 ∷ []
 
+-- the words 0 to 15 of an image that holds this heap, where no entry of the journal counts
+abbrev pub first_words_of : HeapState → List ℕ
+first_words_of h = h.head.0 ∷ version ∷ h.head.1 ∷ 0 ∷ slice_index h.unread 0 ∷ h.top ∷ h.counts.0 ∷ h.counts.1 ∷ h.area_ends.0 ∷ h.area_ends.1
+    ∷ length h.text ∷ slice_index h.unread 1 ∷ slice_index h.unread 2 ∷ slice_index h.unread 3 ∷ slice_index h.unread 4 ∷ slice_index h.unread 5 ∷ []
+
 -- the words below its top: these, no journal entry, no package, no applet, and the table text
 unfoldable pub new_image_words : ℕ → List ℕ → List ℕ
 new_image_words n text = image_front n (length text) ++ replicate (text_start - front_length) 0 ++ packed_words text
@@ -42,6 +47,7 @@ unsealed_heap n text = record {
   area_ends = (0, 0);
   top = first_free (length text);
   capacity = journal_capacity;
+  unread = journal_capacity ∷ 0 ∷ 0 ∷ 0 ∷ 0 ∷ 0 ∷ [];
 }
 
 -- what the layers above see of it

@@ -7,7 +7,6 @@ use Rattle.jc_heap.specs.Object.{header_size}
 use Rattle.jc_heap.specs.RegistryLayout.{entry_start, entry_package}
 use Rattle.jc_cap_linkage.specs.Tags.{header_tag}
 use Rattle.jc_cap_linkage.specs.declared.fault.CapFault.{CapFault}
-use Rattle.jc_cap_linkage.specs.declared.formats.Format.TheVariants.{V2_1}
 use Rattle.jc_cap_linkage.specs.Packages.{NamedPackage}
 use Rattle.jc_cap_linkage.specs.Reading.{value_of_whole}
 use Rattle.jc_cap_linkage.specs.Header.{HeaderValue, header_at}
@@ -26,7 +25,7 @@ name_of (Ok h) = Some h.this_package
 name_of (Err fault) = None
 
 abbrev pub name_in : List ℕ → Option NamedPackage
-name_in info = name_of (value_of_whole (header_at V2_1 info))
+name_in info = name_of (value_of_whole (header_at info))
 
 -- where a record's first component has its tag, the number of its bytes, and these
 abbrev pub first_tag : ℕ
@@ -38,9 +37,9 @@ first_size = 2
 abbrev pub first_bytes : ℕ
 first_bytes = 3
 
--- how many bytes the info of a Header component has at most: magic, format, flags, and the package's name
+-- how many bytes the info of a Header component has at most: magic, format, flags, the package's version and AID, and its name
 abbrev pub most_header : ℕ
-most_header = 26
+most_header = 282
 
 -- the name of the package whose record begins there: its first component is a whole Header
 unfoldable pub package_name_at : List ℕ → ℕ → Option NamedPackage

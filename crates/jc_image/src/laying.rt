@@ -3,10 +3,10 @@ ghost use Rattle.std.specs.Prelude.{◌≡◌, ◌<◌, ◌≤◌, ◌+◌, ◌-
 ghost use Rattle.std.specs.Prelude.{OnErr, IfOk, IfErr};
 ghost use Rattle.jc_words.specs.Count.{saturating_count};
 ghost use Rattle.jc_words.specs.Refusals.{refused_once};
-ghost use Rattle.jc_words.specs.Layout.{magic_address, text_start};
+ghost use Rattle.jc_words.specs.Layout.{front_length, magic_address, text_start};
 ghost use Rattle.jc_heap.specs.Stored.{HoldsHeap};
 ghost use Rattle.jc_image.specs.Laying.{IsOfBytes, IsPartlyWritten, first_free, image_front, written_image_prefix, unsealed_view, new_image_words, sealed_view};
-ghost use Rattle.jc_image.specs.Laying.{heap_after_refused_seal};
+ghost use Rattle.jc_image.specs.Laying.{first_words_of, heap_after_refused_seal, sealed_heap};
 
 use jc_commit::Journal;
 use jc_heap::Heap;
@@ -121,6 +121,8 @@ pub fn seal<S: WordStore>(heap: Heap<S>) -> Result<S, S>
     requires outside { heap.begun ≡ false }
     ensures sealed { IfOk result (λ s. HoldsHeap (S.words s) (S.down s) (S.passed s) (S.refusals s)
         (sealed_view heap)) }
+    ensures front { IfOk result (λ s. take front_length (S.words s)
+        ≡ first_words_of (sealed_heap heap.now)) }
     ensures stopped { IfErr result (λ s. HoldsHeap (S.words s) (S.down s) (S.passed s) (S.refusals s)
         (heap_after_refused_seal heap)) }
     ensures settled { heap.durable ≡ heap.now }

@@ -4,7 +4,6 @@ ghost use Rattle.jc_words.specs.Layout.{text_start};
 ghost use Rattle.jc_image.specs.Listing.{applet_at, applet_in, byte_in, bytes_in, name_in, package_name_at, package_at};
 
 use arrayvec::ArrayVec;
-use jc_cap_linkage::formats::Format;
 use jc_cap_linkage::header::read_header;
 use jc_cap_linkage::tags;
 use jc_heap::layout::{HEADER, LENGTH};
@@ -13,13 +12,14 @@ use jc_words::WordStore;
 use jc_words::layout::{ADDRESSES, MOST_APPLETS, MOST_PACKAGES, REGISTRY};
 use std::marker::Model;
 
-/// How many bytes the info of a Header component has at most: magic, format, flags, and the package's name.
-const MOST_HEADER: usize = 26;
+/// How many bytes the info of a Header component has at most: magic, format, flags, the package's version and AID, and its
+/// name.
+const MOST_HEADER: usize = 282;
 
 /// How many bytes an AID has at least and at most.
 const LEAST_AID: u16 = 5;
 
-const MOST_AID: u16 = 16;
+const MOST_AID: usize = 16;
 
 /// The tag of a Header component, which comes first in a package's record.
 const HEADER_COMPONENT: u16 = tags::HEADER as u16;
@@ -47,7 +47,7 @@ const AID_CELLS: u16 = 9;
 pub struct PackageName {
     minor_version: u8,
     major_version: u8,
-    aid: ArrayVec<u8, MOST_HEADER>,
+    aid: ArrayVec<u8, MOST_AID>,
 }
 
 impl Model for PackageName {
@@ -80,7 +80,7 @@ impl PackageName {
     /// The AID.
     pub fn aid(&self) -> &[u8]
         ensures value { result.now ≡ self.now.aid }
-        ensures long { length result.now ≤ 26 }
+        ensures long { length result.now ≤ 16 }
     {
         self.aid.as_slice()
     }
@@ -89,7 +89,7 @@ impl PackageName {
 /// The AID of an applet, and the number of its package.
 #[derive(Drop)]
 pub struct AppletName {
-    aid: ArrayVec<u8, MOST_HEADER>,
+    aid: ArrayVec<u8, MOST_AID>,
     package_number: u16,
 }
 
@@ -105,7 +105,7 @@ impl AppletName {
     /// The AID.
     pub fn aid(&self) -> &[u8]
         ensures value { result.now ≡ self.now.aid }
-        ensures long { length result.now ≤ 26 }
+        ensures long { length result.now ≤ 16 }
     {
         self.aid.as_slice()
     }
@@ -133,8 +133,8 @@ fn byte_in<S: WordStore>(store: &S, at: u16, i: u16) -> u8
 }
 
 // So many bytes from a word on.
-fn bytes_in<S: WordStore>(store: &S, at: u16, count: u16) -> ArrayVec<u8, MOST_HEADER>
-    requires few { count ≤ 26 }
+fn bytes_in<const MOST: usize, S: WordStore>(store: &S, at: u16, count: u16) -> ArrayVec<u8, MOST>
+    requires few { count ≤ MOST }
     requires there { at + (count + 1) / 2 ≤ length (S.words store.now) }
     ensures { result.items ≡ bytes_in (S.words store.now) at count }
 {
@@ -147,10 +147,10 @@ fn bytes_in<S: WordStore>(store: &S, at: u16, count: u16) -> ArrayVec<u8, MOST_H
 
 // The name that the info of a Header component tells.
 fn name_in(info: &[u8]) -> Option<PackageName>
-    requires { length info.now ≤ 26 }
+    requires { length info.now ≤ 282 }
     ensures { result ≡ name_in info.now }
 {
-    match read_header(Format::V2_1, info) {
+    match read_header(info) {
         Ok(header) => {
             let named = header.this_package;
             let mut aid = ArrayVec::new();
@@ -182,7 +182,7 @@ fn named_at<S: WordStore>(store: &S, at: u16) -> Option<PackageName>
     if u32::from(at) + u32::from(BYTES) + (u32::from(count) + 1) / 2 > size {
         return None;
     }
-    name_in(bytes_in(store, at + BYTES, count).as_slice())
+    name_in(bytes_in::<MOST_HEADER, S>(store, at + BYTES, count).as_slice())
 }
 
 /// The name of the package with this number, from 1 on; `None` where the words tell none.
@@ -208,7 +208,11 @@ fn applet_in<S: WordStore>(store: &S, at: u16, package_number: u16) -> Option<Ap
     let kind = store.read(at);
     let cells = store.read(at + CELL_COUNT);
     let count = store.read(at + FIRST_CELL);
-    if kind != PERSISTENT_INSTANCE || cells != AID_CELLS || count < LEAST_AID || count > MOST_AID {
+    if kind != PERSISTENT_INSTANCE
+        || cells != AID_CELLS
+        || count < LEAST_AID
+        || count > MOST_AID as u16
+    {
         return None;
     }
     Some(AppletName {

@@ -14,25 +14,29 @@ use Rattle.jc_heap.specs.declared.refusal.ChangeRefusal.{ChangeRefusal}
 use Rattle.jc_heap.specs.declared.refusal.ChangeRefusal.TheVariants as change
 use Rattle.jc_heap.specs.declared.refusal.HeapRefusal.{HeapRefusal}
 use Rattle.jc_heap.specs.declared.refusal.HeapRefusal.TheVariants as making
-use Rattle.jc_heap.specs.Object.{AnObject, Object, new_object, object_size}
-use Rattle.jc_heap.specs.Heap.{HeapState, HeapView, heap_item_at, is_allocated, add_object, heap_after_change, set_cell, set_cells, cell_address}
+use Rattle.jc_heap.specs.Object.{AnObject, Object, new_object, object_size, is_packed, facts_of}
+use Rattle.jc_heap.specs.Heap.{HeapState, HeapView, heap_item_at, is_allocated, add_object, heap_after_change, set_cell, set_cells, facts}
 use Rattle.jc_heap.specs.Heap.{end_address, keeping, limit, has_room_for}
 use Rattle.jc_heap.specs.Moves.{Move, SetPlaces, SetCells, refusal_of_places, refusal_of_cells}
 use Rattle.jc_heap.specs.Completions.{Attempt, Done, Refused, after_change, after_making}
-use Rattle.jc_heap.specs.Places.{places_of, place_word, run_at, set_places}
+use Rattle.jc_heap.specs.Places.{ArePlain, places_of, place_word, words_at, cells_from, set_place, set_places}
+use Rattle.jc_heap.specs.declared.place.Place.TheVariants.{Cell, Static, Registry, AppletCount}
 use Rattle.jc_heap.specs.Touches.{touch_words, touched_places, touched_cells, once_made}
 use Rattle.jc_commit.proofs.WhatIsKept.{keeps_old_values}
 use Rattle.jc_heap.proofs.Calls.{not_full, object_fits}
+use Rattle.std.specs.List.{range_with_len}
+use Rattle.jc_heap.proofs.WordsAt.{words_at-plain, plain_cells}
+use Rattle.jc_heap.proofs.Places.{bare_stays}
 use Rattle.jc_heap.proofs.KeepingMoves.{top-run, top-places}
-use Rattle.jc_heap.proofs.Laws.{heap_item_at-add_object, heap_item_at-add_other, object_named}
+use Rattle.jc_heap.proofs.Laws.{heap_item_at-add_object, heap_item_at-add_other, object_named, same_facts, facts-set_cell}
 use Rattle.jc_memory.specs.declared.making.NewObject.{NewObject}
 use Rattle.jc_memory.specs.Owners.{owner_number}
 use Rattle.jc_memory.specs.State.{MemoryState, HeapMove, IsNew, apply_effect}
 use Rattle.jc_memory.specs.Programs.{Program, Finish, Perform, Choose, Completes, IsTornIn, Executes, unless_refused}
 use Rattle.jc_memory.specs.Cells.{cell_refusal_in, cells_effect_in}
 use Rattle.jc_memory.specs.Making.{creation_move, creation_refusal, creation_refusal_in}
-use Rattle.jc_memory.specs.Room.{has_space, lacks_capacity, cells_update, places_update, KeepsObjects, KeepsRest}
-use Rattle.jc_memory.proofs.Touched.{lacks_room, room_inside, touches_left, view_left, words_of_cells, words_of_places, words_once_made}
+use Rattle.jc_memory.specs.Room.{has_space, lacks_capacity, cells_update, places_update, KeepsObjects, KeepsRest, StayPut}
+use Rattle.jc_memory.proofs.Touched.{lacks_room, room_inside, touches_left, view_left, words_of_cells, words_of_plain, words_once_made}
 
 -- places within the room of a heap
 fits : (v : HeapView) (places : List ℕ) → lacks_room v places ≡ false → length places ≤ v.durable.capacity → has_room_for v places ≡ true
@@ -48,15 +52,29 @@ is_done (Refused why) = false
 done_is_no_refusal : {A : Type 0} (done : Attempt A) (a : A) (why : HeapRefusal) → done ≡ Done a → Refused why ≡ done → ⊥
 done_is_no_refusal done a why is e = true≢false (sym (ap is_done is) ∙ sym (ap is_done e))
 
+-- headers stay where places are set
+pub facts-places : (h : HeapState) (cs : List (Place × ℕ)) (q : ℕ) → facts (set_places h cs) q ≡ facts h q
+facts-places h [] q = refl
+facts-places h (c ∷ cs) q = facts-places (set_place h c.0 c.1) cs q
+    ∙ same_facts (heap_item_at (set_place h c.0 c.1) q) (heap_item_at h q) (bare_stays h c.0 c.1 q)
+
+pub facts-run : (h : HeapState) (r i : ℕ) (vs : List ℕ) (q : ℕ) → facts (set_cells h r i vs) q ≡ facts h q
+facts-run h r i [] q = refl
+facts-run h r i (v ∷ vs) q = facts-run (set_cell h r i v) r (suc i) vs q ∙ facts-set_cell h r i v q
+
 -- so a change of these places is not refused
-pub has_room : (s : MemoryState) (changes : List (Place × ℕ)) → lacks_capacity s (touched_places (places_of changes)) ≡ false → length changes ≤ s.heap.durable.capacity
+pub has_room : (s : MemoryState) (changes : List (Place × ℕ)) → ArePlain s.heap.now (places_of changes)
+    → lacks_capacity s (touched_places (places_of changes)) ≡ false → length changes ≤ s.heap.durable.capacity
     → refusal_of_places s.heap (places_of changes) ≡ None
-has_room s changes room most =
-    let words : List ℕ = map place_word (places_of changes) in
-    not_full s.heap words (fits s.heap words (subst (λ ws. lacks_room s.heap ws ≡ false) (words_of_places s.heap.now (places_of changes)) room) few)
+has_room s changes plain room most =
+    let words : List ℕ = words_at s.heap.now (places_of changes) in
+    not_full s.heap words (fits s.heap words (subst (λ ws. lacks_room s.heap ws ≡ false) (words_of_plain s.heap.now (places_of changes) plain) room) few)
   where
-    few : length (map place_word (places_of changes)) ≤ s.heap.durable.capacity
-    few = let words = length-map (places_of changes) place_word in let places = length-map changes (λ c. c.0) in omega (arith, words, places, most)
+    few : length (words_at s.heap.now (places_of changes)) ≤ s.heap.durable.capacity
+    few =
+        let words = length-map (places_of changes) place_word in
+        let places = length-map changes (λ c. c.0) in
+        omega (arith, ap (λ (l : List ℕ). length l) (words_at-plain s.heap.now (places_of changes) plain), words, places, most)
 
 -- a change that has room and is not made is cut
 pub cut_change : (reason : Option HeapRefusal) (s new : MemoryState) (changes : List (Place × ℕ)) (e : ChangeRefusal) → reason ≡ None →
@@ -73,12 +91,13 @@ did_change (Some why) s new m a b did = absurd (done_is_no_refusal (Done b) b wh
 
 -- the room that it leaves
 pub changes_left : {A : Type 0} (reason : Option HeapRefusal) (s new : MemoryState) (changes : List (Place × ℕ)) (a b : A) (more : List Touch) →
+    ArePlain s.heap.now (places_of changes) →
     Completes (unless_refused reason (Perform (HeapMove (SetPlaces changes)) (Finish (Done a)))) s (Done b) new →
     lacks_capacity s (touched_places (places_of changes) ++ more) ≡ false → lacks_capacity new more ≡ false
-changes_left reason s new changes a b more did room =
+changes_left reason s new changes a b more plain did room =
     subst (λ m. lacks_capacity m more ≡ false) (sym (did_change reason s new (SetPlaces changes) a b did))
-    (touches_left s.heap (set_places s.heap.now changes) (touched_places (places_of changes)) (map place_word (places_of changes)) 0 more
-    (words_of_places s.heap.now (places_of changes)) (top-places s.heap.now changes) room)
+    (touches_left s.heap (set_places s.heap.now changes) (touched_places (places_of changes)) (words_at s.heap.now (places_of changes)) 0 more
+    (words_of_plain s.heap.now (places_of changes) plain) (top-places s.heap.now changes) (facts-places s.heap.now changes) room)
 
 counts-add : (h : HeapState) (o : Object) (size : ℕ) → (add_object h o size).counts ≡ h.counts
 unfolding add_object
@@ -113,7 +132,7 @@ made_one : (event : Option ClearEvent) (s new : MemoryState) (o : NewObject) (x 
 made_one None s new o x none did =
     let same : x ≡ did.0 = cc (did.2.0) in
     let o' : Object = new_object o.kind o.class (owner_number o.owner) o.length in
-    subst (IsMade s new o') (sym same) (added s new o' (object_size o.length) (object_size o.length) did.0 _ did.1 (ap (λ v. v.heap) did.2.1))
+    subst (IsMade s new o') (sym same) (added s new o' (object_size o.kind o.length) (object_size o.kind o.length) did.0 _ did.1 (ap (λ v. v.heap) did.2.1))
 made_one (Some e) s new o x none did = absurd (none-some e (sym none))
 
 pub made_object : (reason : Option HeapRefusal) (s new : MemoryState) (o : NewObject) (x : ℕ) → o.event ≡ None →
@@ -141,22 +160,28 @@ did_run (Some event) reason s new r i words kept did = absurd (none-some event (
 
 -- the room that they leave
 pub run_left : (event : Option ClearEvent) (reason : Option HeapRefusal) (s new : MemoryState) (r i : ℕ) (words : List ℕ) (more : List Touch) → event ≡ None →
+    is_packed (facts s.heap.now r) ≡ false →
     Completes (unless_refused (cell_refusal_in event reason) (Perform (cells_effect_in event r i words) (Finish (Done (tt {0}))))) s (Done (tt {0})) new →
     lacks_capacity s (touched_cells r i (length words) ++ more) ≡ false → lacks_capacity new more ≡ false
-run_left event reason s new r i words more kept did room =
+run_left event reason s new r i words more kept plain did room =
     subst (λ v. lacks_capacity v more ≡ false) (sym (did_run event reason s new r i words kept did))
-    (touches_left s.heap (set_cells s.heap.now r i words) (touched_cells r i (length words)) (run_at s.heap.now r i (length words)) 0 more
-    (words_of_cells s.heap.now r i (length words)) (top-run s.heap.now r i words) room)
+    (touches_left s.heap (set_cells s.heap.now r i words) (touched_cells r i (length words)) (words_at s.heap.now (cells_from r i (length words))) 0 more
+    (words_of_cells s.heap.now r i (length words) plain) (top-run s.heap.now r i words) (facts-run s.heap.now r i words) room)
 
 -- so a change of these cells is not refused
-pub has_run_room : (s : MemoryState) (r i : ℕ) (words : List ℕ) → lacks_capacity s (touched_cells r i (length words)) ≡ false → length words ≤ s.heap.durable.capacity
-    → refusal_of_cells s.heap r i words ≡ None
-has_run_room s r i words room most =
-    let places : List ℕ = run_at s.heap.now r i (length words) in
-    not_full s.heap places (fits s.heap places (subst (λ ws. lacks_room s.heap ws ≡ false) (words_of_cells s.heap.now r i (length words)) room) few)
+pub has_run_room : (s : MemoryState) (r i : ℕ) (words : List ℕ) → is_packed (facts s.heap.now r) ≡ false
+    → lacks_capacity s (touched_cells r i (length words)) ≡ false → length words ≤ s.heap.durable.capacity → refusal_of_cells s.heap r i words ≡ None
+has_run_room s r i words plain room most =
+    let places : List ℕ = words_at s.heap.now (cells_from r i (length words)) in
+    not_full s.heap places (fits s.heap places (subst (λ ws. lacks_room s.heap ws ≡ false) (words_of_cells s.heap.now r i (length words) plain) room) few)
   where
-    few : length (run_at s.heap.now r i (length words)) ≤ s.heap.durable.capacity
-    few = let long = length-range_with_len (cell_address r i) (length words) in omega (arith, long, most)
+    few : length (words_at s.heap.now (cells_from r i (length words))) ≤ s.heap.durable.capacity
+    few =
+        let cells = words_at-plain s.heap.now (cells_from r i (length words)) (plain_cells s.heap.now r i (length words) plain) in
+        let words_long = length-map (cells_from r i (length words)) place_word in
+        let long = length-map (range_with_len i (length words)) (λ k. Cell r k) in
+        let count = length-range_with_len i (length words) in
+        omega (arith, ap (λ (l : List ℕ). length l) cells, words_long, long, count, most)
 
 pub run_rest : (event : Option ClearEvent) (reason : Option HeapRefusal) (s new : MemoryState) (r i : ℕ) (words : List ℕ) → event ≡ None →
     Completes (unless_refused (cell_refusal_in event reason) (Perform (cells_effect_in event r i words) (Finish (Done (tt {0}))))) s (Done (tt {0})) new
@@ -174,12 +199,12 @@ cut_applet None s new m n change.CommitFull none did = absurd (done_is_no_refusa
 cut_applet (Some why) s new m n e none cut = absurd (none-some why (sym none))
 
 -- a persistent object for which there is space and room is not refused
-pub object_allowed : (s : MemoryState) (o : NewObject) → o.event ≡ None → has_space s o.length ≡ true → lacks_capacity s (HeapEnd ∷ []) ≡ false
+pub object_allowed : (s : MemoryState) (o : NewObject) → o.event ≡ None → has_space s o.kind o.length ≡ true → lacks_capacity s (HeapEnd ∷ []) ≡ false
     → 1 ≤ s.heap.durable.capacity → creation_refusal s o ≡ None
 object_allowed s o persistent space room some =
-    let enough : s.heap.now.top + object_size o.length ≤ limit s.heap = leb-true (s.heap.now.top + object_size o.length) (limit s.heap) space in
+    let enough : s.heap.now.top + object_size o.kind o.length ≤ limit s.heap = leb-true (s.heap.now.top + object_size o.kind o.length) (limit s.heap) space in
     ap (λ (event : Option ClearEvent). creation_refusal_in event s o) persistent
-    ∙ object_fits s.heap (object_size o.length) (end_address ∷ []) (λ lacks. omega (arith, lacks, enough))
+    ∙ object_fits s.heap (object_size o.kind o.length) (end_address ∷ []) (λ lacks. omega (arith, lacks, enough))
     (fits s.heap (end_address ∷ []) room some)
 
 abbrev made_so : {A : Type 0} → Option ClearEvent → NewObject → (ℕ → A) → Program A
@@ -197,21 +222,24 @@ cut_object None (Some why) s new o e kept none cut = absurd (none-some why (sym 
 cut_object (Some event) reason s new o e kept none cut = absurd (none-some event (sym kept))
 
 -- the room that it leaves
-left_one : (event : Option ClearEvent) (s new : MemoryState) (o : NewObject) (x : ℕ) (more : List Touch) → event ≡ None
+left_one : (event : Option ClearEvent) (s new : MemoryState) (o : NewObject) (x : ℕ) (more : List Touch) → event ≡ None → StayPut s o.kind more
     → Completes (made_so event o (λ r. Done r)) s (Done x) new → lacks_capacity s (HeapEnd ∷ more) ≡ false → lacks_capacity new (map (once_made x) more) ≡ false
-left_one None s new o x more none did room =
+left_one None s new o x more none put did room =
     let same : x ≡ did.0 = cc (did.2.0) in
     let made : Object = new_object o.kind o.class (owner_number o.owner) o.length in
-    let h : HeapState = add_object s.heap.now made (object_size o.length) in
-    let v : HeapView = heap_after_change s.heap h (end_address ∷ []) (object_size o.length) in
+    let h : HeapState = add_object s.heap.now made (object_size o.kind o.length) in
+    let v : HeapView = heap_after_change s.heap h (end_address ∷ []) (object_size o.kind o.length) in
     let is : new.heap ≡ v = ap (λ (m : MemoryState). m.heap) did.2.1 in
+    let now : new.heap.now ≡ h = ap (λ (u : HeapView). u.now) is in
+    let there = made_one None s new o x none did in
     subst (λ (u : HeapView). lacks_room u (touch_words u.now (map (once_made x) more)) ≡ false) (sym is)
-    (subst (λ ws. lacks_room v ws ≡ false) (sym (words_once_made s.heap.now h x (same ∙ did.1.chosen) more))
-    (view_left s.heap h (end_address ∷ []) (object_size o.length) (touch_words s.heap.now more) room))
-left_one (Some event) s new o x more none did room = absurd (none-some event (sym none))
+    (subst (λ ws. lacks_room v ws ≡ false) (sym (words_once_made s h made o.kind x (same ∙ did.1.chosen)
+    (ap (λ (k : HeapState). heap_item_at k x) (sym now) ∙ there.0) refl (subst (KeepsObjects s.heap.now) now there.1) more put))
+    (view_left s.heap h (end_address ∷ []) (object_size o.kind o.length) (touch_words s.heap.now more) room))
+left_one (Some event) s new o x more none put did room = absurd (none-some event (sym none))
 
-pub object_left : (reason : Option HeapRefusal) (s new : MemoryState) (o : NewObject) (x : ℕ) (more : List Touch) → o.event ≡ None →
+pub object_left : (reason : Option HeapRefusal) (s new : MemoryState) (o : NewObject) (x : ℕ) (more : List Touch) → o.event ≡ None → StayPut s o.kind more →
     Completes (unless_refused reason (made_so o.event o (λ r. Done r))) s (Done x) new → lacks_capacity s (HeapEnd ∷ more) ≡ false
     → lacks_capacity new (map (once_made x) more) ≡ false
-object_left None s new o x more none did room = left_one o.event s new o x more none did room
-object_left (Some why) s new o x more none did room = absurd (done_is_no_refusal (Done x) x why refl (sym did.0))
+object_left None s new o x more none put did room = left_one o.event s new o x more none put did room
+object_left (Some why) s new o x more none put did room = absurd (done_is_no_refusal (Done x) x why refl (sym did.0))

@@ -16,7 +16,7 @@ creation_move (Some event) o = AddTransient o.kind event o.class (owner_number o
 
 -- why it can't be made
 abbrev pub creation_refusal_in : Option ClearEvent → MemoryState → NewObject → Option HeapRefusal
-creation_refusal_in None s o = no_persistent s.heap o.length
+creation_refusal_in None s o = no_persistent s.heap o.kind o.length
 creation_refusal_in (Some event) s o = refusal_of_transient s.heap event o.length
 
 -- why an object can't be made: no space in its event's area, no space in the heap, no room in the transaction

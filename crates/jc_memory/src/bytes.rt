@@ -1,25 +1,14 @@
 //! Runs of cells.
-ghost use Rattle.std.specs.Prelude.{◌≡◌, ◌+◌, ◌≤◌, false, length, take};
+ghost use Rattle.std.specs.Prelude.{◌≡◌, ◌+◌, ◌≤◌, false, length};
 ghost use Rattle.jc_heap.specs.Heap.{IsObject, facts};
 ghost use Rattle.jc_memory.specs.Programs.{Executes};
 ghost use Rattle.jc_heap.specs.Completions.{after_change};
 ghost use Rattle.jc_memory.specs.Cells.{bytes_at, words_at, cells_store, MayHaveAll};
 
-use crate::memory::{MOST_COMMAND, Memory};
-use jc_heap::ChangeRefusal;
+use crate::memory::Memory;
+use jc_heap::{ChangeRefusal, Elements};
 use jc_transient::Ref;
 use jc_words::WordStore;
-
-// Bytes as words.
-#[inline(always)]
-fn widen(words: &mut [u16], bytes: &[u8])
-    requires { length bytes.now ≤ length words.old }
-    ensures { take (length bytes.now) words.new ≡ bytes.now }
-{
-    for (k, byte) in bytes.iter().enumerate() {
-        words[k] = u16::from(*byte);
-    }
-}
 
 impl<S: WordStore> Memory<S> {
     /// Reads bytes of an object from an index on.
@@ -60,7 +49,7 @@ impl<S: WordStore> Memory<S> {
     {
         let facts = self.facts(object);
         match facts.event {
-            None => self.heap.set_run(object, i, words),
+            None => self.heap.set_run(object, i, Elements::Words(words)),
             Some(event) => {
                 self.ram.put_words(event, facts.place + i, words);
                 Ok(())
@@ -68,23 +57,18 @@ impl<S: WordStore> Memory<S> {
         }
     }
 
-    /// The same for bytes, at most as many as a command has.
+    /// The same for bytes.
     pub fn set_bytes(&mut self, object: Ref, i: u16, bytes: &[u8]) -> Result<(), ChangeRefusal>
         requires up { self.old.heap.down ≡ false }
         requires there { IsObject self.old.heap.now object }
         requires cells { i + length bytes.now ≤ (facts self.old.heap.now object).length }
         requires values { MayHaveAll self.old object bytes.now }
-        requires few { length bytes.now ≤ MOST_COMMAND }
         ensures { Executes (cells_store self.old object i bytes.now) self.old
             (after_change result self.new) }
     {
         let facts = self.facts(object);
         match facts.event {
-            None => {
-                let mut words = [0; MOST_COMMAND];
-                widen(&mut words, bytes);
-                self.set_run(object, i, &words[..bytes.len()])
-            }
+            None => self.heap.set_run(object, i, Elements::Bytes(bytes)),
             Some(event) => {
                 self.ram.put_bytes(event, facts.place + i, bytes);
                 Ok(())

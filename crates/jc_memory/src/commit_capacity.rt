@@ -2,10 +2,10 @@
 
 ghost use Rattle.std.specs.Prelude.{◌≡◌, ◌+◌, ◌<◌, ◌≤◌, false, true, None, List, [], ◌∷◌, ◌++◌, All, map, length, IfOk, OnOk};
 ghost use Rattle.jc_commit.specs.Image.{least_capacity};
-ghost use Rattle.jc_heap.specs.Object.{AnObject, new_object};
+ghost use Rattle.jc_heap.specs.Object.{AnObject, new_object, is_packed};
 ghost use Rattle.jc_heap.specs.Heap.{heap_item_at, facts, IsObject};
 ghost use Rattle.jc_heap.specs.Keeping.{AreLegalValues};
-ghost use Rattle.jc_heap.specs.Places.{AreThere, AreApart, places_of, applet_places};
+ghost use Rattle.jc_heap.specs.Places.{AreThere, AreApart, ArePlain, places_of, applet_places};
 ghost use Rattle.jc_heap.specs.declared.touch.Touch.{Touch};
 ghost use Rattle.jc_heap.specs.declared.touch.Touch.TheVariants.{HeapEnd};
 ghost use Rattle.jc_heap.specs.Touches.{CanTouch, touched_places, touched_cells, once_made};
@@ -15,19 +15,19 @@ ghost use Rattle.jc_memory.specs.Owners.{owner_number};
 ghost use Rattle.jc_memory.specs.Programs.{Executes, Finish};
 ghost use Rattle.jc_heap.specs.Completions.{after_step};
 ghost use Rattle.jc_memory.specs.Making.{object_creation};
-ghost use Rattle.jc_memory.specs.Room.{has_space, lacks_capacity, applet_registration, cells_update, places_update, KeepsObjects, KeepsRest};
+ghost use Rattle.jc_memory.specs.Room.{has_space, lacks_capacity, applet_registration, cells_update, places_update, KeepsObjects, KeepsRest, StayPut};
 
 use crate::{Memory, NewObject};
-use jc_heap::{AppletEntry, PlaceChanges, Touch};
+use jc_heap::{AppletEntry, Kind, Place, Touch};
 use jc_transient::Ref;
 use jc_words::{StoreDown, WordStore};
 
-/// Whether there is space for a persistent object with so many cells.
-pub fn has_space<S: WordStore>(memory: &Memory<S>, cells: u16) -> bool
+/// Whether there is space for a new persistent object of a kind, with so many cells.
+pub fn has_space<S: WordStore>(memory: &Memory<S>, kind: Kind, cells: u16) -> bool
     requires up { memory.now.heap.down ≡ false }
-    ensures { result ≡ has_space memory.now cells }
+    ensures { result ≡ has_space memory.now kind cells }
 {
-    memory.heap().has_space(cells)
+    memory.heap().has_space(kind, cells)
 }
 
 /// Whether the open transaction has no room for changes of these words. Outside a transaction there is room for each change.
@@ -46,7 +46,7 @@ pub fn make_within_capacity<S: WordStore>(
 ) -> Result<Ref, StoreDown>
     requires up { memory.old.heap.down ≡ false }
     requires persistent { object.event ≡ None }
-    requires space { has_space memory.old object.length ≡ true }
+    requires space { has_space memory.old object.kind object.length ≡ true }
     requires room { lacks_capacity memory.old (HeapEnd ∷ []) ≡ false }
     ensures made { Executes (object_creation object Finish) memory.old
         (after_step result memory.new) }
@@ -55,7 +55,7 @@ pub fn make_within_capacity<S: WordStore>(
         (owner_number object.owner) object.length)) }
     ensures kept { OnOk result (KeepsObjects memory.old.heap.now memory.new.heap.now) }
     ensures rest { OnOk result (KeepsRest memory.old memory.new) }
-    ensures left { IfOk result (λ r. (more : List Touch)
+    ensures left { IfOk result (λ r. (more : List Touch) → StayPut memory.old object.kind more
         → lacks_capacity memory.old (HeapEnd ∷ more) ≡ false
         → lacks_capacity memory.new (map (once_made r) more) ≡ false) }
     ensures up { OnOk result (memory.new.heap.down ≡ false) }
@@ -67,22 +67,22 @@ pub fn make_within_capacity<S: WordStore>(
     }
 }
 
-/// Sets places as one change, for which there is room.
-pub fn write_within_capacity<S: WordStore, P: PlaceChanges>(
+/// Sets places that have words of their own as one change, for which there is room.
+pub fn write_within_capacity<S: WordStore>(
     memory: &mut Memory<S>,
-    changes: &P,
+    changes: &[(Place, u16)],
 ) -> Result<(), StoreDown>
     requires up { memory.old.heap.down ≡ false }
-    requires there { AreThere memory.old.heap.now (P.changes changes.now) }
-    requires apart { AreApart (places_of (P.changes changes.now)) }
-    requires references { AreLegalValues memory.old.heap.now (P.changes changes.now) }
-    requires few { length (P.changes changes.now) ≤ least_capacity }
-    requires room { lacks_capacity memory.old
-        (touched_places (places_of (P.changes changes.now))) ≡ false }
-    ensures made { Executes (places_update (P.changes changes.now)) memory.old
+    requires there { AreThere memory.old.heap.now changes.now }
+    requires plain { ArePlain memory.old.heap.now (places_of changes.now) }
+    requires apart { AreApart (places_of changes.now) }
+    requires references { AreLegalValues memory.old.heap.now changes.now }
+    requires few { length changes.now ≤ least_capacity }
+    requires room { lacks_capacity memory.old (touched_places (places_of changes.now)) ≡ false }
+    ensures made { Executes (places_update changes.now) memory.old
         (after_step result memory.new) }
     ensures left { OnOk result ((more : List Touch)
-        → lacks_capacity memory.old (touched_places (places_of (P.changes changes.now)) ++ more)
+        → lacks_capacity memory.old (touched_places (places_of changes.now) ++ more)
         ≡ false → lacks_capacity memory.new more ≡ false) }
 {
     let _ = memory.commit_capacity(); // so that the proof knows: a transaction can keep as many as the least
@@ -92,7 +92,7 @@ pub fn write_within_capacity<S: WordStore, P: PlaceChanges>(
     }
 }
 
-/// Sets cells of a persistent object as one change, for which there is room.
+/// Sets cells of a persistent object that have words of their own as one change, for which there is room.
 pub fn set_within_capacity<S: WordStore>(
     memory: &mut Memory<S>,
     object: Ref,
@@ -102,6 +102,7 @@ pub fn set_within_capacity<S: WordStore>(
     requires up { memory.old.heap.down ≡ false }
     requires there { IsObject memory.old.heap.now object }
     requires persistent { (facts memory.old.heap.now object).event ≡ None }
+    requires plain { is_packed (facts memory.old.heap.now object) ≡ false }
     requires cells { i + length words.now ≤ (facts memory.old.heap.now object).length }
     requires values { MayHaveAll memory.old object words.now }
     requires few { length words.now ≤ least_capacity }

@@ -1,10 +1,10 @@
 //! Transactions, and changes of places: for a while, several as one, and for good.
-ghost use Rattle.std.specs.Prelude.{◌≡◌, ◌<◌, ◌≤◌, false, true, length};
+ghost use Rattle.std.specs.Prelude.{◌≡◌, ◌<◌, ◌≤◌, ◌+◌, ◌++◌, false, true, length};
 ghost use Rattle.jc_commit.specs.Image.{least_capacity, most_capacity};
 ghost use Rattle.jc_heap.specs.declared.object.Kind.TheVariants.{Instance};
 ghost use Rattle.jc_heap.specs.Heap.{cells, facts};
 ghost use Rattle.jc_heap.specs.Keeping.{IsLegalValue, AreLegalValues};
-ghost use Rattle.jc_heap.specs.Places.{HasPlace, MayHold, AreThere, AreApart, places_of};
+ghost use Rattle.jc_heap.specs.Places.{HasPlace, MayHold, AreThere, AreApart, ArePlain, places_of, cell_changes};
 ghost use Rattle.jc_heap.specs.Moves.{Begin};
 ghost use Rattle.jc_memory.specs.State.{HeapMove, apply_effect};
 ghost use Rattle.jc_memory.specs.Programs.{Executes};
@@ -12,7 +12,7 @@ ghost use Rattle.jc_heap.specs.Completions.{after_change, after_step};
 ghost use Rattle.jc_memory.specs.Changing.{place_write, places_write, nonatomic_write, commit, abort};
 
 use crate::memory::Memory;
-use jc_heap::{ChangeRefusal, Place, PlaceChanges};
+use jc_heap::{ChangeRefusal, Elements, Place};
 use jc_transient::Ref;
 use jc_words::{StoreDown, WordStore};
 
@@ -61,16 +61,41 @@ impl<S: WordStore> Memory<S> {
         self.heap.write(place, v)
     }
 
-    /// Writes several places as one change: none, where the transaction has no room for all of them.
-    pub fn write_all<P: PlaceChanges>(&mut self, changes: &P) -> Result<(), ChangeRefusal>
+    /// Writes several places as one change: none, where the transaction has no room for all of them. Each has a word of
+    /// its own.
+    pub fn write_all(&mut self, changes: &[(Place, u16)]) -> Result<(), ChangeRefusal>
         requires up { self.old.heap.down ≡ false }
-        requires there { AreThere self.old.heap.now (P.changes changes.now) }
-        requires apart { AreApart (places_of (P.changes changes.now)) }
-        requires references { AreLegalValues self.old.heap.now (P.changes changes.now) }
-        ensures { Executes (places_write self.old (P.changes changes.now)) self.old
+        requires there { AreThere self.old.heap.now changes.now }
+        requires plain { ArePlain self.old.heap.now (places_of changes.now) }
+        requires apart { AreApart (places_of changes.now) }
+        requires references { AreLegalValues self.old.heap.now changes.now }
+        ensures { Executes (places_write self.old changes.now) self.old
             (after_change result self.new) }
     {
         self.heap.set_all(changes)
+    }
+
+    /// Sets cells of a persistent object to bytes from an index on, and places behind them that have words of their own,
+    /// as one change: none, where the transaction has no room for all of them.
+    pub fn write_bytes_and_places(
+        &mut self,
+        object: Ref,
+        i: u16,
+        bytes: &[u8],
+        places: &[(Place, u16)],
+    ) -> Result<(), ChangeRefusal>
+        requires up { self.old.heap.down ≡ false }
+        requires cells { i + length bytes.now ≤ length (cells self.old.heap.now object) }
+        requires there { AreThere self.old.heap.now places.now }
+        requires plain { ArePlain self.old.heap.now (places_of places.now) }
+        requires apart { AreApart (places_of (cell_changes object i bytes.now ++ places.now)) }
+        requires references { AreLegalValues self.old.heap.now
+            (cell_changes object i bytes.now ++ places.now) }
+        ensures { Executes (places_write self.old (cell_changes object i bytes.now ++ places.now))
+            self.old (after_change result self.new) }
+    {
+        self.heap
+            .set_run_and_places(object, i, Elements::Bytes(bytes), places)
     }
 
     /// Sets a counter of a persistent instance for good: no abort takes it back, unless an earlier change

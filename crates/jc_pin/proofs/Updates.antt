@@ -1,19 +1,19 @@
 -- An update is a change that the heap can make.
-use Rattle.std.proofs.Common.{◌≡◌, ℕ, ◌<◌, ◌≤◌, true, List, [], ◌∷◌, length, get_or, sym, ◌∙◌, ap, arith}
+use Rattle.std.proofs.Common.{◌≡◌, ℕ, ◌<◌, ◌≤◌, ◌&&◌, true, false, List, [], ◌∷◌, length, get_or, sym, ◌∙◌, ap, arith}
 use Rattle.std.proofs.lemmas.Bool.{true≢false}
 use Rattle.jc_heap.specs.declared.object.Kind.{Kind}
 use Rattle.jc_heap.specs.declared.object.Kind.TheVariants.{Instance, ByteArray, ReferenceArray}
 use Rattle.jc_heap.specs.declared.place.Place.{Place}
 use Rattle.jc_heap.specs.declared.place.Place.TheVariants.{Cell}
-use Rattle.jc_heap.specs.Object.{has_bytes}
-use Rattle.jc_heap.specs.Heap.{facts}
-use Rattle.jc_heap.specs.Places.{AreThere, AreApart, IsBeside, places_of}
+use Rattle.jc_heap.specs.Object.{has_bytes, is_packed}
+use Rattle.jc_heap.specs.Heap.{cells, facts}
+use Rattle.jc_heap.specs.Places.{AreThere, AreApart, ArePlain, IsBeside, places_of}
 use Rattle.jc_heap.specs.Keeping.{AreLegalValues}
 use Rattle.jc_memory.specs.State.{MemoryState}
 use Rattle.jc_memory.specs.Cells.{word_at}
 use Rattle.jc_pin.specs.Pins.{IsPersistentWith, IsPin, record_of}
 use Rattle.jc_pin.specs.Updating.{changes_of_update}
-use Rattle.jc_pin.proofs.Putting.{puts_there, puts_stand, puts_apart}
+use Rattle.jc_pin.proofs.Putting.{puts_stand, puts_apart}
 
 no_bytes : (k : Kind) → k ≡ Instance → has_bytes k ≡ true → ⊥
 no_bytes k is bytes = true≢false (sym bytes ∙ ap has_bytes is)
@@ -32,7 +32,7 @@ module _ (s : MemoryState) (r : ℕ) (pin : IsPin s r) where
   abbrev ends : ℕ → List (Place × ℕ)
   ends n = (Cell r 3, n) ∷ (Cell r 2, word_at s r 0) ∷ []
 
-  ends_there : (n : ℕ) → AreThere s.heap.now (ends n)
+  pub ends_there : (n : ℕ) → AreThere s.heap.now (ends n)
   ends_there n =
       let five = pin.itself.cells in
       (omega (arith, five), λ e. absurd (no_bytes _ pin.itself.kind e), (omega (arith, five), λ e. absurd (no_bytes _ pin.itself.kind e), tt))
@@ -55,13 +55,15 @@ module _ (s : MemoryState) (r : ℕ) (pin : IsPin s r) where
   room : (b : ℕ) (bs : List ℕ) → Within (b ∷ bs) → IsPersistentWith s ByteArray (word_at s r 1) (word_at s r 4)
   room b bs within = pin.value (omega (arith, within))
 
-  pub update_there : (bytes : List ℕ) → Within bytes → ((k : ℕ) → k < length bytes → get_or bytes k 0 < 256)
-      → AreThere s.heap.now (changes_of_update (record_of s r) r bytes)
-  update_there [] within small = ends_there 0
-  update_there (b ∷ bs) within small =
-      let array = room b bs within in
-      let cells = array.cells in
-      puts_there s.heap.now (word_at s r 4) array.kind (ends (length (b ∷ bs))) 0 (b ∷ bs) (omega (arith, within, cells)) small (ends_there (length (b ∷ bs)))
+  plain_instance : is_packed (facts s.heap.now r) ≡ false
+  plain_instance = ap (λ k. has_bytes k && (facts s.heap.now r).packed) pin.itself.kind
+
+  pub ends_plain : (n : ℕ) → ArePlain s.heap.now (places_of (ends n))
+  ends_plain n = (plain_instance, (plain_instance, tt))
+
+  pub update_cells : (bytes : List ℕ) → Within bytes → length bytes ≤ length (cells s.heap.now (word_at s r 4))
+  update_cells [] within = omega arith
+  update_cells (b ∷ bs) within = let array = room b bs within in omega (arith, within, array.cells)
 
   pub update_stands : (bytes : List ℕ) → Within bytes → AreLegalValues s.heap.now (changes_of_update (record_of s r) r bytes)
   update_stands [] within = ends_stand 0

@@ -32,6 +32,6 @@ touched_by_init r = HeapEnd ∷ touched_cells r limit_cell cell_count
 -- the array is made, then the cells are set as one change, and the flag is taken away; before, room is asked for all of it
 unfoldable pub pin_init : MemoryState → ℕ → ℕ → ℕ → Program (Result (Unit {0}) PinRefusal)
 pin_init s r limit maximum =
-    if not (has_space s maximum) then Finish (Err HeapFull) else (if lacks_capacity s (touched_by_init r) then Finish (Err CommitFull) else
+    if not (has_space s ByteArray maximum) then Finish (Err HeapFull) else (if lacks_capacity s (touched_by_init r) then Finish (Err CommitFull) else
     object_creation (value_array s maximum) (λ value. Perform (HeapMove (SetPlaces (first_record r limit maximum value)))
     (Perform (SetFlag r false) (Finish (Ok tt)))))

@@ -6,7 +6,7 @@ use Rattle.jc_heap.specs.declared.refusal.HeapRefusal.{HeapRefusal}
 use Rattle.jc_heap.specs.declared.refusal.ChangeRefusal.{ChangeRefusal}
 use Rattle.jc_heap.specs.declared.refusal.ChangeRefusal.TheVariants as change
 use Rattle.jc_heap.specs.Moves.{SetPlaces, refusal_of_places}
-use Rattle.jc_heap.specs.Places.{places_of}
+use Rattle.jc_heap.specs.Places.{places_of, cell_changes}
 use Rattle.jc_memory.specs.State.{MemoryState, HeapMove, SetFlag}
 use Rattle.jc_memory.specs.Programs.{Program, Finish, Perform, unless_else}
 use Rattle.jc_heap.specs.Completions.{Completion, Completed, Torn}
@@ -28,14 +28,9 @@ after_pin (Err CommitFull) s = Completed (Err CommitFull) s
 after_pin (Err IllegalValue) s = Completed (Err IllegalValue) s
 after_pin (Err HeapFull) s = Completed (Err HeapFull) s
 
--- these bytes stand in an array from an index on
-abbrev pub byte_changes : ℕ → ℕ → List ℕ → List (Place × ℕ)
-byte_changes array i [] = []
-byte_changes array i (b ∷ bs) = (Cell array i, b) ∷ byte_changes array (suc i) bs
-
 -- the change that an update is: the value, its length, and all tries
 abbrev pub changes_of_update : PinRecord → ℕ → List ℕ → List (Place × ℕ)
-changes_of_update pin r bytes = byte_changes pin.value 0 bytes ++ (Cell r length_cell, length bytes) ∷ (counter r, pin.limit) ∷ []
+changes_of_update pin r bytes = cell_changes pin.value 0 bytes ++ (Cell r length_cell, length bytes) ∷ (counter r, pin.limit) ∷ []
 
 -- this, unless the transaction has no room for the change
 abbrev pub unless_no_room : {A : Type 0} → Option HeapRefusal → Program (Result A PinRefusal) → Program (Result A PinRefusal)

@@ -71,7 +71,7 @@ pub fn init<S: WordStore>(
     ensures { Executes (pin_init memory.old pin limit maximum) memory.old
         (after_pin result memory.new) }
 {
-    if !has_space(memory, maximum) {
+    if !has_space(memory, Kind::ByteArray, maximum) {
         return Err(PinRefusal::HeapFull);
     }
     if lacks_capacity(memory, &touched_by_init(pin)) {

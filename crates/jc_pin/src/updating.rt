@@ -6,12 +6,11 @@ ghost use Rattle.jc_memory.specs.Changing.{places_write};
 ghost use Rattle.jc_pin.specs.Pins.{IsPin, record_of};
 ghost use Rattle.jc_pin.specs.Updating.{after_pin, changes_of_update, pin_update};
 
-use crate::pin::{COUNTER, LENGTH, PinRecord, record};
-use jc_heap::{ChangeRefusal, Place, PlaceChanges};
+use crate::pin::{COUNTER, LENGTH, record};
+use jc_heap::{ChangeRefusal, Place};
 use jc_memory::Memory;
 use jc_transient::Ref;
 use jc_words::{StoreDown, WordStore};
-use std::marker::Model;
 
 /// Why a PIN is not changed.
 #[derive(Clone, Copy, Debug, PartialEq, Eq)]
@@ -51,57 +50,6 @@ impl From<StoreDown> for PinRefusal {
     }
 }
 
-// What an update changes: the bytes of the value, its length and the tries.
-#[derive(Drop)]
-struct NewValue<'a> {
-    pin: Ref,
-    kept: PinRecord,
-    bytes: &'a [u8],
-}
-
-impl<'a> Model for NewValue<'a> {
-    ghost use Rattle.std.specs.Prelude.{List, ℕ, length, ◌<◌};
-    ghost use Rattle.jc_heap.specs.declared.place.Place.{Place};
-    ghost use Rattle.jc_pin.specs.Updating.{changes_of_update};
-
-    ghost Value = { List (Place × ℕ) };
-
-    ghost view = { λ u. changes_of_update u.kept u.pin u.bytes.now };
-
-    ghost invariant = { λ u. length u.bytes.now < 65536 };
-}
-
-impl<'a> NewValue<'a> {
-    fn new(pin: Ref, kept: PinRecord, bytes: &'a [u8]) -> Self
-        requires { length bytes.now < 65536 }
-        ensures { result ≡ changes_of_update kept pin bytes.now }
-    {
-        NewValue { pin, kept, bytes }
-    }
-}
-
-impl<'a> PlaceChanges for NewValue<'a> {
-    ghost changes = { λ places. places };
-
-    fn count(&self) -> usize {
-        self.bytes.len() + 2
-    }
-
-    fn change(&self, k: usize) -> (Place, u16) {
-        let count = self.bytes.len();
-        if k < count {
-            return (
-                Place::Cell(self.kept.value, k as u16),
-                u16::from(self.bytes[k]),
-            );
-        }
-        if k == count {
-            return (Place::Cell(self.pin, LENGTH), count as u16);
-        }
-        (Place::Cell(self.pin, COUNTER), self.kept.limit)
-    }
-}
-
 // Sets the value, its length and all tries as one change.
 fn set_value<S: WordStore>(
     memory: &mut Memory<S>,
@@ -115,8 +63,12 @@ fn set_value<S: WordStore>(
     ensures { Executes (places_write memory.old (changes_of_update
         (record_of memory.old pin) pin bytes.now)) memory.old (after_change result memory.new) }
 {
-    let change = NewValue::new(pin, record(memory, pin), bytes);
-    memory.write_all(&change)
+    let kept = record(memory, pin);
+    let rest = [
+        (Place::Cell(pin, LENGTH), bytes.len() as u16),
+        (Place::Cell(pin, COUNTER), kept.limit),
+    ];
+    memory.write_bytes_and_places(kept.value, 0, bytes, &rest)
 }
 
 /// Gives a PIN another value, by one change with the length and all tries, and takes the flag away, which no abort

@@ -1,5 +1,5 @@
 //! Sessions.
-ghost use Rattle.std.specs.Prelude.{◌≡◌, IfOk};
+ghost use Rattle.std.specs.Prelude.{◌≡◌, ◌<◌, length, Err, IfOk};
 ghost use Rattle.jc_session.specs.Sessions.{SessionEnds, answers_of};
 ghost use Rattle.jc_session.specs.WholeCopies.{IsWholeSession, RefusesNone};
 
@@ -13,7 +13,7 @@ use thiserror::Error;
 /// Why a session was not carried out to its end.
 #[derive(Clone, Copy, Debug, PartialEq, Eq, Error, Drop)]
 pub enum SessionFault {
-    /// There is no memory for the answers. Nothing was done.
+    /// There is no memory for the answers, of which there is one at least. Nothing was done.
     #[error("there is no memory for the answers")]
     NoMemory,
     /// The card does not power up, at the beginning or at a reset, and not because the store refused a write.
@@ -37,6 +37,7 @@ pub fn session<S: WordStore>(
           passed = S.passed result.0;
           refusals = S.refusals result.0;
         }) }
+    ensures memory { result.1 ≡ Err SessionFault.NoMemory → 0 < length events.now }
     // While the store refuses no write, the answers and the heap are those of a card that keeps whole copies of its heap.
     ensures whole { RefusesNone (S.refusals store).count (S.refusals result.0).count
         → IfOk (answers_of result.1) (λ answers.

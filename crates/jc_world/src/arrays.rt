@@ -12,7 +12,7 @@ use jc_firewall::access::Access;
 use jc_frames::{Exception, FrameExit, Outcome};
 use jc_heap::{ChangeRefusal, Facts, Kind};
 use jc_linker::linked::Linked;
-use jc_memory::{MOST_COMMAND, Memory};
+use jc_memory::Memory;
 use jc_transient::Ref;
 use jc_words::WordStore;
 
@@ -100,7 +100,6 @@ pub fn elements<S: WordStore>(
 }
 
 /// Sets elements of an array of bytes, as one change: refused, where the transaction has no room for it.
-/// They are at most as many bytes as a command has.
 #[inline(always)]
 pub fn put<S: WordStore>(
     memory: &mut Memory<S>,
@@ -110,7 +109,6 @@ pub fn put<S: WordStore>(
     requires up { memory.old.heap.down ≡ false }
     requires there { IsInArray memory.old to }
     requires all { length bytes.now ≡ to.count }
-    requires few { length bytes.now ≤ MOST_COMMAND }
     ensures { Executes (cells_store memory.old to.array to.start bytes.now) memory.old
         (after_change result memory.new) }
 {

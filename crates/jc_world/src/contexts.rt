@@ -241,6 +241,7 @@ fn judgement<S: WordStore>(
           owner = owner;
           length = 0;
           place = 0;
+          packed = false;
         }) }
 {
     let facts = Facts::new(kind, event, class, owner, 0, 0);

@@ -8,3 +8,5 @@ pub mod OptionLines
 pub mod RunLines
 pub mod Runs
 pub mod Stores
+pub mod TearLines
+pub mod Tears

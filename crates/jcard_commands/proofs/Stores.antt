@@ -3,7 +3,7 @@ use Rattle.std.proofs.Common.{◌≡◌, ◌∙◌, ◌⊎◌, ℕ, Bool, true, 
 use Rattle.std.specs.Prelude.{◌<◌, ◌≤◌, ◌+◌, ◌≢◌, length, replicate, slice_index}
 use Rattle.jc_words.specs.Layout.{least_size, magic, magic_address}
 use Rattle.jc_words.specs.Refusals.{Refusals, no_refusals}
-use Rattle.jc_words.specs.Stores.{FuseStoreValue}
+use Rattle.jc_words.specs.Stores.{FuseStoreValue, StoreValue}
 use Rattle.jc_image.specs.Laying.{first_free}
 use Rattle.jc_platform.specs.Table.{Reads}
 use Rattle.jc_platform.specs.declared.fault.TableFault.TheVariants.{BadTable as BadLine}
@@ -11,7 +11,7 @@ use Rattle.jc_platform.proofs.OneAnswer.{no_fault}
 use Rattle.jc_card.specs.Fixed.{fixed_size}
 use Rattle.jc_card.specs.declared.formatting.FormatFault.{FormatFault}
 use Rattle.jc_card.specs.declared.formatting.FormatFault.TheVariants.{StoreDown, BadSize, BadTable, TooSmall}
-use Rattle.jcard_commands.specs.FileDeeds.{fresh_store}
+use Rattle.jcard_commands.specs.FileDeeds.{fresh_store, untouched}
 use Rattle.jcard_commands.specs.Faults.{IsTriedOn}
 use Rattle.jcard_commands.specs.NewImages.{IsFormatFault, IsLaid, IsNewImageInMemory, IsTable}
 use Rattle.jcard_commands.specs.declared.fault.Fault.{Fault}
@@ -28,19 +28,28 @@ under_fuse w down passed refusals = record {
   passed_below = passed;
 }
 
+-- a store with these counts
+abbrev pub stored : List ℕ → Bool → ℕ → Refusals → StoreValue
+stored w down passed refusals = record { words = w; down = down; passed = passed; refused = refusals.count }
+
 -- one that was just opened
 pub fresh_under_fuse : (w : List ℕ) (down : Bool) (passed : ℕ) (refusals : Refusals) → down ≡ false → passed ≡ 0
     → refusals ≡ no_refusals → under_fuse w down passed refusals ≡ fresh_store w
 fresh_under_fuse w down passed refusals d p r = λ i. under_fuse w (d i) (p i) (r i)
 
+-- any store that was just opened
+pub fresh_untouched : (w : List ℕ) (down : Bool) (passed : ℕ) (refusals : Refusals) → down ≡ false → passed ≡ 0
+    → refusals ≡ no_refusals → stored w down passed refusals ≡ untouched w
+fresh_untouched w down passed refusals d p r = λ i. stored w (d i) (p i) (r i)
+
 -- a format that ended by a fault
-pub laid_with : (image : List ℕ) (n : ℕ) (text : List ℕ) (made : Result (Unit {0}) FormatFault) (cause : FormatFault) (fault : Fault) (after : FuseStoreValue)
+pub laid_with : (image : List ℕ) (n : ℕ) (text : List ℕ) (made : Result (Unit {0}) FormatFault) (cause : FormatFault) (fault : Fault) (after : StoreValue)
     → made ≡ Err cause → IsTable text → least_size ≤ n
     → (made ≡ Err BadSize → n < least_size)
     → ((line : ℕ) → made ≡ Err (BadTable line) → Reads text (Err (BadLine line)))
     → (made ≡ Err TooSmall → n < first_free (length text) + fixed_size)
-    → ((made ≡ Err StoreDown → ⊥) → after ≡ fresh_store (replicate n 0))
-    → (made ≡ Err StoreDown → (after.refusals.faults ≡ 1) × (after.down ≡ true)
+    → ((made ≡ Err StoreDown → ⊥) → after ≡ untouched (replicate n 0))
+    → (made ≡ Err StoreDown → (after.down ≡ true) × (after.refused ≡ 1)
     × ((after.words ≡ replicate n 0) ⊎ (slice_index after.words magic_address ≢ magic)))
     → IsFormatFault image cause fault → IsLaid image n text (Err fault) after
 laid_with image n text made StoreDown fault after is table enough size line small kept stopped told =

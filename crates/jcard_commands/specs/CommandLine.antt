@@ -2,10 +2,11 @@
 use Rattle.std.specs.Prelude.{◌≡◌, ◌==◌, ◌&&◌, Bool, true, false, is_some, List, [], ◌∷◌, codes, Option, Some, None, if◌then◌else◌, option_map, option_and_then}
 use Rattle.std.specs.Prelude.{slice_get, Result, Ok, Err}
 use Rattle.std.specs.Str.{bytes_eq, chars}
+use Rattle.std.specs.Borrow.{Bor}
 use Rattle.clap.specs.Words.{App, Kinds, Row, Rule, Text, fault_of, first_of, new_app, new_rule, subcommand_of, with_rule, with_subcommand}
 use Rattle.clap.specs.declared.builder.action.ArgAction.TheVariants.{Set}
 use Rattle.jcard_commands.specs.declared.arguments.Action.{Action}
-use Rattle.jcard_commands.specs.declared.arguments.Action.TheVariants.{New, Run, Dump, Try}
+use Rattle.jcard_commands.specs.declared.arguments.Action.TheVariants.{New, Run, Dump, Try, Tear}
 use Rattle.jcard_commands.specs.declared.fault.Fault.{Fault}
 use Rattle.jcard_commands.specs.declared.fault.Fault.TheVariants.{BadCommandLine, NoMemory}
 
@@ -19,6 +20,9 @@ pub data CommandLineRequest : Type 0 where
   ToTell : Text → CommandLineRequest
   -- the script of this name is carried out, on a new card in memory of so many words, with the platform table of this name
   ToTry : Text → Text → Text → CommandLineRequest
+  -- a command of the script of the second name is cut, over the words of the image of the first: the last one, or that in the line
+  -- of this number; behind each cut the lines of the probe of this name, if there is one
+  ToTear : Text → Text → Option Text → Option Text → CommandLineRequest
 
 -- ---- the grammar
 
@@ -50,10 +54,15 @@ dump_grammar = with_rule (new_app (codes "dump")) (operand (codes "image"))
 abbrev pub try_grammar : App
 try_grammar = with_rule (with_rule (with_rule (new_app (codes "try")) (operand (codes "script"))) (given_option (codes "table"))) (free_option (codes "words"))
 
+-- `tear IMAGE SCRIPT [--probe FILE] [--line N]`
+abbrev pub tear_grammar : App
+tear_grammar = with_rule (with_rule (with_rule (with_rule (new_app (codes "tear")) (operand (codes "image"))) (operand (codes "script")))
+    (free_option (codes "probe"))) (free_option (codes "line"))
+
 -- the program's name and one of its commands
 abbrev pub program_grammar : App
-program_grammar = with_subcommand (with_subcommand (with_subcommand (with_subcommand (new_app (codes "jcard"))
-    new_grammar.top) run_grammar.top) dump_grammar.top) try_grammar.top
+program_grammar = with_subcommand (with_subcommand (with_subcommand (with_subcommand (with_subcommand (new_app (codes "jcard"))
+    new_grammar.top) run_grammar.top) dump_grammar.top) try_grammar.top) tear_grammar.top
 
 -- ---- what the words are taken for
 
@@ -77,6 +86,11 @@ abbrev pub try_by : Option Text → Option Text → Option Text → Option Comma
 try_by (Some script) (Some table) words = Some (ToTry script (tried_words words) table)
 try_by script table words = None
 
+-- what `tear` asks for, with these operands and options
+abbrev pub tear_by : Option Text → Option Text → Option Text → Option Text → Option CommandLineRequest
+tear_by (Some image) (Some script) probe line = Some (ToTear image script probe line)
+tear_by image script probe line = None
+
 -- the same, with these values of all operands and options
 abbrev pub new_of : List Row → Option CommandLineRequest
 new_of rows = new_by (first_of (codes "image") rows) (first_of (codes "words") rows) (first_of (codes "table") rows)
@@ -87,6 +101,9 @@ run_of rows = run_by (first_of (codes "image") rows) (first_of (codes "script") 
 abbrev pub try_of : List Row → Option CommandLineRequest
 try_of rows = try_by (first_of (codes "script") rows) (first_of (codes "table") rows) (first_of (codes "words") rows)
 
+abbrev pub tear_of : List Row → Option CommandLineRequest
+tear_of rows = tear_by (first_of (codes "image") rows) (first_of (codes "script") rows) (first_of (codes "probe") rows) (first_of (codes "line") rows)
+
 abbrev pub dump_of : List Row → Option CommandLineRequest
 dump_of rows = option_map ToTell (first_of (codes "image") rows)
 
@@ -96,7 +113,8 @@ request_of named =
     if bytes_eq named.0 (codes "new") then new_of named.1
     else (if bytes_eq named.0 (codes "run") then run_of named.1
     else (if bytes_eq named.0 (codes "dump") then dump_of named.1
-    else (if bytes_eq named.0 (codes "try") then try_of named.1 else None)))
+    else (if bytes_eq named.0 (codes "try") then try_of named.1
+    else (if bytes_eq named.0 (codes "tear") then tear_of named.1 else None))))
 
 -- nothing where the words are refused for a cause
 abbrev pub unless_faulty : Kinds → Option CommandLineRequest → Option CommandLineRequest
@@ -135,6 +153,16 @@ TakesTries = (name script words table : Text) → IsNoFlag script → IsNoFlag w
     × (request_of_words (name ∷ codes "try" ∷ script ∷ codes "--table" ∷ table ∷ codes "--words" ∷ words ∷ []) ≡ Some (ToTry script words table))
     × (request_of_words (name ∷ codes "try" ∷ script ∷ codes "--words" ∷ words ∷ codes "--table" ∷ table ∷ []) ≡ Some (ToTry script words table))
 
+-- `NAME tear IMAGE SCRIPT` asks to cut the last command of exactly this script over this image; with `--probe FILE`, `--line N` or both,
+-- in this order, with this probe, and the command in this line
+abbrev pub TakesTears : Type 0
+TakesTears = (name image script probe line : Text) → IsNoFlag image → IsNoFlag script → IsNoFlag probe → IsNoFlag line
+    → (request_of_words (name ∷ codes "tear" ∷ image ∷ script ∷ []) ≡ Some (ToTear image script None None))
+    × (request_of_words (name ∷ codes "tear" ∷ image ∷ script ∷ codes "--probe" ∷ probe ∷ []) ≡ Some (ToTear image script (Some probe) None))
+    × (request_of_words (name ∷ codes "tear" ∷ image ∷ script ∷ codes "--line" ∷ line ∷ []) ≡ Some (ToTear image script None (Some line)))
+    × (request_of_words (name ∷ codes "tear" ∷ image ∷ script ∷ codes "--probe" ∷ probe ∷ codes "--line" ∷ line ∷ [])
+    ≡ Some (ToTear image script (Some probe) (Some line)))
+
 -- ---- every line of a command
 
 -- a hyphen and a character after it
@@ -168,6 +196,7 @@ request_by (New image words table) = ToMake image.now words.now table.now
 request_by (Run image script) = ToRun image.now script.now
 request_by (Dump image) = ToTell image.now
 request_by (Try script words table) = ToTry script.now words.now table.now
+request_by (Tear image script probe line) = ToTear image.now script.now (option_map (λ (t : Bor Text). t.now) probe) (option_map (λ (t : Bor Text). t.now) line)
 
 -- the action is the one that is asked for; the command line is bad only where nothing is; else memory was refused
 abbrev pub IsTakenAs : Option CommandLineRequest → Result Action Fault → Type 0

@@ -6,7 +6,7 @@ use Rattle.jc_card.specs.Inventory.{inventory_of}
 use Rattle.jc_card.specs.PowerUp.{HasHead, PowerUpRefuses, fault_of}
 use Rattle.jc_card.specs.declared.inventory.Inventory.{Inventory}
 use Rattle.jcard_script.specs.Texts.{IsCutOf}
-use Rattle.jcard_commands.specs.FileDeeds.{FileDeed, ClosesImage, ReadsImage, fresh_store}
+use Rattle.jcard_commands.specs.FileDeeds.{FileDeed, ClosesImage, ReadsImage, untouched}
 use Rattle.jcard_commands.specs.Images.{IsNotOpened, damage_of}
 use Rattle.jcard_commands.specs.Listings.{Lines, count_line, line, listing_of, then_lines}
 use Rattle.jcard_commands.specs.declared.listing.ListingFault.{ListingFault}
@@ -47,4 +47,4 @@ IsTold w (Err other) text = ⊥
 abbrev pub IsDump : List ℕ → Result Unit Fault → List ℕ → List FileDeed → Type 0
 IsDump image ended text deeds =
     ((fault : Fault) × (ended ≡ Err fault) × IsNotOpened image fault × (text ≡ []) × (deeds ≡ ReadsImage image None ∷ []))
-    ⊎ ((w : List ℕ) × IsImageSize (2 * length w) × IsTold w ended text × (deeds ≡ ReadsImage image (Some w) ∷ ClosesImage image (fresh_store w) ∷ []))
+    ⊎ ((w : List ℕ) × IsImageSize (2 * length w) × IsTold w ended text × (deeds ≡ ReadsImage image (Some w) ∷ ClosesImage image (untouched w) ∷ []))

@@ -5,7 +5,7 @@ use Rattle.std.specs.Bool.{OnTrue}
 use Rattle.std.specs.Io.KnownBytes.{Consumes}
 use Rattle.std.specs.Borrow.{Bor}
 use Rattle.jc_words.specs.Files.{IsImageSize}
-use Rattle.jc_words.specs.Stores.{FuseStoreValue}
+use Rattle.jc_words.specs.Stores.{FuseStoreValue, below_fuse}
 use Rattle.jc_words.specs.Count.{failures_after}
 use Rattle.jc_image.specs.Laying.{first_free}
 use Rattle.jc_platform.specs.Table.{Reads}
@@ -18,16 +18,18 @@ use Rattle.jcard_script.specs.declared.script.ScriptFault.TheVariants.{ReadFaile
 use Rattle.jcard_script.specs.declared.script.ScriptFault.TheVariants.{PowerFault as NotPoweredUp}
 use Rattle.jc_card.specs.declared.power_up.PowerFault.{PowerFault}
 use Rattle.jc_card.specs.declared.power_up.PowerFault.TheVariants as power
-use Rattle.jcard_commands.specs.CommandLine.{CommandLineRequest, ToMake, ToRun, ToTell, ToTry, request_of_words}
+use Rattle.jcard_commands.specs.CommandLine.{CommandLineRequest, ToMake, ToRun, ToTear, ToTell, ToTry, request_of_words}
 use Rattle.jcard_commands.specs.Dumps.{IsDump}
-use Rattle.jcard_commands.specs.FileDeeds.{FileDeed, ClosesImage, OpensImage, ReadsText, fresh_store}
+use Rattle.jcard_commands.specs.FileDeeds.{FileDeed, ClosesImage, OpensImage, ReadsText, fresh_store, untouched}
 use Rattle.jcard_commands.specs.Images.{IsNotOpenedToWrite, IsUnopened}
 use Rattle.jcard_commands.specs.NewImages.{IsNew, IsNewImage, IsTable, IsTextOf, IsUnread, IsWordCount}
+use Rattle.jcard_commands.specs.Tears.{IsTear}
 use Rattle.jcard_commands.specs.declared.fault.Damage.{Damage}
 use Rattle.jcard_commands.specs.declared.fault.Damage.TheVariants.{Magic, Version, Size, Log, Table, Package}
 use Rattle.jcard_commands.specs.declared.fault.Fault.{Fault}
 use Rattle.jcard_commands.specs.declared.fault.Fault.TheVariants.{BadCommandLine, NoMemory, BadWords, BadTable, ImageTooSmall, CannotRead, CannotOpenToWrite}
 use Rattle.jcard_commands.specs.declared.fault.Fault.TheVariants.{CannotWrite, ImageInUse, BadImage, BadCommand, ScriptTooLong, WriteFailed}
+use Rattle.jcard_commands.specs.declared.fault.Fault.TheVariants.{Down, NoCommand, TooManyCuts, NotAllOrNothing}
 
 -- the exit status
 abbrev pub status_of : Result Unit Fault → ℕ
@@ -45,6 +47,10 @@ status_of (Err (BadImage damage)) = 1
 status_of (Err (BadCommand n)) = 1
 status_of (Err ScriptTooLong) = 1
 status_of (Err WriteFailed) = 1
+status_of (Err Down) = 1
+status_of (Err NoCommand) = 1
+status_of (Err TooManyCuts) = 1
+status_of (Err NotAllOrNothing) = 3
 
 -- the number of the check that finds a damage
 abbrev pub check_of : Damage → ℕ
@@ -55,7 +61,7 @@ check_of Log = 4
 check_of Table = 5
 check_of Package = 6
 
--- the line that tells a fault; none tells a failed write
+-- the line that tells a fault; none tells a failed write, and a cut that was not all or nothing is told by the report
 abbrev pub line_of : Fault → List ℕ
 line_of BadCommandLine = codes "jcard: bad command line\n"
 line_of NoMemory = codes "jcard: no memory\n"
@@ -70,6 +76,10 @@ line_of (BadImage damage) = codes "jcard: bad image " ++ decimal (check_of damag
 line_of (BadCommand n) = codes "jcard: line " ++ decimal n ++ codes ": bad command\n"
 line_of ScriptTooLong = codes "jcard: script too long\n"
 line_of WriteFailed = []
+line_of Down = codes "jcard: the card is down at the command\n"
+line_of NoCommand = codes "jcard: no command to cut\n"
+line_of TooManyCuts = codes "jcard: more than 65535 cuts\n"
+line_of NotAllOrNothing = []
 
 -- whether a write of what was asked for failed
 abbrev pub is_unwritten : Result Unit Fault → Bool
@@ -114,15 +124,15 @@ IsCarriedOut image script known left before after ended text = (bytes : List ℕ
 
 -- the image could not be opened, and the script was not asked for; or after it the script could not, nothing was written, and the
 -- image was closed with no write asked for; or the script was carried out to this end over the image's words, this text was written,
--- and the image was closed as the script left it
+-- and the image was closed as the script left it, with the script's writes and no other
 abbrev pub IsRun : List ℕ → List ℕ → Result Unit Fault → List ℕ → List FileDeed → Type 0
 IsRun image script ended text deeds =
     ((fault : Fault) × (ended ≡ Err fault) × IsNotOpenedToWrite image fault × (text ≡ []) × (deeds ≡ OpensImage image None ∷ []))
     ⊎ ((w : List ℕ) × (fault : Fault) × (ended ≡ Err fault) × IsUnopened script fault × (text ≡ [])
-    × (deeds ≡ OpensImage image (Some w) ∷ ReadsText script None ∷ ClosesImage image (fresh_store w) ∷ []))
+    × (deeds ≡ OpensImage image (Some w) ∷ ReadsText script None ∷ ClosesImage image (untouched w) ∷ []))
     ⊎ ((w : List ℕ) × (known left : Option (List ℕ)) × (after : FuseStoreValue) × IsImageSize (2 * length w)
     × IsCarriedOut image script known left (fresh_store w) after ended text
-    × (deeds ≡ OpensImage image (Some w) ∷ ReadsText script (Some known) ∷ ClosesImage image after ∷ []))
+    × (deeds ≡ OpensImage image (Some w) ∷ ReadsText script (Some known) ∷ ClosesImage image (below_fuse after) ∷ []))
 
 -- the script in the file of this name was tried on a new card of n words with the platform table of this text, of whose bytes so much
 -- was known, if it was opened: it was not, or memory was refused; or the table and the objects of the runtime environment do not fit,
@@ -154,6 +164,7 @@ IsDone (Some (ToMake image words table)) ended text deeds = IsNew image words ta
 IsDone (Some (ToRun image script)) ended text deeds = IsRun image script ended text deeds
 IsDone (Some (ToTell image)) ended text deeds = IsDump image ended text deeds
 IsDone (Some (ToTry script words table)) ended text deeds = IsTrial script words table ended text deeds
+IsDone (Some (ToTear image script probe line)) ended text deeds = IsTear image script probe ended text deeds
 
 -- on these words the program came to this end, wrote this text and did this with files: memory was refused before anything was
 -- done, or what the words are taken for was done

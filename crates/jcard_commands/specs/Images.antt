@@ -7,6 +7,7 @@ use Rattle.jc_words.specs.declared.file.FileOpenFault.{FileOpenFault}
 use Rattle.jc_words.specs.declared.file.FileOpenFault.TheVariants as opening
 use Rattle.jc_words.specs.declared.file.FileCreateFault.{FileCreateFault}
 use Rattle.jc_words.specs.declared.file.FileCreateFault.TheVariants as making
+use Rattle.jc_words.specs.declared.file.Unopened.{Unopened}
 use Rattle.jc_words.specs.declared.lock.Lock.{Lock}
 use Rattle.jc_words.specs.declared.lock.LockFault.{LockFault}
 use Rattle.jc_words.specs.declared.image.ImageFault.{ImageFault}
@@ -70,7 +71,8 @@ IsCreateFault name making.NoMemory fault = fault ≡ NoMemory
 abbrev pub IsOpenedAs : {F : Type 0} → (FileOpenFault → Fault → Type 0) → (F → Lock → Result Unit LockFault → Type 0) → (F → Option (List ℕ)) → Lock
     → Result (FileStoreValue (StdFile F)) Fault → Type 0
 IsOpenedAs tells gives unread lock (Ok store) = IsOpened gives unread lock (Ok store)
-IsOpenedAs tells gives unread lock (Err fault) = (cause : FileOpenFault) × IsOpened gives unread lock (Err cause) × tells cause fault
+IsOpenedAs {F = F} tells gives unread lock (Err fault) = (unopened : Unopened (StdFile F)) × IsOpened gives unread lock (Err unopened)
+    × tells unopened.fault fault
 
 -- the file of an image was made, and where it was not, that is told so
 abbrev pub IsCreatedAs : {F : Type 0} → (FileCreateFault → Fault → Type 0) → (F → Lock → Result Unit LockFault → Type 0) → (F → Option (List ℕ)) → ℕ

@@ -4,4 +4,6 @@ pub mod Dumps
 pub mod Faults
 pub mod Images
 pub mod Listings
+pub mod MemDisks
 pub mod NewImages
+pub mod Tears

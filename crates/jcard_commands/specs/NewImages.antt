@@ -3,7 +3,7 @@ use Rattle.std.specs.Prelude.{ℕ, ◌≡◌, ◌≢◌, ◌⊎◌, ◌+◌, ◌
 use Rattle.std.specs.Borrow.{Bor}
 use Rattle.std.specs.Str.Parse.{IsNumeral, digits_value}
 use Rattle.jc_words.specs.Layout.{least_size, magic, magic_address}
-use Rattle.jc_words.specs.Stores.{FuseStoreValue, MemStoreValue}
+use Rattle.jc_words.specs.Stores.{MemStoreValue, StoreValue}
 use Rattle.jc_commit.specs.Image.{recovered_of}
 use Rattle.jc_heap.specs.Heap.{heap_of}
 use Rattle.jc_image.specs.Laying.{first_free}
@@ -14,7 +14,7 @@ use Rattle.jc_card.specs.Fixed.{fixed_size}
 use Rattle.jc_card.specs.Made.{IsMade, new_card_heap}
 use Rattle.jc_card.specs.declared.formatting.FormatFault.{FormatFault}
 use Rattle.jc_card.specs.declared.formatting.FormatFault.TheVariants as format
-use Rattle.jcard_commands.specs.FileDeeds.{FileDeed, ClosesImage, MakesImage, ReadsText, fresh_store}
+use Rattle.jcard_commands.specs.FileDeeds.{FileDeed, ClosesImage, MakesImage, ReadsText, untouched}
 use Rattle.jcard_commands.specs.Images.{IsNotMade, IsNotRead, IsUnopened}
 use Rattle.jcard_commands.specs.declared.fault.Fault.{Fault}
 use Rattle.jcard_commands.specs.declared.fault.Fault.TheVariants.{NoMemory, BadWords, BadTable, ImageTooSmall, CannotWrite}
@@ -53,11 +53,11 @@ IsFormatFault image format.TooSmall fault = fault ≡ ImageTooSmall
 
 -- how a store of n zero words ended as the image of this name, from this table's text: it is a new image, and refused no write; or it
 -- refused one, and has no magic word; or the table and the objects of the runtime environment do not fit, and no write was asked for
-abbrev pub IsLaid : List ℕ → ℕ → List ℕ → Result Unit Fault → FuseStoreValue → Type 0
-IsLaid image n text (Ok done) store = IsNewImage n text store.words × (store.refusals.faults ≡ 0) × (store.passed ≡ 0)
-IsLaid image n text (Err (CannotWrite path)) store = (path.now ≡ image) × (store.refusals.faults ≡ 1) × (store.down ≡ true)
+abbrev pub IsLaid : List ℕ → ℕ → List ℕ → Result Unit Fault → StoreValue → Type 0
+IsLaid image n text (Ok done) store = IsNewImage n text store.words × (store.down ≡ false) × (store.refused ≡ 0)
+IsLaid image n text (Err (CannotWrite path)) store = (path.now ≡ image) × (store.down ≡ true) × (store.refused ≡ 1)
     × ((store.words ≡ replicate n 0) ⊎ (slice_index store.words magic_address ≢ magic))
-IsLaid image n text (Err ImageTooSmall) store = (n < first_free (length text) + fixed_size) × (store ≡ fresh_store (replicate n 0))
+IsLaid image n text (Err ImageTooSmall) store = (n < first_free (length text) + fixed_size) × (store ≡ untouched (replicate n 0))
 IsLaid image n text (Err other) store = ⊥
 
 -- how the making of an image of this name and size ended, from this text, and what was done with files: it is no table, and no file was
@@ -66,7 +66,7 @@ abbrev pub IsMadeFrom : List ℕ → ℕ → List ℕ → Result Unit Fault → 
 IsMadeFrom image n text ended deeds =
     ((line : ℕ) × (ended ≡ Err (BadTable line)) × Reads text (Err (BadLine line)) × (deeds ≡ []))
     ⊎ ((fault : Fault) × (ended ≡ Err fault) × IsTable text × IsNotMade image fault × (deeds ≡ MakesImage image n false ∷ []))
-    ⊎ ((store : FuseStoreValue) × IsTable text × IsLaid image n text ended store × (deeds ≡ MakesImage image n true ∷ ClosesImage image store ∷ []))
+    ⊎ ((store : StoreValue) × IsTable text × IsLaid image n text ended store × (deeds ≡ MakesImage image n true ∷ ClosesImage image store ∷ []))
 
 -- a platform table of this text was read from what is known of a file
 abbrev pub IsTextOf : List ℕ → Option (List ℕ) → Type 0

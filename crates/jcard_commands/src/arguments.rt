@@ -2,9 +2,9 @@
 ghost use Rattle.std.specs.Prelude.{◌≡◌, ◌⊎◌, None, false, true, map, option_map, option_and_then, IfErr, IfOk};
 ghost use Rattle.std.specs.String.{string_bytes};
 ghost use Rattle.clap.specs.Words.{app_of, found_of, kind_of, rows_of, rule_of, subcommand_rows_of, with_subcommand};
-ghost use Rattle.jcard_commands.specs.CommandLine.{IsTakenAs, TakesDumps, TakesNews, TakesRunLines, TakesRuns, TakesTries, dump_grammar, dump_of, free_option};
+ghost use Rattle.jcard_commands.specs.CommandLine.{IsTakenAs, TakesDumps, TakesNews, TakesRunLines, TakesRuns, TakesTears, TakesTries, dump_grammar, dump_of, free_option};
 ghost use Rattle.jcard_commands.specs.CommandLine.{given_option, new_grammar, new_of, operand, program_grammar, request_by, request_of, run_grammar, run_of};
-ghost use Rattle.jcard_commands.specs.CommandLine.{request_of_words, try_grammar, try_of};
+ghost use Rattle.jcard_commands.specs.CommandLine.{request_of_words, tear_grammar, tear_of, try_grammar, try_of};
 
 use crate::fault::Fault;
 use clap::error::ErrorKind;
@@ -36,6 +36,14 @@ pub enum Action<'a> {
         words: &'a str,
         table: &'a str,
     },
+    /// A command of the script is cut after each number of its writes, over copies of the words of the image: the last one, or that in
+    /// the line of this number. Behind each cut come the lines of the probe of this name, if there is one.
+    Tear {
+        image: &'a str,
+        script: &'a str,
+        probe: Option<&'a str>,
+        line: Option<&'a str>,
+    },
 }
 
 /// What the words ask for, the program's name among them as the first. BadCommandLine comes only for
@@ -48,14 +56,24 @@ pub fn parse(alloc: Global, words: &[String]) -> Result<Action<'_>, Fault<'_>>
     ensures plain_dumps { TakesDumps }
     ensures plain_news { TakesNews }
     ensures plain_tries { TakesTries }
+    ensures plain_tears { TakesTears }
 {
     match request_by_clap(alloc, words) {
         Ok(Some(action)) => Ok(action),
         Ok(None) => Err(Fault::BadCommandLine),
-        Err(error) => Err(match error.kind() {
-            ErrorKind::OutOfMemory => Fault::NoMemory,
-            _ => Fault::BadCommandLine,
-        }),
+        Err(error) => Err(line_fault(error.kind())),
+    }
+}
+
+// What it means that clap refuses the words for this cause.
+fn line_fault(kind: ErrorKind) -> Fault<'static>
+    ensures memory { kind ≡ ErrorKind.OutOfMemory → result ≡ Fault.NoMemory }
+    ensures other { (kind ≡ ErrorKind.OutOfMemory → ⊥) → result ≡ Fault.BadCommandLine }
+    ensures one { (result ≡ Fault.NoMemory) ⊎ (result ≡ Fault.BadCommandLine) }
+{
+    match kind {
+        ErrorKind::OutOfMemory => Fault::NoMemory,
+        _ => Fault::BadCommandLine,
     }
 }
 
@@ -78,10 +96,12 @@ fn commands<'a>(alloc: Global) -> Result<Command<'a>, AllocError>
     let run = run_command(alloc)?;
     let dump = dump_command(alloc)?;
     let trial = try_command(alloc)?;
+    let tear = tear_command(alloc)?;
     let program = with_command(Command::new(alloc, "jcard"), new)?;
     let program = with_command(program, run)?;
     let program = with_command(program, dump)?;
-    with_command(program, trial)
+    let program = with_command(program, trial)?;
+    with_command(program, tear)
 }
 
 // The program with one command more.
@@ -129,6 +149,17 @@ fn try_command<'a>(alloc: Global) -> Result<Command<'a>, AllocError>
         .arg(free_option(alloc, "words"))
 }
 
+// `tear IMAGE SCRIPT [--probe FILE] [--line N]`.
+fn tear_command<'a>(alloc: Global) -> Result<Command<'a>, AllocError>
+    ensures { IfOk result (λ c. app_of c ≡ tear_grammar) }
+{
+    Command::new(alloc, "tear")
+        .arg(operand(alloc, "image"))?
+        .arg(operand(alloc, "script"))?
+        .arg(free_option(alloc, "probe"))?
+        .arg(free_option(alloc, "line"))
+}
+
 fn operand<'a>(alloc: Global, name: &'a str) -> Arg<'a>
     ensures rule { rule_of result ≡ operand name.entry.now }
     ensures local { result.global ≡ false }
@@ -161,6 +192,7 @@ fn request_of<'a>(matches: &ArgMatches<'a>) -> Option<Action<'a>>
         "run" => run_asked(operands),
         "dump" => dump_asked(operands),
         "try" => try_asked(operands),
+        "tear" => tear_asked(operands),
         _ => None,
     }
 }
@@ -206,5 +238,20 @@ fn try_asked<'a>(operands: &ArgMatches<'a>) -> Option<Action<'a>>
         script,
         words,
         table,
+    })
+}
+
+fn tear_asked<'a>(operands: &ArgMatches<'a>) -> Option<Action<'a>>
+    ensures { option_map request_by result ≡ tear_of (rows_of (found_of operands.now)) }
+{
+    let image = operands.get_str("image")?;
+    let script = operands.get_str("script")?;
+    let probe = operands.get_str("probe");
+    let line = operands.get_str("line");
+    Some(Action::Tear {
+        image,
+        script,
+        probe,
+        line,
     })
 }

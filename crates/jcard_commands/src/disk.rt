@@ -2,29 +2,22 @@
 ghost use Rattle.std.specs.Prelude.{◌≡◌, ◌++◌, ◌*◌, ◌∷◌, [], List, ℕ, false, is_ok, IfOk, IfErr, length, replicate};
 ghost use Rattle.jc_words.specs.Files.{IsImageSize};
 ghost use Rattle.jc_words.specs.Refusals.{no_refusals};
-ghost use Rattle.jc_words.specs.Stores.{refusals_of_file};
+ghost use Rattle.jc_words.specs.Stores.{refusals_of_file, store_value};
 ghost use Rattle.jcard_commands.specs.FileDeeds.{FileDeed, ClosesImage, MakesImage, OpensImage, ReadsImage, ReadsText, told_of};
 ghost use Rattle.jcard_commands.specs.Images.{IsCreateFault, IsCreatedAs, IsNotMade, IsNotOpened, IsNotOpenedToWrite, IsOpenedAs, IsOpenFault, IsReadFault, IsUnopened};
 
+use crate::closed_store::ClosedStore;
 use crate::fault::{Damage, Fault};
-use jc_words::{
-    FileCreateFault, FileOpenFault, FileStore, FuseStore, Lock, LockFile, StdFile, WordStore,
-};
+use jc_words::{FileCreateFault, FileOpenFault, FileStore, Lock, LockFile, StdFile, WordStore};
 use std::alloc::Global;
 use std::fs;
 use std::io::Read;
 use std::rt::Files;
 
-/// A store that a disk hands out as an image, and takes back.
-pub trait DiskImage {}
-
-/// An image in a file that can be locked.
-impl<F: LockFile> DiskImage for FileStore<StdFile<F>> {}
-
 /// The files that the program uses, by their names.
 pub trait Disk {
     /// An image that is open.
-    type Image: WordStore + DiskImage + Drop;
+    type Image: WordStore + Drop;
 
     /// A text that is open.
     type Text: Read + Drop;
@@ -65,9 +58,10 @@ pub trait Disk {
         ensures refused { IfErr result (λ fault. IsNotMade image.now fault) }
         ensures does { does self.old (MakesImage image.now n (is_ok result) ∷ []) self.new };
 
-    /// Closes the image of this name, which comes back under a fuse.
-    fn close_image<S: WordStore + DiskImage + Drop>(&mut self, image: &str, store: FuseStore<S>)
-        ensures { does self.old (ClosesImage image.now store ∷ []) self.new };
+    /// Closes the image of this name as its store is. Nobody can write to that any more.
+    fn close_image(&mut self, image: &str, store: ClosedStore<Self::Image>)
+        ensures { does self.old (ClosesImage image.now (store_value Self.Image.words
+            Self.Image.down Self.Image.passed Self.Image.refusals store.store) ∷ []) self.new };
 
     /// Opens the text of this name.
     fn open_text<'n>(&mut self, name: &'n str) -> Result<Self::Text, Fault<'n>>
@@ -126,7 +120,7 @@ where
     {
         match FileStore::open(self.rt, image) {
             Ok(store) => Ok(store),
-            Err(cause) => Err(open_fault(image, cause)),
+            Err(unopened) => Err(open_fault(image, unopened.fault)),
         }
     }
 
@@ -142,7 +136,7 @@ where
     {
         match FileStore::open_to_read(self.rt, image) {
             Ok(store) => Ok(store),
-            Err(cause) => Err(read_fault(image, cause)),
+            Err(unopened) => Err(read_fault(image, unopened.fault)),
         }
     }
 
@@ -162,7 +156,7 @@ where
         }
     }
 
-    fn close_image<S: WordStore + DiskImage + Drop>(&mut self, _image: &str, _store: FuseStore<S>)
+    fn close_image(&mut self, _image: &str, _store: ClosedStore<Self::Image>)
         ensures { Unit {0} }
     {}
 

@@ -11,10 +11,11 @@ ghost use Rattle.jcard_commands.specs.Listings.{Tells, applet_text, count_line, 
 ghost use Rattle.jcard_commands.specs.Listings.{is_not_written};
 ghost use Rattle.jcard_commands.specs.Images.{damage_of};
 
+use crate::closed_store::ClosedStore;
 use crate::disk::Disk;
 use crate::fault::{Damage, Fault};
 use crate::listing::{ListingFault, write_applets, write_count, write_packages};
-use jc_words::{FuseStore, ImageFault, WordStore};
+use jc_words::{ImageFault, WordStore};
 use jcard_script::card::inventory::Inventory;
 use jcard_script::streams::{TextOut, WriteFailed};
 
@@ -37,7 +38,7 @@ pub fn dump_image<'n, D: Disk, W: TextOut>(
     match disk.open_image_to_read(image) {
         Ok(store) => {
             let told = dump_store(&store, out);
-            disk.close_image(image, FuseStore::new(store));
+            disk.close_image(image, ClosedStore::new(store));
             told
         }
         Err(fault) => Err(fault),

@@ -54,10 +54,18 @@ pub enum Fault<'a> {
     ScriptTooLong,
     /// Standard output cannot be written.
     WriteFailed,
+    /// The card is down at the command that is to be cut.
+    Down,
+    /// The script has no command to cut, or none in the line that was named.
+    NoCommand,
+    /// The command that is to be cut makes more writes than are counted.
+    TooManyCuts,
+    /// A cut left neither what was before the command nor what comes after it.
+    NotAllOrNothing,
 }
 
 /// Writes the last line, if there is a fault that has one, and answers the exit status: 0, 2 for
-/// a bad command line, 1 for every other fault.
+/// a bad command line, 3 where a cut left something else, 1 for every other fault.
 pub fn tell<W: TextOut>(ended: Result<(), Fault>, out: &mut W) -> u8
     ensures status { result ≡ status_of ended.entry }
     ensures line { (text : List ℕ) × (failed : Bool)
@@ -71,6 +79,7 @@ pub fn tell<W: TextOut>(ended: Result<(), Fault>, out: &mut W) -> u8
     let _ = write_line(fault, out);
     match fault {
         Fault::BadCommandLine => 2,
+        Fault::NotAllOrNothing => 3,
         _ => 1,
     }
 }
@@ -113,7 +122,10 @@ fn write_line<W: TextOut>(fault: Fault, out: &mut W) -> Result<(), WriteFailed>
             b": bad command\n",
         ),
         Fault::ScriptTooLong => write_all(out, b"jcard: script too long\n"),
-        Fault::WriteFailed => Ok(()),
+        Fault::Down => write_all(out, b"jcard: the card is down at the command\n"),
+        Fault::NoCommand => write_all(out, b"jcard: no command to cut\n"),
+        Fault::TooManyCuts => write_all(out, b"jcard: more than 65535 cuts\n"),
+        Fault::WriteFailed | Fault::NotAllOrNothing => Ok(()),
     }
 }
 

@@ -15,7 +15,7 @@ use jc_words::WordStore;
 use jcard_script::streams::{TextOut, WriteFailed, write_all, write_parts};
 
 /// How many bytes an AID has at most, as a line tells it.
-const MOST_AID: usize = 26;
+const MOST_AID: usize = 16;
 
 /// Why lines end early.
 #[derive(Clone, Copy, Debug, PartialEq, Eq, Drop)]
@@ -140,7 +140,7 @@ fn write_name<W: TextOut>(
     number: u16,
     aid: &[u8],
 ) -> Result<(), WriteFailed>
-    requires { length aid.now ≤ 26 }
+    requires { length aid.now ≤ 16 }
     ensures text { MatchResult result
         (λ _. Appends (W.contents out.old) (W.contents out.new) (name_text name.now number aid.now))
         (λ _. AppendsCut (W.contents out.old) (W.contents out.new)
@@ -154,7 +154,7 @@ fn write_name<W: TextOut>(
 
 // Writes an AID in hexadecimal, and a space.
 fn write_aid<W: TextOut>(out: &mut W, aid: &[u8]) -> Result<(), WriteFailed>
-    requires { length aid.now ≤ 26 }
+    requires { length aid.now ≤ 16 }
     ensures text { MatchResult result
         (λ _. Appends (W.contents out.old) (W.contents out.new) (encode_upper aid.now ++ codes " "))
         (λ _. AppendsCut (W.contents out.old) (W.contents out.new)

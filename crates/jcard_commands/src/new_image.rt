@@ -2,16 +2,18 @@
 ghost use Rattle.std.specs.Prelude.{ℕ, ◌≡◌, ◌≤◌, List, None, false, MatchResult, IfOk, IfErr, IfSome, length, replicate, take};
 ghost use Rattle.jc_words.specs.Layout.{least_size};
 ghost use Rattle.jc_words.specs.Refusals.{no_refusals};
+ghost use Rattle.jc_words.specs.Stores.{store_value};
 ghost use Rattle.jcard_commands.specs.FileDeeds.{FileDeed};
 ghost use Rattle.jcard_commands.specs.Images.{IsNotRead};
 ghost use Rattle.jcard_commands.specs.NewImages.{IsFormatFault, IsLaid, IsMadeFrom, IsNew, IsTable, IsRead, IsUnread, IsWordCount};
 
+use crate::closed_store::ClosedStore;
 use crate::disk::Disk;
 use crate::fault::Fault;
 use jc_platform::fault::TableFault;
 use jc_platform::read::read_table;
+use jc_words::WordStore;
 use jc_words::layout::LEAST_SIZE;
-use jc_words::{FuseStore, WordStore};
 use jcard_script::card::formatting::{FormatFault, format};
 use std::alloc::Global;
 use std::io::Read;
@@ -98,7 +100,7 @@ fn make_from<'n, D: Disk>(
     match disk.make_image(image, count) {
         Ok(store) => {
             let (store, ended) = lay_image(store, image, text);
-            disk.close_image(image, store);
+            disk.close_image(image, ClosedStore::new(store));
             ended
         }
         Err(fault) => Err(fault),
@@ -110,17 +112,17 @@ fn lay_image<'a, S: WordStore + Drop>(
     store: S,
     image: &'a str,
     text: &[u8],
-) -> (FuseStore<S>, Result<(), Fault<'a>>)
+) -> (S, Result<(), Fault<'a>>)
     requires enough { least_size ≤ length (S.words store) }
     requires zeros { S.words store ≡ replicate (length (S.words store)) 0 }
     requires up { S.down store ≡ false }
     requires none_passed { S.passed store ≡ 0 }
     requires none_refused { S.refusals store ≡ no_refusals }
     requires table { IsTable text.now }
-    ensures { IsLaid image.now (length (S.words store)) text.now result.1 result.0 }
+    ensures { IsLaid image.now (length (S.words store)) text.now result.1
+        (store_value S.words S.down S.passed S.refusals result.0) }
 {
     let (store, made) = format(store, text);
-    let store = FuseStore::new(store);
     match made {
         Ok(()) => (store, Ok(())),
         Err(cause) => (store, Err(format_fault(image, cause))),

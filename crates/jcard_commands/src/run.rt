@@ -10,10 +10,12 @@ ghost use Rattle.jcard_commands.specs.Faults.{IsUnpowered};
 ghost use Rattle.jcard_commands.specs.declared.fault.Fault.{Fault};
 
 use crate::arguments::{Action, parse};
+use crate::closed_store::ClosedStore;
 use crate::disk::Disk;
 use crate::dump::dump_image;
 use crate::fault::{Damage, Fault, tell};
 use crate::new_image::make_image;
+use crate::tearing::{Asked, tear_image};
 use crate::trial::try_script;
 use jc_words::{FuseStore, WordStore};
 use jcard_script::card::power_up::PowerFault;
@@ -80,6 +82,21 @@ fn act<'n, D: Disk, W: TextOut>(
             words,
             table,
         } => try_script(disk, script, words, table, out),
+        Action::Tear {
+            image,
+            script,
+            probe,
+            line,
+        } => tear_image(
+            disk,
+            image,
+            Asked {
+                script,
+                probe,
+                line,
+            },
+            out,
+        ),
     }
 }
 
@@ -105,11 +122,11 @@ fn run_file<'n, D: Disk, W: TextOut>(
             let names = Names { image, script };
             let mut reader = StdText::new(file);
             let (store, ended) = run_named(disk.alloc(), names, store, &mut reader, out);
-            disk.close_image(image, store);
+            disk.close_image(image, ClosedStore::new(store.into_store()));
             ended
         }
         Err(fault) => {
-            disk.close_image(image, store);
+            disk.close_image(image, ClosedStore::new(store.into_store()));
             Err(fault)
         }
     }
@@ -156,8 +173,8 @@ fn script_fault<'a>(names: Names<'a>, cause: ScriptFault) -> Fault<'a>
     }
 }
 
-// What it means that the card of the image of this name does not power up.
-fn power_up_fault(image: &str, cause: PowerFault) -> Fault<'_>
+/// What it means that the card of the image of this name does not power up.
+pub(crate) fn power_up_fault(image: &str, cause: PowerFault) -> Fault<'_>
     ensures { IsUnpowered image.now cause result }
 {
     match cause {

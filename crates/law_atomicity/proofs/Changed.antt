@@ -1,17 +1,22 @@
 -- PINs that the open transaction changes.
 use Rattle.std.proofs.Common.{◌≡◌, ℕ, suc, arith, Contains, Bool, true, false, List, [], ◌∷◌, ◌++◌, length, map, refl, sym, subst, ap, ◌∙◌, if◌then◌else◌}
 use Rattle.std.proofs.Common.{Option, Some, None, Result, Ok, Err}
-use Rattle.std.specs.Prelude.{nat_lt, not}
-use Rattle.std.proofs.lemmas.Bool.{false≢true}
+use Rattle.std.specs.Prelude.{nat_lt, not, ◌&&◌}
+use Rattle.std.proofs.lemmas.Bool.{false≢true, true≢false}
 use Rattle.jc_heap.specs.declared.place.Place.{Place}
 use Rattle.jc_heap.specs.declared.place.Place.TheVariants.{Cell}
 use Rattle.jc_heap.specs.declared.refusal.HeapRefusal.{HeapRefusal}
-use Rattle.jc_heap.specs.Heap.{HeapState, HeapView, heap_after_change, goes_back, heap_item_at}
-use Rattle.jc_heap.specs.Places.{place_word, places_of, set_place}
+use Rattle.jc_heap.specs.Heap.{HeapState, HeapView, heap_after_change, goes_back, heap_item_at, facts, is_allocated, add_object}
+use Rattle.jc_heap.specs.Places.{place_word, ArePlain, words_at, places_of, set_place, cell_changes}
+use Rattle.jc_heap.specs.declared.object.Kind.TheVariants.{Instance, ByteArray}
+use Rattle.jc_heap.specs.Object.{Object, new_object, object_size, facts_of, has_bytes, is_packed}
 use Rattle.jc_heap.specs.Moves.{Write, SetPlaces, WriteNonAtomic, SetCells, AddObject, AddTransient, AddPackage, Begin, Commit, Abort, IsInside}
 use Rattle.jc_heap.specs.Moves.{refusal_of_places}
 use Rattle.jc_heap.proofs.KeptWords.{goes_back_later, goes_back_now, goes_back_counted}
-use Rattle.jc_heap.proofs.Laws.{heap_item_at-set_other}
+use Rattle.jc_heap.proofs.Laws.{heap_item_at-set_other, heap_item_at-add_other, object_named}
+use Rattle.jc_heap.proofs.WordsAt.{words_at-plain, words_at-append}
+use Rattle.std.proofs.lemmas.List.{map-append}
+use Rattle.jc_memory.specs.Owners.{owner_number}
 use Rattle.jc_memory.specs.State.{MemoryState, Effect, HeapMove, SetTransient, SetFlag, ClearTransient, SetRegisters, BeginCommand, SendBytes}
 use Rattle.jc_memory.specs.State.{apply_effect, apply_effects, moves_of}
 use Rattle.jc_memory.specs.Programs.{Program, Finish, Perform, Completes}
@@ -19,9 +24,9 @@ use Rattle.jc_memory.specs.Making.{object_creation}
 use Rattle.jc_memory.specs.Room.{has_space, lacks_capacity}
 use Rattle.jc_pin.specs.declared.updating.PinRefusal.{PinRefusal}
 use Rattle.jc_pin.specs.declared.updating.PinRefusal.TheVariants.{CommitFull, IllegalValue, HeapFull}
-use Rattle.jc_pin.specs.Pins.{counter, record_of}
+use Rattle.jc_pin.specs.Pins.{counter, cell_count, record_of, IsPersistentWith}
 use Rattle.jc_pin.specs.PinInit.{first_record, pin_init, touched_by_init, value_array}
-use Rattle.jc_pin.specs.Updating.{byte_changes, unless_no_room, changes_of_update, pin_update}
+use Rattle.jc_pin.specs.Updating.{unless_no_room, changes_of_update, pin_update}
 use Rattle.law_atomicity.specs.Tears.{SavedHeapAfter}
 use Rattle.law_atomicity.specs.Changed.{IsChanged}
 
@@ -37,10 +42,23 @@ touched_counted s place x w back = goes_back_counted s.heap place x w back
 
 -- ---- updates and constructors
 
-among_places : (before : List (Place × ℕ)) (place : Place) (x : ℕ) (more : List (Place × ℕ))
-    → Contains (map place_word (places_of (before ++ (place, x) ∷ more))) (place_word place)
-among_places [] place x more = (0, omega arith, refl)
-among_places (c ∷ before) place x more = let there = among_places before place x more in (suc there.0, omega (arith, there.1), there.2)
+-- a PIN's cells have words of their own
+plain_pin : (s : MemoryState) (r : ℕ) → IsPersistentWith s Instance cell_count r → is_packed (facts s.heap.now r) ≡ false
+plain_pin s r pin = ap (λ k. has_bytes k && (facts s.heap.now r).packed) pin.kind
+
+among : (before : List ℕ) (word : ℕ) (more : List ℕ) → Contains (before ++ word ∷ more) word
+among [] word more = (0, omega arith, refl)
+among (w ∷ before) word more = let there = among before word more in (suc there.0, omega (arith, there.1), there.2)
+
+among_places : (h : HeapState) (before : List (Place × ℕ)) (place : Place) (x : ℕ) (more : List (Place × ℕ)) → ArePlain h (places_of ((place, x) ∷ more))
+    → Contains (words_at h (places_of (before ++ (place, x) ∷ more))) (place_word place)
+among_places h before place x more plain =
+    let split : words_at h (places_of (before ++ (place, x) ∷ more))
+    ≡ words_at h (places_of before) ++ place_word place ∷ map place_word (places_of more) =
+    ap (words_at h) (map-append (λ (c : Place × ℕ). c.0) before ((place, x) ∷ more))
+    ∙ words_at-append h (places_of before) (places_of ((place, x) ∷ more)) plain
+    ∙ ap (λ l. words_at h (places_of before) ++ l) (words_at-plain h (places_of ((place, x) ∷ more)) plain) in
+    subst (λ l. Contains l (place_word place)) (sym split) (among (words_at h (places_of before)) (place_word place) (map place_word (places_of more)))
 
 abbrev IsDone : {A E : Type 0} → Result A E → Type 0
 IsDone (Ok a) = Unit {0}
@@ -53,57 +71,68 @@ not_refused x e done same = subst IsDone same done
 abbrev sets_and_takes : List (Place × ℕ) → ℕ → Program (Result (Unit {0}) PinRefusal)
 sets_and_takes changes r = Perform (HeapMove (SetPlaces changes)) (Perform (SetFlag r false) (Finish (Ok tt)))
 
-set_changes : (s new : MemoryState) (r : ℕ) (before : List (Place × ℕ)) (x : ℕ) (more : List (Place × ℕ)) → s.heap.begun ≡ true →
+set_changes : (s new : MemoryState) (r : ℕ) (before : List (Place × ℕ)) (x : ℕ) (more : List (Place × ℕ))
+    → ArePlain s.heap.now (places_of ((counter r, x) ∷ more)) → s.heap.begun ≡ true →
     Completes (sets_and_takes (before ++ (counter r, x) ∷ more) r) s (Ok tt) new → IsChanged new r
-set_changes s new r before x more begun did =
-    subst (λ v. IsChanged v r) (sym did.1) (goes_back_now s.heap _ (map place_word (places_of (before ++ (counter r, x) ∷ more))) 0 (place_word (counter r)) begun
-    (among_places before (counter r) x more))
+set_changes s new r before x more plain begun did =
+    subst (λ v. IsChanged v r) (sym did.1) (goes_back_now s.heap _ (words_at s.heap.now (places_of (before ++ (counter r, x) ∷ more))) 0
+    (place_word (counter r)) begun (among_places s.heap.now before (counter r) x more plain))
 
 unless_changes : (reason : Option HeapRefusal) (s new : MemoryState) (r : ℕ) (before : List (Place × ℕ)) (x : ℕ) (more : List (Place × ℕ))
-    → s.heap.begun ≡ true →
+    → ArePlain s.heap.now (places_of ((counter r, x) ∷ more)) → s.heap.begun ≡ true →
     Completes (unless_no_room reason (sets_and_takes (before ++ (counter r, x) ∷ more) r)) s (Ok tt) new → IsChanged new r
-unless_changes None s new r before x more begun did = set_changes s new r before x more begun did
-unless_changes (Some reason) s new r before x more begun did = absurd (not_refused (Ok tt) CommitFull tt did.0)
+unless_changes None s new r before x more plain begun did = set_changes s new r before x more plain begun did
+unless_changes (Some reason) s new r before x more plain begun did = absurd (not_refused (Ok tt) CommitFull tt did.0)
 
 -- the counter comes behind the value and its length
 behind_value : (s new : MemoryState) (r : ℕ) (bytes : List ℕ) (long : Bool) (limit : ℕ) (reason : Option HeapRefusal) (put : List (Place × ℕ))
-    → s.heap.begun ≡ true →
+    → is_packed (facts s.heap.now r) ≡ false → s.heap.begun ≡ true →
     Completes (if long then Finish (Err IllegalValue) else
     unless_no_room reason (sets_and_takes (put ++ (Cell r 3, length bytes) ∷ (counter r, limit) ∷ []) r)) s
     (Ok tt) new → IsChanged new r
-behind_value s new r bytes true limit reason put begun did = absurd (not_refused (Ok tt) IllegalValue tt did.0)
-behind_value s new r bytes false limit reason put begun did =
-    unless_changes reason s new r (put ++ (Cell r 3, length bytes) ∷ []) limit [] begun
+behind_value s new r bytes true limit reason put plain begun did = absurd (not_refused (Ok tt) IllegalValue tt did.0)
+behind_value s new r bytes false limit reason put plain begun did =
+    unless_changes reason s new r (put ++ (Cell r 3, length bytes) ∷ []) limit [] (plain, tt) begun
     (subst (λ l. Completes (unless_no_room reason (sets_and_takes l r)) s (Ok tt) new) (sym (joined put)) did)
   where
     joined : (l : List (Place × ℕ)) → (l ++ (Cell r 3, length bytes) ∷ []) ++ (counter r, limit) ∷ [] ≡ l ++ (Cell r 3, length bytes) ∷ (counter r, limit) ∷ []
     joined [] = refl
     joined (c ∷ l) = ap (λ k. c ∷ k) (joined l)
 
-pub update_changes : (s new : MemoryState) (r : ℕ) (bytes : List ℕ) → s.heap.begun ≡ true → Completes (pin_update s r bytes) s (Ok tt) new → IsChanged new r
+pub update_changes : (s new : MemoryState) (r : ℕ) (bytes : List ℕ) → IsPersistentWith s Instance cell_count r → s.heap.begun ≡ true
+    → Completes (pin_update s r bytes) s (Ok tt) new → IsChanged new r
 unfolding pin_update
-update_changes s new r bytes begun did =
+update_changes s new r bytes pin_there begun did =
     let pin = record_of s r in
     behind_value s new r bytes (nat_lt pin.maximum (length bytes)) pin.limit (refusal_of_places s.heap (places_of (changes_of_update pin r bytes)))
-    (byte_changes pin.value 0 bytes) begun did
+    (cell_changes pin.value 0 bytes) (plain_pin s r pin_there) begun did
 
 -- the constructor's record
-made_changes : (s new : MemoryState) (r limit maximum : ℕ) → s.heap.begun ≡ true →
+made_changes : (s new : MemoryState) (r limit maximum : ℕ) → IsPersistentWith s Instance cell_count r → s.heap.begun ≡ true →
     Completes (object_creation (value_array s maximum) (λ value. sets_and_takes (first_record r limit maximum value) r)) s (Ok tt) new → IsChanged new r
-made_changes s new r limit maximum begun did =
-    set_changes _ new r ((Cell r 0, limit) ∷ (Cell r 1, maximum) ∷ []) limit ((Cell r 3, 0) ∷ (Cell r 4, did.0) ∷ []) begun did.2
+made_changes s new r limit maximum pin begun did =
+    set_changes _ new r ((Cell r 0, limit) ∷ (Cell r 1, maximum) ∷ []) limit ((Cell r 3, 0) ∷ (Cell r 4, did.0) ∷ []) (still, (still, (still, tt))) begun did.2
+  where
+    array : Object
+    array = new_object ByteArray 0 (owner_number s.registers.active) maximum
 
-in_space : (space full : Bool) (s new : MemoryState) (r limit maximum : ℕ) → s.heap.begun ≡ true →
+    other : s.heap.now.top ≡ r → ⊥
+    other same = true≢false (sym (object_named s.heap.now r pin.there) ∙ ap (is_allocated s.heap.now) (sym same ∙ sym did.1.chosen) ∙ did.1.free)
+
+    still : is_packed (facts (add_object s.heap.now array (object_size ByteArray maximum)) r) ≡ false
+    still = ap (λ t. is_packed (facts_of t)) (heap_item_at-add_other s.heap.now array (object_size ByteArray maximum) r other) ∙ plain_pin s r pin
+
+in_space : (space full : Bool) (s new : MemoryState) (r limit maximum : ℕ) → IsPersistentWith s Instance cell_count r → s.heap.begun ≡ true →
     Completes (if not space then Finish (Err HeapFull) else (if full then Finish (Err CommitFull) else object_creation (value_array s maximum)
     (λ value. sets_and_takes (first_record r limit maximum value) r))) s (Ok tt) new →
     IsChanged new r
-in_space false full s new r limit maximum begun did = absurd (not_refused (Ok tt) HeapFull tt did.0)
-in_space true true s new r limit maximum begun did = absurd (not_refused (Ok tt) CommitFull tt did.0)
-in_space true false s new r limit maximum begun did = made_changes s new r limit maximum begun did
+in_space false full s new r limit maximum pin begun did = absurd (not_refused (Ok tt) HeapFull tt did.0)
+in_space true true s new r limit maximum pin begun did = absurd (not_refused (Ok tt) CommitFull tt did.0)
+in_space true false s new r limit maximum pin begun did = made_changes s new r limit maximum pin begun did
 
-pub start_changes : (s new : MemoryState) (r limit maximum : ℕ) → s.heap.begun ≡ true → Completes (pin_init s r limit maximum) s (Ok tt) new → IsChanged new r
+pub start_changes : (s new : MemoryState) (r limit maximum : ℕ) → IsPersistentWith s Instance cell_count r → s.heap.begun ≡ true → Completes (pin_init s r limit maximum) s (Ok tt) new → IsChanged new r
 unfolding pin_init
-start_changes s new r limit maximum begun did = in_space (has_space s maximum) (lacks_capacity s (touched_by_init r)) s new r limit maximum begun did
+start_changes s new r limit maximum pin begun did = in_space (has_space s ByteArray maximum) (lacks_capacity s (touched_by_init r)) s new r limit maximum pin begun did
 
 -- ---- as long as the transaction is open
 

@@ -6,7 +6,8 @@ use Rattle.jc_heap.specs.Moves.{SetPlaces}
 use Rattle.jc_memory.specs.State.{MemoryState, HeapMove}
 use Rattle.jc_pin.specs.Pins.{is_pin, record_of}
 use Rattle.jc_pin.specs.PinInit.{first_record}
-use Rattle.jc_pin.specs.Updating.{byte_changes, changes_of_update}
+use Rattle.jc_heap.specs.Places.{cell_changes}
+use Rattle.jc_pin.specs.Updating.{changes_of_update}
 use Rattle.law_isolation.proofs.Arguments.{pin_value}
 use Rattle.law_atomicity.specs.Leaving.{AreBeside, IsInstance, Leaves}
 use Rattle.law_atomicity.proofs.Setting.{bytes_other, other_object}
@@ -15,7 +16,7 @@ beside_append : (q : ℕ) (cs ds : List (Place × ℕ)) → AreBeside q cs → A
 beside_append q [] ds first second = second
 beside_append q (c ∷ cs) ds first second = (first.0, beside_append q cs ds first.1 second)
 
-beside_put : (q array i : ℕ) (bytes : List ℕ) → (0 < length bytes → array ≡ q → ⊥) → AreBeside q (byte_changes array i bytes)
+beside_put : (q array i : ℕ) (bytes : List ℕ) → (0 < length bytes → array ≡ q → ⊥) → AreBeside q (cell_changes array i bytes)
 beside_put q array i [] other = tt
 beside_put q array i (b ∷ bs) other = (other_object q array i (other (omega arith)), beside_put q array (suc i) bs (λ some. other (omega arith)))
 
@@ -40,7 +41,7 @@ module _ (q : ℕ) where
       → Leaves q (HeapMove (SetPlaces (changes_of_update (record_of m r) r bytes))) m
   update_leaves m r bytes own pin few = elim (cases_eq r q) [
     | inl same ↦ inr (inl (record { bytes = bytes; is = ap (λ x. changes_of_update (record_of m x) x bytes) same }))
-    | inr other ↦ inl (beside_append q (byte_changes (record_of m r).value 0 bytes) _
+    | inr other ↦ inl (beside_append q (cell_changes (record_of m r).value 0 bytes) _
         (beside_put q (record_of m r).value 0 bytes (λ some. bytes_other m q (record_of m r).value own
         (pin_value m r pin (λ none. absurd (omega (arith, few, some, none)))).kind))
         (other_object q r 3 other, (other_object q r 2 other, tt)))

@@ -133,7 +133,7 @@ reset_orderly s r pin = due_if (flag_of s.ram r) _ _ s (λ e. unblocked_orderly 
 pub started_plain : (s : MemoryState) (r limit maximum : ℕ) → AllPlain (pin_init s r limit maximum)
 unfolding pin_init
 started_plain s r limit maximum =
-    plain_if (not (has_space s maximum)) _ _ tt (plain_if (lacks_capacity s (touched_by_init r)) _ _ tt
+    plain_if (not (has_space s ByteArray maximum)) _ _ tt (plain_if (lacks_capacity s (touched_by_init r)) _ _ tt
     (plain_makes_new {A = Result (Unit {0}) PinRefusal} (value_array s maximum) (λ value. Perform
     (HeapMove (SetPlaces (first_record r limit maximum value))) (Perform (SetFlag r false) (Finish (Ok tt)))) (λ value. (tt, (tt, tt)))))
 

@@ -48,7 +48,7 @@ pub components_good : (p : Packages) (load : LoadedComponents) (x : PendingPacka
 components_good p load x bytes i =
     let classes = class_component load i.texts i.contents i.assembles i.reads in
     record {
-      classes = (i.texts.format, classes.0, classes.1);
+      classes = (i.contents.header.format, classes.0, classes.1);
       applets = applet_component i.texts.applets i.contents.applets (subst (IfThere IsOfBytes) (assembled_applets load i.texts i.assembles) bytes)
           (applets_said i.texts i.contents i.reads);
     }

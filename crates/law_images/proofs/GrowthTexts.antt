@@ -6,9 +6,8 @@ use Rattle.std.proofs.lemmas.List.{get_or-drop}
 use Rattle.std.proofs.lemmas.List.Elements.{All-from_get_or}
 use Rattle.std.proofs.lemmas.List.FromFn.{length-map-range_with_len, get_or-map-range_with_len}
 use Rattle.jc_heap.specs.Components.{info_of}
-use Rattle.jc_heap.specs.Image.{packed_byte, bytes_of_packed}
+use Rattle.jc_heap.specs.Packed.{packed_byte, bytes_of_packed}
 use Rattle.jc_cap_linkage.specs.declared.formats.Format.{Format}
-use Rattle.jc_cap_linkage.specs.declared.formats.Format.TheVariants.{V2_1}
 use Rattle.jc_cap_linkage.specs.Reading.{value_of_whole}
 use Rattle.jc_cap_linkage.proofs.Many.{bind_ok, ok_is}
 use Rattle.jc_cap_linkage.proofs.Wholes.{whole_takes}
@@ -83,7 +82,7 @@ unfolding required_components
 required_applets load t e =
     let header = bind_ok (required_component 1 load.header) _ t e in
     let directory = bind_ok (required_component 2 load.directory) _ t header.2 in
-    let flags = bind_ok (flags_in load.format header.0) _ t directory.2 in
+    let flags = bind_ok (flags_in header.0) _ t directory.2 in
     let applets = bind_ok (flagged_component 3 flags.0.1 load.applets) _ t flags.2 in
     let imports = bind_ok (required_component 4 load.imports) _ t applets.2 in
     let pool = bind_ok (required_component 5 load.pool) _ t imports.2 in
@@ -103,12 +102,12 @@ assembled_applets load t e =
 pub applets_said : (t : PackageBytes) (c : PackageContents) → contents_of t ≡ Ok c → applets_in t.applets ≡ Ok c.applets
 unfolding contents_of
 applets_said t c e =
-    let header = bind_ok (header_in t.format t.header) _ c e in
-    let directory = bind_ok (directory_in t.format t.directory) _ c header.2 in
+    let header = bind_ok (header_in t.header) _ c e in
+    let directory = bind_ok (directory_in header.0.format t.directory) _ c header.2 in
     let applets = bind_ok (applets_in t.applets) _ c directory.2 in
     let imports = bind_ok (imports_in t.imports) _ c applets.2 in
     let pool = bind_ok (pool_in t.pool) _ c imports.2 in
-    let classes = bind_ok (classes_in t.format t.classes) _ c pool.2 in
+    let classes = bind_ok (classes_in header.0.format t.classes) _ c pool.2 in
     let methods = bind_ok (methods_in t.methods) _ c classes.2 in
     let statics = bind_ok (statics_in t.statics) _ c methods.2 in
     let exports = bind_ok (exports_in t.exports) _ c statics.2 in
@@ -117,10 +116,10 @@ applets_said t c e =
 -- ---- the Class component
 
 pub class_component : (load : LoadedComponents) (t : PackageBytes) (c : PackageContents) → assembly_of load ≡ Ok t → contents_of t ≡ Ok c
-    → (info : List ℕ) × AreClasses t.format c.classes info
+    → (info : List ℕ) × AreClasses c.header.format c.classes info
 class_component load t c e read =
     let sound = is_assembled load t e in
-    subst (λ (x : PackageContents). (info : List ℕ) × AreClasses t.format x.classes info) (ok_is sound.contents c (sym sound.read ∙ read)) sound.classes
+    subst (λ (x : PackageContents). (info : List ℕ) × AreClasses x.header.format x.classes info) (ok_is sound.contents c (sym sound.read ∙ read)) sound.classes
 
 pub few_classes : (format : Format) (rs : List RecordAt) (info : List ℕ) → AreClasses format rs info → length rs < 257
-few_classes V2_1 rs info are = omega (arith, are.0)
+few_classes format rs info are = (let few = are.4 in omega (arith, few))

@@ -98,7 +98,7 @@ module _ (t : Tokens) (p : Packages) (load : LoadedComponents) (q : PendingPacka
   record_prepared : (at : ℕ) (xs : List (Kind × List ℕ)) (rest : List ℕ) → with_records p (package_record at (parts_of q.texts) xs rest ∷ [])
       ≡ Some (with_package p q.linked)
   record_prepared at xs rest = ap (λ r. option_and_then (λ n. with_records n []) (with_prepared p r))
-      (ap (linked_components p) (load_back at q.texts xs rest all_read) ∙ done.again readable.format)
+      (ap (linked_components p) (load_back at q.texts xs rest all_read) ∙ done.again)
 
   package_read : (h : HeapState) (xs : List (Kind × List ℕ)) (rest : List ℕ) → IsConsistentHeap h → packages_of t h ≡ Some p
       → packages_of t (add_package h (parts_of q.texts) xs rest) ≡ Some (with_package p q.linked)

@@ -3,25 +3,22 @@ use Rattle.std.proofs.Common.{◌≡◌, ℕ, ◌+◌, ◌-◌, ◌==◌, ◌<�
 use Rattle.std.specs.Prelude.{IfSome, is_some, slice_index_or}
 use Rattle.std.proofs.lemmas.List.Elements.{All-append, All-nil}
 use Rattle.jc_cap_linkage.specs.declared.fault.CapFault.{CapFault}
-use Rattle.jc_cap_linkage.specs.declared.formats.Format.TheVariants.{V2_1}
 use Rattle.jc_cap.specs.declared.texts.LoadedComponents.{LoadedComponents}
-use Rattle.jc_cap.specs.Components.{component_at}
 use Rattle.jc_cap.specs.Contents.{Content}
 use Rattle.jc_card_load.specs.declared.load.OpenLoad.{OpenLoad}
 use Rattle.jc_card_load.specs.Incoming.{IncomingValue}
 use Rattle.jc_cap.specs.Texts.{with_component}
-use Rattle.jc_card_load.specs.Loading.{CommandResult, empty_load, component_begin, is_tag, load_with, more_of, read_of}
+use Rattle.jc_card_load.specs.Loading.{CommandResult, content_in, empty_load, component_begin, is_tag, load_with, more_of, read_of}
 use Rattle.law_soundness.proofs.Memories.{choose}
 use Rattle.law_images.specs.Loaded.{AreBytes, IsReadable}
 use Rattle.law_images.specs.ReadingLoads.{IsOpenReadable, LoadsAreReadable}
 
 -- ---- the components that came
 
-readable : (texts : LoadedComponents) → texts.format ≡ V2_1 → IfSome texts.header AreBytes → IfSome texts.directory AreBytes → IfSome texts.applets AreBytes
+readable : (texts : LoadedComponents) → IfSome texts.header AreBytes → IfSome texts.directory AreBytes → IfSome texts.applets AreBytes
     → IfSome texts.imports AreBytes → IfSome texts.pool AreBytes → IfSome texts.classes AreBytes → IfSome texts.methods AreBytes
     → IfSome texts.statics AreBytes → IfSome texts.exports AreBytes → IsReadable texts
-readable texts format header directory applets imports pool classes methods statics exports = record {
-  format = format;
+readable texts header directory applets imports pool classes methods statics exports = record {
   header = header;
   directory = directory;
   applets = applets;
@@ -36,39 +33,39 @@ readable texts format header directory applets imports pool classes methods stat
 -- one component more, of bytes
 module _ (texts : LoadedComponents) (bytes : List ℕ) (r : IsReadable texts) (b : AreBytes bytes) where
   with_header : IsReadable (record texts { header = Some bytes })
-  with_header = readable (record texts { header = Some bytes }) r.format b r.directory r.applets r.imports r.pool r.classes r.methods r.statics r.exports
+  with_header = readable (record texts { header = Some bytes }) b r.directory r.applets r.imports r.pool r.classes r.methods r.statics r.exports
 
   with_directory : IsReadable (record texts { directory = Some bytes })
-  with_directory = readable (record texts { directory = Some bytes }) r.format r.header b r.applets r.imports r.pool r.classes r.methods r.statics r.exports
+  with_directory = readable (record texts { directory = Some bytes }) r.header b r.applets r.imports r.pool r.classes r.methods r.statics r.exports
 
   with_applets : IsReadable (record texts { applets = Some bytes })
-  with_applets = readable (record texts { applets = Some bytes }) r.format r.header r.directory b r.imports r.pool r.classes r.methods r.statics r.exports
+  with_applets = readable (record texts { applets = Some bytes }) r.header r.directory b r.imports r.pool r.classes r.methods r.statics r.exports
 
   with_imports : IsReadable (record texts { imports = Some bytes })
-  with_imports = readable (record texts { imports = Some bytes }) r.format r.header r.directory r.applets b r.pool r.classes r.methods r.statics r.exports
+  with_imports = readable (record texts { imports = Some bytes }) r.header r.directory r.applets b r.pool r.classes r.methods r.statics r.exports
 
   with_pool : IsReadable (record texts { pool = Some bytes })
-  with_pool = readable (record texts { pool = Some bytes }) r.format r.header r.directory r.applets r.imports b r.classes r.methods r.statics r.exports
+  with_pool = readable (record texts { pool = Some bytes }) r.header r.directory r.applets r.imports b r.classes r.methods r.statics r.exports
 
   with_classes : IsReadable (record texts { classes = Some bytes })
-  with_classes = readable (record texts { classes = Some bytes }) r.format r.header r.directory r.applets r.imports r.pool b r.methods r.statics r.exports
+  with_classes = readable (record texts { classes = Some bytes }) r.header r.directory r.applets r.imports r.pool b r.methods r.statics r.exports
 
   with_methods : IsReadable (record texts { methods = Some bytes })
-  with_methods = readable (record texts { methods = Some bytes }) r.format r.header r.directory r.applets r.imports r.pool r.classes b r.statics r.exports
+  with_methods = readable (record texts { methods = Some bytes }) r.header r.directory r.applets r.imports r.pool r.classes b r.statics r.exports
 
   with_statics : IsReadable (record texts { statics = Some bytes })
-  with_statics = readable (record texts { statics = Some bytes }) r.format r.header r.directory r.applets r.imports r.pool r.classes r.methods b r.exports
+  with_statics = readable (record texts { statics = Some bytes }) r.header r.directory r.applets r.imports r.pool r.classes r.methods b r.exports
 
   with_reference_location : IsReadable (record texts { reference_location = Some (length bytes - 3) })
   with_reference_location = readable (record texts { reference_location = Some (length bytes - 3) })
-      r.format r.header r.directory r.applets r.imports r.pool r.classes r.methods r.statics r.exports
+      r.header r.directory r.applets r.imports r.pool r.classes r.methods r.statics r.exports
 
   with_exports : IsReadable (record texts { exports = Some bytes })
-  with_exports = readable (record texts { exports = Some bytes }) r.format r.header r.directory r.applets r.imports r.pool r.classes r.methods r.statics b
+  with_exports = readable (record texts { exports = Some bytes }) r.header r.directory r.applets r.imports r.pool r.classes r.methods r.statics b
 
   with_descriptor : IsReadable (record texts { descriptor = Some (length bytes - 3) })
   with_descriptor = readable (record texts { descriptor = Some (length bytes - 3) })
-      r.format r.header r.directory r.applets r.imports r.pool r.classes r.methods r.statics r.exports
+      r.header r.directory r.applets r.imports r.pool r.classes r.methods r.statics r.exports
 
   text_kept : (tag : ℕ) → IsReadable (with_component texts tag bytes)
   unfolding with_component
@@ -110,13 +107,12 @@ module _ (load : OpenLoad) (r : IsOpenReadable load) where
 
   ends_so : (o : Option IncomingValue) → IfSome o (λ c. AreBytes c.bytes) → IsOpenReadable (read_of load o).1
   ends_so None came = r
-  ends_so (Some c) came = ends_as c (component_at V2_1 c.tag c.bytes) came
+  ends_so (Some c) came = ends_as c (content_in load.format c.tag c.bytes) came
 
 new : IsOpenReadable empty_load
 unfolding empty_load
 new = record {
   texts = record {
-    format = refl;
     header = tt;
     directory = tt;
     applets = tt;

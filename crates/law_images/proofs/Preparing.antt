@@ -4,7 +4,6 @@ use Rattle.std.specs.Prelude.{IfSome, is_some}
 use Rattle.std.proofs.lemmas.Bool.{and_from, and_parts}
 use Rattle.jc_cap_linkage.specs.declared.fault.CapFault.{CapFault}
 use Rattle.jc_cap_linkage.specs.declared.fault.CapFault.TheVariants.{SizesDisagree}
-use Rattle.jc_cap_linkage.specs.declared.formats.Format.TheVariants.{V2_1}
 use Rattle.jc_cap_linkage.specs.Reading.{◌>>=◌}
 use Rattle.jc_cap_linkage.proofs.Many.{bind_ok, ok_is}
 use Rattle.jc_cap_linkage.proofs.Telling.{wanted_ok}
@@ -42,7 +41,6 @@ asked_is tag false None x e = ok_is None x e
 
 -- what a load has, where all that is required of these is there
 pub record Has (load : LoadedComponents) (t : PackageBytes) : Type 0 where
-  pub format : load.format ≡ t.format
   pub header : load.header ≡ Some t.header
   pub directory : load.directory ≡ Some t.directory
   pub applets : load.applets ≡ t.applets
@@ -52,27 +50,26 @@ pub record Has (load : LoadedComponents) (t : PackageBytes) : Type 0 where
   pub methods : load.methods ≡ Some t.methods
   pub statics : load.statics ≡ Some t.statics
   pub exports : load.exports ≡ t.exports
-  pub again : load.format ≡ V2_1 → required_components (kept t) ≡ Ok (bare t)
+  pub again : required_components (kept t) ≡ Ok (bare t)
 
 -- the last step of those that ask for components
 abbrev last : PackageBytes → Option (List ℕ) → Option (List ℕ) → Result PackageBytes CapFault
-last t a e = Ok (record (bare t) { format = V2_1; applets = a; exports = e })
+last t a e = Ok (record (bare t) { applets = a; exports = e })
 
-required_again : (t : PackageBytes) (flags : Bool × Bool) → flags_in V2_1 t.header ≡ Ok flags → flagged_component 3 flags.1 t.applets ≡ Ok t.applets
-    → flagged_component 10 flags.0 t.exports ≡ Ok t.exports → required_components (kept t) ≡ Ok (record (bare t) { format = V2_1 })
+required_again : (t : PackageBytes) (flags : Bool × Bool) → flags_in t.header ≡ Ok flags → flagged_component 3 flags.1 t.applets ≡ Ok t.applets
+    → flagged_component 10 flags.0 t.exports ≡ Ok t.exports → required_components (kept t) ≡ Ok (bare t)
 unfolding required_components
 required_again t flags said third tenth =
     ap (λ r. r >>= λ f. flagged_component 3 f.1 t.applets >>= λ a. flagged_component 10 f.0 t.exports >>= λ e. last t a e) said
     ∙ ap (λ r. r >>= λ a. flagged_component 10 flags.0 t.exports >>= λ e. last t a e) third
     ∙ ap (λ r. r >>= λ e. last t t.applets e) tenth
 
-has_these : (load : LoadedComponents) (t : PackageBytes) (flags : Bool × Bool) → load.format ≡ t.format → required_component 1 load.header ≡ Ok t.header
-    → required_component 2 load.directory ≡ Ok t.directory → flags_in load.format t.header ≡ Ok flags →
+has_these : (load : LoadedComponents) (t : PackageBytes) (flags : Bool × Bool) → required_component 1 load.header ≡ Ok t.header
+    → required_component 2 load.directory ≡ Ok t.directory → flags_in t.header ≡ Ok flags →
     flagged_component 3 flags.1 load.applets ≡ Ok t.applets → required_component 4 load.imports ≡ Ok t.imports → required_component 5 load.pool ≡ Ok t.pool
     → required_component 6 load.classes ≡ Ok t.classes → required_component 7 load.methods ≡ Ok t.methods →
     required_component 8 load.statics ≡ Ok t.statics → flagged_component 10 flags.0 load.exports ≡ Ok t.exports → Has load t
-has_these load t flags same h1 h2 said h3 h4 h5 h6 h7 h8 h10 = record {
-  format = same;
+has_these load t flags h1 h2 said h3 h4 h5 h6 h7 h8 h10 = record {
   header = present_is 1 load.header t.header h1;
   directory = present_is 2 load.directory t.directory h2;
   applets = asked_is 3 flags.1 load.applets t.applets h3;
@@ -82,13 +79,12 @@ has_these load t flags same h1 h2 said h3 h4 h5 h6 h7 h8 h10 = record {
   methods = present_is 7 load.methods t.methods h7;
   statics = present_is 8 load.statics t.statics h8;
   exports = asked_is 10 flags.0 load.exports t.exports h10;
-  again = λ format.
+  again =
       let third : flagged_component 3 flags.1 t.applets ≡ Ok t.applets = ap (flagged_component 3 flags.1)
       (sym (asked_is 3 flags.1 load.applets t.applets h3)) ∙ h3 in
       let tenth : flagged_component 10 flags.0 t.exports ≡ Ok t.exports = ap (flagged_component 10 flags.0)
       (sym (asked_is 10 flags.0 load.exports t.exports h10)) ∙ h10 in
-      let of : flags_in V2_1 t.header ≡ Ok flags = ap (λ f. flags_in f t.header) (sym format) ∙ said in
-      required_again t flags of third tenth ∙ ap (λ f. Ok (record (bare t) { format = f })) (sym format ∙ same);
+      required_again t flags said third tenth;
 }
 
 pub has_all : (load : LoadedComponents) (t : PackageBytes) → required_components load ≡ Ok t → Has load t
@@ -96,7 +92,7 @@ unfolding required_components
 has_all load t e =
     let b1 = bind_ok (required_component 1 load.header) _ t e in
     let b2 = bind_ok (required_component 2 load.directory) _ t b1.2 in
-    let flags = bind_ok (flags_in load.format b1.0) _ t b2.2 in
+    let flags = bind_ok (flags_in b1.0) _ t b2.2 in
     let b3 = bind_ok (flagged_component 3 flags.0.1 load.applets) _ t flags.2 in
     let b4 = bind_ok (required_component 4 load.imports) _ t b3.2 in
     let b5 = bind_ok (required_component 5 load.pool) _ t b4.2 in
@@ -105,7 +101,6 @@ has_all load t e =
     let b8 = bind_ok (required_component 8 load.statics) _ t b7.2 in
     let b10 = bind_ok (flagged_component 10 flags.0.0 load.exports) _ t b8.2 in
     let made : PackageBytes = record {
-      format = load.format;
       header = b1.0;
       directory = b2.0;
       applets = b3.0;
@@ -118,7 +113,7 @@ has_all load t e =
       reference_location = load.reference_location;
       descriptor = load.descriptor;
     } in
-    subst (Has load) (ok_is made t b10.2) (has_these load made flags.0 refl b1.1 b2.1 flags.1 b3.1 b4.1 b5.1 b6.1 b7.1 b8.1 b10.1)
+    subst (Has load) (ok_is made t b10.2) (has_these load made flags.0 b1.1 b2.1 flags.1 b3.1 b4.1 b5.1 b6.1 b7.1 b8.1 b10.1)
 
 -- ---- what is checked
 
@@ -150,11 +145,11 @@ assembled_is load t e =
     let same : all.0 ≡ t = ok_is all.0 t good.2 in
     subst (λ x. (required_components load ≡ Ok x) × (checked_package x ≡ Ok tt)) same (all.1, good.1)
 
-pub assembled_again : (load : LoadedComponents) (t : PackageBytes) → load.format ≡ V2_1 → assembly_of load ≡ Ok t → assembly_of (kept t) ≡ Ok (bare t)
+pub assembled_again : (load : LoadedComponents) (t : PackageBytes) → assembly_of load ≡ Ok t → assembly_of (kept t) ≡ Ok (bare t)
 unfolding assembly_of
-assembled_again load t format e =
+assembled_again load t e =
     let parts = assembled_is load t e in
-    ap (λ r. r >>= λ x. checked_package x >>= λ good. Ok x) ((has_all load t parts.0).again format)
+    ap (λ r. r >>= λ x. checked_package x >>= λ good. Ok x) (has_all load t parts.0).again
     ∙ ap (λ r. r >>= λ good. Ok (bare t)) (checked_again t parts.1)
 
 -- ---- what is linked
@@ -193,7 +188,7 @@ pub record Prepares (p : Packages) (load : LoadedComponents) (q : PendingPackage
   pub assembled : assembly_of load ≡ Ok q.texts
   pub contents : PackageContents
   pub read : contents_of q.texts ≡ Ok contents
-  pub again : load.format ≡ V2_1 → linked_components p (kept q.texts) ≡ Ok (record { texts = bare q.texts; linked = q.linked })
+  pub again : linked_components p (kept q.texts) ≡ Ok (record { texts = bare q.texts; linked = q.linked })
 
 pub prepares : (p : Packages) (load : LoadedComponents) (q : PendingPackageValue) → linked_components p load ≡ Ok q → Prepares p load q
 unfolding linked_components
@@ -205,8 +200,8 @@ prepares p load q e =
       assembled = whole.1 ∙ ap Ok (sym done.0);
       contents = said.0;
       read = ap contents_of done.0 ∙ said.1;
-      again = λ format.
-          let first : assembly_of (kept q.texts) ≡ Ok (bare q.texts) = assembled_again load q.texts format (whole.1 ∙ ap Ok (sym done.0)) in
+      again =
+          let first : assembly_of (kept q.texts) ≡ Ok (bare q.texts) = assembled_again load q.texts (whole.1 ∙ ap Ok (sym done.0)) in
           let second : contents_of (bare q.texts) ≡ Ok said.0 = said_again q.texts ∙ ap contents_of done.0 ∙ said.1 in
           let third : linked_package p (bare q.texts) said.0 ≡ Ok (record { texts = bare q.texts; linked = q.linked }) =
           subst (λ x. linked_package p (bare x) said.0 ≡ Ok (record { texts = bare x; linked = q.linked })) (sym done.0) done.1 in
@@ -223,12 +218,12 @@ one tag text o f y is bytes e = let r = bind_ok (info_at tag text) f y e in reco
 pub are_read : (load : LoadedComponents) (t : PackageBytes) (c : PackageContents) → IsReadable load → Has load t → contents_of t ≡ Ok c → AreRead t
 unfolding contents_of
 are_read load t c bytes has e =
-    let r1 = bind_ok (header_in t.format t.header) _ c e in
-    let r2 = bind_ok (directory_in t.format t.directory) _ c r1.2 in
+    let r1 = bind_ok (header_in t.header) _ c e in
+    let r2 = bind_ok (directory_in r1.0.format t.directory) _ c r1.2 in
     let r3 = bind_ok (applets_in t.applets) _ c r2.2 in
     let r4 = bind_ok (imports_in t.imports) _ c r3.2 in
     let r5 = bind_ok (pool_in t.pool) _ c r4.2 in
-    let r6 = bind_ok (classes_in t.format t.classes) _ c r5.2 in
+    let r6 = bind_ok (classes_in r1.0.format t.classes) _ c r5.2 in
     let r7 = bind_ok (methods_in t.methods) _ c r6.2 in
     let r8 = bind_ok (statics_in t.statics) _ c r7.2 in
     let r10 = bind_ok (exports_in t.exports) _ c r8.2 in

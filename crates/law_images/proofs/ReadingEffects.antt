@@ -5,11 +5,10 @@ use Rattle.jc_heap.specs.declared.place.Place.{Place}
 use Rattle.jc_heap.specs.declared.place.Place.TheVariants.{Cell, Static, Registry, AppletCount}
 use Rattle.jc_heap.specs.Heap.{HeapState, add_object, add_transient, heap_after_change, goes_back, is_allocated, set_cell, set_cells}
 use Rattle.jc_heap.specs.Moves.{Move, Write, SetPlaces, WriteNonAtomic, SetCells, AddObject, AddTransient, AddPackage, Begin, Commit, Abort}
-use Rattle.jc_heap.specs.Places.{place_word, set_place, set_places}
+use Rattle.jc_heap.specs.Places.{place_word, set_place, set_places, cell_changes}
 use Rattle.jc_memory.specs.State.{MemoryState, Effect, HeapMove, SetTransient, SetFlag, ClearTransient, SetRegisters, BeginCommand, SendBytes}
 use Rattle.jc_memory.specs.State.{apply_effect}
 use Rattle.jc_linker.specs.Values.{Packages}
-use Rattle.jc_pin.specs.Updating.{byte_changes}
 use Rattle.jc_platform.specs.Tokens.{Tokens}
 use Rattle.jc_card_load.specs.Reading.{packages_of}
 use Rattle.law_soundness.specs.State.{IsSoundMemory}
@@ -33,7 +32,7 @@ statics_placed p h ((Cell r i, v) ∷ cs) fits = absurd fits
 statics_placed p h ((Registry i, v) ∷ cs) fits = absurd fits
 statics_placed p h ((AppletCount, v) ∷ cs) fits = absurd fits
 
-bytes_placed : (h : HeapState) (bytes : List ℕ) (array i : ℕ) (cs : List (Place × ℕ)) → ArePlaced h cs → ArePlaced h (byte_changes array i bytes ++ cs)
+bytes_placed : (h : HeapState) (bytes : List ℕ) (array i : ℕ) (cs : List (Place × ℕ)) → ArePlaced h cs → ArePlaced h (cell_changes array i bytes ++ cs)
 bytes_placed h [] array i cs placed = placed
 bytes_placed h (b ∷ bytes) array i cs placed = (tt, bytes_placed h bytes array (suc i) cs placed)
 

@@ -5,12 +5,11 @@ use Rattle.std.specs.Option.{option_map}
 use Rattle.std.proofs.lemmas.List.{get_or-drop, get_or-set_other, get_or-take, take-set-le}
 use Rattle.std.proofs.lemmas.Bool.{cases_Bool, cases_eq, eq-eqb, ne_eqb}
 use Rattle.std.proofs.lemmas.Option.{none-some, same_Some}
-use Rattle.jc_cap_linkage.specs.declared.formats.Format.TheVariants.{V2_1}
 use Rattle.jc_cap.specs.declared.texts.LoadedComponents.{LoadedComponents}
 use Rattle.jc_heap.specs.declared.component.Span.{Span}
 use Rattle.jc_heap.specs.Components.{info_of, info_span, part_sizes, record_parts, span_in, words_for}
 use Rattle.jc_heap.specs.Cut.{records_from}
-use Rattle.jc_heap.specs.Image.{packed_byte, bytes_of_packed}
+use Rattle.jc_heap.specs.Packed.{packed_byte, bytes_of_packed}
 use Rattle.jc_heap.specs.Statics.{IsStatic, image_from, statics_of}
 use Rattle.jc_heap.proofs.StaticImages.{static_behind, statics-walk, statics-zero}
 use Rattle.law_soundness.proofs.Lists.{byte_same, map_same}
@@ -177,7 +176,7 @@ text_set tag words j v some static =
 pub load_is : (words : List ℕ) (l : LoadedComponents) → text_in words 1 ≡ l.header → text_in words 2 ≡ l.directory → text_in words 3 ≡ l.applets
     → text_in words 4 ≡ l.imports → text_in words 5 ≡ l.pool → text_in words 6 ≡ l.classes →
     text_in words 7 ≡ l.methods → text_in words 8 ≡ l.statics → text_in words 10 ≡ l.exports
-    → load_of words ≡ record l { format = V2_1; reference_location = None; descriptor = None }
+    → load_of words ≡ record l { reference_location = None; descriptor = None }
 load_is words l e1 e2 e3 e4 e5 e6 e7 e8 e10 = λ k. record (load_of words) {
   header = e1 k;
   directory = e2 k;

@@ -5,7 +5,6 @@ use Rattle.std.specs.Option.{option_map}
 use Rattle.std.specs.Result.{result_unwrap_or}
 use Rattle.std.proofs.lemmas.List.{get_or_past, take_all}
 use Rattle.std.proofs.lemmas.Bool.{cases_lt}
-use Rattle.jc_cap_linkage.specs.declared.formats.Format.TheVariants.{V2_1}
 use Rattle.jc_cap_linkage.specs.Envelope.{IsEnvelope, info_at}
 use Rattle.jc_cap_linkage.proofs.ToldEnvelope.{info_takes}
 use Rattle.jc_cap.specs.declared.texts.LoadedComponents.{LoadedComponents}
@@ -212,7 +211,6 @@ again_if tag (Some text) r = ap Some (text_again tag text r)
 -- the components that a record keeps
 abbrev pub kept : PackageBytes → LoadedComponents
 kept t = record {
-  format = V2_1;
   header = Some t.header;
   directory = Some t.directory;
   applets = t.applets;

@@ -1,7 +1,6 @@
 -- What is read of a package behind the end of its load.
 use Rattle.std.specs.Prelude.{ℕ, ◌≡◌, ◌<◌, false, List, IfSome, Some, Ok}
 use Rattle.std.specs.List.{All}
-use Rattle.jc_cap_linkage.specs.declared.formats.Format.TheVariants.{V2_1}
 use Rattle.jc_cap.specs.declared.texts.LoadedComponents.{LoadedComponents}
 use Rattle.jc_heap.specs.declared.object.Kind.{Kind}
 use Rattle.jc_heap.specs.Heap.{HeapState}
@@ -21,9 +20,8 @@ use Rattle.law_images.specs.Kept.{IsReadAs}
 abbrev pub AreBytes : List ℕ → Type 0
 AreBytes text = All (λ b. b < 256) text
 
--- components of bytes, in the format in which a record's are read
+-- components of bytes
 pub record IsReadable (load : LoadedComponents) : Type 0 where
-  pub format : load.format ≡ V2_1
   pub header : IfSome load.header AreBytes
   pub directory : IfSome load.directory AreBytes
   pub applets : IfSome load.applets AreBytes

@@ -376,7 +376,7 @@ module _ (P : Effect → MemoryState → Type 0) (Q : MemoryState → Type 0) (b
 
     started_due : (pin limit maximum : ℕ) → IsPinCall method args m pin → AllDue P (pin_init m pin limit maximum) m
     unfolding pin_init
-    started_due pin limit maximum is = due_if P m (not (has_space m maximum)) _ _ (λ on. tt)
+    started_due pin limit maximum is = due_if P m (not (has_space m ByteArray maximum)) _ _ (λ on. tt)
         (λ off. due_if P m (lacks_capacity m (touched_by_init pin)) _ _ (λ on. tt) (λ off. pass.starts pin is limit maximum))
 
     constructed_due : AllDue P (owner_pin_init args m) m

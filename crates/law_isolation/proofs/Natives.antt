@@ -16,7 +16,7 @@ use Rattle.jc_platform.specs.declared.names.PlatformMethod.{PlatformMethod}
 use Rattle.jc_platform.specs.declared.names.PlatformMethod.TheVariants.{AidInit}
 use Rattle.jc_pin.specs.Pins.{record_of}
 use Rattle.jc_pin.specs.PinInit.{value_array}
-use Rattle.jc_pin.specs.Updating.{byte_changes}
+use Rattle.jc_heap.specs.Places.{cell_changes}
 use Rattle.jc_world.specs.Objects.{reference_argument}
 use Rattle.jc_world.specs.declared.arrays.Stretch.{Stretch}
 use Rattle.jc_world.specs.Arrays.{bytes_in}
@@ -105,7 +105,7 @@ module _ (method : PlatformMethod) (args : List Cell) (p : Packages) (m : Memory
     counts = λ pin is n. other_pin pin is;
     refills = λ pin is n limit. other_pin pin is;
     updates = λ pin is bytes owned short. let ne = other_pin pin is in
-        inl (beside_append q (byte_changes (record_of m pin).value 0 bytes) _ (beside_put q (record_of m pin).value 0 bytes (other_value pin is owned))
+        inl (beside_append q (cell_changes (record_of m pin).value 0 bytes) _ (beside_put q (record_of m pin).value 0 bytes (other_value pin is owned))
         (ne, (ne, tt)));
     own_registers = λ is aid instance own there. registers aid instance;
     given_registers = λ is e instance own fine. registers (bytes_in m e) instance;

@@ -21,7 +21,7 @@ use Rattle.jc_memory.specs.Cells.{header_at}
 use Rattle.jc_memory.specs.Owners.{owner_of}
 use Rattle.jc_linker.specs.Values.{Packages}
 use Rattle.jc_pin.specs.Pins.{is_pin}
-use Rattle.jc_pin.specs.Updating.{byte_changes}
+use Rattle.jc_heap.specs.Places.{cell_changes}
 use Rattle.jc_platform.specs.declared.names.PlatformClass.TheVariants.{Aid}
 use Rattle.jc_platform.specs.Distinct.{class_word}
 use Rattle.jc_world.specs.Contexts.{context_of, own_designation, situation_of, subject_of}
@@ -35,7 +35,7 @@ pub beside_append : (q : ℕ) (cs ds : List (Place × ℕ)) → AreBeside q cs �
 beside_append q [] ds first second = second
 beside_append q (c ∷ cs) ds first second = (first.0, beside_append q cs ds first.1 second)
 
-pub beside_put : (q array i : ℕ) (bytes : List ℕ) → (array ≡ q → ⊥) → AreBeside q (byte_changes array i bytes)
+pub beside_put : (q array i : ℕ) (bytes : List ℕ) → (array ≡ q → ⊥) → AreBeside q (cell_changes array i bytes)
 beside_put q array i [] other = tt
 beside_put q array i (b ∷ bs) other = (other, beside_put q array (suc i) bs other)
 

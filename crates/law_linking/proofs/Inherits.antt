@@ -9,7 +9,6 @@ use Rattle.std.proofs.lemmas.List.Quantifiers.{position-Some}
 use Rattle.jc_cap_linkage.specs.declared.class_refs.ClassRef.{ClassRef}
 use Rattle.jc_cap_linkage.specs.declared.class_refs.ClassRef.TheVariants.{External, Internal}
 use Rattle.jc_cap_linkage.specs.declared.formats.Format.{Format}
-use Rattle.jc_cap_linkage.specs.declared.formats.Format.TheVariants.{V2_1}
 use Rattle.jc_cap_code.specs.declared.class_records.ClassRecord.{ClassRecord}
 use Rattle.jc_cap_code.specs.declared.class_records.ClassRecord.TheVariants as records
 use Rattle.jc_cap_code.specs.ClassGrammar.{AreClasses, AreRecords, IsEarlier, IsRecord, LooksBack}
@@ -168,7 +167,8 @@ module _ (p : Packages) (c : LinkerComponents) (imports : List ℕ) (closed : Is
   pub one_by_one : (P : List ClassValue → Type 0) → ((done : List ClassValue) (new : ClassValue) → Inherits p number done new → P done
       → P (done ++ new ∷ [])) → P [] →
       (format : Format) (info : List ℕ) → AreClasses format c.classes info → P (classes_behind p sketched number [] c.classes)
-  one_by_one P step none V2_1 info are = each_more P step 0 [] [] c.classes info are.1 refl (let few = are.0 in omega (arith, few)) refl none
+  one_by_one P step none format info are =
+      each_more P step (length are.0) [] [] c.classes are.1 are.5 refl (let few = are.4 in omega (arith, few)) refl none
 
   pub all_inherit : (format : Format) (info : List ℕ) → AreClasses format c.classes info
       → AllOf (Inherits p number (classes_behind p sketched number [] c.classes)) (classes_behind p sketched number [] c.classes)

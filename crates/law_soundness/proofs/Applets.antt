@@ -139,7 +139,7 @@ module _ (keeps : KeepsSound) (p : Packages) (m : MemoryState) (known : KnowsCla
 
   -- the heap with the AID object, and as its cells are set
   abbrev with_object : HeapState
-  with_object = add_object m.heap.now aid_new (object_size 9)
+  with_object = add_object m.heap.now aid_new (object_size Instance 9)
 
   abbrev with_cells : List ℕ → ℕ → HeapState
   with_cells aid r = set_cells with_object r 0 (cells_of_aid aid)
@@ -170,20 +170,20 @@ module _ (keeps : KeepsSound) (p : Packages) (m : MemoryState) (known : KnowsCla
     free = subst (λ t. is_allocated m.heap.now t ≡ false) new.chosen new.free
 
     item_new : heap_item_at with_object r ≡ AnObject aid_new
-    item_new = subst (λ x. heap_item_at with_object x ≡ AnObject aid_new) (sym new.chosen) (heap_item_at-add_object m.heap.now aid_new (object_size 9) free)
+    item_new = subst (λ x. heap_item_at with_object x ≡ AnObject aid_new) (sym new.chosen) (heap_item_at-add_object m.heap.now aid_new (object_size Instance 9) free)
 
     other : (q : ℕ) → IsObject m.heap.now q → r ≡ q → ⊥
     other q there same = true≢false (sym (object_named m.heap.now q there) ∙ ap (is_allocated m.heap.now) (sym same) ∙ new.free)
 
     item_old : (q : ℕ) → IsObject m.heap.now q → heap_item_at with_object q ≡ heap_item_at m.heap.now q
-    item_old q there = heap_item_at-add_other m.heap.now aid_new (object_size 9) q (λ same. other q there (new.chosen ∙ same))
+    item_old q there = heap_item_at-add_other m.heap.now aid_new (object_size Instance 9) q (λ same. other q there (new.chosen ∙ same))
 
     -- the AID object of an applet is another one
     entry_old : (a : ℕ) → a < m.heap.now.counts.1 → IsObject m.heap.now (entry_word m.heap.now a 0)
     entry_old a lt = (and_parts (is_object_address m.heap.now (entry_word m.heap.now a 0)) _ (sound.now.applets a lt).aid).0
 
     entry_same : (a : ℕ) → entry_word with_object a 0 ≡ entry_word m.heap.now a 0
-    entry_same a = ap (λ l. slice_index l (3 * a + 0)) (applets-add_object m.heap.now aid_new (object_size 9)).1
+    entry_same a = ap (λ l. slice_index l (3 * a + 0)) (applets-add_object m.heap.now aid_new (object_size Instance 9)).1
 
     abbrev after_new : MemoryState
     after_new = apply_effect (HeapMove (new_move Instance aid_class 0 9)) m
@@ -201,7 +201,7 @@ module _ (keeps : KeepsSound) (p : Packages) (m : MemoryState) (known : KnowsCla
         numbers = λ k lt. subst (λ f. reference_cell p f.class k ≡ false) (sym facts_new) (numbers k lt);
         pin = subst (λ f. is_a p f.class OwnerPin ≡ false) (sym facts_new) no_pin;
         apart = λ a lt same.
-            let there : a < m.heap.now.counts.1 = subst (λ n. a < n) (applets-add_object m.heap.now aid_new (object_size 9)).0 lt in
+            let there : a < m.heap.now.counts.1 = subst (λ n. a < n) (applets-add_object m.heap.now aid_new (object_size Instance 9)).0 lt in
             other (entry_word m.heap.now a 0) (entry_old a there) (sym same ∙ entry_same a);
       },
       λ array. absurd (true≢false (ap is_instance (ap (λ f. f.kind) (sym facts_new) ∙ array))),
@@ -252,7 +252,7 @@ module _ (keeps : KeepsSound) (p : Packages) (m : MemoryState) (known : KnowsCla
       facts_instance = facts_after_cells instance ∙ ap facts_of instance_same
 
       counts_after_cells : (with_cells aid r).counts.1 ≡ m.heap.now.counts.1
-      counts_after_cells = (applets-set_cells (cells_of_aid aid) with_object r 0).0 ∙ (applets-add_object m.heap.now aid_new (object_size 9)).0
+      counts_after_cells = (applets-set_cells (cells_of_aid aid) with_object r 0).0 ∙ (applets-add_object m.heap.now aid_new (object_size Instance 9)).0
 
       entry_after_cells : (a : ℕ) → entry_word (with_cells aid r) a 0 ≡ entry_word m.heap.now a 0
       entry_after_cells a = ap (λ l. slice_index l (3 * a + 0)) (applets-set_cells (cells_of_aid aid) with_object r 0).1 ∙ entry_same a

@@ -2,10 +2,11 @@
 use Rattle.std.proofs.Common.{false}
 use Rattle.std.specs.Prelude.{ℕ, suc, ◌==◌, ◌++◌, nat_lt, not, List, [], ◌∷◌, length, Option, Some, None, Result, Ok, Err}
 use Rattle.jc_transient.specs.State.{flag_of}
+use Rattle.jc_heap.specs.declared.object.Kind.TheVariants.{ByteArray}
 use Rattle.jc_heap.specs.declared.place.Place.{Place}
 use Rattle.jc_heap.specs.declared.refusal.HeapRefusal.{HeapRefusal}
 use Rattle.jc_heap.specs.Moves.{SetPlaces, refusal_of_places}
-use Rattle.jc_heap.specs.Places.{places_of}
+use Rattle.jc_heap.specs.Places.{places_of, cell_changes}
 use Rattle.jc_frames.specs.declared.cell.Cell.{Cell}
 use Rattle.jc_frames.specs.declared.outcome.FrameExit.{FrameExit}
 use Rattle.jc_memory.specs.declared.registers.Registers.{Registers}
@@ -21,7 +22,7 @@ use Rattle.jc_pin.specs.Pins.{record_of}
 use Rattle.jc_pin.specs.Checking.{pin_check, is_value, comparison}
 use Rattle.jc_pin.specs.Resetting.{pin_reset}
 use Rattle.jc_pin.specs.PinInit.{first_record, pin_init, touched_by_init, value_array}
-use Rattle.jc_pin.specs.Updating.{byte_changes, unless_no_room, changes_of_update, pin_update}
+use Rattle.jc_pin.specs.Updating.{unless_no_room, changes_of_update, pin_update}
 use Rattle.jc_world.specs.declared.native_result.NativeResult.TheVariants.{ReturnVoid}
 use Rattle.jc_world.specs.NativeCalls.{return_value}
 use Rattle.jc_world.specs.Objects.{short_argument}
@@ -33,7 +34,7 @@ use Rattle.jc_api_data.specs.OwnerPin.{owner_pin_reset_and_unblock}
 use Rattle.law_soundness.specs.LocalEffects.{AreElsewhere}
 use Rattle.law_soundness.proofs.Still.{AllStill, Any, AsksNone, IsLike, IsStillCall, still_bind, still_if, still_makes_new, still_ok, still_some}
 
-put_elsewhere : (bytes : List ℕ) (array i : ℕ) (cs : List (Place × ℕ)) → AreElsewhere cs → AreElsewhere (byte_changes array i bytes ++ cs)
+put_elsewhere : (bytes : List ℕ) (array i : ℕ) (cs : List (Place × ℕ)) → AreElsewhere cs → AreElsewhere (cell_changes array i bytes ++ cs)
 put_elsewhere [] array i cs rest = rest
 put_elsewhere (b ∷ bytes) array i cs rest = (tt, put_elsewhere bytes array (suc i) cs rest)
 
@@ -54,7 +55,7 @@ module _ (g : Registers) where
   started_still : (s : MemoryState) (r limit maximum : ℕ) → AllStill g Any (pin_init s r limit maximum)
   unfolding pin_init
   started_still s r limit maximum =
-      still_if g Any (not (has_space s maximum)) _ _ tt (still_if g Any (lacks_capacity s (touched_by_init r)) _ _ tt
+      still_if g Any (not (has_space s ByteArray maximum)) _ _ tt (still_if g Any (lacks_capacity s (touched_by_init r)) _ _ tt
       (still_makes_new g {A = Result (Unit {0}) PinRefusal} Any (value_array s maximum)
       (λ value. Perform (HeapMove (SetPlaces (first_record r limit maximum value))) (Perform (SetFlag r false) (Finish (Ok tt))))
       (λ value. ((tt, (tt, (tt, (tt, (tt, tt))))), (tt, tt)))))

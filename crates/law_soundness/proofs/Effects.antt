@@ -13,7 +13,7 @@ use Rattle.jc_heap.specs.Object.{facts_of, is_object, new_object, object_size, t
 use Rattle.jc_heap.specs.Heap.{HeapState, LacksCells, add_object, add_transient, cells, facts, goes_back, heap_item_at, is_allocated, set_cell, set_cells}
 use Rattle.jc_heap.specs.Keeping.{AreLegalValues, IsLegalValue}
 use Rattle.jc_heap.specs.Moves.{Move, Write, SetPlaces, WriteNonAtomic, SetCells, AddObject, AddTransient, AddPackage, Begin, Commit, Abort, new_move}
-use Rattle.jc_heap.specs.Places.{applet_changes, place_word, set_places}
+use Rattle.jc_heap.specs.Places.{applet_changes, place_word, set_places, cell_changes}
 use Rattle.jc_heap.specs.Statics.{set_word}
 use Rattle.jc_heap.specs.Whole.{IsReference}
 use Rattle.jc_heap.proofs.KeepingMoves.{keeps}
@@ -25,7 +25,6 @@ use Rattle.jc_memory.specs.State.{MemoryState, Effect, HeapMove, SetTransient, S
 use Rattle.jc_memory.specs.State.{apply_effect, ram_after_move}
 use Rattle.jc_linker.specs.Values.{Packages}
 use Rattle.jc_pin.specs.PinInit.{first_record}
-use Rattle.jc_pin.specs.Updating.{byte_changes}
 use Rattle.jc_card_checks.specs.Objects.{is_bytes, is_instance, is_persistent_instance, is_reference, is_object_address}
 use Rattle.law_soundness.specs.State.{IsFitObject, IsSoundMemory, IsSoundUpTo, is_applet, is_open, is_owner_up_to, last_own, most_owner}
 use Rattle.law_soundness.specs.Fit.{AreStatics, FitsChange, FitsMove, FitsNew, FitsPlace, FitsRun, IsFit, IsPinObject, KeepsSound, OfPin, OfRegistry, OfStatics}
@@ -64,7 +63,7 @@ statics_suit p h ((Registry i, v) ∷ cs) fits = absurd fits
 statics_suit p h ((AppletCount, v) ∷ cs) fits = absurd fits
 
 bytes_suit : (h : HeapState) (bytes : List ℕ) (array i : ℕ) (cs : List (Place × ℕ)) → ((bytes ≡ [] → ⊥) → is_bytes (facts h array).kind ≡ true)
-    → AreLegalValues h cs → AreLegalValues h (byte_changes array i bytes ++ cs)
+    → AreLegalValues h cs → AreLegalValues h (cell_changes array i bytes ++ cs)
 bytes_suit h [] array i cs kind may = may
 bytes_suit h (b ∷ bytes) array i cs kind may =
     let is : is_bytes (facts h array).kind ≡ true = kind (λ e. let n : suc (length bytes) ≡ 0 = ap length e in omega (arith, n)) in
@@ -229,13 +228,13 @@ module _ (p : Packages) (m : MemoryState) (s : IsSoundMemory p m) where
       rest = (Cell f.pin 3, length f.bytes) ∷ (Cell f.pin 2, word_at m f.pin 0) ∷ []
 
       new : List (Place × ℕ)
-      new = byte_changes array 0 f.bytes ++ rest
+      new = cell_changes array 0 f.bytes ++ rest
 
       word : (k : ℕ) → word_at m f.pin k ≡ get_or (cells m.heap.now f.pin) k 0
       word k = ap (λ e. word_in e m f.pin k) (event_none (facts m.heap.now f.pin) f.object.kept)
 
       is : changes ≡ new
-      is = f.is ∙ ap (λ a. byte_changes a 0 f.bytes ++ (Cell f.pin 3, length f.bytes) ∷ (Cell f.pin 2, word_at m f.pin 0) ∷ []) (word 4)
+      is = f.is ∙ ap (λ a. cell_changes a 0 f.bytes ++ (Cell f.pin 3, length f.bytes) ∷ (Cell f.pin 2, word_at m f.pin 0) ∷ []) (word 4)
 
       short : length f.bytes ≤ get_or (cells m.heap.now f.pin) 1 0
       short = subst (λ n. length f.bytes ≤ n) (word 1) f.short
@@ -294,12 +293,12 @@ module _ (p : Packages) (m : MemoryState) (s : IsSoundMemory p m) where
       → IsSoundMemory p (apply_effect (HeapMove (new_move kind class owner long)) m)
   new_kept kind class owner long fits =
       let added : (most : ℕ) → is_owner_up_to most m.heap.now owner ≡ true → IsSoundUpTo most p m.heap.now (last_own m)
-      → IsSoundUpTo most p (add_object m.heap.now (new_object kind class owner long) (object_size long)) (last_own m) =
-      λ most known sound. of_all most (last_own m) p m.heap.now (add_object m.heap.now (new_object kind class owner long) (object_size long))
+      → IsSoundUpTo most p (add_object m.heap.now (new_object kind class owner long) (object_size kind long)) (last_own m) =
+      λ most known sound. of_all most (last_own m) p m.heap.now (add_object m.heap.now (new_object kind class owner long) (object_size kind long))
       (object_added (last_own m) most (last_own m) p m.heap.now kind class owner long
-      (object_size long) free s.whole.now.whole.met fits.there known fits.small) sound in
-      change_kept p m s (add_object m.heap.now (new_object kind class owner long) (object_size long)) _ (object_size long)
-      (object_frames m.heap.now (new_object kind class owner long) (object_size long))
+      (object_size kind long) free s.whole.now.whole.met fits.there known fits.small) sound in
+      change_kept p m s (add_object m.heap.now (new_object kind class owner long) (object_size kind long)) _ (object_size kind long)
+      (object_frames m.heap.now (new_object kind class owner long) (object_size kind long))
       (keeps (new_move kind class owner long) m.heap (omega arith, (refl, λ array i lt. inl (zeros long i))) s.whole)
       (added (most_owner m) (known_now p m s owner fits.known) s.now) (λ off. added m.heap.now.counts.1 (known_low p m s owner fits.known off)
       (low_now p m s off)) (ram_after_move (new_move kind class owner long) m.heap m.ram)

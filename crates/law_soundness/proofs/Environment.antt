@@ -138,8 +138,8 @@ module _ (p : Packages) (m : MemoryState) (s : IsSoundMemory p m) (e : HasEnviro
     durable = change_so _ (same_run words m.heap.now r i) m.heap.begun;
   }
   move_so (AddObject o size) fits = subst (λ move. HasEnvironment p (apply_effect (HeapMove move) m)) (sym fits.is) (record {
-    now = object_so fits.kind fits.class fits.owner fits.long (object_size fits.long) fits.fits;
-    durable = changed_so _ (λ old. object_so fits.kind fits.class fits.owner fits.long (object_size fits.long) fits.fits) m.heap.begun;
+    now = object_so fits.kind fits.class fits.owner fits.long (object_size fits.kind fits.long) fits.fits;
+    durable = changed_so _ (λ old. object_so fits.kind fits.class fits.owner fits.long (object_size fits.kind fits.long) fits.fits) m.heap.begun;
   })
   move_so (AddTransient kind event class owner long) fits = record {
     now = transient_so kind event class owner long fits.0;

@@ -7,12 +7,11 @@ use Rattle.jc_heap.specs.declared.place.Place.{Place}
 use Rattle.jc_heap.specs.declared.place.Place.TheVariants.{Cell, Static, Registry, AppletCount}
 use Rattle.jc_heap.specs.Object.{AnObject, APackage, Item, Object, header_only, facts_of, is_object, new_transient}
 use Rattle.jc_heap.specs.Heap.{HeapState, add_object, add_transient, area_end, facts, heap_item_at, set_cell, set_cells, with_area_end}
-use Rattle.jc_heap.specs.Places.{set_places}
+use Rattle.jc_heap.specs.Places.{set_places, cell_changes}
 use Rattle.jc_heap.specs.Statics.{set_word}
 use Rattle.jc_heap.proofs.Laws.{header_only-set_cell, facts-set_cell, heap_item_at-add_other, same_facts}
 use Rattle.jc_heap.proofs.RecordWords.{header_only-set_word}
 use Rattle.jc_linker.specs.Values.{Packages}
-use Rattle.jc_pin.specs.Updating.{byte_changes}
 use Rattle.law_soundness.specs.Fit.{AreStatics}
 
 bare_object : (t : Item) → is_object (header_only t) ≡ is_object t
@@ -120,6 +119,6 @@ statics_held p h ((Cell r i, v) ∷ cs) fits = absurd fits
 statics_held p h ((Registry i, v) ∷ cs) fits = absurd fits
 statics_held p h ((AppletCount, v) ∷ cs) fits = absurd fits
 
-pub bytes_held : (bytes : List ℕ) (array i : ℕ) (cs : List (Place × ℕ)) → AreHeld cs → AreHeld (byte_changes array i bytes ++ cs)
+pub bytes_held : (bytes : List ℕ) (array i : ℕ) (cs : List (Place × ℕ)) → AreHeld cs → AreHeld (cell_changes array i bytes ++ cs)
 bytes_held [] array i cs held = held
 bytes_held (b ∷ bytes) array i cs held = bytes_held bytes array (suc i) cs held

@@ -9,7 +9,7 @@ use Rattle.jc_heap.specs.declared.place.Place.{Place}
 use Rattle.jc_heap.specs.declared.place.Place.TheVariants.{Cell, Static, Registry, AppletCount}
 use Rattle.jc_heap.specs.Object.{header_only, is_object}
 use Rattle.jc_heap.specs.Heap.{HeapState, IsObject, cells, facts, heap_item_at, set_cell}
-use Rattle.jc_heap.specs.Places.{set_place, set_places}
+use Rattle.jc_heap.specs.Places.{set_place, set_places, cell_changes}
 use Rattle.jc_heap.specs.Statics.{set_word}
 use Rattle.jc_heap.proofs.Laws.{header_only-set_cell, cells-set_other, facts-set_cell, same_facts}
 use Rattle.jc_heap.proofs.Keeping.{object-header_only}
@@ -18,7 +18,6 @@ use Rattle.jc_memory.specs.State.{MemoryState}
 use Rattle.jc_linker.specs.Classes.{reference_cell}
 use Rattle.jc_linker.specs.Values.{Packages}
 use Rattle.jc_pin.specs.PinInit.{first_record}
-use Rattle.jc_pin.specs.Updating.{byte_changes}
 use Rattle.jc_card_checks.specs.Objects.{fits_pin, has_value, is_a, is_byte_array, is_bytes, is_instance, is_persistent_instance, is_reference}
 use Rattle.jc_card_checks.specs.Objects.{is_object_address}
 use Rattle.law_soundness.specs.State.{IsSoundUpTo}
@@ -203,7 +202,7 @@ module _ (most own : ℕ) (p : Packages) (h : HeapState) (r limit maximum value 
 
 bytes_kept : (x most own : ℕ) (p : Packages) (bytes : List ℕ) (h : HeapState) (array i : ℕ)
     → ((bytes ≡ [] → ⊥) → is_persistent_instance (facts h array) ≡ false) → IsSoundBut x most p h own
-    → IsSoundBut x most p (set_places h (byte_changes array i bytes)) own
+    → IsSoundBut x most p (set_places h (cell_changes array i bytes)) own
 bytes_kept x most own p [] h array i none s = s
 bytes_kept x most own p (b ∷ bytes) h array i none s =
     let no_instance : is_persistent_instance (facts h array) ≡ false = none (λ e. cons_nil b bytes e) in
@@ -214,7 +213,7 @@ bytes_kept x most own p (b ∷ bytes) h array i none s =
     cons_nil b bytes e = let n : suc (length bytes) ≡ 0 = ap length e in omega (arith, n)
 
 bytes_beside : (r : ℕ) (bytes : List ℕ) (h : HeapState) (array i : ℕ) → ((bytes ≡ [] → ⊥) → array ≡ r → ⊥)
-    → cells (set_places h (byte_changes array i bytes)) r ≡ cells h r
+    → cells (set_places h (cell_changes array i bytes)) r ≡ cells h r
 bytes_beside r [] h array i ne = refl
 bytes_beside r (b ∷ bytes) h array i ne =
     let other : array ≡ r → ⊥ = ne (λ e. let n : suc (length bytes) ≡ 0 = ap length e in omega (arith, n)) in
@@ -268,10 +267,10 @@ module _ (most own : ℕ) (p : Packages) (h : HeapState) (r limit : ℕ) (bytes 
   other some e = false≢true (sym (plain some) ∙ ap (λ n. is_persistent_instance (facts h n)) e ∙ pin.kept)
 
   abbrev filled : HeapState
-  filled = set_places h (byte_changes array 0 bytes)
+  filled = set_places h (cell_changes array 0 bytes)
 
   pin_filled : PinAt p filled r
-  pin_filled = pin_still p h filled r (places_still (byte_changes array 0 bytes) h r) pin
+  pin_filled = pin_still p h filled r (places_still (cell_changes array 0 bytes) h r) pin
 
   abbrev longer : HeapState
   longer = set_cell filled r 3 (length bytes)
@@ -290,11 +289,11 @@ module _ (most own : ℕ) (p : Packages) (h : HeapState) (r limit : ℕ) (bytes 
   stays k two three = ap (λ l. get_or l k 0) held ∙ get_or-set_other (set (cells h r) 3 (length bytes)) 2 k limit 0 two
       ∙ get_or-set_other (cells h r) 3 k (length bytes) 0 three
 
-  joined : set_places h (byte_changes array 0 bytes ++ (Cell r 3, length bytes) ∷ (Cell r 2, limit) ∷ []) ≡ after
-  joined = places_joined (byte_changes array 0 bytes) ((Cell r 3, length bytes) ∷ (Cell r 2, limit) ∷ []) h
+  joined : set_places h (cell_changes array 0 bytes ++ (Cell r 3, length bytes) ∷ (Cell r 2, limit) ∷ []) ≡ after
+  joined = places_joined (cell_changes array 0 bytes) ((Cell r 3, length bytes) ∷ (Cell r 2, limit) ∷ []) h
 
   carry : Carries h after
-  carry = subst (Carries h) joined (places_carry (byte_changes array 0 bytes ++ (Cell r 3, length bytes) ∷ (Cell r 2, limit) ∷ []) h)
+  carry = subst (Carries h) joined (places_carry (cell_changes array 0 bytes ++ (Cell r 3, length bytes) ∷ (Cell r 2, limit) ∷ []) h)
 
   right : fits_pin p after (facts after r).class (cells after r) ≡ true
   right =
@@ -316,5 +315,5 @@ module _ (most own : ℕ) (p : Packages) (h : HeapState) (r limit : ℕ) (bytes 
       (pin_cell r most own p filled 3 (length bytes) pin_filled (omega arith) (λ e. absurd (omega (arith, e)))
       (bytes_kept r most own p bytes h array 0 plain (but_one r most p h own s)))
 
-  pub update_kept : IsSoundUpTo most p (set_places h (byte_changes array 0 bytes ++ (Cell r 3, length bytes) ∷ (Cell r 2, limit) ∷ [])) own
+  pub update_kept : IsSoundUpTo most p (set_places h (cell_changes array 0 bytes ++ (Cell r 3, length bytes) ∷ (Cell r 2, limit) ∷ [])) own
   update_kept = subst (λ g. IsSoundUpTo most p g own) (sym joined) (with_one r most p after own (λ a there kept. right) but_after)

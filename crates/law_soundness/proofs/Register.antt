@@ -53,7 +53,7 @@ module _ (p : Packages) (m : MemoryState) (steady : IsSteady m) where
     aid_new = new_object Instance (class_word p.platform Aid) 0 9
 
     abbrev with_object : HeapState
-    with_object = add_object m.heap.now aid_new (object_size 9)
+    with_object = add_object m.heap.now aid_new (object_size Instance 9)
 
     abbrev after_cells : MemoryState
     after_cells = apply_effect (HeapMove (SetCells r 0 (cells_of_aid aid)))
@@ -69,10 +69,10 @@ module _ (p : Packages) (m : MemoryState) (steady : IsSteady m) where
     after_registering = apply_effect (SetRegisters (with_installation after_entry (Registered k))) (apply_effect (HeapMove Commit) after_entry)
 
     counts_after_cells : after_cells.heap.now.counts ≡ m.heap.now.counts
-    counts_after_cells = (run_frames (cells_of_aid aid) with_object r 0).counts ∙ (object_frames m.heap.now aid_new (object_size 9)).counts
+    counts_after_cells = (run_frames (cells_of_aid aid) with_object r 0).counts ∙ (object_frames m.heap.now aid_new (object_size Instance 9)).counts
 
     packages_after_cells : after_cells.heap.now.packages ≡ m.heap.now.packages
-    packages_after_cells = (run_frames (cells_of_aid aid) with_object r 0).packages ∙ (object_frames m.heap.now aid_new (object_size 9)).packages
+    packages_after_cells = (run_frames (cells_of_aid aid) with_object r 0).packages ∙ (object_frames m.heap.now aid_new (object_size Instance 9)).packages
 
     -- there is one applet more, who might own objects before
     one_more : is_open m.registers.installation ≡ true → after_registering.heap.now.counts.1 ≡ most_owner m

@@ -8,7 +8,7 @@ use Rattle.std.proofs.lemmas.Option.{none-some, same_Some}
 use Rattle.std.specs.List.{range_with_len}
 use Rattle.std.specs.Prelude.{◌==◌, nat_le, slice_index}
 use Rattle.jc_heap.specs.Heap.{HeapState, cells, heap_item_at, set_cell, set_cells}
-use Rattle.jc_heap.specs.Image.{packed_byte, bytes_of_packed}
+use Rattle.jc_heap.specs.Packed.{packed_byte, bytes_of_packed}
 use Rattle.jc_heap.specs.Object.{header_only}
 use Rattle.jc_heap.proofs.Laws.{header_only-set_cell, cells-set_cell, heap_item_at-set_other, length-cells-set_cell}
 use Rattle.jc_card_checks.specs.Sound.{aid_in}

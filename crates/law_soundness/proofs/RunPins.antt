@@ -65,16 +65,16 @@ module _ (p : Packages) (m : MemoryState) (sound : IsSoundMemory p m) (steady : 
   array = new_object ByteArray 0 (owner_number m.registers.active) maximum
 
   with_array : HeapState
-  with_array = add_object m.heap.now array (object_size maximum)
+  with_array = add_object m.heap.now array (object_size ByteArray maximum)
 
   array_at : (value : ℕ) → IsNew m.heap.now value → heap_item_at with_array value ≡ AnObject array
   unfolding array with_array
   array_at value new = subst (λ x. heap_item_at with_array x ≡ AnObject array) (sym new.chosen)
-      (heap_item_at-add_object m.heap.now array (object_size maximum) (subst (λ t. is_allocated m.heap.now t ≡ false) new.chosen new.free))
+      (heap_item_at-add_object m.heap.now array (object_size ByteArray maximum) (subst (λ t. is_allocated m.heap.now t ≡ false) new.chosen new.free))
 
   pin_there : (value : ℕ) → IsNew m.heap.now value → heap_item_at with_array r ≡ heap_item_at m.heap.now r
   unfolding array with_array
-  pin_there value new = heap_item_at-add_other m.heap.now array (object_size maximum) r
+  pin_there value new = heap_item_at-add_other m.heap.now array (object_size ByteArray maximum) r
       (λ same. true≢false (sym (object_named m.heap.now r pin.there) ∙ ap (is_allocated m.heap.now) (sym same ∙ sym new.chosen) ∙ new.free))
 
   is_bytes_new : is_byte_array array.facts maximum ≡ true

@@ -1,5 +1,5 @@
 //! Files of the operating system that hold words.
-use jc_words::{FileCreateFault, FileOpenFault, FileStore, StoreDown, WordStore};
+use jc_words::{FileCreateFault, FileOpenFault, FileStore, StdFile, StoreDown, WordStore};
 use std::fs::File;
 use std::io::Read;
 use std::process::Abort;
@@ -13,6 +13,22 @@ fn put<S: WordStore>(store: &mut S, i: u16, v: u16) -> Result<(), StoreDown> {
         store.write(i, v)?;
     }
     Ok(())
+}
+
+// Opens a file of this name to change it.
+fn opened<R: Files<File = File> + AllocGlobal>(
+    rt: &R,
+    path: &str,
+) -> Result<FileStore<StdFile<File>>, FileOpenFault> {
+    FileStore::open(rt, path).map_err(|unopened| unopened.fault)
+}
+
+// Opens a file of this name to read it alone.
+fn opened_to_read<R: Files<File = File> + AllocGlobal>(
+    rt: &R,
+    path: &str,
+) -> Result<FileStore<StdFile<File>>, FileOpenFault> {
+    FileStore::open_to_read(rt, path).map_err(|unopened| unopened.fault)
 }
 
 // The bytes of a file of this name.
@@ -65,10 +81,10 @@ fn check_counting<R: Files<File = File> + AllocGlobal + Abort>(
     rt: &R,
     path: &str,
 ) -> Result<(), Fail> {
-    let opened = FileStore::open(rt, path)?;
-    assert_eq!(rt; opened.size(), 4096);
-    for i in 0..opened.size() {
-        assert_eq!(rt; opened.read(i), i);
+    let store = opened(rt, path)?;
+    assert_eq!(rt; store.size(), 4096);
+    for i in 0..store.size() {
+        assert_eq!(rt; store.read(i), i);
     }
     Ok(())
 }
@@ -112,8 +128,8 @@ fn check_not_made<R: Abort>(
 
 #[test]
 fn a_file_that_is_not_there_is_told(rt: HostRuntime) -> Result<(), Fail> {
-    let opened = FileStore::open(&rt, "no_such_file.image").err();
-    check_not_opened(&rt, opened, FileOpenFault::CannotOpen)?;
+    let fault = opened(&rt, "no_such_file.image").err();
+    check_not_opened(&rt, fault, FileOpenFault::CannotOpen)?;
     let made = FileStore::create(&rt, "no_such_folder/words.image", 4096).err();
     check_not_made(&rt, made, FileCreateFault::CannotWrite)
 }
@@ -123,7 +139,7 @@ fn check_in_use<R: Files<File = File> + AllocGlobal + Abort>(
     rt: &R,
     path: &str,
 ) -> Result<(), Fail> {
-    check_not_opened(rt, FileStore::open(rt, path).err(), FileOpenFault::InUse)?;
+    check_not_opened(rt, opened(rt, path).err(), FileOpenFault::InUse)?;
     check_not_made(
         rt,
         FileStore::create(rt, path, 5000).err(),
@@ -138,11 +154,7 @@ fn check_not_read<R: Files<File = File> + AllocGlobal + Abort>(
     rt: &R,
     path: &str,
 ) -> Result<(), Fail> {
-    check_not_opened(
-        rt,
-        FileStore::open_to_read(rt, path).err(),
-        FileOpenFault::InUse,
-    )
+    check_not_opened(rt, opened_to_read(rt, path).err(), FileOpenFault::InUse)
 }
 
 #[test]
@@ -155,10 +167,10 @@ fn a_file_that_is_being_changed_is_in_use(rt: HostRuntime) -> Result<(), Fail> {
         put(&mut made, 0, 0xABCD)?;
     }
     {
-        let opened = FileStore::open(&rt, path)?;
+        let store = opened(&rt, path)?;
         check_in_use(&rt, path)?;
         check_not_read(&rt, path)?;
-        assert_eq!(rt; opened.size(), 4096);
+        assert_eq!(rt; store.size(), 4096);
     }
     check_made(&rt, path, 4097)?;
     fs::remove_file(&rt, path)?;
@@ -170,8 +182,8 @@ fn a_file_that_is_being_read_is_read_by_others_alone(rt: HostRuntime) -> Result<
     let path = "read.image";
     make_counting(&rt, path)?;
     {
-        let mut one = FileStore::open_to_read(&rt, path)?;
-        let other = FileStore::open_to_read(&rt, path)?;
+        let mut one = opened_to_read(&rt, path)?;
+        let other = opened_to_read(&rt, path)?;
         check_in_use(&rt, path)?;
         assert!(rt; one.size() == 4096 && other.size() == 4096);
         assert!(rt; put(&mut one, 0, 1).is_err());

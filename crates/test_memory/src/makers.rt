@@ -32,7 +32,7 @@ fn a_file_that_is_made_and_opened(rt: HostRuntime) -> Result<(), Fail> {
     }
     match FileStore::open(&rt, path) {
         Ok(store) => assert_eq!(rt; store.size(), 4096),
-        Err(fault) => assert_eq!(rt; fault, FileOpenFault::NoMemory),
+        Err(unopened) => assert_eq!(rt; unopened.fault, FileOpenFault::NoMemory),
     }
     fs::remove_file(&rt, path)?;
     Ok(())

@@ -9,6 +9,9 @@
 //! `room N`                      how many bytes of answers there is room for
 //! `file NAME TEXT`, `table NAME [SIZE]`, `fill NAME COUNT WORD`, `copy NAME OTHER`, `put NAME PLACE WORDS`
 //!                               a file of a text, of the example of a platform table, of words; a copy; words that are changed
+//! `memory script TEXT`          the text `script` of the disk in memory, whose text `table` is the example of a platform table
+//! `memory jcard WORDS`          the program with these words, on the disk in memory
+//! `memory writes NAME`          how many words were written to that image of it since it was made
 //! `same NAME OTHER`, `there NAME`
 //!                               whether two files have the same bytes, and whether one is there
 //!
@@ -19,8 +22,12 @@ use crate::files;
 use crate::printed::told;
 use crate::stream::{Manner, Stream, manner_of};
 use crate::text::{known, text_of, words_of};
+use jc_platform::example::EXAMPLE;
 use jcard_commands::disk::SystemDisk;
+use jcard_commands::image_file::ImageFile;
+use jcard_commands::mem_disk::MemDisk;
 use jcard_commands::run::run_words;
+use jcard_commands::text_file::TextFile;
 use jcard_script::mem_text::MemText;
 use jcard_script::script::ScriptFault;
 use jcard_script::std_text::StdText;
@@ -29,6 +36,7 @@ use std::alloc::{AllocError, Global};
 use std::cell::Cell;
 use std::fs::File;
 use std::io::{self, ErrorKind};
+use std::mem;
 use std::rt::Files;
 use test_row_files::subject::FileSubject;
 
@@ -38,14 +46,19 @@ pub struct Desk {
     reader: Manner,
     writer: Manner,
     room: usize,
+    // Of the disk in memory.
+    script: String,
+    images: Vec<ImageFile>,
 }
 
 impl FileSubject for Desk {
-    fn begin(_alloc: Global) -> Result<Self, AllocError> {
+    fn begin(alloc: Global) -> Result<Self, AllocError> {
         Ok(Desk {
             reader: Manner::Memory,
             writer: Manner::Memory,
             room: 10_000,
+            script: String::new(alloc),
+            images: Vec::new(alloc),
         })
     }
 
@@ -75,6 +88,7 @@ impl Desk {
             "jcard" => self.run_program(rt, command),
             "script" => self.run_script(rt.alloc(), text_of(rt.alloc(), rest)?.as_bytes()),
             "conversation" => converse(rt.alloc()),
+            "memory" => self.in_memory(rt.alloc(), rest),
             "room" | "reader" | "writer" => {
                 self.set(verb, rest)?;
                 Ok(String::from_str(rt.alloc(), "ok")?)
@@ -96,6 +110,44 @@ impl Desk {
         let mut out = MemText::new(rt.alloc(), b"", self.room)?;
         let status = run_words(&mut SystemDisk::new(rt), words.as_slice(), &mut out);
         Ok(told(rt.alloc(), status, out.written())?)
+    }
+
+    /// Carries out a command on the disk in memory.
+    fn in_memory(&mut self, alloc: Global, command: &str) -> io::Result<String> {
+        let (verb, rest) = known(command.split_once(' '))?;
+        match verb {
+            "script" => {
+                self.script = text_of(alloc, rest)?;
+                Ok(String::from_str(alloc, "ok")?)
+            }
+            "jcard" => self.run_in_memory(alloc, command),
+            "writes" => {
+                let count = known(writes_of(self.images.as_slice(), rest))?;
+                Ok(format!(in alloc; "{count}")?)
+            }
+            _ => known(None),
+        }
+    }
+
+    /// Runs the program with these words on the disk in memory: the exit status, and what it printed.
+    fn run_in_memory(&mut self, alloc: Global, words: &str) -> io::Result<String> {
+        let words = words_of(alloc, words)?;
+        let texts = [
+            TextFile {
+                name: "table",
+                bytes: EXAMPLE.as_bytes(),
+            },
+            TextFile {
+                name: "script",
+                bytes: self.script.as_bytes(),
+            },
+        ];
+        let mut out = MemText::new(alloc, b"", self.room)?;
+        let images = mem::replace(&mut self.images, Vec::new(alloc));
+        let mut disk = MemDisk::new(alloc, &texts, images);
+        let status = run_words(&mut disk, words.as_slice(), &mut out);
+        self.images = disk.into_images();
+        Ok(told(alloc, status, out.written())?)
     }
 
     /// Changes how the next program or script is run.
@@ -135,6 +187,16 @@ impl Desk {
             }
         }
     }
+}
+
+/// How many words were written to the image of this name.
+fn writes_of(images: &[ImageFile], name: &str) -> Option<u64> {
+    for image in images {
+        if image.name() == name {
+            return Some(image.writes());
+        }
+    }
+    None
 }
 
 /// Carries out what is asked in a conversation, and tells how many lines were answered.

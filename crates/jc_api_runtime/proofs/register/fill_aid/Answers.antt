@@ -1,10 +1,15 @@
-use Rattle.std.proofs.Common.{◌≡◌, ℕ, false, List, ◌++◌, length, OnOk, subst}
+use Rattle.std.proofs.Common.{◌≡◌, ℕ, false, List, ◌++◌, length, OnOk, subst, ap, ◌&&◌}
+use Rattle.jc_heap.specs.Object.{has_bytes}
+use Rattle.jc_heap.specs.Heap.{facts}
 use Rattle.jc_heap.specs.declared.touch.Touch.{Touch}
 use Rattle.jc_heap.specs.Touches.{touched_cells}
 use Rattle.jc_memory.specs.Programs.{Executes}
 use Rattle.jc_heap.specs.Completions.{after_step}
 use Rattle.jc_memory.specs.Room.{lacks_capacity, cells_update}
 use Rattle.jc_api_runtime.proofs.register.fill_aid.Goals as goal
+
+pub set_within_capacity-requires-clause-plain : goal.set_within_capacity-requires-clause-plain
+set_within_capacity-requires-clause-plain g c = ap (λ k. has_bytes k && (facts c.args.memory.now.heap.now c.args.object).packed) c.requires.kind
 
 pub returns-clause-made : goal.returns-clause-made
 returns-clause-made g c =

@@ -1,6 +1,5 @@
-use Rattle.std.proofs.Common.{◌≡◌, ◌-◌, ◌<◌, ℕ, subst, arith, drop}
+use Rattle.std.proofs.Common.{◌≡◌, ◌-◌, ℕ, subst, arith, drop}
 use Rattle.jc_cap_linkage.specs.Reading.{many_at, list_or_empty, BeginsWithList}
-use Rattle.jc_cap_linkage.specs.Places.{IsAtPlace}
 use Rattle.jc_cap_linkage.proofs.Many.{BeginsWithList-length}
 use Rattle.jc_cap_linkage.proofs.Walk.{step_at, found_at, no_fault_there}
 use Rattle.jc_cap_linkage.proofs.counted.seek.Goals as goal

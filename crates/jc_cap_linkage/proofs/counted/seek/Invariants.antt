@@ -1,4 +1,4 @@
-use Rattle.std.proofs.Common.{◌-◌, length, drop}
+use Rattle.std.proofs.Common.{◌-◌, drop}
 use Rattle.jc_cap_linkage.specs.Reading.{many_at, list_or_empty, BeginsWithList}
 use Rattle.jc_cap_linkage.proofs.counted.seek.Given as goal
 

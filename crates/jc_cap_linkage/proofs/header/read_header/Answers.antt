@@ -5,9 +5,7 @@ use Rattle.jc_cap_linkage.specs.ComponentViews.{head}
 use Rattle.jc_cap_linkage.proofs.header.read_header.Goals as goal
 
 pub returns-clause-found : goal.returns-clause-found
-returns-clause-found c = is_found head (header_at c.args.format) (IsHeader c.args.format)
-    (header_tells c.args.format) c.args.info.now c.whole_header.result c.whole_header.ensures
+returns-clause-found c = is_found head header_at IsHeader header_tells c.args.info.now c.whole_header.result c.whole_header.ensures
 
 pub returns-clause-only : goal.returns-clause-only
-returns-clause-only c = is_only head (header_at c.args.format) (IsHeader c.args.format)
-    (header_tells c.args.format) c.args.info.now c.whole_header.result c.whole_header.ensures
+returns-clause-only c = is_only head header_at IsHeader header_tells c.args.info.now c.whole_header.result c.whole_header.ensures

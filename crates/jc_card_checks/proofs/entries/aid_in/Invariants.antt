@@ -1,7 +1,7 @@
 use Rattle.std.proofs.Common.{◌≡◌, length, map, drop}
 use Rattle.std.specs.List.{range_with_len}
 use Rattle.jc_heap.specs.Heap.{cells}
-use Rattle.jc_heap.specs.Image.{packed_byte}
+use Rattle.jc_heap.specs.Packed.{packed_byte}
 use Rattle.jc_card_checks.proofs.entries.aid_in.Given as goal
 
 abbrev pub invariant-loop-i : goal.invariant-loop-i

@@ -2,7 +2,7 @@ use Rattle.std.proofs.Common.{sym, ◌∙◌, ◌++◌, ◌∷◌, [], ◌/◌, 
 use Rattle.std.specs.List.{range_with_len}
 use Rattle.std.proofs.lemmas.List.FromFn.{map-range_with_len_more}
 use Rattle.jc_heap.specs.Components.{record_of}
-use Rattle.jc_heap.specs.Image.{packed_byte}
+use Rattle.jc_heap.specs.Packed.{packed_byte}
 use Rattle.jc_card_load.proofs.reading.read_text.Goals as goal
 
 pub loop-i-preserved : goal.loop-i-preserved

@@ -1,7 +1,7 @@
 use Rattle.std.proofs.Common.{◌≡◌, ◌∷◌, ◌/◌, ◌%◌, map, drop}
 use Rattle.std.specs.List.{range_with_len}
 use Rattle.jc_heap.specs.Components.{record_of}
-use Rattle.jc_heap.specs.Image.{packed_byte}
+use Rattle.jc_heap.specs.Packed.{packed_byte}
 use Rattle.jc_card_load.proofs.reading.read_text.Given as goal
 
 abbrev pub invariant-loop-i : goal.invariant-loop-i

@@ -5,8 +5,8 @@ use Rattle.jc_heap.proofs.NewPackages.{length-package_record}
 use Rattle.jc_heap.proofs.Streams.{Stands, first_piece, next_piece, stands_below, stands_free}
 use Rattle.jc_heap.proofs.adding.write_package.Goals as goal
 
-pub write_arrays-requires : goal.write_arrays-requires
-write_arrays-requires g c =
+pub write_arrays-requires-clause-free : goal.write_arrays-requires-clause-free
+write_arrays-requires-clause-free g c =
     let rec = package_record c.args.at (parts c.args.components.now) (array_inits c.args.arrays.now) c.args.image.now in
     let size : c.args.at + c.args.size ≡ c.args.at + length rec = ap (λ n. c.args.at + n)
     (c.requires.size ∙ sym (length-package_record c.args.at (parts c.args.components.now) (array_inits c.args.arrays.now) c.args.image.now)) in

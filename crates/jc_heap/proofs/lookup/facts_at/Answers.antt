@@ -63,8 +63,8 @@ returns-clause-facts g c =
     let there : IsObject (heap_of c.args.journal.now.plain) c.address-at.result = subst (IsObject (heap_of c.args.journal.now.plain))
     (sym c.address-at.ensures) c.requires.there in
     facts_built c.args.journal.now.plain c.address-at.result c.requires.laid there c.read-word.result c.of.result c.event_of_number.result c.read.result
-    c.read-2.result c.read-3.result c.area_place-place.result
-    c.read-word.ensures c.of.ensures c.event_of_number.ensures c.read.ensures c.read-2.ensures c.read-3.ensures c.area_place-place.ensures
+    c.read-2.result c.read-3.result c.area_place-place.result c.is_packed_header.result
+    c.read-word.ensures c.of.ensures c.event_of_number.ensures c.read.ensures c.read-2.ensures c.read-3.ensures c.area_place-place.ensures c.is_packed_header.ensures
     ∙ ap (facts (heap_of c.args.journal.now.plain)) c.address-at.ensures
 
 pub returns-clause-cells : goal.returns-clause-cells

@@ -8,7 +8,7 @@ use Rattle.jc_heap.proofs.record.write_references.Goals as goal
 pub overflow_cast-address : goal.overflow_cast-address
 overflow_cast-address g c = omega (
   arith,
-  c.cell_count.ensures,
+  c.packed_size.ensures,
   arrays-counted c.args.arrays.now c.loop-k.k c.loop-k-test.true,
   arrays-below c.args.arrays.now (c.loop-k.k + 1),
   c.requires.small,
@@ -17,7 +17,7 @@ overflow_cast-address g c = omega (
 pub overflow_add-address : goal.overflow_add-address
 overflow_add-address g c = omega (
   arith,
-  c.cell_count.ensures,
+  c.packed_size.ensures,
   arrays-counted c.args.arrays.now c.loop-k.k c.loop-k-test.true,
   arrays-below c.args.arrays.now (c.loop-k.k + 1),
   c.requires.small,
@@ -26,7 +26,7 @@ overflow_add-address g c = omega (
 pub overflow_add-address-in-loop-k : goal.overflow_add-address-in-loop-k
 overflow_add-address-in-loop-k g c = omega (
   arith,
-  c.cell_count.ensures,
+  c.packed_size.ensures,
   c.loop-k.invariant.address,
   arrays-counted c.args.arrays.now c.loop-k.k c.loop-k-test.true,
   arrays-below c.args.arrays.now (c.loop-k.k + 1),
@@ -43,7 +43,7 @@ loop-k-preserved g c =
     c.loop-k.journal c.write_fresh.new.self c.loop-k.invariant.below c.loop-k.invariant.done long
     (omega (arith, c.requires.free.fits, c.loop-k-test.true)) c.in_ok-write_fresh.ensures.ok in
     record {
-      address = omega (arith, c.cell_count.ensures, c.loop-k.invariant.address, arrays-counted c.args.arrays.now c.loop-k.k c.loop-k-test.true);
+      address = omega (arith, c.packed_size.ensures, c.loop-k.invariant.address, arrays-counted c.args.arrays.now c.loop-k.k c.loop-k-test.true);
       below = p.0;
       done = subst (λ l. Fills c.args.at l c.args.journal.now c.write_fresh.new.self)
           (sym (addresses-step c.args.first c.loop-k.address c.args.arrays.now c.loop-k.k c.loop-k-test.true c.loop-k.invariant.address)) p.1;

@@ -1,8 +1,8 @@
-use Rattle.std.proofs.Common.{arith, refl, ◌+◌, ◌≡◌, ◌/◌, ◌∙◌, ◌==◌, ap, sym, get_or, true, false, drop}
+use Rattle.std.proofs.Common.{arith, refl, ◌+◌, ◌≡◌, ◌/◌, ◌∙◌, ◌==◌, ap, sym, get_or, true, false, drop, Bool}
 use Rattle.std.proofs.lemmas.Bool.{ne_eqb, eq-eqb}
 use Rattle.std.proofs.lemmas.List.{length-drop, length-take, get_or_past}
 use Rattle.jc_words.specs.Layout.{top_address}
-use Rattle.jc_heap.specs.Object.{is_header}
+use Rattle.jc_heap.specs.Object.{is_header, is_packed_header, words_of_cells}
 use Rattle.jc_heap.specs.Image.{image, package_addresses, is_package}
 use Rattle.jc_heap.proofs.Walks.{word_at, word_from}
 use Rattle.jc_heap.proofs.walk.record_size.Goals as goal
@@ -47,7 +47,8 @@ returns-then-top-at-lt-HEADER g c =
       length-drop c.args.at (image c.args.journal.now.plain),
       length-take (get_or c.args.journal.now.plain top_address 0) c.args.journal.now.plain,
     )) in
-    rw (is, header, persistent, behind) (omega arith)
+    let cells : (packed : Bool) → words_of_cells packed 0 ≡ 0 = λ packed. elim packed as (λ b. words_of_cells b 0 ≡ 0) [ true ↦ refl | false ↦ refl ] in
+    rw (is, header, persistent, behind, cells) (omega arith)
 
 pub returns : goal.returns
 returns g c =
@@ -60,4 +61,8 @@ returns g c =
     eq-eqb _ _ (ap (λ w. w / 256) (sym word) ∙ (omega arith)) in
     let fourth : get_or (drop c.args.at (image c.args.journal.now.plain)) 3 0 ≡ get_or c.args.journal.now.plain (c.args.at + 3) 0 =
     word_from c.args.journal.now.plain c.args.at 3 (omega arith) in
-    rw (is, header, persistent, fourth) (omega arith)
+    let cells : c.words_of_cells.result ≡ words_of_cells (is_packed_header (get_or (drop c.args.at (image c.args.journal.now.plain)) 0 0))
+    (get_or c.args.journal.now.plain (c.args.at + 3) 0) =
+    c.words_of_cells.ensures
+    ∙ (λ i. words_of_cells ((c.is_packed_header.ensures ∙ ap is_packed_header word) i) (c.read.ensures i)) in
+    rw (is, header, persistent, fourth) (omega (arith, cells))

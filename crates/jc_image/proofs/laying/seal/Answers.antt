@@ -1,4 +1,8 @@
 use Rattle.jc_image.proofs.Sealing.{holds_sealed, holds_unsealed, settled_outside}
+use Rattle.std.proofs.Common.{◌≡◌, ◌∙◌, ap}
+use Rattle.jc_heap.specs.Stored.{HoldsHeap}
+use Rattle.jc_image.specs.Laying.{first_words_of, sealed_view}
+use Rattle.jc_image.proofs.NewFronts.{front-words}
 use Rattle.jc_image.proofs.laying.seal.Goals as goal
 
 pub returns-in-Ok-clause-sealed : goal.returns-in-Ok-clause-sealed
@@ -16,6 +20,26 @@ returns-in-Ok-clause-sealed g c =
       closed = e.closed;
     })
     c.in-Ok.ensures.ok c.into_journal-journal.ensures.view c.into_journal-journal.ensures.sound c.requires.up c.requires.outside
+
+pub returns-in-Ok-clause-front : goal.returns-in-Ok-clause-front
+returns-in-Ok-clause-front g c =
+    let S = g.S.WordStore in
+    let s = c.into_store.result in
+    let e = c.into_store.ensures in
+    let held : HoldsHeap (S.words s) (S.down s) (S.passed s) (S.refusals s) (sealed_view c.args.heap) =
+    holds_sealed (S.words s) _ _ _ c.write_both.new.self c.into_journal-journal.result c.args.heap c.args.heap.size
+    (record {
+      good = e.good;
+      plain = e.plain;
+      recovered = e.recovered;
+      size = e.size;
+      down = e.down;
+      passed = e.passed;
+      refusals = e.refusals;
+      closed = e.closed;
+    })
+    c.in-Ok.ensures.ok c.into_journal-journal.ensures.view c.into_journal-journal.ensures.sound c.requires.up c.requires.outside in
+    front-words (S.words s) held.good held.laid (held.rests c.requires.up c.requires.outside).closed ∙ ap (λ h. first_words_of h) held.durable
 
 pub returns-in-Ok-clause-settled : goal.returns-in-Ok-clause-settled
 returns-in-Ok-clause-settled g c =

@@ -19,9 +19,9 @@ returns-in-Ok-clause-rest g c =
     c.in-Ok.ensures).2
 
 pub returns-in-Ok-clause-left : goal.returns-in-Ok-clause-left
-returns-in-Ok-clause-left g c more room =
+returns-in-Ok-clause-left g c more put room =
     object_left (creation_refusal c.args.memory.now c.args.object) c.args.memory.now c.make.new.self c.args.object c.in-Ok.made more c.requires.persistent
-    c.in-Ok.ensures room
+    put c.in-Ok.ensures room
 
 pub returns-in-Err-clause-made : goal.returns-in-Err-clause-made
 returns-in-Err-clause-made g c =

@@ -9,14 +9,14 @@ returns-in-Ok-clause-left g c more =
     let s = c.args.memory.now in
     run_left (facts s.heap.now c.args.object).event (refusal_of_cells s.heap c.args.object c.args.i c.args.words.now) s c.set_run.new.self c.args.object
     c.args.i c.args.words.now more
-    c.requires.persistent c.in-Ok.ensures
+    c.requires.persistent c.requires.plain c.in-Ok.ensures
 
 pub returns-in-Err-clause-made : goal.returns-in-Err-clause-made
 returns-in-Err-clause-made g c =
     let s = c.args.memory.now in
     cut_run (facts s.heap.now c.args.object).event (refusal_of_cells s.heap c.args.object c.args.i c.args.words.now) s c.set_run.new.self c.args.object c.args.i
     c.args.words.now c.in-Err.field-0
-    c.requires.persistent (has_run_room s c.args.object c.args.i c.args.words.now c.requires.room
+    c.requires.persistent (has_run_room s c.args.object c.args.i c.args.words.now c.requires.plain c.requires.room
     (omega (arith, c.requires.few, c.commit_capacity.ensures.exact, c.commit_capacity.ensures.least))) c.in-Err.ensures
 
 pub returns-in-Ok-clause-rest : goal.returns-in-Ok-clause-rest

@@ -1,4 +1,4 @@
-use Rattle.std.proofs.Common.{◌≡◌, false, List, [], ◌∷◌, ap, sym, ◌∙◌}
+use Rattle.std.proofs.Common.{◌≡◌, false, List, [], ◌∷◌, ap, sym, ◌∙◌, arith}
 use Rattle.jc_heap.specs.declared.touch.Touch.{Touch}
 use Rattle.jc_heap.specs.declared.touch.Touch.TheVariants.{HeapEnd}
 use Rattle.jc_heap.specs.Touches.{touched_cells}
@@ -20,4 +20,6 @@ set_record-requires-clause-room g c =
     let m = c.args.memory.now in
     let room : lacks_capacity m (touched_by_init c.args.pin) ≡ false = ap (λ (ts : List Touch). lacks_capacity m ts) (sym c.touched_by_init.ensures)
     ∙ sym c.lacks_capacity.ensures ∙ c.if-lacks_capacity.false in
-    c.in_ok-value.ensures.left (touched_cells c.args.pin limit_cell cell_count) room
+    let there = c.requires.itself.cells in
+    c.in_ok-value.ensures.left (touched_cells c.args.pin limit_cell cell_count)
+    (omega (arith, there), (omega (arith, there), (omega (arith, there), (omega (arith, there), (omega (arith, there), tt))))) room

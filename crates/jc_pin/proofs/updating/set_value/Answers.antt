@@ -1,22 +1,33 @@
-use Rattle.std.proofs.Common.{subst, sym, ap, ◌∙◌, arith}
-use Rattle.jc_heap.specs.Places.{AreThere, AreApart, places_of}
+use Rattle.std.proofs.Common.{List, ℕ, ◌≤◌, ◌∷◌, [], length, subst, sym, ap, ◌∙◌, arith}
+use Rattle.jc_heap.specs.declared.place.Place.TheVariants.{Cell}
+use Rattle.jc_heap.specs.Heap.{cells}
+use Rattle.jc_heap.specs.Places.{AreThere, AreApart, ArePlain, places_of}
 use Rattle.jc_heap.specs.Keeping.{AreLegalValues}
 use Rattle.jc_pin.specs.Updating.{changes_of_update}
-use Rattle.jc_pin.proofs.Updates.{update_there, update_stands, update_apart}
+use Rattle.jc_pin.proofs.Updates.{ends_there, ends_plain, update_cells, update_stands, update_apart}
 use Rattle.jc_pin.proofs.updating.set_value.Goals as goal
 
-pub write_all-requires-clause-there : goal.write_all-requires-clause-there
-write_all-requires-clause-there g c =
-    subst (AreThere c.args.memory.now.heap.now) (sym (c.new-change.ensures ∙ ap (λ p. changes_of_update p c.args.pin c.args.bytes.now) c.record.ensures))
-    (update_there c.args.memory.now c.args.pin c.requires.pin c.args.bytes.now c.requires.within (λ k lt. omega (arith, c.type_inv.bytes k)))
+pub write_bytes_and_places-requires-clause-cells : goal.write_bytes_and_places-requires-clause-cells
+write_bytes_and_places-requires-clause-cells g c =
+    let fits : length c.args.bytes.now ≤ length (cells c.args.memory.now.heap.now c.record-kept.result.value) =
+    subst (λ p. length c.args.bytes.now ≤ length (cells c.args.memory.now.heap.now p.value)) (sym c.record-kept.ensures)
+    (update_cells c.args.memory.now c.args.pin c.requires.pin c.args.bytes.now c.requires.within) in
+    omega (arith, fits)
 
-pub write_all-requires-clause-apart : goal.write_all-requires-clause-apart
-write_all-requires-clause-apart g c =
-    subst (λ l. AreApart (places_of l)) (sym (c.new-change.ensures ∙ ap (λ p. changes_of_update p c.args.pin c.args.bytes.now) c.record.ensures))
+pub write_bytes_and_places-requires-clause-there : goal.write_bytes_and_places-requires-clause-there
+write_bytes_and_places-requires-clause-there g c =
+    subst (λ p. AreThere c.args.memory.now.heap.now ((Cell c.args.pin 3, length c.args.bytes.now) ∷ (Cell c.args.pin 2, p.limit) ∷ [])) (sym c.record-kept.ensures)
+    (ends_there c.args.memory.now c.args.pin c.requires.pin (length c.args.bytes.now))
+
+pub write_bytes_and_places-requires-clause-plain : goal.write_bytes_and_places-requires-clause-plain
+write_bytes_and_places-requires-clause-plain g c = ends_plain c.args.memory.now c.args.pin c.requires.pin (length c.args.bytes.now)
+
+pub write_bytes_and_places-requires-clause-apart : goal.write_bytes_and_places-requires-clause-apart
+write_bytes_and_places-requires-clause-apart g c =
+    subst (λ p. AreApart (places_of (changes_of_update p c.args.pin c.args.bytes.now))) (sym c.record-kept.ensures)
     (update_apart c.args.memory.now c.args.pin c.requires.pin c.args.bytes.now c.requires.within)
 
-pub write_all-requires-clause-references : goal.write_all-requires-clause-references
-write_all-requires-clause-references g c =
-    subst (AreLegalValues c.args.memory.now.heap.now) (sym (c.new-change.ensures
-    ∙ ap (λ p. changes_of_update p c.args.pin c.args.bytes.now) c.record.ensures))
+pub write_bytes_and_places-requires-clause-references : goal.write_bytes_and_places-requires-clause-references
+write_bytes_and_places-requires-clause-references g c =
+    subst (λ p. AreLegalValues c.args.memory.now.heap.now (changes_of_update p c.args.pin c.args.bytes.now)) (sym c.record-kept.ensures)
     (update_stands c.args.memory.now c.args.pin c.requires.pin c.args.bytes.now c.requires.within)

@@ -12,4 +12,5 @@ returns c =
     let one = c.in_ok-program.ensures ∙ ap₂ with_top c.new.ensures.app c.in_ok-new.ensures in
     let two = c.in_ok-program-2.ensures ∙ ap₂ with_top one c.in_ok-run.ensures in
     let three = c.in_ok-program-3.ensures ∙ ap₂ with_top two c.in_ok-dump.ensures in
-    IfOk-weaker c.with_command-4.result _ _ (λ r h. h ∙ ap₂ with_top three c.in_ok-trial.ensures) c.with_command-4.ensures
+    let four = c.in_ok-program-4.ensures ∙ ap₂ with_top three c.in_ok-trial.ensures in
+    IfOk-weaker c.with_command-5.result _ _ (λ r h. h ∙ ap₂ with_top four c.in_ok-tear.ensures) c.with_command-5.ensures

@@ -1,4 +1,5 @@
 use Rattle.jcard_commands.proofs.OptionLines.{news, tries}
+use Rattle.jcard_commands.proofs.TearLines.{tears}
 use Rattle.jcard_commands.proofs.arguments.parse.Goals as goal
 
 pub returns-in-Ok-Some-clause-plain_news : goal.returns-in-Ok-Some-clause-plain_news
@@ -7,8 +8,8 @@ returns-in-Ok-Some-clause-plain_news c = news
 pub returns-in-Ok-None-clause-plain_news : goal.returns-in-Ok-None-clause-plain_news
 returns-in-Ok-None-clause-plain_news c = news
 
-pub returns-after-kind-clause-plain_news : goal.returns-after-kind-clause-plain_news
-returns-after-kind-clause-plain_news c = news
+pub returns-in-Err-clause-plain_news : goal.returns-in-Err-clause-plain_news
+returns-in-Err-clause-plain_news c = news
 
 pub returns-in-Ok-Some-clause-plain_tries : goal.returns-in-Ok-Some-clause-plain_tries
 returns-in-Ok-Some-clause-plain_tries c = tries
@@ -16,5 +17,14 @@ returns-in-Ok-Some-clause-plain_tries c = tries
 pub returns-in-Ok-None-clause-plain_tries : goal.returns-in-Ok-None-clause-plain_tries
 returns-in-Ok-None-clause-plain_tries c = tries
 
-pub returns-after-kind-clause-plain_tries : goal.returns-after-kind-clause-plain_tries
-returns-after-kind-clause-plain_tries c = tries
+pub returns-in-Err-clause-plain_tries : goal.returns-in-Err-clause-plain_tries
+returns-in-Err-clause-plain_tries c = tries
+
+pub returns-in-Ok-Some-clause-plain_tears : goal.returns-in-Ok-Some-clause-plain_tears
+returns-in-Ok-Some-clause-plain_tears c = tears
+
+pub returns-in-Ok-None-clause-plain_tears : goal.returns-in-Ok-None-clause-plain_tears
+returns-in-Ok-None-clause-plain_tears c = tears
+
+pub returns-in-Err-clause-plain_tears : goal.returns-in-Err-clause-plain_tears
+returns-in-Err-clause-plain_tears c = tears

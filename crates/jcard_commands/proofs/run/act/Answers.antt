@@ -16,3 +16,8 @@ pub returns-in-Try-clause-done : goal.returns-in-Try-clause-done
 returns-in-Try-clause-done g c =
     let done = c.try_script.ensures.done in
     (done.0, done.1, done.2, rw c.in-Try.is done.3, done.4)
+
+pub returns-in-Tear-clause-done : goal.returns-in-Tear-clause-done
+returns-in-Tear-clause-done g c =
+    let done = c.tear_image.ensures.done in
+    (done.0, done.1, done.2, rw c.in-Tear.is done.3, done.4)

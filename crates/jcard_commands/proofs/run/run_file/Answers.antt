@@ -1,6 +1,7 @@
-use Rattle.std.proofs.Common.{◌≡◌, ◌∙◌, inl, inr, List, [], ◌∷◌, Some, None, refl, subst}
+use Rattle.std.proofs.Common.{◌≡◌, ◌∙◌, inl, inr, List, [], ◌∷◌, Some, None, refl, ap, subst}
 use Rattle.jcard_script.proofs.Known.{appends_same}
-use Rattle.jcard_commands.specs.FileDeeds.{FileDeed, ClosesImage, OpensImage, ReadsText, fresh_store}
+use Rattle.jc_words.specs.Stores.{below_fuse, store_value}
+use Rattle.jcard_commands.specs.FileDeeds.{FileDeed, ClosesImage, OpensImage, ReadsText, fresh_store, untouched}
 use Rattle.jcard_commands.specs.Faults.{IsCarriedOut}
 use Rattle.jcard_commands.proofs.Stores.{fresh_under_fuse}
 use Rattle.jcard_commands.proofs.run.run_file.Goals as goal
@@ -29,13 +30,17 @@ returns-in-Ok-open_text-clause-done g c =
     let known = unread c.in-Ok-open_text.file in
     let over = subst (λ f. IsCarriedOut image script (unread f) left c.new-store.result after ended done.0) c.new-reader.ensures.inner done.2 in
     let carried = subst (λ s. IsCarriedOut image script known left s after ended done.0) fresh over in
+    let I = g.D.Image.WordStore in
+    let value = store_value I.words I.down I.passed I.refusals in
+    let below : value c.new.result.store ≡ below_fuse after = ap value c.new.ensures ∙ c.into_store.ensures in
+    let closed = subst (λ s. g.D.Disk.does c.open_text.new.self (ClosesImage image s ∷ []) c.close_image.new.self) below c.close_image.ensures in
     let opens : List FileDeed = OpensImage image (Some words) ∷ [] in
     let reads : List FileDeed = ReadsText script (Some known) ∷ [] in (
       done.0,
-      OpensImage image (Some words) ∷ ReadsText script (Some known) ∷ ClosesImage image after ∷ [],
+      OpensImage image (Some words) ∷ ReadsText script (Some known) ∷ ClosesImage image (below_fuse after) ∷ [],
       done.1,
       inr (inr (words, known, left, after, c.in-Ok.ensures.size, carried, refl)),
-      g.met.D.Disk.then _ _ _ opens _ c.in-Ok.ensures.does (g.met.D.Disk.then _ _ _ reads _ c.in-Ok-open_text.ensures.does c.close_image.ensures),
+      g.met.D.Disk.then _ _ _ opens _ c.in-Ok.ensures.does (g.met.D.Disk.then _ _ _ reads _ c.in-Ok-open_text.ensures.does closed),
     )
 
 pub returns-in-Err-open_text-clause-done : goal.returns-in-Err-open_text-clause-done
@@ -45,12 +50,16 @@ returns-in-Err-open_text-clause-done g c =
     let words = g.D.Image.WordStore.words c.in-Ok.store in
     let fresh : c.new-store.result ≡ fresh_store words = c.new-store.ensures
     ∙ fresh_under_fuse words _ _ _ c.in-Ok.ensures.up c.in-Ok.ensures.none_passed c.in-Ok.ensures.none_refused in
-    let closed = subst (λ s. g.D.Disk.does c.open_text.new.self (ClosesImage image s ∷ []) c.close_image-in-Err-open_text.new.self) fresh
+    let I = g.D.Image.WordStore in
+    let value = store_value I.words I.down I.passed I.refusals in
+    let below : value c.new-in-Err-open_text.result.store ≡ untouched words = ap value c.new-in-Err-open_text.ensures
+    ∙ (c.into_store-in-Err-open_text.ensures ∙ ap below_fuse fresh) in
+    let closed = subst (λ s. g.D.Disk.does c.open_text.new.self (ClosesImage image s ∷ []) c.close_image-in-Err-open_text.new.self) below
     c.close_image-in-Err-open_text.ensures in
     let opens : List FileDeed = OpensImage image (Some words) ∷ [] in
     let reads : List FileDeed = ReadsText script None ∷ [] in (
       [],
-      OpensImage image (Some words) ∷ ReadsText script None ∷ ClosesImage image (fresh_store words) ∷ [],
+      OpensImage image (Some words) ∷ ReadsText script None ∷ ClosesImage image (untouched words) ∷ [],
       appends_same _,
       inr (inl (words, c.in-Err-open_text.fault, refl, c.in-Err-open_text.ensures.refused, refl, refl)),
       g.met.D.Disk.then _ _ _ opens _ c.in-Ok.ensures.does (g.met.D.Disk.then _ _ _ reads _ c.in-Err-open_text.ensures.does closed),

@@ -133,7 +133,7 @@ invariant_of-self-2 g c =
     c.write_all.new.self) c.read-top.ensures c.in-Ok-write_all.ensures.ok in
     package_sound c.self.inside.journal c.write_package-written.new.journal c.write_all.new.self c.self.inside.size (parts c.args.components.now)
     (array_inits c.args.arrays.now) c.args.image.now c.read-count.result (c.from.result + c.size_of_record-size.result + c.size_of_arrays.result)
-    c.self.invariant (up_is c.self.inside.journal c.args.self.now c.self.inside.size c.self.view_is c.requires.up) below fills c.read-count.ensures few end
+    c.in-Ok.ensures.bytes c.self.invariant (up_is c.self.inside.journal c.args.self.now c.self.inside.size c.self.view_is c.requires.up) below fills c.read-count.ensures few end
     fits change
 
 pub returns-clause-free : goal.returns-clause-free
@@ -249,7 +249,7 @@ returns-clause-moves g c =
     (addresses_of_package c.args.self.now.now) (package_size (parts c.args.components.now) (array_inits c.args.arrays.now) c.args.image.now) =
     package_view c.self.inside.journal c.write_package-written.new.journal c.write_all.new.self c.self.inside.size (parts c.args.components.now)
     (array_inits c.args.arrays.now) c.args.image.now c.read-count.result (c.from.result + c.size_of_record-size.result + c.size_of_arrays.result)
-    c.self.invariant (up_is c.self.inside.journal c.args.self.now c.self.inside.size c.self.view_is c.requires.up) below fills c.read-count.ensures few
+    c.in-Ok.ensures.bytes c.self.invariant (up_is c.self.inside.journal c.args.self.now c.self.inside.size c.self.view_is c.requires.up) below fills c.read-count.ensures few
     end fits change c.args.self.now c.self.view_is in
     unless_done (refusal_of_package c.args.self.now (parts c.args.components.now) (array_inits c.args.arrays.now) c.args.image.now) c.args.self.now
     (heap_view c.write_all.new.self c.self.inside.size) (AddPackage (parts c.args.components.now) (array_inits c.args.arrays.now) c.args.image.now)
@@ -297,7 +297,7 @@ returns-clause-record g c =
     (addresses_of_package c.args.self.now.now) (package_size (parts c.args.components.now) (array_inits c.args.arrays.now) c.args.image.now) =
     package_view c.self.inside.journal c.write_package-written.new.journal c.write_all.new.self c.self.inside.size (parts c.args.components.now)
     (array_inits c.args.arrays.now) c.args.image.now c.read-count.result (c.from.result + c.size_of_record-size.result + c.size_of_arrays.result)
-    c.self.invariant (up_is c.self.inside.journal c.args.self.now c.self.inside.size c.self.view_is c.requires.up) below fills c.read-count.ensures few
+    c.in-Ok.ensures.bytes c.self.invariant (up_is c.self.inside.journal c.args.self.now c.self.inside.size c.self.view_is c.requires.up) below fills c.read-count.ensures few
     end fits change c.args.self.now c.self.view_is in
     subst (λ r. heap_item_at ((heap_view c.write_all.new.self c.self.inside.size).now) r
     ≡ APackage (package_record r (parts c.args.components.now) (array_inits c.args.arrays.now) c.args.image.now))

@@ -1,14 +1,14 @@
-use Rattle.std.proofs.Common.{◌≡◌, ◌≤◌, ◌+◌, ◌∙◌, [], ◌∷◌, ◌++◌, get_or, replicate, arith, refl, sym, ap, subst, true, Err}
+use Rattle.std.proofs.Common.{◌≡◌, ◌≤◌, ◌+◌, ◌∙◌, [], ◌∷◌, get_or, arith, refl, sym, ap, subst, true, Err}
 use Rattle.jc_words.specs.Layout.{top_address}
 use Rattle.jc_commit.specs.Keeping.{has_room_for}
 use Rattle.jc_commit.specs.State.{keeping as journal_keeping}
 use Rattle.jc_commit.specs.declared.refusal.WriteRefusal.TheVariants.{StoreDown}
 use Rattle.jc_heap.specs.Fresh.{KeepsBelow, Fills}
-use Rattle.jc_heap.specs.Object.{kind_number, new_object}
+use Rattle.jc_heap.specs.Object.{words_of_cells, object_size, new_object}
 use Rattle.jc_heap.specs.Heap.{heap_view, end_address, heap_item_at}
 use Rattle.jc_heap.proofs.Changing.{up_is}
 use Rattle.jc_heap.proofs.Views.{nothing_at_top, view_top}
-use Rattle.jc_heap.proofs.NewObjects.{fills_same, lacks_space, has_space, new_record, only_down, fresh_stopped_sound, fresh_stopped_view, top_stopped_sound}
+use Rattle.jc_heap.proofs.NewObjects.{fills_new, lacks_space, has_space, new_record, only_down, fresh_stopped_sound, fresh_stopped_view, top_stopped_sound}
 use Rattle.jc_heap.proofs.NewObjects.{top_stopped_view, view_made, sound_made, made_object}
 use Rattle.jc_heap.specs.declared.refusal.HeapRefusal.TheVariants.{HeapFull, CommitFull}
 use Rattle.jc_heap.specs.Moves.{AddObject, refusal_of_space}
@@ -38,13 +38,12 @@ pub invariant_of-self-in_default-write : goal.invariant_of-self-in_default-write
 invariant_of-self-in_default-write g c =
     let below : KeepsBelow (get_or c.self.inside.journal.plain top_address 0) c.self.inside.journal c.write_record.new.journal =
     subst (λ t. KeepsBelow t c.self.inside.journal c.write_record.new.journal) c.read-top.ensures c.write_record.ensures.below in
-    let fills : Fills (get_or c.self.inside.journal.plain top_address 0) (new_record (kind_number c.args.kind) c.args.class c.args.owner c.args.length)
-    c.self.inside.journal c.write_record.new.journal = subst (λ n. Fills (get_or c.self.inside.journal.plain top_address 0)
-    (new_record n c.args.class c.args.owner c.args.length) c.self.inside.journal c.write_record.new.journal) c.number.ensures
-    (unfold new_record in subst (λ t. Fills t (c.number.result ∷ c.args.class ∷ c.args.owner ∷ c.args.length ∷ [] ++ replicate c.args.length 0)
-    c.self.inside.journal c.write_record.new.journal) c.read-top.ensures (fills_same c.read-top.result c.number.result c.class.inside.0 c.args.class
-    c.owner.inside.0 c.args.owner (c.args.length ∷ [] ++ replicate c.args.length 0) c.self.inside.journal c.write_record.new.journal c.class.view_is
-    c.owner.view_is c.in-Ok.ensures.done)) in
+    let fills : Fills (get_or c.self.inside.journal.plain top_address 0) (new_record c.args.kind c.args.class c.args.owner c.args.length)
+    c.self.inside.journal c.write_record.new.journal =
+    fills_new c.read-top.result (get_or c.self.inside.journal.plain top_address 0) c.header_number.result c.class.inside.0 c.owner.inside.0
+    c.words_of_cells-zeros.result c.args.kind c.args.class c.args.owner c.args.length c.self.inside.journal c.write_record.new.journal c.read-top.ensures
+    c.header_number.ensures c.class.view_is c.owner.view_is
+    (c.words_of_cells-zeros.ensures ∙ ap (λ b. words_of_cells b c.args.length) c.has_bytes.ensures) c.in-Ok.ensures.done in
     let fit : has_room_for (journal_keeping c.self.inside.journal) (top_address ∷ []) ≡ true =
     (sym c.fits.ensures ∙ c.if-not-fits.false) in
     let down : c.in_default-write.field-0 ≡ StoreDown = only_down c.self.inside.journal c.write_record.new.journal
@@ -52,7 +51,7 @@ invariant_of-self-in_default-write g c =
     c.in_default-write.field-0 (λ e. c.in_default-write.ensures.full.0 (ap Err e)) in
     top_stopped_sound c.self.inside.journal c.write_record.new.journal c.self.inside.size c.self.invariant
     (up_is c.self.inside.journal c.args.self.now c.self.inside.size c.self.view_is c.requires) below
-    (new_record (kind_number c.args.kind) c.args.class c.args.owner c.args.length) fills c.write.new.self (c.in_default-write.ensures.stopped (ap Err down))
+    (new_record c.args.kind c.args.class c.args.owner c.args.length) fills c.write.new.self (c.in_default-write.ensures.stopped (ap Err down))
 
 pub returns-in_default-write-clause-free : goal.returns-in_default-write-clause-free
 returns-in_default-write-clause-free g c = nothing_at_top c.self.inside.journal c.args.self.now c.self.inside.size c.self.view_is
@@ -62,17 +61,16 @@ pub invariant_of-self-2 : goal.invariant_of-self-2
 invariant_of-self-2 g c =
     let below : KeepsBelow (get_or c.self.inside.journal.plain top_address 0) c.self.inside.journal c.write_record.new.journal =
     subst (λ t. KeepsBelow t c.self.inside.journal c.write_record.new.journal) c.read-top.ensures c.write_record.ensures.below in
-    let fills : Fills (get_or c.self.inside.journal.plain top_address 0) (new_record (kind_number c.args.kind) c.args.class c.args.owner c.args.length)
-    c.self.inside.journal c.write_record.new.journal = subst (λ n. Fills (get_or c.self.inside.journal.plain top_address 0)
-    (new_record n c.args.class c.args.owner c.args.length) c.self.inside.journal c.write_record.new.journal) c.number.ensures
-    (unfold new_record in subst (λ t. Fills t (c.number.result ∷ c.args.class ∷ c.args.owner ∷ c.args.length ∷ [] ++ replicate c.args.length 0)
-    c.self.inside.journal c.write_record.new.journal) c.read-top.ensures (fills_same c.read-top.result c.number.result c.class.inside.0 c.args.class
-    c.owner.inside.0 c.args.owner (c.args.length ∷ [] ++ replicate c.args.length 0) c.self.inside.journal c.write_record.new.journal c.class.view_is
-    c.owner.view_is c.in-Ok.ensures.done)) in
-    let end : (c.from.result + c.from-2.result + c.from-3.result) ≡ (get_or c.self.inside.journal.plain top_address 0) + (4 + c.args.length) = omega arith in
-    let fits : (c.from.result + c.from-2.result + c.from-3.result) ≤ c.self.inside.size = omega arith in
+    let fills : Fills (get_or c.self.inside.journal.plain top_address 0) (new_record c.args.kind c.args.class c.args.owner c.args.length)
+    c.self.inside.journal c.write_record.new.journal =
+    fills_new c.read-top.result (get_or c.self.inside.journal.plain top_address 0) c.header_number.result c.class.inside.0 c.owner.inside.0
+    c.words_of_cells-zeros.result c.args.kind c.args.class c.args.owner c.args.length c.self.inside.journal c.write_record.new.journal c.read-top.ensures
+    c.header_number.ensures c.class.view_is c.owner.view_is
+    (c.words_of_cells-zeros.ensures ∙ ap (λ b. words_of_cells b c.args.length) c.has_bytes.ensures) c.in-Ok.ensures.done in
+    let end : (c.from.result + c.object_size.result) ≡ (get_or c.self.inside.journal.plain top_address 0) + (object_size c.args.kind c.args.length) = omega arith in
+    let fits : (c.from.result + c.object_size.result) ≤ c.self.inside.size = omega arith in
     sound_made c.self.inside.journal c.write_record.new.journal c.write.new.self c.self.inside.size c.args.kind c.args.class c.args.owner c.args.length
-    (c.from.result + c.from-2.result + c.from-3.result) c.self.invariant (up_is c.self.inside.journal c.args.self.now c.self.inside.size c.self.view_is
+    (c.from.result + c.object_size.result) c.self.invariant (up_is c.self.inside.journal c.args.self.now c.self.inside.size c.self.view_is
     c.requires) below fills end fits c.in-Ok-write.ensures.ok
 
 pub returns-clause-free : goal.returns-clause-free
@@ -81,18 +79,18 @@ returns-clause-free g c = nothing_at_top c.self.inside.journal c.args.self.now c
 
 pub returns-then-end-from-clause-moves : goal.returns-then-end-from-clause-moves
 returns-then-end-from-clause-moves g c =
-    unless_refused (refusal_of_space c.args.self.now (4 + c.args.length) (end_address ∷ [])) c.args.self.now c.args.self.now HeapFull
-    (AddObject (new_object c.args.kind c.args.class c.args.owner c.args.length) (4 + c.args.length) ∷ []) c.args.self.now.now.top
-    (has_no_space c.args.self.now (4 + c.args.length) (end_address ∷ []) (lacks_space c.self.inside.journal c.args.self.now c.self.inside.size
-    (4 + c.args.length) c.self.view_is (c.self.invariant.now (up_is c.self.inside.journal c.args.self.now c.self.inside.size c.self.view_is c.requires))
+    unless_refused (refusal_of_space c.args.self.now (object_size c.args.kind c.args.length) (end_address ∷ [])) c.args.self.now c.args.self.now HeapFull
+    (AddObject (new_object c.args.kind c.args.class c.args.owner c.args.length) (object_size c.args.kind c.args.length) ∷ []) c.args.self.now.now.top
+    (has_no_space c.args.self.now (object_size c.args.kind c.args.length) (end_address ∷ []) (lacks_space c.self.inside.journal c.args.self.now c.self.inside.size
+    (object_size c.args.kind c.args.length) c.self.view_is (c.self.invariant.now (up_is c.self.inside.journal c.args.self.now c.self.inside.size c.self.view_is c.requires))
     (omega arith))) refl
 
 pub returns-then-not-fits-clause-moves : goal.returns-then-not-fits-clause-moves
 returns-then-not-fits-clause-moves g c =
-    unless_refused (refusal_of_space c.args.self.now (4 + c.args.length) (end_address ∷ [])) c.args.self.now c.args.self.now CommitFull
-    (AddObject (new_object c.args.kind c.args.class c.args.owner c.args.length) (4 + c.args.length) ∷ []) c.args.self.now.now.top
-    (object_full c.args.self.now (4 + c.args.length) (end_address ∷ []) (has_space c.self.inside.journal c.args.self.now c.self.inside.size
-    (4 + c.args.length) c.self.view_is (c.self.invariant.now (up_is c.self.inside.journal c.args.self.now c.self.inside.size c.self.view_is c.requires))
+    unless_refused (refusal_of_space c.args.self.now (object_size c.args.kind c.args.length) (end_address ∷ [])) c.args.self.now c.args.self.now CommitFull
+    (AddObject (new_object c.args.kind c.args.class c.args.owner c.args.length) (object_size c.args.kind c.args.length) ∷ []) c.args.self.now.now.top
+    (object_full c.args.self.now (object_size c.args.kind c.args.length) (end_address ∷ []) (has_space c.self.inside.journal c.args.self.now c.self.inside.size
+    (object_size c.args.kind c.args.length) c.self.view_is (c.self.invariant.now (up_is c.self.inside.journal c.args.self.now c.self.inside.size c.self.view_is c.requires))
     (omega arith)) (end_room c.self.inside.journal c.args.self.now c.self.inside.size c.self.invariant.back c.self.view_is ∙ sym c.fits.ensures
     ∙ c.if-not-fits.true)) refl
 
@@ -100,11 +98,11 @@ pub returns-in_default-clause-moves : goal.returns-in_default-clause-moves
 returns-in_default-clause-moves g c =
     let below : KeepsBelow (get_or c.self.inside.journal.plain top_address 0) c.self.inside.journal c.write_record.new.journal =
     subst (λ t. KeepsBelow t c.self.inside.journal c.write_record.new.journal) c.read-top.ensures c.write_record.ensures.below in
-    unless_cut (refusal_of_space c.args.self.now (4 + c.args.length) (end_address ∷ [])) c.args.self.now
+    unless_cut (refusal_of_space c.args.self.now (object_size c.args.kind c.args.length) (end_address ∷ [])) c.args.self.now
     (heap_view c.write_record.new.journal c.self.inside.size) (AddObject (new_object c.args.kind c.args.class c.args.owner c.args.length)
-    (4 + c.args.length)) c.args.self.now.now.top
-    (object_fits c.args.self.now (4 + c.args.length) (end_address ∷ []) (has_space c.self.inside.journal c.args.self.now c.self.inside.size
-    (4 + c.args.length) c.self.view_is (c.self.invariant.now (up_is c.self.inside.journal c.args.self.now c.self.inside.size c.self.view_is c.requires))
+    (object_size c.args.kind c.args.length)) c.args.self.now.now.top
+    (object_fits c.args.self.now (object_size c.args.kind c.args.length) (end_address ∷ []) (has_space c.self.inside.journal c.args.self.now c.self.inside.size
+    (object_size c.args.kind c.args.length) c.self.view_is (c.self.invariant.now (up_is c.self.inside.journal c.args.self.now c.self.inside.size c.self.view_is c.requires))
     (omega arith)) (end_room c.self.inside.journal c.args.self.now c.self.inside.size c.self.invariant.back c.self.view_is
     ∙ (sym c.fits.ensures ∙ c.if-not-fits.false)))
     (fresh_stopped_view c.self.inside.journal c.write_record.new.journal c.self.inside.size c.self.invariant
@@ -115,57 +113,56 @@ pub returns-in_default-write-clause-moves : goal.returns-in_default-write-clause
 returns-in_default-write-clause-moves g c =
     let below : KeepsBelow (get_or c.self.inside.journal.plain top_address 0) c.self.inside.journal c.write_record.new.journal =
     subst (λ t. KeepsBelow t c.self.inside.journal c.write_record.new.journal) c.read-top.ensures c.write_record.ensures.below in
-    let fills : Fills (get_or c.self.inside.journal.plain top_address 0) (new_record (kind_number c.args.kind) c.args.class c.args.owner c.args.length)
-    c.self.inside.journal c.write_record.new.journal = subst (λ n. Fills (get_or c.self.inside.journal.plain top_address 0)
-    (new_record n c.args.class c.args.owner c.args.length) c.self.inside.journal c.write_record.new.journal) c.number.ensures
-    (unfold new_record in subst (λ t. Fills t (c.number.result ∷ c.args.class ∷ c.args.owner ∷ c.args.length ∷ [] ++ replicate c.args.length 0)
-    c.self.inside.journal c.write_record.new.journal) c.read-top.ensures (fills_same c.read-top.result c.number.result c.class.inside.0 c.args.class
-    c.owner.inside.0 c.args.owner (c.args.length ∷ [] ++ replicate c.args.length 0) c.self.inside.journal c.write_record.new.journal c.class.view_is
-    c.owner.view_is c.in-Ok.ensures.done)) in
+    let fills : Fills (get_or c.self.inside.journal.plain top_address 0) (new_record c.args.kind c.args.class c.args.owner c.args.length)
+    c.self.inside.journal c.write_record.new.journal =
+    fills_new c.read-top.result (get_or c.self.inside.journal.plain top_address 0) c.header_number.result c.class.inside.0 c.owner.inside.0
+    c.words_of_cells-zeros.result c.args.kind c.args.class c.args.owner c.args.length c.self.inside.journal c.write_record.new.journal c.read-top.ensures
+    c.header_number.ensures c.class.view_is c.owner.view_is
+    (c.words_of_cells-zeros.ensures ∙ ap (λ b. words_of_cells b c.args.length) c.has_bytes.ensures) c.in-Ok.ensures.done in
     let fit : has_room_for (journal_keeping c.self.inside.journal) (top_address ∷ []) ≡ true =
     (sym c.fits.ensures ∙ c.if-not-fits.false) in
     let down : c.in_default-write.field-0 ≡ StoreDown = only_down c.self.inside.journal c.write_record.new.journal
     c.self.inside.size c.self.invariant (up_is c.self.inside.journal c.args.self.now c.self.inside.size c.self.view_is c.requires) below (top_address ∷ []) fit
     c.in_default-write.field-0 (λ e. c.in_default-write.ensures.full.0 (ap Err e)) in
-    unless_cut (refusal_of_space c.args.self.now (4 + c.args.length) (end_address ∷ [])) c.args.self.now (heap_view c.write.new.self c.self.inside.size)
-    (AddObject (new_object c.args.kind c.args.class c.args.owner c.args.length) (4 + c.args.length)) c.args.self.now.now.top
-    (object_fits c.args.self.now (4 + c.args.length) (end_address ∷ []) (has_space c.self.inside.journal c.args.self.now c.self.inside.size
-    (4 + c.args.length) c.self.view_is (c.self.invariant.now (up_is c.self.inside.journal c.args.self.now c.self.inside.size c.self.view_is c.requires))
+    unless_cut (refusal_of_space c.args.self.now (object_size c.args.kind c.args.length) (end_address ∷ [])) c.args.self.now (heap_view c.write.new.self c.self.inside.size)
+    (AddObject (new_object c.args.kind c.args.class c.args.owner c.args.length) (object_size c.args.kind c.args.length)) c.args.self.now.now.top
+    (object_fits c.args.self.now (object_size c.args.kind c.args.length) (end_address ∷ []) (has_space c.self.inside.journal c.args.self.now c.self.inside.size
+    (object_size c.args.kind c.args.length) c.self.view_is (c.self.invariant.now (up_is c.self.inside.journal c.args.self.now c.self.inside.size c.self.view_is c.requires))
     (omega arith)) (end_room c.self.inside.journal c.args.self.now c.self.inside.size c.self.invariant.back c.self.view_is
     ∙ (sym c.fits.ensures ∙ c.if-not-fits.false)))
     (top_stopped_view c.self.inside.journal c.write_record.new.journal c.self.inside.size c.self.invariant
     (up_is c.self.inside.journal c.args.self.now c.self.inside.size c.self.view_is c.requires) below
-    (new_record (kind_number c.args.kind) c.args.class c.args.owner c.args.length) fills c.write.new.self c.args.self.now c.self.view_is
+    (new_record c.args.kind c.args.class c.args.owner c.args.length) fills c.write.new.self c.args.self.now c.self.view_is
     (c.in_default-write.ensures.stopped (ap Err down)))
 
 pub returns-clause-moves : goal.returns-clause-moves
 returns-clause-moves g c =
     let below : KeepsBelow (get_or c.self.inside.journal.plain top_address 0) c.self.inside.journal c.write_record.new.journal =
     subst (λ t. KeepsBelow t c.self.inside.journal c.write_record.new.journal) c.read-top.ensures c.write_record.ensures.below in
-    let fills : Fills (get_or c.self.inside.journal.plain top_address 0) (new_record (kind_number c.args.kind) c.args.class c.args.owner c.args.length)
-    c.self.inside.journal c.write_record.new.journal = subst (λ n. Fills (get_or c.self.inside.journal.plain top_address 0)
-    (new_record n c.args.class c.args.owner c.args.length) c.self.inside.journal c.write_record.new.journal) c.number.ensures
-    (unfold new_record in subst (λ t. Fills t (c.number.result ∷ c.args.class ∷ c.args.owner ∷ c.args.length ∷ [] ++ replicate c.args.length 0)
-    c.self.inside.journal c.write_record.new.journal) c.read-top.ensures (fills_same c.read-top.result c.number.result c.class.inside.0 c.args.class
-    c.owner.inside.0 c.args.owner (c.args.length ∷ [] ++ replicate c.args.length 0) c.self.inside.journal c.write_record.new.journal c.class.view_is
-    c.owner.view_is c.in-Ok.ensures.done)) in
-    let end : (c.from.result + c.from-2.result + c.from-3.result) ≡ (get_or c.self.inside.journal.plain top_address 0) + (4 + c.args.length) = omega arith in
-    let fits : (c.from.result + c.from-2.result + c.from-3.result) ≤ c.self.inside.size = omega arith in
-    unless_done (refusal_of_space c.args.self.now (4 + c.args.length) (end_address ∷ [])) c.args.self.now (heap_view c.write.new.self c.self.inside.size)
-    (AddObject (new_object c.args.kind c.args.class c.args.owner c.args.length) (4 + c.args.length)) c.at.result c.args.self.now.now.top
-    (object_fits c.args.self.now (4 + c.args.length) (end_address ∷ []) (has_space c.self.inside.journal c.args.self.now c.self.inside.size
-    (4 + c.args.length) c.self.view_is (c.self.invariant.now (up_is c.self.inside.journal c.args.self.now c.self.inside.size c.self.view_is c.requires))
+    let fills : Fills (get_or c.self.inside.journal.plain top_address 0) (new_record c.args.kind c.args.class c.args.owner c.args.length)
+    c.self.inside.journal c.write_record.new.journal =
+    fills_new c.read-top.result (get_or c.self.inside.journal.plain top_address 0) c.header_number.result c.class.inside.0 c.owner.inside.0
+    c.words_of_cells-zeros.result c.args.kind c.args.class c.args.owner c.args.length c.self.inside.journal c.write_record.new.journal c.read-top.ensures
+    c.header_number.ensures c.class.view_is c.owner.view_is
+    (c.words_of_cells-zeros.ensures ∙ ap (λ b. words_of_cells b c.args.length) c.has_bytes.ensures) c.in-Ok.ensures.done in
+    let end : (c.from.result + c.object_size.result) ≡ (get_or c.self.inside.journal.plain top_address 0) + (object_size c.args.kind c.args.length) = omega arith in
+    let fits : (c.from.result + c.object_size.result) ≤ c.self.inside.size = omega arith in
+    unless_done (refusal_of_space c.args.self.now (object_size c.args.kind c.args.length) (end_address ∷ [])) c.args.self.now (heap_view c.write.new.self c.self.inside.size)
+    (AddObject (new_object c.args.kind c.args.class c.args.owner c.args.length) (object_size c.args.kind c.args.length)) c.at.result c.args.self.now.now.top
+    (object_fits c.args.self.now (object_size c.args.kind c.args.length) (end_address ∷ []) (has_space c.self.inside.journal c.args.self.now c.self.inside.size
+    (object_size c.args.kind c.args.length) c.self.view_is (c.self.invariant.now (up_is c.self.inside.journal c.args.self.now c.self.inside.size c.self.view_is c.requires))
     (omega arith)) (end_room c.self.inside.journal c.args.self.now c.self.inside.size c.self.invariant.back c.self.view_is
     ∙ (sym c.fits.ensures ∙ c.if-not-fits.false)))
     (c.at.ensures ∙ c.read-top.ensures ∙ sym (view_top c.self.inside.journal c.args.self.now c.self.inside.size c.self.view_is
     (c.self.invariant.now (up_is c.self.inside.journal c.args.self.now c.self.inside.size c.self.view_is c.requires))))
-    (view_made c.self.inside.journal c.write_record.new.journal c.write.new.self c.args.self.now c.self.inside.size c.args.kind c.args.class c.args.owner
-    c.args.length (c.from.result + c.from-2.result + c.from-3.result) c.self.view_is c.self.invariant
-    (up_is c.self.inside.journal c.args.self.now c.self.inside.size c.self.view_is c.requires) below fills end fits c.in-Ok-write.ensures.ok)
+    (view_made c.self.inside.journal c.write_record.new.journal c.write.new.self c.self.inside.size c.args.kind c.args.class c.args.owner
+    c.args.length (c.from.result + c.object_size.result) c.self.invariant
+    (up_is c.self.inside.journal c.args.self.now c.self.inside.size c.self.view_is c.requires) below fills end fits c.in-Ok-write.ensures.ok
+    c.args.self.now c.self.view_is)
 
 pub returns-clause-made : goal.returns-clause-made
 returns-clause-made g c =
     let moves = returns-clause-moves g c in
     ap (heap_item_at ((heap_view c.write.new.self c.self.inside.size).now)) moves.1 ∙ ap (λ v. heap_item_at (v.now) c.args.self.now.now.top) moves.2
-    ∙ made_object c.args.self.now (new_object c.args.kind c.args.class c.args.owner c.args.length) (4 + c.args.length) (4 + c.args.length) (end_address ∷ [])
+    ∙ made_object c.args.self.now (new_object c.args.kind c.args.class c.args.owner c.args.length) (object_size c.args.kind c.args.length) (object_size c.args.kind c.args.length) (end_address ∷ [])
     (returns-clause-free g c)

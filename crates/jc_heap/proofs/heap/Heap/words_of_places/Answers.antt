@@ -8,7 +8,7 @@ use Rattle.jc_heap.proofs.heap.Heap.words_of_places.Goals as goal
 pub new-requires : goal.new-requires
 new-requires g c =
     let up = up_is c.self.inside.journal c.args.self.now c.self.inside.size c.self.view_is c.requires.up in
-    let places : ArePlaces (length c.self.inside.journal.plain) (words_of (g.P.PlaceChanges.changes c.args.changes.now)) =
-    several_places c.self.inside.journal c.args.self.now c.self.inside.size (g.P.PlaceChanges.changes c.args.changes.now) c.self.view_is c.requires.there
-    (c.self.invariant.now up) in
+    let places : ArePlaces (length c.self.inside.journal.plain) (words_of c.args.changes.now) =
+    several_places c.self.inside.journal c.args.self.now c.self.inside.size c.args.changes.now c.self.view_is (c.self.invariant.now up) c.requires.there
+    c.requires.plain in
     λ k within. omega (arith, (places k within).below, c.self.invariant.size_now up, c.self.invariant.small)

@@ -3,7 +3,8 @@ use Rattle.jc_commit.specs.Keeping.{has_room_for as journal_room}
 use Rattle.jc_commit.specs.State.{Changes, keeping as journal_keeping}
 use Rattle.jc_heap.specs.Heap.{IsSound, heap_view, has_room_for}
 use Rattle.jc_heap.specs.Moves.{Write, refusal_at}
-use Rattle.jc_heap.specs.Places.{place_word}
+use Rattle.jc_heap.specs.Places.{place_at}
+use Rattle.jc_heap.specs.Elements.{word_for}
 use Rattle.jc_heap.proofs.Changing.{up_is, refusal_cases, journal_stopped_sound}
 use Rattle.jc_heap.proofs.Calls.{ok_not_err, not_false, room_is, not_full, unless_done, change_refused}
 use Rattle.jc_heap.proofs.Places.{PlaceSpot, place_spot, place_logged, place_view, place_sound}
@@ -11,10 +12,10 @@ use Rattle.jc_heap.proofs.heap.Heap.write.Goals as goal
 
 pub write-requires-clause-place : goal.write-requires-clause-place
 write-requires-clause-place g c =
-    let spot : PlaceSpot (length c.self.inside.journal.plain) (place_word c.args.place) =
+    let spot : PlaceSpot (length c.self.inside.journal.plain) (place_at c.args.self.now.now c.args.place) =
     place_spot c.self.inside.journal c.args.self.now c.self.inside.size c.args.place c.self.view_is
     (c.self.invariant.now (up_is c.self.inside.journal c.args.self.now c.self.inside.size c.self.view_is c.requires.up)) c.requires.there in
-    rw c.place_word-word.ensures (place_logged (length c.self.inside.journal.plain) (place_word c.args.place) spot)
+    rw c.place_word-word.ensures (place_logged (length c.self.inside.journal.plain) (place_at c.args.self.now.now c.args.place) spot)
 
 pub invariant_of-self : goal.invariant_of-self
 invariant_of-self g c = elim (refusal_cases c.in_err-write.field-0.0) [
@@ -24,28 +25,30 @@ invariant_of-self g c = elim (refusal_cases c.in_err-write.field-0.0) [
 
 pub invariant_of-self-2 : goal.invariant_of-self-2
 invariant_of-self-2 g c =
-    let there : Changes ((place_word c.args.place, c.args.v) ∷ []) c.self.inside.journal c.write.new.self =
-    subst (λ a. Changes ((a, c.args.v) ∷ []) c.self.inside.journal c.write.new.self) c.place_word-word.ensures c.in_ok-write.ensures.ok in
-    place_sound c.self.inside.journal c.write.new.self c.args.self.now c.self.inside.size c.args.place c.args.v c.self.view_is c.requires.there
+    let there : Changes ((place_at c.args.self.now.now c.args.place, word_for c.self.inside.journal.plain c.args.place c.args.v) ∷ []) c.self.inside.journal c.write.new.self =
+    subst (λ (x : ℕ). Changes ((place_at c.args.self.now.now c.args.place, x) ∷ []) c.self.inside.journal c.write.new.self) c.word_for-value.ensures
+    (subst (λ (a : ℕ). Changes ((a, c.word_for-value.result) ∷ []) c.self.inside.journal c.write.new.self) c.place_word-word.ensures c.in_ok-write.ensures.ok) in
+    place_sound c.self.inside.journal c.write.new.self c.args.self.now c.self.inside.size c.args.place c.args.v c.self.view_is c.requires.there c.requires.value
     (up_is c.self.inside.journal c.args.self.now c.self.inside.size c.self.view_is c.requires.up) c.self.invariant there
 
 pub returns : goal.returns
 returns g c =
-    let there : Changes ((place_word c.args.place, c.args.v) ∷ []) c.self.inside.journal c.write.new.self =
-    subst (λ a. Changes ((a, c.args.v) ∷ []) c.self.inside.journal c.write.new.self) c.place_word-word.ensures c.in_ok-write.ensures.ok in
-    let room : has_room_for c.args.self.now (place_word c.args.place ∷ []) ≡ true =
+    let there : Changes ((place_at c.args.self.now.now c.args.place, word_for c.self.inside.journal.plain c.args.place c.args.v) ∷ []) c.self.inside.journal c.write.new.self =
+    subst (λ (x : ℕ). Changes ((place_at c.args.self.now.now c.args.place, x) ∷ []) c.self.inside.journal c.write.new.self) c.word_for-value.ensures
+    (subst (λ (a : ℕ). Changes ((a, c.word_for-value.result) ∷ []) c.self.inside.journal c.write.new.self) c.place_word-word.ensures c.in_ok-write.ensures.ok) in
+    let room : has_room_for c.args.self.now (place_at c.args.self.now.now c.args.place ∷ []) ≡ true =
     not_false _ (λ f. ok_not_err _ _ (c.in_ok-write.ensures.full.1 (ap (λ a. journal_room (journal_keeping c.self.inside.journal)
     (a ∷ [])) c.place_word-word.ensures ∙ sym (room_is c.self.inside.journal c.args.self.now c.self.inside.size
-    (place_word c.args.place ∷ []) c.self.invariant.back c.self.view_is) ∙ f))) in
-    unless_done (refusal_at c.args.self.now (place_word c.args.place ∷ [])) c.args.self.now (heap_view c.write.new.self c.self.inside.size)
-    (Write c.args.place c.args.v) tt tt (not_full c.args.self.now (place_word c.args.place ∷ []) room) refl
+    (place_at c.args.self.now.now c.args.place ∷ []) c.self.invariant.back c.self.view_is) ∙ f))) in
+    unless_done (refusal_at c.args.self.now (place_at c.args.self.now.now c.args.place ∷ [])) c.args.self.now (heap_view c.write.new.self c.self.inside.size)
+    (Write c.args.place c.args.v) tt tt (not_full c.args.self.now (place_at c.args.self.now.now c.args.place ∷ []) room) refl
     (place_view c.self.inside.journal c.write.new.self c.args.self.now c.self.inside.size c.args.place c.args.v c.self.view_is
     (c.self.invariant.now (up_is c.self.inside.journal c.args.self.now c.self.inside.size c.self.view_is c.requires.up)) c.self.invariant.back c.requires.there
-    there)
+    c.requires.value there)
 
 pub returns-in_err-write : goal.returns-in_err-write
 returns-in_err-write g c =
-    let places : List ℕ = place_word c.args.place ∷ [] in
+    let places : List ℕ = place_at c.args.self.now.now c.args.place ∷ [] in
     let e = c.in_err-write.ensures in
     let there : has_room_for c.args.self.now places ≡ journal_room (journal_keeping c.self.inside.journal) (c.place_word-word.result ∷ []) =
     room_is c.self.inside.journal c.args.self.now c.self.inside.size places c.self.invariant.back c.self.view_is

@@ -6,7 +6,7 @@ use Rattle.jc_memory.proofs.memory.Memory.write_all.Goals as goal
 pub invariant_of-self : goal.invariant_of-self
 invariant_of-self g c =
     let k = known_change c.self.inside.marks _ c.self.inside.heap c.set_all.new.self c.set_all.result _ _ c.set_all.ensures
-    (λ none. subst (λ s. AreLegalValues s.heap.now (g.P.PlaceChanges.changes c.args.changes.now)) (sym c.self.view_is) c.requires.references)
+    (λ none. subst (λ s. AreLegalValues s.heap.now c.args.changes.now) (sym c.self.view_is) c.requires.references)
     tt (
       c.self.invariant.0.heap (ap (λ s. s.heap.down) c.self.view_is ∙ c.requires.up),
       c.self.invariant.1 (ap (λ s. s.heap.down) c.self.view_is ∙ c.requires.up),

@@ -1,0 +1,75 @@
+-- The first words of a new image.
+use Rattle.std.proofs.Common.{◌≡◌, ◌∙◌, ℕ, ◌+◌, ◌*◌, List, [], ◌∷◌, length, slice_index, ap, refl, arith}
+use Rattle.jc_words.specs.Layout.{journal_capacity, version}
+use Rattle.jc_transient.specs.declared.cell.ClearEvent.TheVariants.{Reset}
+use Rattle.jc_heap.specs.declared.object.Kind.{Kind}
+use Rattle.jc_heap.specs.Heap.{HeapState, add_object, add_transient}
+use Rattle.jc_image.specs.Laying.{first_free, first_words_of, unsealed_heap}
+use Rattle.jc_platform.specs.Tokens.{Tokens}
+use Rattle.jc_card.specs.declared.fixed.FixedObject.{FixedObject}
+use Rattle.jc_card.specs.Fixed.{cells_of_all, class_number_of, fixed_objects, fixed_size, with_objects}
+use Rattle.jc_card.specs.Made.{new_card_heap, new_front}
+use Rattle.jc_card.proofs.FixedObjects.{end-add, head-new_card_heap, text-new_card_heap, top-add}
+
+-- what a new transient object leaves
+module _ (h : HeapState) (kind : Kind) (class owner n : ℕ) where
+  counts-add : (add_transient h kind Reset class owner n).counts ≡ h.counts
+  unfolding add_transient add_object
+  counts-add = refl
+
+  other_end-add : (add_transient h kind Reset class owner n).area_ends.1 ≡ h.area_ends.1
+  unfolding add_transient add_object
+  other_end-add = refl
+
+  unread-add : (add_transient h kind Reset class owner n).unread ≡ h.unread
+  unfolding add_transient add_object
+  unread-add = refl
+
+-- what the objects of the runtime environment leave
+counts-all : (t : Tokens) (h : HeapState) (os : List FixedObject) → (with_objects t h os).counts ≡ h.counts
+counts-all t h [] = refl
+counts-all t h (o ∷ os) = counts-all t (add_transient h o.kind Reset (class_number_of t o.class) 0 o.cells) os
+    ∙ counts-add h o.kind (class_number_of t o.class) 0 o.cells
+
+other_end-all : (t : Tokens) (h : HeapState) (os : List FixedObject) → (with_objects t h os).area_ends.1 ≡ h.area_ends.1
+other_end-all t h [] = refl
+other_end-all t h (o ∷ os) = other_end-all t (add_transient h o.kind Reset (class_number_of t o.class) 0 o.cells) os
+    ∙ other_end-add h o.kind (class_number_of t o.class) 0 o.cells
+
+unread-all : (t : Tokens) (h : HeapState) (os : List FixedObject) → (with_objects t h os).unread ≡ h.unread
+unread-all t h [] = refl
+unread-all t h (o ∷ os) = unread-all t (add_transient h o.kind Reset (class_number_of t o.class) 0 o.cells) os
+    ∙ unread-add h o.kind (class_number_of t o.class) 0 o.cells
+
+-- what they take
+top-all : (t : Tokens) (h : HeapState) (os : List FixedObject) → (with_objects t h os).top ≡ h.top + 5 * length os
+top-all t h [] = omega arith
+top-all t h (o ∷ os) =
+    let more = top-all t (add_transient h o.kind Reset (class_number_of t o.class) 0 o.cells) os in
+    let one = top-add h o.kind (class_number_of t o.class) 0 o.cells in
+    omega (arith, more, one)
+
+end-all : (t : Tokens) (h : HeapState) (os : List FixedObject) → (with_objects t h os).area_ends.0 ≡ h.area_ends.0 + cells_of_all os
+end-all t h [] = omega arith
+end-all t h (o ∷ os) =
+    let more = end-all t (add_transient h o.kind Reset (class_number_of t o.class) 0 o.cells) os in
+    let one = end-add h o.kind (class_number_of t o.class) 0 o.cells in
+    omega (arith, more, one)
+
+-- how many there are
+all-fixed : length fixed_objects ≡ 17
+unfolding fixed_objects
+all-fixed = refl
+
+pub front-new : (n : ℕ) (text : List ℕ) (t : Tokens) → first_words_of (new_card_heap n text t) ≡ new_front n (length text)
+front-new n text t =
+    let h : HeapState = unsealed_heap n text in
+    let head = head-new_card_heap n text t in
+    let counts = counts-all t h fixed_objects in
+    let unread = unread-all t h fixed_objects in
+    let top : (with_objects t h fixed_objects).top ≡ first_free (length text) + fixed_size = omega (arith, top-all t h fixed_objects, all-fixed) in
+    let first_end : (with_objects t h fixed_objects).area_ends.0 ≡ cells_of_all fixed_objects = omega (arith, end-all t h fixed_objects) in
+    let second_end = other_end-all t h fixed_objects in
+    let long = ap (λ (l : List ℕ). length l) (text-new_card_heap n text t) in
+    λ i. (head i).0 ∷ version ∷ (head i).1 ∷ 0 ∷ slice_index (unread i) 0 ∷ top i ∷ (counts i).0 ∷ (counts i).1 ∷ first_end i ∷ second_end i
+    ∷ long i ∷ slice_index (unread i) 1 ∷ slice_index (unread i) 2 ∷ slice_index (unread i) 3 ∷ slice_index (unread i) 4 ∷ slice_index (unread i) 5 ∷ []

@@ -1,0 +1,22 @@
+use Rattle.std.proofs.Common.{◌≡◌, ◌<◌, ◌/◌, true, false, length, subst, sym, ap, ◌∙◌, arith}
+use Rattle.std.specs.Prelude.{slice_index}
+use Rattle.jc_heap.specs.Object.{is_packed}
+use Rattle.jc_heap.specs.Packed.{byte_in}
+use Rattle.jc_heap.specs.Places.{HasPlace}
+use Rattle.jc_heap.specs.Heap.{heap_of, facts, cells}
+use Rattle.jc_heap.proofs.Views.{readable, packed_spot, packed_read, single_spot, single_read}
+use Rattle.jc_heap.proofs.elements.cell_word.Goals as goal
+
+pub word_at-requires : goal.word_at-requires
+word_at-requires g c = omega (
+  arith,
+  (packed_spot c.args.journal.now.plain c.args.object c.args.i c.requires.cell (sym c.is_packed.ensures ∙ c.if-is_packed.true)).0,
+  c.requires.small,
+)
+
+pub word_at-requires-2 : goal.word_at-requires-2
+word_at-requires-2 g c = omega (
+  arith,
+  (single_spot c.args.journal.now.plain c.args.object c.args.i c.requires.cell (sym c.is_packed.ensures ∙ c.if-is_packed.false)).0,
+  c.requires.small,
+)

@@ -1,0 +1,166 @@
+//! The cells of persistent objects in words: one in a word, or two in a word of a packed array.
+ghost use Rattle.std.specs.Prelude.{ℕ, ◌≡◌, ◌<◌, ◌≤◌, ◌+◌, true, length, slice_index};
+ghost use Rattle.jc_heap.specs.Object.{IsElement, is_packed};
+ghost use Rattle.jc_heap.specs.Image.{IsWellFormed};
+ghost use Rattle.jc_heap.specs.Heap.{heap_of, cells, facts, cell_address};
+ghost use Rattle.jc_heap.specs.Packed.{byte_in, with_byte};
+ghost use Rattle.jc_heap.specs.Places.{cell_at, HasPlace, MayHold};
+ghost use Rattle.jc_heap.specs.Elements.{elements_of, word_for, byte_before, byte_behind, run_for};
+
+use crate::changes::{CellRun, Elements, Packing};
+use crate::layout::HEADER;
+use crate::object::is_packed_header;
+use crate::place::Place;
+use jc_commit::Journal;
+use jc_transient::Ref;
+use jc_words::WordStore;
+
+// The byte of an index in its word.
+#[inline(always)]
+fn byte_in(word: u16, i: u16) -> u8
+    ensures { result ≡ byte_in word i }
+{
+    if i % 2 == 0 {
+        return (word / 256) as u8;
+    }
+    (word % 256) as u8
+}
+
+// A word with the byte of an index set: the other one stays.
+#[inline(always)]
+fn with_byte(word: u16, i: u16, v: u16) -> u16
+    requires { v < 256 }
+    ensures { result ≡ with_byte word i v }
+{
+    if i % 2 == 0 {
+        return 256 * v + word % 256;
+    }
+    word / 256 * 256 + v
+}
+
+// Whether two elements of the object stand in a word. It has cells.
+#[inline(always)]
+pub(crate) fn is_packed<S: WordStore>(journal: &Journal<S>, object: Ref) -> bool
+    requires laid { IsWellFormed journal.now.plain }
+    requires small { length journal.now.plain < 65536 }
+    requires some { 0 < length (cells (heap_of journal.now.plain) object) }
+    ensures { result ≡ is_packed (facts (heap_of journal.now.plain) object) }
+{
+    is_packed_header(journal.read(object.address()))
+}
+
+// The word of a cell, where its object's cells have words of their own.
+#[inline(always)]
+#[tactic(auto, unfolding(crate::specs::Heap::cell_address))]
+fn word_at(object: Ref, i: u16) -> u16
+    requires { cell_address object i < 65536 }
+    ensures { result ≡ cell_address object i }
+{
+    let offset = u32::from(HEADER) + u32::from(i);
+    (u32::from(object.address()) + offset) as u16
+}
+
+// The word of a cell.
+#[inline(always)]
+pub(crate) fn cell_word<S: WordStore>(journal: &Journal<S>, object: Ref, i: u16) -> u16
+    requires laid { IsWellFormed journal.now.plain }
+    requires small { length journal.now.plain < 65536 }
+    requires cell { i < length (cells (heap_of journal.now.plain) object) }
+    ensures { result ≡ cell_at (facts (heap_of journal.now.plain) object) object i }
+{
+    if is_packed(journal, object) {
+        return word_at(object, i / 2);
+    }
+    word_at(object, i)
+}
+
+// What a cell holds.
+#[inline(always)]
+pub(crate) fn cell_value<S: WordStore>(journal: &Journal<S>, object: Ref, i: u16) -> u16
+    requires laid { IsWellFormed journal.now.plain }
+    requires small { length journal.now.plain < 65536 }
+    requires cell { i < length (cells (heap_of journal.now.plain) object) }
+    ensures { result ≡ slice_index (cells (heap_of journal.now.plain) object) i }
+{
+    if is_packed(journal, object) {
+        return u16::from(byte_in(journal.read(word_at(object, i / 2)), i));
+    }
+    journal.read(word_at(object, i))
+}
+
+// What a place's word says once the place holds a value: the other element of its word stays.
+#[inline(always)]
+pub(crate) fn word_for<S: WordStore>(journal: &Journal<S>, place: &Place, v: u16) -> u16
+    requires laid { IsWellFormed journal.now.plain }
+    requires small { length journal.now.plain < 65536 }
+    requires there { HasPlace (heap_of journal.now.plain) place.now }
+    requires value { MayHold (heap_of journal.now.plain) place.now v }
+    ensures { result ≡ word_for journal.now.plain place.now v }
+{
+    if let Place::Cell(object, i) = *place {
+        if is_packed(journal, object) {
+            return with_byte(journal.read(word_at(object, i / 2)), i, v);
+        }
+    }
+    v
+}
+
+// The byte that stays before an index of a packed array, in the same word.
+fn byte_before<S: WordStore>(journal: &Journal<S>, object: Ref, i: u16) -> Option<u8>
+    requires laid { IsWellFormed journal.now.plain }
+    requires small { length journal.now.plain < 65536 }
+    requires cell { i < length (cells (heap_of journal.now.plain) object) }
+    requires packed { is_packed (facts (heap_of journal.now.plain) object) ≡ true }
+    ensures { result ≡ byte_before journal.now.plain object i }
+{
+    if i % 2 == 0 {
+        return None;
+    }
+    Some(byte_in(journal.read(word_at(object, i / 2)), 0))
+}
+
+// The byte that stays behind the elements before an index, in the word of the last of them.
+fn byte_behind<S: WordStore>(journal: &Journal<S>, object: Ref, end: usize) -> Option<u8>
+    requires laid { IsWellFormed journal.now.plain }
+    requires small { length journal.now.plain < 65536 }
+    requires some { 0 < end }
+    requires cell { end ≤ length (cells (heap_of journal.now.plain) object) }
+    requires packed { is_packed (facts (heap_of journal.now.plain) object) ≡ true }
+    ensures { result ≡ byte_behind journal.now.plain object end }
+{
+    if end % 2 == 0 {
+        return None;
+    }
+    Some(byte_in(journal.read(word_at(object, (end / 2) as u16)), 1))
+}
+
+// The words of a run of cells, once they hold these values.
+#[inline(always)]
+pub(crate) fn run_for<'a, S: WordStore>(
+    journal: &Journal<S>,
+    object: Ref,
+    i: u16,
+    values: Elements<'a>,
+) -> CellRun<'a>
+    requires laid { IsWellFormed journal.now.plain }
+    requires small { length journal.now.plain < 65536 }
+    requires cells { i + length (elements_of values)
+        ≤ length (cells (heap_of journal.now.plain) object) }
+    requires values { (k : ℕ) → k < length (elements_of values)
+        → IsElement (facts (heap_of journal.now.plain) object).kind
+        (slice_index (elements_of values) k) }
+    ensures { result ≡ run_for journal.now.plain object i (elements_of values.entry) }
+{
+    let count = values.count();
+    if count == 0 {
+        return CellRun::new(0, values, Packing::Single);
+    }
+    if !is_packed(journal, object) {
+        return CellRun::new(word_at(object, i), values, Packing::Single);
+    }
+    let packing = Packing::Double {
+        before: byte_before(journal, object, i),
+        behind: byte_behind(journal, object, usize::from(i) + count),
+    };
+    CellRun::new(word_at(object, i / 2), values, packing)
+}

@@ -1,0 +1,287 @@
+//! `jcard tear`: cutting the power within a command of a script, after each number of its word writes.
+ghost use Rattle.std.specs.Prelude.{◌≡◌, ◌⊎◌, ◌<◌, ℕ, List, Some, Err, MatchResult, IfOk, IfErr, IfSome, false, length, take, option_map};
+ghost use Rattle.std.specs.Borrow.{Bor};
+ghost use Rattle.std.specs.Io.KnownBytes.{Appends};
+ghost use Rattle.jc_words.specs.Count.{failures_after};
+ghost use Rattle.jcard_commands.specs.Faults.{is_unwritten};
+ghost use Rattle.jcard_commands.specs.FileDeeds.{FileDeed};
+ghost use Rattle.jcard_commands.specs.Images.{IsNotRead};
+ghost use Rattle.jcard_commands.specs.NewImages.{IsUnread};
+ghost use Rattle.jcard_commands.specs.Tears.{EndsUncut, IsImageRead, IsImageUnread, IsProbed, IsReported, IsScriptRead, IsTear, IsTearOver, IsTornAt, IsTornIn, IsUncut};
+ghost use Rattle.jcard_outcomes.specs.Reports.{report_text};
+
+use crate::closed_store::ClosedStore;
+use crate::disk::Disk;
+use crate::fault::Fault;
+use crate::run::{Names, power_up_fault};
+use jcard_outcomes::report::{Sweep, report};
+use jcard_outcomes::verdict::is_all_or_nothing;
+use jcard_script::script::ScriptFault;
+use jcard_script::streams::{TextOut, write_all};
+use jcard_tear::cuts::Command;
+use jcard_tear::runs::copied;
+use jcard_tear::script_lines::{ScriptLine, command_line, last_select};
+use jcard_tear::tearing::{TearFault, tear};
+use std::alloc::{AllocError, Global};
+use std::io::Read;
+
+/// The most bytes of a script that are read: one more than are carried out, so that a longer one is seen.
+const MOST_READ: u64 = 16_777_217;
+
+/// What is torn of an image: the names of a script and perhaps of a probe, and perhaps the number of a line.
+#[derive(Clone, Copy, Debug, PartialEq, Eq, Drop)]
+pub(crate) struct Asked<'a> {
+    pub(crate) script: &'a str,
+    pub(crate) probe: Option<&'a str>,
+    pub(crate) line: Option<&'a str>,
+}
+
+/// `jcard tear`: cuts a command of the script after each number of its writes, each time on a card of a copy of the image's words, and
+/// tells what is left. The image is read, and never written.
+pub(crate) fn tear_image<'n, D: Disk, W: TextOut>(
+    disk: &mut D,
+    image: &'n str,
+    asked: Asked<'n>,
+    out: &mut W,
+) -> Result<(), Fault<'n>>
+    ensures done { (text : List ℕ) × (deeds : List FileDeed)
+        × Appends (W.contents out.old) (W.contents out.new) text
+        × IsTear image.now asked.entry.script.now
+        (option_map (λ (name : Bor (List ℕ)). name.now) asked.entry.probe) result text deeds
+        × D.does disk.old deeds disk.new }
+    ensures writes { W.failures out.new ≡ failures_after (W.failures out.old)
+        (is_unwritten result) }
+{
+    match words_of(disk, image) {
+        Ok(words) => tear_over(disk, image, &words, asked, out),
+        Err(fault) => Err(fault),
+    }
+}
+
+// Cuts a command of the script over these words.
+fn tear_over<'n, D: Disk, W: TextOut>(
+    disk: &mut D,
+    image: &'n str,
+    words: &[u16],
+    asked: Asked<'n>,
+    out: &mut W,
+) -> Result<(), Fault<'n>>
+    requires { length words.now < 65536 }
+    ensures done { (text : List ℕ) × (deeds : List FileDeed)
+        × Appends (W.contents out.old) (W.contents out.new) text
+        × IsTearOver words.now asked.entry.script.now
+        (option_map (λ (name : Bor (List ℕ)). name.now) asked.entry.probe) result text deeds
+        × D.does disk.old deeds disk.new }
+    ensures writes { W.failures out.new ≡ failures_after (W.failures out.old)
+        (is_unwritten result) }
+{
+    match script_of(disk, asked.script) {
+        Ok(script) => tear_in(
+            disk,
+            Names {
+                image,
+                script: asked.script,
+            },
+            words,
+            &script,
+            asked,
+            out,
+        ),
+        Err(fault) => Err(fault),
+    }
+}
+
+// Cuts the command that is meant of this script.
+fn tear_in<'n, D: Disk, W: TextOut>(
+    disk: &mut D,
+    names: Names<'n>,
+    words: &[u16],
+    script: &[u8],
+    asked: Asked<'n>,
+    out: &mut W,
+) -> Result<(), Fault<'n>>
+    requires { length words.now < 65536 }
+    ensures done { (text : List ℕ) × (deeds : List FileDeed)
+        × Appends (W.contents out.old) (W.contents out.new) text
+        × IsTornIn words.now script.now
+        (option_map (λ (name : Bor (List ℕ)). name.now) asked.entry.probe) result text deeds
+        × D.does disk.old deeds disk.new }
+    ensures writes { W.failures out.new ≡ failures_after (W.failures out.old)
+        (is_unwritten result) }
+{
+    match command_line(script, number_of(asked.line)) {
+        Some(found) => tear_probed(disk, names, words, found, asked.probe, out),
+        None => Err(Fault::NoCommand),
+    }
+}
+
+// Cuts a command, with the lines of the probe of this name behind each cut; or, where none is named, with the last SELECT before it.
+fn tear_probed<'n, D: Disk, W: TextOut>(
+    disk: &mut D,
+    names: Names<'n>,
+    words: &[u16],
+    found: ScriptLine,
+    probe: Option<&'n str>,
+    out: &mut W,
+) -> Result<(), Fault<'n>>
+    requires { length words.now < 65536 }
+    ensures done { (text : List ℕ) × (deeds : List FileDeed)
+        × Appends (W.contents out.old) (W.contents out.new) text
+        × IsProbed words.now found.entry.before.now found.entry.line.now
+        (option_map (λ (name : Bor (List ℕ)). name.now) probe.entry) result text deeds
+        × D.does disk.old deeds disk.new }
+    ensures writes { W.failures out.new ≡ failures_after (W.failures out.old)
+        (is_unwritten result) }
+{
+    match probe {
+        Some(name) => match script_of(disk, name) {
+            Ok(probe) => tear_line(disk.alloc(), names, words, found, &probe, out),
+            Err(fault) => Err(fault),
+        },
+        None => tear_line(
+            disk.alloc(),
+            names,
+            words,
+            found,
+            last_select(found.before),
+            out,
+        ),
+    }
+}
+
+// Cuts the command in this line, with this probe behind each cut.
+fn tear_line<'n, W: TextOut>(
+    alloc: Global,
+    names: Names<'n>,
+    words: &[u16],
+    found: ScriptLine,
+    probe: &[u8],
+    out: &mut W,
+) -> Result<(), Fault<'n>>
+    requires { length words.now < 65536 }
+    ensures done { (text : List ℕ) × Appends (W.contents out.old) (W.contents out.new) text
+        × IsTornAt words.now found.entry.before.now found.entry.line.now (Some probe.now) result text }
+    ensures writes { W.failures out.new ≡ failures_after (W.failures out.old)
+        (is_unwritten result) }
+{
+    let command = Command {
+        before: found.before,
+        line: found.line,
+        probe,
+    };
+    match tear(alloc, words, command, &[]) {
+        Ok(sweep) => tell_sweep(alloc, &sweep, out),
+        Err(cause) => Err(tear_fault(names, cause)),
+    }
+}
+
+// Writes the report of a sweep.
+fn tell_sweep<'n, W: TextOut>(alloc: Global, sweep: &Sweep, out: &mut W) -> Result<(), Fault<'n>>
+    ensures done { (text : List ℕ) × Appends (W.contents out.old) (W.contents out.new) text
+        × (IsReported sweep.now result text ⊎ EndsUncut result text) }
+    ensures writes { W.failures out.new ≡ failures_after (W.failures out.old)
+        (is_unwritten result) }
+{
+    let Ok(text) = report(alloc, sweep) else {
+        return Err(Fault::NoMemory);
+    };
+    match write_all(out, &text) {
+        Ok(()) => all_or_nothing(sweep),
+        Err(_) => Err(Fault::WriteFailed),
+    }
+}
+
+// Whether each cut of a sweep was all or nothing.
+fn all_or_nothing<'n>(sweep: &Sweep) -> Result<(), Fault<'n>>
+    ensures reported { IsReported sweep.now result (report_text sweep.now) }
+    ensures unwritten { is_unwritten result ≡ false }
+{
+    if is_all_or_nothing(&sweep.cuts) {
+        Ok(())
+    } else {
+        Err(Fault::NotAllOrNothing)
+    }
+}
+
+// What it means that a command was not cut.
+fn tear_fault<'n>(names: Names<'n>, cause: TearFault) -> Fault<'n>
+    ensures { IsUncut result }
+{
+    match cause {
+        TearFault::NoMemory => Fault::NoMemory,
+        TearFault::Script(fault) | TearFault::Probe(fault) => tear_script_fault(names, fault),
+        TearFault::Down => Fault::Down,
+        TearFault::TooManyCuts => Fault::TooManyCuts,
+    }
+}
+
+// What it means that a script was not carried out in memory, where a text is read and written as long as there is memory.
+fn tear_script_fault<'n>(names: Names<'n>, fault: ScriptFault) -> Fault<'n>
+    ensures { IsUncut result }
+{
+    match fault {
+        ScriptFault::ReadFailed | ScriptFault::WriteFailed => Fault::NoMemory,
+        ScriptFault::BadLine(n) => Fault::BadCommand(n),
+        ScriptFault::TooLong => Fault::ScriptTooLong,
+        ScriptFault::PowerFault(cause) => power_up_fault(names.image, cause),
+    }
+}
+
+// The number that a text tells; 0, which no line has, where it tells none.
+fn number_of(line: Option<&str>) -> Option<u32> {
+    match line {
+        Some(text) => match text.parse::<u32>() {
+            Ok(number) => Some(number),
+            Err(_) => Some(0),
+        },
+        None => None,
+    }
+}
+
+// The words of the image of this name, which is opened to read it alone.
+fn words_of<'n, D: Disk>(disk: &mut D, image: &'n str) -> Result<Vec<u16>, Fault<'n>>
+    ensures read { (deeds : List FileDeed) × D.does disk.old deeds disk.new × MatchResult result
+        (λ words. IsImageRead image.now words.items deeds) (λ fault. IsImageUnread image.now fault deeds) }
+    ensures short { IfOk result (λ words. length words.items < 65536) }
+    ensures unwritten { IfErr result (λ fault. is_unwritten (Err fault) ≡ false) }
+{
+    match disk.open_image_to_read(image) {
+        Ok(store) => {
+            let words = copied(disk.alloc(), &store);
+            disk.close_image(image, ClosedStore::new(store));
+            match words {
+                Ok(words) => Ok(words),
+                Err(AllocError) => Err(Fault::NoMemory),
+            }
+        }
+        Err(fault) => Err(fault),
+    }
+}
+
+// What the script of this name holds, up to one byte more than is carried out.
+fn script_of<'n, D: Disk>(disk: &mut D, name: &'n str) -> Result<Vec<u8>, Fault<'n>>
+    ensures read { (deeds : List FileDeed) × D.does disk.old deeds disk.new × MatchResult result
+        (λ text. IsScriptRead name.now text.items deeds) (λ fault. IsUnread name.now fault deeds) }
+    ensures unwritten { IfErr result (λ fault. is_unwritten (Err fault) ≡ false) }
+{
+    match disk.open_text(name) {
+        Ok(mut file) => read_script(disk.alloc(), name, &mut file),
+        Err(fault) => Err(fault),
+    }
+}
+
+fn read_script<'n, F: Read>(
+    alloc: Global,
+    name: &'n str,
+    file: &mut F,
+) -> Result<Vec<u8>, Fault<'n>>
+    ensures bytes { IfOk result (λ text. IfSome (F.remaining file.old)
+        (λ bytes. text.items ≡ take 16777217 bytes)) }
+    ensures refused { IfErr result (λ fault. IsNotRead name.now fault) }
+{
+    let mut text = Vec::new(alloc);
+    match file.take(MOST_READ).read_to_end(&mut text) {
+        Ok(_) => Ok(text),
+        Err(_) => Err(Fault::CannotRead(name)),
+    }
+}

@@ -1,0 +1,47 @@
+-- How what a cut left compares with what stood before the command, and with what it leaves where it is not cut.
+use Rattle.std.specs.Prelude.{ℕ, ◌≡◌, List, Option, IfSome, MatchOption}
+use Rattle.jcard_outcomes.specs.Heaps.{AgreeAtSpared, IsDifference, StandsAsAfter, StandsAsBefore}
+use Rattle.jcard_outcomes.specs.declared.heaps.Difference.{Difference}
+use Rattle.jcard_outcomes.specs.declared.standing.Left.{Left}
+use Rattle.jcard_outcomes.specs.declared.standing.Likeness.{Likeness}
+use Rattle.jcard_outcomes.specs.declared.standing.Likeness.TheVariants.{Same, ButTries, ButAnswers, Other}
+use Rattle.jcard_outcomes.specs.declared.standing.Standing.{Standing}
+use Rattle.jcard_outcomes.specs.declared.standing.Standing.TheVariants.{Before, BeforeButTries, After, AfterButTries, Answers, Changed}
+
+-- the heap stands so, or not; the tries of PINs are the same, or not; and the answers are. Where tries differ, answers may tell them
+abbrev pub IsLikeness : Type 0 → Type 0 → Type 0 → Likeness → Type 0
+IsLikeness Stands Tries Answered Same = Stands × Tries × Answered
+IsLikeness Stands Tries Answered ButTries = Stands × (Tries → ⊥)
+IsLikeness Stands Tries Answered ButAnswers = Stands × Tries × (Answered → ⊥)
+IsLikeness Stands Tries Answered Other = Stands → ⊥
+
+-- how a heap and answers compare with those before
+abbrev pub IsLikeBefore : List ℕ → Left → List ℕ → List ℕ → Likeness → Type 0
+IsLikeBefore spared before heap answers likeness = IsLikeness (StandsAsBefore spared before.words.items heap)
+    (AgreeAtSpared spared before.words.items heap) (answers ≡ before.answers.items) likeness
+
+-- how they compare with those after
+abbrev pub IsLikeAfter : List ℕ → Left → List ℕ → List ℕ → Likeness → Type 0
+IsLikeAfter spared after heap answers likeness = IsLikeness (StandsAsAfter spared after.words.items heap)
+    (AgreeAtSpared spared after.words.items heap) (answers ≡ after.answers.items) likeness
+
+-- what the two comparisons say: like before, like after, or neither, and then this word changed
+abbrev pub IsJudged : Option Difference → Likeness → Likeness → Standing → Type 0
+IsJudged changed Same after s = s ≡ Before
+IsJudged changed ButTries after s = s ≡ BeforeButTries
+IsJudged changed ButAnswers Same s = s ≡ After
+IsJudged changed ButAnswers ButTries s = s ≡ AfterButTries
+IsJudged changed ButAnswers ButAnswers s = s ≡ Answers
+IsJudged changed ButAnswers Other s = s ≡ Answers
+IsJudged changed Other Same s = s ≡ After
+IsJudged changed Other ButTries s = s ≡ AfterButTries
+IsJudged changed Other ButAnswers s = s ≡ Answers
+IsJudged changed Other Other s = IfSome changed (λ d. s ≡ Changed d)
+
+-- what a cut left, a heap and answers, stands so beside what was before and what comes after; where the heap is not as before, this
+-- word shows it
+abbrev pub IsStanding : List ℕ → Left → Left → List ℕ → List ℕ → Standing → Type 0
+IsStanding spared before after heap answers s = (changed : Option Difference) × (like_before like_after : Likeness)
+    × MatchOption changed (StandsAsBefore spared before.words.items heap) (λ d. IsDifference spared before.words.items heap d)
+    × IsLikeBefore spared before heap answers like_before × IsLikeAfter spared after heap answers like_after
+    × IsJudged changed like_before like_after s

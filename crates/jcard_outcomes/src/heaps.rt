@@ -1,0 +1,86 @@
+//! Comparing the heaps of two images, word by word.
+ghost use Rattle.std.specs.Prelude.{◌≡◌, ◌≤◌, ◌<◌, ◌↔◌, slice_index, false, true, IsTrue, MatchOption};
+ghost use Rattle.jcard_outcomes.specs.Heaps.{AgreeAtSpared, AgreeBetween, IsDifference, StandsAsAfter, StandsAsBefore, differ_at};
+
+use jc_words::layout::{ADDRESSES, PACKAGES, RESET_END, TEXT_LENGTH, TOP};
+
+/// A word that has become another.
+#[derive(Clone, Copy, Debug, PartialEq, Eq, Drop)]
+pub struct Difference {
+    pub address: u16,
+    pub before: u16,
+    pub now: u16,
+}
+
+/// Where what stood before does not stand any more; none where all of it does. The words at the spared addresses do not
+/// count.
+pub fn changed_since(spared: &[u16], before: &[u16], heap: &[u16]) -> Option<Difference>
+    ensures { MatchOption result (StandsAsBefore spared.now before.now heap.now)
+        (λ d. IsDifference spared.now before.now heap.now d) }
+{
+    let top = word_at(before, TOP);
+    if let Some(address) = first_difference(spared, before, heap, PACKAGES, RESET_END) {
+        return Some(difference_at(before, heap, address));
+    }
+    if let Some(address) = first_difference(spared, before, heap, ADDRESSES, top) {
+        return Some(difference_at(before, heap, address));
+    }
+    if word_at(heap, TOP) < top {
+        return Some(difference_at(before, heap, TOP));
+    }
+    None
+}
+
+/// Whether the heap is the one after. The words at the spared addresses do not count.
+pub fn is_as_after(spared: &[u16], after: &[u16], heap: &[u16]) -> bool
+    ensures { IsTrue result ↔ StandsAsAfter spared.now after.now heap.now }
+{
+    let top = word_at(after, TOP);
+    first_difference(spared, after, heap, TOP, TEXT_LENGTH).is_none()
+        && first_difference(spared, after, heap, ADDRESSES, top).is_none()
+}
+
+/// Whether two images have the same words at the spared addresses.
+pub fn agree_at_spared(spared: &[u16], a: &[u16], b: &[u16]) -> bool
+    ensures { IsTrue result ↔ AgreeAtSpared spared.now a.now b.now }
+{
+    spared
+        .iter()
+        .all(|address| word_at(a, *address) == word_at(b, *address))
+}
+
+// The word at an address, 0 past the end.
+fn word_at(words: &[u16], address: u16) -> u16
+    ensures { result ≡ slice_index words.now address }
+{
+    match words.get(usize::from(address)) {
+        Some(word) => *word,
+        None => 0,
+    }
+}
+
+// The word that stood at an address, and the one that stands there.
+fn difference_at(before: &[u16], heap: &[u16], address: u16) -> Difference
+    ensures address { result.address ≡ address }
+    ensures before { result.before ≡ slice_index before.now address }
+    ensures now { result.now ≡ slice_index heap.now address }
+{
+    Difference {
+        address,
+        before: word_at(before, address),
+        now: word_at(heap, address),
+    }
+}
+
+// The first address, from `first` up to `end`, at which two images differ.
+fn first_difference(spared: &[u16], a: &[u16], b: &[u16], first: u16, end: u16) -> Option<u16>
+    ensures { MatchOption result (AgreeBetween first end spared.now a.now b.now)
+        (λ i. (first ≤ i) × (i < end) × (differ_at spared.now a.now b.now i ≡ true)) }
+{
+    for address in first..end {
+        if word_at(a, address) != word_at(b, address) && !spared.contains(&address) {
+            return Some(address);
+        }
+    }
+    None
+}

@@ -1,0 +1,9 @@
+//! What cuts of the power left of a card: how the heaps and answers compare with those before and after, and the text that
+//! tells it.
+#![tactic(auto)]
+
+pub mod heaps;
+pub mod report;
+pub mod rows;
+pub mod standing;
+pub mod verdict;

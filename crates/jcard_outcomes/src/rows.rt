@@ -1,0 +1,138 @@
+//! The rows: what cuts left, one row for those that follow one another and left the same.
+ghost use Rattle.std.specs.Prelude.{◌≡◌, ◌++◌, map, IfOk, OnOk, if◌then◌else◌, ◌==◌, decimal};
+ghost use Rattle.std.specs.Str.{bytes_eq};
+ghost use Rattle.jcard_outcomes.specs.Reports.{ended, in_line, labelled, numbers_text, outcome_text, row_text, rows_from, rows_text, standing_text};
+
+use crate::heaps::Difference;
+use crate::standing::{Cut, Standing};
+use itoa::Buffer;
+use std::alloc::{AllocError, Global};
+
+/// Writes the rows of all cuts behind a text.
+pub(crate) fn push_rows(alloc: Global, text: &mut Vec<u8>, cuts: &[Cut]) -> Result<(), AllocError>
+    ensures { OnOk result (text.new.items ≡ text.old.items ++ rows_text cuts.now) }
+{
+    let Some((cut, more)) = cuts.split_first() else {
+        return Ok(());
+    };
+    let outcome = outcome_of(alloc, cut)?;
+    push_rows_from(alloc, text, outcome, more)
+}
+
+// Writes the rows from the first on, whose first cut left this.
+fn push_rows_from(
+    alloc: Global,
+    text: &mut Vec<u8>,
+    mut outcome: Vec<u8>,
+    more: &[Cut],
+) -> Result<(), AllocError>
+    ensures { OnOk result (text.new.items ≡ text.old.items
+        ++ rows_from 0 0 outcome.items more.now) }
+{
+    let mut first = 0;
+    let mut last = 0;
+    for cut in more {
+        let next = outcome_of(alloc, cut)?;
+        if !is_same(&outcome, &next) {
+            push_row(text, first, last, &outcome)?;
+            first = last + 1;
+            outcome = next;
+        }
+        last += 1;
+    }
+    push_row(text, first, last, &outcome)
+}
+
+fn is_same(outcome: &[u8], next: &[u8]) -> bool
+    ensures { result ≡ bytes_eq outcome.now next.now }
+{
+    outcome == next
+}
+
+// What a row tells of a cut.
+#[tactic(auto, unfolding(crate::specs::Reports::outcome_text))]
+fn outcome_of(alloc: Global, cut: &Cut) -> Result<Vec<u8>, AllocError>
+    ensures { IfOk result (λ text. text.items ≡ outcome_text cut.now) }
+{
+    let mut text = Vec::new(alloc);
+    push_in_line(&mut text, &cut.answers)?;
+    push_standing(&mut text, cut.standing)?;
+    Ok(text)
+}
+
+// Writes the row of the cuts with these numbers, which left this.
+fn push_row(text: &mut Vec<u8>, first: usize, last: usize, outcome: &[u8]) -> Result<(), AllocError>
+    ensures { OnOk result (text.new.items ≡ text.old.items ++ row_text first last outcome.now) }
+{
+    text.extend_from_slice(b"cut after ")?;
+    push_numbers(text, first, last)?;
+    push_ended(text, outcome)
+}
+
+/// Writes what a row tells behind its numbers.
+pub(crate) fn push_ended(text: &mut Vec<u8>, outcome: &[u8]) -> Result<(), AllocError>
+    ensures { OnOk result (text.new.items ≡ text.old.items ++ ended outcome.now) }
+{
+    text.extend_from_slice(b": ")?;
+    text.extend_from_slice(outcome)?;
+    text.extend_from_slice(b"\n")
+}
+
+fn push_numbers(text: &mut Vec<u8>, first: usize, last: usize) -> Result<(), AllocError>
+    ensures { OnOk result (text.new.items ≡ text.old.items ++ numbers_text first last) }
+{
+    push_number(text, first)?;
+    if first == last {
+        return Ok(());
+    }
+    text.extend_from_slice(b"..")?;
+    push_number(text, last)
+}
+
+/// Writes a number in decimal digits.
+pub(crate) fn push_number(text: &mut Vec<u8>, number: usize) -> Result<(), AllocError>
+    ensures { OnOk result (text.new.items ≡ text.old.items ++ decimal number) }
+{
+    let mut digits = Buffer::new();
+    text.extend_from_slice(digits.format(number).as_bytes())
+}
+
+/// Writes answers in one line, each with a space behind it.
+pub(crate) fn push_in_line(text: &mut Vec<u8>, answers: &[u8]) -> Result<(), AllocError>
+    ensures { OnOk result (text.new.items ≡ text.old.items ++ in_line answers.now) }
+{
+    for byte in answers {
+        text.push(if *byte == b'\n' { b' ' } else { *byte })?;
+    }
+    Ok(())
+}
+
+fn push_standing(text: &mut Vec<u8>, standing: Standing) -> Result<(), AllocError>
+    ensures { OnOk result (text.new.items ≡ text.old.items ++ standing_text standing) }
+{
+    match standing {
+        Standing::Before => text.extend_from_slice(b"as before"),
+        Standing::BeforeButTries => text.extend_from_slice(b"as before but for PIN tries"),
+        Standing::After => text.extend_from_slice(b"as after"),
+        Standing::AfterButTries => text.extend_from_slice(b"as after but for PIN tries"),
+        Standing::Answers => text.extend_from_slice(b"with other answers"),
+        Standing::Changed(difference) => push_difference(text, difference),
+    }
+}
+
+fn push_difference(text: &mut Vec<u8>, difference: Difference) -> Result<(), AllocError>
+    ensures { OnOk result (text.new.items ≡ text.old.items
+        ++ standing_text (Standing.Changed difference)) }
+{
+    push_labelled(text, b"changed: word ", difference.address)?;
+    push_labelled(text, b" was ", difference.before)?;
+    push_labelled(text, b" and is ", difference.now)
+}
+
+// Writes a word behind what it is.
+fn push_labelled(text: &mut Vec<u8>, label: &[u8], word: u16) -> Result<(), AllocError>
+    ensures { OnOk result (text.new.items ≡ text.old.items ++ labelled label.now word) }
+{
+    text.extend_from_slice(label)?;
+    push_number(text, usize::from(word))
+}

@@ -1,0 +1,98 @@
+//! How what a cut left stands beside what was there before the command, and beside what it leaves where it is not cut.
+ghost use Rattle.std.specs.Prelude.{◌≡◌, IsTrue, IsSome};
+ghost use Rattle.jcard_outcomes.specs.Heaps.{AgreeAtSpared};
+ghost use Rattle.jcard_outcomes.specs.Standings.{IsJudged, IsLikeness, IsStanding};
+
+use crate::heaps::{Difference, agree_at_spared, changed_since, is_as_after};
+
+/// What a reset found, and what a probe was answered then.
+#[derive(Drop)]
+pub struct Left {
+    pub words: Vec<u16>,
+    pub answers: Vec<u8>,
+}
+
+/// What the power cut within a command left, and what a probe was answered then.
+#[derive(Drop)]
+pub struct Cut {
+    pub standing: Standing,
+    pub answers: Vec<u8>,
+}
+
+/// How what is left compares with one state of a card.
+#[derive(Clone, Copy, Debug, PartialEq, Eq, Drop)]
+pub(crate) enum Likeness {
+    Same,
+    /// The tries of PINs differ.
+    ButTries,
+    /// The heap is the same, and the answers differ.
+    ButAnswers,
+    Other,
+}
+
+/// How what is left compares with what was before and with what comes after.
+#[derive(Clone, Copy, Debug, PartialEq, Eq, Drop)]
+pub enum Standing {
+    Before,
+    /// As before, but for the tries of PINs.
+    BeforeButTries,
+    After,
+    /// As after, but for the tries of PINs.
+    AfterButTries,
+    /// The heap is as before or as after, and the answers are not.
+    Answers,
+    /// The heap is neither: this word changed.
+    Changed(Difference),
+}
+
+/// How a heap and answers stand that a cut left.
+pub fn standing_of(
+    spared: &[u16],
+    before: &Left,
+    after: &Left,
+    heap: &[u16],
+    answers: &[u8],
+) -> Standing
+    ensures { IsStanding spared.now before.now after.now heap.now answers.now result }
+{
+    let changed = changed_since(spared, &before.words, heap);
+    let is_after = is_as_after(spared, &after.words, heap);
+    let like_before = compared(spared, before, changed.is_none(), heap, answers);
+    let like_after = compared(spared, after, is_after, heap, answers);
+    judge(changed, like_before, like_after)
+}
+
+// How a heap and answers compare with what is left of a state, in which the heap stands or not.
+fn compared(spared: &[u16], left: &Left, stands: bool, heap: &[u16], answers: &[u8]) -> Likeness
+    ensures { IsLikeness (IsTrue stands) (AgreeAtSpared spared.now left.now.words.items heap.now)
+        (answers.now ≡ left.now.answers.items) result }
+{
+    if !stands {
+        return Likeness::Other;
+    }
+    if !agree_at_spared(spared, &left.words, heap) {
+        return Likeness::ButTries;
+    }
+    if answers == left.answers.as_slice() {
+        return Likeness::Same;
+    }
+    Likeness::ButAnswers
+}
+
+// What the two comparisons say.
+fn judge(changed: Option<Difference>, before: Likeness, after: Likeness) -> Standing
+    requires { before ≡ Likeness.Other → IsSome changed }
+    ensures { IsJudged changed before after result }
+{
+    match (before, after) {
+        (Likeness::Same, _) => Standing::Before,
+        (Likeness::ButTries, _) => Standing::BeforeButTries,
+        (_, Likeness::Same) => Standing::After,
+        (_, Likeness::ButTries) => Standing::AfterButTries,
+        (Likeness::Other, Likeness::Other) => match changed {
+            Some(difference) => Standing::Changed(difference),
+            None => Standing::Answers,
+        },
+        (_, _) => Standing::Answers,
+    }
+}

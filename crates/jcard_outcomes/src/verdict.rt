@@ -1,0 +1,145 @@
+//! The verdict over all cuts of a command.
+ghost use Rattle.std.specs.Prelude.{◌≡◌, ◌++◌, ◌==◌, ◌||◌, OnOk, length, is_none, if◌then◌else◌};
+ghost use Rattle.jcard_outcomes.specs.Reports.{any_but_tries, broken_text, claim_text, count_before, cuts_text, first_broken, is_after, is_before, is_but_tries, shares_text, verdict_text, whole_text};
+
+use crate::rows::push_number;
+use crate::standing::{Cut, Standing};
+use std::alloc::AllocError;
+
+/// Whether each cut left what was before the command or what it leaves where it is not cut.
+pub fn is_all_or_nothing(cuts: &[Cut]) -> bool
+    ensures { result ≡ is_none (first_broken 0 cuts.now) }
+{
+    first_broken(cuts).is_none()
+}
+
+/// Writes the verdict behind a text.
+pub(crate) fn push_verdict(text: &mut Vec<u8>, cuts: &[Cut]) -> Result<(), AllocError>
+    ensures { OnOk result (text.new.items ≡ text.old.items ++ verdict_text cuts.now) }
+{
+    match first_broken(cuts) {
+        Some(number) => push_broken(text, number),
+        None => push_whole(text, cuts.len(), count_before(cuts), any_but_tries(cuts)),
+    }
+}
+
+fn push_broken(text: &mut Vec<u8>, number: usize) -> Result<(), AllocError>
+    ensures { OnOk result (text.new.items ≡ text.old.items ++ broken_text number) }
+{
+    text.extend_from_slice(b"NOT all or nothing: first at cut ")?;
+    push_number(text, number)?;
+    text.extend_from_slice(b"\n")
+}
+
+fn push_whole(
+    text: &mut Vec<u8>,
+    total: usize,
+    before: usize,
+    tries: bool,
+) -> Result<(), AllocError>
+    ensures { OnOk result (text.new.items ≡ text.old.items ++ whole_text total before tries) }
+{
+    push_claim(text, tries)?;
+    push_cuts(text, total)?;
+    push_shares(text, total, before)
+}
+
+fn push_claim(text: &mut Vec<u8>, tries: bool) -> Result<(), AllocError>
+    ensures { OnOk result (text.new.items ≡ text.old.items ++ claim_text tries) }
+{
+    text.extend_from_slice(b"all or nothing")?;
+    push_either(text, tries, b" but for PIN tries: ", b": ")
+}
+
+fn push_cuts(text: &mut Vec<u8>, total: usize) -> Result<(), AllocError>
+    ensures { OnOk result (text.new.items ≡ text.old.items ++ cuts_text total) }
+{
+    push_number(text, total)?;
+    push_either(text, total == 1, b" cut, ", b" cuts, ")
+}
+
+fn push_either(
+    text: &mut Vec<u8>,
+    is_first: bool,
+    first: &[u8],
+    second: &[u8],
+) -> Result<(), AllocError>
+    ensures { OnOk result (text.new.items ≡ text.old.items
+        ++ (if is_first then first.now else second.now)) }
+{
+    text.extend_from_slice(if is_first { first } else { second })
+}
+
+fn push_shares(text: &mut Vec<u8>, total: usize, before: usize) -> Result<(), AllocError>
+    ensures { OnOk result (text.new.items ≡ text.old.items ++ shares_text total before) }
+{
+    if before == total {
+        return text.extend_from_slice(b"each as before\n");
+    }
+    if before == 0 {
+        return text.extend_from_slice(b"each as after\n");
+    }
+    push_number(text, before)?;
+    text.extend_from_slice(b" as before, the others as after\n")
+}
+
+// The first cut that left something else.
+fn first_broken(cuts: &[Cut]) -> Option<usize>
+    ensures { result ≡ first_broken 0 cuts.now }
+{
+    for (number, cut) in cuts.iter().enumerate() {
+        if !is_whole(cut.standing) {
+            return Some(number);
+        }
+    }
+    None
+}
+
+// How many cuts left what was before.
+fn count_before(cuts: &[Cut]) -> usize
+    ensures { result ≡ count_before cuts.now }
+{
+    let mut count = 0;
+    for cut in cuts {
+        if is_before(cut.standing) {
+            count += 1;
+        }
+    }
+    count
+}
+
+fn any_but_tries(cuts: &[Cut]) -> bool
+    ensures { result ≡ any_but_tries cuts.now }
+{
+    for cut in cuts {
+        if is_but_tries(cut.standing) {
+            return true;
+        }
+    }
+    false
+}
+
+// Whether a cut left what was before or what comes after.
+fn is_whole(standing: Standing) -> bool
+    ensures { result ≡ (is_before standing || is_after standing) }
+{
+    is_before(standing) || is_after(standing)
+}
+
+fn is_before(standing: Standing) -> bool
+    ensures { result ≡ is_before standing }
+{
+    matches!(standing, Standing::Before | Standing::BeforeButTries)
+}
+
+fn is_after(standing: Standing) -> bool
+    ensures { result ≡ is_after standing }
+{
+    matches!(standing, Standing::After | Standing::AfterButTries)
+}
+
+fn is_but_tries(standing: Standing) -> bool
+    ensures { result ≡ is_but_tries standing }
+{
+    matches!(standing, Standing::BeforeButTries | Standing::AfterButTries)
+}

@@ -1,0 +1,3 @@
+pub mod WholeRuns
+pub mod CutLists
+pub mod Pieces

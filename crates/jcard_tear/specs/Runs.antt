@@ -1,0 +1,33 @@
+-- Scripts that are run on cards in memory.
+use Rattle.std.specs.Prelude.{ℕ, ◌≡◌, Bool, true, false, List, [], ◌++◌, None, Ok, Err}
+use Rattle.jc_words.specs.Refusals.{no_refusals}
+use Rattle.jc_words.specs.Stores.{FuseStoreValue}
+use Rattle.jcard_outcomes.specs.declared.standing.Left.{Left}
+use Rattle.jcard_script.specs.Script.{Ends}
+use Rattle.jcard_tear.specs.declared.runs.Ran.{Ran}
+use Rattle.jcard_tear.specs.declared.runs.RunFault.{RunFault}
+use Rattle.jcard_tear.specs.declared.runs.RunFault.TheVariants.{NoMemory, Script}
+
+-- a new store of these words, which nobody asked to write
+abbrev pub store_of : List ℕ → FuseStoreValue
+store_of words = record { words = words; down = false; passed = 0; refusals = no_refusals; down_below = false; passed_below = 0 }
+
+-- the script, from a power up over these words on, was carried out to its end, printed this text, and left this store
+abbrev pub Runs : List ℕ → List ℕ → List ℕ → FuseStoreValue → Type 0
+Runs words script text after = Ends (Ok tt) (store_of words) after true script text
+
+-- it was, and this is known of what it left
+abbrev pub HasRun : List ℕ → List ℕ → Ran → Type 0
+HasRun words script ran = (after : FuseStoreValue) × Runs words script ran.text.items after × (ran.words.items ≡ after.words)
+    × (ran.is_down ≡ after.down)
+
+-- it was not: memory was refused, or it ended so, somewhere
+abbrev pub IsRunFault : List ℕ → List ℕ → RunFault → Type 0
+IsRunFault words script NoMemory = Unit {0}
+IsRunFault words script (Script fault) = (read rest text : List ℕ) × (at_end : Bool) × (after : FuseStoreValue) × (script ≡ read ++ rest)
+    × Ends (Err fault) (store_of words) after at_end read text
+
+-- over these words a power up finds this heap, and over what it leaves a card gives the lines of the probe these answers
+abbrev pub IsLeft : List ℕ → List ℕ → Left → Type 0
+IsLeft words probe left = (recovered last : FuseStoreValue) × Runs words [] [] recovered × (left.words.items ≡ recovered.words)
+    × Runs recovered.words probe left.answers.items last

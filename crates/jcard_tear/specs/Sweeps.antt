@@ -1,0 +1,54 @@
+-- A command of a script that is cut after each number of its word writes.
+use Rattle.std.specs.Prelude.{ℕ, ◌≡◌, ◌+◌, ◌-◌, ◌<◌, ◌≤◌, ◌≢◌, ◌⊎◌, true, false, List, [], ◌∷◌, ◌++◌, codes, decimal, drop, take, length, slice_index}
+use Rattle.jc_words.specs.Stores.{FuseStoreValue}
+use Rattle.jcard_outcomes.specs.Standings.{IsStanding}
+use Rattle.jcard_outcomes.specs.declared.standing.Cut.{Cut}
+use Rattle.jcard_outcomes.specs.declared.standing.Left.{Left}
+use Rattle.jcard_outcomes.specs.declared.report.Sweep.{Sweep}
+use Rattle.jcard_tear.specs.Runs.{IsLeft, Runs}
+use Rattle.jcard_tear.specs.declared.cuts.Command.{Command}
+
+-- the script up to the command, with the power cut after so many of its writes
+abbrev pub cut_script : Command → ℕ → List ℕ
+cut_script c k = c.before.now ++ (codes "stop " ++ decimal k ++ codes "\n") ++ c.line.now
+
+-- with the power cut after k writes of the command the card is down, and this is left
+abbrev pub IsCutAt : List ℕ → Command → ℕ → Left → Type 0
+IsCutAt words c k left = (text : List ℕ) × (after : FuseStoreValue) × Runs words (cut_script c k) text after × (after.down ≡ true)
+    × IsLeft after.words c.probe.now left
+
+-- the command makes no more writes than k, and is not cut
+abbrev pub IsUncutAt : List ℕ → Command → ℕ → Type 0
+IsUncutAt words c k = (text : List ℕ) × (after : FuseStoreValue) × Runs words (cut_script c k) text after × (after.down ≡ false)
+
+-- what a cut left is told so
+abbrev pub IsToldCut : List ℕ → Command → List ℕ → Left → Left → ℕ → Cut → Type 0
+IsToldCut words c spared before after k cut = (left : Left) × IsCutAt words c k left × (cut.answers.items ≡ left.answers.items)
+    × IsStanding spared before after left.words.items left.answers.items cut.standing
+
+-- what the cuts after k, k + 1, .. writes left is told so
+unfoldable pub AreCuts : List ℕ → Command → List ℕ → Left → Left → ℕ → List Cut → Type 0
+AreCuts words c spared before after k [] = Unit {0}
+AreCuts words c spared before after k (cut ∷ cuts) = IsToldCut words c spared before after k cut × AreCuts words c spared before after (k + 1) cuts
+
+-- the last line of a text, without its line feed
+abbrev pub IsLastLine : List ℕ → List ℕ → Type 0
+IsLastLine text line = (start : ℕ) × (start ≤ length text - 1) × (line ≡ take (length text - 1 - start) (drop start text))
+    × ((i : ℕ) → start ≤ i → i < length text - 1 → slice_index text i ≢ 10) × ((start ≡ 0) ⊎ (slice_index text (start - 1) ≡ 10))
+
+-- the command was not cut: this is its answer, and this is left
+abbrev pub IsDone : List ℕ → Command → List ℕ → Left → Type 0
+IsDone words c answer left = (text : List ℕ) × (after : FuseStoreValue) × Runs words (c.before.now ++ c.line.now) text after × (after.down ≡ false)
+    × IsLastLine text answer × IsLeft after.words c.probe.now left
+
+-- the lines before the command were carried out: this is left
+abbrev pub IsBegun : List ℕ → Command → Left → Type 0
+IsBegun words c left = (text : List ℕ) × (after : FuseStoreValue) × Runs words c.before.now text after × IsLeft after.words c.probe.now left
+
+-- what was before a command and what it leaves, its answer, and what is left of it after each number of its writes, up to the first
+-- that does not cut it
+pub record IsSwept (words : List ℕ) (c : Command) (spared : List ℕ) (s : Sweep) : Type 0 where
+  pub begun : IsBegun words c s.before
+  pub done : IsDone words c s.answer.items s.after
+  pub cuts : AreCuts words c spared s.before s.after 0 s.cuts.items
+  pub uncut : IsUncutAt words c (length s.cuts.items)

@@ -1,0 +1,90 @@
+//! Cutting the power within a command, after each number of its word writes.
+ghost use Rattle.std.specs.Prelude.{◌≡◌, ◌<◌, ◌++◌, ◌∷◌, [], length, IfOk, OnOk, MatchOption};
+ghost use Rattle.jcard_tear.specs.Sweeps.{AreCuts, IsCutAt, IsUncutAt, cut_script};
+
+use crate::runs::{RunFault, left, run};
+use crate::tearing::TearFault;
+use itoa::Buffer;
+use jcard_outcomes::standing::{Cut, Left, standing_of};
+use std::alloc::{AllocError, Global};
+
+/// The most cuts of a command.
+const MOST: u16 = 65_535;
+
+/// A command of a script: the text before its line, its line, and what is asked after a reset.
+#[derive(Clone, Copy, Drop)]
+pub struct Command<'a> {
+    pub before: &'a [u8],
+    pub line: &'a [u8],
+    pub probe: &'a [u8],
+}
+
+/// What each cut of a command left, from the one on that no write passes, up to the number with which it is not cut.
+pub(crate) fn cut_all(
+    alloc: Global,
+    words: &[u16],
+    command: Command,
+    spared: &[u16],
+    before: &Left,
+    after: &Left,
+) -> Result<Vec<Cut>, TearFault>
+    requires { length words.now < 65536 }
+    ensures { IfOk result (λ cuts. AreCuts words.now command.entry spared.now before.now after.now 0 cuts.items
+        × IsUncutAt words.now command.entry (length cuts.items)) }
+{
+    let mut cuts = Vec::new(alloc);
+    for number in 0..MOST {
+        let Some(left) = cut_at(alloc, words, command, number)? else {
+            return Ok(cuts);
+        };
+        let standing = standing_of(spared, before, after, &left.words, &left.answers);
+        let cut = Cut {
+            standing,
+            answers: left.answers,
+        };
+        push_cut(&mut cuts, cut)?;
+    }
+    Err(TearFault::TooManyCuts)
+}
+
+fn push_cut(cuts: &mut Vec<Cut>, cut: Cut) -> Result<(), TearFault>
+    ensures { OnOk result (cuts.new.items ≡ cuts.old.items ++ cut ∷ []) }
+{
+    match cuts.push(cut) {
+        Ok(()) => Ok(()),
+        Err(_) => Err(TearFault::NoMemory),
+    }
+}
+
+// What is left of a command that is cut after so many writes; none where it is not cut.
+fn cut_at(
+    alloc: Global,
+    words: &[u16],
+    command: Command,
+    number: u16,
+) -> Result<Option<Left>, RunFault>
+    requires { length words.now < 65536 }
+    ensures { IfOk result (λ cut. MatchOption cut (IsUncutAt words.now command.entry number)
+        (λ left. IsCutAt words.now command.entry number left)) }
+{
+    let script = cut_script(alloc, command, number)?;
+    let ran = run(alloc, words, &script)?;
+    if !ran.is_down {
+        return Ok(None);
+    }
+    let left = left(alloc, &ran.words, command.probe)?;
+    Ok(Some(left))
+}
+
+// The script up to the command, with the power cut after so many of its writes.
+fn cut_script(alloc: Global, command: Command, number: u16) -> Result<Vec<u8>, AllocError>
+    ensures { IfOk result (λ script. script.items ≡ cut_script command.entry number) }
+{
+    let mut digits = Buffer::new();
+    let mut script = Vec::from_slice(alloc, command.before)?;
+    script.extend_from_slice(b"stop ")?;
+    script.extend_from_slice(digits.format(number).as_bytes())?;
+    script.extend_from_slice(b"\n")?;
+    script.extend_from_slice(command.line)?;
+    Ok(script)
+}

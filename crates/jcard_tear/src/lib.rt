@@ -1,0 +1,8 @@
+//! A command with the power cut after each number of its word writes, on cards in memory.
+#![tactic(auto)]
+
+pub mod cuts;
+pub mod kept_text;
+pub mod runs;
+pub mod script_lines;
+pub mod tearing;

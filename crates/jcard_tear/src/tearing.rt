@@ -1,0 +1,117 @@
+//! A command that is cut after each number of its writes, beside what was before it and what it leaves.
+ghost use Rattle.std.specs.Prelude.{◌≡◌, ◌<◌, ◌++◌, length, IfOk};
+ghost use Rattle.jcard_tear.specs.declared.tearing.TearFault.TheVariants.{NoMemory};
+ghost use Rattle.jcard_tear.specs.Sweeps.{IsBegun, IsDone, IsLastLine, IsSwept};
+ghost use Rattle.jcard_tear.specs.Runs.{IsLeft};
+ghost use Rattle.jcard_tear.specs.Faults.{told_run_fault};
+
+use crate::cuts::{Command, cut_all};
+use crate::runs::{Ran, RunFault, left, run};
+use jcard_outcomes::report::Sweep;
+use jcard_outcomes::standing::Left;
+use jcard_script::script::ScriptFault;
+use std::alloc::{AllocError, Global};
+
+/// Why a command was not cut after each number of its writes.
+#[derive(Clone, Copy, Debug, PartialEq, Eq, Drop)]
+pub enum TearFault {
+    NoMemory,
+    /// The script, up to the command, was not carried out to its end.
+    Script(ScriptFault),
+    /// Nor was the probe.
+    Probe(ScriptFault),
+    /// The script cut the power itself, and the card is down at the command.
+    Down,
+    /// The command makes more writes than are counted.
+    TooManyCuts,
+}
+
+/// Carries out the script up to the command on a card of a copy of these words, and then cuts the command after each number
+/// of its writes, each time on a card of a copy of its own. After each cut comes a reset, and then the probe.
+pub fn tear(
+    alloc: Global,
+    words: &[u16],
+    command: Command,
+    spared: &[u16],
+) -> Result<Sweep, TearFault>
+    requires { length words.now < 65536 }
+    ensures { IfOk result (λ sweep. IsSwept words.now command.entry spared.now sweep) }
+{
+    let (answer, after) = done(alloc, words, command)?;
+    let before = begun(alloc, words, command)?;
+    let cuts = cut_all(alloc, words, command, spared, &before, &after)?;
+    Ok(Sweep {
+        before,
+        answer,
+        after,
+        cuts,
+    })
+}
+
+// The answer of a command that is not cut, and what it leaves.
+fn done(alloc: Global, words: &[u16], command: Command) -> Result<(Vec<u8>, Left), TearFault>
+    requires { length words.now < 65536 }
+    ensures { IfOk result (λ r. IsDone words.now command.entry r.0.items r.1) }
+{
+    let mut script = Vec::from_slice(alloc, command.before)?;
+    script.extend_from_slice(command.line)?;
+    let ran = run(alloc, words, &script)?;
+    if ran.is_down {
+        return Err(TearFault::Down);
+    }
+    let answer = Vec::from_slice(alloc, last_line(&ran.text))?;
+    let left = left_by_probe(alloc, &ran.words, command.probe)?;
+    Ok((answer, left))
+}
+
+// What is left by the lines before a command.
+fn begun(alloc: Global, words: &[u16], command: Command) -> Result<Left, TearFault>
+    requires { length words.now < 65536 }
+    ensures { IfOk result (λ left. IsBegun words.now command.entry left) }
+{
+    let ran = run(alloc, words, command.before)?;
+    left_by_probe(alloc, &ran.words, command.probe)
+}
+
+// What a reset finds and the probe is answered; what is wrong then is wrong with the probe.
+fn left_by_probe(alloc: Global, words: &[u16], probe: &[u8]) -> Result<Left, TearFault>
+    requires { length words.now < 65536 }
+    ensures { IfOk result (λ left. IsLeft words.now probe.now left) }
+{
+    match left(alloc, words, probe) {
+        Ok(left) => Ok(left),
+        Err(RunFault::NoMemory) => Err(TearFault::NoMemory),
+        Err(RunFault::Script(fault)) => Err(TearFault::Probe(fault)),
+    }
+}
+
+// The last line of a text, without its line feed.
+fn last_line(text: &[u8]) -> &[u8]
+    ensures { IsLastLine text.now result.now }
+{
+    let end = text.len().saturating_sub(1);
+    let mut start = end;
+    while start > 0 && text[start - 1] != b'\n' {
+        start -= 1;
+    }
+    &text[start..end]
+}
+
+impl From<AllocError> for TearFault {
+    ghost from_gives = { λ _ fault. fault ≡ NoMemory };
+
+    fn from(_: AllocError) -> Self {
+        TearFault::NoMemory
+    }
+}
+
+impl From<RunFault> for TearFault {
+    ghost from_gives = { λ cause fault. fault ≡ told_run_fault cause };
+
+    fn from(cause: RunFault) -> Self {
+        match cause {
+            RunFault::NoMemory => TearFault::NoMemory,
+            RunFault::Script(fault) => TearFault::Script(fault),
+        }
+    }
+}
