@@ -1,7 +1,8 @@
 //! A package is put together of the components that came.
 ghost use Rattle.std.specs.Prelude.{◌≡◌, Ok, IfOk};
 ghost use Rattle.jc_cap_linkage.specs.Reading.{ParsesAs};
-ghost use Rattle.jc_cap.specs.Assembling.{required_component, flagged_component, flags_in, required_components, checked_package, assembly_of};
+ghost use Rattle.jc_cap.specs.Assembling.{required_component, flagged_component, flags_in, required_components, package_of};
+ghost use Rattle.jc_cap.specs.Views.{TellsContents};
 ghost use Rattle.jc_cap.specs.Packages.{IsPackage};
 ghost use Rattle.jc_cap.specs.Reading.{contents_of};
 ghost use Rattle.jc_cap.specs.Views.{package_contents};
@@ -49,9 +50,12 @@ fn flags_in(header: &ComponentBytes) -> Result<(bool, bool), CapFault>
     Ok((header.exports, header.has_applets))
 }
 
-/// All that a package needs, or the lowest tag that is missing.
+/// All components that a package needs, of those that came. They are moved, and no memory is taken.
+///
+/// The first of these is answered: Missing with the lowest tag of a component that every package needs, or that the
+/// header's flags ask for; behind the Directory component the fault of a header that cannot be read.
 #[tactic(auto, unfolding(crate::specs::Assembling::required_components))]
-fn required_components(load: LoadedComponents) -> Result<PackageBytes, CapFault>
+pub fn required_components(load: LoadedComponents) -> Result<PackageBytes, CapFault>
     ensures { ParsesAs (λ x. x) result (required_components load) }
 {
     let header = required_component(tags::HEADER, load.header)?;
@@ -79,10 +83,10 @@ fn required_components(load: LoadedComponents) -> Result<PackageBytes, CapFault>
     })
 }
 
-/// Whether the components of a package agree with each other.
+/// What the components of a package say, which agree with each other.
 #[tactic(auto, unfolding(crate::specs::Assembling::checked_package))]
-fn check(texts: &PackageBytes) -> Result<(), CapFault>
-    ensures { ParsesAs (λ x. x) result (checked_package texts.now) }
+fn check(texts: &PackageBytes) -> Result<Contents<'_>, CapFault>
+    ensures { TellsContents texts.now result }
 {
     let contents = read_contents(texts)?;
     if !sizes_agree(texts, &contents) {
@@ -91,66 +95,64 @@ fn check(texts: &PackageBytes) -> Result<(), CapFault>
     if !offsets_fit(&contents) {
         return Err(CapFault::BadOffset);
     }
-    Ok(())
+    Ok(contents)
 }
 
-/// The components of a package, which agree with each other.
+/// A package: the bytes of components that agree with each other, and what was read of them. It is lent from the bytes.
 #[derive(Drop)]
-pub struct Package {
-    texts: PackageBytes,
+pub struct Package<'a> {
+    texts: &'a PackageBytes,
+    contents: Contents<'a>,
 }
 
-impl Model for Package {
+impl<'a> Model for Package<'a> {
     ghost use Rattle.std.specs.Prelude.{◌≡◌, Ok};
     ghost use Rattle.jc_cap.specs.declared.texts.PackageBytes.{PackageBytes};
     ghost use Rattle.jc_cap.specs.Assembling.{checked_package};
+    ghost use Rattle.jc_cap.specs.Reading.{contents_of};
+    ghost use Rattle.jc_cap.specs.Views.{package_contents};
 
     ghost Value = { PackageBytes };
 
-    ghost view = { λ a. a.texts };
+    ghost view = { λ a. a.texts.now };
 
-    ghost invariant = { λ a. checked_package a.texts ≡ Ok tt };
+    ghost invariant = { λ a. (checked_package a.texts.now ≡ Ok tt)
+        × (contents_of a.texts.now ≡ Ok (package_contents a.contents)) };
 }
 
-#[tactic(auto, unfolding(crate::specs::Assembling::assembly_of))]
-fn put_together(load: LoadedComponents) -> Result<Package, CapFault>
-    ensures { ParsesAs (λ x. x) result (assembly_of load) }
+fn package_of(texts: &PackageBytes) -> Result<Package<'_>, CapFault>
+    ensures { ParsesAs (λ x. x) result (package_of texts.now) }
 {
-    let texts = required_components(load)?;
-    check(&texts)?;
-    Ok(Package { texts })
+    let contents = check(texts)?;
+    Ok(Package { texts, contents })
 }
 
-/// Puts a package together of the components that came. They are moved, and no memory is taken.
-///
-/// The first of these is answered: Missing with the lowest tag of a component that every package needs, or that the
-/// header's flags ask for; the fault of a component that cannot be read (none, where `read_component` read them all);
-/// SizesDisagree where the directory does not agree with them; BadOffset where an offset names no record or no method.
-pub fn assemble(load: LoadedComponents) -> Result<Package, CapFault>
-    // What is put together is a package, of the components that came.
-    ensures found { IfOk result (λ p. IsPackage p) }
-    // Otherwise the fault is the first one, in the order above.
-    ensures exact { ParsesAs (λ x. x) result (assembly_of load) }
-{
-    put_together(load)
-}
-
-impl Package {
-    /// What the components say. They are read again.
-    pub fn contents(&self) -> Contents<'_>
-        ensures read { contents_of self.now ≡ Ok (package_contents result) }
-        ensures sound { IsPackage self.now }
+impl<'a> Package<'a> {
+    /// Reads the package of these components. Each is read once, and no memory is taken.
+    ///
+    /// The first of these is answered: the fault of a component that cannot be read; SizesDisagree where the directory does
+    /// not agree with them; BadOffset where an offset names no record or no method.
+    pub fn of(texts: &'a PackageBytes) -> Result<Package<'a>, CapFault>
+        // What is read is a package.
+        ensures found { IfOk result (λ p. IsPackage p) }
+        // It is one of these components; otherwise the fault is the first one, in the order above.
+        ensures exact { ParsesAs (λ x. x) result (package_of texts.now) }
     {
-        match read_contents(&self.texts) {
-            Ok(contents) => contents,
-            Err(_) => unreachable!(),
-        }
+        package_of(texts)
     }
 
     /// The components' bytes.
-    pub fn texts(&self) -> &PackageBytes
+    pub fn texts(&self) -> &'a PackageBytes
         ensures { result.now ≡ self.now }
     {
-        &self.texts
+        self.texts
+    }
+
+    /// What the components say.
+    pub fn into_contents(self) -> Contents<'a>
+        ensures read { contents_of self.entry ≡ Ok (package_contents result) }
+        ensures sound { IsPackage self.entry }
+    {
+        self.contents
     }
 }

@@ -1,5 +1,5 @@
 //! The initialised arrays of a StaticField component.
-ghost use Rattle.std.specs.Prelude.{◌≡◌, ◌∷◌, [], ◌<◌, length, Some, None, Ok, MatchOption, slice_get};
+ghost use Rattle.std.specs.Prelude.{◌≡◌, ◌∷◌, [], ◌<◌, length, Some, None, Ok, IfOk, IfSome, MatchOption, slice_get};
 ghost use Rattle.jc_cap_linkage.specs.Reading.{ParsesAs, many_at, rest_after, list_or_empty};
 ghost use Rattle.jc_cap_linkage.specs.Places.{IsList};
 ghost use Rattle.jc_cap_code.specs.StaticReading.{element_type_at, element_size, static_array_at, static_arrays_at, values_size};
@@ -54,7 +54,8 @@ fn read_element_type(bytes: &[u8]) -> Result<(ElementType, &[u8]), CapFault>
 
 #[tactic(auto, unfolding(crate::specs::StaticReading::static_array_at))]
 fn read_array(bytes: &[u8]) -> Result<(ArrayInit<'_>, &[u8]), CapFault>
-    ensures { ParsesAs (λ x. (static_array x.0, x.1.now)) result (static_array_at bytes.now) }
+    ensures read { ParsesAs (λ x. (static_array x.0, x.1.now)) result (static_array_at bytes.now) }
+    ensures small { IfOk result (λ x. length x.0.values.now < 65536) }
 {
     let (element_type, rest) = read_element_type(bytes)?;
     let (count, rest) = u2(rest)?;
@@ -157,9 +158,11 @@ impl<'a> ArrayInits<'a> {
         size_of_all(self.count, self.bytes)
     }
 
-    /// The first array, and the others.
+    /// The first array, whose number of bytes is told in two bytes, and the others.
     pub fn split_first(&self) -> Option<(ArrayInit<'a>, ArrayInits<'a>)>
-        ensures { MatchOption result (self.now ≡ []) (λ x. self.now ≡ static_array x.0 ∷ x.1) }
+        ensures first { MatchOption result (self.now ≡ [])
+            (λ x. self.now ≡ static_array x.0 ∷ x.1) }
+        ensures small { IfSome result (λ x. length x.0.values.now < 65536) }
     {
         if self.count == 0 {
             return None;

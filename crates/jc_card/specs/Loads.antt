@@ -13,7 +13,7 @@ use Rattle.jc_card_load.specs.declared.load_end.EndFault.TheVariants as ends
 use Rattle.jc_card_load.specs.declared.load.OpenLoad.{OpenLoad}
 use Rattle.jc_card_load.specs.declared.load_refusal.LoadRefusal.{LoadRefusal}
 use Rattle.jc_card_load.specs.declared.load_refusal.LoadRefusal.TheVariants.{OutOfSequence, UnknownTag, Refused, HeapFull}
-use Rattle.jc_card_load.specs.Loading.{CommandResult, empty_load, component_begin, component_end, component_append, no_memory}
+use Rattle.jc_card_load.specs.Loading.{CommandResult, empty_load, component_begin, component_end, component_append, without_memory}
 use Rattle.jc_card_load.specs.Ending.{LoadResult, end_of_load}
 use Rattle.jc_card.specs.CardState.{CardState}
 use Rattle.jc_card.specs.StatusWord.{status_bytes, no_error, wrong_length, conditions_not_satisfied, wrong_data, no_space, aid_taken, full}
@@ -67,11 +67,16 @@ begin_load card = load_command card (Ok tt) (Some empty_load)
 abbrev pub begin_component : ℕ → CardState → Program LoadResponse
 begin_component tag card = on_load card (component_begin tag) card.load
 
--- Command 80 B4 append: more bytes of the open component; without data the length is wrong, and memory may be
--- refused
+-- memory is refused for the bytes
+abbrev pub component_append_without_memory : List ℕ → OpenLoad → CommandResult × OpenLoad
+component_append_without_memory more load = without_memory load (component_append more load)
+
+-- Command 80 B4 append: more bytes of the open component; without data the length is wrong. Where there is no other refusal, memory may
+-- be refused
 abbrev pub append_component : List ℕ → CardState → Program LoadResponse
 append_component [] card = Finish (record { response = status_bytes wrong_length; packages = card.packages; load = card.load })
-append_component (b ∷ more) card = Either (on_load card (component_append (b ∷ more)) card.load) (load_command card (Err no_memory) card.load)
+append_component (b ∷ more) card = Either (on_load card (component_append (b ∷ more)) card.load)
+    (on_load card (component_append_without_memory (b ∷ more)) card.load)
 
 -- Command 80 BC end component: the open component is read and kept, or dropped
 abbrev pub end_component : CardState → Program LoadResponse

@@ -1,3 +1,4 @@
 pub mod Fit
 pub mod Statics
 pub mod Linkings
+pub mod Assembled

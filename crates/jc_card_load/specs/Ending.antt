@@ -1,7 +1,8 @@
 -- The end of a load: the package comes in, or it is refused.
-use Rattle.std.specs.Prelude.{ℕ, ◌≡◌, nat_le, Bool, true, false, length, Option, Some, None, Result, Ok, Err, if◌then◌else◌, is_none}
+use Rattle.std.specs.Prelude.{ℕ, nat_le, length, Option, Some, None, Result, Ok, Err, if◌then◌else◌, is_none}
 use Rattle.jc_words.specs.Layout.{most_packages}
 use Rattle.jc_cap.specs.declared.texts.LoadedComponents.{LoadedComponents}
+use Rattle.jc_cap.specs.declared.texts.PackageBytes.{PackageBytes}
 use Rattle.jc_heap.specs.Completions.{Attempt, Done, Refused, Completion, Completed, Torn}
 use Rattle.jc_linker.specs.Values.{Packages}
 use Rattle.jc_linker.specs.declared.fault.LinkFault.TheVariants as link
@@ -9,7 +10,7 @@ use Rattle.jc_linker.specs.Linking.{with_package}
 use Rattle.jc_memory.specs.State.{MemoryState}
 use Rattle.jc_memory.specs.Programs.{Program, Finish, Either, bind}
 use Rattle.jc_memory.specs.Changing.{package_addition}
-use Rattle.jc_card_load.specs.PendingPackages.{PendingPackageValue, linked_components}
+use Rattle.jc_card_load.specs.PendingPackages.{PendingPackageValue, linked_components, linked_texts}
 use Rattle.jc_card_load.specs.RecordContents.{arrays_of, image_of, parts_of, statics_of}
 use Rattle.jc_card_load.specs.declared.package_refusal.PackageRefusal.{PackageRefusal}
 use Rattle.jc_card_load.specs.declared.package_refusal.PackageRefusal.TheVariants.{Full, LinkFailed}
@@ -44,6 +45,10 @@ package_entry p q s =
 abbrev pub after_preparation : Packages → MemoryState → Result PendingPackageValue PackageRefusal → Program LoadResult
 after_preparation p s (Err refusal) = with_dropped_load p (Refused refusal)
 after_preparation p s (Ok q) = package_entry p q s
+
+-- what the components of a package may become: memory may be refused for it
+abbrev pub texts_result : Packages → MemoryState → PackageBytes → Program LoadResult
+texts_result p s t = Either (after_preparation p s (linked_texts p t)) (with_dropped_load p (Refused (LinkFailed link.NoMemory)))
 
 -- what the components of a load may become: memory may be refused for it
 unfoldable pub assembly_result : Packages → MemoryState → LoadedComponents → Program LoadResult

@@ -29,6 +29,15 @@ command_result ended left = (ended, left)
 abbrev pub no_memory : LoadRefusal
 no_memory = Refused (BadComponents NoMemory)
 
+-- how a command ends where the memory that it asks for is refused: it asks for none where there is another refusal
+abbrev pub ended_without_memory : CommandResult → CommandResult
+ended_without_memory (Ok done) = Err no_memory
+ended_without_memory (Err refusal) = Err refusal
+
+-- what it then does, in place of this: it changes nothing
+abbrev pub without_memory : {A : Type 0} → A → CommandResult × A → CommandResult × A
+without_memory unchanged done = command_result (ended_without_memory done.0) unchanged
+
 -- ---- a component that is coming
 
 -- nothing has come yet

@@ -5,7 +5,7 @@ use Rattle.jc_cap_linkage.specs.declared.fault.CapFault.{CapFault}
 use Rattle.jc_cap.specs.declared.texts.LoadedComponents.{LoadedComponents}
 use Rattle.jc_cap.specs.declared.texts.PackageBytes.{PackageBytes}
 use Rattle.jc_cap.specs.Contents.{PackageContents}
-use Rattle.jc_cap.specs.Assembling.{assembly_of}
+use Rattle.jc_cap.specs.Assembling.{assembly_of, checked_package}
 use Rattle.jc_cap.specs.Reading.{contents_of}
 use Rattle.jc_linker.specs.Values.{PackageValue, Packages}
 use Rattle.jc_linker.specs.Lookups.{package_with_aid}
@@ -36,6 +36,10 @@ linked_package p t c =
     if is_some (package_with_aid p c.header.this_package.aid) then Err AidTaken else
     if nat_le most_packages (length p.loaded) then Err Full else
     if_linked (link_result p (linker_view t c)) (λ q. Ok (record { texts = t; linked = q }))
+
+-- read of these components, and linked
+abbrev pub linked_texts : Packages → PackageBytes → Result PendingPackageValue PackageRefusal
+linked_texts p t = if_read (checked_package t) (λ good. if_read (contents_of t) (λ c. linked_package p t c))
 
 -- put together of the components that came, and linked
 unfoldable pub linked_components : Packages → LoadedComponents → Result PendingPackageValue PackageRefusal

@@ -10,7 +10,11 @@ use Rattle.jc_heap.specs.Packed.{bytes_of_packed}
 use Rattle.jc_linker.specs.Values.{Packages}
 use Rattle.jc_platform.specs.Tokens.{Tokens}
 use Rattle.jc_linker.specs.Linking.{with_package}
+use Rattle.jc_linker.specs.declared.fault.LinkFault.TheVariants as link
 use Rattle.jc_card_load.specs.declared.package_refusal.PackageRefusal.{PackageRefusal}
+use Rattle.jc_card_load.specs.declared.package_refusal.PackageRefusal.TheVariants.{BadComponents, AidTaken, Full, LinkFailed}
+use Rattle.jc_card_load.specs.declared.reading.RecordFault.{RecordFault}
+use Rattle.jc_card_load.specs.declared.reading.RecordFault.TheVariants.{Damaged, NoMemory}
 use Rattle.jc_card_load.specs.PendingPackages.{PendingPackageValue, linked_components}
 
 -- the bytes of a component whose info stands there in a record, with its tag and its size in front
@@ -36,6 +40,16 @@ load_of words = record {
   reference_location = None;
   descriptor = None;
 }
+
+-- why a package that was refused is not read: the only refusal of it for want of memory is that of linking
+abbrev pub fault_of : PackageRefusal → RecordFault
+fault_of (LinkFailed link.NoMemory) = NoMemory
+fault_of (LinkFailed link.ImportMissing) = Damaged
+fault_of (LinkFailed link.ImportVersion) = Damaged
+fault_of (LinkFailed (link.Unresolved index)) = Damaged
+fault_of (BadComponents fault) = Damaged
+fault_of AidTaken = Damaged
+fault_of Full = Damaged
 
 -- the packages with the one that was prepared, if it was
 abbrev pub with_prepared : Packages → Result PendingPackageValue PackageRefusal → Option Packages

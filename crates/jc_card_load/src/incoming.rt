@@ -1,6 +1,6 @@
 //! A component that is coming.
-ghost use Rattle.std.specs.Prelude.{◌≡◌, ◌⊎◌, ◌<◌, length, Err};
-ghost use Rattle.jc_card_load.specs.Loading.{empty_component, component_with_bytes, no_memory, command_result};
+ghost use Rattle.std.specs.Prelude.{◌≡◌, ◌⊎◌, ◌<◌, length};
+ghost use Rattle.jc_card_load.specs.Loading.{empty_component, component_with_bytes, without_memory, command_result};
 
 use crate::load_refusal::LoadRefusal;
 use crate::package_refusal::PackageRefusal;
@@ -40,10 +40,12 @@ impl IncomingComponent {
         }
     }
 
-    /// More bytes: Trailing, where they are more than any component has. Where memory is refused, none are taken.
+    /// More bytes: Trailing, where they are more than any component has; else memory is asked for. Where it is
+    /// refused, none are taken.
     pub(crate) fn append(&mut self, more: &[u8]) -> Result<(), LoadRefusal>
         ensures { (command_result result self.new ≡ component_with_bytes more.now self.old)
-            ⊎ (command_result result self.new ≡ command_result (Err no_memory) self.old) }
+            ⊎ (command_result result self.new
+            ≡ without_memory self.old (component_with_bytes more.now self.old)) }
     {
         if self.bytes.len() + more.len() > MOST_BYTES {
             return Err(LoadRefusal::Refused(PackageRefusal::BadComponents(CapFault::Trailing)));

@@ -1,8 +1,8 @@
 //! An open load.
-ghost use Rattle.std.specs.Prelude.{◌≡◌, ◌⊎◌, Err};
+ghost use Rattle.std.specs.Prelude.{◌≡◌, ◌⊎◌};
 ghost use Rattle.jc_cap.specs.Views.{content};
 ghost use Rattle.jc_cap_linkage.specs.Reading.{ParsesAs};
-ghost use Rattle.jc_card_load.specs.Loading.{empty_load, component_begin, component_end, component_append, no_memory, command_result};
+ghost use Rattle.jc_card_load.specs.Loading.{empty_load, component_begin, component_end, component_append, without_memory, command_result};
 ghost use Rattle.jc_card_load.specs.Loading.{TellsFormat, content_in, format_behind};
 
 use crate::incoming::IncomingComponent;
@@ -61,10 +61,12 @@ impl OpenLoad {
         Ok(())
     }
 
-    /// More bytes of the component that is open. Where memory is refused, none are taken.
+    /// More bytes of the component that is open. Where they can be taken memory is asked for, and where that is
+    /// refused, none are.
     pub fn append(&mut self, more: &[u8]) -> Result<(), LoadRefusal>
         ensures { (command_result result self.new ≡ component_append more.now self.old)
-            ⊎ (command_result result self.new ≡ command_result (Err no_memory) self.old) }
+            ⊎ (command_result result self.new
+            ≡ without_memory self.old (component_append more.now self.old)) }
     {
         match &mut self.coming {
             Some(coming) => coming.append(more),

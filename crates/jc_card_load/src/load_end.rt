@@ -4,14 +4,15 @@ ghost use Rattle.jc_memory.specs.Programs.{Executes, Either};
 ghost use Rattle.jc_linker.specs.declared.fault.LinkFault.TheVariants.{NoMemory};
 ghost use Rattle.jc_card_load.specs.declared.package_refusal.PackageRefusal.TheVariants.{LinkFailed};
 ghost use Rattle.jc_card_load.specs.declared.load_refusal.LoadRefusal.TheVariants.{Refused};
-ghost use Rattle.jc_card_load.specs.Ending.{package_entry, after_end, assembly_result, with_dropped_load, end_of_load};
+ghost use Rattle.jc_card_load.specs.Ending.{package_entry, after_end, assembly_result, texts_result, with_dropped_load, end_of_load};
 
 use crate::load::OpenLoad;
 use crate::load_refusal::LoadRefusal;
 use crate::package_refusal::PackageRefusal;
-use crate::pending_package::{PendingPackage, assemble_and_link};
+use crate::pending_package::{PendingPackage, read_and_link};
 use crate::record_contents::record_contents_of;
-use jc_cap::texts::LoadedComponents;
+use jc_cap::assembling::required_components;
+use jc_cap::texts::{LoadedComponents, PackageBytes};
 use jc_heap::HeapRefusal;
 use jc_linker::fault::LinkFault;
 use jc_linker::linked::Linked;
@@ -68,19 +69,38 @@ pub fn end_package<S: WordStore>(
     }
 }
 
-// Brings the package of these components in.
+// Brings the package of the components that came in.
 #[tactic(auto, unfolding(crate::specs::Ending::assembly_result))]
 fn assemble_and_add<S: WordStore>(
     alloc: Global,
     memory: &mut Memory<S>,
     linked: &mut Linked,
-    texts: LoadedComponents,
+    load: LoadedComponents,
 ) -> Result<(), EndFault>
     requires up { memory.old.heap.down ≡ false }
-    ensures { Executes (assembly_result linked.old memory.old texts) memory.old
+    ensures { Executes (assembly_result linked.old memory.old load) memory.old
         (after_end result linked.new None memory.new) }
 {
-    match assemble_and_link(alloc, linked, texts) {
+    match required_components(load) {
+        Ok(texts) => link_and_add(alloc, memory, linked, &texts),
+        Err(fault) => Err(EndFault::Refused(LoadRefusal::Refused(PackageRefusal::BadComponents(
+            fault,
+        )))),
+    }
+}
+
+// Brings the package of these components in.
+fn link_and_add<S: WordStore>(
+    alloc: Global,
+    memory: &mut Memory<S>,
+    linked: &mut Linked,
+    texts: &PackageBytes,
+) -> Result<(), EndFault>
+    requires up { memory.old.heap.down ≡ false }
+    ensures { Executes (texts_result linked.old memory.old texts.now) memory.old
+        (after_end result linked.new None memory.new) }
+{
+    match read_and_link(alloc, linked, texts) {
         Ok(prepared) => add(alloc, memory, linked, prepared),
         Err(refusal) => Err(EndFault::Refused(LoadRefusal::Refused(refusal))),
     }
@@ -91,19 +111,23 @@ fn add<S: WordStore>(
     alloc: Global,
     memory: &mut Memory<S>,
     linked: &mut Linked,
-    prepared: PendingPackage,
+    prepared: PendingPackage<'_>,
 ) -> Result<(), EndFault>
     requires up { memory.old.heap.down ≡ false }
     requires room { length linked.old.loaded < 32 }
-    ensures { Executes (Either (package_entry linked.old prepared memory.old)
+    ensures { Executes (Either (package_entry linked.old prepared.entry memory.old)
         (with_dropped_load linked.old (Refused (LinkFailed NoMemory)))) memory.old
         (after_end result linked.new None memory.new) }
 {
     if memory.heap().packages() >= MOST_PACKAGES {
         return Err(EndFault::Refused(LoadRefusal::Refused(PackageRefusal::Full)));
     }
-    let PendingPackage { whole, addition } = prepared;
-    let Ok(material) = record_contents_of(alloc, &whole) else {
+    let PendingPackage {
+        texts,
+        statics,
+        addition,
+    } = prepared;
+    let Ok(material) = record_contents_of(alloc, texts, statics) else {
         return Err(EndFault::Refused(LoadRefusal::Refused(PackageRefusal::LinkFailed(
             LinkFault::NoMemory,
         ))));

@@ -1,13 +1,14 @@
 //! Packages read from the records of a heap.
-ghost use Rattle.std.specs.Prelude.{◌≡◌, ◌<◌, ◌++◌, [], ◌∷◌, false, length, slice_index, IfOk, OnOk, Some, None, Err, Result};
+ghost use Rattle.std.specs.Prelude.{◌≡◌, ◌<◌, ◌++◌, [], ◌∷◌, false, length, slice_index, IfOk, OnOk, Some, None, Err};
 ghost use Rattle.jc_heap.specs.Whole.{IsConsistent};
 ghost use Rattle.jc_heap.specs.Components.{record_of, IsWithin};
-ghost use Rattle.jc_card_load.specs.Reading.{load_of, packages_of, text_at, text_in, with_prepared};
-ghost use Rattle.jc_card_load.specs.PendingPackages.{PendingPackageValue, linked_components, IsRefusal};
+ghost use Rattle.jc_card_load.specs.Reading.{fault_of, load_of, packages_of, text_at, text_in, with_prepared};
+ghost use Rattle.jc_card_load.specs.PendingPackages.{linked_components, linked_texts};
 
 use crate::package_refusal::PackageRefusal;
-use crate::pending_package::assemble_and_link;
-use jc_cap::texts::{ComponentBytes, LoadedComponents};
+use crate::pending_package::read_and_link;
+use jc_cap::assembling::required_components;
+use jc_cap::texts::{ComponentBytes, LoadedComponents, PackageBytes};
 use jc_cap_linkage::tags;
 use jc_heap::{Heap, Span};
 use jc_linker::fault::LinkFault;
@@ -46,7 +47,7 @@ fn read_text<S: WordStore>(
     requires within { IsWithin span (record_of heap.now.now at) }
     ensures { IfOk result (λ text. text ≡ text_at tag (record_of heap.now.now at) span) }
 {
-    let mut bytes = Vec::new(alloc);
+    let mut bytes = Vec::with_capacity(alloc, 3 + usize::from(span.size))?;
     push_byte(&mut bytes, tag)?;
     push_byte(&mut bytes, (span.size / 256) as u8)?;
     push_byte(&mut bytes, (span.size % 256) as u8)?;
@@ -111,14 +112,29 @@ fn load_of<S: WordStore>(
     })
 }
 
-// Why a package that was refused is not read: it is damaged, if it is not that memory was refused.
+// Why a package that was refused is not read.
 fn fault_of(refusal: PackageRefusal) -> RecordFault
-    ensures { result ≡ RecordFault.Damaged → (said : Result PendingPackageValue PackageRefusal)
-        → IsRefusal refusal said → said ≡ Err refusal }
+    ensures { result ≡ fault_of refusal }
 {
     match refusal {
         PackageRefusal::LinkFailed(LinkFault::NoMemory) => RecordFault::NoMemory,
         _ => RecordFault::Damaged,
+    }
+}
+
+// Links the package of these components, and adds it.
+fn link_and_add(alloc: Global, linked: &mut Linked, texts: &PackageBytes) -> Result<(), RecordFault>
+    ensures added { OnOk result (with_prepared linked.old
+        (linked_texts linked.old texts.now) ≡ Some linked.new) }
+    ensures damaged { result ≡ Err RecordFault.Damaged
+        → with_prepared linked.old (linked_texts linked.old texts.now) ≡ None }
+{
+    match read_and_link(alloc, linked, texts) {
+        Ok(prepared) => {
+            linked.add(prepared.addition);
+            Ok(())
+        }
+        Err(refusal) => Err(fault_of(refusal)),
     }
 }
 
@@ -140,12 +156,9 @@ fn add_record<S: WordStore>(
     let Ok(load) = load_of(alloc, heap, at) else {
         return Err(RecordFault::NoMemory);
     };
-    match assemble_and_link(alloc, linked, load) {
-        Ok(prepared) => {
-            linked.add(prepared.addition);
-            Ok(())
-        }
-        Err(refusal) => Err(fault_of(refusal)),
+    match required_components(load) {
+        Ok(texts) => link_and_add(alloc, linked, &texts),
+        Err(_) => Err(RecordFault::Damaged),
     }
 }
 

@@ -1,21 +1,18 @@
 //! What a package's record is made of.
 ghost use Rattle.std.specs.Prelude.{◌≡◌, ◌+◌, ◌*◌, ◌≤◌, ◌<◌, ◌++◌, [], ◌∷◌, length, map, replicate, Ok, IfOk, OnOk};
+ghost use Rattle.jc_cap.specs.Packages.{IsPackage};
 ghost use Rattle.jc_cap_code.specs.StaticViews.{static_array, static_parts};
 ghost use Rattle.jc_heap.specs.Packages.{AreArrays, array_init, array_inits, parts};
 ghost use Rattle.jc_heap.specs.Packages.{part as component_part};
 ghost use Rattle.jc_card_load.specs.RecordContents.{AreRecordContents, array_of, kind_of, part, parts_of, statics_of, zeros_of};
 
 use crate::linker_view::info_in;
-use jc_cap::assembling::Package;
 use jc_cap::texts::{ComponentBytes, PackageBytes};
 use jc_cap_code::static_arrays::{ArrayInit, ArrayInits, ElementType};
 use jc_cap_code::statics::StaticFields;
 use jc_cap_linkage::tags;
 use jc_heap::{Kind, RecordComponent, StaticArray};
 use std::alloc::{AllocError, Global};
-
-/// How many bytes an initialised array has at most.
-const MOST_BYTES: usize = 65_535;
 
 /// What a package's record is made of. Components and arrays are lent from the package.
 #[derive(Drop)]
@@ -99,10 +96,6 @@ fn arrays_of<'a>(
 {
     let mut made = Vec::new(alloc);
     while let Some((array, others)) = left.split_first() {
-        // The component tells the number of an array's bytes in two bytes.
-        if array.values.len() > MOST_BYTES {
-            return Err(AllocError);
-        }
         push_array(&mut made, array_of(array))?;
         left = others;
     }
@@ -135,27 +128,22 @@ fn size_of_image(statics: &StaticFields<'_>) -> u16
     statics.image_size
 }
 
-// What the StaticField component says.
-fn statics_in(whole: &Package) -> StaticFields<'_>
-    ensures statics { static_parts result ≡ statics_of whole.entry.now }
-    ensures few { length result.arrays ≤ result.reference_count }
-    ensures small { 2 * length result.arrays + (zeros_of (static_parts result)
-        + length result.non_default_values.now) < 65536 }
+/// What the record of a package is made of, if memory is there: its components' bytes, and its static fields as they
+/// were read.
+pub fn record_contents_of<'a>(
+    alloc: Global,
+    texts: &'a PackageBytes,
+    statics: StaticFields<'a>,
+) -> Result<RecordContents<'a>, AllocError>
+    requires sound { IsPackage texts.now }
+    requires read { static_parts statics ≡ statics_of texts.now }
+    ensures { IfOk result (λ made. AreRecordContents texts.entry.now made) }
 {
-    let statics = whole.contents().statics;
-    let _size = size_of_image(&statics);
-    statics
-}
-
-/// What the record of a package is made of, if memory is there.
-pub fn record_contents_of(alloc: Global, whole: &Package) -> Result<RecordContents<'_>, AllocError>
-    ensures { IfOk result (λ made. AreRecordContents whole.entry.now made) }
-{
-    let statics = statics_in(whole);
     let zeros = zeros_of(&statics);
     let image = zeros_and(alloc, zeros, statics.non_default_values)?;
+    let _size = size_of_image(&statics);
     let arrays = arrays_of(alloc, statics.arrays)?;
-    let components = record_components_of(alloc, whole.texts())?;
+    let components = record_components_of(alloc, texts)?;
     Ok(RecordContents {
         components,
         arrays,

@@ -100,7 +100,7 @@ made_there h r o is = ap is_object is
 pub made_facts : (h : HeapState) (r : ℕ) (o : Object) → heap_item_at h r ≡ AnObject o → facts h r ≡ o.facts
 made_facts h r o is = ap facts_of is
 
-abbrev ended : WriteRefusal → Result (Unit {0}) WriteRefusal
+abbrev pub ended : WriteRefusal → Result (Unit {0}) WriteRefusal
 ended r = Err r
 
 down_not_full : ended StoreDown ≡ ended Full → ⊥

@@ -14,6 +14,7 @@ pub mod Reading
 pub mod NewObjects
 pub mod Packing
 pub mod PackedBytes
+pub mod ByteReads
 pub mod Streams
 pub mod PackageAdded
 pub mod NewPackages
@@ -27,6 +28,7 @@ pub mod OwnCells
 pub mod RecordWords
 pub mod StaticImages
 pub mod Runs
+pub mod PackedRuns
 pub mod WordsAt
 pub mod RunWords
 pub mod Written

@@ -1,20 +1,16 @@
 -- A word of a package's record changed, in all the words.
-use Rattle.std.proofs.Common.{◌≡◌, ℕ, ◌+◌, ◌-◌, ◌/◌, ◌<◌, ◌≤◌, false, inl, inr, List, [], length, take, drop, set, get_or, map, replicate, refl, sym, ◌∙◌, ap}
+use Rattle.std.proofs.Common.{◌≡◌, ℕ, ◌+◌, ◌<◌, ◌≤◌, false, inl, inr, List, [], length, set, get_or, replicate, refl, sym, ◌∙◌, ap}
 use Rattle.std.proofs.Common.{subst, arith, if◌then◌else◌}
-use Rattle.std.proofs.lemmas.List.{drop-set-add, length-set, length-replicate}
+use Rattle.std.proofs.lemmas.List.{length-set, length-replicate}
 use Rattle.std.proofs.lemmas.Bool.{cases_Bool, cases_eq}
-use Rattle.jc_words.specs.Layout.{top_address, packages_address, applets_address, reset_end_address, deselect_end_address, text_length_address, registry_start}
-use Rattle.jc_words.specs.Layout.{registry_length, text_start}
-use Rattle.jc_commit.specs.Image.{capacity_of}
-use Rattle.jc_heap.specs.Cut.{Sizes, records_from, missing_words}
+use Rattle.jc_words.specs.Layout.{top_address, registry_start}
 use Rattle.jc_heap.specs.Table.{entry_or, with_entry}
 use Rattle.jc_heap.specs.Object.{Item, AnObject, APackage, object_of, header_only}
-use Rattle.jc_heap.specs.Image.{image, base, package_addresses, is_package, sizes, item, item_entry, records, missing_words_of_image, table_text, IsWellFormed}
-use Rattle.jc_heap.specs.Heap.{HeapState, head_of, heap_of, read_image, heap_item_at, is_allocated, SameShape}
+use Rattle.jc_heap.specs.Image.{image, base, package_addresses, is_package, item, records, missing_words_of_image, IsWellFormed}
+use Rattle.jc_heap.specs.Heap.{HeapState, heap_of, read_image, heap_item_at, is_allocated, SameShape}
 use Rattle.jc_heap.specs.Components.{words_of, record_of}
 use Rattle.jc_heap.specs.Statics.{with_word, set_word}
-use Rattle.jc_heap.proofs.Records.{records_from-set, missing_words-set}
-use Rattle.jc_heap.proofs.Tables.{map-put, at_or-put_same, at_or-put_other, has-put, put-absent}
+use Rattle.jc_heap.proofs.Tables.{at_or-put_same, at_or-put_other, has-put, put-absent}
 use Rattle.jc_heap.proofs.Images.{image-set, get_or_front, package_addresses-set, base-set, read-set, missing-set}
 use Rattle.jc_heap.proofs.RecordReading.{is_item, is_one, is_record, behind}
 

@@ -1,5 +1,5 @@
 -- A run of cells and places behind it, set as one change.
-use Rattle.std.proofs.Common.{◌≡◌, ℕ, zero, suc, ◌+◌, ◌<◌, ◌≤◌, List, [], ◌∷◌, ◌++◌, length, get_or, refl, sym, ◌∙◌, ap, subst, arith}
+use Rattle.std.proofs.Common.{◌≡◌, ℕ, false, zero, suc, ◌+◌, ◌<◌, ◌≤◌, List, [], ◌∷◌, ◌++◌, length, get_or, refl, sym, ◌∙◌, ap, subst, arith}
 use Rattle.std.proofs.lemmas.List.{map-append}
 use Rattle.jc_commit.specs.Image.{with_words}
 use Rattle.jc_commit.specs.Entries.{addresses_of}
@@ -7,7 +7,8 @@ use Rattle.jc_commit.specs.State.{State}
 use Rattle.jc_heap.specs.declared.place.Place.{Place}
 use Rattle.jc_heap.specs.declared.place.Place.TheVariants.{Cell}
 use Rattle.jc_heap.specs.Image.{IsWellFormed}
-use Rattle.jc_heap.specs.Heap.{HeapState, HeapView, heap_view, heap_of, cells, set_cell, set_cells}
+use Rattle.jc_heap.specs.Heap.{HeapState, HeapView, heap_view, heap_of, cells, set_cell, set_cells, IsSound}
+use Rattle.jc_heap.proofs.Changing.{up_is}
 use Rattle.jc_heap.specs.Places.{place_at, ArePlain, words_at, cells_from, cell_changes, set_places, places_of, words_of, AreThere, IsBeside, AreApart}
 use Rattle.jc_heap.specs.Elements.{run_for}
 use Rattle.jc_heap.proofs.WordsAt.{words_at-append, Each, each_word, places_of-cells}
@@ -104,3 +105,12 @@ both_written j v n r i vs cs is laid h fit there plain apart = subst (λ u. i + 
     → ArePlain u.now (places_of cs) → IsWritten j.plain (run_for j.plain r i vs ++ words_of cs) (set_places u.now (cell_changes r i vs ++ cs))
     (words_at u.now (places_of (cell_changes r i vs ++ cs)))) is
     (λ a b c d. both_at j n r i vs cs laid a b c d apart) h fit there plain
+
+-- words that are those of the run and of the places
+pub both_are_written : (j : State) (v : HeapView) (n r i : ℕ) (vs : List ℕ) (cs : List (Place × ℕ)) (words : List (ℕ × ℕ)) → heap_view j n ≡ v → IsSound j n
+    → v.down ≡ false → i + length vs ≤ length (cells v.now r) → AreElements v.now r vs → AreThere v.now cs → ArePlain v.now (places_of cs)
+    → AreApart (places_of (cell_changes r i vs ++ cs)) → words ≡ run_for j.plain r i vs ++ words_of cs
+    → IsWritten j.plain words (set_places v.now (cell_changes r i vs ++ cs)) (words_at v.now (places_of (cell_changes r i vs ++ cs)))
+both_are_written j v n r i vs cs words is s up h fit there plain apart e =
+    subst (λ l. IsWritten j.plain l (set_places v.now (cell_changes r i vs ++ cs)) (words_at v.now (places_of (cell_changes r i vs ++ cs)))) (sym e)
+    (both_written j v n r i vs cs is (s.now (up_is j v n is up)) h fit there plain apart)

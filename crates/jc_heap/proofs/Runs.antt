@@ -16,6 +16,9 @@ pub length-run_words : (at : ℕ) (vs : List ℕ) → length (run_words at vs) �
 length-run_words at [] = refl
 length-run_words at (v ∷ vs) = ap suc (length-run_words (suc at) vs)
 
+pub viewed_length : (at : ℕ) (vs : List ℕ) (l : List (ℕ × ℕ)) → run_words at vs ≡ l → length l ≡ length vs
+viewed_length at vs l is = sym (ap (λ (m : List (ℕ × ℕ)). length m) is) ∙ length-run_words at vs
+
 pub run_words-at : (at : ℕ) (vs : List ℕ) (k : ℕ) → k < length vs → get_or (run_words at vs) k (0, 0) ≡ (at + k, get_or vs k 0)
 run_words-at at [] k h = absurd (omega arith)
 run_words-at at (v ∷ vs) zero h = ap (λ (a : ℕ). (a, v)) (sym (add-zero at))

@@ -10,7 +10,7 @@ use Rattle.jc_heap.specs.declared.place.Place.TheVariants.{Cell}
 use Rattle.jc_heap.specs.Object.{is_packed, IsElement}
 use Rattle.jc_heap.specs.Packed.{packed_words}
 use Rattle.jc_heap.specs.Image.{IsWellFormed}
-use Rattle.jc_heap.specs.Heap.{HeapState, HeapView, heap_view, heap_of, heap_item_at, facts, cells, set_cell, set_cells, cell_address, run_words}
+use Rattle.jc_heap.specs.Heap.{HeapState, HeapView, heap_view, heap_of, heap_item_at, facts, cells, set_cell, set_cells, cell_address, run_words, IsSound}
 use Rattle.jc_heap.specs.Places.{place_at, words_at, cells_from}
 use Rattle.jc_heap.specs.Elements.{bytes_with, byte_before, byte_behind, run_for}
 use Rattle.jc_heap.proofs.Laws.{length-cells-set_cell, header_only-set_cell, same_facts}
@@ -19,6 +19,7 @@ use Rattle.jc_heap.proofs.Places.{place_set}
 use Rattle.jc_heap.proofs.Runs.{distinct-run, length-run_words, shape-run}
 use Rattle.jc_heap.proofs.WordsAt.{each_word, each_cell}
 use Rattle.jc_heap.proofs.RunWords.{cell_step, cell_steps, steps_run, run_for-single, run_for-double, count_words, addresses-run_for}
+use Rattle.jc_heap.proofs.Changing.{up_is}
 use Rattle.jc_heap.proofs.Written.{StandsFor, IsWritten}
 
 -- values that the cells of an object may hold
@@ -87,7 +88,8 @@ run_distinct ws r i (v ∷ vs) = elim (cases_Bool (is_packed (facts (heap_of ws)
 ]
 
 -- words whose addresses may be written
-pub places_by : (n : ℕ) (words : List (ℕ × ℕ)) → ((k d : ℕ) → k < length (addresses_of words) → IsPlace n (get_or (addresses_of words) k d)) → ArePlaces n words
+pub places_by : (n : ℕ) (words : List (ℕ × ℕ)) → ((k d : ℕ) → k < length (addresses_of words) → IsPlace n (get_or (addresses_of words) k d)) → ArePlaces
+    n words
 places_by n [] all k lt = absurd (omega (arith, lt))
 places_by n (c ∷ cs) all zero lt = all 0 0 (omega arith)
 places_by n (c ∷ cs) all (suc k) lt = places_by n cs (λ m d under. all (suc m) d (omega (arith, under))) k (omega (arith, lt))
@@ -116,3 +118,11 @@ pub view_run_written : (j : State) (v : HeapView) (n r i : ℕ) (vs : List ℕ) 
 view_run_written j v n r i vs is h fit laid = subst (λ u. i + length vs ≤ length (cells (u.now) r) → AreElements u.now r vs
     → IsWritten j.plain (run_for j.plain r i vs) (set_cells u.now r i vs) (words_at u.now (cells_from r i (length vs)))) is
     (λ there may. run_written j.plain r i vs there may laid) h fit
+
+-- words that are those of the run
+pub run_is_written : (j : State) (v : HeapView) (n r i : ℕ) (vs : List ℕ) (words : List (ℕ × ℕ)) → heap_view j n ≡ v → IsSound j n → v.down ≡ false
+    → i + length vs ≤ length (cells v.now r) → AreElements v.now r vs → words ≡ run_for j.plain r i vs
+    → IsWritten j.plain words (set_cells v.now r i vs) (words_at v.now (cells_from r i (length vs)))
+run_is_written j v n r i vs words is s up h fit e = subst (λ l. IsWritten j.plain l (set_cells v.now r i vs) (words_at v.now (cells_from r i (length
+    vs)))) (sym e)
+    (view_run_written j v n r i vs is h fit (s.now (up_is j v n is up)))

@@ -1,6 +1,6 @@
 -- Several places set as one change: places that differ have different words, but for elements that stand in one.
-use Rattle.std.proofs.Common.{◌≡◌, ℕ, zero, suc, ◌+◌, ◌/◌, ◌<◌, ◌≤◌, ◌&&◌, Bool, true, false, inl, inr, List, [], ◌∷◌, length, if◌then◌else◌, map, get_or, set}
-use Rattle.std.proofs.Common.{drop, refl, sym, ◌∙◌, ap, subst, arith}
+use Rattle.std.proofs.Common.{◌≡◌, ℕ, zero, suc, ◌+◌, ◌/◌, ◌<◌, ◌≤◌, ◌&&◌, Bool, true, inl, inr, List, [], ◌∷◌, length, if◌then◌else◌, map, get_or, set}
+use Rattle.std.proofs.Common.{false, drop, refl, sym, ◌∙◌, ap, subst, arith}
 use Rattle.std.proofs.lemmas.List.{length-take}
 use Rattle.std.proofs.lemmas.Bool.{cases_Bool, cases_eq, cases_lt, eq-eqb, ne_eqb, false≢true}
 use Rattle.jc_words.specs.Layout.{text_start}
@@ -14,7 +14,8 @@ use Rattle.jc_heap.specs.Table.{entry_or, has_entry}
 use Rattle.jc_heap.specs.Object.{AnObject, APackage, object_of, cells_of, facts_of, is_packed}
 use Rattle.jc_heap.specs.Image.{IsWellFormed, image, base, package_addresses, is_package, sizes, records, item}
 use Rattle.jc_heap.specs.Heap.{HeapState, HeapView, heap_view, heap_of, read_image, heap_item_at, is_allocated, cells, facts, cell_address}
-use Rattle.jc_heap.specs.Heap.{SameShape}
+use Rattle.jc_heap.specs.Heap.{SameShape, IsSound}
+use Rattle.jc_heap.proofs.Changing.{up_is}
 use Rattle.jc_heap.specs.Places.{place_word, place_at, IsPlain, ArePlain, share_word, words_at, set_place, set_places, places_of, words_of}
 use Rattle.jc_heap.specs.Places.{AreThere, IsBeside, AreApart}
 use Rattle.jc_heap.specs.Components.{record_of}
@@ -260,6 +261,13 @@ pub several_written : (j : State) (v : HeapView) (n : ℕ) (cs : List (Place × 
 several_written j v n cs is laid there plain apart = subst (λ u. AreThere u.now cs → ArePlain u.now (places_of cs)
     → IsWritten j.plain (words_of cs) (set_places u.now cs) (words_at u.now (places_of cs))) is
     (λ here alone. several_at j n cs laid here alone apart) there plain
+
+-- words that are those of the places
+pub several_are_written : (j : State) (v : HeapView) (n : ℕ) (cs : List (Place × ℕ)) (words : List (ℕ × ℕ)) → heap_view j n ≡ v → IsSound j n → v.down ≡ false
+    → AreThere v.now cs → ArePlain v.now (places_of cs) → AreApart (places_of cs) → words ≡ words_of cs
+    → IsWritten j.plain words (set_places v.now cs) (words_at v.now (places_of cs))
+several_are_written j v n cs words is s up there plain apart e = subst (λ l. IsWritten j.plain l (set_places v.now cs) (words_at v.now (places_of cs))) (sym e)
+    (several_written j v n cs is (s.now (up_is j v n is up)) there plain apart)
 
 pub several_places : (j : State) (v : HeapView) (n : ℕ) (cs : List (Place × ℕ)) → heap_view j n ≡ v → IsWellFormed j.plain → AreThere v.now cs
     → ArePlain v.now (places_of cs) → ArePlaces (length j.plain) (words_of cs)

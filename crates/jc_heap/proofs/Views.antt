@@ -1,5 +1,5 @@
 -- What a heap's view tells of its journal.
-use Rattle.std.proofs.Common.{◌≡◌, ℕ, ◌+◌, ◌/◌, if◌then◌else◌, ◌<◌, ◌≤◌, false, List, length, get_or, set, take, sym, ◌∙◌, ap, subst, arith, inl, inr, Bool, true, refl}
+use Rattle.std.proofs.Common.{◌≡◌, ℕ, ◌+◌, ◌/◌, if◌then◌else◌, ◌<◌, ◌≤◌, false, List, length, get_or, set, take, sym, ◌∙◌, ap, subst, arith, inl, inr, Bool, true}
 use Rattle.std.proofs.lemmas.List.{length-set, length-take-le, take-set-le}
 use Rattle.std.proofs.lemmas.Bool.{cases_lt, false≢true}
 use Rattle.jc_words.specs.Layout.{top_address, text_start}

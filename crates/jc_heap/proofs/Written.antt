@@ -6,13 +6,19 @@ use Rattle.jc_words.specs.Layout.{top_address}
 use Rattle.jc_commit.specs.Image.{with_words, IsPlace}
 use Rattle.jc_commit.specs.Entries.{addresses_of, ArePlaces, AreDistinct}
 use Rattle.jc_commit.specs.Keeping.{has_room_for as journal_room}
-use Rattle.jc_commit.specs.State.{State, Changes, keeping as journal_keeping}
+use Rattle.jc_commit.specs.State.{State, Changes, keeping as journal_keeping, IsTornWrite as JournalStopped}
 use Rattle.jc_heap.specs.Image.{IsWellFormed}
 use Rattle.jc_heap.specs.Heap.{HeapState, HeapView, heap_view, heap_of, heap_after_change, has_room_for, SameShape, IsSound}
 use Rattle.jc_heap.proofs.Changing.{change_view, change_sound}
 use Rattle.jc_heap.specs.Moves.{Move, PerformsMovesUnless, apply_move, refusal_at}
-use Rattle.jc_heap.specs.Completions.{Completed, Done}
-use Rattle.jc_heap.proofs.Calls.{room_is, not_false, not_full, unless_done}
+use Rattle.jc_heap.specs.Completions.{Completed, Done, after_change}
+use Rattle.jc_heap.specs.Refusals.{change_refusal}
+use Rattle.jc_heap.specs.declared.refusal.ChangeRefusal.{ChangeRefusal}
+use Rattle.jc_commit.specs.declared.refusal.WriteRefusal.{WriteRefusal}
+use Rattle.jc_commit.specs.declared.refusal.WriteRefusal.TheVariants.{StoreDown, Full}
+use Rattle.std.specs.Prelude.{Result, IsErrAnd}
+use Rattle.jc_heap.proofs.Calls.{room_is, not_false, not_full, unless_done, change_refused, ended}
+use Rattle.jc_heap.proofs.Changing.{refusal_cases, journal_stopped_sound}
 
 -- words stand for a heap, and have the top that these have
 abbrev pub StandsFor : List ℕ → List ℕ → HeapState → Type 0
@@ -50,6 +56,24 @@ module _ (j : State) (v : HeapView) (n : ℕ) (words : List (ℕ × ℕ)) (h : H
   written_done k m back room c moved =
       unless_done {A = Unit {0}} (refusal_at v places) v (heap_view k n) m tt tt
       (not_full v places (written_room back ∙ not_false (journal_room (journal_keeping j) (addresses_of words)) room)) refl (written_view k back c ∙ moved)
+
+  -- the call that was refused made no move, or none of what is durable
+  pub written_refused : (x : Result (Unit {0}) ChangeRefusal) (m : Move) (k : State) (r : WriteRefusal) → IsWellFormed j.recovered
+      → IsErrAnd x (λ e. e ≡ change_refusal r)
+      → (ended r ≡ ended Full → journal_room (journal_keeping j) (addresses_of words) ≡ false)
+      × (journal_room (journal_keeping j) (addresses_of words) ≡ false → ended r ≡ ended Full)
+      → (ended r ≡ ended Full → k ≡ j) → (ended r ≡ ended StoreDown → JournalStopped j k)
+      → PerformsMovesUnless (refusal_at v places) v (after_change x (heap_view k n)) (m ∷ []) (tt {0})
+  written_refused x m k r back gave full kept stopped =
+      change_refused x m v j k n places (journal_room (journal_keeping j) (addresses_of words)) r gave is (written_room back) full.0 full.1 kept stopped
+
+-- a heap whose journal refused a write is sound
+pub refused_sound : (j k : State) (n : ℕ) (r : WriteRefusal) → IsSound j n → (ended r ≡ ended Full → k ≡ j) → (ended r ≡ ended StoreDown → JournalStopped j k)
+    → IsSound k n
+refused_sound j k n r s kept stopped = elim (refusal_cases r) [
+  | inl e ↦ journal_stopped_sound j k n (stopped (ap ended e)) s
+  | inr e ↦ subst (λ (i : State). IsSound i n) (sym (kept (ap ended e))) s
+]
 
 -- one run of words behind another
 pub with_words-append : (ws : List ℕ) (xs ys : List (ℕ × ℕ)) → with_words ws (xs ++ ys) ≡ with_words (with_words ws xs) ys

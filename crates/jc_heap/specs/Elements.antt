@@ -1,5 +1,5 @@
 -- Values for cells, and how they stand in words.
-use Rattle.std.specs.Prelude.{ℕ, ◌+◌, ◌/◌, ◌%◌, ◌<◌, ◌==◌, ◌≡◌, List, [], ◌∷◌, ◌++◌, length, slice_index, Option, Some, None, if◌then◌else◌}
+use Rattle.std.specs.Prelude.{ℕ, ◌+◌, ◌-◌, ◌*◌, ◌/◌, ◌%◌, ◌<◌, ◌≤◌, ◌==◌, ◌≡◌, List, [], ◌∷◌, ◌++◌, length, slice_index, slice_index_or, Option, Some, None, if◌then◌else◌}
 use Rattle.jc_heap.specs.declared.changes.Elements.{Elements}
 use Rattle.jc_heap.specs.declared.changes.Elements.TheVariants.{Bytes, Words}
 use Rattle.jc_heap.specs.declared.changes.Packing.{Packing}
@@ -29,6 +29,15 @@ bytes_with before values behind = byte_or_none before ++ (values ++ byte_or_none
 abbrev pub packing_words : Packing → List ℕ → List ℕ
 packing_words Single values = values
 packing_words (Double before behind) values = packed_words (bytes_with before values behind)
+
+-- words of an image that the first one, the bytes of those between, and the last one say
+pub record AreSaidBy (first : ℕ) (middle : List ℕ) (last : ℕ) (words : List (ℕ × ℕ)) : Type 0 where
+  pub few : length words ≤ 65536
+  pub first_word : 0 < length words → (slice_index_or words 0 (0, 0)).1 ≡ first
+  pub bytes : 2 * (length words - 2) ≤ length middle
+  pub middle_words : (k : ℕ) → 0 < k → k + 1 < length words
+      → (slice_index_or words k (0, 0)).1 ≡ 256 * slice_index middle (2 * (k - 1)) + slice_index middle (2 * (k - 1) + 1)
+  pub last_word : (k : ℕ) → k + 1 ≡ length words → (slice_index_or words k (0, 0)).1 ≡ last
 
 -- values that may stand so: two in a word are bytes
 abbrev pub FitPacking : Packing → List ℕ → Type 0

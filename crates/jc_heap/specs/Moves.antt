@@ -1,7 +1,6 @@
 -- Moves of a heap as data: what a power loss within some of them leaves.
-use Rattle.std.specs.Prelude.{ℕ, ◌+◌, ◌≡◌, ◌⊎◌, if◌then◌else◌, true, List, [], ◌∷◌, Option, Some, None, nat_lt, map, length}
+use Rattle.std.specs.Prelude.{ℕ, ◌+◌, ◌≡◌, ◌⊎◌, if◌then◌else◌, true, List, [], ◌∷◌, Option, Some, None, nat_lt, length}
 use Rattle.jc_transient.specs.State.{area_size}
-use Rattle.jc_words.specs.Count.{saturating_count}
 use Rattle.jc_words.specs.Refusals.{refused_once}
 use Rattle.jc_transient.specs.declared.cell.ClearEvent.{ClearEvent}
 use Rattle.jc_heap.specs.declared.object.Kind.{Kind}

@@ -1,5 +1,5 @@
 -- Bytes as words: two in a word, the high one first.
-use Rattle.std.specs.Prelude.{ℕ, ◌+◌, ◌*◌, ◌/◌, ◌%◌, ◌==◌, List, [], ◌∷◌, map, length, slice_index, min, if◌then◌else◌}
+use Rattle.std.specs.Prelude.{ℕ, ◌+◌, ◌*◌, ◌/◌, ◌%◌, ◌==◌, List, [], ◌∷◌, map, slice_index, if◌then◌else◌}
 use Rattle.std.specs.List.{range_with_len}
 
 -- bytes as words: two in a word, the high one first; an odd last byte has 0 beside it
@@ -23,3 +23,11 @@ bytes_of_packed count words = map (packed_byte words) (range_with_len 0 count)
 -- a word with the byte of this index set: the other one stays
 abbrev pub with_byte : ℕ → ℕ → ℕ → ℕ
 with_byte word i v = if i % 2 == 0 then 256 * v + word % 256 else word / 256 * 256 + v
+
+-- the low byte of a cell
+abbrev pub low_byte_of : List ℕ → ℕ → ℕ
+low_byte_of cells i = slice_index cells i % 256
+
+-- the low bytes of so many cells from an index on
+abbrev pub low_bytes : List ℕ → ℕ → ℕ → List ℕ
+low_bytes cells i count = map (low_byte_of cells) (range_with_len i count)

@@ -1,5 +1,5 @@
 //! Changes of several words, made up as they are read.
-ghost use Rattle.std.specs.Prelude.{◌≡◌, ◌<◌, ◌≤◌, ◌+◌, ◌^◌, ◌++◌, ℕ, List, length, slice_index, slice_index_or};
+ghost use Rattle.std.specs.Prelude.{◌≡◌, ◌<◌, ◌≤◌, ◌+◌, ◌-◌, ◌^◌, ◌++◌, ℕ, List, length, drop, slice_index, slice_index_or, IfOk, IfErr};
 ghost use Rattle.jc_heap.specs.Heap.{run_words};
 ghost use Rattle.jc_heap.specs.Places.{place_word, words_of};
 ghost use Rattle.jc_heap.specs.WordRuns.{AreWords};
@@ -89,6 +89,18 @@ fn byte_of_run(before: Option<u8>, values: Elements, behind: Option<u8>, j: usiz
     0
 }
 
+// The bytes of a run's words behind the first one, as far as they stand in the slice.
+#[inline(always)]
+fn behind_first(before: Option<u8>, bytes: &[u8]) -> &[u8]
+    ensures { result.now ≡ drop (2 - length (byte_or_none before)) bytes.now }
+{
+    let first = 2 - usize::from(before.is_some());
+    if first < bytes.len() {
+        return &bytes[first..];
+    }
+    &bytes[bytes.len()..]
+}
+
 /// The words of a run of cells from an address on.
 #[derive(Drop)]
 pub(crate) struct CellRun<'a> {
@@ -136,7 +148,16 @@ impl<'a> CellRun<'a> {
                     + byte_of_run(before, self.values, behind, 2 * k + 1)
             }
         };
-        (self.at + k as u16, value)
+        (self.address(k), value)
+    }
+
+    // The address of a word.
+    #[inline(always)]
+    fn address(&self, k: usize) -> u16
+        requires { k < length self.now }
+        ensures { result ≡ (slice_index_or self.now k (0, 0)).0 }
+    {
+        self.at + k as u16
     }
 
     // How many words there are.
@@ -152,6 +173,33 @@ impl<'a> CellRun<'a> {
             }
         }
     }
+
+    /// The same with its words ready to be read, where two bytes of a slice stand in each.
+    #[inline(never)]
+    pub(crate) fn packed(self) -> Result<PackedRun<'a>, CellRun<'a>>
+        ensures packed { IfOk result (λ run. run ≡ self.entry) }
+        ensures as_it_is { IfErr result (λ run. run ≡ self.entry) }
+    {
+        let count = self.length();
+        if count == 0 {
+            return Err(self);
+        }
+        let Elements::Bytes(bytes) = self.values else {
+            return Err(self);
+        };
+        let Packing::Double { before, behind: _ } = self.packing else {
+            return Err(self);
+        };
+        let (_, first) = self.word(0);
+        let (_, last) = self.word(count - 1);
+        Ok(PackedRun {
+            count,
+            first,
+            middle: behind_first(before, bytes),
+            last,
+            run: self,
+        })
+    }
 }
 
 impl<'a> WordChanges for CellRun<'a> {
@@ -165,6 +213,70 @@ impl<'a> WordChanges for CellRun<'a> {
     #[inline(always)]
     fn change(&self, k: usize) -> (u16, u16) {
         self.word(k)
+    }
+}
+
+/// A run of bytes of which two stand in each word. What the first word and the last one say is known, and the bytes of
+/// those between stand in a slice, so that one test finds them.
+#[derive(Drop)]
+pub(crate) struct PackedRun<'a> {
+    run: CellRun<'a>,
+    count: usize,
+    first: u16,
+    middle: &'a [u8],
+    last: u16,
+}
+
+impl<'a> Model for PackedRun<'a> {
+    ghost use Rattle.std.specs.Prelude.{List, ℕ, ◌≡◌, length};
+    ghost use Rattle.jc_heap.specs.Elements.{AreSaidBy};
+
+    ghost Value = { List (ℕ × ℕ) };
+
+    ghost view = { λ r. r.run };
+
+    ghost invariant = { λ r. (r.count ≡ length r.run)
+        × AreSaidBy r.first r.middle.now r.last r.run };
+}
+
+impl<'a> PackedRun<'a> {
+    // How many words there are.
+    #[inline(always)]
+    fn length(&self) -> usize
+        ensures { result ≡ length self.now }
+    {
+        self.count
+    }
+
+    // What a word says.
+    #[inline(always)]
+    fn value(&self, k: usize) -> u16
+        requires { k < length self.now }
+        ensures { result ≡ (slice_index_or self.now k (0, 0)).1 }
+    {
+        if k == 0 {
+            return self.first;
+        }
+        if k + 1 == self.count {
+            return self.last;
+        }
+        let middle = self.middle;
+        let j = 2 * (k - 1);
+        256 * u16::from(middle[j]) + u16::from(middle[j + 1])
+    }
+}
+
+impl<'a> WordChanges for PackedRun<'a> {
+    ghost changes = { λ words. words };
+
+    #[inline(always)]
+    fn count(&self) -> usize {
+        self.length()
+    }
+
+    #[inline(always)]
+    fn change(&self, k: usize) -> (u16, u16) {
+        (self.run.address(k), self.value(k))
     }
 }
 

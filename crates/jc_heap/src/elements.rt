@@ -1,9 +1,9 @@
 //! The cells of persistent objects in words: one in a word, or two in a word of a packed array.
-ghost use Rattle.std.specs.Prelude.{ℕ, ◌≡◌, ◌<◌, ◌≤◌, ◌+◌, true, length, slice_index};
+ghost use Rattle.std.specs.Prelude.{ℕ, ◌≡◌, ◌<◌, ◌≤◌, ◌+◌, true, false, length, slice_index};
 ghost use Rattle.jc_heap.specs.Object.{IsElement, is_packed};
 ghost use Rattle.jc_heap.specs.Image.{IsWellFormed};
 ghost use Rattle.jc_heap.specs.Heap.{heap_of, cells, facts, cell_address};
-ghost use Rattle.jc_heap.specs.Packed.{byte_in, with_byte};
+ghost use Rattle.jc_heap.specs.Packed.{byte_in, with_byte, low_bytes};
 ghost use Rattle.jc_heap.specs.Places.{cell_at, HasPlace, MayHold};
 ghost use Rattle.jc_heap.specs.Elements.{elements_of, word_for, byte_before, byte_behind, run_for};
 
@@ -86,6 +86,68 @@ pub(crate) fn cell_value<S: WordStore>(journal: &Journal<S>, object: Ref, i: u16
         return u16::from(byte_in(journal.read(word_at(object, i / 2)), i));
     }
     journal.read(word_at(object, i))
+}
+
+// Bytes of an array of which two elements stand in a word, from an index on.
+#[inline(always)]
+fn packed_bytes<S: WordStore>(journal: &Journal<S>, object: Ref, i: u16, out: &mut [u8])
+    requires laid { IsWellFormed journal.now.plain }
+    requires small { length journal.now.plain < 65536 }
+    requires some { 0 < length out.old }
+    requires cells { i + length out.old ≤ length (cells (heap_of journal.now.plain) object) }
+    requires packed { is_packed (facts (heap_of journal.now.plain) object) ≡ true }
+    ensures { out.new ≡ low_bytes (cells (heap_of journal.now.plain) object) i (length out.old) }
+{
+    let odd = i % 2;
+    if odd == 1 {
+        out[0] = byte_in(journal.read(word_at(object, i / 2)), 1);
+    }
+    let first = word_at(object, i / 2 + odd);
+    let before = odd as usize;
+    let pairs = (out.len() - before) / 2;
+    for k in 0..pairs {
+        let word = journal.read(first + k as u16);
+        out[before + 2 * k] = byte_in(word, 0);
+        out[before + 2 * k + 1] = byte_in(word, 1);
+    }
+    let last = before + 2 * pairs;
+    if last < out.len() {
+        out[last] = byte_in(journal.read(first + pairs as u16), 0);
+    }
+}
+
+// The low bytes of cells that have words of their own, from an index on.
+#[inline(always)]
+fn single_bytes<S: WordStore>(journal: &Journal<S>, object: Ref, i: u16, out: &mut [u8])
+    requires laid { IsWellFormed journal.now.plain }
+    requires small { length journal.now.plain < 65536 }
+    requires some { 0 < length out.old }
+    requires cells { i + length out.old ≤ length (cells (heap_of journal.now.plain) object) }
+    requires single { is_packed (facts (heap_of journal.now.plain) object) ≡ false }
+    ensures { out.new ≡ low_bytes (cells (heap_of journal.now.plain) object) i (length out.old) }
+{
+    let first = word_at(object, i);
+    for k in 0..out.len() {
+        out[k] = (journal.read(first + k as u16) % 256) as u8;
+    }
+}
+
+// The low bytes of an object's cells from an index on.
+#[inline(always)]
+pub(crate) fn cell_bytes<S: WordStore>(journal: &Journal<S>, object: Ref, i: u16, out: &mut [u8])
+    requires laid { IsWellFormed journal.now.plain }
+    requires small { length journal.now.plain < 65536 }
+    requires cells { i + length out.old ≤ length (cells (heap_of journal.now.plain) object) }
+    ensures { out.new ≡ low_bytes (cells (heap_of journal.now.plain) object) i (length out.old) }
+{
+    if out.is_empty() {
+        return;
+    }
+    if is_packed(journal, object) {
+        packed_bytes(journal, object, i, out);
+        return;
+    }
+    single_bytes(journal, object, i, out);
 }
 
 // What a place's word says once the place holds a value: the other element of its word stays.

@@ -6,6 +6,7 @@ ghost use Rattle.jc_heap.specs.Object.{IsElement};
 ghost use Rattle.jc_heap.specs.Image.{IsWellFormed};
 ghost use Rattle.jc_heap.specs.Heap.{HeapView, heap_view, IsSound, cells, facts, IsObject, HasEnd, next_object, room_left};
 ghost use Rattle.jc_heap.specs.Heap.{KeepsBelowTop};
+ghost use Rattle.jc_heap.specs.Packed.{low_bytes};
 ghost use Rattle.jc_heap.specs.Elements.{elements_of};
 ghost use Rattle.jc_heap.specs.Stored.{HoldsHeap, IsAtRest, heap_of_store_at_rest};
 ghost use Rattle.jc_heap.specs.declared.place.Place.TheVariants.{Cell};
@@ -13,7 +14,7 @@ ghost use Rattle.jc_heap.specs.Moves.{Write, SetCells, Begin, Commit, Abort, Per
 ghost use Rattle.jc_heap.specs.Completions.{Completed, after_change, after_step};
 
 use crate::changes::Elements;
-use crate::elements::{cell_value, run_for};
+use crate::elements::{cell_bytes, cell_value, run_for};
 use crate::lookup::{facts_at, next_behind};
 use crate::object::Facts;
 use crate::place::Place;
@@ -55,6 +56,16 @@ impl<S: WordStore> Heap<S> {
         ensures { result ≡ slice_index (cells self.now.now object) i }
     {
         cell_value(&self.journal, object, i)
+    }
+
+    /// The low bytes of a persistent object's cells from an index on, which are the elements of an array of bytes.
+    #[inline(always)]
+    pub fn bytes(&self, object: Ref, i: u16, out: &mut [u8])
+        requires up { self.now.down ≡ false }
+        requires cells { i + length out.old ≤ length (cells self.now.now object) }
+        ensures { out.new ≡ low_bytes (cells self.now.now object) i (length out.old) }
+    {
+        cell_bytes(&self.journal, object, i, out);
     }
 
     /// What an object's header says.
@@ -125,8 +136,10 @@ impl<S: WordStore> Heap<S> {
             self.old (after_change result self.new)
             (SetCells object i (elements_of values.entry) ∷ []) tt }
     {
-        let run = run_for(&self.journal, object, i, values);
-        self.journal.write_all(&run)?;
+        match run_for(&self.journal, object, i, values).packed() {
+            Ok(run) => self.journal.write_all(&run)?,
+            Err(run) => self.journal.write_all(&run)?,
+        }
         Ok(())
     }
 

@@ -1,15 +1,16 @@
 -- The objects of an event in its area, one behind another.
-use Rattle.std.proofs.Common.{◌≡◌, ℕ, ◌+◌, ◌/◌, ◌%◌, ◌<◌, ◌==◌, ◌&&◌, nat_lt, Bool, true, false, inl, inr, List, take, drop, length, get_or, refl, sym, ◌∙◌, ap}
+use Rattle.std.proofs.Common.{◌≡◌, ◌≤◌, ℕ, ◌+◌, ◌/◌, ◌%◌, ◌<◌, ◌==◌, ◌&&◌, nat_lt, Bool, true, false, inl, inr, List, take, drop, length, get_or, refl, sym, ◌∙◌, ap}
 use Rattle.std.proofs.Common.{arith, if◌then◌else◌, Some, lit<}
 use Rattle.std.proofs.lemmas.Bool.{cases_eq, cases_Bool, eq-eqb, ne_eqb, false≢true, le-ltb, cases_lt, eqb-true, or_cases}
 use Rattle.jc_words.specs.Layout.{top_address}
+use Rattle.jc_transient.specs.State.{area_size}
 use Rattle.jc_transient.specs.declared.cell.ClearEvent.{ClearEvent}
 use Rattle.jc_transient.specs.declared.cell.ClearEvent.TheVariants.{Reset, Deselect}
 use Rattle.jc_heap.proofs.Images.{no_event}
 use Rattle.jc_heap.specs.Object.{APackage, facts_of, is_header, is_packed_header, event_of, event_number}
 use Rattle.jc_heap.specs.Image.{image, package_addresses, is_package, IsWellFormed}
 use Rattle.jc_image.specs.Steps.{IsAt, size_from, item_from}
-use Rattle.jc_heap.specs.Whole.{lies_in, cells_in}
+use Rattle.jc_heap.specs.Whole.{lies_in, cells_in, FitsAt}
 use Rattle.jc_image.proofs.Stepping.{header_here, facts_here, package_here, place_within}
 
 -- a header's event is its number
@@ -43,6 +44,16 @@ none_lies Deselect ws = refl
 module _ (ws : List ℕ) (at : ℕ) (event : ClearEvent) (laid : IsWellFormed ws) (here : IsAt ws at) (below : at < get_or ws top_address 0) where
   pub package_lies : is_package (package_addresses (image ws)) at ≡ true → lies_in event (item_from ws at) ≡ false
   package_lies there = ap (lies_in event) (package_here ws at laid here below there) ∙ none_lies event (take (size_from ws at) (drop at (image ws)))
+
+  pub package_cells : is_package (package_addresses (image ws)) at ≡ true → cells_in event (item_from ws at) ≡ 0
+  package_cells there = ap (λ b. if b then (facts_of (item_from ws at)).length else 0) (package_lies there)
+
+  -- a package has no cells in an area
+  pub package_fits : (place : ℕ) → place ≤ area_size → is_package (package_addresses (image ws)) at ≡ true → FitsAt event place (item_from ws at)
+  package_fits place room there = record {
+    begins = λ lies. absurd (false≢true (sym (package_lies there) ∙ lies));
+    ends = omega (arith, room, package_cells there);
+  }
 
   module _ (small : length ws < 65536) where
     pub object_lies : is_package (package_addresses (image ws)) at ≡ false → lies_in event (item_from ws at)

@@ -7,6 +7,8 @@ pub mod LaidImages
 pub mod LaidStores
 pub mod Filling
 pub mod Referring
+pub mod Naming
+pub mod Running
 pub mod Stepping
 pub mod OpenImages
 pub mod NewFronts

@@ -1,16 +1,16 @@
 -- The first words of an image, as its heap tells them.
-use Rattle.std.proofs.Common.{◌≡◌, ◌∙◌, ℕ, ◌+◌, ◌<◌, ◌≤◌, List, [], ◌∷◌, length, take, get_or, map, ap, sym, refl, arith, lit<}
+use Rattle.std.proofs.Common.{◌≡◌, ◌∙◌, ℕ, ◌<◌, ◌≤◌, List, [], ◌∷◌, length, take, get_or, map, ap, sym, arith, lit<}
 use Rattle.std.specs.List.{range_with_len}
 use Rattle.std.proofs.lemmas.List.{ext_get_or, get_or-take, length-take-le}
 use Rattle.std.proofs.lemmas.List.FromFn.{length-map-range_with_len, get_or-map-range_with_len}
-use Rattle.jc_words.specs.Layout.{magic_address, version_address, size_address, count_address, capacity_address, top_address, packages_address, applets_address}
-use Rattle.jc_words.specs.Layout.{reset_end_address, deselect_end_address, text_length_address, front_length, log_start, text_start, version}
-use Rattle.jc_commit.specs.Image.{IsGoodLog, count_of, plain_of, recovered_of}
-use Rattle.jc_commit.proofs.InPlace.{length-plain, plain_word}
+use Rattle.jc_words.specs.Layout.{magic_address, size_address, count_address, capacity_address, top_address, packages_address, applets_address}
+use Rattle.jc_words.specs.Layout.{reset_end_address, deselect_end_address, text_length_address, front_length}
+use Rattle.jc_commit.specs.Image.{IsGoodLog, count_of, recovered_of}
+use Rattle.jc_commit.proofs.InPlace.{plain_word}
 use Rattle.jc_commit.proofs.Steps.{recovered_plain}
 use Rattle.jc_heap.specs.Image.{IsWellFormed, image, text_words, table_text}
 use Rattle.jc_heap.specs.Packed.{packed_byte, bytes_of_packed}
-use Rattle.jc_heap.specs.Heap.{HeapState, heap_of, read_image}
+use Rattle.jc_heap.specs.Heap.{heap_of, read_image}
 use Rattle.jc_image.specs.Laying.{first_words_of}
 
 -- the first words, one after another

@@ -1,9 +1,11 @@
 -- Steps over the records of a heap's words.
-use Rattle.std.specs.Prelude.{ℕ, ◌+◌, ◌≡◌, ◌≤◌, List, map, take, drop, slice_index}
+use Rattle.std.specs.Prelude.{ℕ, ◌+◌, ◌≡◌, ◌≤◌, Bool, true, false, List, map, take, drop, slice_index, slice_index_or}
 use Rattle.jc_words.specs.Layout.{top_address, text_start}
 use Rattle.jc_heap.specs.Cut.{records_from, missing_words}
 use Rattle.jc_heap.specs.Object.{Item}
 use Rattle.jc_heap.specs.Image.{image, package_addresses, sizes, item, item_entry}
+use Rattle.jc_heap.specs.Heap.{HeapState}
+use Rattle.jc_heap.specs.Whole.{IsReference}
 
 -- a record begins at this address, or the table ends there; and the records from there on are whole
 pub record IsAt (words : List ℕ) (at : ℕ) : Type 0 where
@@ -22,3 +24,7 @@ size_from words at = sizes (package_addresses (image words)) at (drop at (image 
 -- the item of the record at an address
 unfoldable pub item_from : List ℕ → ℕ → Item
 item_from words at = item (package_addresses (image words)) at (take (size_from words at) (drop at (image words)))
+
+-- each of the words that are marked is a reference
+unfoldable pub AreReferences : HeapState → List Bool → Type 0
+AreReferences h named = (r : ℕ) → slice_index_or named r false ≡ true → IsReference h r

@@ -1,20 +1,25 @@
 //! Whether the objects' transient cells fill their areas.
-ghost use Rattle.std.specs.Prelude.{◌≡◌, ◌<◌, ◌≤◌, ◌+◌, ◌↔◌, IsTrue, IfSome, IfNone, Some, length, slice_index};
+ghost use Rattle.std.specs.Prelude.{◌≡◌, ◌<◌, ◌≤◌, ◌+◌, ◌↔◌, IsTrue, IfSome, IfNone, Some, false, length, slice_index};
 ghost use Rattle.jc_words.specs.Layout.{top_address};
 ghost use Rattle.jc_transient.specs.State.{area_size};
+ghost use Rattle.jc_transient.specs.declared.cell.ClearEvent.TheVariants.{Reset, Deselect};
 ghost use Rattle.jc_heap.specs.Object.{event_number};
-ghost use Rattle.jc_heap.specs.Image.{IsWellFormed};
-ghost use Rattle.jc_heap.specs.Heap.{heap_of};
+ghost use Rattle.jc_heap.specs.Image.{IsWellFormed, image, package_addresses, is_package};
+ghost use Rattle.jc_heap.specs.Heap.{heap_of, area_end};
 ghost use Rattle.jc_image.specs.Steps.{IsAt, item_from};
-ghost use Rattle.jc_heap.specs.Whole.{lies_in, cells_in, FitsAt, IsFilledArea};
+ghost use Rattle.jc_heap.specs.Whole.{lies_in, cells_in, FitsAt};
 
-use crate::steps::{end_of_record, first_record};
 use jc_commit::Journal;
 use jc_heap::layout::{HEADER, LENGTH, area_word};
-use jc_heap::walk::begins_package;
 use jc_transient::{AREA_CELLS, ClearEvent};
 use jc_words::WordStore;
-use jc_words::layout::TOP;
+
+/// Where the next cells of each area begin.
+#[derive(Clone, Copy)]
+pub(crate) struct Places {
+    pub(crate) reset: u16,
+    pub(crate) deselect: u16,
+}
 
 // An event as a number of the image.
 fn number_of(event: ClearEvent) -> u16
@@ -26,21 +31,19 @@ fn number_of(event: ClearEvent) -> u16
     }
 }
 
-// The record at an address is an object's whose cells lie in the event's area.
+// The cells of the object at an address lie in the event's area.
 fn is_in_area<S: WordStore>(journal: &Journal<S>, at: u16, event: ClearEvent) -> bool
     requires laid { IsWellFormed journal.now.plain }
     requires small { length journal.now.plain < 65536 }
     requires begins { IsAt journal.now.plain at }
     requires inside { at < slice_index journal.now.plain top_address }
+    requires object { is_package (package_addresses (image journal.now.plain)) at ≡ false }
     ensures { result ≡ lies_in event (item_from journal.now.plain at) }
 {
-    if begins_package(journal, at) {
-        return false;
-    }
     journal.read(at) / 256 == number_of(event)
 }
 
-// The place behind those cells of the record at an address; none, where they do not begin at the given
+// The place behind those cells of the object at an address; none, where they do not begin at the given
 // place or do not end within the area.
 fn place_behind<S: WordStore>(
     journal: &Journal<S>,
@@ -52,6 +55,7 @@ fn place_behind<S: WordStore>(
     requires small { length journal.now.plain < 65536 }
     requires begins { IsAt journal.now.plain at }
     requires inside { at < slice_index journal.now.plain top_address }
+    requires object { is_package (package_addresses (image journal.now.plain)) at ≡ false }
     requires room { place ≤ area_size }
     ensures fits { IfSome result (λ _. FitsAt event place (item_from journal.now.plain at)) }
     ensures next { IfSome result (λ next. next ≡ place
@@ -72,21 +76,36 @@ fn place_behind<S: WordStore>(
     Some(place + length)
 }
 
-// The event's objects have the cells of its area.
-pub(crate) fn is_filled<S: WordStore>(journal: &Journal<S>, event: ClearEvent) -> bool
+/// The places behind the cells of the object at an address; none, where they do not begin at the given
+/// places or do not end within their area.
+pub(crate) fn places_behind<S: WordStore>(
+    journal: &Journal<S>,
+    at: u16,
+    places: Places,
+) -> Option<Places>
     requires laid { IsWellFormed journal.now.plain }
     requires small { length journal.now.plain < 65536 }
-    ensures { IsTrue result ↔ IsFilledArea (heap_of journal.now.plain) event }
+    requires begins { IsAt journal.now.plain at }
+    requires inside { at < slice_index journal.now.plain top_address }
+    requires object { is_package (package_addresses (image journal.now.plain)) at ≡ false }
+    requires room { (places.reset ≤ area_size) × (places.deselect ≤ area_size) }
+    ensures fits { IfSome result (λ _. FitsAt Reset places.reset (item_from journal.now.plain at)
+        × FitsAt Deselect places.deselect (item_from journal.now.plain at)) }
+    ensures next { IfSome result (λ next. (next.reset ≡ places.reset
+        + cells_in Reset (item_from journal.now.plain at)) × (next.deselect ≡ places.deselect
+        + cells_in Deselect (item_from journal.now.plain at))) }
+    ensures none { IfNone result (FitsAt Reset places.reset (item_from journal.now.plain at)
+        → FitsAt Deselect places.deselect (item_from journal.now.plain at) → ⊥) }
 {
-    let top = journal.read(TOP);
-    let mut at = first_record(journal);
-    let mut place = 0;
-    while at < top {
-        let Some(next) = place_behind(journal, at, event, place) else {
-            return false;
-        };
-        place = next;
-        at = end_of_record(journal, at, top);
-    }
-    place == journal.read(area_word(event))
+    let reset = place_behind(journal, at, ClearEvent::Reset, places.reset)?;
+    let deselect = place_behind(journal, at, ClearEvent::Deselect, places.deselect)?;
+    Some(Places { reset, deselect })
+}
+
+/// The event's area ends at this place.
+pub(crate) fn ends_at<S: WordStore>(journal: &Journal<S>, event: ClearEvent, place: u16) -> bool
+    requires laid { IsWellFormed journal.now.plain }
+    ensures { IsTrue result ↔ (area_end (heap_of journal.now.plain) event ≡ place) }
+{
+    journal.read(area_word(event)) == place
 }

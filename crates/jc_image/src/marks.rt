@@ -1,18 +1,29 @@
-//! The addresses at which the records of a heap begin.
-ghost use Rattle.std.specs.Prelude.{ℕ, ◌≡◌, ◌<◌, false, length, slice_index_or};
+//! The addresses at which the records of a heap begin, and what their cells name.
+ghost use Rattle.std.specs.Prelude.{ℕ, ◌≡◌, ◌<◌, ◌≤◌, ◌+◌, ◌↔◌, IsTrue, IsFalse, IfSome, IfNone, false, length, slice_index, slice_index_or};
+ghost use Rattle.jc_words.specs.Layout.{top_address};
+ghost use Rattle.jc_transient.specs.State.{area_size};
+ghost use Rattle.jc_transient.specs.declared.cell.ClearEvent.{ClearEvent};
+ghost use Rattle.jc_transient.specs.declared.cell.ClearEvent.TheVariants.{Reset, Deselect};
 ghost use Rattle.jc_heap.specs.Image.{IsWellFormed};
-ghost use Rattle.jc_heap.specs.Heap.{heap_of, is_allocated};
+ghost use Rattle.jc_heap.specs.Heap.{heap_of, heap_item_at, is_allocated};
+ghost use Rattle.jc_heap.specs.Whole.{FitsAt, HoldsReferences, IsFilledArea, cells_in};
+ghost use Rattle.jc_image.specs.Steps.{IsAt, item_from, AreReferences};
 
+use crate::areas::{Places, ends_at, places_behind};
+use crate::references::mark_named;
 use crate::steps::{end_of_record, first_record};
 use jc_commit::Journal;
+use jc_heap::walk::begins_package;
+use jc_transient::ClearEvent;
 use jc_words::WordStore;
 use jc_words::layout::TOP;
 
 // How many addresses there are.
 pub(crate) const ALL: usize = 65536;
 
-// No address is marked.
-fn no_marks() -> [bool; ALL]
+/// No address is marked.
+#[inline(always)]
+pub(crate) fn no_marks() -> [bool; ALL]
     ensures none { (r : ℕ) → slice_index_or result r false ≡ false }
     ensures long { length result ≡ 65536 }
 {
@@ -20,18 +31,84 @@ fn no_marks() -> [bool; ALL]
     marks
 }
 
-// For each address, whether something stands there.
-pub(crate) fn marks_of<S: WordStore>(journal: &Journal<S>) -> [bool; ALL]
+// Marks what the record at an address names. The places behind its cells; none, where these are not at the given places,
+// or what it names lies nowhere below the top.
+fn visit<S: WordStore>(
+    journal: &Journal<S>,
+    named: &mut [bool; ALL],
+    at: u16,
+    top: u16,
+    places: Places,
+) -> Option<Places>
     requires laid { IsWellFormed journal.now.plain }
     requires small { length journal.now.plain < 65536 }
-    ensures { (r : ℕ) → slice_index_or result r false ≡ is_allocated (heap_of journal.now.plain) r }
+    requires begins { IsAt journal.now.plain at }
+    requires inside { at < slice_index journal.now.plain top_address }
+    requires is_top { top ≡ slice_index journal.now.plain top_address }
+    requires room { (places.reset ≤ area_size) × (places.deselect ≤ area_size) }
+    ensures long { length named.new ≡ 65536 }
+    ensures fits { IfSome result (λ _. FitsAt Reset places.reset (item_from journal.now.plain at)
+        × FitsAt Deselect places.deselect (item_from journal.now.plain at)) }
+    ensures next { IfSome result (λ next. (next.reset ≡ places.reset
+        + cells_in Reset (item_from journal.now.plain at)) × (next.deselect ≡ places.deselect
+        + cells_in Deselect (item_from journal.now.plain at))) }
+    ensures below { ((r : ℕ) → top ≤ r → slice_index_or named.old r false ≡ false)
+        → (r : ℕ) → top ≤ r → slice_index_or named.new r false ≡ false }
+    ensures held { IfSome result (λ _. AreReferences (heap_of journal.now.plain) named.new
+        ↔ (AreReferences (heap_of journal.now.plain) named.old
+        × HoldsReferences (heap_of journal.now.plain) (item_from journal.now.plain at))) }
+    ensures none { IfNone result (FitsAt Reset places.reset (item_from journal.now.plain at)
+        → FitsAt Deselect places.deselect (item_from journal.now.plain at)
+        → HoldsReferences (heap_of journal.now.plain) (item_from journal.now.plain at) → ⊥) }
+{
+    if begins_package(journal, at) {
+        return Some(places);
+    }
+    let next = places_behind(journal, at, places)?;
+    if !mark_named(journal, named, at, top) {
+        return None;
+    }
+    Some(next)
+}
+
+/// Marks the addresses at which records begin and those that arrays of references name, in one walk, up to the first record
+/// that is wrong. Whether the objects fill both areas, and name nothing at or above the top.
+pub(crate) fn mark_records<S: WordStore>(
+    journal: &Journal<S>,
+    marks: &mut [bool; ALL],
+    named: &mut [bool; ALL],
+) -> bool
+    requires laid { IsWellFormed journal.now.plain }
+    requires small { length journal.now.plain < 65536 }
+    requires none { (r : ℕ) → slice_index_or marks.old r false ≡ false }
+    requires unnamed { (r : ℕ) → slice_index_or named.old r false ≡ false }
+    ensures marks { IsTrue result → (r : ℕ) → slice_index_or marks.new r false
+        ≡ is_allocated (heap_of journal.now.plain) r }
+    ensures below { IsTrue result → (r : ℕ) → slice_index journal.now.plain top_address ≤ r
+        → slice_index_or named.new r false ≡ false }
+    ensures held { IsTrue result → (AreReferences (heap_of journal.now.plain) named.new
+        ↔ ((r : ℕ) → HoldsReferences (heap_of journal.now.plain)
+        (heap_item_at (heap_of journal.now.plain) r))) }
+    ensures filled { IsTrue result → (event : ClearEvent) → IsFilledArea
+        (heap_of journal.now.plain) event }
+    ensures broken { IsFalse result → ((event : ClearEvent) → IsFilledArea
+        (heap_of journal.now.plain) event) → ((r : ℕ) → HoldsReferences
+        (heap_of journal.now.plain) (heap_item_at (heap_of journal.now.plain) r)) → ⊥ }
 {
     let top = journal.read(TOP);
     let mut at = first_record(journal);
-    let mut marks = no_marks();
+    let mut places = Places {
+        reset: 0,
+        deselect: 0,
+    };
     while at < top {
+        let Some(next) = visit(journal, named, at, top, places) else {
+            return false;
+        };
         marks[usize::from(at)] = true;
+        places = next;
         at = end_of_record(journal, at, top);
     }
-    marks
+    ends_at(journal, ClearEvent::Reset, places.reset)
+        && ends_at(journal, ClearEvent::Deselect, places.deselect)
 }

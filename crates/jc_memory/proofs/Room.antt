@@ -14,13 +14,13 @@ use Rattle.jc_heap.specs.declared.refusal.ChangeRefusal.{ChangeRefusal}
 use Rattle.jc_heap.specs.declared.refusal.ChangeRefusal.TheVariants as change
 use Rattle.jc_heap.specs.declared.refusal.HeapRefusal.{HeapRefusal}
 use Rattle.jc_heap.specs.declared.refusal.HeapRefusal.TheVariants as making
-use Rattle.jc_heap.specs.Object.{AnObject, Object, new_object, object_size, is_packed, facts_of}
+use Rattle.jc_heap.specs.Object.{AnObject, Object, new_object, object_size, is_packed}
 use Rattle.jc_heap.specs.Heap.{HeapState, HeapView, heap_item_at, is_allocated, add_object, heap_after_change, set_cell, set_cells, facts}
 use Rattle.jc_heap.specs.Heap.{end_address, keeping, limit, has_room_for}
 use Rattle.jc_heap.specs.Moves.{Move, SetPlaces, SetCells, refusal_of_places, refusal_of_cells}
 use Rattle.jc_heap.specs.Completions.{Attempt, Done, Refused, after_change, after_making}
 use Rattle.jc_heap.specs.Places.{ArePlain, places_of, place_word, words_at, cells_from, set_place, set_places}
-use Rattle.jc_heap.specs.declared.place.Place.TheVariants.{Cell, Static, Registry, AppletCount}
+use Rattle.jc_heap.specs.declared.place.Place.TheVariants.{Cell}
 use Rattle.jc_heap.specs.Touches.{touch_words, touched_places, touched_cells, once_made}
 use Rattle.jc_commit.proofs.WhatIsKept.{keeps_old_values}
 use Rattle.jc_heap.proofs.Calls.{not_full, object_fits}

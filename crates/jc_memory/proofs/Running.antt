@@ -1,9 +1,9 @@
 -- Loops over runs of cells.
 use Rattle.std.proofs.Common.{◌≡◌, ℕ, Some, zero, suc, pos, replicate, ◌+◌, ◌<◌, ◌≤◌, List, [], ◌∷◌, ◌++◌, set, take, drop, length, map, get_or, refl, sym, ◌∙◌}
-use Rattle.std.proofs.Common.{ap, arith}
+use Rattle.std.proofs.Common.{◌%◌, ap, arith, ext_get_or}
 use Rattle.std.specs.List.{range_with_len}
 use Rattle.std.proofs.lemmas.List.{take_more_set, take_more, length-append, length-map, map-append, take_all}
-use Rattle.std.proofs.lemmas.List.FromFn.{map-range_with_len_more}
+use Rattle.std.proofs.lemmas.List.FromFn.{map-range_with_len_more, length-map-range_with_len, get_or-map-range_with_len}
 use Rattle.std.proofs.lemmas.List.Edits.{paste_all, paste-paste}
 use lib.Seq.{paste}
 use Rattle.jc_transient.specs.declared.cell.CellValue.{CellValue}
@@ -11,8 +11,9 @@ use Rattle.jc_transient.specs.declared.cell.CellValue.TheVariants.{Short}
 use Rattle.jc_transient.specs.declared.cell.ClearEvent.{ClearEvent}
 use Rattle.jc_transient.specs.declared.cell.ClearEvent.TheVariants.{Reset, Deselect}
 use Rattle.jc_transient.specs.Cells.{number_of}
-use Rattle.jc_transient.specs.State.{RamState, HasSizes, area, area_size, with_area, with_cells}
+use Rattle.jc_transient.specs.State.{RamState, HasSizes, area, area_size, with_area, with_cells, cell_at}
 use Rattle.jc_heap.specs.Heap.{facts}
+use Rattle.jc_memory.specs.Cells.{word_of, word_in, byte_at, bytes_at}
 use Rattle.jc_memory.specs.State.{MemoryState, ram_after_set}
 
 pub widen_more : (ws bs : List ℕ) (k v : ℕ) → k < length ws → k < length bs → v ≡ get_or bs k 0 → take k ws ≡ take k bs
@@ -69,3 +70,15 @@ filled_from event s mid new r place zeros bytes sizes transient there fits mid_i
     fill_two event s.ram mid new place zeros bytes sizes fits mid_is new_is
     ∙ ap (λ n. with_area s.ram event (with_cells (area s.ram event) n (map number_of (bytes ++ replicate zeros 0)))) (omega (arith, there))
     ∙ ap (λ e. ram_after_set s.ram e ((facts s.heap.now r).place + 0) (map number_of (bytes ++ replicate zeros 0))) (sym transient)
+
+-- the low bytes of an area's cells are those of the object that is kept there
+pub area_bytes_at : (s : MemoryState) (r i n p : ℕ) (ram : RamState) (event : ClearEvent) → ram ≡ s.ram → p ≡ (facts s.heap.now r).place
+    → (facts s.heap.now r).event ≡ Some event → map (λ k. word_of (cell_at ram event k) % 256) (range_with_len (p + i) n) ≡ bytes_at s r i n
+area_bytes_at s r i n p ram event same there kept =
+    let f : ℕ → ℕ = λ k. word_of (cell_at s.ram event k) % 256 in
+    let long : length (map f (range_with_len (p + i) n)) ≡ n = length-map-range_with_len f (p + i) n in
+    ap (λ (a : RamState). map (λ k. word_of (cell_at a event k) % 256) (range_with_len (p + i) n)) same
+    ∙ ext_get_or 0 (map f (range_with_len (p + i) n)) (bytes_at s r i n) (long ∙ sym (length-map-range_with_len (byte_at s r) i n))
+    (λ m h. get_or-map-range_with_len f (p + i) n m (p + (i + m)) 0 (omega (arith, h, long)) (omega arith)
+    ∙ ap (λ (q : ℕ). f (q + (i + m))) there ∙ sym (ap (λ e. word_in e s r (i + m) % 256) kept)
+    ∙ sym (get_or-map-range_with_len (byte_at s r) i n m (i + m) 0 (omega (arith, h, long)) (omega arith)))

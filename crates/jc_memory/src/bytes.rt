@@ -1,26 +1,43 @@
 //! Runs of cells.
-ghost use Rattle.std.specs.Prelude.{◌≡◌, ◌+◌, ◌≤◌, false, length};
+ghost use Rattle.std.specs.Prelude.{◌≡◌, ◌+◌, ◌≤◌, ◌%◌, false, length, map};
+ghost use Rattle.std.specs.List.{range_with_len};
+ghost use Rattle.jc_transient.specs.State.{area_size, cell_at};
 ghost use Rattle.jc_heap.specs.Heap.{IsObject, facts};
 ghost use Rattle.jc_memory.specs.Programs.{Executes};
 ghost use Rattle.jc_heap.specs.Completions.{after_change};
-ghost use Rattle.jc_memory.specs.Cells.{bytes_at, words_at, cells_store, MayHaveAll};
+ghost use Rattle.jc_memory.specs.Cells.{word_of, bytes_at, words_at, cells_store, MayHaveAll};
 
+use crate::cells::word_of;
 use crate::memory::Memory;
 use jc_heap::{ChangeRefusal, Elements};
-use jc_transient::Ref;
+use jc_transient::{ClearEvent, Ram, Ref};
 use jc_words::WordStore;
+
+// The low bytes of an area's cells from a place on.
+#[inline(always)]
+fn area_bytes(ram: &Ram, event: ClearEvent, place: u16, out: &mut [u8])
+    requires { place + length out.old ≤ area_size }
+    ensures { out.new ≡ map (λ k. word_of (cell_at ram.now event k) % 256)
+        (range_with_len place (length out.old)) }
+{
+    for at in place..place + out.len() as u16 {
+        out[(at - place) as usize] = (word_of(ram.get(event, at)) % 256) as u8;
+    }
+}
 
 impl<S: WordStore> Memory<S> {
     /// Reads bytes of an object from an index on.
+    #[inline(always)]
     pub fn bytes(&self, object: Ref, i: u16, out: &mut [u8])
         requires up { self.now.heap.down ≡ false }
         requires there { IsObject self.now.heap.now object }
         requires cells { i + length out.old ≤ (facts self.now.heap.now object).length }
         ensures { out.new ≡ bytes_at self.now object i (length out.old) }
     {
-        let _header = self.facts(object);
-        for k in 0..out.len() {
-            out[k] = self.byte(object, i + k as u16);
+        let facts = self.facts(object);
+        match facts.event {
+            None => self.heap.bytes(object, i, out),
+            Some(event) => area_bytes(&self.ram, event, facts.place + i, out),
         }
     }
 

@@ -12,7 +12,7 @@ use jc_words::WordStore;
 
 // A number's 16 bits, or a reference's address.
 #[inline(always)]
-fn word_of(value: CellValue) -> u16
+pub(crate) fn word_of(value: CellValue) -> u16
     ensures { result ≡ word_of value }
 {
     match value {

@@ -9,7 +9,7 @@ use Rattle.clap.specs.declared.parser.matches.ArgMatches.{ArgMatches}
 use Rattle.clap.specs.declared.parser.matches.Found.{Found}
 use Rattle.clap.proofs.OnLiterals.{clap_on_literals}
 use Rattle.clap.proofs.WalkLemmas.{first_value-rows}
-use Rattle.jcard_commands.specs.CommandLine.{tear_by, tear_of}
+use Rattle.jcard_commands.specs.CommandLine.{is_given, tear_by, tear_of}
 use Rattle.jcard_commands.specs.CommandLine.{CommandLineRequest, ToTell, dump_of, new_by, new_of, program_grammar, request_of, run_by, run_of, request_of_words}
 use Rattle.jcard_commands.specs.CommandLine.{try_by, try_of, unless_faulty}
 
@@ -69,12 +69,16 @@ pub dump_read : (found : Found) (image : Option Text) → image ≡ first_value 
 dump_read found image i = ap (option_map ToTell) (i ∙ first_value-rows found (codes "image"))
 
 -- those of `tear`
-pub tear_read : (found : Found) (image script probe line : Option Text) → image ≡ first_value found (codes "image") → script ≡ first_value found (codes "script")
-    → probe ≡ first_value found (codes "probe") → line ≡ first_value found (codes "line") → tear_by image script probe line ≡ tear_of (rows_of found)
-tear_read found image script probe line i s p l =
-    ap₂ (λ (o q : Option Text). tear_by o q probe line) (i ∙ first_value-rows found (codes "image")) (s ∙ first_value-rows found (codes "script"))
-    ∙ ap₂ (tear_by (first_of (codes "image") (rows_of found)) (first_of (codes "script") (rows_of found)))
+pub tear_read : (found : Found) (image script probe line each : Option Text) → image ≡ first_value found (codes "image")
+    → script ≡ first_value found (codes "script") → probe ≡ first_value found (codes "probe") → line ≡ first_value found (codes "line")
+    → each ≡ first_value found (codes "each") → tear_by image script probe line (is_given each) ≡ tear_of (rows_of found)
+tear_read found image script probe line each i s p l e =
+    ap₂ (λ (o q : Option Text). tear_by o q probe line (is_given each)) (i ∙ first_value-rows found (codes "image")) (s ∙ first_value-rows found (codes "script"))
+    ∙ ap₂ (λ (o q : Option Text). tear_by (first_of (codes "image") (rows_of found)) (first_of (codes "script") (rows_of found)) o q (is_given each))
     (p ∙ first_value-rows found (codes "probe")) (l ∙ first_value-rows found (codes "line"))
+    ∙ ap (λ (o : Option Text). tear_by (first_of (codes "image") (rows_of found)) (first_of (codes "script") (rows_of found))
+    (first_of (codes "probe") (rows_of found)) (first_of (codes "line") (rows_of found)) (is_given o))
+    (e ∙ first_value-rows found (codes "each"))
 
 -- those of `try`
 pub try_read : (found : Found) (script table words : Option Text) → script ≡ first_value found (codes "script") → table ≡ first_value found (codes "table")

@@ -1,5 +1,5 @@
--- Plain lines of the command `tear`, which takes two operands and the options `--probe` and `--line`.
-use Rattle.std.proofs.Common.{◌≡◌, ◌∙◌, ℕ, false, List, [], ◌∷◌, Option, Some, None, refl, codes}
+-- Plain lines of the command `tear`, which takes two operands, the options `--probe` and `--line`, and the flag `--each`.
+use Rattle.std.proofs.Common.{◌≡◌, ◌∙◌, ℕ, false, true, List, [], ◌∷◌, Option, Some, None, refl, codes}
 use Rattle.std.specs.Prelude.{fold}
 use Rattle.clap.specs.Words.{Row, Text}
 use Rattle.clap.specs.Walk.{Waiting, Walk, finished, idle, nothing_held, option, settled, walk_from, walked}
@@ -108,23 +108,45 @@ unfolding clap_on_literals
 line_second image script probe = record { fault = refl; walk = refl }
 
 -- the last word
-operands_last : (image script : Text) → after (at_options image script) [] ≡ Some (ToTear image script None None)
+operands_last : (image script : Text) → after (at_options image script) [] ≡ Some (ToTear image script None None false)
 unfolding request_after clap_on_literals
 operands_last image script = refl
 
 probe_last : (image script probe : Text)
-    → after (given (operands_read image script) (codes "probe") probe) [] ≡ Some (ToTear image script (Some probe) None)
+    → after (given (operands_read image script) (codes "probe") probe) [] ≡ Some (ToTear image script (Some probe) None false)
 unfolding request_after clap_on_literals
 probe_last image script probe = refl
 
-line_last : (image script line : Text) → after (given (operands_read image script) (codes "line") line) [] ≡ Some (ToTear image script None (Some line))
+line_last : (image script line : Text) → after (given (operands_read image script) (codes "line") line) [] ≡ Some (ToTear image script None (Some line) false)
 unfolding request_after clap_on_literals
 line_last image script line = refl
 
 both_last : (image script probe line : Text) → after (given (read (operands_read image script) (codes "probe") probe) (codes "line") line) []
-    ≡ Some (ToTear image script (Some probe) (Some line))
+    ≡ Some (ToTear image script (Some probe) (Some line) false)
 unfolding request_after clap_on_literals
 both_last image script probe line = refl
+
+-- the flag, after the operands, and after the probe
+with_each : Walk → Walk
+with_each w = walked shape.rules [] w (codes "--each")
+
+each_first : (image script : Text) → Goes (at_options image script) (codes "--each") (with_each (at_options image script))
+unfolding clap_on_literals with_each
+each_first image script = record { fault = refl; walk = refl }
+
+each_second : (image script probe : Text) → Goes (given (operands_read image script) (codes "probe") probe) (codes "--each")
+    (with_each (given (operands_read image script) (codes "probe") probe))
+unfolding clap_on_literals with_each
+each_second image script probe = record { fault = refl; walk = refl }
+
+each_last : (image script : Text) → after (with_each (at_options image script)) [] ≡ Some (ToTear image script None None true)
+unfolding request_after clap_on_literals with_each
+each_last image script = refl
+
+each_behind_probe : (image script probe : Text)
+    → after (with_each (given (operands_read image script) (codes "probe") probe)) [] ≡ Some (ToTear image script (Some probe) None true)
+unfolding request_after clap_on_literals with_each
+each_behind_probe image script probe = refl
 
 -- ---- the lines
 
@@ -150,4 +172,12 @@ tears name image script probe line hi hs hp hl = (
       ∙ (step (line_second image script probe) (line ∷ [])
       ∙ (step (at_line (read (operands_read image script) (codes "probe") probe) line hl) []
       ∙ both_last image script probe line)))),
+  at_operands name image script (codes "--each" ∷ []) hi hs
+      ∙ (step (each_first image script) []
+      ∙ each_last image script),
+  at_operands name image script (codes "--probe" ∷ probe ∷ codes "--each" ∷ []) hi hs
+      ∙ (step (probe_first image script) (probe ∷ codes "--each" ∷ [])
+      ∙ (step (at_probe (operands_read image script) probe hp) (codes "--each" ∷ [])
+      ∙ (step (each_second image script probe) []
+      ∙ each_behind_probe image script probe))),
 )

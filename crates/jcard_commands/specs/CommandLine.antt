@@ -4,7 +4,7 @@ use Rattle.std.specs.Prelude.{slice_get, Result, Ok, Err}
 use Rattle.std.specs.Str.{bytes_eq, chars}
 use Rattle.std.specs.Borrow.{Bor}
 use Rattle.clap.specs.Words.{App, Kinds, Row, Rule, Text, fault_of, first_of, new_app, new_rule, subcommand_of, with_rule, with_subcommand}
-use Rattle.clap.specs.declared.builder.action.ArgAction.TheVariants.{Set}
+use Rattle.clap.specs.declared.builder.action.ArgAction.TheVariants.{Set, SetTrue}
 use Rattle.jcard_commands.specs.declared.arguments.Action.{Action}
 use Rattle.jcard_commands.specs.declared.arguments.Action.TheVariants.{New, Run, Dump, Try, Tear}
 use Rattle.jcard_commands.specs.declared.fault.Fault.{Fault}
@@ -21,8 +21,8 @@ pub data CommandLineRequest : Type 0 where
   -- the script of this name is carried out, on a new card in memory of so many words, with the platform table of this name
   ToTry : Text → Text → Text → CommandLineRequest
   -- a command of the script of the second name is cut, over the words of the image of the first: the last one, or that in the line
-  -- of this number; behind each cut the lines of the probe of this name, if there is one
-  ToTear : Text → Text → Option Text → Option Text → CommandLineRequest
+  -- of this number, or each; behind each cut the lines of the probe of this name, if there is one
+  ToTear : Text → Text → Option Text → Option Text → Bool → CommandLineRequest
 
 -- ---- the grammar
 
@@ -37,6 +37,10 @@ given_option name = record (operand name) { long = Some name }
 -- an option that may be given, once and with one value
 abbrev pub free_option : Text → Rule
 free_option name = record (new_rule name) { action = Some Set; long = Some name }
+
+-- a flag that may be given, once
+abbrev pub flag : Text → Rule
+flag name = record (new_rule name) { action = Some SetTrue; long = Some name }
 
 -- `new IMAGE --words N --table FILE`
 abbrev pub new_grammar : App
@@ -54,10 +58,10 @@ dump_grammar = with_rule (new_app (codes "dump")) (operand (codes "image"))
 abbrev pub try_grammar : App
 try_grammar = with_rule (with_rule (with_rule (new_app (codes "try")) (operand (codes "script"))) (given_option (codes "table"))) (free_option (codes "words"))
 
--- `tear IMAGE SCRIPT [--probe FILE] [--line N]`
+-- `tear IMAGE SCRIPT [--probe FILE] [--line N | --each]`
 abbrev pub tear_grammar : App
-tear_grammar = with_rule (with_rule (with_rule (with_rule (new_app (codes "tear")) (operand (codes "image"))) (operand (codes "script")))
-    (free_option (codes "probe"))) (free_option (codes "line"))
+tear_grammar = with_rule (with_rule (with_rule (with_rule (with_rule (new_app (codes "tear")) (operand (codes "image"))) (operand (codes "script")))
+    (free_option (codes "probe"))) (free_option (codes "line"))) (flag (codes "each"))
 
 -- the program's name and one of its commands
 abbrev pub program_grammar : App
@@ -86,10 +90,17 @@ abbrev pub try_by : Option Text → Option Text → Option Text → Option Comma
 try_by (Some script) (Some table) words = Some (ToTry script (tried_words words) table)
 try_by script table words = None
 
--- what `tear` asks for, with these operands and options
-abbrev pub tear_by : Option Text → Option Text → Option Text → Option Text → Option CommandLineRequest
-tear_by (Some image) (Some script) probe line = Some (ToTear image script probe line)
-tear_by image script probe line = None
+-- a flag is given where its value is `true`
+abbrev pub is_given : Option Text → Bool
+is_given (Some value) = bytes_eq value (codes "true")
+is_given None = false
+
+-- what `tear` asks for, with these operands and options; a line and each command together are nothing
+abbrev pub tear_by : Option Text → Option Text → Option Text → Option Text → Bool → Option CommandLineRequest
+tear_by (Some image) (Some script) probe line false = Some (ToTear image script probe line false)
+tear_by (Some image) (Some script) probe None true = Some (ToTear image script probe None true)
+tear_by (Some image) (Some script) probe (Some line) true = None
+tear_by image script probe line each = None
 
 -- the same, with these values of all operands and options
 abbrev pub new_of : List Row → Option CommandLineRequest
@@ -103,6 +114,7 @@ try_of rows = try_by (first_of (codes "script") rows) (first_of (codes "table") 
 
 abbrev pub tear_of : List Row → Option CommandLineRequest
 tear_of rows = tear_by (first_of (codes "image") rows) (first_of (codes "script") rows) (first_of (codes "probe") rows) (first_of (codes "line") rows)
+    (is_given (first_of (codes "each") rows))
 
 abbrev pub dump_of : List Row → Option CommandLineRequest
 dump_of rows = option_map ToTell (first_of (codes "image") rows)
@@ -154,14 +166,17 @@ TakesTries = (name script words table : Text) → IsNoFlag script → IsNoFlag w
     × (request_of_words (name ∷ codes "try" ∷ script ∷ codes "--words" ∷ words ∷ codes "--table" ∷ table ∷ []) ≡ Some (ToTry script words table))
 
 -- `NAME tear IMAGE SCRIPT` asks to cut the last command of exactly this script over this image; with `--probe FILE`, `--line N` or both,
--- in this order, with this probe, and the command in this line
+-- in this order, with this probe, and the command in this line; with `--each`, behind a probe or without one, each command
 abbrev pub TakesTears : Type 0
 TakesTears = (name image script probe line : Text) → IsNoFlag image → IsNoFlag script → IsNoFlag probe → IsNoFlag line
-    → (request_of_words (name ∷ codes "tear" ∷ image ∷ script ∷ []) ≡ Some (ToTear image script None None))
-    × (request_of_words (name ∷ codes "tear" ∷ image ∷ script ∷ codes "--probe" ∷ probe ∷ []) ≡ Some (ToTear image script (Some probe) None))
-    × (request_of_words (name ∷ codes "tear" ∷ image ∷ script ∷ codes "--line" ∷ line ∷ []) ≡ Some (ToTear image script None (Some line)))
+    → (request_of_words (name ∷ codes "tear" ∷ image ∷ script ∷ []) ≡ Some (ToTear image script None None false))
+    × (request_of_words (name ∷ codes "tear" ∷ image ∷ script ∷ codes "--probe" ∷ probe ∷ []) ≡ Some (ToTear image script (Some probe) None false))
+    × (request_of_words (name ∷ codes "tear" ∷ image ∷ script ∷ codes "--line" ∷ line ∷ []) ≡ Some (ToTear image script None (Some line) false))
     × (request_of_words (name ∷ codes "tear" ∷ image ∷ script ∷ codes "--probe" ∷ probe ∷ codes "--line" ∷ line ∷ [])
-    ≡ Some (ToTear image script (Some probe) (Some line)))
+    ≡ Some (ToTear image script (Some probe) (Some line) false))
+    × (request_of_words (name ∷ codes "tear" ∷ image ∷ script ∷ codes "--each" ∷ []) ≡ Some (ToTear image script None None true))
+    × (request_of_words (name ∷ codes "tear" ∷ image ∷ script ∷ codes "--probe" ∷ probe ∷ codes "--each" ∷ [])
+    ≡ Some (ToTear image script (Some probe) None true))
 
 -- ---- every line of a command
 
@@ -196,7 +211,8 @@ request_by (New image words table) = ToMake image.now words.now table.now
 request_by (Run image script) = ToRun image.now script.now
 request_by (Dump image) = ToTell image.now
 request_by (Try script words table) = ToTry script.now words.now table.now
-request_by (Tear image script probe line) = ToTear image.now script.now (option_map (λ (t : Bor Text). t.now) probe) (option_map (λ (t : Bor Text). t.now) line)
+request_by (Tear image script probe line each) = ToTear image.now script.now (option_map (λ (t : Bor Text). t.now) probe)
+    (option_map (λ (t : Bor Text). t.now) line) each
 
 -- the action is the one that is asked for; the command line is bad only where nothing is; else memory was refused
 abbrev pub IsTakenAs : Option CommandLineRequest → Result Action Fault → Type 0

@@ -164,7 +164,7 @@ IsDone (Some (ToMake image words table)) ended text deeds = IsNew image words ta
 IsDone (Some (ToRun image script)) ended text deeds = IsRun image script ended text deeds
 IsDone (Some (ToTell image)) ended text deeds = IsDump image ended text deeds
 IsDone (Some (ToTry script words table)) ended text deeds = IsTrial script words table ended text deeds
-IsDone (Some (ToTear image script probe line)) ended text deeds = IsTear image script probe ended text deeds
+IsDone (Some (ToTear image script probe line each)) ended text deeds = IsTear image script each probe ended text deeds
 
 -- on these words the program came to this end, wrote this text and did this with files: memory was refused before anything was
 -- done, or what the words are taken for was done

@@ -24,7 +24,7 @@ IsNotRead name (CannotRead path) = path.now ≡ name
 IsNotRead name NoMemory = Unit {0}
 IsNotRead name other = ⊥
 
--- a file of this name could not be opened
+-- a file of this name could not be opened or read
 abbrev pub IsUnopened : List ℕ → Fault → Type 0
 IsUnopened name fault = (path : Bor (List ℕ)) × (fault ≡ CannotRead path) × (path.now ≡ name)
 

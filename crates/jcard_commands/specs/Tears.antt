@@ -1,11 +1,12 @@
 -- `jcard tear`: what is read, what is done with it, and what is told.
-use Rattle.std.specs.Prelude.{ℕ, ◌≡◌, ◌⊎◌, ◌<◌, false, List, [], ◌∷◌, ◌++◌, take, length, Option, Some, None, IfSome, Result, Ok, Err}
-use Rattle.jcard_outcomes.specs.Reports.{first_broken, report_text}
+use Rattle.std.specs.Prelude.{ℕ, ◌≡◌, ◌⊎◌, ◌<◌, Bool, false, true, All, map, List, [], ◌∷◌, ◌++◌, take, length, Option, Some, None, IfSome, Result, Ok, Err}
+use Rattle.jcard_outcomes.specs.Reports.{first_broken, report_text, verdicts_text}
+use Rattle.jcard_outcomes.specs.declared.each.LineSweep.{LineSweep}
 use Rattle.jcard_outcomes.specs.declared.report.Sweep.{Sweep}
 use Rattle.jcard_script.specs.Texts.{IsCutOf}
-use Rattle.jcard_tear.specs.ScriptLines.{IsPartOf}
-use Rattle.jcard_tear.specs.Sweeps.{IsSwept}
-use Rattle.jcard_tear.specs.declared.cuts.Command.{Command}
+use Rattle.jcard_tear.specs.ScriptLines.{Line, chosen, commands_of, line_of}
+use Rattle.jcard_tear.specs.Sweeps.{AreSwept, IsLineSwept}
+use Rattle.jcard_tear.specs.declared.script_lines.ScriptLine.{ScriptLine}
 use Rattle.jcard_commands.specs.FileDeeds.{FileDeed, ClosesImage, ReadsImage, ReadsText, untouched}
 use Rattle.jcard_commands.specs.Images.{IsNotOpened}
 use Rattle.jcard_commands.specs.NewImages.{IsUnread}
@@ -38,6 +39,13 @@ IsReported s (Err NotAllOrNothing) text = (text ≡ report_text s) × (k : ℕ) 
 IsReported s (Err WriteFailed) text = IsCutOf (report_text s) text
 IsReported s (Err other) text = ⊥
 
+-- the verdicts over the commands of a script were written, and so it ended
+abbrev pub AreReported : List LineSweep → Result Unit Fault → List ℕ → Type 0
+AreReported sweeps (Ok done) text = (text ≡ verdicts_text sweeps) × All (λ s. first_broken 0 s.sweep.cuts.items ≡ None) sweeps
+AreReported sweeps (Err NotAllOrNothing) text = (text ≡ verdicts_text sweeps) × (All (λ s. first_broken 0 s.sweep.cuts.items ≡ None) sweeps → ⊥)
+AreReported sweeps (Err WriteFailed) text = IsCutOf (verdicts_text sweeps) text
+AreReported sweeps (Err other) text = ⊥
+
 -- why a command is not cut: memory was refused; or the lines before it, it, or those of the probe cannot be carried out over the image;
 -- or the card is down at the command; or it makes too many writes
 abbrev pub IsUncut : Fault → Type 0
@@ -54,34 +62,57 @@ IsUncut other = ⊥
 abbrev pub EndsUncut : Result Unit Fault → List ℕ → Type 0
 EndsUncut ended text = (fault : Fault) × (ended ≡ Err fault) × IsUncut fault × (text ≡ [])
 
--- the command was cut after each number of its writes, on cards of copies of these words, and that was told; or it could not be
-abbrev pub IsTorn : List ℕ → Command → Result Unit Fault → List ℕ → Type 0
-IsTorn w c ended text = ((s : Sweep) × IsSwept w c [] s × IsReported s ended text) ⊎ EndsUncut ended text
+-- the command in this line was cut after each number of its writes, on cards of copies of these words, with these lines of a probe, if
+-- any, and that was told; or it could not be
+abbrev pub IsTornOne : List ℕ → Line → Option (List ℕ) → Result Unit Fault → List ℕ → Type 0
+IsTornOne w l given ended text = ((s : Sweep) × IsLineSwept w given [] l s × IsReported s ended text) ⊎ EndsUncut ended text
 
--- the command in this line, behind these, was cut, with the lines of a probe behind each cut
-abbrev pub IsTornAt : List ℕ → List ℕ → List ℕ → Option (List ℕ) → Result Unit Fault → List ℕ → Type 0
-IsTornAt w before line probe ended text = (c : Command) × (c.before.now ≡ before) × (c.line.now ≡ line) × IfSome probe (λ p. c.probe.now ≡ p)
-    × IsTorn w c ended text
+-- each command in these lines was cut so, and the verdicts were told; or one could not be
+abbrev pub IsTornEach : List ℕ → List Line → Option (List ℕ) → Result Unit Fault → List ℕ → Type 0
+IsTornEach w lines given ended text = ((sweeps : List LineSweep) × AreSwept w given [] lines sweeps × AreReported sweeps ended text) ⊎ EndsUncut ended text
 
--- the lines of the probe were read, if one was named, and the command was cut
-abbrev pub IsProbed : List ℕ → List ℕ → List ℕ → Option (List ℕ) → Result Unit Fault → List ℕ → List FileDeed → Type 0
-IsProbed w before line None ended text deeds = IsTornAt w before line None ended text × (deeds ≡ [])
-IsProbed w before line (Some name) ended text deeds = ((fault : Fault) × (ended ≡ Err fault) × (text ≡ []) × IsUnread name fault deeds)
-    ⊎ ((p : List ℕ) × IsScriptRead name p deeds × IsTornAt w before line (Some p) ended text)
+-- ---- the probe
 
--- a command of this script was cut; or it has none in the line that is meant
-abbrev pub IsTornIn : List ℕ → List ℕ → Option (List ℕ) → Result Unit Fault → List ℕ → List FileDeed → Type 0
-IsTornIn w script probe ended text deeds = ((ended ≡ Err NoCommand) × (text ≡ []) × (deeds ≡ []))
-    ⊎ ((before line : List ℕ) × IsPartOf script before line × IsProbed w before line probe ended text deeds)
+-- these lines were read, if a probe was named
+abbrev pub IsProbeRead : Option (List ℕ) → Option (List ℕ) → List FileDeed → Type 0
+IsProbeRead None given deeds = (given ≡ None) × (deeds ≡ [])
+IsProbeRead (Some name) given deeds = (text : List ℕ) × (given ≡ Some text) × IsScriptRead name text deeds
 
--- the script was read, and one of its commands was cut
-abbrev pub IsTearOver : List ℕ → List ℕ → Option (List ℕ) → Result Unit Fault → List ℕ → List FileDeed → Type 0
-IsTearOver w script probe ended text deeds = ((fault : Fault) × (ended ≡ Err fault) × (text ≡ []) × IsUnread script fault deeds)
+-- they could not be read
+abbrev pub IsProbeUnread : Option (List ℕ) → Fault → List FileDeed → Type 0
+IsProbeUnread None fault deeds = ⊥
+IsProbeUnread (Some name) fault deeds = IsUnread name fault deeds
+
+-- the lines of the probe were read, if one was named, and with them this was done
+abbrev pub IsProbed : (Option (List ℕ) → Result Unit Fault → List ℕ → Type 0) → Option (List ℕ) → Result Unit Fault → List ℕ → List FileDeed → Type 0
+IsProbed Does name ended text deeds = ((fault : Fault) × (ended ≡ Err fault) × (text ≡ []) × IsProbeUnread name fault deeds)
+    ⊎ ((given : Option (List ℕ)) × IsProbeRead name given deeds × Does given ended text)
+
+-- ---- scripts
+
+-- the one of these commands that is meant was cut, or each
+abbrev pub AreTornBy : List ℕ → List ScriptLine → Bool → Option (List ℕ) → Result Unit Fault → List ℕ → List FileDeed → Type 0
+AreTornBy w all false probe ended text deeds = (number : Option ℕ) × (found : ScriptLine) × (chosen number all ≡ Some found)
+    × IsProbed (IsTornOne w (line_of found)) probe ended text deeds
+AreTornBy w all true probe ended text deeds = IsProbed (IsTornEach w (map line_of all)) probe ended text deeds
+
+-- so they were, or none is meant
+abbrev pub AreTornOf : List ℕ → List ScriptLine → Bool → Option (List ℕ) → Result Unit Fault → List ℕ → List FileDeed → Type 0
+AreTornOf w all each probe ended text deeds = ((ended ≡ Err NoCommand) × (text ≡ []) × (deeds ≡ [])) ⊎ AreTornBy w all each probe ended text deeds
+
+-- the commands of this script that are meant were cut; or memory was refused for them
+abbrev pub IsTornIn : List ℕ → List ℕ → Bool → Option (List ℕ) → Result Unit Fault → List ℕ → List FileDeed → Type 0
+IsTornIn w script each probe ended text deeds = ((ended ≡ Err NoMemory) × (text ≡ []) × (deeds ≡ []))
+    ⊎ ((all : List ScriptLine) × (map line_of all ≡ commands_of script) × AreTornOf w all each probe ended text deeds)
+
+-- the script was read, and of its commands those that are meant were cut
+abbrev pub IsTearOver : List ℕ → List ℕ → Bool → Option (List ℕ) → Result Unit Fault → List ℕ → List FileDeed → Type 0
+IsTearOver w script each probe ended text deeds = ((fault : Fault) × (ended ≡ Err fault) × (text ≡ []) × IsUnread script fault deeds)
     ⊎ ((s : List ℕ) × (opened more : List FileDeed) × IsScriptRead script s opened × (deeds ≡ opened ++ more)
-    × IsTornIn w s probe ended text more)
+    × IsTornIn w s each probe ended text more)
 
--- the words of the image were read, and then a command of the script was cut, on cards in memory alone
-abbrev pub IsTear : List ℕ → List ℕ → Option (List ℕ) → Result Unit Fault → List ℕ → List FileDeed → Type 0
-IsTear image script probe ended text deeds = ((fault : Fault) × (ended ≡ Err fault) × (text ≡ []) × IsImageUnread image fault deeds)
+-- the words of the image were read, and then commands of the script were cut, on cards in memory alone
+abbrev pub IsTear : List ℕ → List ℕ → Bool → Option (List ℕ) → Result Unit Fault → List ℕ → List FileDeed → Type 0
+IsTear image script each probe ended text deeds = ((fault : Fault) × (ended ≡ Err fault) × (text ≡ []) × IsImageUnread image fault deeds)
     ⊎ ((w : List ℕ) × (opened more : List FileDeed) × IsImageRead image w opened × (deeds ≡ opened ++ more)
-    × IsTearOver w script probe ended text more)
+    × IsTearOver w script each probe ended text more)

@@ -1,10 +1,12 @@
 //! The command line.
 ghost use Rattle.std.specs.Prelude.{◌≡◌, ◌⊎◌, None, false, true, map, option_map, option_and_then, IfErr, IfOk};
+ghost use Rattle.std.specs.Prelude.{ℕ, List, codes};
+ghost use Rattle.std.specs.Borrow.{Bor};
 ghost use Rattle.std.specs.String.{string_bytes};
-ghost use Rattle.clap.specs.Words.{app_of, found_of, kind_of, rows_of, rule_of, subcommand_rows_of, with_subcommand};
-ghost use Rattle.jcard_commands.specs.CommandLine.{IsTakenAs, TakesDumps, TakesNews, TakesRunLines, TakesRuns, TakesTears, TakesTries, dump_grammar, dump_of, free_option};
+ghost use Rattle.clap.specs.Words.{app_of, found_of, kind_of, new_app, rows_of, rule_of, subcommand_rows_of, with_rule, with_subcommand};
+ghost use Rattle.jcard_commands.specs.CommandLine.{IsTakenAs, TakesDumps, TakesNews, TakesRunLines, TakesRuns, TakesTears, TakesTries, dump_grammar, dump_of, flag, free_option, is_given};
 ghost use Rattle.jcard_commands.specs.CommandLine.{given_option, new_grammar, new_of, operand, program_grammar, request_by, request_of, run_grammar, run_of};
-ghost use Rattle.jcard_commands.specs.CommandLine.{request_of_words, tear_grammar, tear_of, try_grammar, try_of};
+ghost use Rattle.jcard_commands.specs.CommandLine.{request_of_words, tear_by, tear_grammar, tear_of, try_grammar, try_of};
 
 use crate::fault::Fault;
 use clap::error::ErrorKind;
@@ -37,12 +39,13 @@ pub enum Action<'a> {
         table: &'a str,
     },
     /// A command of the script is cut after each number of its writes, over copies of the words of the image: the last one, or that in
-    /// the line of this number. Behind each cut come the lines of the probe of this name, if there is one.
+    /// the line of this number, or each. Behind each cut come the lines of the probe of this name, if there is one.
     Tear {
         image: &'a str,
         script: &'a str,
         probe: Option<&'a str>,
         line: Option<&'a str>,
+        each: bool,
     },
 }
 
@@ -149,15 +152,24 @@ fn try_command<'a>(alloc: Global) -> Result<Command<'a>, AllocError>
         .arg(free_option(alloc, "words"))
 }
 
-// `tear IMAGE SCRIPT [--probe FILE] [--line N]`.
+// `tear IMAGE SCRIPT [--probe FILE] [--line N | --each]`.
 fn tear_command<'a>(alloc: Global) -> Result<Command<'a>, AllocError>
     ensures { IfOk result (λ c. app_of c ≡ tear_grammar) }
 {
+    tear_operands(alloc)?
+        .arg(free_option(alloc, "probe"))?
+        .arg(free_option(alloc, "line"))?
+        .arg(flag(alloc, "each"))
+}
+
+// Its operands.
+fn tear_operands<'a>(alloc: Global) -> Result<Command<'a>, AllocError>
+    ensures { IfOk result (λ c. app_of c ≡ with_rule (with_rule (new_app (codes "tear"))
+        (operand (codes "image"))) (operand (codes "script"))) }
+{
     Command::new(alloc, "tear")
         .arg(operand(alloc, "image"))?
-        .arg(operand(alloc, "script"))?
-        .arg(free_option(alloc, "probe"))?
-        .arg(free_option(alloc, "line"))
+        .arg(operand(alloc, "script"))
 }
 
 fn operand<'a>(alloc: Global, name: &'a str) -> Arg<'a>
@@ -179,6 +191,13 @@ fn free_option<'a>(alloc: Global, name: &'a str) -> Arg<'a>
     ensures local { result.global ≡ false }
 {
     Arg::new(alloc, name).action(ArgAction::Set).long(name)
+}
+
+fn flag<'a>(alloc: Global, name: &'a str) -> Arg<'a>
+    ensures rule { rule_of result ≡ flag name.entry.now }
+    ensures local { result.global ≡ false }
+{
+    Arg::new(alloc, name).action(ArgAction::SetTrue).long(name)
 }
 
 // What the matches ask for.
@@ -248,10 +267,41 @@ fn tear_asked<'a>(operands: &ArgMatches<'a>) -> Option<Action<'a>>
     let script = operands.get_str("script")?;
     let probe = operands.get_str("probe");
     let line = operands.get_str("line");
+    let given = operands.get_str("each");
+    let each = is_given(given);
+    tear_action(image, script, probe, line, each)
+}
+
+// A command is cut, or each: not both.
+fn tear_action<'a>(
+    image: &'a str,
+    script: &'a str,
+    probe: Option<&'a str>,
+    line: Option<&'a str>,
+    each: bool,
+) -> Option<Action<'a>>
+    ensures { option_map request_by result ≡ tear_by (Some image.now) (Some script.now)
+        (option_map (λ (text : Bor (List ℕ)). text.now) probe.entry)
+        (option_map (λ (text : Bor (List ℕ)). text.now) line.entry) each }
+{
+    if each && line.is_some() {
+        return None;
+    }
     Some(Action::Tear {
         image,
         script,
         probe,
         line,
+        each,
     })
+}
+
+// Whether a flag with this value is given.
+fn is_given(value: Option<&str>) -> bool
+    ensures { result ≡ is_given (option_map (λ (text : Bor (List ℕ)). text.now) value.entry) }
+{
+    match value {
+        Some(text) => text == "true",
+        None => false,
+    }
 }

@@ -1,10 +1,10 @@
 //! Making an image.
-ghost use Rattle.std.specs.Prelude.{ℕ, ◌≡◌, ◌≤◌, List, None, false, MatchResult, IfOk, IfErr, IfSome, length, replicate, take};
+ghost use Rattle.std.specs.Prelude.{ℕ, ◌≡◌, ◌≤◌, List, [], None, false, MatchResult, IfOk, IfErr, IfSome, OnOk, length, replicate, take};
 ghost use Rattle.jc_words.specs.Layout.{least_size};
 ghost use Rattle.jc_words.specs.Refusals.{no_refusals};
 ghost use Rattle.jc_words.specs.Stores.{store_value};
 ghost use Rattle.jcard_commands.specs.FileDeeds.{FileDeed};
-ghost use Rattle.jcard_commands.specs.Images.{IsNotRead};
+ghost use Rattle.jcard_commands.specs.Images.{IsNotRead, IsUnopened};
 ghost use Rattle.jcard_commands.specs.NewImages.{IsFormatFault, IsLaid, IsMadeFrom, IsNew, IsTable, IsRead, IsUnread, IsWordCount};
 
 use crate::closed_store::ClosedStore;
@@ -76,8 +76,21 @@ fn read_text<'a, F: Read>(alloc: Global, path: &'a str, file: &mut F) -> Result<
     let Ok(mut text) = Vec::with_capacity(alloc, READ_LIMIT as usize + 1) else {
         return Err(Fault::NoMemory);
     };
-    match file.take(READ_LIMIT).read_to_end(&mut text) {
-        Ok(_) => Ok(text),
+    match read_into(path, file, &mut text) {
+        Ok(()) => Ok(text),
+        Err(fault) => Err(fault),
+    }
+}
+
+// The same, into room that is there: no memory is asked for.
+fn read_into<'a, F: Read>(path: &'a str, file: &mut F, text: &mut Vec<u8>) -> Result<(), Fault<'a>>
+    requires empty { text.old.items ≡ [] }
+    ensures bytes { OnOk result (IfSome (F.remaining file.old)
+        (λ bytes. text.new.items ≡ take 16385 bytes)) }
+    ensures refused { IfErr result (λ fault. IsUnopened path.now fault) }
+{
+    match file.take(READ_LIMIT).read_to_end(text) {
+        Ok(_) => Ok(()),
         Err(_) => Err(Fault::CannotRead(path)),
     }
 }

@@ -87,6 +87,7 @@ fn act<'n, D: Disk, W: TextOut>(
             script,
             probe,
             line,
+            each,
         } => tear_image(
             disk,
             image,
@@ -94,6 +95,7 @@ fn act<'n, D: Disk, W: TextOut>(
                 script,
                 probe,
                 line,
+                each,
             },
             out,
         ),

@@ -1,5 +1,5 @@
-//! `jcard tear`: cutting the power within a command of a script, after each number of its word writes.
-ghost use Rattle.std.specs.Prelude.{◌≡◌, ◌⊎◌, ◌<◌, ℕ, List, Some, Err, MatchResult, IfOk, IfErr, IfSome, false, length, take, option_map};
+//! `jcard tear`: cutting the power within commands of a script, after each number of their word writes.
+ghost use Rattle.std.specs.Prelude.{◌≡◌, ◌⊎◌, ◌<◌, ℕ, List, Some, Err, MatchResult, IfOk, IfErr, IfSome, false, length, map, take, option_map};
 ghost use Rattle.std.specs.Borrow.{Bor};
 ghost use Rattle.std.specs.Io.KnownBytes.{Appends};
 ghost use Rattle.jc_words.specs.Count.{failures_after};
@@ -7,37 +7,42 @@ ghost use Rattle.jcard_commands.specs.Faults.{is_unwritten};
 ghost use Rattle.jcard_commands.specs.FileDeeds.{FileDeed};
 ghost use Rattle.jcard_commands.specs.Images.{IsNotRead};
 ghost use Rattle.jcard_commands.specs.NewImages.{IsUnread};
-ghost use Rattle.jcard_commands.specs.Tears.{EndsUncut, IsImageRead, IsImageUnread, IsProbed, IsReported, IsScriptRead, IsTear, IsTearOver, IsTornAt, IsTornIn, IsUncut};
-ghost use Rattle.jcard_outcomes.specs.Reports.{report_text};
+ghost use Rattle.jcard_commands.specs.Tears.{AreReported, AreTornOf, EndsUncut, IsImageRead, IsImageUnread, IsProbeRead, IsProbeUnread, IsProbed, IsReported, IsScriptRead};
+ghost use Rattle.jcard_commands.specs.Tears.{IsTear, IsTearOver, IsTornEach, IsTornIn, IsTornOne, IsUncut};
+ghost use Rattle.jcard_tear.specs.ScriptLines.{line_of};
+ghost use Rattle.jcard_outcomes.specs.Reports.{report_text, verdicts_text};
 
 use crate::closed_store::ClosedStore;
 use crate::disk::Disk;
 use crate::fault::Fault;
 use crate::run::{Names, power_up_fault};
+use jcard_outcomes::each::{LineSweep, are_all_or_nothing, verdicts};
 use jcard_outcomes::report::{Sweep, report};
 use jcard_outcomes::verdict::is_all_or_nothing;
 use jcard_script::script::ScriptFault;
 use jcard_script::streams::{TextOut, write_all};
-use jcard_tear::cuts::Command;
+use jcard_tear::each::{tear_each, tear_line};
 use jcard_tear::runs::copied;
-use jcard_tear::script_lines::{ScriptLine, command_line, last_select};
-use jcard_tear::tearing::{TearFault, tear};
+use jcard_tear::script_lines::{ScriptLine, chosen, commands};
+use jcard_tear::tearing::TearFault;
 use std::alloc::{AllocError, Global};
 use std::io::Read;
 
 /// The most bytes of a script that are read: one more than are carried out, so that a longer one is seen.
 const MOST_READ: u64 = 16_777_217;
 
-/// What is torn of an image: the names of a script and perhaps of a probe, and perhaps the number of a line.
+/// What is torn of an image: the names of a script and perhaps of a probe, and the command in the line of a number, the last
+/// command, or each.
 #[derive(Clone, Copy, Debug, PartialEq, Eq, Drop)]
 pub(crate) struct Asked<'a> {
     pub(crate) script: &'a str,
     pub(crate) probe: Option<&'a str>,
     pub(crate) line: Option<&'a str>,
+    pub(crate) each: bool,
 }
 
-/// `jcard tear`: cuts a command of the script after each number of its writes, each time on a card of a copy of the image's words, and
-/// tells what is left. The image is read, and never written.
+/// `jcard tear`: cuts a command of the script, or each, after each number of its writes, each time on a card of a copy of the image's
+/// words, and tells what is left. The image is read, and never written.
 pub(crate) fn tear_image<'n, D: Disk, W: TextOut>(
     disk: &mut D,
     image: &'n str,
@@ -46,7 +51,7 @@ pub(crate) fn tear_image<'n, D: Disk, W: TextOut>(
 ) -> Result<(), Fault<'n>>
     ensures done { (text : List ℕ) × (deeds : List FileDeed)
         × Appends (W.contents out.old) (W.contents out.new) text
-        × IsTear image.now asked.entry.script.now
+        × IsTear image.now asked.entry.script.now asked.entry.each
         (option_map (λ (name : Bor (List ℕ)). name.now) asked.entry.probe) result text deeds
         × D.does disk.old deeds disk.new }
     ensures writes { W.failures out.new ≡ failures_after (W.failures out.old)
@@ -69,7 +74,7 @@ fn tear_over<'n, D: Disk, W: TextOut>(
     requires { length words.now < 65536 }
     ensures done { (text : List ℕ) × (deeds : List FileDeed)
         × Appends (W.contents out.old) (W.contents out.new) text
-        × IsTearOver words.now asked.entry.script.now
+        × IsTearOver words.now asked.entry.script.now asked.entry.each
         (option_map (λ (name : Bor (List ℕ)). name.now) asked.entry.probe) result text deeds
         × D.does disk.old deeds disk.new }
     ensures writes { W.failures out.new ≡ failures_after (W.failures out.old)
@@ -91,7 +96,7 @@ fn tear_over<'n, D: Disk, W: TextOut>(
     }
 }
 
-// Cuts the command that is meant of this script.
+// Cuts the commands of this script that are meant.
 fn tear_in<'n, D: Disk, W: TextOut>(
     disk: &mut D,
     names: Names<'n>,
@@ -103,20 +108,47 @@ fn tear_in<'n, D: Disk, W: TextOut>(
     requires { length words.now < 65536 }
     ensures done { (text : List ℕ) × (deeds : List FileDeed)
         × Appends (W.contents out.old) (W.contents out.new) text
-        × IsTornIn words.now script.now
+        × IsTornIn words.now script.now asked.entry.each
         (option_map (λ (name : Bor (List ℕ)). name.now) asked.entry.probe) result text deeds
         × D.does disk.old deeds disk.new }
     ensures writes { W.failures out.new ≡ failures_after (W.failures out.old)
         (is_unwritten result) }
 {
-    match command_line(script, number_of(asked.line)) {
-        Some(found) => tear_probed(disk, names, words, found, asked.probe, out),
-        None => Err(Fault::NoCommand),
+    match commands(disk.alloc(), script) {
+        Ok(commands) => tear_meant(disk, names, words, &commands, asked, out),
+        Err(AllocError) => Err(Fault::NoMemory),
     }
 }
 
-// Cuts a command, with the lines of the probe of this name behind each cut; or, where none is named, with the last SELECT before it.
-fn tear_probed<'n, D: Disk, W: TextOut>(
+// Cuts the one of these commands that is meant, or all of them.
+fn tear_meant<'n, D: Disk, W: TextOut>(
+    disk: &mut D,
+    names: Names<'n>,
+    words: &[u16],
+    commands: &[ScriptLine],
+    asked: Asked<'n>,
+    out: &mut W,
+) -> Result<(), Fault<'n>>
+    requires { length words.now < 65536 }
+    ensures done { (text : List ℕ) × (deeds : List FileDeed)
+        × Appends (W.contents out.old) (W.contents out.new) text
+        × AreTornOf words.now commands.now asked.entry.each
+        (option_map (λ (name : Bor (List ℕ)). name.now) asked.entry.probe) result text deeds
+        × D.does disk.old deeds disk.new }
+    ensures writes { W.failures out.new ≡ failures_after (W.failures out.old)
+        (is_unwritten result) }
+{
+    let Some(found) = chosen(commands, number_of(asked.line)) else {
+        return Err(Fault::NoCommand);
+    };
+    if asked.each {
+        return tear_all(disk, names, words, commands, asked.probe, out);
+    }
+    tear_one(disk, names, words, found, asked.probe, out)
+}
+
+// Cuts a command, with the lines of the probe of this name behind each cut, if there is one.
+fn tear_one<'n, D: Disk, W: TextOut>(
     disk: &mut D,
     names: Names<'n>,
     words: &[u16],
@@ -127,50 +159,82 @@ fn tear_probed<'n, D: Disk, W: TextOut>(
     requires { length words.now < 65536 }
     ensures done { (text : List ℕ) × (deeds : List FileDeed)
         × Appends (W.contents out.old) (W.contents out.new) text
-        × IsProbed words.now found.entry.before.now found.entry.line.now
+        × IsProbed (IsTornOne words.now (line_of found.entry))
         (option_map (λ (name : Bor (List ℕ)). name.now) probe.entry) result text deeds
         × D.does disk.old deeds disk.new }
     ensures writes { W.failures out.new ≡ failures_after (W.failures out.old)
         (is_unwritten result) }
 {
-    match probe {
-        Some(name) => match script_of(disk, name) {
-            Ok(probe) => tear_line(disk.alloc(), names, words, found, &probe, out),
-            Err(fault) => Err(fault),
-        },
-        None => tear_line(
-            disk.alloc(),
-            names,
-            words,
-            found,
-            last_select(found.before),
-            out,
-        ),
+    match probe_of(disk, probe) {
+        Ok(probe) => cut_one(disk.alloc(), names, words, found, lent(&probe), out),
+        Err(fault) => Err(fault),
     }
 }
 
-// Cuts the command in this line, with this probe behind each cut.
-fn tear_line<'n, W: TextOut>(
+// Cuts each of these commands so.
+fn tear_all<'n, D: Disk, W: TextOut>(
+    disk: &mut D,
+    names: Names<'n>,
+    words: &[u16],
+    commands: &[ScriptLine],
+    probe: Option<&'n str>,
+    out: &mut W,
+) -> Result<(), Fault<'n>>
+    requires { length words.now < 65536 }
+    ensures done { (text : List ℕ) × (deeds : List FileDeed)
+        × Appends (W.contents out.old) (W.contents out.new) text
+        × IsProbed (IsTornEach words.now (map line_of commands.now))
+        (option_map (λ (name : Bor (List ℕ)). name.now) probe.entry) result text deeds
+        × D.does disk.old deeds disk.new }
+    ensures writes { W.failures out.new ≡ failures_after (W.failures out.old)
+        (is_unwritten result) }
+{
+    match probe_of(disk, probe) {
+        Ok(probe) => cut_each(disk.alloc(), names, words, commands, lent(&probe), out),
+        Err(fault) => Err(fault),
+    }
+}
+
+// Cuts a command, with these lines of a probe, if any, and writes the report.
+fn cut_one<'n, W: TextOut>(
     alloc: Global,
     names: Names<'n>,
     words: &[u16],
     found: ScriptLine,
-    probe: &[u8],
+    probe: Option<&[u8]>,
     out: &mut W,
 ) -> Result<(), Fault<'n>>
     requires { length words.now < 65536 }
     ensures done { (text : List ℕ) × Appends (W.contents out.old) (W.contents out.new) text
-        × IsTornAt words.now found.entry.before.now found.entry.line.now (Some probe.now) result text }
+        × IsTornOne words.now (line_of found.entry)
+        (option_map (λ (text : Bor (List ℕ)). text.now) probe.entry) result text }
     ensures writes { W.failures out.new ≡ failures_after (W.failures out.old)
         (is_unwritten result) }
 {
-    let command = Command {
-        before: found.before,
-        line: found.line,
-        probe,
-    };
-    match tear(alloc, words, command, &[]) {
+    match tear_line(alloc, words, found, probe, &[]) {
         Ok(sweep) => tell_sweep(alloc, &sweep, out),
+        Err(cause) => Err(tear_fault(names, cause)),
+    }
+}
+
+// Cuts each of these commands so, and writes the verdicts.
+fn cut_each<'n, W: TextOut>(
+    alloc: Global,
+    names: Names<'n>,
+    words: &[u16],
+    commands: &[ScriptLine],
+    probe: Option<&[u8]>,
+    out: &mut W,
+) -> Result<(), Fault<'n>>
+    requires { length words.now < 65536 }
+    ensures done { (text : List ℕ) × Appends (W.contents out.old) (W.contents out.new) text
+        × IsTornEach words.now (map line_of commands.now)
+        (option_map (λ (text : Bor (List ℕ)). text.now) probe.entry) result text }
+    ensures writes { W.failures out.new ≡ failures_after (W.failures out.old)
+        (is_unwritten result) }
+{
+    match tear_each(alloc, words, commands, probe, &[]) {
+        Ok(sweeps) => tell_verdicts(alloc, &sweeps, out),
         Err(cause) => Err(tear_fault(names, cause)),
     }
 }
@@ -203,6 +267,37 @@ fn all_or_nothing<'n>(sweep: &Sweep) -> Result<(), Fault<'n>>
     }
 }
 
+// Writes the verdicts over the commands of a script.
+fn tell_verdicts<'n, W: TextOut>(
+    alloc: Global,
+    sweeps: &[LineSweep],
+    out: &mut W,
+) -> Result<(), Fault<'n>>
+    ensures done { (text : List ℕ) × Appends (W.contents out.old) (W.contents out.new) text
+        × (AreReported sweeps.now result text ⊎ EndsUncut result text) }
+    ensures writes { W.failures out.new ≡ failures_after (W.failures out.old)
+        (is_unwritten result) }
+{
+    let Ok(lines) = verdicts(alloc, sweeps) else {
+        return Err(Fault::NoMemory);
+    };
+    match write_all(out, &lines) {
+        Ok(()) => each_all_or_nothing(sweeps),
+        Err(_) => Err(Fault::WriteFailed),
+    }
+}
+
+// Whether the cuts of each command were all or nothing.
+fn each_all_or_nothing<'n>(sweeps: &[LineSweep]) -> Result<(), Fault<'n>>
+    ensures reported { AreReported sweeps.now result (verdicts_text sweeps.now) }
+    ensures unwritten { is_unwritten result ≡ false }
+{
+    if !are_all_or_nothing(sweeps) {
+        return Err(Fault::NotAllOrNothing);
+    }
+    Ok(())
+}
+
 // What it means that a command was not cut.
 fn tear_fault<'n>(names: Names<'n>, cause: TearFault) -> Fault<'n>
     ensures { IsUncut result }
@@ -228,9 +323,9 @@ fn tear_script_fault<'n>(names: Names<'n>, fault: ScriptFault) -> Fault<'n>
 }
 
 // The number that a text tells; 0, which no line has, where it tells none.
-fn number_of(line: Option<&str>) -> Option<u32> {
+fn number_of(line: Option<&str>) -> Option<usize> {
     match line {
-        Some(text) => match text.parse::<u32>() {
+        Some(text) => match text.parse::<usize>() {
             Ok(number) => Some(number),
             Err(_) => Some(0),
         },
@@ -255,6 +350,35 @@ fn words_of<'n, D: Disk>(disk: &mut D, image: &'n str) -> Result<Vec<u16>, Fault
             }
         }
         Err(fault) => Err(fault),
+    }
+}
+
+// The lines of the probe of this name, if there is one.
+fn probe_of<'n, D: Disk>(disk: &mut D, probe: Option<&'n str>) -> Result<Option<Vec<u8>>, Fault<'n>>
+    ensures read { (deeds : List FileDeed) × D.does disk.old deeds disk.new × MatchResult result
+        (λ given. IsProbeRead (option_map (λ (name : Bor (List ℕ)). name.now) probe.entry)
+        (option_map (λ text. text.items) given) deeds)
+        (λ fault. IsProbeUnread (option_map (λ (name : Bor (List ℕ)). name.now) probe.entry)
+        fault deeds) }
+    ensures unwritten { IfErr result (λ fault. is_unwritten (Err fault) ≡ false) }
+{
+    match probe {
+        Some(name) => match script_of(disk, name) {
+            Ok(text) => Ok(Some(text)),
+            Err(fault) => Err(fault),
+        },
+        None => Ok(None),
+    }
+}
+
+// The lines of a probe, lent.
+fn lent(probe: &Option<Vec<u8>>) -> Option<&[u8]>
+    ensures { option_map (λ (text : Bor (List ℕ)). text.now) result
+        ≡ option_map (λ text. text.items) probe.now }
+{
+    match probe {
+        Some(text) => Some(text.as_slice()),
+        None => None,
     }
 }
 

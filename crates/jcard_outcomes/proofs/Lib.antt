@@ -1,3 +1,4 @@
 pub mod Items
 pub mod Counts
 pub mod RowSteps
+pub mod Verdicts

@@ -2,6 +2,7 @@
 use Rattle.std.specs.Prelude.{ℕ, ◌+◌, ◌==◌, ◌||◌, Bool, true, false, List, [], ◌∷◌, ◌++◌, map, codes, decimal, length, Option, Some, None, if◌then◌else◌}
 use Rattle.std.specs.Str.{bytes_eq}
 use Rattle.jcard_outcomes.specs.declared.standing.Cut.{Cut}
+use Rattle.jcard_outcomes.specs.declared.each.LineSweep.{LineSweep}
 use Rattle.jcard_outcomes.specs.declared.report.Sweep.{Sweep}
 use Rattle.jcard_outcomes.specs.declared.standing.Standing.{Standing}
 use Rattle.jcard_outcomes.specs.declared.standing.Standing.TheVariants.{Before, BeforeButTries, After, AfterButTries, Answers, Changed}
@@ -122,3 +123,18 @@ verdict_text cuts = verdict_by (first_broken 0 cuts) cuts
 -- all that is told of the cuts of a command
 abbrev pub report_text : Sweep → List ℕ
 report_text s = rows_text s.cuts.items ++ uncut_text s.answer.items s.after.answers.items ++ verdict_text s.cuts.items
+
+-- ---- the commands of a script
+
+-- what is told before the verdict of a command in a line
+abbrev pub line_number_text : ℕ → List ℕ
+line_number_text n = codes "line " ++ decimal n ++ codes ": "
+
+-- the verdict of a command, behind the number of its line
+unfoldable pub line_verdict_text : LineSweep → List ℕ
+line_verdict_text s = line_number_text s.number ++ verdict_text s.sweep.cuts.items
+
+-- the verdicts of all commands
+unfoldable pub verdicts_text : List LineSweep → List ℕ
+verdicts_text [] = []
+verdicts_text (s ∷ more) = line_verdict_text s ++ verdicts_text more

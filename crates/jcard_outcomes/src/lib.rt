@@ -2,6 +2,7 @@
 //! tells it.
 #![tactic(auto)]
 
+pub mod each;
 pub mod heaps;
 pub mod report;
 pub mod rows;

@@ -1,7 +1,7 @@
 -- Scripts that were carried out to their end, over readers and writers whose bytes are known.
-use Rattle.std.proofs.Common.{◌≡◌, ◌∙◌, inl, inr, ℕ, Bool, true, false, List, [], ◌++◌, Option, Some, None, Ok, ap, refl, sym, subst, append-nil}
+use Rattle.std.proofs.Common.{◌≡◌, ◌∙◌, inl, inr, ℕ, Bool, true, false, List, ◌++◌, Option, Some, None, Ok, ap, refl, sym, subst, append-nil}
 use Rattle.std.specs.Bool.{OnTrue}
-use Rattle.std.specs.Io.KnownBytes.{Appends, Consumes}
+use Rattle.std.specs.Io.KnownBytes.{Consumes}
 use Rattle.jc_words.specs.Stores.{FuseStoreValue, MemStoreValue}
 use Rattle.jcard_script.specs.Script.{Ends, IsWholeScript}
 

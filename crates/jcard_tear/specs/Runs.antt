@@ -1,7 +1,8 @@
 -- Scripts that are run on cards in memory.
-use Rattle.std.specs.Prelude.{ℕ, ◌≡◌, Bool, true, false, List, [], ◌++◌, None, Ok, Err}
+use Rattle.std.specs.Prelude.{ℕ, ◌≡◌, Bool, true, false, List, ◌++◌, Ok, Err}
 use Rattle.jc_words.specs.Refusals.{no_refusals}
 use Rattle.jc_words.specs.Stores.{FuseStoreValue}
+use Rattle.jc_commit.specs.Image.{plain_of, recovered_of}
 use Rattle.jcard_outcomes.specs.declared.standing.Left.{Left}
 use Rattle.jcard_script.specs.Script.{Ends}
 use Rattle.jcard_tear.specs.declared.runs.Ran.{Ran}
@@ -27,7 +28,6 @@ IsRunFault words script NoMemory = Unit {0}
 IsRunFault words script (Script fault) = (read rest text : List ℕ) × (at_end : Bool) × (after : FuseStoreValue) × (script ≡ read ++ rest)
     × Ends (Err fault) (store_of words) after at_end read text
 
--- over these words a power up finds this heap, and over what it leaves a card gives the lines of the probe these answers
+-- a recovery of these words leaves this heap, and after a power up over them a card gives the lines of the probe these answers
 abbrev pub IsLeft : List ℕ → List ℕ → Left → Type 0
-IsLeft words probe left = (recovered last : FuseStoreValue) × Runs words [] [] recovered × (left.words.items ≡ recovered.words)
-    × Runs recovered.words probe left.answers.items last
+IsLeft words probe left = (last : FuseStoreValue) × (plain_of left.words.items ≡ recovered_of words) × Runs words probe left.answers.items last

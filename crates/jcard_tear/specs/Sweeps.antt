@@ -1,11 +1,13 @@
 -- A command of a script that is cut after each number of its word writes.
-use Rattle.std.specs.Prelude.{ℕ, ◌≡◌, ◌+◌, ◌-◌, ◌<◌, ◌≤◌, ◌≢◌, ◌⊎◌, true, false, List, [], ◌∷◌, ◌++◌, codes, decimal, drop, take, length, slice_index}
+use Rattle.std.specs.Prelude.{ℕ, ◌≡◌, ◌+◌, ◌-◌, ◌<◌, ◌≤◌, ◌≢◌, ◌⊎◌, true, false, List, [], ◌∷◌, ◌++◌, codes, decimal, drop, take, length, slice_index, Option, Some, None}
 use Rattle.jc_words.specs.Stores.{FuseStoreValue}
 use Rattle.jcard_outcomes.specs.Standings.{IsStanding}
 use Rattle.jcard_outcomes.specs.declared.standing.Cut.{Cut}
 use Rattle.jcard_outcomes.specs.declared.standing.Left.{Left}
+use Rattle.jcard_outcomes.specs.declared.each.LineSweep.{LineSweep}
 use Rattle.jcard_outcomes.specs.declared.report.Sweep.{Sweep}
 use Rattle.jcard_tear.specs.Runs.{IsLeft, Runs}
+use Rattle.jcard_tear.specs.ScriptLines.{IsPiece, Line}
 use Rattle.jcard_tear.specs.declared.cuts.Command.{Command}
 
 -- the script up to the command, with the power cut after so many of its writes
@@ -52,3 +54,22 @@ pub record IsSwept (words : List ℕ) (c : Command) (spared : List ℕ) (s : Swe
   pub done : IsDone words c s.answer.items s.after
   pub cuts : AreCuts words c spared s.before s.after 0 s.cuts.items
   pub uncut : IsUncutAt words c (length s.cuts.items)
+
+-- ---- the commands of a script
+
+-- the lines of a probe: those that are given, or else some that stand before the command
+abbrev pub IsProbeOf : Option (List ℕ) → List ℕ → List ℕ → Type 0
+IsProbeOf (Some given) before probe = probe ≡ given
+IsProbeOf None before probe = IsPiece before probe
+
+-- the command in this line was cut
+abbrev pub IsLineSwept : List ℕ → Option (List ℕ) → List ℕ → Line → Sweep → Type 0
+IsLineSwept words given spared l sweep = (c : Command) × (c.before.now ≡ l.before) × (c.line.now ≡ l.text) × IsProbeOf given l.before c.probe.now
+    × IsSwept words c spared sweep
+
+-- the commands in these lines were cut, one after the other
+unfoldable pub AreSwept : List ℕ → Option (List ℕ) → List ℕ → List Line → List LineSweep → Type 0
+AreSwept words given spared [] [] = Unit {0}
+AreSwept words given spared (l ∷ lines) (s ∷ sweeps) = (s.number ≡ l.number) × IsLineSwept words given spared l s.sweep
+    × AreSwept words given spared lines sweeps
+AreSwept words given spared lines sweeps = ⊥

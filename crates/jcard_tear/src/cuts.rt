@@ -2,7 +2,7 @@
 ghost use Rattle.std.specs.Prelude.{◌≡◌, ◌<◌, ◌++◌, ◌∷◌, [], length, IfOk, OnOk, MatchOption};
 ghost use Rattle.jcard_tear.specs.Sweeps.{AreCuts, IsCutAt, IsUncutAt, cut_script};
 
-use crate::runs::{RunFault, left, run};
+use crate::runs::{RunFault, left, run_copy};
 use crate::tearing::TearFault;
 use itoa::Buffer;
 use jcard_outcomes::standing::{Cut, Left, standing_of};
@@ -68,11 +68,11 @@ fn cut_at(
         (λ left. IsCutAt words.now command.entry number left)) }
 {
     let script = cut_script(alloc, command, number)?;
-    let ran = run(alloc, words, &script)?;
+    let ran = run_copy(alloc, words, &script)?;
     if !ran.is_down {
         return Ok(None);
     }
-    let left = left(alloc, &ran.words, command.probe)?;
+    let left = left(alloc, ran.words, command.probe)?;
     Ok(Some(left))
 }
 

@@ -2,6 +2,7 @@
 #![tactic(auto)]
 
 pub mod cuts;
+pub mod each;
 pub mod kept_text;
 pub mod runs;
 pub mod script_lines;

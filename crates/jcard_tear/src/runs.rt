@@ -1,9 +1,13 @@
 //! Running a script on a card in memory, and what a reset finds then.
-ghost use Rattle.std.specs.Prelude.{◌≡◌, ◌<◌, length, IfOk, MatchResult, [], false};
+ghost use Rattle.std.specs.Prelude.{◌≡◌, ◌<◌, length, vec_len, IfOk, MatchResult, [], false};
 ghost use Rattle.jcard_tear.specs.declared.runs.RunFault.TheVariants.{NoMemory};
 ghost use Rattle.jcard_tear.specs.Runs.{HasRun, IsLeft, IsRunFault};
+ghost use Rattle.jc_commit.specs.Image.{plain_of, recovered_of};
 
 use crate::kept_text::KeptText;
+use jc_card::power_up::PowerFault;
+use jc_commit::Journal;
+use jc_words::layout::ADDRESSES;
 use jc_words::{FuseStore, MemStore, WordStore};
 use jcard_outcomes::standing::Left;
 use jcard_script::mem_text::MemText;
@@ -33,21 +37,21 @@ impl From<AllocError> for RunFault {
     }
 }
 
-/// Carries out a script on the card of a copy of these words.
-pub(crate) fn run(alloc: Global, words: &[u16], script: &[u8]) -> Result<Ran, RunFault>
-    requires { length words.now < 65536 }
-    ensures ran { MatchResult result (λ ran. HasRun words.now script.now ran)
-        (λ fault. IsRunFault words.now script.now fault) }
-    ensures short { IfOk result (λ ran. length ran.words.items < 65536) }
+/// Carries out a script on the card of these words.
+pub(crate) fn run(alloc: Global, words: Vec<u16>, script: &[u8]) -> Result<Ran, RunFault>
+    requires { vec_len words < 65536 }
+    ensures ran { MatchResult result (λ ran. HasRun words.items script.now ran)
+        (λ fault. IsRunFault words.items script.now fault) }
+    ensures short { IfOk result (λ ran. vec_len ran.words < 65536) }
 {
     let mut reader = MemText::new(alloc, script, 0)?;
     let mut writer = KeptText::new(alloc);
-    let store = FuseStore::new(MemStore::of(Vec::from_slice(alloc, words)?));
+    let store = FuseStore::new(MemStore::of(words));
     let (store, ended) = run_script(alloc, store, &mut reader, &mut writer);
     match ended {
         Ok(()) => Ok(Ran {
-            words: copied(alloc, &store)?,
             is_down: store.is_down(),
+            words: words_of(store),
             text: writer.into_bytes(),
         }),
         Err(ScriptFault::WriteFailed) => Err(RunFault::NoMemory),
@@ -55,17 +59,52 @@ pub(crate) fn run(alloc: Global, words: &[u16], script: &[u8]) -> Result<Ran, Ru
     }
 }
 
-/// What a reset finds over these words, and what the lines of a probe are answered then.
-pub(crate) fn left(alloc: Global, words: &[u16], probe: &[u8]) -> Result<Left, RunFault>
+/// Carries out a script on the card of a copy of these words.
+pub(crate) fn run_copy(alloc: Global, words: &[u16], script: &[u8]) -> Result<Ran, RunFault>
     requires { length words.now < 65536 }
-    ensures { IfOk result (λ left. IsLeft words.now probe.now left) }
+    ensures ran { MatchResult result (λ ran. HasRun words.now script.now ran)
+        (λ fault. IsRunFault words.now script.now fault) }
+    ensures short { IfOk result (λ ran. vec_len ran.words < 65536) }
 {
-    let recovered = run(alloc, words, b"")?;
-    let probed = run(alloc, &recovered.words, probe)?;
+    let copy = Vec::from_slice(alloc, words)?;
+    run(alloc, copy, script)
+}
+
+/// What a recovery of these words leaves, and what the lines of a probe are answered after a power up over them.
+pub(crate) fn left(alloc: Global, words: Vec<u16>, probe: &[u8]) -> Result<Left, RunFault>
+    requires { vec_len words < 65536 }
+    ensures { IfOk result (λ left. IsLeft words.items probe.now left) }
+{
+    let copy = Vec::from_slice(alloc, &words)?;
+    let found = recovered(copy)?;
+    let probed = run(alloc, words, probe)?;
     Ok(Left {
-        words: recovered.words,
+        words: found,
         answers: probed.text,
     })
+}
+
+// The words that a recovery of these leaves.
+fn recovered(words: Vec<u16>) -> Result<Vec<u16>, RunFault>
+    requires { vec_len words < 65536 }
+    ensures { IfOk result (λ found. plain_of found.items ≡ recovered_of words.items) }
+{
+    if words.len() < usize::from(ADDRESSES) {
+        return Err(RunFault::Script(ScriptFault::PowerFault(PowerFault::BadSize)));
+    }
+    match Journal::open(MemStore::of(words)) {
+        Ok(journal) => Ok(journal.into_store().into_words()),
+        Err(_) => Err(RunFault::Script(ScriptFault::PowerFault(PowerFault::BadLog))),
+    }
+}
+
+// The words of a store in memory.
+fn words_of(store: FuseStore<MemStore>) -> Vec<u16>
+    ensures words { result.items ≡ store.words }
+    ensures short { vec_len result < 65536 }
+{
+    let _size = store.size();
+    store.into_store().into_words()
 }
 
 /// The words of a store.

@@ -1,42 +1,63 @@
-//! The lines of a script: which of them is a command, and which selects an applet.
-ghost use Rattle.std.specs.Prelude.{◌≡◌, ◌++◌, ◌<◌, ◌≤◌, List, ℕ, IfSome, length};
-ghost use Rattle.jcard_tear.specs.ScriptLines.{IsPartOf, IsPiece};
+//! The lines of a script: which of them are commands, and which selects an applet.
+ghost use Rattle.std.specs.Prelude.{◌≡◌, ◌≢◌, ◌⊎◌, ◌+◌, ◌-◌, ◌<◌, ◌≤◌, ◌++◌, ◌∷◌, [], ℕ, map, length, slice_index, IfOk, OnOk};
+ghost use Rattle.jcard_tear.specs.ScriptLines.{IsPiece, chosen, commands_of, first_numbered, is_command, line_of};
+
+use std::alloc::{AllocError, Global};
 
 /// The digits with which a command begins that selects an applet by its name.
 const SELECT: [u8; 8] = *b"00A40400";
 
-/// The text of a script before one of its lines, and the line with its line feed.
+/// A line of a script: its number, counted from 1 with all lines, the text before it, and it, with its line feed.
 #[derive(Clone, Copy, Drop)]
 pub struct ScriptLine<'a> {
+    pub number: usize,
     pub before: &'a [u8],
     pub line: &'a [u8],
 }
 
-/// The command in the line of this number, counted from 1 with all lines; or, without a number, the last command. None where
-/// that line is no command, or there is none.
-pub fn command_line<'a>(script: &'a [u8], number: Option<u32>) -> Option<ScriptLine<'a>>
-    ensures { IfSome result (λ r. IsPartOf script.now r.before.now r.line.now) }
+/// The commands of a script.
+pub fn commands<'a>(alloc: Global, script: &'a [u8]) -> Result<Vec<ScriptLine<'a>>, AllocError>
+    ensures { IfOk result (λ all. map line_of all.items ≡ commands_of script.now) }
 {
-    let mut found = None;
+    let mut found = Vec::new(alloc);
     let mut start = 0;
-    let mut count = 0u32;
+    let mut number = 0;
     while start < script.len() {
         let end = line_end(script, start);
         let line = &script[start..end];
-        count = count.saturating_add(1);
-        let is_meant = match number {
-            Some(number) => number == count,
-            None => true,
-        };
-        if is_meant && is_command(line) {
-            found = Some(ScriptLine {
+        number += 1;
+        if is_command(line) {
+            let command = ScriptLine {
+                number,
                 before: &script[..start],
                 line,
-            });
+            };
+            push_line(&mut found, command)?;
         }
         start = end;
     }
-    found
+    Ok(found)
+}
+
+/// The command in the line of this number; or, without a number, the last.
+pub fn chosen<'a>(commands: &[ScriptLine<'a>], number: Option<usize>) -> Option<ScriptLine<'a>>
+    ensures { result ≡ chosen number commands.now }
+{
+    match number {
+        Some(number) => with_number(commands, number),
+        None => commands.last().copied(),
+    }
+}
+
+fn with_number<'a>(commands: &[ScriptLine<'a>], number: usize) -> Option<ScriptLine<'a>>
+    ensures { result ≡ first_numbered number commands.now }
+{
+    for command in commands {
+        if command.number == number {
+            return Some(*command);
+        }
+    }
+    None
 }
 
 /// The last line that selects an applet by its name, behind the last reset; an empty text where there is none.
@@ -63,6 +84,8 @@ fn line_end(script: &[u8], start: usize) -> usize
     requires { start < length script.now }
     ensures after { start < result }
     ensures within { result ≤ length script.now }
+    ensures plain { (i : ℕ) → start ≤ i → i + 1 < result → slice_index script.now i ≢ 10 }
+    ensures ends { (result ≡ length script.now) ⊎ (slice_index script.now (result - 1) ≡ 10) }
 {
     let mut end = start + 1;
     while end < script.len() && script[end - 1] != b'\n' {
@@ -72,10 +95,12 @@ fn line_end(script: &[u8], start: usize) -> usize
 }
 
 // Whether a line is a command: it begins with a digit or a space, as no other line does.
-fn is_command(line: &[u8]) -> bool {
-    match line.first() {
-        Some(byte) => *byte == b' ' || byte.is_ascii_hexdigit(),
-        None => false,
+fn is_command(line: &[u8]) -> bool
+    ensures { result ≡ is_command line.now }
+{
+    match line {
+        [first, ..] => *first == b' ' || first.is_ascii_hexdigit(),
+        [] => false,
     }
 }
 
@@ -95,4 +120,14 @@ fn is_select(line: &[u8]) -> bool {
         matched += 1;
     }
     false
+}
+
+fn push_line<'a>(found: &mut Vec<ScriptLine<'a>>, line: ScriptLine<'a>) -> Result<(), AllocError>
+    ensures { OnOk result (map line_of found.new.items
+        ≡ map line_of found.old.items ++ line_of line.entry ∷ []) }
+{
+    match found.push(line) {
+        Ok(()) => Ok(()),
+        Err(_) => Err(AllocError),
+    }
 }

@@ -1,12 +1,12 @@
 //! A command that is cut after each number of its writes, beside what was before it and what it leaves.
-ghost use Rattle.std.specs.Prelude.{◌≡◌, ◌<◌, ◌++◌, length, IfOk};
+ghost use Rattle.std.specs.Prelude.{◌≡◌, ◌<◌, ◌++◌, length, vec_len, IfOk};
 ghost use Rattle.jcard_tear.specs.declared.tearing.TearFault.TheVariants.{NoMemory};
 ghost use Rattle.jcard_tear.specs.Sweeps.{IsBegun, IsDone, IsLastLine, IsSwept};
 ghost use Rattle.jcard_tear.specs.Runs.{IsLeft};
 ghost use Rattle.jcard_tear.specs.Faults.{told_run_fault};
 
 use crate::cuts::{Command, cut_all};
-use crate::runs::{Ran, RunFault, left, run};
+use crate::runs::{RunFault, left, run_copy};
 use jcard_outcomes::report::Sweep;
 use jcard_outcomes::standing::Left;
 use jcard_script::script::ScriptFault;
@@ -55,12 +55,12 @@ fn done(alloc: Global, words: &[u16], command: Command) -> Result<(Vec<u8>, Left
 {
     let mut script = Vec::from_slice(alloc, command.before)?;
     script.extend_from_slice(command.line)?;
-    let ran = run(alloc, words, &script)?;
+    let ran = run_copy(alloc, words, &script)?;
     if ran.is_down {
         return Err(TearFault::Down);
     }
     let answer = Vec::from_slice(alloc, last_line(&ran.text))?;
-    let left = left_by_probe(alloc, &ran.words, command.probe)?;
+    let left = left_by_probe(alloc, ran.words, command.probe)?;
     Ok((answer, left))
 }
 
@@ -69,14 +69,14 @@ fn begun(alloc: Global, words: &[u16], command: Command) -> Result<Left, TearFau
     requires { length words.now < 65536 }
     ensures { IfOk result (λ left. IsBegun words.now command.entry left) }
 {
-    let ran = run(alloc, words, command.before)?;
-    left_by_probe(alloc, &ran.words, command.probe)
+    let ran = run_copy(alloc, words, command.before)?;
+    left_by_probe(alloc, ran.words, command.probe)
 }
 
 // What a reset finds and the probe is answered; what is wrong then is wrong with the probe.
-fn left_by_probe(alloc: Global, words: &[u16], probe: &[u8]) -> Result<Left, TearFault>
-    requires { length words.now < 65536 }
-    ensures { IfOk result (λ left. IsLeft words.now probe.now left) }
+fn left_by_probe(alloc: Global, words: Vec<u16>, probe: &[u8]) -> Result<Left, TearFault>
+    requires { vec_len words < 65536 }
+    ensures { IfOk result (λ left. IsLeft words.items probe.now left) }
 {
     match left(alloc, words, probe) {
         Ok(left) => Ok(left),

@@ -16,7 +16,7 @@ use Rattle.jc_platform.specs.Tokens.{Tokens}
 use Rattle.jc_registry.specs.Registry.{applet_count, applet_with_aid, first_with_aid}
 use Rattle.jc_card_load.specs.declared.load.OpenLoad.{OpenLoad}
 use Rattle.jc_card_load.specs.declared.load_refusal.LoadRefusal.TheVariants.{OutOfSequence}
-use Rattle.jc_card_load.specs.Loading.{CommandResult, component_append, no_memory}
+use Rattle.jc_card_load.specs.Loading.{CommandResult, component_append}
 use Rattle.jc_dispatch.specs.declared.applet_result.AppletResult.TheVariants.{NotSelected}
 use Rattle.jc_dispatch.specs.Creating.{applet_creation}
 use Rattle.jc_dispatch.specs.AdHocCode.{ad_hoc_run}
@@ -25,7 +25,7 @@ use Rattle.jc_card.specs.Apdu.{Apdu}
 use Rattle.jc_card.specs.CardState.{CardState}
 use Rattle.jc_card.specs.Dispatching.{with_response, create_applet, dispatch, expected_by, is_select, manager_aid, most_instructions, route, to_named}
 use Rattle.jc_card.specs.Dispatching.{to_selected}
-use Rattle.jc_card.specs.Loads.{LoadResponse, append_component, load_command, on_load}
+use Rattle.jc_card.specs.Loads.{LoadResponse, append_component, component_append_without_memory, load_command, on_load}
 use Rattle.law_images.specs.Loaded.{AreBytes}
 use Rattle.law_images.specs.ReadingLoads.{IsOpenReadable}
 use Rattle.law_images.proofs.OpenLoads.{are_readable}
@@ -122,7 +122,7 @@ module _ (commands : CommandsAreSound) (t : Tokens) (card : CardState) (own : Is
   grows_good [] are = good_gives p _ _ card.memory (record { ready = own.ready; packages = refl; load = own.load })
   grows_good (b ∷ more) are =
       let one = on_load_good (component_append (b ∷ more)) (λ load r. are_readable.grows (b ∷ more) load are r) card.load own.load in
-      let other = loads_good (Err no_memory) card.load own.load in
+      let other = on_load_good (component_append_without_memory (b ∷ more)) (λ load r. r) card.load own.load in
       record { due = (one.due, other.due); each = (one.each, other.each) }
 
   -- a command begins

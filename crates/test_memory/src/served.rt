@@ -2,10 +2,10 @@
 use jc_platform::example::EXAMPLE;
 use jc_session::card::formatting::format;
 use jc_words::{MemStore, WordStore};
+use jcard_rows::line::{Line, read_line};
 use std::alloc::{AllocError, Global};
 use std::process::Abort;
 use std::test::Fail;
-use test_row_files::line::{Line, read_line};
 use test_rows::difference::first_difference;
 use test_rows::sessions::run_session;
 

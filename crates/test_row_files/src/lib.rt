@@ -2,6 +2,5 @@
 #![tactic(auto)]
 
 pub mod file;
-pub mod line;
 pub mod report;
 pub mod subject;

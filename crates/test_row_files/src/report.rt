@@ -2,9 +2,10 @@
 ghost use Rattle.std.specs.Prelude.{◌≡◌, ◌<◌, IfOk};
 ghost use Rattle.std.specs.String.{string_bytes};
 
-use crate::file::{Numbered, read_lines};
-use crate::line::{Line, read_line};
+use crate::file::read_lines;
 use crate::subject::{FileSubject, Subject, WithoutFiles};
+use jcard_rows::line::{Line, read_line};
+use jcard_rows::lines::Numbered;
 use std::alloc::{AllocError, Global};
 use std::fs::File;
 use std::rt::Files;

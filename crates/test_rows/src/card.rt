@@ -1,19 +1,22 @@
 //! A card with rows that are run.
+use crate::cuts::Cuts;
 use crate::image::Image;
 use crate::order::{Order, read_order};
 use crate::piece::Piece;
 use crate::words::no_store;
+use jcard_rows::line::{Line, read_line};
+use jcard_rows::lines::Numbered;
 use std::alloc::{AllocError, Global};
 use std::mem;
-use test_row_files::file::Numbered;
-use test_row_files::line::{Line, read_line};
 use test_row_files::report::Wrong;
 
-/// An image, the lines of a script for its card that are not run yet, and how many rows were.
+/// An image, the lines of a script for its card that are not run yet, the last ones that were cut, and how many rows were
+/// run.
 #[derive(Drop)]
 pub(crate) struct Card {
     image: Image,
     piece: Piece,
+    cuts: Cuts,
     rows: usize,
 }
 
@@ -23,6 +26,7 @@ impl Card {
         Ok(Card {
             image: Image::formatted(alloc, words)?,
             piece: Piece::new(alloc),
+            cuts: Cuts::new(alloc),
             rows: 0,
         })
     }
@@ -52,6 +56,13 @@ impl Card {
             self.piece.tell_session(command)?;
             return Ok(None);
         }
+        if let Order::Moves(moves) = order {
+            self.piece.add_moves(moves)?;
+            return Ok(None);
+        }
+        if let Order::Cut(_) = order {
+            self.cuts = self.piece.cuts(alloc, &self.image.store)?;
+        }
         if let Some(wrong) = self.run_piece(alloc)? {
             return Ok(Some(wrong));
         }
@@ -78,8 +89,10 @@ impl Card {
             Order::Card(words) => self.image = Image::formatted(alloc, words)?,
             Order::Zeros(words) => self.image = Image::zeros(alloc, words)?,
             Order::Random(seed, count) => self.piece.add_random(alloc, number, seed, count)?,
+            Order::Cut(depth) => return Ok(Some(self.cuts.cut(alloc, depth)?)),
+            Order::Recoveries => return Ok(Some(self.cuts.told_recoveries(alloc)?)),
             Order::Image(order) => return Ok(Some(self.image.answer(alloc, order)?)),
-            Order::Session(_) | Order::Script => {}
+            Order::Session(_) | Order::Moves(_) | Order::Script => {}
         }
         Ok(None)
     }

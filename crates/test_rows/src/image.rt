@@ -5,6 +5,7 @@ use jc_platform::example::EXAMPLE;
 use jc_session::card::card::Card;
 use jc_session::card::formatting::{FormatFault, format};
 use jc_session::card::power_up::PowerFault;
+use jc_session::session::{SessionFault, session};
 use jc_words::layout::TOP;
 use jc_words::{FuseStore, MemStore, WordStore};
 use std::alloc::{AllocError, Global};
@@ -78,16 +79,21 @@ impl Image {
         }
     }
 
-    /// Powers the card up: `ready`, `down` or a fault.
+    /// Powers the card up: `ready`, `down`, or a fault, which a session has to find too.
     fn power_up(&mut self, alloc: Global, writes: u64) -> Result<String, AllocError> {
+        let words = words_of(alloc, &self.store)?;
         match Card::power_up(alloc, self.take_store(alloc, writes)) {
             Ok(card) => {
                 self.store = card.into_store();
                 String::from_str(alloc, "ready")
             }
+            Err((PowerFault::StoreDown, store)) => {
+                self.store = store;
+                String::from_str(alloc, "down")
+            }
             Err((fault, store)) => {
                 self.store = store;
-                told_fault(alloc, fault)
+                told_fault(alloc, fault, words.as_slice())
             }
         }
     }
@@ -167,11 +173,12 @@ impl Image {
     }
 }
 
-/// Why a card does not power up: `down` where the power was cut.
-fn told_fault(alloc: Global, fault: PowerFault) -> Result<String, AllocError> {
-    match fault {
-        PowerFault::StoreDown => String::from_str(alloc, "down"),
-        fault => format!(in alloc; "{fault:?}"),
+/// Why a card does not power up over these words, and whether a session over them ends otherwise.
+fn told_fault(alloc: Global, fault: PowerFault, words: &[u16]) -> Result<String, AllocError> {
+    let (_, ended) = session(alloc, store_of(alloc, words)?, &[]);
+    match ended {
+        Err(SessionFault::PowerFault(found)) if found == fault => format!(in alloc; "{fault:?}"),
+        _ => format!(in alloc; "{fault:?}, but not in a session"),
     }
 }
 

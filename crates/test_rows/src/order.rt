@@ -11,6 +11,12 @@ pub(crate) enum Order<'a> {
     Random(u32, u16),
     /// A session is told this in place of the next line.
     Session(&'a str),
+    /// The moves that the next line makes, or some of them.
+    Moves(&'a str),
+    /// The lines before it are cut after each of their writes, and so many recoveries after each of theirs.
+    Cut(u16),
+    /// How many writes a recovery was after each of those cuts.
+    Recoveries,
     /// Something of the card's image, while its power is off.
     Image(ImageOrder<'a>),
     /// What a line of a script asks for.
@@ -46,6 +52,9 @@ pub(crate) fn read_order(text: &str) -> Order<'_> {
     if let Some(order) = read_card_order(name, words) {
         return order;
     }
+    if let Some(order) = read_cut_order(name, words) {
+        return order;
+    }
     match read_image_order(name, words) {
         Some(order) => Order::Image(order),
         None => Order::Script,
@@ -68,6 +77,16 @@ fn read_card_order<'a>(name: &str, words: &'a str) -> Option<Order<'a>> {
         return Some(Order::Session(words));
     }
     None
+}
+
+/// An order about cuts of the lines before it.
+fn read_cut_order<'a>(name: &str, words: &'a str) -> Option<Order<'a>> {
+    match name {
+        "moves" => Some(Order::Moves(words)),
+        "cut" => Some(Order::Cut(words.parse::<u16>().ok()?)),
+        "recoveries" => Some(Order::Recoveries),
+        _ => None,
+    }
 }
 
 /// An order for an image.

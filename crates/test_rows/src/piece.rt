@@ -1,4 +1,5 @@
 //! Pieces of scripts, and what cards answer to them.
+use crate::cuts::Cuts;
 use crate::difference::first_difference;
 use crate::random::random_lines;
 use crate::sessions::run_session;
@@ -20,6 +21,7 @@ pub(crate) struct Piece {
     is_session_told: bool,
     wanted: String,
     numbers: Vec<usize>,
+    moves: String,
 }
 
 impl Piece {
@@ -31,6 +33,7 @@ impl Piece {
             is_session_told: false,
             wanted: String::new(alloc),
             numbers: Vec::new(alloc),
+            moves: String::new(alloc),
         }
     }
 
@@ -65,6 +68,18 @@ impl Piece {
         self.session.push('\n')?;
         self.is_session_told = true;
         Ok(())
+    }
+
+    /// Adds moves that the next line makes.
+    pub(crate) fn add_moves(&mut self, moves: &str) -> Result<(), AllocError> {
+        self.moves.push_str(moves)?;
+        self.moves.push(',')?;
+        Ok(())
+    }
+
+    /// The lines as commands that are to be cut on the card of an image.
+    pub(crate) fn cuts(&self, alloc: Global, image: &Store) -> Result<Cuts, AllocError> {
+        Cuts::of(alloc, image, self.script.as_str(), self.moves.as_str())
     }
 
     /// Adds so many random commands of the line with this number, for which no answer is wanted but that a script and a

@@ -2,10 +2,10 @@
 ghost use Rattle.std.specs.Prelude.{◌<◌, IfOk};
 
 use crate::card::Card;
+use jcard_rows::lines::Numbered;
 use std::alloc::Global;
 use std::io;
 use std::rt::Files;
-use test_row_files::file::Numbered;
 use test_row_files::report::{Outcome, run_files_by};
 
 /// Runs the rows of these files on cards in memory, and prints of each file how many rows it has, where all are answered

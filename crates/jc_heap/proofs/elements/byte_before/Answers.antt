@@ -1,10 +1,5 @@
-use Rattle.std.proofs.Common.{◌≡◌, ◌<◌, ◌/◌, true, false, length, subst, sym, ap, ◌∙◌, arith}
-use Rattle.std.specs.Prelude.{slice_index}
-use Rattle.jc_heap.specs.Object.{is_packed}
-use Rattle.jc_heap.specs.Packed.{byte_in}
-use Rattle.jc_heap.specs.Places.{HasPlace}
-use Rattle.jc_heap.specs.Heap.{heap_of, facts, cells}
-use Rattle.jc_heap.proofs.Views.{readable, packed_spot, packed_read, single_spot, single_read}
+use Rattle.std.proofs.Common.{length, arith}
+use Rattle.jc_heap.proofs.Views.{readable, packed_spot}
 use Rattle.jc_heap.proofs.elements.byte_before.Goals as goal
 
 pub word_at-requires : goal.word_at-requires

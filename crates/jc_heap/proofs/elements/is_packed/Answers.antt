@@ -1,7 +1,7 @@
-use Rattle.std.proofs.Common.{◌≡◌, length, sym, ap, ◌∙◌, arith}
+use Rattle.std.proofs.Common.{length, sym, ap, ◌∙◌, arith}
 use Rattle.std.specs.Prelude.{slice_index}
-use Rattle.jc_heap.specs.Heap.{IsObject, heap_of, facts}
-use Rattle.jc_heap.specs.Object.{is_packed, is_packed_header}
+use Rattle.jc_heap.specs.Heap.{heap_of}
+use Rattle.jc_heap.specs.Object.{is_packed_header}
 use Rattle.jc_heap.proofs.Views.{readable}
 use Rattle.jc_heap.proofs.Images.{has_cells}
 use Rattle.jc_heap.proofs.Reading.{Spot, spot_at, packed_said}

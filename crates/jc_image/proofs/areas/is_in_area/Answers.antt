@@ -1,13 +1,9 @@
 use Rattle.std.proofs.Common.{◌/◌, ◌==◌, ◌∙◌, sym}
-use Rattle.jc_image.proofs.Filling.{package_lies, object_lies}
+use Rattle.jc_image.proofs.Filling.{object_lies}
 use Rattle.jc_image.proofs.areas.is_in_area.Goals as goal
-
-pub returns-then-begins_package : goal.returns-then-begins_package
-returns-then-begins_package g c = sym (package_lies c.args.journal.now.plain c.args.at c.args.event c.requires.laid c.requires.begins c.requires.inside
-    (sym c.begins_package.ensures ∙ c.if-begins_package.true))
 
 pub returns : goal.returns
 returns g c =
     (λ i. (c.read.ensures i) / 256 == c.number_of.ensures i)
     ∙ sym (object_lies c.args.journal.now.plain c.args.at c.args.event c.requires.laid c.requires.begins c.requires.inside c.requires.small
-    (sym c.begins_package.ensures ∙ c.if-begins_package.false))
+    c.requires.object)

@@ -12,31 +12,33 @@ returns-then-not-counts_fit g c = (
       (sym c.if-not-counts_fit.true ∙ c.counts_fit.ensures.1 (w.few_packages, w.few_applets))),
 )
 
-pub returns-then-not-table_agrees : goal.returns-then-not-table_agrees
-returns-then-not-table_agrees g c = (
+pub returns-then-not-mark_records : goal.returns-then-not-mark_records
+returns-then-not-mark_records g c = (
   (λ t. absurd (false≢true t)),
-  λ w. absurd (false≢true
-      (sym c.if-not-table_agrees.true ∙ c.table_agrees.ensures.1 (w.met, w.records, w.distinct))),
+  λ w. absurd (c.mark_records.ensures.broken c.if-not-mark_records.true w.areas w.references),
 )
 
-pub returns-then-all_hold : goal.returns-then-all_hold
-returns-then-all_hold g c =
+pub returns-then-table_agrees : goal.returns-then-table_agrees
+returns-then-table_agrees g c =
     let few : ((heap_of c.args.journal.now.plain).counts.0 ≤ most_packages) × ((heap_of c.args.journal.now.plain).counts.1 ≤ most_applets) =
     c.counts_fit.ensures.0 c.if-not-counts_fit.false in
     let table : AreAllocated (heap_of c.args.journal.now.plain) ((heap_of c.args.journal.now.plain).packages)
     × AreRecords (heap_of c.args.journal.now.plain) ((heap_of c.args.journal.now.plain).packages)
-    × AreDistinct ((heap_of c.args.journal.now.plain).packages) = c.table_agrees.ensures.0 c.if-not-table_agrees.false in (
+    × AreDistinct ((heap_of c.args.journal.now.plain).packages) = c.table_agrees.ensures.0 c.if-table_agrees.true in (
       (λ t. record {
         few_packages = few.0;
         few_applets = few.1;
         met = table.0;
         records = table.1;
         distinct = table.2;
-        references = c.all_hold.ensures.0 c.if-all_hold.true;
-        areas = c.areas_are_filled.ensures.0 t;
+        references = (c.mark_records.ensures.held c.if-not-mark_records.false).0 (c.are_references.ensures.0 t);
+        areas = c.mark_records.ensures.filled c.if-not-mark_records.false;
       }),
-      λ w. c.areas_are_filled.ensures.1 w.areas,
+      λ w. c.are_references.ensures.1 ((c.mark_records.ensures.held c.if-not-mark_records.false).1 w.references),
     )
 
-pub returns-else-all_hold : goal.returns-else-all_hold
-returns-else-all_hold g c = ((λ t. absurd (false≢true (sym c.if-all_hold.false ∙ t))), λ w. c.all_hold.ensures.1 w.references)
+pub returns-else-table_agrees : goal.returns-else-table_agrees
+returns-else-table_agrees g c = (
+  (λ t. absurd (false≢true (sym c.if-table_agrees.false ∙ t))),
+  λ w. c.table_agrees.ensures.1 (w.met, w.records, w.distinct),
+)

@@ -1,6 +1,6 @@
-use Rattle.std.proofs.Common.{◌≡◌, ◌+◌, ◌++◌, ◌∷◌, [], length, length-append, refl, sym, subst, arith}
+use Rattle.std.proofs.Common.{◌≡◌, ◌+◌, ◌∷◌, [], length, length-append, refl, sym, subst, arith}
 use Rattle.jcard_outcomes.specs.declared.standing.Cut.{Cut}
-use Rattle.jcard_tear.specs.Sweeps.{AreCuts, IsCutAt, IsUncutAt}
+use Rattle.jcard_tear.specs.Sweeps.{IsCutAt, IsUncutAt}
 use Rattle.jcard_tear.proofs.CutLists.{cuts_more, cuts_none}
 use Rattle.jcard_tear.proofs.cuts.cut_all.Goals as goal
 

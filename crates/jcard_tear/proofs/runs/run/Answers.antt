@@ -1,4 +1,4 @@
-use Rattle.std.proofs.Common.{rules, ◌≡◌, ◌∙◌, ap, sym, subst, Err, List, ℕ}
+use Rattle.std.proofs.Common.{rules, ◌≡◌, ◌∙◌, ap, sym, subst, Err}
 use Rattle.jc_words.specs.Stores.{FuseStoreValue}
 use Rattle.jcard_script.specs.Script.{Ends}
 use Rattle.jcard_tear.specs.Runs.{store_of}
@@ -10,7 +10,7 @@ returns c =
     let d = c.run_script-store.ensures.script in
     let after = c.run_script-store.result.0 in
     let is : c.run_script-store.result.1 ≡ Err c.in-Err.fault = search rules in
-    let fresh : c.new-store.result ≡ store_of c.args.words.now = c.new-store.ensures ∙ ap under_fuse c.of.ensures ∙ ap store_of c.in_ok-from_slice.ensures.items in
+    let fresh : c.new-store.result ≡ store_of c.args.words.items = c.new-store.ensures ∙ ap under_fuse c.of.ensures in
     let ends = subst (λ e. Ends e c.new-store.result after d.2 d.0 d.1) is d.6 in
     let over = subst (λ (s : FuseStoreValue). Ends (Err c.in-Err.fault) s after d.2 d.0 d.1) fresh ends in
     let read = sym c.in_ok-reader.ensures.input ∙ d.3 in

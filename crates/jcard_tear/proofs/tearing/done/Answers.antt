@@ -1,4 +1,4 @@
-use Rattle.std.proofs.Common.{◌≡◌, ◌∙◌, ◌++◌, ap, sym, subst}
+use Rattle.std.proofs.Common.{◌∙◌, ◌++◌, ap, sym, subst}
 use Rattle.jcard_tear.specs.Runs.{IsLeft, Runs}
 use Rattle.jcard_tear.specs.Sweeps.{IsLastLine}
 use Rattle.jcard_tear.proofs.tearing.done.Goals as goal
@@ -10,5 +10,5 @@ returns c =
     let runs = subst (λ s. Runs c.args.words.now s c.in_ok-ran.ran.text.items ran.0) script ran.1 in
     let last = subst (λ l. IsLastLine c.deref-2.result.now l) (sym c.in_ok-answer.ensures.items) c.last_line.ensures in
     let answer = subst (λ t. IsLastLine t c.in_ok-answer.answer.items) c.deref-2.ensures.value last in
-    let left = subst (λ w. IsLeft w c.args.command.probe.now c.in_ok-left.left) (c.deref-3.ensures.value ∙ ran.2) c.in_ok-left.ensures in
+    let left = subst (λ w. IsLeft w c.args.command.probe.now c.in_ok-left.left) ran.2 c.in_ok-left.ensures in
     (c.in_ok-ran.ran.text.items, ran.0, runs, sym ran.3 ∙ c.if-ran.false, answer, left)

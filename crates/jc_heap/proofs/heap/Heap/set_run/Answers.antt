@@ -1,65 +1,122 @@
-use Rattle.std.proofs.Common.{length, subst, sym, ap, refl, inl, inr, Err}
-use Rattle.jc_commit.specs.Entries.{addresses_of}
-use Rattle.jc_commit.specs.Keeping.{has_room_for as journal_room}
-use Rattle.jc_commit.specs.State.{keeping as journal_keeping}
-use Rattle.jc_heap.specs.Heap.{IsSound, set_cells}
-use Rattle.jc_heap.specs.Places.{words_at, cells_from}
+use Rattle.std.proofs.Common.{◌∙◌, refl}
 use Rattle.jc_heap.specs.Elements.{elements_of}
 use Rattle.jc_heap.specs.Moves.{SetCells}
-use Rattle.jc_heap.proofs.Calls.{ok_not_err, change_refused}
-use Rattle.jc_heap.proofs.Changing.{up_is, refusal_cases, journal_stopped_sound}
-use Rattle.jc_heap.proofs.Written.{IsWritten, written_sound, written_done, written_room}
-use Rattle.jc_heap.proofs.RunsSet.{view_run_written}
+use Rattle.jc_heap.proofs.Calls.{ok_not_err}
+use Rattle.jc_heap.proofs.Changing.{up_is}
+use Rattle.jc_heap.proofs.Written.{written_sound, written_done, written_refused, refused_sound}
+use Rattle.jc_heap.proofs.RunsSet.{run_is_written}
 use Rattle.jc_heap.proofs.heap.Heap.set_run.Goals as goal
 
 pub write_all-requires-clause-places : goal.write_all-requires-clause-places
 write_all-requires-clause-places g c =
-    let laid = c.self.invariant.now (up_is c.self.inside.journal c.args.self.now c.self.inside.size c.self.view_is c.requires.up) in
-    let w : IsWritten c.self.inside.journal.plain c.run_for-run.result (set_cells c.args.self.now.now c.args.object c.args.i (elements_of c.args.values)) (words_at c.args.self.now.now (cells_from c.args.object c.args.i (length (elements_of c.args.values)))) =
-    subst (λ cs. IsWritten c.self.inside.journal.plain cs (set_cells c.args.self.now.now c.args.object c.args.i (elements_of c.args.values)) (words_at c.args.self.now.now (cells_from c.args.object c.args.i (length (elements_of c.args.values))))) (sym c.run_for-run.ensures) (view_run_written c.self.inside.journal c.args.self.now c.self.inside.size c.args.object c.args.i (elements_of c.args.values) c.self.view_is
-    c.requires.cells c.requires.values laid) in
+    let j = c.self.inside.journal in
+    let v = c.args.self.now in
+    let n = c.self.inside.size in
+    let w = run_is_written j v n c.args.object c.args.i (elements_of c.args.values) c.in-Ok.run'
+    c.self.view_is c.self.invariant c.requires.up c.requires.cells c.requires.values (c.in-Ok.ensures.packed ∙ c.run_for.ensures) in
     w.each
 
 pub write_all-requires-clause-distinct : goal.write_all-requires-clause-distinct
 write_all-requires-clause-distinct g c =
-    let laid = c.self.invariant.now (up_is c.self.inside.journal c.args.self.now c.self.inside.size c.self.view_is c.requires.up) in
-    let w : IsWritten c.self.inside.journal.plain c.run_for-run.result (set_cells c.args.self.now.now c.args.object c.args.i (elements_of c.args.values)) (words_at c.args.self.now.now (cells_from c.args.object c.args.i (length (elements_of c.args.values)))) =
-    subst (λ cs. IsWritten c.self.inside.journal.plain cs (set_cells c.args.self.now.now c.args.object c.args.i (elements_of c.args.values)) (words_at c.args.self.now.now (cells_from c.args.object c.args.i (length (elements_of c.args.values))))) (sym c.run_for-run.ensures) (view_run_written c.self.inside.journal c.args.self.now c.self.inside.size c.args.object c.args.i (elements_of c.args.values) c.self.view_is
-    c.requires.cells c.requires.values laid) in
+    let j = c.self.inside.journal in
+    let v = c.args.self.now in
+    let n = c.self.inside.size in
+    let w = run_is_written j v n c.args.object c.args.i (elements_of c.args.values) c.in-Ok.run'
+    c.self.view_is c.self.invariant c.requires.up c.requires.cells c.requires.values (c.in-Ok.ensures.packed ∙ c.run_for.ensures) in
     w.distinct
 
 pub invariant_of-self : goal.invariant_of-self
-invariant_of-self g c = elim (refusal_cases c.in_err-write_all.field-0.0) [
-  | inl e ↦ journal_stopped_sound c.self.inside.journal c.write_all.new.self c.self.inside.size (c.in_err-write_all.ensures.stopped (ap Err e)) c.self.invariant
-  | inr e ↦ subst (λ j. IsSound j c.self.inside.size) (sym (c.in_err-write_all.ensures.kept (ap Err e))) c.self.invariant
-]
+invariant_of-self g c =
+    let j = c.self.inside.journal in
+    let v = c.args.self.now in
+    let n = c.self.inside.size in
+    let w = run_is_written j v n c.args.object c.args.i (elements_of c.args.values) c.in-Ok.run'
+    c.self.view_is c.self.invariant c.requires.up c.requires.cells c.requires.values (c.in-Ok.ensures.packed ∙ c.run_for.ensures) in
+    written_sound j v n c.in-Ok.run' _ _ c.self.view_is w c.write_all.new.self (up_is j v n c.self.view_is c.requires.up) c.self.invariant
+    c.in_ok-write_all-in-Ok.ensures.ok
 
-pub invariant_of-self-2 : goal.invariant_of-self-2
-invariant_of-self-2 g c =
-    let laid = c.self.invariant.now (up_is c.self.inside.journal c.args.self.now c.self.inside.size c.self.view_is c.requires.up) in
-    let w : IsWritten c.self.inside.journal.plain c.run_for-run.result (set_cells c.args.self.now.now c.args.object c.args.i (elements_of c.args.values)) (words_at c.args.self.now.now (cells_from c.args.object c.args.i (length (elements_of c.args.values)))) =
-    subst (λ cs. IsWritten c.self.inside.journal.plain cs (set_cells c.args.self.now.now c.args.object c.args.i (elements_of c.args.values)) (words_at c.args.self.now.now (cells_from c.args.object c.args.i (length (elements_of c.args.values))))) (sym c.run_for-run.ensures) (view_run_written c.self.inside.journal c.args.self.now c.self.inside.size c.args.object c.args.i (elements_of c.args.values) c.self.view_is
-    c.requires.cells c.requires.values laid) in
-    written_sound c.self.inside.journal c.args.self.now c.self.inside.size c.run_for-run.result (set_cells c.args.self.now.now c.args.object c.args.i (elements_of c.args.values)) (words_at c.args.self.now.now (cells_from c.args.object c.args.i (length (elements_of c.args.values)))) c.self.view_is w c.write_all.new.self
-    (up_is c.self.inside.journal c.args.self.now c.self.inside.size c.self.view_is c.requires.up) c.self.invariant c.in_ok-write_all.ensures.ok
+pub invariant_of-self-in_err-write_all-in-Ok : goal.invariant_of-self-in_err-write_all-in-Ok
+invariant_of-self-in_err-write_all-in-Ok g c =
+    let j = c.self.inside.journal in
+    let n = c.self.inside.size in
+    refused_sound j c.write_all.new.self n c.in_err-write_all-in-Ok.field-0.0 c.self.invariant c.in_err-write_all-in-Ok.ensures.kept
+    c.in_err-write_all-in-Ok.ensures.stopped
 
-pub returns : goal.returns
-returns g c =
-    let laid = c.self.invariant.now (up_is c.self.inside.journal c.args.self.now c.self.inside.size c.self.view_is c.requires.up) in
-    let w : IsWritten c.self.inside.journal.plain c.run_for-run.result (set_cells c.args.self.now.now c.args.object c.args.i (elements_of c.args.values)) (words_at c.args.self.now.now (cells_from c.args.object c.args.i (length (elements_of c.args.values)))) =
-    subst (λ cs. IsWritten c.self.inside.journal.plain cs (set_cells c.args.self.now.now c.args.object c.args.i (elements_of c.args.values)) (words_at c.args.self.now.now (cells_from c.args.object c.args.i (length (elements_of c.args.values))))) (sym c.run_for-run.ensures) (view_run_written c.self.inside.journal c.args.self.now c.self.inside.size c.args.object c.args.i (elements_of c.args.values) c.self.view_is
-    c.requires.cells c.requires.values laid) in
-    written_done c.self.inside.journal c.args.self.now c.self.inside.size c.run_for-run.result (set_cells c.args.self.now.now c.args.object c.args.i (elements_of c.args.values)) (words_at c.args.self.now.now (cells_from c.args.object c.args.i (length (elements_of c.args.values)))) c.self.view_is w c.write_all.new.self (SetCells c.args.object c.args.i (elements_of c.args.values))
-    c.self.invariant.back (λ none. ok_not_err _ _ (c.in_ok-write_all.ensures.full.1 none)) c.in_ok-write_all.ensures.ok refl
+pub returns-in_ok-write_all-in-Ok : goal.returns-in_ok-write_all-in-Ok
+returns-in_ok-write_all-in-Ok g c =
+    let j = c.self.inside.journal in
+    let v = c.args.self.now in
+    let n = c.self.inside.size in
+    let w = run_is_written j v n c.args.object c.args.i (elements_of c.args.values) c.in-Ok.run'
+    c.self.view_is c.self.invariant c.requires.up c.requires.cells c.requires.values (c.in-Ok.ensures.packed ∙ c.run_for.ensures) in
+    written_done j v n c.in-Ok.run' _ _ c.self.view_is w c.write_all.new.self (SetCells c.args.object c.args.i (elements_of c.args.values))
+    c.self.invariant.back (λ none. ok_not_err _ _ (c.in_ok-write_all-in-Ok.ensures.full.1 none)) c.in_ok-write_all-in-Ok.ensures.ok refl
 
-pub returns-in_err-write_all : goal.returns-in_err-write_all
-returns-in_err-write_all g c =
-    let laid = c.self.invariant.now (up_is c.self.inside.journal c.args.self.now c.self.inside.size c.self.view_is c.requires.up) in
-    let w : IsWritten c.self.inside.journal.plain c.run_for-run.result (set_cells c.args.self.now.now c.args.object c.args.i (elements_of c.args.values)) (words_at c.args.self.now.now (cells_from c.args.object c.args.i (length (elements_of c.args.values)))) =
-    subst (λ cs. IsWritten c.self.inside.journal.plain cs (set_cells c.args.self.now.now c.args.object c.args.i (elements_of c.args.values)) (words_at c.args.self.now.now (cells_from c.args.object c.args.i (length (elements_of c.args.values))))) (sym c.run_for-run.ensures) (view_run_written c.self.inside.journal c.args.self.now c.self.inside.size c.args.object c.args.i (elements_of c.args.values) c.self.view_is
-    c.requires.cells c.requires.values laid) in
-    let e = c.in_err-write_all.ensures in
-    change_refused c.from_residual.result (SetCells c.args.object c.args.i (elements_of c.args.values)) c.args.self.now c.self.inside.journal c.write_all.new.self c.self.inside.size (words_at c.args.self.now.now (cells_from c.args.object c.args.i (length (elements_of c.args.values))))
-    (journal_room (journal_keeping c.self.inside.journal) (addresses_of c.run_for-run.result)) c.in_err-write_all.field-0.0 c.from_residual.ensures.1 c.self.view_is
-    (written_room c.self.inside.journal c.args.self.now c.self.inside.size c.run_for-run.result (set_cells c.args.self.now.now c.args.object c.args.i (elements_of c.args.values)) (words_at c.args.self.now.now (cells_from c.args.object c.args.i (length (elements_of c.args.values)))) c.self.view_is w c.self.invariant.back)
-    e.full.0 e.full.1 e.kept e.stopped
+pub returns-in_err-write_all-in-Ok : goal.returns-in_err-write_all-in-Ok
+returns-in_err-write_all-in-Ok g c =
+    let j = c.self.inside.journal in
+    let v = c.args.self.now in
+    let n = c.self.inside.size in
+    let w = run_is_written j v n c.args.object c.args.i (elements_of c.args.values) c.in-Ok.run'
+    c.self.view_is c.self.invariant c.requires.up c.requires.cells c.requires.values (c.in-Ok.ensures.packed ∙ c.run_for.ensures) in
+    written_refused j v n c.in-Ok.run' _ _ c.self.view_is w c.from_residual.result (SetCells c.args.object c.args.i (elements_of c.args.values))
+    c.write_all.new.self
+    c.in_err-write_all-in-Ok.field-0.0 c.self.invariant.back c.from_residual.ensures.1 c.in_err-write_all-in-Ok.ensures.full
+    c.in_err-write_all-in-Ok.ensures.kept c.in_err-write_all-in-Ok.ensures.stopped
+
+pub write_all-requires-in-Err-clause-places : goal.write_all-requires-in-Err-clause-places
+write_all-requires-in-Err-clause-places g c =
+    let j = c.self.inside.journal in
+    let v = c.args.self.now in
+    let n = c.self.inside.size in
+    let w = run_is_written j v n c.args.object c.args.i (elements_of c.args.values) c.in-Err.run'
+    c.self.view_is c.self.invariant c.requires.up c.requires.cells c.requires.values (c.in-Err.ensures.as_it_is ∙ c.run_for.ensures) in
+    w.each
+
+pub write_all-requires-in-Err-clause-distinct : goal.write_all-requires-in-Err-clause-distinct
+write_all-requires-in-Err-clause-distinct g c =
+    let j = c.self.inside.journal in
+    let v = c.args.self.now in
+    let n = c.self.inside.size in
+    let w = run_is_written j v n c.args.object c.args.i (elements_of c.args.values) c.in-Err.run'
+    c.self.view_is c.self.invariant c.requires.up c.requires.cells c.requires.values (c.in-Err.ensures.as_it_is ∙ c.run_for.ensures) in
+    w.distinct
+
+pub invariant_of-self-in-Continue-branch-2 : goal.invariant_of-self-in-Continue-branch-2
+invariant_of-self-in-Continue-branch-2 g c =
+    let j = c.self.inside.journal in
+    let v = c.args.self.now in
+    let n = c.self.inside.size in
+    let w = run_is_written j v n c.args.object c.args.i (elements_of c.args.values) c.in-Err.run'
+    c.self.view_is c.self.invariant c.requires.up c.requires.cells c.requires.values (c.in-Err.ensures.as_it_is ∙ c.run_for.ensures) in
+    written_sound j v n c.in-Err.run' _ _ c.self.view_is w c.write_all-in-Err.new.self (up_is j v n c.self.view_is c.requires.up) c.self.invariant
+    c.in_ok-write_all-in-Err.ensures.ok
+
+pub invariant_of-self-in_err-write_all-in-Err : goal.invariant_of-self-in_err-write_all-in-Err
+invariant_of-self-in_err-write_all-in-Err g c =
+    let j = c.self.inside.journal in
+    let n = c.self.inside.size in
+    refused_sound j c.write_all-in-Err.new.self n c.in_err-write_all-in-Err.field-0.0 c.self.invariant c.in_err-write_all-in-Err.ensures.kept
+    c.in_err-write_all-in-Err.ensures.stopped
+
+pub returns-in_ok-write_all-in-Err : goal.returns-in_ok-write_all-in-Err
+returns-in_ok-write_all-in-Err g c =
+    let j = c.self.inside.journal in
+    let v = c.args.self.now in
+    let n = c.self.inside.size in
+    let w = run_is_written j v n c.args.object c.args.i (elements_of c.args.values) c.in-Err.run'
+    c.self.view_is c.self.invariant c.requires.up c.requires.cells c.requires.values (c.in-Err.ensures.as_it_is ∙ c.run_for.ensures) in
+    written_done j v n c.in-Err.run' _ _ c.self.view_is w c.write_all-in-Err.new.self (SetCells c.args.object c.args.i (elements_of c.args.values))
+    c.self.invariant.back (λ none. ok_not_err _ _ (c.in_ok-write_all-in-Err.ensures.full.1 none)) c.in_ok-write_all-in-Err.ensures.ok refl
+
+pub returns-in_err-write_all-in-Err : goal.returns-in_err-write_all-in-Err
+returns-in_err-write_all-in-Err g c =
+    let j = c.self.inside.journal in
+    let v = c.args.self.now in
+    let n = c.self.inside.size in
+    let w = run_is_written j v n c.args.object c.args.i (elements_of c.args.values) c.in-Err.run'
+    c.self.view_is c.self.invariant c.requires.up c.requires.cells c.requires.values (c.in-Err.ensures.as_it_is ∙ c.run_for.ensures) in
+    written_refused j v n c.in-Err.run' _ _ c.self.view_is w c.from_residual-in_err-write_all-in-Err.result (SetCells c.args.object c.args.i (elements_of
+    c.args.values)) c.write_all-in-Err.new.self
+    c.in_err-write_all-in-Err.field-0.0 c.self.invariant.back c.from_residual-in_err-write_all-in-Err.ensures.1 c.in_err-write_all-in-Err.ensures.full
+    c.in_err-write_all-in-Err.ensures.kept c.in_err-write_all-in-Err.ensures.stopped

@@ -1,0 +1,94 @@
+-- Words that cells name, and what stands there.
+use Rattle.std.proofs.Common.{◌≡◌, ℕ, ◌<◌, ◌≤◌, ◌↔◌, Bool, true, false, inl, inr, List, ◌∷◌, length, get_or, set, drop, sym, ◌∙◌, subst, arith}
+use Rattle.std.proofs.lemmas.Bool.{cases_eq, cases_lt, false≢true}
+use Rattle.std.proofs.lemmas.List.{get_or-set_same, get_or-set_other, length-take-le}
+use Rattle.jc_words.specs.Layout.{top_address}
+use Rattle.jc_heap.specs.Cut.{records_from}
+use Rattle.jc_heap.specs.Table.{has_entry}
+use Rattle.jc_heap.specs.Object.{Item}
+use Rattle.jc_heap.specs.Image.{image, base, package_addresses, is_package, sizes, item, IsWellFormed}
+use Rattle.jc_heap.specs.Heap.{HeapState, heap_of, read_image, is_allocated}
+use Rattle.jc_heap.specs.Whole.{IsReference, HoldsReferences}
+use Rattle.jc_heap.proofs.Following.{base_is}
+use Rattle.jc_heap.proofs.Laws.{is_allocated-heap_of, object_named}
+use Rattle.jc_heap.proofs.Reading.{object_at}
+use Rattle.jc_heap.proofs.Records.{has_behind}
+use Rattle.jc_heap.proofs.Tables.{has-map}
+use Rattle.jc_image.specs.Steps.{AreReferences}
+use Rattle.jc_image.proofs.Referring.{AllHold}
+
+pub none_named : (h : HeapState) (named : List Bool) → ((r : ℕ) → get_or named r false ≡ false) → AreReferences h named
+unfolding AreReferences
+none_named h named none r e = absurd (false≢true (sym (none r) ∙ e))
+
+pub named_reference : (h : HeapState) (named : List Bool) (r : ℕ) → AreReferences h named → get_or named r false ≡ true → IsReference h r
+unfolding AreReferences
+named_reference h named r all e = all r e
+
+-- one word more
+pub named_set : (h : HeapState) (named : List Bool) (word : ℕ) → word < length named
+    → (AreReferences h (set named word true) ↔ (AreReferences h named × IsReference h word))
+unfolding AreReferences
+named_set h named word within = (
+  (λ all. (
+    (λ r e. elim (cases_eq r word) [
+      | inl is ↦ subst (IsReference h) (sym is) (all word (get_or-set_same named word true false within))
+      | inr n ↦ all r (get_or-set_other named word r true false n ∙ e)
+    ]),
+    all word (get_or-set_same named word true false within),
+  )),
+  λ both. λ r e. elim (cases_eq r word) [
+    | inl is ↦ subst (IsReference h) (sym is) both.1
+    | inr n ↦ both.0 r (sym (get_or-set_other named word r true false n) ∙ e)
+  ],
+)
+
+-- one item further
+pub held_step : (h : HeapState) (here left : List (ℕ × Item)) (at : ℕ) (t : Item) (before after all : Type 0) → here ≡ (at, t) ∷ left
+    → (after ↔ (before × HoldsReferences h t)) → ((before × AllHold h here) ↔ all) → ((after × AllHold h left) ↔ all)
+held_step h here left at t before after all is step both = (
+  (λ x.
+      let one : before × HoldsReferences h t = step.0 x.0 in
+      both.0 (one.0, subst (AllHold h) (sym is) (one.1, x.1))),
+  λ a.
+      let two : before × AllHold h here = both.1 a in
+      let split : HoldsReferences h t × AllHold h left = subst (AllHold h) is two.1 in
+      (step.1 (two.0, split.0), split.1),
+)
+
+module _ (ws : List ℕ) (laid : IsWellFormed ws) where
+  pub allocated_low : (r : ℕ) → is_allocated (heap_of ws) r ≡ true → 0 < r
+  unfolding read_image is_allocated
+  allocated_low r e =
+      let there : has_entry (records_from (sizes (package_addresses (image ws))) 0 (base (image ws)) (drop (base (image ws)) (image ws))) r ≡ true =
+      sym (has-map (item (package_addresses (image ws)))
+      (records_from (sizes (package_addresses (image ws))) 0 (base (image ws)) (drop (base (image ws)) (image ws))) r) ∙ e in
+      omega (arith, base_is ws laid, has_behind (sizes (package_addresses (image ws))) 0 (base (image ws)) (drop (base (image ws)) (image ws)) r there)
+
+  pub no_reference_high : (r : ℕ) → get_or ws top_address 0 ≤ r → IsReference (heap_of ws) r → ⊥
+  no_reference_high r le ref =
+      let long : length (image ws) ≡ get_or ws top_address 0 = length-take-le (get_or ws top_address 0) ws laid.fits in
+      elim ref [
+        | inl z ↦ omega (arith, z, le, laid.based, base_is ws laid)
+        | inr o ↦ false≢true (sym (is_allocated-heap_of ws r (omega (arith, laid.based, long)) (omega (arith, long, le))) ∙ object_named (heap_of ws) r o)
+      ]
+
+  module _ (marks named : List Bool) (marked : (r : ℕ) → get_or marks r false ≡ is_allocated (heap_of ws) r) where
+    pub all_references : ((r : ℕ) → get_or ws top_address 0 ≤ r → get_or named r false ≡ false)
+        → ((r : ℕ) → get_or named r false ≡ true → is_package (package_addresses (image ws)) r ≡ false)
+        → ((r : ℕ) → 0 < r → r < get_or ws top_address 0 → get_or named r false ≡ true → get_or marks r false ≡ true)
+        → AreReferences (heap_of ws) named
+    unfolding AreReferences
+    all_references below other met r e = elim (cases_eq r 0) [
+      | inl z ↦ inl z
+      | inr n ↦ elim (cases_lt r (get_or ws top_address 0)) [
+        | inl lt ↦ inr (object_at ws r (sym (marked r) ∙ met r (omega (arith, n)) lt e) (other r e))
+        | inr le ↦ absurd (false≢true (sym (below r le) ∙ e))
+      ]
+    ]
+
+    pub named_met : AreReferences (heap_of ws) named → (r : ℕ) → 0 < r → get_or named r false ≡ true → get_or marks r false ≡ true
+    named_met all r pos e = elim (named_reference (heap_of ws) named r all e) [
+      | inl z ↦ absurd (omega (arith, z, pos))
+      | inr o ↦ marked r ∙ object_named (heap_of ws) r o
+    ]

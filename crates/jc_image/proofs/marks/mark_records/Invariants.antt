@@ -1,0 +1,32 @@
+-- What is marked, and what is left, are all the names. From the address on, the items fit from the places on just if all of them fit from 0 on,
+-- and they and what is named hold references just if all of them do.
+use Rattle.std.proofs.Common.{ℕ, ◌≡◌, ◌≤◌, ◌-◌, ◌↔◌, false, get_or, length}
+use Rattle.jc_words.specs.Layout.{top_address}
+use Rattle.jc_transient.specs.declared.cell.ClearEvent.TheVariants.{Reset, Deselect}
+use Rattle.jc_transient.specs.State.{area_size}
+use Rattle.jc_heap.specs.Heap.{heap_of, area_end}
+use Rattle.jc_heap.proofs.AreaRuns.{Run}
+use Rattle.jc_image.specs.Steps.{IsAt, items_from, AreReferences}
+use Rattle.jc_image.proofs.Marking.{Marks}
+use Rattle.jc_image.proofs.Referring.{AllHold}
+use Rattle.jc_image.proofs.marks.mark_records.Given as goal
+
+abbrev pub invariant-loop-at : goal.invariant-loop-at
+invariant-loop-at g l = record {
+  at : IsAt l.journal.plain l.at;
+  long : length l.marks ≡ 65536;
+  named_long : length l.named ≡ 65536;
+  marks : Marks l.marks (items_from l.journal.plain l.at) ((heap_of l.journal.plain).items);
+  below : (r : ℕ) → get_or l.journal.plain top_address 0 ≤ r → get_or l.named r false ≡ false;
+  reset_room : l.places.reset ≤ area_size;
+  deselect_room : l.places.deselect ≤ area_size;
+  reset : Run Reset l.places.reset (items_from l.journal.plain l.at) (area_end (heap_of l.journal.plain) Reset)
+      ↔ Run Reset 0 ((heap_of l.journal.plain).items) (area_end (heap_of l.journal.plain) Reset);
+  deselect : Run Deselect l.places.deselect (items_from l.journal.plain l.at) (area_end (heap_of l.journal.plain) Deselect)
+      ↔ Run Deselect 0 ((heap_of l.journal.plain).items) (area_end (heap_of l.journal.plain) Deselect);
+  held : (AreReferences (heap_of l.journal.plain) l.named × AllHold (heap_of l.journal.plain) (items_from l.journal.plain l.at))
+      ↔ AllHold (heap_of l.journal.plain) ((heap_of l.journal.plain).items);
+}
+
+abbrev pub decreases-loop-at : goal.decreases-loop-at
+decreases-loop-at g l = l.top - l.at

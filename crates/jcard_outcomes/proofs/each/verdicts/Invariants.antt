@@ -1,0 +1,6 @@
+use Rattle.std.proofs.Common.{◌≡◌, ◌++◌, drop}
+use Rattle.jcard_outcomes.specs.Reports.{verdicts_text}
+use Rattle.jcard_outcomes.proofs.each.verdicts.Given as goal
+
+abbrev pub invariant-loop-sweep : goal.invariant-loop-sweep
+invariant-loop-sweep l = l.text.items ++ verdicts_text (drop l.sweep-index l.sweeps) ≡ verdicts_text l.sweeps

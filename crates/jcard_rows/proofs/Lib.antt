@@ -1,0 +1,4 @@
+pub mod Items
+pub mod Fitting
+pub mod Compared
+pub mod Reports

@@ -1,0 +1,32 @@
+//! Rows, and the script of their lines.
+ghost use Rattle.std.specs.Prelude.{◌≡◌, ◌++◌, IfOk, OnOk};
+ghost use Rattle.jcard_rows.specs.Rows.{line_text, script_text};
+
+use std::alloc::{AllocError, Global};
+
+/// A row: the number of its line in its file, a line of a script, and the answer that is wanted.
+#[derive(Drop)]
+pub struct Row {
+    pub number: usize,
+    pub command: String,
+    pub wanted: String,
+}
+
+/// The script of the lines of rows, each with a line feed.
+pub fn script(alloc: Global, rows: &[Row]) -> Result<Vec<u8>, AllocError>
+    ensures { IfOk result (λ script. script.items ≡ script_text rows.now) }
+{
+    let mut script = Vec::new(alloc);
+    for row in rows {
+        push_line(&mut script, row)?;
+    }
+    Ok(script)
+}
+
+// Writes the line of a row behind a text.
+fn push_line(script: &mut Vec<u8>, row: &Row) -> Result<(), AllocError>
+    ensures { OnOk result (script.new.items ≡ script.old.items ++ line_text row.now) }
+{
+    script.extend_from_slice(row.command.as_bytes())?;
+    script.extend_from_slice(b"\n")
+}

@@ -1,0 +1,76 @@
+//! The commands of a script, each cut after each number of its writes.
+ghost use Rattle.std.specs.Prelude.{◌≡◌, ◌<◌, ◌++◌, ◌∷◌, ℕ, List, [], length, map, option_map, IfOk, OnOk};
+ghost use Rattle.std.specs.Borrow.{Bor};
+ghost use Rattle.jcard_tear.specs.ScriptLines.{line_of};
+ghost use Rattle.jcard_tear.specs.Sweeps.{AreSwept, IsLineSwept, IsProbeOf};
+
+use crate::cuts::Command;
+use crate::script_lines::{ScriptLine, last_select};
+use crate::tearing::{TearFault, tear};
+use jcard_outcomes::each::LineSweep;
+use jcard_outcomes::report::Sweep;
+use std::alloc::Global;
+
+/// Cuts the command in a line, with these lines of a probe behind each cut; or, where none are given, with the last SELECT
+/// before it.
+pub fn tear_line(
+    alloc: Global,
+    words: &[u16],
+    line: ScriptLine,
+    probe: Option<&[u8]>,
+    spared: &[u16],
+) -> Result<Sweep, TearFault>
+    requires { length words.now < 65536 }
+    ensures { IfOk result (λ sweep. IsLineSwept words.now
+        (option_map (λ (text : Bor (List ℕ)). text.now) probe.entry) spared.now
+        (line_of line.entry) sweep) }
+{
+    let command = Command {
+        before: line.before,
+        line: line.line,
+        probe: probe_for(probe, line.before),
+    };
+    tear(alloc, words, command, spared)
+}
+
+/// Cuts each of these commands.
+pub fn tear_each(
+    alloc: Global,
+    words: &[u16],
+    lines: &[ScriptLine],
+    probe: Option<&[u8]>,
+    spared: &[u16],
+) -> Result<Vec<LineSweep>, TearFault>
+    requires { length words.now < 65536 }
+    ensures { IfOk result (λ sweeps. AreSwept words.now
+        (option_map (λ (text : Bor (List ℕ)). text.now) probe.entry) spared.now
+        (map line_of lines.now) sweeps.items) }
+{
+    let mut sweeps = Vec::new(alloc);
+    for line in lines {
+        let sweep = tear_line(alloc, words, *line, probe, spared)?;
+        let number = line.number;
+        push_sweep(&mut sweeps, LineSweep { number, sweep })?;
+    }
+    Ok(sweeps)
+}
+
+// The lines of the probe of a command that stands behind this text.
+fn probe_for<'a>(probe: Option<&'a [u8]>, before: &'a [u8]) -> &'a [u8]
+    ensures { IsProbeOf (option_map (λ (text : Bor (List ℕ)). text.now) probe.entry) before.now
+        result.now }
+{
+    match probe {
+        Some(text) => text,
+        None => last_select(before),
+    }
+}
+
+fn push_sweep(sweeps: &mut Vec<LineSweep>, sweep: LineSweep) -> Result<(), TearFault>
+    ensures { OnOk result (sweeps.new.items ≡ sweeps.old.items ++ sweep ∷ []) }
+{
+    match sweeps.push(sweep) {
+        Ok(()) => Ok(()),
+        Err(_) => Err(TearFault::NoMemory),
+    }
+}

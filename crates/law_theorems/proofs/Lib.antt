@@ -1,0 +1,10 @@
+pub mod Sessions
+pub mod Prefixes
+pub mod Exchanged
+pub mod Orders
+pub mod Served
+pub mod Others
+pub mod Pins
+pub mod Founds
+pub mod TakenBack
+pub mod Witness

@@ -1,0 +1,44 @@
+-- Each effect of a command of a card that commands left is served; or none begins a transaction.
+use Rattle.std.proofs.Common.{◌≡◌, List, inl, inr}
+use Rattle.std.specs.Prelude.{ℕ, ◌⊎◌}
+use Rattle.jc_heap.specs.Moves.{Begin}
+use Rattle.jc_memory.specs.State.{MemoryState, Effect, HeapMove}
+use Rattle.jc_memory.specs.Programs.{Program}
+use Rattle.jc_memory.specs.Reading.{AllDue}
+use Rattle.jc_linker.specs.Values.{Packages}
+use Rattle.jc_platform.specs.Tokens.{Tokens}
+use Rattle.jc_card.specs.Answers.{exchange}
+use Rattle.jc_card.specs.CardState.{CardState}
+use Rattle.law_linking.proofs.Aids.{have_aids}
+use Rattle.law_linking.proofs.ClassLaws.{have_classes}
+use Rattle.law_linking.proofs.MethodLaws.{have_methods, have_no_code}
+use Rattle.law_images.specs.Cards.{AreLinkedWell, IsOwnCard}
+use Rattle.law_images.proofs.Commands.{creates_good, dispatched_good, runs_good}
+use Rattle.law_soundness.specs.Commands.{IsServed}
+use Rattle.law_soundness.specs.Soundness.{AreKnown}
+use Rattle.law_soundness.proofs.CommandLaws.{commands_are_sound}
+use Rattle.law_theorems.proofs.Exchanged.{exchanged, load_ended}
+
+pub known_of : (p : Packages) → AreLinkedWell p → AreKnown p
+known_of p l = record {
+  classes = have_classes l.components p l.read;
+  aids = have_aids l.components p l.read.linked l.applets;
+  methods = have_methods l.components p l.read;
+  platform = have_no_code l.components p l.read.linked;
+}
+
+-- no transaction begins
+abbrev pub BeginsNone : Effect → MemoryState → Type 0
+BeginsNone e m = e ≡ HeapMove Begin → ⊥
+
+abbrev pub IsFine : {A : Type 0} → Packages → Program A → MemoryState → Type 0
+IsFine p d m = AllDue (IsServed p) d m ⊎ AllDue BeginsNone d m
+
+pub commands_fine : (t : Tokens) (card : CardState) → IsOwnCard t card → (bytes : List ℕ) → IsFine card.packages (exchange bytes card) card.memory
+commands_fine t card own bytes =
+    let known = known_of card.packages own.linked in
+    exchanged (λ d. IsFine card.packages d card.memory) card (λ a. inl tt) (λ a b. inl (tt, tt))
+    (inr (load_ended BeginsNone (λ components arrays image m e. cc) card))
+    (λ limit locals code. inl (runs_good commands_are_sound t card own known limit locals code).due)
+    (λ content. inl (creates_good commands_are_sound t card own known content).due)
+    (λ all c. inl (dispatched_good commands_are_sound t card own known all c).due) bytes

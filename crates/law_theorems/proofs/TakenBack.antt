@@ -1,0 +1,196 @@
+-- Sessions take back what is not committed.
+use Rattle.std.proofs.Common.{◌≡◌, ℕ, Bool, true, false, List, [], ◌∷◌, ◌++◌, inl, inr, refl, sym, subst, ◌∙◌, ap}
+use Rattle.std.proofs.lemmas.Bool.{true≢false}
+use Rattle.jc_heap.specs.Heap.{HeapState, HeapView}
+use Rattle.jc_heap.specs.Moves.{Begin, Abort}
+use Rattle.jc_memory.specs.State.{MemoryState, Effect, HeapMove, SetRegisters, apply_effect}
+use Rattle.jc_memory.specs.Programs.{Finish, Completes}
+use Rattle.jc_memory.specs.Reading.{AllEffectsDue, HasTracePrefix}
+use Rattle.jc_platform.specs.Tokens.{Tokens}
+use Rattle.jc_platform.proofs.OneAnswer.{one_table}
+use Rattle.jc_dispatch.specs.Phases.{close, abort_if_open, then_with, registers_released}
+use Rattle.jc_card.specs.Answers.{exchange}
+use Rattle.jc_card.specs.CardState.{CardState}
+use Rattle.jc_card.specs.Dispatching.{with_response}
+use Rattle.jc_session.specs.declared.event.Event.{Event}
+use Rattle.jc_session.specs.declared.event.Event.TheVariants.{Command, Reset}
+use Rattle.jc_session.specs.declared.event.Answer.{Answer}
+use Rattle.jc_session.specs.declared.event.Answer.TheVariants.{Response, Ready, Down}
+use Rattle.jc_session.specs.Power.{PowerState, Up, Off, KeptState, durable_state, durable_state_in_store}
+use Rattle.jc_session.specs.Serving.{AnswersReset, Serves, SessionRun}
+use Rattle.jc_session.specs.Starting.{IsPoweredUp, Starts}
+use Rattle.law_atomicity.specs.Orderly.{KeepsTransactionOrder}
+use Rattle.law_atomicity.specs.Tears.{IsDurableOutside, TearLeavesAfter}
+use Rattle.law_atomicity.proofs.Torn.{begun_inside, behind}
+use Rattle.law_images.specs.Loaded.{AreBytes}
+use Rattle.law_images.specs.Cards.{IsOfBytes, IsOwnCard, IsOwnPower, StaysOwn}
+use Rattle.law_images.specs.Rest.{IsResting}
+use Rattle.law_images.proofs.Rest.{leave_at_rest, rests_so}
+use Rattle.law_images.proofs.Sessions.{stays_own}
+use Rattle.law_theorems.specs.Comes.{AreDown, ComesTo, StoresCome, memory_at}
+use Rattle.law_theorems.specs.TakenBack.{IsLeft, IsLeftBy, IsTakenBack, IsWhatWasFound}
+use Rattle.law_theorems.specs.Tries.{IsAsFound}
+use Rattle.law_theorems.proofs.Founds.{is_found}
+use Rattle.law_theorems.proofs.Orders.{commands_orderly}
+use Rattle.law_theorems.proofs.Prefixes.{behind_both, due_after, due_begun, front, lost_at}
+
+-- ---- cards of sessions are their own
+
+comes_own : (t : Tokens) (s : PowerState) → ComesTo t s → IsOwnPower t s
+comes_own t s c = let stays : StaysOwn = stays_own one_table in stays.session t (Off c.first) c.events c.answers s c.bytes c.own c.run
+
+pub stores_come : StoresCome
+stores_come t before events answers s own bytes session = started session.0 session.1 session.2
+  where
+    started : (first : PowerState) → Starts before first → SessionRun first events answers s → ComesTo t s
+    started (Up card) h run = record {
+      first = durable_state_in_store before;
+      events = Reset ∷ events;
+      answers = Ready ∷ answers;
+      own = own.own;
+      bytes = (tt, bytes);
+      run = (Up card, h.1, run);
+    }
+    started (Off k) h run = record {
+      first = durable_state_in_store before;
+      events = Reset ∷ events;
+      answers = Down ∷ answers;
+      own = own.own;
+      bytes = (tt, bytes);
+      run = (Off k, h.1, run);
+    }
+
+-- ---- and at rest
+
+abbrev Rests : PowerState → Type 0
+Rests (Up card) = IsResting card.memory.heap
+Rests (Off k) = Unit {0}
+
+event_rests : (s : PowerState) (event : Event) (answer : Answer) (next : PowerState) → Rests s → Serves s event answer next → Rests next
+event_rests (Up card) (Command bytes) (Response r) (Up next) rest h = leave_at_rest bytes.items card (with_response next r) next.memory rest h
+event_rests (Up card) (Command bytes) Down (Off k) rest h = tt
+event_rests (Off k) (Command bytes) Down (Off l) rest h = tt
+event_rests s Reset Ready (Up card) rest h = rests_so (durable_state s) card h
+event_rests s Reset Down (Off k) rest h = tt
+event_rests s event answer next rest h = absurd h
+
+run_rests : (events : List Event) (answers : List Answer) (s last : PowerState) → Rests s → SessionRun s events answers last → Rests last
+run_rests [] [] s last rest h = subst Rests (sym h) rest
+run_rests (event ∷ events) (answer ∷ answers) s last rest h = run_rests events answers h.0 last (event_rests s event answer h.0 rest h.1) h.2
+run_rests [] (answer ∷ answers) s last rest h = absurd h
+run_rests (event ∷ events) [] s last rest h = absurd h
+
+comes_rests : (t : Tokens) (s : PowerState) → ComesTo t s → Rests s
+comes_rests t s c = run_rests c.events c.answers (Off c.first) s tt c.run
+
+-- ---- while all is answered down
+
+down_off : (k : KeptState) (event : Event) (next : PowerState) → Serves (Off k) event Down next
+    → (l : KeptState) × (next ≡ Off l) × (l.durable ≡ k.durable)
+down_off k (Command bytes) (Off l) h = (l, refl, ap (λ (x : KeptState). x.durable) h)
+down_off k Reset (Off l) h = (l, refl, ap (λ (x : KeptState). x.durable) h)
+down_off k (Command bytes) (Up card) h = absurd h
+down_off k Reset (Up card) h = absurd h
+
+no_more : (answers : List Answer) (s last : PowerState) → SessionRun s [] (answers ++ (Ready ∷ [])) last → ⊥
+no_more [] s last h = h
+no_more (answer ∷ answers) s last h = h
+
+no_answer : (events : List Event) (s last : PowerState) → SessionRun s (events ++ (Reset ∷ [])) [] last → ⊥
+no_answer [] s last h = h
+no_answer (event ∷ events) s last h = h
+
+resets : (events : List Event) (answers : List Answer) (k : KeptState) (next : CardState) → AreDown answers
+    → SessionRun (Off k) (events ++ (Reset ∷ [])) (answers ++ (Ready ∷ [])) (Up next) → (l : KeptState) × (l.durable ≡ k.durable) × IsPoweredUp l next
+resets [] [] k next down h = (k, refl, subst (λ s. AnswersReset (Off k) Ready s) (sym h.2) h.1)
+resets [] (answer ∷ answers) k next down h = absurd (no_more answers h.0 (Up next) h.2)
+resets (event ∷ events) [] k next down h = absurd (no_answer events h.0 (Up next) h.2)
+resets (event ∷ events) (answer ∷ answers) k next down h =
+    let off = down_off k event h.0 (subst (λ a. Serves (Off k) event a h.0) down.0 h.1) in
+    let rest = resets events answers off.0 next down.1
+    (subst (λ s. SessionRun s (events ++ (Reset ∷ [])) (answers ++ (Ready ∷ [])) (Up next)) off.1 h.2) in
+    (rest.0, rest.1 ∙ off.2, rest.2)
+
+-- ---- within a command
+
+module _ (t : Tokens) (card : CardState) (comes : ComesTo t (Up card)) where
+  own : IsOwnCard t card
+  own = comes_own t (Up card) comes
+
+  shut : card.memory.heap.begun ≡ false
+  shut = own.ready.closed
+
+  settled : IsDurableOutside card.memory
+  settled = λ off. sym (own.ready.sound.settled off)
+
+  orderly : (bytes : List ℕ) (es : List Effect) → HasTracePrefix (exchange bytes card) card.memory es → AllEffectsDue KeepsTransactionOrder es card.memory
+  orderly bytes es begins = due_begun KeepsTransactionOrder (exchange bytes card) card.memory es (commands_orderly bytes card shut) begins
+
+  -- what stands durable behind effects of a command
+  left_of : (bytes : List ℕ) (es : List Effect) (left : HeapState) → AreBytes bytes → HasTracePrefix (exchange bytes card) card.memory es
+      → left ≡ (memory_at card es).heap.durable → IsLeft card es left
+  left_of bytes es left are begins is = by (behind es card.memory (orderly bytes es begins) settled)
+    where
+      by : TearLeavesAfter es card.memory (memory_at card es).heap.durable → IsLeft card es left
+      by (inl now) = inl (now.0, is ∙ now.1)
+      by (inr (stands, inl saved)) = absurd (true≢false (sym stands ∙ (begun_inside es card.memory saved.0 ∙ shut)))
+      by (inr (stands, inr f)) = inr (
+        stands,
+        record {
+          earlier = f.0;
+          during = f.1;
+          are = f.2;
+          inside = f.3;
+          found = subst (λ h. IsAsFound card.packages f.1 (apply_effect (HeapMove Begin) (memory_at card f.0)) (memory_at card f.0).heap.now h)
+              (sym (is ∙ ap (λ l. (memory_at card l).heap.durable) f.2)) (is_found t card own bytes f.0 f.1 (record {
+                comes = comes;
+                are = are;
+                begins = subst (HasTracePrefix (exchange bytes card) card.memory) f.2 begins;
+              }) f.3);
+        },
+      )
+
+  open_left : (es : List Effect) (left : HeapState) → (memory_at card es).heap.begun ≡ true → IsLeft card es left → IsWhatWasFound card es left
+  open_left es left stands (inl now) = absurd (true≢false (sym stands ∙ now.0))
+  open_left es left stands (inr was) = was.1
+
+first_left : (t : Tokens) (card : CardState) (event : Event) (mid : PowerState) → ComesTo t (Up card) → IsOfBytes event → Serves (Up card) event Down mid
+    → (k : KeptState) × (mid ≡ Off k) × IsLeftBy card event k.durable
+first_left t card (Command bytes) (Off k) comes are h =
+    let p = lost_at (exchange bytes.items card) card.memory k.durable h.0 in
+    (k, refl, (p.0, p.1, left_of t card comes bytes.items p.0 k.durable are p.1 p.2))
+first_left t card Reset (Off k) comes are h = (k, refl, ap (λ (x : KeptState). x.durable) h ∙ settled t card comes (shut t card comes))
+first_left t card (Command bytes) (Up next) comes are h = absurd h
+first_left t card Reset (Up next) comes are h = absurd h
+
+closed_by : (b : Bool) (m new : MemoryState) → b ≡ true
+    → Completes (abort_if_open b (λ v. then_with (SetRegisters (registers_released v.registers)) v (λ w. Finish (tt {0}))) m) m tt new
+    → (new.heap.now ≡ m.heap.durable) × (new.heap.begun ≡ false)
+closed_by true m new e did = (ap (λ (v : MemoryState). v.heap.now) did.1, ap (λ (v : MemoryState). v.heap.begun) did.1)
+closed_by false m new e did = absurd (true≢false (sym e))
+
+closed_so : (m new : MemoryState) → m.heap.begun ≡ true → Completes (close m) m tt new → (new.heap.now ≡ m.heap.durable) × (new.heap.begun ≡ false)
+unfolding close
+closed_so m new stands did = closed_by m.heap.begun m new stands did
+
+pub taken_back : IsTakenBack
+taken_back = record {
+  lost = λ t card next event events answers comes are down run.
+      let first = first_left t card event run.0 comes are run.1 in
+      let rest = resets events answers first.0 next down
+      (subst (λ s. SessionRun s (events ++ (Reset ∷ [])) (answers ++ (Ready ∷ [])) (Up next)) first.1 run.2) in
+      let now : next.memory.heap.now ≡ (first.0).durable = ap (λ (v : HeapView). v.now) rest.2.heap ∙ rest.1 in
+      (subst (IsLeftBy card event) (sym now) first.2, rests_so rest.0 next rest.2);
+  aborted = λ t card bytes es within.
+      let begins = front (exchange bytes card) card.memory es (HeapMove Abort ∷ []) within.begins in
+      let due = due_after KeepsTransactionOrder es (HeapMove Abort ∷ []) card.memory
+      (orderly t card within.comes bytes (es ++ (HeapMove Abort ∷ [])) within.begins) in
+      let same : (memory_at card (es ++ (HeapMove Abort ∷ []))).heap.now ≡ (memory_at card es).heap.durable =
+      ap (λ (m : MemoryState). m.heap.now) (behind_both es (HeapMove Abort ∷ []) card.memory) in
+      open_left t card within.comes es _ due.0 (left_of t card within.comes bytes es _ within.are begins same);
+  returned = λ t card bytes es new within stands did.
+      let c = closed_so (memory_at card es) new stands did in
+      (open_left t card within.comes es new.heap.now stands (left_of t card within.comes bytes es new.heap.now within.are within.begins c.0), c.1);
+  ended = λ t card next bytes response comes are did.
+      leave_at_rest bytes card (with_response next response) next.memory (comes_rests t (Up card) comes) did;
+}

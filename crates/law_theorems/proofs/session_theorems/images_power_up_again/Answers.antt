@@ -1,0 +1,5 @@
+use Rattle.law_theorems.proofs.Sessions.{again}
+use Rattle.law_theorems.proofs.session_theorems.images_power_up_again.Goals as goal
+
+pub returns : goal.returns
+returns c = again

@@ -1,0 +1,9 @@
+use Rattle.law_theorems.proofs.TakenBack.{stores_come}
+use Rattle.law_theorems.proofs.Witness.{witnesses}
+use Rattle.law_theorems.proofs.session_theorems.premises_can_be_met.Goals as goal
+
+pub returns-clause-witnesses : goal.returns-clause-witnesses
+returns-clause-witnesses c = witnesses
+
+pub returns-clause-stores : goal.returns-clause-stores
+returns-clause-stores c = stores_come

@@ -1,0 +1,45 @@
+-- What sessions come to.
+use Rattle.std.specs.Prelude.{ℕ, ◌≡◌, List, [], ◌∷◌}
+use Rattle.jc_memory.specs.State.{MemoryState, Effect, apply_effects}
+use Rattle.jc_memory.specs.Reading.{HasTracePrefix}
+use Rattle.jc_platform.specs.Tokens.{Tokens}
+use Rattle.jc_card.specs.Answers.{exchange}
+use Rattle.jc_card.specs.CardState.{CardState}
+use Rattle.jc_session.specs.declared.event.Event.{Event}
+use Rattle.jc_session.specs.declared.event.Answer.{Answer}
+use Rattle.jc_session.specs.declared.event.Answer.TheVariants.{Down}
+use Rattle.jc_session.specs.Power.{PowerState, Up, Off, KeptState, StoreState}
+use Rattle.jc_session.specs.Serving.{SessionRun}
+use Rattle.jc_session.specs.Sessions.{IsSession}
+use Rattle.law_images.specs.Loaded.{AreBytes}
+use Rattle.law_images.specs.Cards.{AreOfBytes, IsOwnKept}
+use Rattle.law_images.specs.Faults.{IsOwnStore}
+
+-- a session comes to this state that began without power, with what is left of a new image, or of one that sessions left of it
+pub record ComesTo (t : Tokens) (s : PowerState) : Type 0 where
+  pub first : KeptState
+  pub events : List Event
+  pub answers : List Answer
+  pub own : IsOwnKept t first
+  pub bytes : AreOfBytes events
+  pub run : SessionRun (Off first) events answers s
+
+-- so does each session over a store that is so
+abbrev pub StoresCome : Type 0
+StoresCome = (t : Tokens) (before : StoreState) (events : List Event) (answers : List Answer) (s : PowerState) → IsOwnStore t before → AreOfBytes events
+    → IsSession before events answers s → ComesTo t s
+
+-- and a command of these bytes then begins with these effects
+pub record ComesWithin (t : Tokens) (card : CardState) (bytes : List ℕ) (es : List Effect) : Type 0 where
+  pub comes : ComesTo t (Up card)
+  pub are : AreBytes bytes
+  pub begins : HasTracePrefix (exchange bytes card) card.memory es
+
+-- the memory behind these effects
+abbrev pub memory_at : CardState → List Effect → MemoryState
+memory_at card es = apply_effects es card.memory
+
+-- each answer is down
+abbrev pub AreDown : List Answer → Type 0
+AreDown [] = Unit {0}
+AreDown (answer ∷ answers) = (answer ≡ Down) × AreDown answers

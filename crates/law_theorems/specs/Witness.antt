@@ -1,0 +1,32 @@
+-- The premises of the theorems can be met: a new image, its first reset, a cut one, and a command.
+use Rattle.std.specs.Prelude.{ℕ, ◌≤◌, true, false, List, [], ◌∷◌, Ok}
+use Rattle.jc_words.specs.Layout.{least_size}
+use Rattle.jc_words.specs.Refusals.{no_refusals}
+use Rattle.jc_platform.specs.Table.{Reads}
+use Rattle.jc_platform.specs.Tokens.{Tokens}
+use Rattle.jc_card.specs.CardState.{CardState}
+use Rattle.jc_card.specs.Made.{new_card_heap}
+use Rattle.jc_session.specs.declared.event.Answer.TheVariants.{Response, Ready, Down}
+use Rattle.jc_session.specs.Power.{Up, Off, KeptState, durable_state, with_refusal}
+use Rattle.jc_session.specs.Serving.{AnswersCommand, AnswersReset}
+use Rattle.law_theorems.specs.Comes.{ComesTo}
+
+-- what is kept of a new image
+abbrev pub new_kept : ℕ → List ℕ → Tokens → KeptState
+new_kept n text t = record { durable = new_card_heap n text t; laid = true; down = false; passed = 0; refusals = no_refusals; size = n }
+
+-- With any table that reads sessions come to a new image without power, and to a card behind its first reset. A reset of it may be cut, and
+-- the next one completes; and a command may be answered, as one that begins a load
+pub record HaveWitness (n : ℕ) (text : List ℕ) (t : Tokens) : Type 0 where
+  pub off : ComesTo t (Off (new_kept n text t))
+  pub card : CardState
+  pub reset : AnswersReset (Off (new_kept n text t)) Ready (Up card)
+  pub up : ComesTo t (Up card)
+  pub cut : AnswersReset (Up card) Down (Off (with_refusal 0 (durable_state (Up card))))
+  pub other : CardState
+  pub again : AnswersReset (Off (with_refusal 0 (durable_state (Up card)))) Ready (Up other)
+  pub next : CardState
+  pub command : AnswersCommand (Up card) (0x80 ∷ 0xB0 ∷ 0 ∷ 0 ∷ []) (Response (0x90 ∷ 0 ∷ [])) (Up next)
+
+abbrev pub HaveWitnesses : Type 0
+HaveWitnesses = (n : ℕ) (text : List ℕ) (t : Tokens) → least_size ≤ n → Reads text (Ok t) → HaveWitness n text t

@@ -1,0 +1,9 @@
+//! The main theorems: what is promised of whole sessions, as laws.
+#![tactic(auto)]
+
+mod session_theorems;
+
+pub use session_theorems::{
+    down_tells_of_refused_writes, images_power_up_again, premises_can_be_met,
+    sessions_take_back_what_is_not_committed, sessions_without_refused_writes_are_of_whole_copies,
+};

@@ -1,0 +1,41 @@
+//! Laws of whole sessions.
+ghost use Rattle.law_theorems.specs.Comes.{StoresCome};
+ghost use Rattle.law_theorems.specs.Images.{PowerUpAgain};
+ghost use Rattle.law_theorems.specs.Refusals.{DownTells};
+ghost use Rattle.law_theorems.specs.TakenBack.{IsTakenBack};
+ghost use Rattle.law_theorems.specs.WholeCopies.{AreOfWholeCopies};
+ghost use Rattle.law_theorems.specs.Witness.{HaveWitnesses};
+
+/// While no write is refused, a session answers exactly as a card does that keeps two whole copies of its heap,
+/// the present one and the one of the last commit, and leaves the same heap.
+pub fn sessions_without_refused_writes_are_of_whole_copies()
+    ensures { AreOfWholeCopies }
+{}
+
+/// Down is answered exactly where the store refused a write during the command or the reset, or where a command
+/// came to a card without power; and with any other answer no write was refused.
+pub fn down_tells_of_refused_writes()
+    ensures { DownTells }
+{}
+
+/// What is not committed is taken back: by an abort, by the end of the command, and by a loss of power at any
+/// write, followed by any number of resets that are cut as well. The heap is then as the transaction found it, but
+/// for the tries of OwnerPINs: each try stays counted that was counted before the transaction changed the PIN's
+/// counter itself. Where no transaction is open, all changes before the loss stay.
+pub fn sessions_take_back_what_is_not_committed()
+    ensures { IsTakenBack }
+{}
+
+/// A new image powers up, and so does each that sessions leave of one, however they end and wherever the power
+/// was cut: only memory that is refused, or a refused write, stops it.
+pub fn images_power_up_again()
+    ensures { PowerUpAgain }
+{}
+
+/// The premises of these laws can be met: by a new image over any table that reads, by the card behind its first
+/// reset, also a cut one, and by a command of it; and each session over a store that commands left is one of which
+/// they tell.
+pub fn premises_can_be_met()
+    ensures witnesses { HaveWitnesses }
+    ensures stores { StoresCome }
+{}
