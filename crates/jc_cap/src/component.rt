@@ -65,8 +65,8 @@ fn of_bytes(format: Format, tag: u8, bytes: &[u8]) -> Result<Component<'_>, CapF
 
 /// The component with this tag that the bytes are, all of the bytes: the tag, two bytes of size, and the info.
 ///
-/// The format is that of the package's Header component; those of Directory and Class alone depend on it. The tag is 1 to
-/// 12 or 128 to 255. No memory is taken, and nothing is copied.
+/// The format is that of the package's Header component; those of Directory and Class alone depend on it. The tag is
+/// that of a component. No memory is taken, and nothing is copied.
 pub fn read_component(format: Format, tag: u8, bytes: &[u8]) -> Result<Component<'_>, CapFault>
     // What is read stands in the bytes.
     ensures found { IfOk result (λ c. IsComponent format tag (content c) bytes.now) }

@@ -33,3 +33,10 @@ export_tag = 10
 
 abbrev pub descriptor_tag : ℕ
 descriptor_tag = 11
+
+abbrev pub debug_tag : ℕ
+debug_tag = 12
+
+-- the least tag of a custom component
+abbrev pub first_custom_tag : ℕ
+first_custom_tag = 128

@@ -7,12 +7,13 @@ ghost use Rattle.jc_cap_linkage.specs.ComponentViews.{custom_component};
 use crate::counted::{Part, seek, skip_many};
 use crate::fault::CapFault;
 use crate::fields::{aid, u1, u2};
+use crate::tags;
 use std::marker::Model;
 
 /// A custom component that the package says that it has.
 #[derive(Clone, Copy, Debug, Drop)]
 pub struct CustomComponent<'a> {
-    /// 128 to 255.
+    /// `FIRST_CUSTOM` or above.
     pub tag: u8,
     pub size: u16,
     /// 5 to 16 bytes.
@@ -24,7 +25,7 @@ fn custom_component(bytes: &[u8]) -> Result<(CustomComponent<'_>, &[u8]), CapFau
     ensures { ParsesAs (λ x. (custom_component x.0, x.1.now)) result (custom_at bytes.now) }
 {
     let (tag, rest) = u1(bytes)?;
-    if tag < 128 {
+    if tag < tags::FIRST_CUSTOM {
         return Err(CapFault::BadOffset);
     }
     let (size, rest) = u2(rest)?;

@@ -21,3 +21,8 @@ pub const REFERENCE_LOCATION: u8 = 9;
 pub const EXPORT: u8 = 10;
 
 pub const DESCRIPTOR: u8 = 11;
+
+pub const DEBUG: u8 = 12;
+
+/// The least tag of a custom component; the tags between Debug's and this one are no component's.
+pub const FIRST_CUSTOM: u8 = 128;

@@ -14,10 +14,9 @@ use Rattle.jc_memory.proofs.ProgramLemmas.{bind_did, bind_cut}
 use Rattle.jc_cap.specs.declared.texts.LoadedComponents.{LoadedComponents}
 use Rattle.jc_card_load.specs.PendingPackages.{PendingPackageValue, linked_components}
 use Rattle.jc_card_load.specs.RecordContents.{arrays_of, image_of, parts_of, statics_of}
-use Rattle.jc_card_load.specs.declared.package_refusal.PackageRefusal.{PackageRefusal}
-use Rattle.jc_card_load.specs.declared.load_end.EndFault.{EndFault}
-use Rattle.jc_card_load.specs.declared.load_end.EndFault.TheVariants.{Refused, Down}
+use Rattle.jc_card_load.specs.declared.load_refusal.LoadRefusal.{LoadRefusal}
 use Rattle.jc_card_load.specs.declared.load.OpenLoad.{OpenLoad}
+use Rattle.jc_card_load.specs.Loading.{CommandResult}
 use Rattle.jc_card_load.specs.Ending.{LoadResult, after_end, assembly_result, after_addition, after_preparation, end_of_load}
 use Rattle.jc_card.specs.Loads.{answer_of_left, response_of_end}
 use Rattle.jc_card.specs.Answers.{after_exchange}
@@ -41,7 +40,7 @@ add : (reason : Option HeapRefusal) (cs : List (ℕ × List ℕ)) (xs : List (Ki
 add None cs xs image p q s new left d = (ap (λ m. m.heap.begun) d.2.1, ap (λ m. m.heap.down) d.2.1)
 add (Some reason) cs xs image p q s new left d = same s new d.1
 
-prepared_rests : (p : Packages) (s new : MemoryState) (left : LoadResult) (r : Result PendingPackageValue PackageRefusal)
+prepared_rests : (p : Packages) (s new : MemoryState) (left : LoadResult) (r : Result PendingPackageValue LoadRefusal)
     → Completes (after_preparation p s r) s left new → Rests s new
 prepared_rests p s new left (Err refusal) d = same s new d.1
 prepared_rests p s new left (Ok q) d =
@@ -61,14 +60,13 @@ ended_rests p s new left (Some load) d = choose (is_none load.coming) (assembly_
     (λ e. same s new e.1) d
 
 -- the end of a load leaves no transaction open, unless the store has refused a write
-pub ends_outside : (p q : Packages) (s new : MemoryState) (load kept : Option OpenLoad) (r : Result (Unit {0}) EndFault) → s.heap.begun ≡ false
+pub ends_outside : (p q : Packages) (s new : MemoryState) (load kept : Option OpenLoad) (r : Result CommandResult StoreDown) → s.heap.begun ≡ false
     → Executes (end_of_load p s load) s (after_end r q kept new) → new.heap.down ≡ false → new.heap.begun ≡ false
-ends_outside p q s new load kept (Ok done) rests made up = (ended_rests p s new _ load made).0 ∙ rests
-ends_outside p q s new load kept (Err (Refused refusal)) rests made up = (ended_rests p s new _ load made).0 ∙ rests
-ends_outside p q s new load kept (Err Down) rests cut up = absurd (true≢false (sym cut.down ∙ up))
+ends_outside p q s new load kept (Ok ended) rests made up = (ended_rests p s new _ load made).0 ∙ rests
+ends_outside p q s new load kept (Err down) rests cut up = absurd (true≢false (sym cut.down ∙ up))
 
 -- the response to the end of a load
-pub ends_so : (d : Program LoadResult) (s new : MemoryState) (r : Result (Unit {0}) EndFault) (q : Packages) (kept : Option OpenLoad)
+pub ends_so : (d : Program LoadResult) (s new : MemoryState) (r : Result CommandResult StoreDown) (q : Packages) (kept : Option OpenLoad)
     (said : Result (List ℕ) StoreDown) → said ≡ response_of_end r → Executes d s (after_end r q kept new) →
     Executes (bind d s (λ left v. Finish (answer_of_left left))) s (after_exchange said (record { memory = new; packages = q; load = kept }))
 ends_so d s new r q kept said is made =
@@ -78,9 +76,8 @@ ends_so d s new r q kept said is made =
     done : (left : LoadResult) → Completes d s left new → Executes (bind d s (λ l v. Finish (answer_of_left l))) s (Completed (answer_of_left left) new)
     done left did = bind_did (λ l v. Finish (answer_of_left l)) d s new new left (answer_of_left left) did (refl, refl)
 
-    by_end : (r : Result (Unit {0}) EndFault) → Executes d s (after_end r q kept new)
+    by_end : (r : Result CommandResult StoreDown) → Executes d s (after_end r q kept new)
         → Executes (bind d s (λ left v. Finish (answer_of_left left))) s (after_exchange (response_of_end r)
         (record { memory = new; packages = q; load = kept }))
-    by_end (Ok tt) m = done (record { ended = Ok tt; packages = q; load = kept }) m
-    by_end (Err (Refused refusal)) m = done (record { ended = Err refusal; packages = q; load = kept }) m
-    by_end (Err Down) m = bind_cut (λ left v. Finish (answer_of_left left)) d s new m
+    by_end (Ok ended) m = done (record { ended = ended; packages = q; load = kept }) m
+    by_end (Err down) m = bind_cut (λ left v. Finish (answer_of_left left)) d s new m

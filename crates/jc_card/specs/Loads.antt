@@ -5,14 +5,10 @@ use Rattle.jc_linker.specs.Values.{Packages}
 use Rattle.jc_linker.specs.declared.fault.LinkFault.{LinkFault}
 use Rattle.jc_linker.specs.declared.fault.LinkFault.TheVariants as link
 use Rattle.jc_memory.specs.Programs.{Program, Finish, Either, bind}
-use Rattle.jc_card_load.specs.declared.package_refusal.PackageRefusal.{PackageRefusal}
-use Rattle.jc_card_load.specs.declared.package_refusal.PackageRefusal.TheVariants.{BadComponents, AidTaken, Full, LinkFailed}
 use Rattle.jc_words.specs.declared.store.StoreDown.{StoreDown}
-use Rattle.jc_card_load.specs.declared.load_end.EndFault.{EndFault}
-use Rattle.jc_card_load.specs.declared.load_end.EndFault.TheVariants as ends
 use Rattle.jc_card_load.specs.declared.load.OpenLoad.{OpenLoad}
 use Rattle.jc_card_load.specs.declared.load_refusal.LoadRefusal.{LoadRefusal}
-use Rattle.jc_card_load.specs.declared.load_refusal.LoadRefusal.TheVariants.{OutOfSequence, UnknownTag, Refused, HeapFull}
+use Rattle.jc_card_load.specs.declared.load_refusal.LoadRefusal.TheVariants.{OutOfSequence, UnknownTag, BadComponents, AidTaken, Full, LinkFailed, HeapFull}
 use Rattle.jc_card_load.specs.Loading.{CommandResult, empty_load, component_begin, component_end, component_append, without_memory}
 use Rattle.jc_card_load.specs.Ending.{LoadResult, end_of_load}
 use Rattle.jc_card.specs.CardState.{CardState}
@@ -31,18 +27,14 @@ link_number link.ImportVersion = 2
 link_number (link.Unresolved index) = 3
 link_number link.NoMemory = 4
 
--- the status words of the refusals of a package: 64nn
-abbrev pub status_of_refusal : PackageRefusal → ℕ
-status_of_refusal (BadComponents fault) = 0x6400 + number fault
-status_of_refusal AidTaken = aid_taken
-status_of_refusal Full = full
-status_of_refusal (LinkFailed fault) = 0x6420 + link_number fault
-
--- the status word of a refusal
+-- the status word of a refusal: 64nn where it is of a component or a package
 abbrev pub status_of : LoadRefusal → ℕ
 status_of OutOfSequence = conditions_not_satisfied
 status_of UnknownTag = wrong_data
-status_of (Refused refusal) = status_of_refusal refusal
+status_of (BadComponents fault) = 0x6400 + number fault
+status_of AidTaken = aid_taken
+status_of Full = full
+status_of (LinkFailed fault) = 0x6420 + link_number fault
 status_of HeapFull = no_space
 
 -- the response to a command of a load
@@ -91,7 +83,6 @@ abbrev pub end_load : CardState → Program LoadResponse
 end_load card = bind (end_of_load card.packages card.memory card.load) card.memory (λ left s. Finish (answer_of_left left))
 
 -- what is said of how it ended: the response, or that the store is down
-abbrev pub response_of_end : Result (Unit {0}) EndFault → Result (List ℕ) StoreDown
-response_of_end (Ok done) = Ok (response_to (Ok tt))
-response_of_end (Err (ends.Refused refusal)) = Ok (response_to (Err refusal))
-response_of_end (Err ends.Down) = Err (record {})
+abbrev pub response_of_end : Result CommandResult StoreDown → Result (List ℕ) StoreDown
+response_of_end (Ok ended) = Ok (response_to ended)
+response_of_end (Err down) = Err down

@@ -3,13 +3,12 @@ ghost use Rattle.std.specs.Prelude.{◌≡◌, false};
 ghost use Rattle.jc_memory.specs.Programs.{Executes};
 ghost use Rattle.jc_card.specs.Answers.{after_exchange, after_response};
 ghost use Rattle.jc_card.specs.Loads.{begin_component, end_component, append_component, link_number, begin_load, end_load, response_to, response_of_end};
-ghost use Rattle.jc_card.specs.Loads.{status_of, status_of_refusal};
+ghost use Rattle.jc_card.specs.Loads.{status_of};
 
 use crate::card::Card;
 use crate::response::Response;
 use crate::status::StatusWord;
-use jc_card_load::package_refusal::PackageRefusal;
-use jc_card_load::{EndFault, LoadRefusal, OpenLoad, end_package};
+use jc_card_load::{LoadRefusal, OpenLoad, end_package};
 use jc_linker::fault::LinkFault;
 use jc_words::{StoreDown, WordStore};
 
@@ -30,18 +29,6 @@ fn link_number(fault: LinkFault) -> u8
     }
 }
 
-// The status word of a refusal of a package.
-fn status_of_refusal(refusal: PackageRefusal) -> StatusWord
-    ensures { result.0 ≡ status_of_refusal refusal }
-{
-    match refusal {
-        PackageRefusal::BadComponents(fault) => StatusWord(CAP_FAULT + u16::from(fault.number())),
-        PackageRefusal::LinkFailed(fault) => StatusWord(LINK_FAULT + u16::from(link_number(fault))),
-        PackageRefusal::AidTaken => StatusWord::AID_TAKEN,
-        PackageRefusal::Full => StatusWord::FULL,
-    }
-}
-
 // The status word of a refusal.
 fn status_of(refusal: LoadRefusal) -> StatusWord
     ensures { result.0 ≡ status_of refusal }
@@ -49,7 +36,10 @@ fn status_of(refusal: LoadRefusal) -> StatusWord
     match refusal {
         LoadRefusal::OutOfSequence => StatusWord::CONDITIONS_NOT_SATISFIED,
         LoadRefusal::UnknownTag => StatusWord::WRONG_DATA,
-        LoadRefusal::Refused(refusal) => status_of_refusal(refusal),
+        LoadRefusal::BadComponents(fault) => StatusWord(CAP_FAULT + u16::from(fault.number())),
+        LoadRefusal::AidTaken => StatusWord::AID_TAKEN,
+        LoadRefusal::Full => StatusWord::FULL,
+        LoadRefusal::LinkFailed(fault) => StatusWord(LINK_FAULT + u16::from(link_number(fault))),
         LoadRefusal::HeapFull => StatusWord::NO_SPACE,
     }
 }
@@ -65,14 +55,10 @@ fn response_to(ended: Result<(), LoadRefusal>) -> Response
 }
 
 // What is said of how a load ended.
-fn response_of_end(ended: Result<(), EndFault>) -> Result<Response, StoreDown>
+fn response_of_end(ended: Result<Result<(), LoadRefusal>, StoreDown>) -> Result<Response, StoreDown>
     ensures { result ≡ response_of_end ended }
 {
-    match ended {
-        Ok(()) => Ok(response_to(Ok(()))),
-        Err(EndFault::Refused(refusal)) => Ok(response_to(Err(refusal))),
-        Err(EndFault::Down) => Err(StoreDown),
-    }
+    Ok(response_to(ended?))
 }
 
 impl<S: WordStore> Card<S> {

@@ -1,5 +1,5 @@
 -- A heap that fits the packages that are linked of it.
-use Rattle.std.specs.Prelude.{ℕ, ◌≡◌, ◌<◌, ◌+◌, ◌*◌, ◌==◌, ◌&&◌, nat_lt, nat_le, Bool, true, List, drop, length, slice_index, Some}
+use Rattle.std.specs.Prelude.{ℕ, ◌≡◌, ◌<◌, ◌+◌, ◌==◌, ◌&&◌, nat_lt, nat_le, Bool, true, List, drop, length, slice_index, Some}
 use Rattle.jc_heap.specs.RegistryLayout.{entry_start, entry_aid, entry_package, entry_instance}
 use Rattle.jc_platform.specs.declared.names.PlatformClass.TheVariants.{Aid, Applet}
 use Rattle.jc_platform.specs.Distinct.{class_word}

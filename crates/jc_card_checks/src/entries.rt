@@ -1,5 +1,7 @@
 //! Whether each entry of the registry is that of an applet, and no AID stands there twice.
 ghost use Rattle.std.specs.Prelude.{ℕ, ◌≡◌, ◌<◌, ◌≤◌, ◌↔◌, IsTrue, ◌&&◌, false, true, drop, length, slice_index, nat_lt};
+ghost use Rattle.std.specs.List.{list_any};
+ghost use Rattle.std.specs.Str.{bytes_eq};
 ghost use Rattle.jc_words.specs.Layout.{most_applets};
 ghost use Rattle.jc_heap.specs.RegistryLayout.{entry_length};
 ghost use Rattle.jc_heap.specs.Heap.{cells, facts};
@@ -18,6 +20,10 @@ use jc_memory::Memory;
 use jc_platform::names::PlatformClass;
 use jc_transient::Ref;
 use jc_words::WordStore;
+use jc_words::layout::MOST_APPLETS;
+
+/// The most entries of the registry.
+const MOST_ENTRIES: usize = MOST_APPLETS as usize;
 
 /// How many bytes an AID has at least.
 const LEAST_AID: u16 = 5;
@@ -136,24 +142,14 @@ fn aid_of_entry<S: WordStore>(memory: &Memory<S>, linked: &Linked, a: u16) -> Ar
     aid_in(memory, object, facts.length)
 }
 
-// No applet before this one has its AID.
-fn has_own_aid<S: WordStore>(memory: &Memory<S>, linked: &Linked, b: u16) -> bool
-    requires up { memory.now.heap.down ≡ false }
-    requires few { b < most_applets }
-    requires registered { (a : ℕ) → a ≤ b → IsRegistered linked.now memory.now.heap.now a }
-    ensures { IsTrue result ↔ HasOwnAid memory.now.heap.now b }
+// One of these AIDs is this one.
+fn stands_among(aid: &[u8], others: &[ArrayVec<u8, 16>]) -> bool
+    ensures { result ≡ list_any (λ other. bytes_eq other.items aid.now) others.now }
 {
-    let own = aid_of_entry(memory, linked, b);
-    for a in 0..b {
-        let other = aid_of_entry(memory, linked, a);
-        if other.as_slice() == own.as_slice() {
-            return false;
-        }
-    }
-    true
+    others.iter().any(|other| other.as_slice() == aid)
 }
 
-/// No two applets have one AID.
+/// No two applets have one AID. Each AID is read once.
 pub(crate) fn are_distinct<S: WordStore>(memory: &Memory<S>, linked: &Linked) -> bool
     requires up { memory.now.heap.down ≡ false }
     requires whole { IsConsistent memory.now.heap.now }
@@ -162,10 +158,13 @@ pub(crate) fn are_distinct<S: WordStore>(memory: &Memory<S>, linked: &Linked) ->
     ensures { IsTrue result ↔ ((b : ℕ) → b < memory.now.heap.now.counts.1
         → HasOwnAid memory.now.heap.now b) }
 {
+    let mut before: ArrayVec<ArrayVec<u8, 16>, MOST_ENTRIES> = ArrayVec::new();
     for b in 0..memory.heap().applets() {
-        if !has_own_aid(memory, linked, b) {
+        let own = aid_of_entry(memory, linked, b);
+        if stands_among(own.as_slice(), before.as_slice()) {
             return false;
         }
+        before.push(own);
     }
     true
 }

@@ -70,9 +70,7 @@ fn holds_statics_at<S: WordStore>(memory: &Memory<S>, linked: &Linked, k: u8) ->
     ensures { IsTrue result ↔ HoldsStatics memory.now.heap.now
         (package_record_at memory.now.heap.now k) (statics_at linked.now (k + 1)) }
 {
-    let Some(at) = memory.heap().package(u16::from(k)) else {
-        unreachable!();
-    };
+    let at = memory.package_address(u16::from(k));
     let (size, references) = linked.statics_at(k + 1);
     holds_statics(memory, at, size, references)
 }

@@ -9,18 +9,18 @@ use Rattle.jc_cap.specs.Reading.{contents_of}
 use Rattle.jc_linker.specs.Values.{Packages}
 use Rattle.jc_card_load.specs.PendingPackages.{PendingPackageValue, if_read, linked_components, linked_package, linked_texts}
 use Rattle.jc_card_load.specs.Reading.{with_prepared}
-use Rattle.jc_card_load.specs.declared.package_refusal.PackageRefusal.{PackageRefusal}
-use Rattle.jc_card_load.specs.declared.package_refusal.PackageRefusal.TheVariants.{BadComponents}
+use Rattle.jc_card_load.specs.declared.load_refusal.LoadRefusal.{LoadRefusal}
+use Rattle.jc_card_load.specs.declared.load_refusal.LoadRefusal.TheVariants.{BadComponents}
 
 -- what is passed on unchanged may be asked first
-passed : {A B C : Type 0} (r : Result A CapFault) (t : B) (f : B → Result C PackageRefusal) → if_read (r >>= λ good. Ok t) f ≡ if_read r (λ good. f t)
+passed : {A B C : Type 0} (r : Result A CapFault) (t : B) (f : B → Result C LoadRefusal) → if_read (r >>= λ good. Ok t) f ≡ if_read r (λ good. f t)
 passed (Ok x) t f = refl
 passed (Err fault) t f = refl
 
-abbrev said : Packages → PackageBytes → Result PendingPackageValue PackageRefusal
+abbrev said : Packages → PackageBytes → Result PendingPackageValue LoadRefusal
 said p t = if_read (contents_of t) (λ c. linked_package p t c)
 
-abbrev from_components : Packages → Result PackageBytes CapFault → Result PendingPackageValue PackageRefusal
+abbrev from_components : Packages → Result PackageBytes CapFault → Result PendingPackageValue LoadRefusal
 from_components p r = if_read (r >>= λ texts. checked_package texts >>= λ good. Ok texts) (said p)
 
 is_from : (p : Packages) (load : LoadedComponents) → linked_components p load ≡ from_components p (required_components load)

@@ -1,6 +1,7 @@
 -- The end of a load: the package comes in, or it is refused.
 use Rattle.std.specs.Prelude.{ℕ, nat_le, length, Option, Some, None, Result, Ok, Err, if◌then◌else◌, is_none}
 use Rattle.jc_words.specs.Layout.{most_packages}
+use Rattle.jc_words.specs.declared.store.StoreDown.{StoreDown}
 use Rattle.jc_cap.specs.declared.texts.LoadedComponents.{LoadedComponents}
 use Rattle.jc_cap.specs.declared.texts.PackageBytes.{PackageBytes}
 use Rattle.jc_heap.specs.Completions.{Attempt, Done, Refused, Completion, Completed, Torn}
@@ -12,13 +13,9 @@ use Rattle.jc_memory.specs.Programs.{Program, Finish, Either, bind}
 use Rattle.jc_memory.specs.Changing.{package_addition}
 use Rattle.jc_card_load.specs.PendingPackages.{PendingPackageValue, linked_components, linked_texts}
 use Rattle.jc_card_load.specs.RecordContents.{arrays_of, image_of, parts_of, statics_of}
-use Rattle.jc_card_load.specs.declared.package_refusal.PackageRefusal.{PackageRefusal}
-use Rattle.jc_card_load.specs.declared.package_refusal.PackageRefusal.TheVariants.{Full, LinkFailed}
-use Rattle.jc_card_load.specs.declared.load_end.EndFault.{EndFault}
-use Rattle.jc_card_load.specs.declared.load_end.EndFault.TheVariants as ends
 use Rattle.jc_card_load.specs.declared.load.OpenLoad.{OpenLoad}
 use Rattle.jc_card_load.specs.declared.load_refusal.LoadRefusal.{LoadRefusal}
-use Rattle.jc_card_load.specs.declared.load_refusal.LoadRefusal.TheVariants.{OutOfSequence, Refused, HeapFull}
+use Rattle.jc_card_load.specs.declared.load_refusal.LoadRefusal.TheVariants.{OutOfSequence, Full, LinkFailed, HeapFull}
 use Rattle.jc_card_load.specs.Loading.{CommandResult}
 
 -- how the end of a load ends, the packages and the load that it leaves
@@ -39,20 +36,20 @@ after_addition p q (Refused reason) = with_dropped_load p HeapFull
 -- its record is written, if there is a place for its address
 abbrev pub package_entry : Packages → PendingPackageValue → MemoryState → Program LoadResult
 package_entry p q s =
-    if nat_le most_packages (length s.heap.now.packages) then with_dropped_load p (Refused Full) else
+    if nat_le most_packages (length s.heap.now.packages) then with_dropped_load p Full else
     bind (package_addition s (parts_of q.texts) (arrays_of (statics_of q.texts)) (image_of (statics_of q.texts))) s (λ answer after. after_addition p q answer)
 
-abbrev pub after_preparation : Packages → MemoryState → Result PendingPackageValue PackageRefusal → Program LoadResult
-after_preparation p s (Err refusal) = with_dropped_load p (Refused refusal)
+abbrev pub after_preparation : Packages → MemoryState → Result PendingPackageValue LoadRefusal → Program LoadResult
+after_preparation p s (Err refusal) = with_dropped_load p refusal
 after_preparation p s (Ok q) = package_entry p q s
 
 -- what the components of a package may become: memory may be refused for it
 abbrev pub texts_result : Packages → MemoryState → PackageBytes → Program LoadResult
-texts_result p s t = Either (after_preparation p s (linked_texts p t)) (with_dropped_load p (Refused (LinkFailed link.NoMemory)))
+texts_result p s t = Either (after_preparation p s (linked_texts p t)) (with_dropped_load p (LinkFailed link.NoMemory))
 
 -- what the components of a load may become: memory may be refused for it
 unfoldable pub assembly_result : Packages → MemoryState → LoadedComponents → Program LoadResult
-assembly_result p s texts = Either (after_preparation p s (linked_components p texts)) (with_dropped_load p (Refused (LinkFailed link.NoMemory)))
+assembly_result p s texts = Either (after_preparation p s (linked_components p texts)) (with_dropped_load p (LinkFailed link.NoMemory))
 
 -- what the end of a load may do: a load must be open, and no component
 abbrev pub end_of_load : Packages → MemoryState → Option OpenLoad → Program LoadResult
@@ -60,8 +57,7 @@ end_of_load p s None = Finish (record { ended = Err OutOfSequence; packages = p;
 end_of_load p s (Some load) = if is_none load.coming then assembly_result p s load.texts else Finish
     (record { ended = Err OutOfSequence; packages = p; load = Some load })
 
--- how the call ends
-abbrev pub after_end : Result (Unit {0}) EndFault → Packages → Option OpenLoad → MemoryState → Completion MemoryState LoadResult
-after_end (Ok done) p load s = Completed (record { ended = Ok tt; packages = p; load = load }) s
-after_end (Err (ends.Refused refusal)) p load s = Completed (record { ended = Err refusal; packages = p; load = load }) s
-after_end (Err ends.Down) p load s = Torn s
+-- how the call ends: as the command does, or the store refused a write
+abbrev pub after_end : Result CommandResult StoreDown → Packages → Option OpenLoad → MemoryState → Completion MemoryState LoadResult
+after_end (Ok ended) p load s = Completed (record { ended = ended; packages = p; load = load }) s
+after_end (Err down) p load s = Torn s

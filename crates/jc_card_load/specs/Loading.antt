@@ -5,15 +5,14 @@ use Rattle.jc_cap_linkage.specs.declared.fault.CapFault.{CapFault}
 use Rattle.jc_cap_linkage.specs.declared.fault.CapFault.TheVariants.{Trailing, Missing, Repeated, NoMemory}
 use Rattle.jc_cap_linkage.specs.declared.formats.Format.{Format}
 use Rattle.jc_cap_linkage.specs.declared.formats.Format.TheVariants.{V2_1}
-use Rattle.jc_cap_linkage.specs.Tags.{header_tag, directory_tag, class_tag}
+use Rattle.jc_cap_linkage.specs.Tags.{header_tag, directory_tag, class_tag, debug_tag, first_custom_tag}
 use Rattle.jc_cap.specs.declared.texts.LoadedComponents.{LoadedComponents}
 use Rattle.jc_cap.specs.Texts.{no_components, with_component}
 use Rattle.jc_cap.specs.Contents.{Content}
 use Rattle.jc_cap.specs.Contents as contents
 use Rattle.jc_cap.specs.Components.{component_at}
-use Rattle.jc_card_load.specs.declared.package_refusal.PackageRefusal.TheVariants.{BadComponents}
 use Rattle.jc_card_load.specs.declared.load_refusal.LoadRefusal.{LoadRefusal}
-use Rattle.jc_card_load.specs.declared.load_refusal.LoadRefusal.TheVariants.{OutOfSequence, UnknownTag, Refused}
+use Rattle.jc_card_load.specs.declared.load_refusal.LoadRefusal.TheVariants.{OutOfSequence, UnknownTag, BadComponents}
 use Rattle.jc_card_load.specs.declared.load.OpenLoad.{OpenLoad}
 use Rattle.jc_card_load.specs.Incoming.{IncomingValue}
 
@@ -27,7 +26,7 @@ command_result ended left = (ended, left)
 
 -- memory was refused
 abbrev pub no_memory : LoadRefusal
-no_memory = Refused (BadComponents NoMemory)
+no_memory = BadComponents NoMemory
 
 -- how a command ends where the memory that it asks for is refused: it asks for none where there is another refusal
 abbrev pub ended_without_memory : CommandResult → CommandResult
@@ -46,7 +45,7 @@ empty_component tag = record { tag = tag; bytes = [] }
 
 -- more bytes come: at most as many as a component can have with its tag and its size
 abbrev pub component_with_bytes : List ℕ → IncomingValue → CommandResult × IncomingValue
-component_with_bytes more c = if nat_lt 65538 (length c.bytes + length more) then (Err (Refused (BadComponents Trailing)), c) else
+component_with_bytes more c = if nat_lt 65538 (length c.bytes + length more) then (Err (BadComponents Trailing), c) else
     (Ok tt, record c { bytes = c.bytes ++ more })
 
 -- ---- an open load
@@ -55,16 +54,16 @@ component_with_bytes more c = if nat_lt 65538 (length c.bytes + length more) the
 unfoldable pub empty_load : OpenLoad
 empty_load = record { format = None; texts = no_components; came = replicate 256 false; coming = None }
 
--- 1 to 12, and 128 and above for custom components
+-- from Header's to Debug's, or that of a custom component
 abbrev pub is_tag : ℕ → Bool
-is_tag tag = nat_lt 0 tag && (nat_lt tag 13 || nat_le 128 tag)
+is_tag tag = (nat_le header_tag tag && nat_le tag debug_tag) || nat_le first_custom_tag tag
 
 -- a component begins: none may be open, its tag must be one, and no component with it may have come
 abbrev pub component_begin : ℕ → OpenLoad → CommandResult × OpenLoad
 component_begin tag load =
     if is_some load.coming then (Err OutOfSequence, load) else
     if is_tag tag then (
-    if slice_index_or load.came tag false then (Err (Refused (BadComponents (Repeated tag))), load) else
+    if slice_index_or load.came tag false then (Err (BadComponents (Repeated tag)), load) else
     (Ok tt, record load { coming = Some (empty_component tag) }))
     else (Err UnknownTag, load)
 
@@ -92,7 +91,7 @@ format_behind told x = told
 
 -- a component that was read is kept; one that cannot be read is dropped
 abbrev pub load_with : OpenLoad → IncomingValue → Result Content CapFault → CommandResult × OpenLoad
-load_with load c (Err fault) = (Err (Refused (BadComponents fault)), record load { coming = None })
+load_with load c (Err fault) = (Err (BadComponents fault), record load { coming = None })
 load_with load c (Ok x) = (
   Ok tt,
   record load {

@@ -11,8 +11,8 @@ use Rattle.jc_linker.specs.Values.{Packages}
 use Rattle.jc_platform.specs.Tokens.{Tokens}
 use Rattle.jc_linker.specs.Linking.{with_package}
 use Rattle.jc_linker.specs.declared.fault.LinkFault.TheVariants as link
-use Rattle.jc_card_load.specs.declared.package_refusal.PackageRefusal.{PackageRefusal}
-use Rattle.jc_card_load.specs.declared.package_refusal.PackageRefusal.TheVariants.{BadComponents, AidTaken, Full, LinkFailed}
+use Rattle.jc_card_load.specs.declared.load_refusal.LoadRefusal.{LoadRefusal}
+use Rattle.jc_card_load.specs.declared.load_refusal.LoadRefusal.TheVariants.{OutOfSequence, UnknownTag, BadComponents, AidTaken, Full, LinkFailed, HeapFull}
 use Rattle.jc_card_load.specs.declared.reading.RecordFault.{RecordFault}
 use Rattle.jc_card_load.specs.declared.reading.RecordFault.TheVariants.{Damaged, NoMemory}
 use Rattle.jc_card_load.specs.PendingPackages.{PendingPackageValue, linked_components}
@@ -42,7 +42,7 @@ load_of words = record {
 }
 
 -- why a package that was refused is not read: the only refusal of it for want of memory is that of linking
-abbrev pub fault_of : PackageRefusal → RecordFault
+abbrev pub fault_of : LoadRefusal → RecordFault
 fault_of (LinkFailed link.NoMemory) = NoMemory
 fault_of (LinkFailed link.ImportMissing) = Damaged
 fault_of (LinkFailed link.ImportVersion) = Damaged
@@ -50,9 +50,12 @@ fault_of (LinkFailed (link.Unresolved index)) = Damaged
 fault_of (BadComponents fault) = Damaged
 fault_of AidTaken = Damaged
 fault_of Full = Damaged
+fault_of OutOfSequence = Damaged
+fault_of UnknownTag = Damaged
+fault_of HeapFull = Damaged
 
 -- the packages with the one that was prepared, if it was
-abbrev pub with_prepared : Packages → Result PendingPackageValue PackageRefusal → Option Packages
+abbrev pub with_prepared : Packages → Result PendingPackageValue LoadRefusal → Option Packages
 with_prepared p (Err refusal) = None
 with_prepared p (Ok q) = Some (with_package p q.linked)
 

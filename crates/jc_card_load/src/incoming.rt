@@ -3,7 +3,6 @@ ghost use Rattle.std.specs.Prelude.{◌≡◌, ◌⊎◌, ◌<◌, length};
 ghost use Rattle.jc_card_load.specs.Loading.{empty_component, component_with_bytes, without_memory, command_result};
 
 use crate::load_refusal::LoadRefusal;
-use crate::package_refusal::PackageRefusal;
 use jc_cap_linkage::fault::CapFault;
 use std::alloc::Global;
 use std::marker::Model;
@@ -48,11 +47,11 @@ impl IncomingComponent {
             ≡ without_memory self.old (component_with_bytes more.now self.old)) }
     {
         if self.bytes.len() + more.len() > MOST_BYTES {
-            return Err(LoadRefusal::Refused(PackageRefusal::BadComponents(CapFault::Trailing)));
+            return Err(LoadRefusal::BadComponents(CapFault::Trailing));
         }
         match self.bytes.extend_from_slice(more) {
             Ok(()) => Ok(()),
-            Err(_) => Err(LoadRefusal::Refused(PackageRefusal::BadComponents(CapFault::NoMemory))),
+            Err(_) => Err(LoadRefusal::BadComponents(CapFault::NoMemory)),
         }
     }
 

@@ -8,12 +8,11 @@ mod linker_view;
 mod load;
 mod load_end;
 mod load_refusal;
-pub mod package_refusal;
 pub mod pending_package;
 pub mod reading;
 pub mod record_contents;
 
 pub use incoming::IncomingComponent;
 pub use load::OpenLoad;
-pub use load_end::{EndFault, end_package};
+pub use load_end::end_package;
 pub use load_refusal::LoadRefusal;

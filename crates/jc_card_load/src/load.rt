@@ -2,12 +2,11 @@
 ghost use Rattle.std.specs.Prelude.{◌≡◌, ◌⊎◌};
 ghost use Rattle.jc_cap.specs.Views.{content};
 ghost use Rattle.jc_cap_linkage.specs.Reading.{ParsesAs};
-ghost use Rattle.jc_card_load.specs.Loading.{empty_load, component_begin, component_end, component_append, without_memory, command_result};
+ghost use Rattle.jc_card_load.specs.Loading.{empty_load, component_begin, component_end, component_append, is_tag, without_memory, command_result};
 ghost use Rattle.jc_card_load.specs.Loading.{TellsFormat, content_in, format_behind};
 
 use crate::incoming::IncomingComponent;
 use crate::load_refusal::LoadRefusal;
-use crate::package_refusal::PackageRefusal;
 use jc_cap::component::{Component, read_component};
 use jc_cap::texts::LoadedComponents;
 use jc_cap_linkage::fault::CapFault;
@@ -49,13 +48,11 @@ impl OpenLoad {
         if self.coming.is_some() {
             return Err(LoadRefusal::OutOfSequence);
         }
-        if tag == 0 || tag > 12 && tag < 128 {
+        if !is_tag(tag) {
             return Err(LoadRefusal::UnknownTag);
         }
         if self.came[tag as usize] {
-            return Err(LoadRefusal::Refused(PackageRefusal::BadComponents(CapFault::Repeated(
-                tag,
-            ))));
+            return Err(LoadRefusal::BadComponents(CapFault::Repeated(tag)));
         }
         self.coming = Some(IncomingComponent::new(alloc, tag));
         Ok(())
@@ -89,9 +86,16 @@ impl OpenLoad {
                 self.texts.keep(tag, coming.into_bytes());
                 Ok(())
             }
-            Err(fault) => Err(LoadRefusal::Refused(PackageRefusal::BadComponents(fault))),
+            Err(fault) => Err(LoadRefusal::BadComponents(fault)),
         }
     }
+}
+
+// A component may have this tag.
+fn is_tag(tag: u8) -> bool
+    ensures { result ≡ is_tag tag }
+{
+    tag >= tags::HEADER && tag <= tags::DEBUG || tag >= tags::FIRST_CUSTOM
 }
 
 // What a component says. A Directory and a Class component are read in the format that the header told; before one came

@@ -11,7 +11,7 @@ ghost use Rattle.jc_card_load.specs.LinkerView.{linker_view};
 ghost use Rattle.jc_card_load.specs.PendingPackages.{Answers, linked_package, linked_texts};
 
 use crate::linker_view::linker_components_of;
-use crate::package_refusal::PackageRefusal;
+use crate::load_refusal::LoadRefusal;
 use jc_cap::assembling::Package;
 use jc_cap::contents::Contents;
 use jc_cap::texts::PackageBytes;
@@ -72,7 +72,7 @@ fn link_package<'a>(
     alloc: Global,
     linked: &Linked,
     whole: Package<'a>,
-) -> Result<PendingPackage<'a>, PackageRefusal>
+) -> Result<PendingPackage<'a>, LoadRefusal>
     ensures answer { (c : PackageContents) × (contents_of whole.entry ≡ Ok c)
         × Answers (λ x. x) result (linked_package linked.now whole.entry c) }
     ensures room { OnOk result (length linked.now.loaded < 32) }
@@ -83,10 +83,10 @@ fn link_package<'a>(
         .package_with_aid(contents.header.this_package.aid)
         .is_some()
     {
-        return Err(PackageRefusal::AidTaken);
+        return Err(LoadRefusal::AidTaken);
     }
     if linked.count() >= MOST_PACKAGES {
-        return Err(PackageRefusal::Full);
+        return Err(LoadRefusal::Full);
     }
     match link_to(alloc, linked, texts, contents) {
         Ok((addition, statics)) => Ok(PendingPackage {
@@ -94,7 +94,7 @@ fn link_package<'a>(
             statics,
             addition,
         }),
-        Err(fault) => Err(PackageRefusal::LinkFailed(fault)),
+        Err(fault) => Err(LoadRefusal::LinkFailed(fault)),
     }
 }
 
@@ -106,12 +106,12 @@ pub fn read_and_link<'a>(
     alloc: Global,
     linked: &Linked,
     texts: &'a PackageBytes,
-) -> Result<PendingPackage<'a>, PackageRefusal>
+) -> Result<PendingPackage<'a>, LoadRefusal>
     ensures answer { Answers (λ x. x) result (linked_texts linked.now texts.now) }
     ensures room { OnOk result (length linked.now.loaded < 32) }
 {
     match Package::of(texts) {
         Ok(whole) => link_package(alloc, linked, whole),
-        Err(fault) => Err(PackageRefusal::BadComponents(fault)),
+        Err(fault) => Err(LoadRefusal::BadComponents(fault)),
     }
 }

@@ -5,7 +5,7 @@ ghost use Rattle.jc_heap.specs.Components.{record_of, IsWithin};
 ghost use Rattle.jc_card_load.specs.Reading.{fault_of, load_of, packages_of, text_at, text_in, with_prepared};
 ghost use Rattle.jc_card_load.specs.PendingPackages.{linked_components, linked_texts};
 
-use crate::package_refusal::PackageRefusal;
+use crate::load_refusal::LoadRefusal;
 use crate::pending_package::read_and_link;
 use jc_cap::assembling::required_components;
 use jc_cap::texts::{ComponentBytes, LoadedComponents, PackageBytes};
@@ -113,11 +113,11 @@ fn load_of<S: WordStore>(
 }
 
 // Why a package that was refused is not read.
-fn fault_of(refusal: PackageRefusal) -> RecordFault
+fn fault_of(refusal: LoadRefusal) -> RecordFault
     ensures { result ≡ fault_of refusal }
 {
     match refusal {
-        PackageRefusal::LinkFailed(LinkFault::NoMemory) => RecordFault::NoMemory,
+        LoadRefusal::LinkFailed(LinkFault::NoMemory) => RecordFault::NoMemory,
         _ => RecordFault::Damaged,
     }
 }
@@ -192,8 +192,5 @@ fn record_at<S: WordStore>(heap: &Heap<S>, k: u16) -> Ref
     ensures place { result ≡ slice_index heap.now.now.packages k }
     ensures there { 0 < length (record_of heap.now.now result) }
 {
-    match heap.package(k) {
-        Some(at) => at,
-        None => unreachable!(),
-    }
+    heap.package_address(k)
 }

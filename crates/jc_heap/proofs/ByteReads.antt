@@ -1,5 +1,5 @@
 -- Bytes that are read out of the words of cells.
-use Rattle.std.proofs.Common.{◌≡◌, ℕ, ◌+◌, ◌*◌, ◌/◌, ◌%◌, ◌<◌, ◌≤◌, true, false, inl, inr, List, length, map, get_or, set, sym, ◌∙◌, ap, subst, arith}
+use Rattle.std.proofs.Common.{◌≡◌, ℕ, ◌+◌, ◌*◌, ◌-◌, ◌/◌, ◌%◌, ◌<◌, ◌≤◌, true, false, inl, inr, List, length, map, get_or, set, sym, ◌∙◌, ap, subst, arith}
 use Rattle.std.proofs.Common.{ext_get_or, if◌then◌else◌, get_or-set_other, get_or-set_same}
 use Rattle.std.specs.List.{range_with_len}
 use Rattle.std.proofs.lemmas.Bool.{cases_lt, eq-eqb, ne_eqb}
@@ -36,6 +36,14 @@ pair_spot ws r i b k n fits packed odd h =
     let spot = packed_spot ws r (i + (b + 2 * k)) (omega (arith, fits, h)) packed in
     let same : i / 2 + b + k ≡ (i + (b + 2 * k)) / 2 = omega (arith, odd) in
     (omega (arith, same, spot.0), omega (arith, same, spot.1), omega (arith, same))
+
+-- the words that hold two bytes of the run each end within the store
+pub pairs_end : (ws : List ℕ) (r i b n : ℕ) → i + n ≤ length (cells (heap_of ws) r) → is_packed (facts (heap_of ws) r) ≡ true → 0 < n → length ws < 65536
+    → b ≡ i % 2 → cell_address r (i / 2 + b) + (n - b) / 2 < 65536
+unfolding cell_address
+pairs_end ws r i b n fits packed some small odd =
+    let last = packed_spot ws r (i + (n - 1)) (omega (arith, fits, some)) packed in
+    omega (arith, last.0, small, odd, some)
 
 -- the high byte of a word and the low one, as cells
 pub high_read : (ws : List ℕ) (r x w b : ℕ) → x < length (cells (heap_of ws) r) → is_packed (facts (heap_of ws) r) ≡ true → x % 2 ≡ 0

@@ -103,16 +103,16 @@ fn packed_bytes<S: WordStore>(journal: &Journal<S>, object: Ref, i: u16, out: &m
         out[0] = byte_in(journal.read(word_at(object, i / 2)), 1);
     }
     let first = word_at(object, i / 2 + odd);
-    let before = odd as usize;
-    let pairs = (out.len() - before) / 2;
-    for k in 0..pairs {
-        let word = journal.read(first + k as u16);
-        out[before + 2 * k] = byte_in(word, 0);
-        out[before + 2 * k + 1] = byte_in(word, 1);
+    let mut k = odd as usize;
+    let behind = first + ((out.len() - k) / 2) as u16;
+    for address in first..behind {
+        let word = journal.read(address);
+        out[k] = byte_in(word, 0);
+        out[k + 1] = byte_in(word, 1);
+        k += 2;
     }
-    let last = before + 2 * pairs;
-    if last < out.len() {
-        out[last] = byte_in(journal.read(first + pairs as u16), 0);
+    if k < out.len() {
+        out[k] = byte_in(journal.read(behind), 0);
     }
 }
 

@@ -1,14 +1,14 @@
 //! The packages of a heap by their places in the registry.
-ghost use Rattle.std.specs.Prelude.{◌≡◌, ◌<◌, false, length, slice_index, Some, None, IfSome, if◌then◌else◌};
+ghost use Rattle.std.specs.Prelude.{◌≡◌, ◌<◌, false, true, length, slice_index};
 ghost use Rattle.jc_words.specs.Layout.{most_packages};
 ghost use Rattle.jc_heap.specs.Heap.{is_allocated};
 ghost use Rattle.jc_heap.specs.Components.{record_of};
+ghost use Rattle.jc_heap.specs.Whole.{IsConsistent};
 
 use crate::heap::Heap;
-use crate::walk::begins_record;
 use jc_transient::Ref;
 use jc_words::WordStore;
-use jc_words::layout::{ADDRESSES, MOST_PACKAGES, PACKAGES, TEXT_LENGTH, TEXT_START};
+use jc_words::layout::{ADDRESSES, MOST_PACKAGES, PACKAGES};
 
 impl<S: WordStore> Heap<S> {
     /// How many packages there are.
@@ -20,21 +20,16 @@ impl<S: WordStore> Heap<S> {
         self.journal.read(PACKAGES).min(MOST_PACKAGES)
     }
 
-    /// The address of the package at a place of the registry, the first at 0; none, where no package's
-    /// record begins there.
-    pub fn package(&self, k: u16) -> Option<Ref>
+    /// Where the record of the package at a place of the registry begins, the first at 0. Its address alone is read: in a
+    /// whole heap a record stands there.
+    pub fn package_address(&self, k: u16) -> Ref
         requires up { self.now.down ≡ false }
         requires below { k < length self.now.now.packages }
-        ensures exact { let r = slice_index self.now.now.packages k in result
-            ≡ (if is_allocated self.now.now r then Some r else None) }
-        ensures record { IfSome result (λ r. 0 < length (record_of self.now.now r)) }
+        requires whole { IsConsistent self.now.now }
+        ensures exact { result ≡ slice_index self.now.now.packages k }
+        ensures there { is_allocated self.now.now result ≡ true }
+        ensures record { 0 < length (record_of self.now.now result) }
     {
-        let address = self.journal.read(ADDRESSES + k);
-        let text = u32::from(self.journal.read(TEXT_LENGTH));
-        let from = TEXT_START + (text + 1) / 2;
-        if begins_record(&self.journal, from as u16, address) {
-            return Some(Ref::at(address));
-        }
-        None
+        Ref::at(self.journal.read(ADDRESSES + k))
     }
 }

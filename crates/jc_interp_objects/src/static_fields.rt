@@ -11,7 +11,6 @@ use crate::static_images::{
     ImageWord, image_byte, image_pair, image_word, next_word, place_of, with_byte, word_value,
 };
 use jc_frames::{Cell, CodeFault, Frames};
-use jc_heap::Heap;
 use jc_linker::linked::Linked;
 use jc_memory::Memory;
 use jc_opcodes::instr::ValueType;
@@ -23,11 +22,11 @@ use jc_world::values::{keepable, pop_value, word_of};
 // The value of a static field, as it comes on the stack.
 fn static_value<S: WordStore>(
     of_type: ValueType,
-    heap: &Heap<S>,
+    memory: &Memory<S>,
     field: FieldOfImage,
 ) -> Option<Cell>
-    requires { heap.now.down ≡ false }
-    ensures { result ≡ static_value of_type heap.now.now field }
+    requires { memory.now.heap.down ≡ false }
+    ensures { result ≡ static_value of_type memory.now.heap.now field }
 {
     let FieldOfImage {
         package_number,
@@ -35,15 +34,15 @@ fn static_value<S: WordStore>(
     } = field;
     match of_type {
         ValueType::Reference => {
-            let address = image_pair(heap, package_number, offset)?;
+            let address = image_pair(memory, package_number, offset)?;
             Some(Cell::Reference(Ref::at(address)))
         }
         ValueType::Byte => {
-            let byte = image_byte(heap, package_number, u32::from(offset))?;
+            let byte = image_byte(memory, package_number, u32::from(offset))?;
             Some(Cell::Short(i16::from(byte.cast_signed())))
         }
         ValueType::Short => {
-            let word = image_pair(heap, package_number, offset)?;
+            let word = image_pair(memory, package_number, offset)?;
             Some(Cell::Short(word.cast_signed()))
         }
     }
@@ -67,7 +66,7 @@ pub(crate) fn getstatic<S: WordStore>(
     if !frames.has_room() {
         return Err(StepExit::from(CodeFault));
     }
-    let value = static_value(of_type, memory.heap(), field).ok_or(CodeFault)?;
+    let value = static_value(of_type, memory, field).ok_or(CodeFault)?;
     frames.push(value);
     Ok(())
 }
@@ -147,7 +146,7 @@ fn set_static<S: WordStore>(
         package_number,
         offset,
     } = field;
-    let word = image_word(memory.heap(), package_number, offset / 2).ok_or(CodeFault)?;
+    let word = image_word(memory, package_number, offset / 2).ok_or(CodeFault)?;
     match of_type {
         ValueType::Byte => set_byte(&word, offset, (v % 256) as u8, frames, memory),
         _ => set_pair(&word, offset, v, frames, memory),

@@ -6,6 +6,7 @@ ghost use Rattle.jc_interp_objects.specs.StaticImages.{record_at, image_word, ne
 ghost use Rattle.jc_interp_objects.specs.StaticImages.{IsImageWord};
 
 use jc_heap::{Heap, Place};
+use jc_memory::Memory;
 use jc_transient::Ref;
 use jc_words::WordStore;
 
@@ -20,33 +21,34 @@ pub struct ImageWord {
 
 // The record of the package with this number.
 #[tactic(auto, unfolding(crate::specs::StaticImages::record_at))]
-fn record_at<S: WordStore>(heap: &Heap<S>, number: u8) -> Option<Ref>
-    requires { heap.now.down ≡ false }
-    ensures exact { result ≡ record_at heap.now.now number }
-    ensures begun { IfSome result (λ r. 0 < length (record_of heap.now.now r)) }
+fn record_at<S: WordStore>(memory: &Memory<S>, number: u8) -> Option<Ref>
+    requires { memory.now.heap.down ≡ false }
+    ensures exact { result ≡ record_at memory.now.heap.now number }
+    ensures begun { IfSome result (λ r. 0 < length (record_of memory.now.heap.now r)) }
 {
     if number == 0 {
         return None;
     }
     let place = u16::from(number - 1);
-    if place >= heap.packages() {
+    if place >= memory.heap().packages() {
         return None;
     }
-    heap.package(place)
+    Some(memory.package_address(place))
 }
 
 /// The word of a package's static image with this number, from 0.
 #[tactic(auto, unfolding(crate::specs::StaticImages::image_word))]
 pub(crate) fn image_word<S: WordStore>(
-    heap: &Heap<S>,
+    memory: &Memory<S>,
     package_number: u8,
     number: u16,
 ) -> Option<ImageWord>
-    requires { heap.now.down ≡ false }
-    ensures exact { result ≡ image_word heap.now.now package_number number }
-    ensures there { IfSome result (IsImageWord heap.now.now) }
+    requires { memory.now.heap.down ≡ false }
+    ensures exact { result ≡ image_word memory.now.heap.now package_number number }
+    ensures there { IfSome result (IsImageWord memory.now.heap.now) }
 {
-    let owner = record_at(heap, package_number)?;
+    let owner = record_at(memory, package_number)?;
+    let heap = memory.heap();
     let begin = heap.statics(owner)?;
     let offset = u32::from(begin) + u32::from(number);
     if offset >= u32::from(heap.record_length(owner)) {
@@ -114,29 +116,29 @@ pub(crate) fn with_byte(word: u16, offset: u32, byte: u8) -> u16
 /// The byte at an offset of a package's static image.
 #[tactic(auto, unfolding(crate::specs::StaticImages::image_byte))]
 pub(crate) fn image_byte<S: WordStore>(
-    heap: &Heap<S>,
+    memory: &Memory<S>,
     package_number: u8,
     offset: u32,
 ) -> Option<u8>
-    requires up { heap.now.down ≡ false }
+    requires up { memory.now.heap.down ≡ false }
     requires offset { offset ≤ 65536 }
-    ensures { result ≡ image_byte heap.now.now package_number offset }
+    ensures { result ≡ image_byte memory.now.heap.now package_number offset }
 {
-    let word = image_word(heap, package_number, (offset / 2) as u16)?;
-    Some(byte_of(word_value(heap, &word), offset))
+    let word = image_word(memory, package_number, (offset / 2) as u16)?;
+    Some(byte_of(word_value(memory.heap(), &word), offset))
 }
 
 /// The word whose two bytes stand from an offset on.
 #[tactic(auto, unfolding(crate::specs::StaticImages::image_pair))]
 pub(crate) fn image_pair<S: WordStore>(
-    heap: &Heap<S>,
+    memory: &Memory<S>,
     package_number: u8,
     offset: u16,
 ) -> Option<u16>
-    requires { heap.now.down ≡ false }
-    ensures { result ≡ image_pair heap.now.now package_number offset }
+    requires { memory.now.heap.down ≡ false }
+    ensures { result ≡ image_pair memory.now.heap.now package_number offset }
 {
-    let high = image_byte(heap, package_number, u32::from(offset))?;
-    let low = image_byte(heap, package_number, u32::from(offset) + 1)?;
+    let high = image_byte(memory, package_number, u32::from(offset))?;
+    let low = image_byte(memory, package_number, u32::from(offset) + 1)?;
     Some(u16::from(high) * 256 + u16::from(low))
 }

@@ -1,6 +1,8 @@
-//! New packages and applets.
-ghost use Rattle.std.specs.Prelude.{◌≡◌, ◌<◌, false};
+//! Packages and applets: where they stand, and new ones.
+ghost use Rattle.std.specs.Prelude.{◌≡◌, ◌<◌, false, true, length, slice_index};
 ghost use Rattle.jc_words.specs.Layout.{most_packages, most_applets};
+ghost use Rattle.jc_heap.specs.Heap.{is_allocated};
+ghost use Rattle.jc_heap.specs.Components.{record_of};
 ghost use Rattle.jc_heap.specs.Packages.{AreArrays, AreComponents, image_size, array_inits, parts};
 ghost use Rattle.jc_memory.specs.Programs.{Executes};
 ghost use Rattle.jc_heap.specs.Completions.{after_change, after_making};
@@ -12,6 +14,17 @@ use jc_transient::Ref;
 use jc_words::WordStore;
 
 impl<S: WordStore> Memory<S> {
+    /// Where the record of the package at a place of the registry begins, the first at 0. Its address alone is read.
+    pub fn package_address(&self, k: u16) -> Ref
+        requires up { self.now.heap.down ≡ false }
+        requires below { k < length self.now.heap.now.packages }
+        ensures exact { result ≡ slice_index self.now.heap.now.packages k }
+        ensures there { is_allocated self.now.heap.now result ≡ true }
+        ensures record { 0 < length (record_of self.now.heap.now result) }
+    {
+        self.heap.package_address(k)
+    }
+
     /// Adds a package: its record, its static image and its initialised arrays. The answer is where its
     /// record stands.
     pub fn add_package(
@@ -29,6 +42,7 @@ impl<S: WordStore> Memory<S> {
             (array_inits arrays.now) image.now) self.old (after_making result self.new) }
     {
         let package = self.heap.add_package(components, arrays, image)?;
+        self.marks.clear();
         self.marks.scan(&self.heap);
         Ok(package)
     }

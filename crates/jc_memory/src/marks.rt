@@ -93,18 +93,18 @@ impl Marks {
     }
 
     // Takes all marks away.
-    fn clear(&mut self)
+    pub(crate) fn clear(&mut self)
         ensures { AreNone self.new }
     {
         unmark(&mut self.marks);
     }
 
-    // Marks the objects of a heap, and nothing else.
+    // Marks the objects of a heap, where nothing is marked yet.
     pub(crate) fn scan<S: WordStore>(&mut self, heap: &Heap<S>)
-        requires { heap.now.down ≡ false }
+        requires up { heap.now.down ≡ false }
+        requires unset { AreNone self.old }
         ensures { AreObjects self.new heap.now }
     {
-        self.clear();
         let mut last = Ref::null();
         for _turn in 0..MARK_COUNT {
             let Some(next) = heap.next(last) else {

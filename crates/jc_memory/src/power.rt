@@ -82,11 +82,12 @@ impl<S: WordStore> Memory<S> {
         let Volatile {
             ram,
             fixed,
-            marks,
+            mut marks,
             registers,
             command,
             sent,
         } = volatile;
+        marks.clear();
         let mut memory = Memory::new(Heap::resume(store), ram, fixed, marks);
         memory.registers = registers;
         memory.command = command;

@@ -1,6 +1,6 @@
 -- What a token stands for is what has it.
-use Rattle.std.proofs.Common.{◌≡◌, ◌<◌, ◌==◌, ◌&&◌, cond, ℕ, zero, suc, Bool, true, false, List, [], ◌∷◌, Option, Some, None, Ok, length, get_or, refl, ap, sym}
-use Rattle.std.proofs.Common.{subst, ◌∙◌, arith}
+use Rattle.std.proofs.Common.{◌≡◌, ◌<◌, ◌==◌, ◌&&◌, ℕ, zero, suc, Bool, true, false, List, [], ◌∷◌, Some, None, Ok, length, get_or, refl, ap}
+use Rattle.std.proofs.Common.{◌∙◌, arith}
 use Rattle.std.specs.Prelude.{find, if◌then◌else◌, slice_index}
 use Rattle.std.specs.Option.{option_map}
 use Rattle.std.proofs.lemmas.Bool.{false≢true}
@@ -15,7 +15,7 @@ use Rattle.jc_platform.specs.declared.names.PlatformPackage.{PlatformPackage}
 use Rattle.jc_platform.specs.declared.names.PlatformPackage.TheVariants.{JavaLang, JavacardFramework}
 use Rattle.jc_platform.specs.Distinct.{AreDistinct, class_of, entry_of_class, entry_of_method, home_of, kind_of_method}
 use Rattle.jc_platform.specs.Names.{ClassEntry, MethodEntry, class_entry, classes, method_entry, methods}
-use Rattle.jc_platform.specs.Numbers.{class_number, kind_number, method_number, package_number, same_class, same_kind, same_package}
+use Rattle.jc_platform.specs.Numbers.{class_number, method_number, same_class, same_kind, same_package}
 use Rattle.jc_platform.specs.Platform.{TellNames, class_by_token, method_by_token, package_by_number}
 use Rattle.jc_platform.specs.Table.{Reads}
 use Rattle.jc_platform.specs.Tokens.{Tokens, number_in}

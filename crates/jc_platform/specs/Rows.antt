@@ -1,6 +1,6 @@
 -- What the lines of a platform table say.
 use Rattle.std.specs.Prelude.{ℕ, Bool, false, not, ◌&&◌, ◌==◌, nat_le, nat_lt, if◌then◌else◌, List, [], ◌∷◌, length, codes, Option, None, Some, is_some}
-use Rattle.std.specs.Prelude.{unwrap_or, find}
+use Rattle.std.specs.Prelude.{unwrap_or, filter, find}
 use Rattle.std.specs.List.{list_any, slice_split}
 use Rattle.std.specs.Option.{option_and_then}
 use Rattle.std.specs.Str.{bytes_eq, all_ascii_digits}
@@ -147,6 +147,10 @@ class_row a token name =
     option_and_then (λ e.
     if may_be_class a e t then Some (Class e.class t) else None)
     (find (λ e. bytes_eq e.name name) classes)) (number_of token)
+
+-- the entries of a class's methods
+abbrev pub methods_of : PlatformClass → List MethodEntry
+methods_of c = filter (λ e. same_class e.class c) methods
 
 -- the entry of a class's method of this kind and name
 abbrev pub method_named : PlatformClass → MethodKind → List ℕ → Option MethodEntry

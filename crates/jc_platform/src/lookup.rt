@@ -4,11 +4,12 @@ ghost use Rattle.std.specs.Prelude.{◌≡◌, ◌&&◌, find, map};
 ghost use Rattle.std.specs.Option.{option_map};
 ghost use Rattle.std.specs.Str.{bytes_eq};
 ghost use Rattle.jc_platform.specs.Names.{classes, methods, packages};
-ghost use Rattle.jc_platform.specs.Rows.{method_named};
+ghost use Rattle.jc_platform.specs.Rows.{method_named, methods_of};
 ghost use Rattle.jc_platform.specs.Seen.{class_value, method_value, package_value};
 
 use crate::names::{
-    CLASSES, ClassName, METHODS, MethodKind, MethodName, PACKAGES, PackageName, PlatformClass,
+    CLASSES, ClassName, FIRST_METHODS, METHODS, MethodKind, MethodName, PACKAGES, PackageName,
+    PlatformClass,
 };
 
 /// Every package.
@@ -30,6 +31,14 @@ pub(crate) fn all_methods() -> &'static [MethodName]
     ensures { map method_value result.now ≡ methods }
 {
     &METHODS
+}
+
+/// The methods of a class.
+pub(crate) fn methods_of(class: PlatformClass) -> &'static [MethodName]
+    ensures { map method_value result.now ≡ methods_of class }
+{
+    let place = class.index();
+    &all_methods()[FIRST_METHODS[place]..FIRST_METHODS[place + 1]]
 }
 
 /// The package whose AID this is, in upper case hexadecimal.
@@ -60,8 +69,8 @@ pub(crate) fn method_named(
 ) -> Option<MethodName>
     ensures { option_map method_value result ≡ method_named class kind name.now }
 {
-    all_methods()
+    methods_of(class)
         .iter()
-        .find(|entry| entry.is_of(class, kind) && entry.name == name)
+        .find(|entry| entry.kind.is(kind) && entry.name == name)
         .copied()
 }

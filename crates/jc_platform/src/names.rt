@@ -270,15 +270,6 @@ pub(crate) struct MethodName {
     pub(crate) name: &'static [u8],
 }
 
-impl MethodName {
-    /// It is in this class, and of this kind.
-    pub(crate) fn is_of(&self, class: PlatformClass, kind: MethodKind) -> bool
-        ensures { result ≡ (same_class self.now.class class && same_kind self.now.kind kind) }
-    {
-        self.class.is(class) && self.kind.is(kind)
-    }
-}
-
 macro_rules! class {
     ($package:ident $class:ident $name:literal) => {
         ClassName {
@@ -345,7 +336,40 @@ pub(crate) static CLASSES: [ClassName; CLASS_COUNT] = [
     class!(JavacardFramework UserException b"UserException"),
 ];
 
-/// Every method, in the order of `PlatformMethod`.
+/// The place of each class's first method, in the order of `PlatformClass`; behind them how many methods there are.
+pub(crate) static FIRST_METHODS: [usize; CLASS_COUNT + 1] = [
+    0,
+    2,
+    3,
+    4,
+    5,
+    6,
+    7,
+    8,
+    9,
+    10,
+    11,
+    12,
+    13,
+    13,
+    17,
+    25,
+    32,
+    36,
+    51,
+    56,
+    63,
+    67,
+    71,
+    73,
+    75,
+    77,
+    79,
+    81,
+    METHOD_COUNT,
+];
+
+/// Every method, in the order of `PlatformMethod`: class after class.
 pub(crate) static METHODS: [MethodName; METHOD_COUNT] = [
     method!(Object Static ObjectInit 1 b"<init>"),
     method!(Object Virtual ObjectEquals 2 b"equals"),

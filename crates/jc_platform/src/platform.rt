@@ -9,7 +9,7 @@ ghost use Rattle.jc_platform.specs.Platform.{aid_of, class_by_token, class_by_wo
 ghost use Rattle.jc_platform.specs.Seen.{class_value, method_value};
 ghost use Rattle.jc_platform.specs.Tokens.{number_in};
 
-use crate::lookup::{all_classes, all_methods};
+use crate::lookup::{all_classes, methods_of};
 use crate::names::{
     ClassName, MethodKind, MethodName, PlatformClass, PlatformMethod, PlatformPackage,
 };
@@ -154,10 +154,9 @@ impl Platform {
             (λ e. same_class e.class class && same_kind e.kind kind && slice_index
             self.now.method_tokens (method_number e.method) == token) methods }
     {
-        all_methods()
+        methods_of(class)
             .iter()
-            .find(|entry| entry.is_of(class, kind)
-                && self.table.method_token(entry.method) == token)
+            .find(|entry| entry.kind.is(kind) && self.table.method_token(entry.method) == token)
             .copied()
     }
 }

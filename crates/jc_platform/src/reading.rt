@@ -9,7 +9,7 @@ ghost use Rattle.jc_platform.specs.Reading.{AreCopied, IsLacking, above_of};
 ghost use Rattle.jc_platform.specs.Seen.{class_value, method_value};
 ghost use Rattle.jc_platform.specs.declared.row.Row.{Row};
 
-use crate::lookup::{all_classes, all_methods, class_named, method_named, package_with};
+use crate::lookup::{all_classes, class_named, method_named, methods_of, package_with};
 use crate::names::{
     CLASS_COUNT, ClassName, METHOD_COUNT, MethodKind, MethodName, PACKAGE_COUNT, PlatformClass,
     PlatformMethod, PlatformPackage,
@@ -157,8 +157,8 @@ impl Reading {
     fn has_method_token(&self, class: PlatformClass, kind: MethodKind, token: u8) -> bool
         ensures { result ≡ has_method_token (above_of self.now) class kind token }
     {
-        all_methods().iter().any(|entry| {
-            entry.is_of(class, kind) && is_token(self.method_token(entry.method), token)
+        methods_of(class).iter().any(|entry| {
+            entry.kind.is(kind) && is_token(self.method_token(entry.method), token)
         })
     }
 

@@ -1,5 +1,5 @@
 pub mod WholeRuns
 pub mod CutLists
-pub mod Pieces
 pub mod EachSwept
 pub mod Lines
+pub mod Selects

@@ -1,9 +1,9 @@
 -- The first of the lines of a text, and the commands from a line on.
 use Rattle.std.proofs.Common.{◌≡◌, ◌∙◌, ◌⊎◌, ◌==◌, inl, inr, ℕ, suc, zero, ◌+◌, ◌-◌, ◌<◌, ◌≤◌, true, false, if◌then◌else◌, List, [], ◌∷◌, ◌++◌, length, get_or}
-use Rattle.std.proofs.Common.{take, drop, ap, ap₂, sym, refl, arith, eq-eqb, take-add, Some, None}
+use Rattle.std.proofs.Common.{take, drop, ap, sym, refl, arith, eq-eqb, take-add, Some, None}
 use Rattle.std.proofs.lemmas.Bool.{ne_eqb}
 use Rattle.std.proofs.lemmas.List.{drop-drop, drop_all, drop_more, get_or-drop, length-drop}
-use Rattle.jcard_tear.specs.ScriptLines.{commands_from, first_numbered, is_command, whole_lines, with_first}
+use Rattle.jcard_tear.specs.ScriptLines.{commands_from, first_numbered, is_command, selected_behind, selected_by, whole_lines, with_first}
 use Rattle.jcard_tear.specs.declared.script_lines.ScriptLine.{ScriptLine}
 
 -- the byte at a place is a line feed
@@ -36,6 +36,24 @@ first_line (x ∷ xs) (suc (suc k)) some within plain ends =
     (elim ends [ inl whole ↦ inl (omega arith) | inr feed ↦ inr (ap (λ i. get_or xs i 0) here ∙ (sym (ap (λ i. get_or (x ∷ xs) i 0) there) ∙ feed)) ]) in
     ap (λ b. if b then (x ∷ []) ∷ whole_lines xs else with_first x (whole_lines xs)) other ∙ ap (with_first x) more
 
+-- from the beginning of a line on a text is that line, and the lines behind it
+pub next_line : (script : List ℕ) (start end : ℕ) → start < end → end ≤ length script
+    → ((i : ℕ) → start ≤ i → i + 1 < end → is_feed script i → ⊥) → (end ≡ length script) ⊎ is_feed script (end - 1)
+    → whole_lines (drop start script) ≡ take (end - start) (drop start script) ∷ whole_lines (drop end script)
+next_line script start end after within plain ends =
+    let long : length (drop start script) ≡ length script - start = length-drop start script in
+    let there : start + (end - start) ≡ end = omega arith in
+    let last : start + ((end - start) - 1) ≡ end - 1 = omega arith in
+    let quiet : (i : ℕ) → i + 1 < end - start → is_feed (drop start script) i → ⊥ =
+    λ i h feed. plain (start + i) (omega arith) (omega arith) (sym (get_or-drop start script i 0) ∙ feed) in
+    let ended : (end - start ≡ length (drop start script)) ⊎ is_feed (drop start script) ((end - start) - 1) = elim ends [
+      | inl whole ↦ inl (omega (arith, long))
+      | inr feed ↦ inr (get_or-drop start script ((end - start) - 1) 0 ∙ ap (λ i. get_or script i 0) last ∙ feed)
+    ] in
+    let rest : drop (end - start) (drop start script) ≡ drop end script = drop-drop (end - start) start script ∙ ap (λ i. drop i script) there in
+    first_line (drop start script) (end - start) (omega arith) (omega (arith, long)) quiet ended
+    ∙ ap (λ d. take (end - start) (drop start script) ∷ whole_lines d) rest
+
 -- the commands from a line on: perhaps that line, and those behind it
 pub next_command : (script : List ℕ) (start end n : ℕ) → start < end → end ≤ length script
     → ((i : ℕ) → start ≤ i → i + 1 < end → is_feed script i → ⊥) → (end ≡ length script) ⊎ is_feed script (end - 1)
@@ -46,23 +64,14 @@ pub next_command : (script : List ℕ) (start end n : ℕ) → start < end → e
     else commands_from (n + 1) (take end script) (whole_lines (drop end script)))
 unfolding commands_from
 next_command script start end n after within plain ends =
-    let long : length (drop start script) ≡ length script - start = length-drop start script in
     let there : start + (end - start) ≡ end = omega arith in
-    let last : start + ((end - start) - 1) ≡ end - 1 = omega arith in
-    let quiet : (i : ℕ) → i + 1 < end - start → is_feed (drop start script) i → ⊥ =
-    λ i h feed. plain (start + i) (omega arith) (omega arith) (sym (get_or-drop start script i 0) ∙ feed) in
-    let ended : (end - start ≡ length (drop start script)) ⊎ is_feed (drop start script) ((end - start) - 1) = elim ends [
-      | inl whole ↦ inl (omega (arith, long))
-      | inr feed ↦ inr (get_or-drop start script ((end - start) - 1) 0 ∙ ap (λ i. get_or script i 0) last ∙ feed)
-    ] in
-    let split = first_line (drop start script) (end - start) (omega arith) (omega (arith, long)) quiet ended in
     let before : take start script ++ take (end - start) (drop start script) ≡ take end script =
     sym (take-add start (end - start) script) ∙ ap (λ i. take i script) there in
-    let rest : drop (end - start) (drop start script) ≡ drop end script = drop-drop (end - start) start script ∙ ap (λ i. drop i script) there in
-    ap (commands_from n (take start script)) split
-    ∙ ap₂ (λ (b : List ℕ) (d : List ℕ). if is_command (take (end - start) (drop start script))
-    then record { number = n; before = take start script; text = take (end - start) (drop start script) } ∷ commands_from (n + 1) b (whole_lines d)
-    else commands_from (n + 1) b (whole_lines d)) before rest
+    ap (commands_from n (take start script)) (next_line script start end after within plain ends)
+    ∙ ap (λ (b : List ℕ). if is_command (take (end - start) (drop start script))
+    then record { number = n; before = take start script; text = take (end - start) (drop start script) }
+    ∷ commands_from (n + 1) b (whole_lines (drop end script))
+    else commands_from (n + 1) b (whole_lines (drop end script))) before
 
 -- behind the last line there is none
 pub none_behind : (n : ℕ) (before script : List ℕ) (start : ℕ) → length script ≤ start → commands_from n before (whole_lines (drop start script)) ≡ []
@@ -109,3 +118,16 @@ number_passed n all i d h e = ap (first_numbered n) (drop_more all i d h)
 pub number_missing : (n : ℕ) (all : List ScriptLine) (i : ℕ) → length all ≤ i → first_numbered n (drop i all) ≡ None
 unfolding first_numbered
 number_missing n all i h = ap (first_numbered n) (drop_all i all h)
+
+-- what is selected from a line on: what that line leaves in force, behind the lines that follow
+pub selected_next : (script found : List ℕ) (start end : ℕ) → start < end → end ≤ length script
+    → ((i : ℕ) → start ≤ i → i + 1 < end → is_feed script i → ⊥) → (end ≡ length script) ⊎ is_feed script (end - 1)
+    → selected_by found (whole_lines (drop start script))
+    ≡ selected_by (selected_behind found (take (end - start) (drop start script))) (whole_lines (drop end script))
+unfolding selected_by
+selected_next script found start end after within plain ends = ap (selected_by found) (next_line script start end after within plain ends)
+
+-- no line is left
+pub selected_last : (script found : List ℕ) (start : ℕ) → length script ≤ start → selected_by found (whole_lines (drop start script)) ≡ found
+unfolding selected_by whole_lines
+selected_last script found start h = ap (λ d. selected_by found (whole_lines d)) (drop_all start script h)

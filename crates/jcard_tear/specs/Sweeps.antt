@@ -7,7 +7,7 @@ use Rattle.jcard_outcomes.specs.declared.standing.Left.{Left}
 use Rattle.jcard_outcomes.specs.declared.each.LineSweep.{LineSweep}
 use Rattle.jcard_outcomes.specs.declared.report.Sweep.{Sweep}
 use Rattle.jcard_tear.specs.Runs.{IsLeft, Runs}
-use Rattle.jcard_tear.specs.ScriptLines.{IsPiece, Line}
+use Rattle.jcard_tear.specs.ScriptLines.{Line, last_select}
 use Rattle.jcard_tear.specs.declared.cuts.Command.{Command}
 
 -- the script up to the command, with the power cut after so many of its writes
@@ -57,14 +57,14 @@ pub record IsSwept (words : List ℕ) (c : Command) (spared : List ℕ) (s : Swe
 
 -- ---- the commands of a script
 
--- the lines of a probe: those that are given, or else some that stand before the command
-abbrev pub IsProbeOf : Option (List ℕ) → List ℕ → List ℕ → Type 0
-IsProbeOf (Some given) before probe = probe ≡ given
-IsProbeOf None before probe = IsPiece before probe
+-- the lines of a probe: those that are given, or else the one before the command that selects an applet
+abbrev pub probe_of : Option (List ℕ) → List ℕ → List ℕ
+probe_of (Some given) before = given
+probe_of None before = last_select before
 
 -- the command in this line was cut
 abbrev pub IsLineSwept : List ℕ → Option (List ℕ) → List ℕ → Line → Sweep → Type 0
-IsLineSwept words given spared l sweep = (c : Command) × (c.before.now ≡ l.before) × (c.line.now ≡ l.text) × IsProbeOf given l.before c.probe.now
+IsLineSwept words given spared l sweep = (c : Command) × (c.before.now ≡ l.before) × (c.line.now ≡ l.text) × (c.probe.now ≡ probe_of given l.before)
     × IsSwept words c spared sweep
 
 -- the commands in these lines were cut, one after the other

@@ -2,7 +2,7 @@
 ghost use Rattle.std.specs.Prelude.{◌≡◌, ◌<◌, ◌++◌, ◌∷◌, ℕ, List, [], length, map, option_map, IfOk, OnOk};
 ghost use Rattle.std.specs.Borrow.{Bor};
 ghost use Rattle.jcard_tear.specs.ScriptLines.{line_of};
-ghost use Rattle.jcard_tear.specs.Sweeps.{AreSwept, IsLineSwept, IsProbeOf};
+ghost use Rattle.jcard_tear.specs.Sweeps.{AreSwept, IsLineSwept, probe_of};
 
 use crate::cuts::Command;
 use crate::script_lines::{ScriptLine, last_select};
@@ -57,8 +57,8 @@ pub fn tear_each(
 
 // The lines of the probe of a command that stands behind this text.
 fn probe_for<'a>(probe: Option<&'a [u8]>, before: &'a [u8]) -> &'a [u8]
-    ensures { IsProbeOf (option_map (λ (text : Bor (List ℕ)). text.now) probe.entry) before.now
-        result.now }
+    ensures { result.now ≡ probe_of (option_map (λ (text : Bor (List ℕ)). text.now) probe.entry)
+        before.now }
 {
     match probe {
         Some(text) => text,

@@ -1,6 +1,6 @@
 //! The lines of a script: which of them are commands, and which selects an applet.
-ghost use Rattle.std.specs.Prelude.{◌≡◌, ◌≢◌, ◌⊎◌, ◌+◌, ◌-◌, ◌<◌, ◌≤◌, ◌++◌, ◌∷◌, [], ℕ, map, length, slice_index, IfOk, OnOk};
-ghost use Rattle.jcard_tear.specs.ScriptLines.{IsPiece, chosen, commands_of, first_numbered, is_command, line_of};
+ghost use Rattle.std.specs.Prelude.{◌≡◌, ◌≢◌, ◌⊎◌, ◌+◌, ◌-◌, ◌<◌, ◌≤◌, ◌++◌, ◌∷◌, [], ℕ, codes, map, length, slice_index, IfOk, OnOk};
+ghost use Rattle.jcard_tear.specs.ScriptLines.{begins, chosen, commands_of, first_numbered, is_command, last_select, line_of, solid};
 
 use std::alloc::{AllocError, Global};
 
@@ -62,7 +62,7 @@ fn with_number<'a>(commands: &[ScriptLine<'a>], number: usize) -> Option<ScriptL
 
 /// The last line that selects an applet by its name, behind the last reset; an empty text where there is none.
 pub fn last_select(script: &[u8]) -> &[u8]
-    ensures { IsPiece script.now result.now }
+    ensures { result.now ≡ last_select script.now }
 {
     let mut found = &script[..0];
     let mut start = 0;
@@ -104,8 +104,10 @@ fn is_command(line: &[u8]) -> bool
     }
 }
 
-// Whether a line selects an applet by its name.
-fn is_select(line: &[u8]) -> bool {
+// Whether a line selects an applet by its name: spaces, and small letters, say the same.
+fn is_select(line: &[u8]) -> bool
+    ensures { result ≡ begins (solid line.now) (codes "00A40400") }
+{
     let mut matched = 0;
     for byte in line {
         if matched == SELECT.len() {
@@ -118,6 +120,9 @@ fn is_select(line: &[u8]) -> bool {
             return false;
         }
         matched += 1;
+    }
+    if matched == SELECT.len() {
+        return true;
     }
     false
 }

@@ -36,9 +36,8 @@ bears q = record {
   keeps = λ e m due so. tt;
   turns = λ g m so active installation selected. tt;
   begins = λ m so off. tt;
-  commits = λ m so none. tt;
-  aborts = λ m. tt;
-  flags = λ r flag m. tt;
+  commits = λ m so on none. tt;
+  aborts = λ m on. tt;
   sends = λ bytes m. tt;
 }
 
@@ -56,7 +55,7 @@ registry_beside q h entry = (no_cell (Registry _) tt, (no_cell (Registry _) tt, 
 module _ (method : PlatformMethod) (args : List Cell) (p : Packages) (m : MemoryState) (q : ℕ) (own : IsInstance m q)
     (other : method ≡ AidInit → IsNotCalled q args) where
   registers : (aid : List ℕ) (instance : ℕ) → AllDue (Leaves q) (registration aid instance p m) m
-  registers = registered_due (Leaves q) (λ g v. tt) (λ v. tt) p m (λ r words new.
+  registers = registered_due (Leaves q) (λ g v. tt) (λ v on. tt) p m (λ r words new.
       (subst (λ t. is_allocated m.heap.now t ≡ false) new.chosen new.free, (new_other m q r own.there new, tt)))
       (λ entry v is. inl (registry_beside q v.heap.now entry))
 
@@ -69,6 +68,7 @@ module _ (method : PlatformMethod) (args : List Cell) (p : Packages) (m : Memory
     transient = λ kind count event o none fine room. new_leaves q o (λ r. return_value (ReturnValue (Reference r))) m (λ r v. tt);
     starts = λ pin is limit maximum. new_leaves q (value_array m maximum) (recorded pin limit maximum) m
         (λ value v. (first_leaves q pin limit maximum value v, (tt, tt)));
+    flags = λ pin is flag v. tt;
     counts = λ pin is n. tt;
     refills = λ pin is n limit. tt;
     updates = λ pin is bytes owned short. update_leaves q m pin bytes own is.is short;

@@ -1,33 +1,20 @@
 -- What is done to PINs keeps the order of transactions.
-use Rattle.std.proofs.Common.{◌≡◌, Bool, true, false, List, refl, sym, ap, ◌∙◌, inl, inr, if◌then◌else◌, get_or, arith}
-use Rattle.std.specs.Prelude.{ℕ, ◌-◌, ◌==◌, ◌&&◌, nat_le, nat_lt, not, is_none, length, slice_index, Option, Some, None, Result, Ok}
+use Rattle.std.proofs.Common.{◌≡◌, Bool, true, false, refl, sym, ap, ◌∙◌, inl, inr, if◌then◌else◌, get_or, arith}
+use Rattle.std.specs.Prelude.{ℕ, ◌==◌, ◌&&◌, nat_le, is_none, slice_index, Option, Some, None}
 use Rattle.std.proofs.lemmas.Bool.{false≢true, cases_Bool}
 use Rattle.std.proofs.lemmas.List.{get_or-set_other}
 use Rattle.jc_transient.specs.declared.cell.ClearEvent.{ClearEvent}
 use Rattle.jc_heap.specs.declared.object.Facts.{Facts}
 use Rattle.jc_heap.specs.declared.object.Kind.TheVariants.{Instance, ByteArray}
-use Rattle.jc_heap.specs.declared.refusal.HeapRefusal.{HeapRefusal}
 use Rattle.jc_heap.specs.Object.{header_only, cells_of, is_object}
 use Rattle.jc_heap.specs.Heap.{HeapState, cells, facts, heap_item_at, is_allocated, set_cell}
-use Rattle.jc_heap.specs.Moves.{WriteNonAtomic, SetPlaces, refusal_of_places}
-use Rattle.jc_heap.specs.Places.{places_of}
-use Rattle.jc_transient.specs.State.{flag_of}
-use Rattle.jc_memory.specs.Room.{has_space, lacks_capacity}
+use Rattle.jc_heap.specs.Moves.{WriteNonAtomic}
 use Rattle.jc_heap.proofs.Laws.{same_facts, set_cell-absent, heap_item_at-set_cell, header_only-set_cell, cells-with_cell}
 use Rattle.jc_heap.proofs.Keeping.{object-header_only}
 use Rattle.jc_memory.specs.State.{MemoryState, HeapMove, SetFlag, apply_effect}
-use Rattle.jc_memory.specs.Programs.{Program, Finish, Perform}
 use Rattle.jc_memory.specs.Cells.{header_at, word_at}
-use Rattle.jc_memory.specs.Reading.{AllDue}
-use Rattle.jc_pin.specs.declared.updating.PinRefusal.{PinRefusal}
-use Rattle.jc_pin.specs.Pins.{counter, is_persistent_with, is_pin, record_of}
-use Rattle.jc_pin.specs.Checking.{pin_check, is_value, comparison}
-use Rattle.jc_pin.specs.Resetting.{pin_reset, pin_unblock}
-use Rattle.jc_pin.specs.PinInit.{first_record, pin_init, touched_by_init, value_array}
-use Rattle.jc_pin.specs.Updating.{unless_no_room, changes_of_update, pin_update}
+use Rattle.jc_pin.specs.Pins.{counter, is_persistent_with, is_pin}
 use Rattle.jc_pin.proofs.Kept.{word_kept}
-use Rattle.law_atomicity.specs.Orderly.{KeepsTransactionOrder}
-use Rattle.law_atomicity.proofs.Plain.{AllPlain, due_if, plain_if, plain_makes_new}
 
 -- ---- a PIN is one as long as the headers stay, and its own cells but for the counter
 
@@ -98,51 +85,3 @@ pin_counted s r x pin =
 
 pub pin_flagged : (s : MemoryState) (r : ℕ) (flag : Bool) → is_pin s r ≡ true → is_pin (apply_effect (SetFlag r flag) s) r ≡ true
 pin_flagged s r flag pin = still_pin s (apply_effect (SetFlag r flag) s) r (λ q. refl) refl (λ j other. refl) pin
-
--- ---- checking, and giving all tries back
-
-judged_orderly : (s : MemoryState) (r : ℕ) (guess : Option (List ℕ)) → is_pin s r ≡ true → AllDue KeepsTransactionOrder (comparison s r guess) s
-judged_orderly s r None pin = tt
-judged_orderly s r (Some bytes) pin = due_if (is_value s r bytes) _ _ s (λ e. ((r, refl, pin), (tt, tt))) (λ e. tt)
-
-pub checked_orderly : (s : MemoryState) (r : ℕ) (guess : Option (List ℕ)) → is_pin s r ≡ true → AllDue KeepsTransactionOrder (pin_check s r guess) s
-unfolding pin_check
-checked_orderly s r guess pin =
-    let flagged = pin_flagged s r false pin in
-    let before = apply_effect (SetFlag r false) s in
-    let tries = (record_of s r).tries - 1 in
-    due_if ((record_of s r).tries == 0) _ _ s (λ e. tt)
-    (λ e. (
-      tt,
-      (
-        (r, refl, flagged),
-        judged_orderly (apply_effect (HeapMove (WriteNonAtomic (counter r) tries)) before) r guess
-            (pin_counted before r tries flagged),
-      ),
-    ))
-
-pub unblocked_orderly : (s : MemoryState) (r : ℕ) → is_pin s r ≡ true → AllDue KeepsTransactionOrder (pin_unblock s r) s
-unblocked_orderly s r pin = (tt, ((r, refl, pin_flagged s r false pin), tt))
-
-pub reset_orderly : (s : MemoryState) (r : ℕ) → is_pin s r ≡ true → AllDue KeepsTransactionOrder (pin_reset s r) s
-unfolding pin_reset
-reset_orderly s r pin = due_if (flag_of s.ram r) _ _ s (λ e. unblocked_orderly s r pin) (λ e. tt)
-
--- ---- setting up, and updating
-
-pub started_plain : (s : MemoryState) (r limit maximum : ℕ) → AllPlain (pin_init s r limit maximum)
-unfolding pin_init
-started_plain s r limit maximum =
-    plain_if (not (has_space s ByteArray maximum)) _ _ tt (plain_if (lacks_capacity s (touched_by_init r)) _ _ tt
-    (plain_makes_new {A = Result (Unit {0}) PinRefusal} (value_array s maximum) (λ value. Perform
-    (HeapMove (SetPlaces (first_record r limit maximum value))) (Perform (SetFlag r false) (Finish (Ok tt)))) (λ value. (tt, (tt, tt)))))
-
-unless_no_room_plain : {A : Type 0} (reason : Option HeapRefusal) (d : Program (Result A PinRefusal)) → AllPlain d → AllPlain (unless_no_room reason d)
-unless_no_room_plain None d plain = plain
-unless_no_room_plain (Some r) d plain = tt
-
-pub updated_plain : (s : MemoryState) (r : ℕ) (bytes : List ℕ) → AllPlain (pin_update s r bytes)
-unfolding pin_update
-updated_plain s r bytes =
-    plain_if (nat_lt (record_of s r).maximum (length bytes)) _ _ tt (unless_no_room_plain
-    (refusal_of_places s.heap (places_of (changes_of_update (record_of s r) r bytes))) _ (tt, (tt, tt)))

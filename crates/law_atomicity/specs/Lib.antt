@@ -3,9 +3,7 @@ pub mod Tears
 pub mod Same
 pub mod Changed
 pub mod Guesses
-pub mod Calls
 pub mod Runs
-pub mod Commands
 pub mod Leaving
 pub mod CounterLaws
 pub mod Staying

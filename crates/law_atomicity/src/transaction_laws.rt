@@ -1,4 +1,5 @@
 //! Laws of the definitions, for whatever is done by effects that keep the order of transactions.
+ghost use Rattle.law_atomicity.specs.Runs.{CodeIsOrderly};
 ghost use Rattle.law_atomicity.specs.Same.{StaysSameButTries};
 ghost use Rattle.law_atomicity.specs.Tears.{TransactionsAreAtomic};
 
@@ -13,4 +14,10 @@ pub fn what_a_transaction_found_stays<A>()
 /// address the same thing stands, but for the counters of PINs whose tries were counted.
 pub fn heaps_after_a_loss_differ_in_pin_tries_alone()
     ensures { StaysSameButTries }
+{}
+
+/// Whatever a step or a run of code does, it sets nothing for good but the counter of a PIN's tries, begins a
+/// transaction where none is open, and ends one where one is.
+pub fn code_keeps_the_order_of_transactions()
+    ensures { CodeIsOrderly }
 {}

@@ -1,14 +1,12 @@
 -- Heaps that count their packages.
-use Rattle.std.proofs.Common.{◌≡◌, ℕ, suc, ◌+◌, ◌-◌, ◌≤◌, Bool, List, [], ◌∷◌, length, take, drop, get_or, sym, ◌∙◌, ap, arith, if◌then◌else◌}
-use Rattle.std.proofs.lemmas.List.{length-append, length-drop, length-take-le}
-use Rattle.jc_words.specs.Layout.{addresses_start, most_packages, packages_address, text_start, top_address}
+use Rattle.std.proofs.Common.{ℕ, suc, ◌+◌, Bool, List, [], ◌∷◌, length, sym, ◌∙◌, ap, arith, if◌then◌else◌}
+use Rattle.std.proofs.lemmas.List.{length-append}
 use Rattle.jc_transient.specs.declared.cell.ClearEvent.{ClearEvent}
 use Rattle.jc_transient.specs.declared.cell.ClearEvent.TheVariants.{Reset, Deselect}
 use Rattle.jc_heap.specs.declared.object.Kind.{Kind}
 use Rattle.jc_heap.specs.declared.place.Place.{Place}
 use Rattle.jc_heap.specs.declared.place.Place.TheVariants.{Cell, Static, Registry, AppletCount}
-use Rattle.jc_heap.specs.Heap.{HeapState, add_object, add_transient, area_end, goes_back, read_image, set_cell, set_cells, with_area_end}
-use Rattle.jc_heap.specs.Image.{IsWellFormed, image}
+use Rattle.jc_heap.specs.Heap.{HeapState, add_object, add_transient, area_end, goes_back, set_cell, set_cells, with_area_end}
 use Rattle.jc_heap.specs.Moves.{Move, Write, SetPlaces, WriteNonAtomic, SetCells, AddObject, AddTransient, AddPackage, Begin, Commit, Abort}
 use Rattle.jc_heap.specs.Object.{new_transient}
 use Rattle.jc_heap.specs.Packages.{add_package, package_owner, package_record, push_package}
@@ -17,7 +15,7 @@ use Rattle.jc_heap.specs.Statics.{set_word}
 use Rattle.jc_memory.specs.State.{Effect, HeapMove, SetTransient, SetFlag, ClearTransient, SetRegisters, BeginCommand, SendBytes, MemoryState}
 use Rattle.jc_memory.specs.State.{apply_effect}
 use Rattle.law_soundness.proofs.Memories.{choose}
-use Rattle.law_images.specs.Loads.{CountPackages, CountsPackages, EffectsCount, WordsCount}
+use Rattle.law_images.specs.Loads.{CountPackages, CountsPackages, EffectsCount}
 use Rattle.law_images.proofs.Arrays.{same_registry}
 
 cell_counts : (h : HeapState) (r i v : ℕ) → CountsPackages h → CountsPackages (set_cell h r i v)
@@ -98,19 +96,3 @@ module _ (m : MemoryState) (is : CountPackages m) where
 
 pub effects_count : EffectsCount
 effects_count = λ e m is. effect_counts m is e
-
--- the addresses stand before the table text, which words that are laid have
-addresses_long : (img : List ℕ) → text_start ≤ length img → get_or img packages_address 0 ≤ most_packages
-    → length (take (get_or img packages_address 0) (take most_packages (drop addresses_start img))) ≡ get_or img packages_address 0
-addresses_long img long few =
-    let some : length (drop addresses_start img) ≡ length img - addresses_start = length-drop addresses_start img in
-    let all : length (take most_packages (drop addresses_start img)) ≡ most_packages =
-    length-take-le most_packages (drop addresses_start img) (omega (arith, some, long)) in
-    length-take-le (get_or img packages_address 0) (take most_packages (drop addresses_start img)) (omega (arith, all, few))
-
-words_long : (words : List ℕ) → IsWellFormed words → text_start ≤ length (image words)
-words_long words laid = omega (arith, laid.based, length-take-le (get_or words top_address 0) words laid.fits)
-
-pub words_count : WordsCount
-unfolding read_image
-words_count = λ words laid few. sym (addresses_long (image words) (words_long words laid) few)

@@ -16,7 +16,7 @@ use Rattle.jc_platform.specs.Tokens.{Tokens}
 use Rattle.jc_card_load.specs.RecordContents.{arrays_of, image_of, parts_of, statics_of}
 use Rattle.jc_card_load.specs.PendingPackages.{PendingPackageValue, linked_components}
 use Rattle.jc_card_load.specs.Reading.{packages_of}
-use Rattle.jc_card_load.specs.declared.package_refusal.PackageRefusal.{PackageRefusal}
+use Rattle.jc_card_load.specs.declared.load_refusal.LoadRefusal.{LoadRefusal}
 use Rattle.jc_card_load.specs.declared.load.OpenLoad.{OpenLoad}
 use Rattle.jc_card_load.specs.Ending.{LoadResult, assembly_result, after_addition, after_preparation, end_of_load}
 use Rattle.law_images.specs.Kept.{IsReadAs}
@@ -46,7 +46,7 @@ module _ (t : Tokens) (p : Packages) (m : MemoryState) (h : HeapState) (r : IsRe
   lost_writing q None cs xs image (at, new, inr none) = absurd none
   lost_writing q (Some reason) cs xs image none = absurd none
 
-  lost_prepared : (said : Result PendingPackageValue PackageRefusal) → TearLeaves (after_preparation p m said) m h → Before
+  lost_prepared : (said : Result PendingPackageValue LoadRefusal) → TearLeaves (after_preparation p m said) m h → Before
   lost_prepared (Err refusal) none = absurd none
   lost_prepared (Ok q) d =
       let cs : List (ℕ × List ℕ) = parts_of q.texts in
@@ -80,7 +80,7 @@ module _ (t : Tokens) (p : Packages) (m new : MemoryState) (left : LoadResult) (
   done_writing load q None xs image readable made (at, chosen, d) = leaves _ _ d.0 d.1 (read_back.memory t p load q m xs image readable made w off r, tt)
   done_writing load q (Some reason) xs image readable made d = leaves _ _ d.0 d.1 (r, tt)
 
-  done_prepared : (load : LoadedComponents) (said : Result PendingPackageValue PackageRefusal) → IsReadable load → linked_components p load ≡ said
+  done_prepared : (load : LoadedComponents) (said : Result PendingPackageValue LoadRefusal) → IsReadable load → linked_components p load ≡ said
       → Completes (after_preparation p m said) m left new → Reads left new
   done_prepared load (Err refusal) readable made d = leaves _ _ d.0 d.1 (r, tt)
   done_prepared load (Ok q) readable made d =

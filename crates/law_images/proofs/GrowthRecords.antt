@@ -13,7 +13,7 @@ use Rattle.jc_linker.specs.Linking.{with_package}
 use Rattle.jc_card_load.specs.PendingPackages.{PendingPackageValue, linked_components}
 use Rattle.jc_card_load.specs.Reading.{load_of, packages_of, with_prepared, with_records}
 use Rattle.jc_card_load.specs.LinkerView.{linker_view}
-use Rattle.jc_card_load.specs.declared.package_refusal.PackageRefusal.{PackageRefusal}
+use Rattle.jc_card_load.specs.declared.load_refusal.LoadRefusal.{LoadRefusal}
 use Rattle.law_linking.specs.Linked.{AreLinkedAgainst, IsLinkedAgainst}
 use Rattle.law_linking.proofs.Linking.{some_value}
 use Rattle.law_linking.proofs.Lists.{AllOf, IfThere, all_at}
@@ -38,7 +38,7 @@ then_some : {A B : Type 0} (f : A → Option B) (o : Option A) (r : B) → optio
 then_some f None r e = absurd cc
 then_some f (Some x) r e = (x, refl, e)
 
-prepared_some : (p all : Packages) (r : Result PendingPackageValue PackageRefusal) → with_prepared p r ≡ Some all
+prepared_some : (p all : Packages) (r : Result PendingPackageValue LoadRefusal) → with_prepared p r ≡ Some all
     → (x : PendingPackageValue) × (r ≡ Ok x) × (with_package p x.linked ≡ all)
 prepared_some p all (Err why) e = absurd cc
 prepared_some p all (Ok x) e = (x, refl, some_value (with_package p x.linked) all e)

@@ -7,7 +7,6 @@ pub mod Preparing
 pub mod Loaded
 pub mod OpenLoads
 pub mod Ends
-pub mod Runs
 pub mod Prepares
 pub mod Names
 pub mod Grows

@@ -17,11 +17,9 @@ use Rattle.jc_linker.specs.Linking.{with_package}
 use Rattle.jc_linker.specs.declared.fault.LinkFault.TheVariants as link
 use Rattle.jc_card_load.specs.RecordContents.{arrays_of, image_of, parts_of, statics_of}
 use Rattle.jc_card_load.specs.PendingPackages.{PendingPackageValue, linked_components}
-use Rattle.jc_card_load.specs.declared.package_refusal.PackageRefusal.{PackageRefusal}
-use Rattle.jc_card_load.specs.declared.package_refusal.PackageRefusal.TheVariants.{Full, LinkFailed}
 use Rattle.jc_card_load.specs.declared.load.OpenLoad.{OpenLoad}
 use Rattle.jc_card_load.specs.declared.load_refusal.LoadRefusal.{LoadRefusal}
-use Rattle.jc_card_load.specs.declared.load_refusal.LoadRefusal.TheVariants.{HeapFull, Refused, OutOfSequence}
+use Rattle.jc_card_load.specs.declared.load_refusal.LoadRefusal.TheVariants.{HeapFull, Full, LinkFailed, OutOfSequence}
 use Rattle.jc_card_load.specs.Ending.{LoadResult, assembly_result, with_dropped_load, after_addition, after_preparation, end_of_load}
 use Rattle.jc_card.specs.CardState.{CardState}
 use Rattle.jc_card.specs.Loads.{LoadResponse, answer_of_left, end_load}
@@ -104,20 +102,20 @@ module _ (begins : EffectsKeepBeginnings) (loads : LoadsKeepSound) (t : Tokens) 
     adds_lost (Some reason) h none = absurd none
 
     added_ended : (full : Bool) → nat_le 32 (length m.heap.now.packages) ≡ full → (left : LoadResult) (new : MemoryState)
-        → Completes (if full then with_dropped_load p (Refused Full) else adds reason_of) m left new → HasEnded left.packages new
-    added_ended true e left new did = drops_ended (Refused Full) left new did
+        → Completes (if full then with_dropped_load p Full else adds reason_of) m left new → HasEnded left.packages new
+    added_ended true e left new did = drops_ended Full left new did
     added_ended false e left new did = adds_ended reason_of refl (let a = leb-false 32 (length m.heap.now.packages) e in omega (arith, a)) left new did
 
-    added_lost : (full : Bool) (h : HeapState) → TearLeaves (if full then with_dropped_load p (Refused Full) else adds reason_of) m h → h ≡ m.heap.durable
+    added_lost : (full : Bool) (h : HeapState) → TearLeaves (if full then with_dropped_load p Full else adds reason_of) m h → h ≡ m.heap.durable
     added_lost true h none = absurd none
     added_lost false h lost = adds_lost reason_of h lost
 
-  prepared_ended : (texts : LoadedComponents) → IsReadable texts → (r : Result PendingPackageValue PackageRefusal) → linked_components p texts ≡ r
+  prepared_ended : (texts : LoadedComponents) → IsReadable texts → (r : Result PendingPackageValue LoadRefusal) → linked_components p texts ≡ r
       → (left : LoadResult) (new : MemoryState) → Completes (after_preparation p m r) m left new → HasEnded left.packages new
-  prepared_ended texts readable (Err refusal) is left new did = drops_ended (Refused refusal) left new did
+  prepared_ended texts readable (Err refusal) is left new did = drops_ended refusal left new did
   prepared_ended texts readable (Ok q) is left new did = added_ended texts readable q is (nat_le 32 (length m.heap.now.packages)) refl left new did
 
-  prepared_lost : (texts : LoadedComponents) → IsReadable texts → (r : Result PendingPackageValue PackageRefusal) → linked_components p texts ≡ r
+  prepared_lost : (texts : LoadedComponents) → IsReadable texts → (r : Result PendingPackageValue LoadRefusal) → linked_components p texts ≡ r
       → (h : HeapState) → TearLeaves (after_preparation p m r) m h → h ≡ m.heap.durable
   prepared_lost texts readable (Err refusal) is h none = absurd none
   prepared_lost texts readable (Ok q) is h lost = added_lost texts readable q is (nat_le 32 (length m.heap.now.packages)) h lost
@@ -126,7 +124,7 @@ module _ (begins : EffectsKeepBeginnings) (loads : LoadsKeepSound) (t : Tokens) 
       → HasEnded left.packages new
   unfolding assembly_result
   comes_ended texts readable left new (inl did) = prepared_ended texts readable (linked_components p texts) refl left new did
-  comes_ended texts readable left new (inr did) = drops_ended (Refused (LinkFailed link.NoMemory)) left new did
+  comes_ended texts readable left new (inr did) = drops_ended (LinkFailed link.NoMemory) left new did
 
   comes_lost : (texts : LoadedComponents) → IsReadable texts → (h : HeapState) → TearLeaves (assembly_result p m texts) m h → h ≡ m.heap.durable
   unfolding assembly_result

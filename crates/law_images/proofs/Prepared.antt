@@ -19,8 +19,8 @@ use Rattle.jc_linker.specs.Values.{PackageValue, Packages}
 use Rattle.jc_linker.specs.declared.fault.LinkFault.{LinkFault}
 use Rattle.jc_linker.specs.Linking.{link_result}
 use Rattle.law_linking.proofs.Linking.{made}
-use Rattle.jc_card_load.specs.declared.package_refusal.PackageRefusal.{PackageRefusal}
-use Rattle.jc_card_load.specs.declared.package_refusal.PackageRefusal.TheVariants.{AidTaken, BadComponents, Full, LinkFailed}
+use Rattle.jc_card_load.specs.declared.load_refusal.LoadRefusal.{LoadRefusal}
+use Rattle.jc_card_load.specs.declared.load_refusal.LoadRefusal.TheVariants.{AidTaken, BadComponents, Full, LinkFailed}
 use Rattle.jc_card_load.specs.RecordContents.{array_of, kind_of, parts_of, statics_of, zeros_of}
 use Rattle.jc_card_load.specs.PendingPackages.{PendingPackageValue, if_linked, if_read, linked_components, linked_package}
 use Rattle.jc_card_load.specs.LinkerView.{linker_view}
@@ -31,32 +31,32 @@ use Rattle.law_images.proofs.LoadImages.{AreTagged}
 
 -- ---- what answered
 
-abbrev IsOk : {A : Type 0} → Result A PackageRefusal → Type 0
+abbrev IsOk : {A : Type 0} → Result A LoadRefusal → Type 0
 IsOk (Ok x) = Unit {0}
 IsOk (Err e) = ⊥
 
-no_refusal : {A : Type 0} (e : PackageRefusal) (x : A) → Err e ≡ Ok x → ⊥
+no_refusal : {A : Type 0} (e : LoadRefusal) (x : A) → Err e ≡ Ok x → ⊥
 no_refusal e x is = subst IsOk (sym is) tt
 
-abbrev value_or : {A : Type 0} → A → Result A PackageRefusal → A
+abbrev value_or : {A : Type 0} → A → Result A LoadRefusal → A
 value_or d (Ok x) = x
 value_or d (Err e) = d
 
-abbrev as_ok : {A : Type 0} → A → Result A PackageRefusal
+abbrev as_ok : {A : Type 0} → A → Result A LoadRefusal
 as_ok x = Ok x
 
 ok_value : {A : Type 0} (x y : A) → as_ok x ≡ as_ok y → x ≡ y
 ok_value x y is = ap (value_or x) is
 
-read_ok : {A B : Type 0} (r : Result A CapFault) (f : A → Result B PackageRefusal) (y : B) → if_read r f ≡ Ok y → (x : A) × (r ≡ Ok x) × (f x ≡ Ok y)
+read_ok : {A B : Type 0} (r : Result A CapFault) (f : A → Result B LoadRefusal) (y : B) → if_read r f ≡ Ok y → (x : A) × (r ≡ Ok x) × (f x ≡ Ok y)
 read_ok (Ok x) f y is = (x, refl, is)
 read_ok (Err e) f y is = absurd (no_refusal (BadComponents e) y is)
 
-linked_ok : {A B : Type 0} (r : Result A LinkFault) (f : A → Result B PackageRefusal) (y : B) → if_linked r f ≡ Ok y → (x : A) × (r ≡ Ok x) × (f x ≡ Ok y)
+linked_ok : {A B : Type 0} (r : Result A LinkFault) (f : A → Result B LoadRefusal) (y : B) → if_linked r f ≡ Ok y → (x : A) × (r ≡ Ok x) × (f x ≡ Ok y)
 linked_ok (Ok x) f y is = (x, refl, is)
 linked_ok (Err e) f y is = absurd (no_refusal (LinkFailed e) y is)
 
-unless_ok : {A : Type 0} (b : Bool) (e : PackageRefusal) (r : Result A PackageRefusal) (y : A) → (if b then Err e else r) ≡ Ok y → r ≡ Ok y
+unless_ok : {A : Type 0} (b : Bool) (e : LoadRefusal) (r : Result A LoadRefusal) (y : A) → (if b then Err e else r) ≡ Ok y → r ≡ Ok y
 unless_ok true e r y is = absurd (no_refusal e y is)
 unless_ok false e r y is = is
 

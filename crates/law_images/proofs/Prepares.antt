@@ -14,26 +14,26 @@ use Rattle.jc_linker.specs.declared.fault.LinkFault.{LinkFault}
 use Rattle.jc_linker.specs.Linking.{link_result}
 use Rattle.jc_card_load.specs.PendingPackages.{PendingPackageValue, if_linked, if_read, linked_components, linked_package}
 use Rattle.jc_card_load.specs.LinkerView.{linker_view}
-use Rattle.jc_card_load.specs.declared.package_refusal.PackageRefusal.{PackageRefusal}
-use Rattle.jc_card_load.specs.declared.package_refusal.PackageRefusal.TheVariants.{AidTaken, Full}
+use Rattle.jc_card_load.specs.declared.load_refusal.LoadRefusal.{LoadRefusal}
+use Rattle.jc_card_load.specs.declared.load_refusal.LoadRefusal.TheVariants.{AidTaken, Full}
 
-read_ok : {A B : Type 0} (r : Result A CapFault) (f : A → Result B PackageRefusal) (y : B) → if_read r f ≡ Ok y → (x : A) × (r ≡ Ok x) × (f x ≡ Ok y)
+read_ok : {A B : Type 0} (r : Result A CapFault) (f : A → Result B LoadRefusal) (y : B) → if_read r f ≡ Ok y → (x : A) × (r ≡ Ok x) × (f x ≡ Ok y)
 read_ok (Ok x) f y e = (x, refl, e)
 read_ok (Err fault) f y e = absurd cc
 
-linked_ok : {A B : Type 0} (r : Result A LinkFault) (f : A → Result B PackageRefusal) (y : B) → if_linked r f ≡ Ok y → (x : A) × (r ≡ Ok x) × (f x ≡ Ok y)
+linked_ok : {A B : Type 0} (r : Result A LinkFault) (f : A → Result B LoadRefusal) (y : B) → if_linked r f ≡ Ok y → (x : A) × (r ≡ Ok x) × (f x ≡ Ok y)
 linked_ok (Ok x) f y e = (x, refl, e)
 linked_ok (Err fault) f y e = absurd cc
 
-refused : {A : Type 0} (b : Bool) (why : PackageRefusal) (r : Result A PackageRefusal) (y : A) → (if b then Err why else r) ≡ Ok y → (b ≡ false) × (r ≡ Ok y)
+refused : {A : Type 0} (b : Bool) (why : LoadRefusal) (r : Result A LoadRefusal) (y : A) → (if b then Err why else r) ≡ Ok y → (b ≡ false) × (r ≡ Ok y)
 refused true why r y e = absurd cc
 refused false why r y e = (refl, e)
 
-abbrev prepared_or : PendingPackageValue → Result PendingPackageValue PackageRefusal → PendingPackageValue
+abbrev prepared_or : PendingPackageValue → Result PendingPackageValue LoadRefusal → PendingPackageValue
 prepared_or d (Ok q) = q
 prepared_or d (Err why) = d
 
-linked_of : (q r : PendingPackageValue) → ◌≡◌ {A = Result PendingPackageValue PackageRefusal} (Ok q) (Ok r) → q.linked ≡ r.linked
+linked_of : (q r : PendingPackageValue) → ◌≡◌ {A = Result PendingPackageValue LoadRefusal} (Ok q) (Ok r) → q.linked ≡ r.linked
 linked_of q r e = ap (λ o. (prepared_or q o).linked) e
 
 -- the components and what they say; there was a place for the package, and it was linked

@@ -18,7 +18,7 @@ use Rattle.jc_linker.specs.Lookups.{package_with_aid}
 use Rattle.jc_linker.specs.Values.{Packages}
 use Rattle.jc_linker.specs.declared.fault.LinkFault.{LinkFault}
 use Rattle.jc_linker.specs.Linking.{link_result}
-use Rattle.jc_card_load.specs.declared.package_refusal.PackageRefusal.{PackageRefusal}
+use Rattle.jc_card_load.specs.declared.load_refusal.LoadRefusal.{LoadRefusal}
 use Rattle.jc_card_load.specs.PendingPackages.{PendingPackageValue, if_linked, if_read, linked_components, linked_package}
 use Rattle.jc_card_load.specs.LinkerView.{linker_view}
 use Rattle.law_images.specs.Loaded.{AreBytes, IsReadable}
@@ -154,19 +154,19 @@ assembled_again load t e =
 
 -- ---- what is linked
 
-read_ok : {A B : Type 0} (r : Result A CapFault) (f : A → Result B PackageRefusal) (y : B) → if_read r f ≡ Ok y → (x : A) × (r ≡ Ok x) × (f x ≡ Ok y)
+read_ok : {A B : Type 0} (r : Result A CapFault) (f : A → Result B LoadRefusal) (y : B) → if_read r f ≡ Ok y → (x : A) × (r ≡ Ok x) × (f x ≡ Ok y)
 read_ok (Ok x) f y e = (x, refl, e)
 read_ok (Err fault) f y e = absurd cc
 
-linked_ok : {A B : Type 0} (r : Result A LinkFault) (f : A → Result B PackageRefusal) (y : B) → if_linked r f ≡ Ok y → (x : A) × (r ≡ Ok x) × (f x ≡ Ok y)
+linked_ok : {A B : Type 0} (r : Result A LinkFault) (f : A → Result B LoadRefusal) (y : B) → if_linked r f ≡ Ok y → (x : A) × (r ≡ Ok x) × (f x ≡ Ok y)
 linked_ok (Ok x) f y e = (x, refl, e)
 linked_ok (Err fault) f y e = absurd cc
 
-refused : {B : Type 0} (b : Bool) (d : PackageRefusal) (r : Result B PackageRefusal) (y : B) → (if b then Err d else r) ≡ Ok y → (b ≡ false) × (r ≡ Ok y)
+refused : {B : Type 0} (b : Bool) (d : LoadRefusal) (r : Result B LoadRefusal) (y : B) → (if b then Err d else r) ≡ Ok y → (b ≡ false) × (r ≡ Ok y)
 refused true d r y e = absurd cc
 refused false d r y e = (refl, e)
 
-abbrev ok : PendingPackageValue → Result PendingPackageValue PackageRefusal
+abbrev ok : PendingPackageValue → Result PendingPackageValue LoadRefusal
 ok q = Ok q
 
 same_ok : (x y : PendingPackageValue) → ok x ≡ ok y → x ≡ y

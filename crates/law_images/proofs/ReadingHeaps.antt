@@ -12,7 +12,7 @@ use Rattle.jc_heap.specs.declared.place.Place.TheVariants.{Cell, Static, Registr
 use Rattle.jc_heap.specs.Components.{record_of, words_of}
 use Rattle.jc_heap.specs.Heap.{HeapState, add_object, add_transient, area_end, heap_item_at, is_allocated, set_cell, set_cells, with_area_end}
 use Rattle.jc_heap.specs.Object.{Object, new_transient, transient_size}
-use Rattle.jc_heap.specs.Places.{AreThere, HasPlace, set_place, set_places}
+use Rattle.jc_heap.specs.Places.{set_place, set_places}
 use Rattle.jc_heap.specs.Statics.{IsStatic, set_word}
 use Rattle.jc_heap.specs.Whole.{AreAllocated}
 use Rattle.jc_heap.proofs.Laws.{heap_item_at-add_other}
@@ -22,7 +22,6 @@ use Rattle.jc_card_load.specs.PendingPackages.{linked_components}
 use Rattle.jc_card_load.specs.Reading.{load_of, packages_of, with_prepared, with_records}
 use Rattle.law_soundness.proofs.Cells.{record-set_cell}
 use Rattle.law_soundness.proofs.Statics.{record-other, record-set_word, statics_set}
-use Rattle.law_images.specs.Kept.{PlacesLeavePackages}
 use Rattle.law_images.proofs.ReadingRecords.{load_set}
 
 -- the same packages' records say the same of their components
@@ -177,21 +176,3 @@ transient_tells h kind event class owner long met free =
     let o : Object = new_transient kind event class owner long (area_end h event) in
     also h (add_object h o transient_size) (with_area_end (add_object h o transient_size) event (area_end h event + long))
     (object_tells h o transient_size met free) (end_tells (add_object h o transient_size) event (area_end h event + long))
-
--- ---- places that a heap has
-
-placed_if_there : (h : HeapState) (p : Place) → HasPlace h p → IsPlaced h p
-placed_if_there h (Cell r i) there = tt
-placed_if_there h (Static r j) there = there
-placed_if_there h (Registry i) there = tt
-placed_if_there h AppletCount there = tt
-
-all_placed : (h : HeapState) (cs : List (Place × ℕ)) → AreThere h cs → ArePlaced h cs
-all_placed h [] there = tt
-all_placed h (c ∷ cs) there = (placed_if_there h c.0 there.0, all_placed h cs there.2)
-
-pub places_leave : PlacesLeavePackages
-places_leave = record {
-  one = λ t h p v there. read_same t h (set_place h p v) (place_tells h p v (placed_if_there h p there));
-  several = λ t h changes there. read_same t h (set_places h changes) (places_tell h changes (all_placed h changes there));
-}

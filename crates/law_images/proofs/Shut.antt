@@ -30,7 +30,7 @@ use Rattle.jc_dispatch.specs.Phases.{then_with, applet_method_call, close, abort
 use Rattle.jc_dispatch.specs.Selecting.{after_select, header_of, deselection, manager_selection, process_command, applet_selection, with_command, with_selected}
 use Rattle.jc_card_load.specs.PendingPackages.{PendingPackageValue, linked_components}
 use Rattle.jc_card_load.specs.RecordContents.{arrays_of, image_of, parts_of, statics_of}
-use Rattle.jc_card_load.specs.declared.package_refusal.PackageRefusal.{PackageRefusal}
+use Rattle.jc_card_load.specs.declared.load_refusal.LoadRefusal.{LoadRefusal}
 use Rattle.jc_card_load.specs.declared.load.OpenLoad.{OpenLoad}
 use Rattle.jc_card_load.specs.Ending.{package_entry, assembly_result, after_addition, after_preparation, end_of_load}
 use Rattle.jc_card.specs.Answers.{manager_command, exchange, exchange_of_apdu, is_dispatched, run_code}
@@ -232,7 +232,7 @@ added_shut p q m shut =
     (unless_shut (refusal_of_package m.heap (parts_of q.texts) (arrays_of (statics_of q.texts)) (image_of (statics_of q.texts))) _ m shut
     (stays_shut (λ r new. shut))))
 
-if_prepared_shut : (p : Packages) (m : MemoryState) (q : Result PendingPackageValue PackageRefusal) → m.heap.begun ≡ false
+if_prepared_shut : (p : Packages) (m : MemoryState) (q : Result PendingPackageValue LoadRefusal) → m.heap.begun ≡ false
     → EndsShut (after_preparation p m q) m
 if_prepared_shut p m (Err refusal) shut = stays_shut shut
 if_prepared_shut p m (Ok q) shut = added_shut p q m shut

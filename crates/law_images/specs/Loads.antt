@@ -1,10 +1,9 @@
 -- A load's package in the memory.
-use Rattle.std.specs.Prelude.{ℕ, ◌≡◌, ◌<◌, ◌≤◌, false, List, length, Ok}
+use Rattle.std.specs.Prelude.{ℕ, ◌≡◌, ◌<◌, false, List, length, Ok}
 use Rattle.jc_cap.specs.declared.texts.LoadedComponents.{LoadedComponents}
 use Rattle.jc_cap.specs.declared.texts.PackageBytes.{PackageBytes}
 use Rattle.jc_words.specs.Layout.{most_packages}
-use Rattle.jc_heap.specs.Heap.{HeapState, heap_of}
-use Rattle.jc_heap.specs.Image.{IsWellFormed}
+use Rattle.jc_heap.specs.Heap.{HeapState}
 use Rattle.jc_heap.specs.Keeping.{IsConsistentHeap}
 use Rattle.jc_heap.specs.Moves.{Move, AddPackage}
 use Rattle.jc_heap.specs.Packages.{add_package}
@@ -44,10 +43,6 @@ pub record CountPackages (m : MemoryState) : Type 0 where
 -- each effect leaves it so
 abbrev pub EffectsCount : Type 0
 EffectsCount = (e : Effect) (m : MemoryState) → CountPackages m → CountPackages (apply_effect e m)
-
--- and the heap of words has it so, if it has no more packages than there are places for
-abbrev pub WordsCount : Type 0
-WordsCount = (words : List ℕ) → IsWellFormed words → (heap_of words).counts.0 ≤ most_packages → CountsPackages (heap_of words)
 
 -- the memory is sound, the objects with which it begins are the runtime environment's, and it counts its packages
 pub record IsSoundForLoads (p : Packages) (m : MemoryState) : Type 0 where

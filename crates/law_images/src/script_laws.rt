@@ -1,5 +1,4 @@
-//! Laws of the definitions of scripts and of sessions.
-ghost use Rattle.law_images.specs.Rest.{LeaveAtRest};
+//! Laws of the definitions of scripts.
 ghost use Rattle.law_images.specs.Scripts.{AreSessions, AreWholeSessions, ServeAsEvents};
 
 /// However a script ends, the lines that were carried out are a session over its store: it serves their
@@ -12,9 +11,4 @@ pub fn scripts_are_sessions()
     ensures sessions { AreSessions }
     ensures events { ServeAsEvents }
     ensures whole { AreWholeSessions }
-{}
-
-/// Between two commands the heap is at rest. No transaction is open, and a loss of power leaves it as it is.
-pub fn commands_leave_heaps_at_rest()
-    ensures { LeaveAtRest }
 {}

@@ -35,6 +35,7 @@ use Rattle.law_isolation.proofs.Standing.{applets-add_object, applets-set_cells}
 
 -- an applet may be registered in this package: it is the one that is being installed, and there is a place
 record MayRegister (m : MemoryState) (k : PackageNumber) : Type 0 where
+  begun : m.heap.begun ≡ true
   home : k.0 ≡ installed_package m.registers.installation
   few : m.heap.now.counts.1 < most_applets
 
@@ -47,6 +48,10 @@ installing_in : (m : MemoryState) (b : Bool) (k : PackageNumber) → (if b then 
     → k.0 ≡ installed_package m.registers.installation
 installing_in m true k e = home_of m.registers.installation k e
 installing_in m false k e = absurd (none-some k e)
+
+begun_in : (m : MemoryState) (b : Bool) (k : PackageNumber) → (if b then open_installation m.registers.installation else None) ≡ Some k → b ≡ true
+begun_in m true k e = refl
+begun_in m false k e = absurd (none-some k e)
 
 module _ (m : MemoryState) (aid : List ℕ) (instance : ℕ) (k : PackageNumber) where
   few_in : (known room : Bool) → nat_lt m.heap.now.counts.1 most_applets ≡ room → (owned : Bool)
@@ -61,37 +66,39 @@ module _ (m : MemoryState) (aid : List ℕ) (instance : ℕ) (k : PackageNumber)
   full_in true false j e = same_Ok j k e
   full_in false room j e = absurd (err_not_ok e)
 
-  added_in : (added inside : Bool) → may_be_added m aid instance ≡ added → (j : PackageNumber) → j.0 ≡ installed_package m.registers.installation →
+  added_in : (added inside : Bool) → may_be_added m aid instance ≡ added → (j : PackageNumber) → m.heap.begun ≡ true
+      → j.0 ≡ installed_package m.registers.installation →
       (if added then (if inside then Err (Throw in_progress) else unless_full m j) else Err (Throw illegal_aid)) ≡ Ok k → MayRegister m k
-  added_in true true is j home e = absurd (err_not_ok e)
-  added_in true false is j home e = record {
+  added_in true true is j begun home e = absurd (err_not_ok e)
+  added_in true false is j begun home e = record {
+    begun = begun;
     home = ap (λ x. x.0) (sym (full_in _ _ j e)) ∙ home;
     few = few_in (is_some (applet_with_aid m aid)) (nat_lt m.heap.now.counts.1 most_applets) refl (is_owned (next_number m) (header_at m instance)) is;
   }
-  added_in false inside is j home e = absurd (err_not_ok e)
+  added_in false inside is j begun home e = absurd (err_not_ok e)
 
   registrable_by : (o : Option PackageNumber) → installation_in_transaction m ≡ o → registration_package_in m aid instance o ≡ Ok k → MayRegister m k
   registrable_by None is e = absurd (err_not_ok e)
-  registrable_by (Some j) is e = added_in (may_be_added m aid instance) (is_inside m.registers.depth) refl j (installing_in m m.heap.begun j is) e
+  registrable_by (Some j) is e = added_in (may_be_added m aid instance) (is_inside m.registers.depth) refl j (begun_in m m.heap.begun j is) (installing_in m m.heap.begun j is) e
 
   registrable_is : registration_package m aid instance ≡ Ok k → MayRegister m k
   unfolding registration_package
   registrable_is e = registrable_by (installation_in_transaction m) refl e
 
--- the registry and the installation are as they were
+-- the registry and the installation are as they were, and so is the transaction
 SameHome : MemoryState → ℕ → MemoryState → Type 0
-SameHome m r v = (v.heap.now.counts.1 ≡ m.heap.now.counts.1) × (v.registers ≡ m.registers)
+SameHome m r v = (v.heap.now.counts.1 ≡ m.heap.now.counts.1) × (v.registers ≡ m.registers) × (v.heap.begun ≡ m.heap.begun)
 
 -- an applet is registered, where registers may be set, a transaction may end, an AID object may be made, and the registry's words be set
 module _ (P : Effect → MemoryState → Type 0) (turns : (g : Registers) (v : MemoryState) → P (SetRegisters g) v)
-    (commits : (v : MemoryState) → P (HeapMove Commit) v) (p : Packages) (m : MemoryState)
+    (commits : (v : MemoryState) → v.heap.begun ≡ true → P (HeapMove Commit) v) (p : Packages) (m : MemoryState)
     (makes : (r : ℕ) (words : List ℕ) → IsNew m.heap.now r → AllDue P (Perform (HeapMove (new_move Instance (class_word p.platform Aid) 0 9))
     (Perform (HeapMove (SetCells r 0 words)) (Finish r))) m)
     (enters : (entry : AppletEntry) (v : MemoryState) → IsRegistration (applet_changes v.heap.now entry) v
     → P (HeapMove (SetPlaces (applet_changes v.heap.now entry))) v) where
   aid_keeps : (aid : List ℕ) → AllResults (aid_object_creation p aid m) m (SameHome m)
   unfolding aid_object_creation SameHome
-  aid_keeps aid = λ r new. ((applets-set_cells (cells_of_aid aid) _ r 0).0 ∙ (applets-add_object m.heap.now _ _).0, refl)
+  aid_keeps aid = λ r new. ((applets-set_cells (cells_of_aid aid) _ r 0).0 ∙ (applets-add_object m.heap.now _ _).0, refl, refl)
 
   aid_due : (aid : List ℕ) → AllDue P (aid_object_creation p aid m) m
   unfolding aid_object_creation
@@ -109,5 +116,5 @@ module _ (P : Effect → MemoryState → Type 0) (turns : (g : Registers) (v : M
           few = subst (λ n. n < most_applets) (sym same.0) may.few;
           home = may.home ∙ ap (λ x. installed_package x.installation) (sym same.1);
         }),
-        (commits _, (turns _ _, tt)),
+        (commits _ (same.2 ∙ may.begun), (turns _ _, tt)),
       )) (aid_object_creation p aid m) m (aid_keeps aid)))

@@ -24,7 +24,7 @@ use Rattle.jc_memory.specs.declared.registers.Depth.{Depth}
 use Rattle.jc_memory.specs.declared.registers.Depth.TheVariants.{Outside, Inside}
 use Rattle.jc_memory.specs.declared.registers.Installation.{Installation}
 use Rattle.jc_memory.specs.declared.registers.Installation.TheVariants.{Idle, Open, Registered}
-use Rattle.jc_memory.specs.State.{MemoryState, Effect, HeapMove, SendBytes, apply_effect}
+use Rattle.jc_memory.specs.State.{MemoryState, Effect, HeapMove, SetFlag, SendBytes, apply_effect}
 use Rattle.jc_memory.specs.Cells.{bytes_at, header_at, cell_refusal, cells_refusal, cells_effect, cells_effect_in}
 use Rattle.jc_memory.specs.Programs.{Program}
 use Rattle.jc_memory.specs.Making.{creation_refusal}
@@ -194,8 +194,8 @@ module _ (P : Effect → MemoryState → Type 0) (Q : MemoryState → Type 0) (b
     -- where no installation is open
     closed_due : open_installation m.registers.installation ≡ None → AllDue P (commit_of_applet Idle m) m
     closed_due none = due_if P m m.heap.begun _ _ (λ on. (
-      bears.commits m so none,
-      (bears.turns _ _ (bears.keeps (HeapMove Commit) m (bears.commits m so none) so) refl refl refl, tt),
+      bears.commits m so on none,
+      (bears.turns _ _ (bears.keeps (HeapMove Commit) m (bears.commits m so on none) so) refl refl refl, tt),
     )) (λ off. (bears.turns _ m so refl refl refl, tt))
 
     committed_in_due : (installation : Installation) → m.registers.installation ≡ installation → AllDue P (commit_of_applet installation m) m
@@ -215,9 +215,9 @@ module _ (P : Effect → MemoryState → Type 0) (Q : MemoryState → Type 0) (b
     aborted_due Outside = tt
     aborted_due Inside = due_if P m m.heap.begun _ _
         (λ on. (
-          bears.aborts m,
+          bears.aborts m on,
           (
-            bears.turns _ _ (bears.keeps (HeapMove Abort) m (bears.aborts m) so) refl refl refl,
+            bears.turns _ _ (bears.keeps (HeapMove Abort) m (bears.aborts m on) so) refl refl refl,
             after_abort_due m.registers.installation _,
           ),
         ))
@@ -387,14 +387,14 @@ module _ (P : Effect → MemoryState → Type 0) (Q : MemoryState → Type 0) (b
         (λ k most. settled_due (pin_init m pin n k) (started_due pin n k (called_pin pin is)))))))
 
     judged_due : (pin : ℕ) (v : MemoryState) (guess : Option (List ℕ)) → ((limit : ℕ) → P (HeapMove (WriteNonAtomic (counter pin) limit)) v)
-        → AllDue P (comparison v pin guess) v
-    judged_due pin v None refills = tt
-    judged_due pin v (Some bytes) refills = due_if P v (is_value v pin bytes) _ _ (λ on. (refills _, (bears.flags pin true _, tt))) (λ off. tt)
+        → ((w : MemoryState) → P (SetFlag pin true) w) → AllDue P (comparison v pin guess) v
+    judged_due pin v None refills flags = tt
+    judged_due pin v (Some bytes) refills flags = due_if P v (is_value v pin bytes) _ _ (λ on. (refills _, (flags _, tt))) (λ off. tt)
 
     checked_due : (pin : ℕ) (guess : Option (List ℕ)) → IsPinCall method args m pin → AllDue P (pin_check m pin guess) m
     unfolding pin_check
     checked_due pin guess is = due_if P m ((record_of m pin).tries == 0) _ _ (λ on. tt)
-        (λ off. (bears.flags pin false m, (pass.counts pin is _, judged_due pin _ guess (pass.refills pin is _))))
+        (λ off. (pass.flags pin is false m, (pass.counts pin is _, judged_due pin _ guess (pass.refills pin is _) (pass.flags pin is true))))
 
     compared_due : (pin : ℕ) (bytes : Result Stretch FrameExit) → IsPinCall method args m pin → AllDue P (pin_comparison m pin bytes) m
     unfolding pin_comparison
@@ -409,7 +409,7 @@ module _ (P : Effect → MemoryState → Type 0) (Q : MemoryState → Type 0) (b
 
     reset_due : (pin : ℕ) → IsPinCall method args m pin → AllDue P (pin_reset m pin) m
     unfolding pin_reset
-    reset_due pin is = due_if P m (flag_of m.ram pin) _ _ (λ on. (bears.flags pin false m, (pass.counts pin is _, tt))) (λ off. tt)
+    reset_due pin is = due_if P m (flag_of m.ram pin) _ _ (λ on. (pass.flags pin is false m, (pass.counts pin is _, tt))) (λ off. tt)
 
     was_reset_due : AllDue P (owner_pin_reset args m) m
     unfolding owner_pin_reset
@@ -418,13 +418,14 @@ module _ (P : Effect → MemoryState → Type 0) (Q : MemoryState → Type 0) (b
 
     was_unblocked_due : AllDue P (owner_pin_reset_and_unblock args m) m
     unfolding owner_pin_reset_and_unblock
-    was_unblocked_due = call_some P m (receiver m args) _ (λ pin is. (bears.flags pin false m, (pass.counts pin (called_pin pin is) _, tt)))
+    was_unblocked_due = call_some P m (receiver m args) _ (λ pin is.
+        (pass.flags pin (called_pin pin is) false m, (pass.counts pin (called_pin pin is) _, tt)))
 
     updated_due : (pin : ℕ) (bytes : List ℕ) → IsPinCall method args m pin → is_own_value m pin ≡ Ok tt → AllDue P (pin_update m pin bytes) m
     unfolding pin_update
     updated_due pin bytes is owned = due_if P m (nat_lt (record_of m pin).maximum (length bytes)) _ _ (λ on. tt) (λ off.
         full_due (refusal_of_places m.heap (places_of (changes_of_update (record_of m pin) pin bytes))) _
-        (pass.updates pin is bytes owned (ltb-false (record_of m pin).maximum (length bytes) off), (bears.flags pin false _, tt)))
+        (pass.updates pin is bytes owned (ltb-false (record_of m pin).maximum (length bytes) off), (pass.flags pin is false _, tt)))
 
     value_set_due : AllDue P (owner_pin_update args p m) m
     unfolding owner_pin_update

@@ -44,16 +44,15 @@ bears q = record {
   keeps = λ e m due so. tt;
   turns = λ g m so active installation selected. tt;
   begins = λ m so off. tt;
-  commits = λ m so none. tt;
-  aborts = λ m. tt;
-  flags = λ r flag m. tt;
+  commits = λ m so on none. tt;
+  aborts = λ m on. tt;
   sends = λ bytes m. tt;
 }
 
-nine : (aid : List ℕ) → length (cells_of_aid aid) ≡ 9
+pub nine : (aid : List ℕ) → length (cells_of_aid aid) ≡ 9
 nine aid = let l = length-map (range_with_len 0 8) (aid_cell aid) in let n = length-range_with_len 0 8 in omega (arith, l, n)
 
-data_fits : (command : List ℕ) → length command ≤ 261 → 5 + length (data_of command) ≤ 261
+pub data_fits : (command : List ℕ) → length command ≤ 261 → 5 + length (data_of command) ≤ 261
 unfolding data_of
 data_fits command few = either (nat_le (length command) 5)
   where
@@ -87,7 +86,7 @@ module _ (method : PlatformMethod) (args : List Cell) (p : Packages) (m : Memory
       (run_spares q m r e.start words (not_outside p m q r (facts m.heap.now r) out refl is.reach) (let w = is.within in omega (arith, w, long)))
 
   registers : (aid : List ℕ) (instance : ℕ) → AllDue (LeavesObject q) (registration aid instance p m) m
-  registers = registered_due (LeavesObject q) (λ g v. tt) (λ v. tt) p m (λ r words new.
+  registers = registered_due (LeavesObject q) (λ g v. tt) (λ v on. tt) p m (λ r words new.
       ((refl, subst (λ t. is_allocated m.heap.now t ≡ false) new.chosen new.free), (new_other m q r out.there new, tt))) (λ entry v is. inr is)
 
   passes : MethodPasses (LeavesObject q) method args p m
@@ -101,7 +100,8 @@ module _ (method : PlatformMethod) (args : List Cell) (p : Packages) (m : Memory
     transient = λ kind count event o none fine room. new_spares q o (λ r. return_value (ReturnValue (Reference r))) m out.there (λ r v new. tt);
     starts = λ pin is limit maximum.
         let ne = other_pin pin is in
-        new_spares q (value_array m maximum) (recorded pin limit maximum) m out.there (λ value v new. (inl (ne, (ne, (ne, (ne, (ne, tt))))), (tt, tt)));
+        new_spares q (value_array m maximum) (recorded pin limit maximum) m out.there (λ value v new. (inl (ne, (ne, (ne, (ne, (ne, tt))))), (ne, tt)));
+    flags = λ pin is flag v. other_pin pin is;
     counts = λ pin is n. other_pin pin is;
     refills = λ pin is n limit. other_pin pin is;
     updates = λ pin is bytes owned short. let ne = other_pin pin is in

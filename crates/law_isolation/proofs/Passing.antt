@@ -74,9 +74,8 @@ pub record Bears (P : Effect → MemoryState → Type 0) (Q : MemoryState → Ty
   pub turns : (g : Registers) (m : MemoryState) → Q m → g.active ≡ m.registers.active → g.installation ≡ m.registers.installation
       → g.selected ≡ m.registers.selected → P (SetRegisters g) m
   pub begins : (m : MemoryState) → Q m → m.heap.begun ≡ false → P (HeapMove Begin) m
-  pub commits : (m : MemoryState) → Q m → open_installation m.registers.installation ≡ None → P (HeapMove Commit) m
-  pub aborts : (m : MemoryState) → P (HeapMove Abort) m
-  pub flags : (r : ℕ) (flag : Bool) (m : MemoryState) → P (SetFlag r flag) m
+  pub commits : (m : MemoryState) → Q m → m.heap.begun ≡ true → open_installation m.registers.installation ≡ None → P (HeapMove Commit) m
+  pub aborts : (m : MemoryState) → m.heap.begun ≡ true → P (HeapMove Abort) m
   pub sends : (bytes : List ℕ) (m : MemoryState) → P (SendBytes bytes) m
 
 -- a PIN, on which a method of OwnerPIN is called that sets cells of it
@@ -91,7 +90,7 @@ abbrev pub recorded : ℕ → ℕ → ℕ → ℕ → Program (Result (Unit {0})
 recorded pin limit maximum value = Perform (HeapMove (SetPlaces (first_record pin limit maximum value))) (Perform (SetFlag pin false) (Finish (Ok tt)))
 
 -- what a method sets: the reason of an exception; bytes of an array; the cells of an AID; the APDU buffer; a new transient array; the
--- record of a new PIN; the counter of a PIN; its value; and what registers an applet
+-- record of a new PIN; the flag of a PIN, its counter, and its value; and what registers an applet
 pub record MethodPasses (P : Effect → MemoryState → Type 0) (method : PlatformMethod) (args : List Cell) (p : Packages) (m : MemoryState) : Type 0 where
   pub reason : part_of method ≡ CardExceptions → sets_receiver method ≡ true → (own : ℕ) (v : ℤ) → reference_argument args 0 ≡ Some own → IsInstanceWith m own 1
       → P (cell_effect m own 0 (Short v)) m
@@ -103,6 +102,7 @@ pub record MethodPasses (P : Effect → MemoryState → Type 0) (method : Platfo
   pub transient : (kind : Kind) (count event : ℤ) (o : NewObject) → (kind ≡ Instance → ⊥) → requested_array kind count event p m ≡ Ok o
       → creation_refusal m o ≡ None → AllDue P (object_creation o (λ r. return_value (ReturnValue (Reference r)))) m
   pub starts : (pin : ℕ) → IsPinCall method args m pin → (limit maximum : ℕ) → AllDue P (object_creation (value_array m maximum) (recorded pin limit maximum)) m
+  pub flags : (pin : ℕ) → IsPinCall method args m pin → (flag : Bool) (v : MemoryState) → P (SetFlag pin flag) v
   pub counts : (pin : ℕ) → IsPinCall method args m pin → (n : ℕ) → P (HeapMove (WriteNonAtomic (counter pin) n)) (apply_effect (SetFlag pin false) m)
   pub refills : (pin : ℕ) → IsPinCall method args m pin → (n limit : ℕ) → P (HeapMove (WriteNonAtomic (counter pin) limit))
       (apply_effect (HeapMove (WriteNonAtomic (counter pin) n)) (apply_effect (SetFlag pin false) m))

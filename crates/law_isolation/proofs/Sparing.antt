@@ -55,6 +55,7 @@ stands_first m q o set is =
             let size = area_long m.ram event set.sizes in
             omega (arith, below, fits, size);
       };
+      flag = refl;
       active = refl;
       packages = λ a. refl;
       fixed = refl;
@@ -106,6 +107,7 @@ keeps_cells q o start m is st =
     record {
       item = st.heap.item ∙ sym is;
       cells = (subst (λ f. HasCells f start.ram m.ram) header st.ram).cells;
+      flag = st.flag;
     }
 
 pub are_sparing : LeaveObjects

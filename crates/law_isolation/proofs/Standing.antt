@@ -1,7 +1,7 @@
 -- What effects that spare an object leave of it, and of the context for which code runs.
 use Rattle.std.proofs.Common.{◌≡◌, ℕ, suc, ◌+◌, ◌-◌, ◌*◌, ◌<◌, ◌≤◌, ◌⊎◌, Bool, true, false, inl, inr, List, [], ◌∷◌, length, replicate, set, get_or, refl, sym, ◌∙◌, ap}
 use Rattle.std.proofs.Common.{subst, arith, Option, Some, None, if◌then◌else◌}
-use Rattle.std.proofs.lemmas.Bool.{and_parts, not-true, eqb-false, cases_lt, le-leb, lt-leb}
+use Rattle.std.proofs.lemmas.Bool.{and_parts, not-true, eqb-false, cases_lt, le-leb, lt-leb, true≢false}
 use Rattle.std.proofs.lemmas.List.{length-set, get_or-set_same, get_or-set_other}
 use Rattle.std.specs.Prelude.{pos, not, ◌&&◌, ◌==◌, nat_le, slice_index}
 use Rattle.jc_words.specs.Layout.{most_applets, registry_length}
@@ -9,15 +9,16 @@ use Rattle.jc_transient.specs.declared.cell.CellValue.{CellValue}
 use Rattle.jc_transient.specs.declared.cell.CellValue.TheVariants.{Short}
 use Rattle.jc_transient.specs.declared.cell.ClearEvent.{ClearEvent}
 use Rattle.jc_transient.specs.declared.cell.ClearEvent.TheVariants.{Reset, Deselect}
-use Rattle.jc_transient.specs.State.{RamState, area, with_area, with_cells, cell_at}
+use Rattle.jc_transient.specs.State.{RamState, area, with_area, with_cells, cell_at, flag_of}
 use Rattle.jc_heap.specs.declared.object.Facts.{Facts}
 use Rattle.jc_heap.specs.declared.object.Kind.{Kind}
 use Rattle.jc_heap.specs.declared.place.AppletEntry.{AppletEntry}
 use Rattle.jc_heap.specs.declared.place.Place.{Place}
 use Rattle.jc_heap.specs.declared.place.Place.TheVariants.{Cell, Static, Registry, AppletCount}
-use Rattle.jc_heap.specs.Object.{Object, new_transient}
+use Rattle.jc_heap.specs.Object.{Object, AnObject, is_object, new_transient}
+use Rattle.jc_heap.proofs.Laws.{object_named}
 use Rattle.jc_heap.specs.Statics.{set_word}
-use Rattle.jc_heap.specs.Heap.{HeapState, facts, set_cell, set_cells, add_object, add_transient, area_end, with_area_end}
+use Rattle.jc_heap.specs.Heap.{HeapState, facts, heap_item_at, is_allocated, set_cell, set_cells, add_object, add_transient, area_end, with_area_end}
 use Rattle.jc_heap.specs.Moves.{Move, Write, SetPlaces, WriteNonAtomic, SetCells, AddObject, AddTransient, AddPackage, Begin, Commit, Abort}
 use Rattle.jc_heap.specs.Places.{set_place, set_places, applet_changes}
 use Rattle.jc_memory.specs.State.{MemoryState, Effect, HeapMove, SetTransient, SetFlag, ClearTransient, SetRegisters, BeginCommand, SendBytes}
@@ -224,11 +225,21 @@ has_unflagged f old ram r has = record {
   long = λ event e. subst (λ l. f.place + f.length ≤ length l) (sym (area_flagged ram (set ram.flags r false) event)) (has.long event e);
 }
 
+-- cells that are set leave the flags, and a new object's flag is another one
+flags_set : (ram : RamState) (event : Option ClearEvent) (at : ℕ) (vs : List CellValue) → (ram_after_set ram event at vs).flags ≡ ram.flags
+flags_set ram None at vs = refl
+flags_set ram (Some Reset) at vs = refl
+flags_set ram (Some Deselect) at vs = refl
+
+other_flag : (ram : RamState) (q r : ℕ) (flag : Bool) → (r ≡ q → ⊥) → flag_of (record ram { flags = set ram.flags r flag }) q ≡ flag_of ram q
+other_flag ram q r flag other = get_or-set_other ram.flags r q flag false (λ same. other (sym same))
+
 -- ---- an object stands
 
 pub record Stands (q : ℕ) (o : Object) (start m : MemoryState) : Type 0 where
   pub heap : StandsBeside q o m.heap.now
   pub ram : HasCells o.facts start.ram m.ram
+  pub flag : flag_of m.ram q ≡ flag_of start.ram q
   pub active : m.registers.active ≡ start.registers.active
   pub packages : (a : ℕ) → package_of_applet m a ≡ package_of_applet start a
   pub fixed : m.fixed ≡ start.fixed
@@ -236,13 +247,18 @@ pub record Stands (q : ℕ) (o : Object) (start m : MemoryState) : Type 0 where
   pub applets : length m.heap.now.applets ≡ registry_length
 
 module _ (q : ℕ) (o : Object) (start : MemoryState) where
+  -- nothing stands where something new comes
+  new_behind : (m : MemoryState) → heap_item_at m.heap.now q ≡ AnObject o → is_allocated m.heap.now m.heap.now.top ≡ false → m.heap.now.top ≡ q → ⊥
+  new_behind m item free same = true≢false (sym (object_named m.heap.now q (ap is_object item)) ∙ (ap (is_allocated m.heap.now) (sym same) ∙ free))
+
   -- a move that keeps the object and the registry
   moved : (move : Move) (m : MemoryState) → Stands q o start m → HasCells o.facts start.ram (ram_after_move move m.heap m.ram)
-      → StandsBeside q o (apply_effect (HeapMove move) m).heap.now
+      → flag_of (ram_after_move move m.heap m.ram) q ≡ flag_of m.ram q → StandsBeside q o (apply_effect (HeapMove move) m).heap.now
       → SameApplets m.heap.now (apply_effect (HeapMove move) m).heap.now → Stands q o start (apply_effect (HeapMove move) m)
-  moved move m st cells beside same = record {
+  moved move m st cells flags beside same = record {
     heap = beside;
     ram = cells;
+    flag = flags ∙ st.flag;
     active = st.active;
     packages = λ a. packages_stay m (apply_effect (HeapMove move) m) same refl a ∙ st.packages a;
     fixed = st.fixed;
@@ -257,6 +273,7 @@ module _ (q : ℕ) (o : Object) (start : MemoryState) where
     heap = count_set q o (registered m.heap.now entry) (m.heap.now.counts.1 + 1) (registry_set q o _ _ _
         (registry_set q o _ _ _ (registry_set q o m.heap.now (3 * m.heap.now.counts.1) entry.aid st.heap)));
     ram = st.ram;
+    flag = st.flag;
     active = st.active;
     packages = λ a. package_registered m entry few home st.applets a ∙ st.packages a;
     fixed = st.fixed;
@@ -266,26 +283,31 @@ module _ (q : ℕ) (o : Object) (start : MemoryState) where
 
   move_keeps : (move : Move) (m : MemoryState) → MoveLeavesObject q move m → IsQuiet (HeapMove move) m → Stands q o start m
       → Stands q o start (apply_effect (HeapMove move) m)
-  move_keeps (Write place v) m spares quiet st = moved (Write place v) m st st.ram (place_set q o m.heap.now place v spares st.heap)
+  move_keeps (Write place v) m spares quiet st = moved (Write place v) m st st.ram refl (place_set q o m.heap.now place v spares st.heap)
       (applets-set_place q m.heap.now place v spares)
-  move_keeps (SetPlaces changes) m (inl beside) quiet st = moved (SetPlaces changes) m st st.ram (places_set q o changes m.heap.now beside st.heap)
+  move_keeps (SetPlaces changes) m (inl beside) quiet st = moved (SetPlaces changes) m st st.ram refl (places_set q o changes m.heap.now beside st.heap)
       (applets-set_places q changes m.heap.now beside)
   move_keeps (SetPlaces changes) m (inr registers) quiet st = subst (λ cs. Stands q o start (apply_effect (HeapMove (SetPlaces cs)) m)) (sym registers.is)
       (applet_keeps registers.entry m registers.few registers.home st)
-  move_keeps (WriteNonAtomic place v) m spares quiet st = moved (WriteNonAtomic place v) m st st.ram (place_set q o m.heap.now place v spares st.heap)
+  move_keeps (WriteNonAtomic place v) m spares quiet st = moved (WriteNonAtomic place v) m st st.ram refl (place_set q o m.heap.now place v spares st.heap)
       (applets-set_place q m.heap.now place v spares)
-  move_keeps (SetCells r i words) m spares quiet st = moved (SetCells r i words) m st st.ram (cells_set q o words m.heap.now r i spares st.heap)
+  move_keeps (SetCells r i words) m spares quiet st = moved (SetCells r i words) m st st.ram refl (cells_set q o words m.heap.now r i spares st.heap)
       (applets-set_cells words m.heap.now r i)
   move_keeps (AddObject x size) m spares quiet st =
-      moved (AddObject x size) m st (has_unflagged o.facts start.ram m.ram m.heap.now.top st.ram) (object_added q o m.heap.now x size spares.1 (λ event e. absurd cc) st.heap) (applets-add_object m.heap.now x size)
+      moved (AddObject x size) m st (has_unflagged o.facts start.ram m.ram m.heap.now.top st.ram)
+      (other_flag m.ram q m.heap.now.top false (new_behind m st.heap.item spares.1))
+      (object_added q o m.heap.now x size spares.1 (λ event e. absurd cc) st.heap) (applets-add_object m.heap.now x size)
   move_keeps (AddTransient kind event class owner long) m spares quiet st =
       moved (AddTransient kind event class owner long) m st (has_unflagged o.facts start.ram _ m.heap.now.top (has_still o.facts start.ram m.ram _ st.ram
       (area_filled o.facts m.ram event (area_end m.heap.now event) (replicate long (zero_of kind)) (λ e. inr (st.heap.below event e)) st.ram.long)))
+      (other_flag (ram_after_set m.ram (Some event) (area_end m.heap.now event) (replicate long (zero_of kind))) q m.heap.now.top false
+      (new_behind m st.heap.item spares)
+      ∙ ap (λ l. get_or l q false) (flags_set m.ram (Some event) (area_end m.heap.now event) (replicate long (zero_of kind))))
       (transient_added q o m.heap.now kind event class owner long spares st.heap)
       (applets-add_transient m.heap.now kind event class owner long)
   move_keeps (AddPackage components arrays image) m spares quiet st = absurd spares
-  move_keeps Begin m spares quiet st = moved Begin m st st.ram st.heap (refl, refl)
-  move_keeps Commit m spares quiet st = moved Commit m st st.ram st.heap (refl, refl)
+  move_keeps Begin m spares quiet st = moved Begin m st st.ram refl st.heap (refl, refl)
+  move_keeps Commit m spares quiet st = moved Commit m st st.ram refl st.heap (refl, refl)
   move_keeps Abort m spares quiet st = absurd quiet
 
   -- transient cells of another object are set
@@ -295,6 +317,7 @@ module _ (q : ℕ) (o : Object) (start : MemoryState) where
     heap = st.heap;
     ram = has_still o.facts start.ram m.ram _ st.ram (ram_filled o.facts m.ram (facts m.heap.now r).event
         ((facts m.heap.now r).place + i) vs apart st.ram.long);
+    flag = ap (λ l. get_or l q false) (flags_set m.ram (facts m.heap.now r).event ((facts m.heap.now r).place + i) vs) ∙ st.flag;
     active = st.active;
     packages = λ a. packages_stay m (apply_effect (SetTransient r i vs) m) (refl, refl) refl a ∙ st.packages a;
     fixed = st.fixed;
@@ -309,16 +332,17 @@ module _ (q : ℕ) (o : Object) (start : MemoryState) where
         | inr le ↦ inr (omega (arith, le))
       ]
 
-  -- an effect that changes neither heap nor cells
+  -- an effect that changes neither heap nor cells, nor the object's flag
   rest_keeps : (m n : MemoryState) → n.heap.now ≡ m.heap.now → ((event : ClearEvent) → area n.ram event ≡ area m.ram event)
-      → n.registers.active ≡ m.registers.active → installed_package n.registers.installation ≡ installed_package m.registers.installation →
+      → flag_of n.ram q ≡ flag_of m.ram q → n.registers.active ≡ m.registers.active → installed_package n.registers.installation ≡ installed_package m.registers.installation →
       n.fixed ≡ m.fixed → n.command ≡ m.command → Stands q o start m → Stands q o start n
-  rest_keeps m n heap ram active home fixed command st = record {
+  rest_keeps m n heap ram flag active home fixed command st = record {
     heap = subst (StandsBeside q o) (sym heap) st.heap;
     ram = record {
       cells = λ event e i lt. ap (λ l. get_or l (o.facts.place + i) (Short (pos 0))) (ram event) ∙ st.ram.cells event e i lt;
       long = λ event e. subst (λ l. o.facts.place + o.facts.length ≤ length l) (sym (ram event)) (st.ram.long event e);
     };
+    flag = flag ∙ st.flag;
     active = active ∙ st.active;
     packages = λ a. packages_stay m n (ap (λ h. h.counts.1) heap, ap (λ h. h.applets) heap) home a ∙ st.packages a;
     fixed = fixed ∙ st.fixed;
@@ -329,8 +353,9 @@ module _ (q : ℕ) (o : Object) (start : MemoryState) where
   pub keeps : (e : Effect) (m : MemoryState) → LeavesObject q e m → IsQuiet e m → Stands q o start m → Stands q o start (apply_effect e m)
   keeps (HeapMove move) m spares quiet st = move_keeps move m spares quiet st
   keeps (SetTransient r i vs) m spares quiet st = fill_keeps r i vs m spares st
-  keeps (SetFlag r flag) m spares quiet st = rest_keeps m (apply_effect (SetFlag r flag) m) refl (area_flagged m.ram (set m.ram.flags r flag)) refl refl refl refl st
+  keeps (SetFlag r flag) m spares quiet st = rest_keeps m (apply_effect (SetFlag r flag) m) refl (area_flagged m.ram (set m.ram.flags r flag))
+      (other_flag m.ram q r flag spares) refl refl refl refl st
   keeps (ClearTransient event) m spares quiet st = absurd quiet
-  keeps (SetRegisters registers) m spares quiet st = rest_keeps m (apply_effect (SetRegisters registers) m) refl (λ event. refl) quiet.0 quiet.1 refl refl st
+  keeps (SetRegisters registers) m spares quiet st = rest_keeps m (apply_effect (SetRegisters registers) m) refl (λ event. refl) refl quiet.0 quiet.1 refl refl st
   keeps (BeginCommand bytes) m spares quiet st = absurd quiet
-  keeps (SendBytes bytes) m spares quiet st = rest_keeps m (apply_effect (SendBytes bytes) m) refl (λ event. refl) refl refl refl refl st
+  keeps (SendBytes bytes) m spares quiet st = rest_keeps m (apply_effect (SendBytes bytes) m) refl (λ event. refl) refl refl refl refl refl st

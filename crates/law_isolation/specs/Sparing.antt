@@ -47,12 +47,12 @@ MoveLeavesObject q Begin m = Unit {0}
 MoveLeavesObject q Commit m = Unit {0}
 MoveLeavesObject q Abort m = Unit {0}
 
--- an effect sets no cell of the object: transient cells are set of another object, and within it. (What takes back or clears
--- cells of all objects is left to `IsQuiet`.)
+-- an effect sets no cell of the object and not its flag: transient cells are set of another object, and within it. (What takes back or
+-- clears cells of all objects is left to `IsQuiet`.)
 abbrev pub LeavesObject : ℕ → Effect → MemoryState → Type 0
 LeavesObject q (HeapMove move) m = MoveLeavesObject q move m
 LeavesObject q (SetTransient r i values) m = (r ≡ q → ⊥) × (i + length values ≤ (facts m.heap.now r).length)
-LeavesObject q (SetFlag r flag) m = Unit {0}
+LeavesObject q (SetFlag r flag) m = r ≡ q → ⊥
 LeavesObject q (ClearTransient event) m = Unit {0}
 LeavesObject q (SetRegisters registers) m = Unit {0}
 LeavesObject q (BeginCommand bytes) m = Unit {0}
@@ -81,7 +81,7 @@ pub record IsSet (m : MemoryState) : Type 0 where
   pub sizes : HasSizes m.ram
   pub command : length m.command ≤ 261
 
--- quiet effects that spare an object outside reach leave its cells as they are, and it outside reach
+-- quiet effects that spare an object outside reach leave its cells and its flag as they are, and it outside reach
 abbrev pub LeaveObjects : Type 0
 LeaveObjects = (p : Packages) (m : MemoryState) (q : ℕ) (es : List Effect) → IsSet m → IsOutside p m q → AllEffectsDue (LeavesObject q) es m → AreQuiet es m
     → KeepsCells q m (apply_effects es m) × IsOutside p (apply_effects es m) q

@@ -111,6 +111,7 @@ module _ (method : PlatformMethod) (args : List Cell) (p : Packages) (m : Memory
     transient = λ kind count event o none fine room. transient_fits p m known sound steady kind count event o
         (λ r. return_value (ReturnValue (Reference r))) none fine room (λ r v. tt);
     starts = λ pin is limit maximum. starts p m sound steady pin limit maximum (object_of pin is);
+    flags = λ pin is flag v. tt;
     counts = λ pin is n. (pin, refl, after_flag p m pin false (object_of pin is));
     refills = λ pin is n limit. (pin, refl, after_count p _ pin n (after_flag p m pin false (object_of pin is)));
     updates = λ pin is bytes owned short. OfValue (record { pin = pin; bytes = bytes; is = refl; object = object_of pin is; short = short });

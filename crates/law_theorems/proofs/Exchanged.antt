@@ -1,5 +1,5 @@
 -- What is so of all that a card may do for a command.
-use Rattle.std.proofs.Common.{Bool, true, false, List, [], ◌∷◌, Option, Some, None, if◌then◌else◌}
+use Rattle.std.proofs.Common.{◌≡◌, Bool, true, false, List, [], ◌∷◌, Option, Some, None, refl, if◌then◌else◌}
 use Rattle.std.specs.Prelude.{ℕ, ◌==◌, length, nat_le, is_none, Result, Ok, Err}
 use Rattle.jc_words.specs.Layout.{most_packages}
 use Rattle.jc_heap.specs.declared.object.Kind.{Kind}
@@ -14,7 +14,7 @@ use Rattle.jc_memory.proofs.ProgramLemmas.{due_bind, each_always}
 use Rattle.jc_linker.specs.Values.{Packages}
 use Rattle.jc_card_load.specs.PendingPackages.{PendingPackageValue, linked_components}
 use Rattle.jc_card_load.specs.RecordContents.{arrays_of, image_of, parts_of, statics_of}
-use Rattle.jc_card_load.specs.declared.package_refusal.PackageRefusal.{PackageRefusal}
+use Rattle.jc_card_load.specs.declared.load_refusal.LoadRefusal.{LoadRefusal}
 use Rattle.jc_card_load.specs.declared.load.OpenLoad.{OpenLoad}
 use Rattle.jc_card_load.specs.Ending.{package_entry, assembly_result, after_addition, after_preparation, end_of_load}
 use Rattle.jc_card_load.specs.Loading.{CommandResult, component_append, component_begin, component_end}
@@ -22,21 +22,19 @@ use Rattle.jc_card.specs.Answers.{manager_command, exchange, exchange_of_apdu, i
 use Rattle.jc_card.specs.Apdu.{Apdu, apdu_of}
 use Rattle.jc_card.specs.CardState.{CardState}
 use Rattle.jc_card.specs.Dispatching.{create_applet, dispatch}
+use Rattle.law_isolation.proofs.Due.{due_if}
 use Rattle.jc_card.specs.Loads.{LoadResponse, append_component, component_append_without_memory, end_load, on_load}
 
 -- ---- the end of a load adds a package at most
 
-module _ (P : Effect → MemoryState → Type 0)
-    (adds : (components : List (ℕ × List ℕ)) (arrays : List (Kind × List ℕ)) (image : List ℕ) (m : MemoryState)
-    → P (HeapMove (AddPackage components arrays image)) m) where
-  due_if : {A : Type 0} (b : Bool) (x y : Program A) (m : MemoryState) → AllDue P x m → AllDue P y m → AllDue P (if b then x else y) m
-  due_if true x y m first second = first
-  due_if false x y m first second = second
-
-  then_due : {A B : Type 0} (more : A → MemoryState → Program B) (d : Program A) (s : MemoryState) → AllDue P d s
+module _ (P : Effect → MemoryState → Type 0) where
+  pub then_due : {A B : Type 0} (more : A → MemoryState → Program B) (d : Program A) (s : MemoryState) → AllDue P d s
       → ((a : A) (v : MemoryState) → AllDue P (more a v) v) → AllDue P (bind d s more) s
   then_due more d s due rest = due_bind P more d s due (each_always (λ a v. AllDue P (more a v) v) rest d s)
 
+module _ (P : Effect → MemoryState → Type 0)
+    (adds : (components : List (ℕ × List ℕ)) (arrays : List (Kind × List ℕ)) (image : List ℕ) (m : MemoryState)
+    → P (HeapMove (AddPackage components arrays image)) m) where
   if_added : (p : Packages) (q : PendingPackageValue) (answer : Attempt ℕ) (m : MemoryState) → AllDue P (after_addition p q answer) m
   if_added p q (Done r) m = tt
   if_added p q (Refused reason) m = tt
@@ -50,28 +48,27 @@ module _ (P : Effect → MemoryState → Type 0)
       let parts = parts_of q.texts in
       let arrays = arrays_of (statics_of q.texts) in
       let image = image_of (statics_of q.texts) in
-      due_if (nat_le most_packages (length m.heap.now.packages)) _ _ m tt
-      (then_due _ (package_addition m parts arrays image) m
+      due_if P m (nat_le most_packages (length m.heap.now.packages)) _ _ (λ full. tt) (λ some.
+      then_due P _ (package_addition m parts arrays image) m
       (unless_due (refusal_of_package m.heap parts arrays image) _ m (λ r new. (adds parts arrays image m, tt))) (λ answer v. if_added p q answer v))
 
-  if_prepared : (p : Packages) (m : MemoryState) (q : Result PendingPackageValue PackageRefusal) → AllDue P (after_preparation p m q) m
+  if_prepared : (p : Packages) (m : MemoryState) (q : Result PendingPackageValue LoadRefusal) → AllDue P (after_preparation p m q) m
   if_prepared p m (Err refusal) = tt
   if_prepared p m (Ok q) = added p q m
 
   ended : (p : Packages) (m : MemoryState) (load : Option OpenLoad) → AllDue P (end_of_load p m load) m
   unfolding assembly_result
   ended p m None = tt
-  ended p m (Some load) = due_if (is_none load.coming) _ _ m (if_prepared p m (linked_components p load.texts), tt) tt
+  ended p m (Some load) = due_if P m (is_none load.coming) _ _ (λ none. (if_prepared p m (linked_components p load.texts), tt)) (λ some. tt)
 
   pub load_ended : (card : CardState) → AllDue P (end_load card) card.memory
-  load_ended card = then_due _ (end_of_load card.packages card.memory card.load) card.memory (ended card.packages card.memory card.load) (λ left v. tt)
+  load_ended card = then_due P _ (end_of_load card.packages card.memory card.load) card.memory (ended card.packages card.memory card.load) (λ left v. tt)
 
 -- ---- commands
 
 module _ (D : Program LoadResponse → Type 0) (card : CardState) (one : (a : LoadResponse) → D (Finish a))
     (two : (a b : LoadResponse) → D (Either (Finish a) (Finish b))) (ends : D (end_load card))
-    (runs : (limit locals : ℕ) (code : List ℕ) → D (run_code limit locals code card)) (creates : (bytes : List ℕ) → D (create_applet bytes card))
-    (dispatches : (bytes : List ℕ) (c : Apdu) → D (dispatch bytes c card)) where
+    (runs : (limit locals : ℕ) (code : List ℕ) → D (run_code limit locals code card)) (creates : (bytes : List ℕ) → D (create_applet bytes card)) where
   so_if : (b : Bool) (x y : Program LoadResponse) → D x → D y → D (if b then x else y)
   so_if true x y first second = first
   so_if false x y first second = second
@@ -97,10 +94,11 @@ module _ (D : Program LoadResponse → Type 0) (card : CardState) (one : (a : Lo
       (so_if (c.instruction == 0xBC) _ _ (on_load_so component_end card.load) (so_if (c.instruction == 0xBA) _ _ ends
       (so_if (c.instruction == 0xB8) _ _ (creates c.content) (one _)))))))
 
-  of_apdu : (bytes : List ℕ) (c : Option Apdu) → D (exchange_of_apdu bytes c card)
-  of_apdu bytes None = one _
-  of_apdu bytes (Some c) = so_if (is_dispatched card c) _ _ (dispatches bytes c) (so_if (c.class == 0x80) _ _ (managed c) (one _))
+  module _ (bytes : List ℕ) (dispatches : (c : Apdu) → apdu_of bytes ≡ Some c → D (dispatch bytes c card)) where
+    of_apdu : (c : Option Apdu) → apdu_of bytes ≡ c → D (exchange_of_apdu bytes c card)
+    of_apdu None is = one _
+    of_apdu (Some c) is = so_if (is_dispatched card c) _ _ (dispatches c is) (so_if (c.class == 0x80) _ _ (managed c) (one _))
 
-  pub exchanged : (bytes : List ℕ) → D (exchange bytes card)
-  unfolding exchange
-  exchanged bytes = of_apdu bytes (apdu_of bytes)
+    pub exchanged : D (exchange bytes card)
+    unfolding exchange
+    exchanged = of_apdu (apdu_of bytes) refl

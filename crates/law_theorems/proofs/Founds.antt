@@ -36,7 +36,7 @@ use Rattle.law_theorems.proofs.Orders.{commands_orderly}
 use Rattle.law_theorems.proofs.Others.{others}
 use Rattle.law_theorems.proofs.Pins.{PinIn, pin_left}
 use Rattle.law_theorems.proofs.Prefixes.{behind_both, due_after, due_all, due_begun}
-use Rattle.law_theorems.proofs.Served.{BeginsNone, IsFine, commands_fine, known_of}
+use Rattle.law_theorems.proofs.Served.{AddsPackage, IsFine, commands_fine, known_of}
 
 -- ---- a PIN of the heap found has a counter
 
@@ -134,14 +134,14 @@ module _ (t : Tokens) (card : CardState) (own : IsOwnCard t card) (bytes : List 
 
   module _ (within : ComesWithin t card bytes effects) (inside : IsInside (moves_of during)) where
     orders : AllEffectsDue KeepsTransactionOrder effects card.memory
-    orders = due_begun KeepsTransactionOrder (exchange bytes card) card.memory effects (commands_orderly bytes card own.ready.closed) within.begins
+    orders = due_begun KeepsTransactionOrder (exchange bytes card) card.memory effects (commands_orderly bytes card within.are own.ready.closed) within.begins
 
     by : IsFine card.packages (exchange bytes card) card.memory
         → IsAsFound card.packages during opened (memory_at card earlier).heap.now (apply_effects during opened).heap.durable
     by (inl due) = as_found t card own bytes earlier during
         (due_begun (IsServed card.packages) (exchange bytes card) card.memory effects due within.begins) orders inside
-    by (inr none) = absurd ((due_after BeginsNone earlier (HeapMove Begin ∷ during) card.memory
-        (due_begun BeginsNone (exchange bytes card) card.memory effects none within.begins)).0 refl)
+    by (inr adds) = absurd (due_after AddsPackage earlier (HeapMove Begin ∷ during) card.memory
+        (due_begun AddsPackage (exchange bytes card) card.memory effects adds within.begins)).0
 
     -- behind the beginning of a transaction of a command, and effects within it, the durable heap is the one found, but for tries
     pub is_found : IsAsFound card.packages during opened (memory_at card earlier).heap.now (memory_at card effects).heap.durable

@@ -1,10 +1,14 @@
 pub mod Sessions
 pub mod Prefixes
 pub mod Exchanged
+pub mod Commands
+pub mod Within
 pub mod Orders
 pub mod Served
 pub mod Others
 pub mod Pins
 pub mod Founds
 pub mod TakenBack
+pub mod Isolated
+pub mod Fuse
 pub mod Witness

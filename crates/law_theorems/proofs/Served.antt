@@ -1,7 +1,7 @@
--- Each effect of a command of a card that commands left is served; or none begins a transaction.
-use Rattle.std.proofs.Common.{◌≡◌, List, inl, inr}
+-- Each effect of a command of a card that commands left is served; or each adds a package.
+use Rattle.std.proofs.Common.{List, inl, inr}
 use Rattle.std.specs.Prelude.{ℕ, ◌⊎◌}
-use Rattle.jc_heap.specs.Moves.{Begin}
+use Rattle.jc_heap.specs.Moves.{AddPackage}
 use Rattle.jc_memory.specs.State.{MemoryState, Effect, HeapMove}
 use Rattle.jc_memory.specs.Programs.{Program}
 use Rattle.jc_memory.specs.Reading.{AllDue}
@@ -27,18 +27,19 @@ known_of p l = record {
   platform = have_no_code l.components p l.read.linked;
 }
 
--- no transaction begins
-abbrev pub BeginsNone : Effect → MemoryState → Type 0
-BeginsNone e m = e ≡ HeapMove Begin → ⊥
+-- a package comes in
+abbrev pub AddsPackage : Effect → MemoryState → Type 0
+AddsPackage (HeapMove (AddPackage components arrays image)) m = Unit {0}
+AddsPackage e m = ⊥
 
 abbrev pub IsFine : {A : Type 0} → Packages → Program A → MemoryState → Type 0
-IsFine p d m = AllDue (IsServed p) d m ⊎ AllDue BeginsNone d m
+IsFine p d m = AllDue (IsServed p) d m ⊎ AllDue AddsPackage d m
 
 pub commands_fine : (t : Tokens) (card : CardState) → IsOwnCard t card → (bytes : List ℕ) → IsFine card.packages (exchange bytes card) card.memory
 commands_fine t card own bytes =
     let known = known_of card.packages own.linked in
     exchanged (λ d. IsFine card.packages d card.memory) card (λ a. inl tt) (λ a b. inl (tt, tt))
-    (inr (load_ended BeginsNone (λ components arrays image m e. cc) card))
+    (inr (load_ended AddsPackage (λ components arrays image m. tt) card))
     (λ limit locals code. inl (runs_good commands_are_sound t card own known limit locals code).due)
-    (λ content. inl (creates_good commands_are_sound t card own known content).due)
-    (λ all c. inl (dispatched_good commands_are_sound t card own known all c).due) bytes
+    (λ content. inl (creates_good commands_are_sound t card own known content).due) bytes
+    (λ c is. inl (dispatched_good commands_are_sound t card own known bytes c).due)

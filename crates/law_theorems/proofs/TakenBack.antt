@@ -36,7 +36,7 @@ use Rattle.law_theorems.proofs.Prefixes.{behind_both, due_after, due_begun, fron
 
 -- ---- cards of sessions are their own
 
-comes_own : (t : Tokens) (s : PowerState) → ComesTo t s → IsOwnPower t s
+pub comes_own : (t : Tokens) (s : PowerState) → ComesTo t s → IsOwnPower t s
 comes_own t s c = let stays : StaysOwn = stays_own one_table in stays.session t (Off c.first) c.events c.answers s c.bytes c.own c.run
 
 pub stores_come : StoresCome
@@ -123,13 +123,14 @@ module _ (t : Tokens) (card : CardState) (comes : ComesTo t (Up card)) where
   settled : IsDurableOutside card.memory
   settled = λ off. sym (own.ready.sound.settled off)
 
-  orderly : (bytes : List ℕ) (es : List Effect) → HasTracePrefix (exchange bytes card) card.memory es → AllEffectsDue KeepsTransactionOrder es card.memory
-  orderly bytes es begins = due_begun KeepsTransactionOrder (exchange bytes card) card.memory es (commands_orderly bytes card shut) begins
+  orderly : (bytes : List ℕ) (es : List Effect) → AreBytes bytes → HasTracePrefix (exchange bytes card) card.memory es
+      → AllEffectsDue KeepsTransactionOrder es card.memory
+  orderly bytes es are begins = due_begun KeepsTransactionOrder (exchange bytes card) card.memory es (commands_orderly bytes card are shut) begins
 
   -- what stands durable behind effects of a command
   left_of : (bytes : List ℕ) (es : List Effect) (left : HeapState) → AreBytes bytes → HasTracePrefix (exchange bytes card) card.memory es
       → left ≡ (memory_at card es).heap.durable → IsLeft card es left
-  left_of bytes es left are begins is = by (behind es card.memory (orderly bytes es begins) settled)
+  left_of bytes es left are begins is = by (behind es card.memory (orderly bytes es are begins) settled)
     where
       by : TearLeavesAfter es card.memory (memory_at card es).heap.durable → IsLeft card es left
       by (inl now) = inl (now.0, is ∙ now.1)
@@ -184,7 +185,7 @@ taken_back = record {
   aborted = λ t card bytes es within.
       let begins = front (exchange bytes card) card.memory es (HeapMove Abort ∷ []) within.begins in
       let due = due_after KeepsTransactionOrder es (HeapMove Abort ∷ []) card.memory
-      (orderly t card within.comes bytes (es ++ (HeapMove Abort ∷ [])) within.begins) in
+      (orderly t card within.comes bytes (es ++ (HeapMove Abort ∷ [])) within.are within.begins) in
       let same : (memory_at card (es ++ (HeapMove Abort ∷ []))).heap.now ≡ (memory_at card es).heap.durable =
       ap (λ (m : MemoryState). m.heap.now) (behind_both es (HeapMove Abort ∷ []) card.memory) in
       open_left t card within.comes es _ due.0 (left_of t card within.comes bytes es _ within.are begins same);

@@ -31,12 +31,13 @@ use Rattle.law_soundness.specs.State.{IsFitObject}
 use Rattle.law_images.specs.Heaps.{IsOwnHeap}
 use Rattle.law_images.proofs.NewImages.{new_images}
 use Rattle.jc_session.specs.declared.event.Event.TheVariants.{Reset}
-use Rattle.jc_session.specs.declared.event.Answer.TheVariants.{Ready}
+use Rattle.jc_session.specs.declared.event.Answer.TheVariants.{Ready, Down}
 use Rattle.jc_session.specs.Power.{Up, Off}
 use Rattle.jc_session.specs.Starting.{IsPoweredUp}
 use Rattle.law_images.specs.Cards.{IsOwnKept}
 use Rattle.law_theorems.specs.Comes.{ComesTo}
-use Rattle.law_theorems.specs.Witness.{HaveWitnesses, new_kept}
+use Rattle.jcard_script.specs.Script.{down_text}
+use Rattle.law_theorems.specs.Witness.{HaveWitnesses, new_blown, new_kept}
 
 zero_there : (n k : ℕ) → get_or (replicate n (Short (pos 0))) k (Short (pos 0)) ≡ Short (pos 0)
 zero_there zero k = refl
@@ -164,7 +165,7 @@ module _ (n : ℕ) (text : List ℕ) (t : Tokens) (enough : least_size ≤ n) (r
   }
 
 pub witnesses : HaveWitnesses
-unfolding exchange manager_command
+unfolding exchange manager_command refused_once
 witnesses n text t enough reads =
     let first = card n text t enough reads no_refusals in
     let refused = refused_once false 0 no_refusals in record {
@@ -177,4 +178,6 @@ witnesses n text t enough reads =
       again = powered n text t enough reads refused true;
       next = record first { load = Some empty_load };
       command = (refl, refl);
+      blown = (down_text, [], Off (new_blown n text t), refl, (Down, refl, refl), (refl, refl));
+      spared = refl;
     }

@@ -4,4 +4,6 @@ pub mod Images
 pub mod Comes
 pub mod Tries
 pub mod TakenBack
+pub mod Isolation
+pub mod Fuse
 pub mod Witness

@@ -1,6 +1,8 @@
 //! Laws of whole sessions.
 ghost use Rattle.law_theorems.specs.Comes.{StoresCome};
+ghost use Rattle.law_theorems.specs.Fuse.{FusesCut};
 ghost use Rattle.law_theorems.specs.Images.{PowerUpAgain};
+ghost use Rattle.law_theorems.specs.Isolation.{StayApart};
 ghost use Rattle.law_theorems.specs.Refusals.{DownTells};
 ghost use Rattle.law_theorems.specs.TakenBack.{IsTakenBack};
 ghost use Rattle.law_theorems.specs.WholeCopies.{AreOfWholeCopies};
@@ -24,6 +26,20 @@ pub fn down_tells_of_refused_writes()
 /// counter itself. Where no transaction is open, all changes before the loss stay.
 pub fn sessions_take_back_what_is_not_committed()
     ensures { IsTakenBack }
+{}
+
+/// Behind `stop K` the power is cut when exactly K more writes have passed: until the fuse is armed again, and while
+/// the store below refuses no write by itself, no write is refused, and the fuse stands K writes ahead of those that
+/// had passed; or exactly one is, behind K more, and burns the fuse out. A reset in between changes nothing of that.
+pub fn fuses_cut_where_they_were_set()
+    ensures { FusesCut }
+{}
+
+/// Between two switches of context, at whatever moment of whatever command of a session, code leaves each object
+/// outside its reach as it is, header, cells and flag, and outside its reach, as long as nothing aborts and no transient
+/// arrays are cleared.
+pub fn sessions_keep_contexts_apart()
+    ensures { StayApart }
 {}
 
 /// A new image powers up, and so does each that sessions leave of one, however they end and wherever the power

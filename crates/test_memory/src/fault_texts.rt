@@ -1,7 +1,6 @@
 //! What faults say. No row hears it: the program and the cards tell faults in words of their own.
 use jc_cap_linkage::fault::CapFault;
-use jc_card_load::package_refusal::PackageRefusal;
-use jc_card_load::{EndFault, LoadRefusal};
+use jc_card_load::LoadRefusal;
 use jc_commit::{OpenRefusal, WriteRefusal};
 use jc_heap::{ChangeRefusal, HeapRefusal};
 use jc_linker::fault::LinkFault;
@@ -17,10 +16,6 @@ use jcard_script::script::ScriptFault;
 use jcard_script::streams::{ReadFailed, WriteFailed};
 use std::fmt::{Display, InlineText};
 use std::process::Abort;
-
-const BAD_COMPONENTS: PackageRefusal = PackageRefusal::BadComponents(CapFault::BadMagic);
-
-const NO_LINK: PackageRefusal = PackageRefusal::LinkFailed(LinkFault::ImportMissing);
 
 const STORE_DOWN_TEXTS: [(StoreDown, &str); 1] = [(StoreDown, "the store is down")];
 
@@ -134,32 +129,23 @@ const LINK_TEXTS: [(LinkFault, &str); 4] = [
     (LinkFault::NoMemory, "no memory"),
 ];
 
-const PACKAGE_TEXTS: [(PackageRefusal, &str); 4] = [
-    (BAD_COMPONENTS, "the components are no package"),
-    (PackageRefusal::AidTaken, "a package with this AID is there"),
-    (
-        PackageRefusal::Full,
-        "there are as many packages as there can be",
-    ),
-    (NO_LINK, "the package does not link"),
-];
-
-const LOAD_TEXTS: [(LoadRefusal, &str); 4] = [
+const LOAD_TEXTS: [(LoadRefusal, &str); 7] = [
     (LoadRefusal::OutOfSequence, "the command is out of turn"),
     (LoadRefusal::UnknownTag, "no component has this tag"),
     (
-        LoadRefusal::Refused(NO_LINK),
-        "the package does not come in",
+        LoadRefusal::BadComponents(CapFault::BadMagic),
+        "the components are no package",
+    ),
+    (LoadRefusal::AidTaken, "a package with this AID is there"),
+    (
+        LoadRefusal::Full,
+        "there are as many packages as there can be",
+    ),
+    (
+        LoadRefusal::LinkFailed(LinkFault::ImportMissing),
+        "the package does not link",
     ),
     (LoadRefusal::HeapFull, "the heap has no space"),
-];
-
-const END_TEXTS: [(EndFault, &str); 2] = [
-    (
-        EndFault::Refused(LoadRefusal::HeapFull),
-        "the package is refused",
-    ),
-    (EndFault::Down, "the store is down"),
 ];
 
 const TABLE_TEXTS: [(TableFault, &str); 1] = [(
@@ -256,9 +242,7 @@ fn of_journals_and_heaps(rt: HostRuntime) {
 fn of_loads(rt: HostRuntime) {
     check_texts(&rt, &COMPONENT_TEXTS);
     check_texts(&rt, &LINK_TEXTS);
-    check_texts(&rt, &PACKAGE_TEXTS);
     check_texts(&rt, &LOAD_TEXTS);
-    check_texts(&rt, &END_TEXTS);
 }
 
 #[test]

@@ -1,5 +1,5 @@
 use Rattle.std.proofs.Common.{◌≡◌, ℕ, ◌<◌, true, slice_index}
-use Rattle.jc_heap.specs.Heap.{cells, facts}
+use Rattle.jc_heap.specs.Heap.{cells}
 use Rattle.jc_linker.specs.Classes.{reference_cell}
 use Rattle.jc_card_checks.specs.Objects.{is_reference}
 use Rattle.jc_card_checks.proofs.values.holds_references.Given as goal

@@ -1,10 +1,9 @@
-use Rattle.std.proofs.Common.{◌≡◌, ◌<◌, ◌∙◌, ℕ, [], length, get_or, ap, sym, arith}
+use Rattle.std.proofs.Common.{◌≡◌, ◌∙◌, ℕ, [], length, get_or, ap, sym, arith}
 use Rattle.std.proofs.lemmas.List.{get_or-map, length-map}
 use Rattle.jc_platform.specs.declared.names.MethodKind.TheVariants.{Static}
 use Rattle.jc_platform.specs.declared.names.PlatformClass.TheVariants.{Object}
 use Rattle.jc_platform.specs.declared.names.PlatformMethod.TheVariants.{ObjectInit}
 use Rattle.jc_platform.specs.Names.{MethodEntry, method_entry, methods}
-use Rattle.jc_platform.specs.Numbers.{method_number}
 use Rattle.jc_platform.specs.Seen.{method_value}
 use Rattle.jc_platform.proofs.Distinct.{method_places}
 use Rattle.jc_platform.proofs.names.PlatformMethod.entry.Goals as goal

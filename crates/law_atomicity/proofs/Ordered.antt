@@ -1,0 +1,116 @@
+-- Steps and runs keep the order of transactions.
+use Rattle.std.proofs.Common.{ℕ, zero, suc, false, List, refl, Option, Some, None}
+use Rattle.jc_transient.specs.declared.cell.CellValue.{CellValue}
+use Rattle.jc_transient.specs.declared.cell.CellValue.TheVariants.{Short}
+use Rattle.jc_transient.specs.declared.cell.ClearEvent.{ClearEvent}
+use Rattle.jc_heap.specs.Heap.{facts}
+use Rattle.jc_memory.specs.declared.making.NewObject.{NewObject}
+use Rattle.jc_memory.specs.Cells.{cell_effect_in, cells_effect_in}
+use Rattle.jc_memory.specs.Making.{creation_move, creation_refusal}
+use Rattle.jc_memory.specs.Programs.{Program}
+use Rattle.jc_memory.specs.Reading.{AllDue}
+use Rattle.jc_memory.specs.State.{MemoryState, HeapMove, SetFlag, apply_effect}
+use Rattle.jc_memory.proofs.ProgramLemmas.{due_bind, each_always}
+use Rattle.jc_linker.specs.Values.{Packages}
+use Rattle.jc_platform.specs.declared.names.PlatformMethod.{PlatformMethod}
+use Rattle.jc_frames.specs.declared.cell.Cell.{Cell}
+use Rattle.jc_frames.specs.declared.outcome.Outcome.{Outcome}
+use Rattle.jc_frames.specs.Frames.{Frames, Next, GoesOn, Throws, Ends}
+use Rattle.jc_world.specs.Arrays.{bytes_in}
+use Rattle.jc_world.specs.Making.{new_on_top}
+use Rattle.jc_api_data.specs.ApduBuffer.{data_of}
+use Rattle.jc_api_runtime.specs.AidCells.{cells_of_aid}
+use Rattle.jc_api_runtime.specs.Register.{registration}
+use Rattle.jc_interp.specs.Running.{or_end, run_of}
+use Rattle.jc_interp.specs.Stepping.{machine_step}
+use Rattle.law_isolation.proofs.Applets.{registered_due}
+use Rattle.law_isolation.proofs.Due.{due_unless}
+use Rattle.law_isolation.proofs.Instructions.{static_due}
+use Rattle.law_isolation.proofs.Methods.{method_due}
+use Rattle.law_isolation.proofs.Passing.{ArraysPass, Bears, FieldsPass, MethodPasses}
+use Rattle.law_isolation.proofs.Walk.{step_due}
+use Rattle.law_atomicity.specs.Orderly.{KeepsTransactionOrder}
+use Rattle.law_atomicity.proofs.TransactionPins.{pin_counted, pin_flagged}
+
+-- effects that set no cells
+bears : Bears KeepsTransactionOrder (λ m. Unit {0})
+bears = record {
+  keeps = λ e m due so. tt;
+  turns = λ g m so active installation selected. tt;
+  begins = λ m so off. off;
+  commits = λ m so on none. on;
+  aborts = λ m on. on;
+  sends = λ bytes m. tt;
+}
+
+module _ (m : MemoryState) where
+  cell_orderly : (event : Option ClearEvent) (r i : ℕ) (v : CellValue) → KeepsTransactionOrder (cell_effect_in event r i v) m
+  cell_orderly None r i v = tt
+  cell_orderly (Some event) r i v = tt
+
+  pub cells_orderly : (event : Option ClearEvent) (r i : ℕ) (words : List ℕ) → KeepsTransactionOrder (cells_effect_in event r i words) m
+  cells_orderly None r i words = tt
+  cells_orderly (Some event) r i words = tt
+
+  made_orderly : (event : Option ClearEvent) (o : NewObject) → KeepsTransactionOrder (HeapMove (creation_move event o)) m
+  made_orderly None o = tt
+  made_orderly (Some event) o = tt
+
+module _ (p : Packages) (m : MemoryState) where
+  new_due : (o : NewObject) (s : Frames) → AllDue KeepsTransactionOrder (new_on_top o s m) m
+  unfolding new_on_top
+  new_due o s = due_unless KeepsTransactionOrder m s (creation_refusal m o) _ (λ r new. (made_orderly m o.event o, tt))
+
+  fields_pass : FieldsPass KeepsTransactionOrder p m
+  fields_pass = record {
+    field = λ of_type number index r i field cells v k taken kept named cell. cell_orderly m (facts m.heap.now r).event r i k;
+    static = λ of_type number index field cells v k s taken kept named. static_due KeepsTransactionOrder p m (λ w x. tt) (λ w behind x y. tt) of_type field _ s;
+  }
+
+  arrays_pass : ArraysPass KeepsTransactionOrder p m
+  arrays_pass = record {
+    element = λ of_type r f e cells v k w taken kept array inside fits. cell_orderly m (facts m.heap.now r).event r e.index w;
+    numbers = λ of_type n s. new_due _ s;
+    references = λ number index class n s named. new_due _ s;
+  }
+
+  registers : (aid : List ℕ) (instance : ℕ) → AllDue KeepsTransactionOrder (registration aid instance p m) m
+  registers = registered_due KeepsTransactionOrder (λ g v. tt) (λ v on. on) p m (λ r words new. (tt, (tt, tt))) (λ entry v is. tt)
+
+  method_passes : (method : PlatformMethod) (args : List Cell) → MethodPasses KeepsTransactionOrder method args p m
+  method_passes method args = record {
+    reason = λ part sets own v is long. cell_orderly m (facts m.heap.now own).event own 0 (Short v);
+    stretch = λ r count e words is long. cells_orderly m (facts m.heap.now e.array).event e.array e.start words;
+    aid = λ init own bytes is long fine. cells_orderly m (facts m.heap.now own).event own 0 (cells_of_aid bytes);
+    buffer = λ r is. cells_orderly m (facts m.heap.now r).event r 5 (data_of m.command);
+    transient = λ kind count event o none fine room r new. (made_orderly m o.event o, tt);
+    starts = λ pin is limit maximum value new. (tt, (tt, (tt, tt)));
+    flags = λ pin is flag v. tt;
+    counts = λ pin is n. (pin, refl, pin_flagged m pin false is.is);
+    refills = λ pin is n limit. (pin, refl, pin_counted (apply_effect (SetFlag pin false) m) pin n (pin_flagged m pin false is.is));
+    updates = λ pin is bytes owned short. tt;
+    own_registers = λ is aid instance own there. registers aid instance;
+    given_registers = λ is e instance own fine. registers (bytes_in m e) instance;
+  }
+
+pub step_orderly : (lent : List ℕ) (p : Packages) (s : Frames) (m : MemoryState) → AllDue KeepsTransactionOrder (machine_step lent p s m) m
+step_orderly lent p s m = step_due KeepsTransactionOrder lent p s m (record {
+  fields = fields_pass p m;
+  arrays = arrays_pass p m;
+  instances = λ number index class n s made few. new_due p m _ s;
+  turns = λ g n. tt;
+  reasons = λ r v n own some. tt;
+  calls = λ c method args called is are. method_due KeepsTransactionOrder (λ m. Unit {0}) bears args p m tt method (method_passes p m method args);
+})
+
+goes_orderly : (left : ℕ) (next : Next Frames) (more : Frames → Program (ℕ × Outcome)) (m : MemoryState)
+    → ((s : Frames) → AllDue KeepsTransactionOrder (more s) m) → AllDue KeepsTransactionOrder (or_end left next more) m
+goes_orderly left (GoesOn s) more m due = due s
+goes_orderly left (Throws e s) more m due = tt
+goes_orderly left (Ends o) more m due = tt
+
+pub run_orderly : (budget : ℕ) (lent : List ℕ) (p : Packages) (s : Frames) (m : MemoryState) → AllDue KeepsTransactionOrder (run_of budget lent p s m) m
+unfolding run_of
+run_orderly zero lent p s m = tt
+run_orderly (suc n) lent p s m = due_bind KeepsTransactionOrder (λ next v. or_end n next (λ t. run_of n lent p t v)) (machine_step lent p s m) m
+    (step_orderly lent p s m) (each_always _ (λ next v. goes_orderly n next (λ t. run_of n lent p t v) v (λ t. run_orderly n lent p t v)) (machine_step lent p s m) m)
