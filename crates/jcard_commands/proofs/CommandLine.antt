@@ -2,16 +2,16 @@
 use Rattle.std.proofs.Common.{◌≡◌, ◌⊎◌, ◌∙◌, true, List, [], ◌∷◌, Option, None, refl, sym, subst, ap, ap₂, inl, inr, codes}
 use Rattle.std.specs.Prelude.{option_and_then, option_map}
 use Rattle.clap.specs.Words.{App, HasMatchesOf, IsAmong, Kinds, Row, Text, fault_of, first_of, first_value, is_simple, is_simple_and_free, rows_of}
-use Rattle.clap.specs.Words.{subcommand_of, subcommand_rows_of}
+use Rattle.clap.specs.Words.{matched_of, raw_values, subcommand_of, subcommand_rows_of}
 use Rattle.clap.specs.declared.error.kind.ErrorKind.{ErrorKind}
 use Rattle.clap.specs.declared.error.kind.ErrorKind.TheVariants.{OutOfMemory}
 use Rattle.clap.specs.declared.parser.matches.ArgMatches.{ArgMatches}
 use Rattle.clap.specs.declared.parser.matches.Found.{Found}
 use Rattle.clap.proofs.OnLiterals.{clap_on_literals}
-use Rattle.clap.proofs.WalkLemmas.{first_value-rows}
-use Rattle.jcard_commands.specs.CommandLine.{is_given, tear_by, tear_of}
+use Rattle.clap.proofs.WalkLemmas.{first_value-rows, raw_values-rows}
+use Rattle.jcard_commands.specs.CommandLine.{depth_of, is_given, tear_by, tear_of}
 use Rattle.jcard_commands.specs.CommandLine.{CommandLineRequest, ToTell, dump_of, new_by, new_of, program_grammar, request_of, run_by, run_of, request_of_words}
-use Rattle.jcard_commands.specs.CommandLine.{try_by, try_of, unless_faulty}
+use Rattle.jcard_commands.specs.CommandLine.{test_by, test_of, try_by, try_of, unless_faulty}
 
 -- what clap asks of a command of which it tells all
 is_told : is_simple program_grammar ≡ true
@@ -69,16 +69,21 @@ pub dump_read : (found : Found) (image : Option Text) → image ≡ first_value 
 dump_read found image i = ap (option_map ToTell) (i ∙ first_value-rows found (codes "image"))
 
 -- those of `tear`
-pub tear_read : (found : Found) (image script probe line each : Option Text) → image ≡ first_value found (codes "image")
+pub tear_read : (found : Found) (image script probe line each recovery part : Option Text) → image ≡ first_value found (codes "image")
     → script ≡ first_value found (codes "script") → probe ≡ first_value found (codes "probe") → line ≡ first_value found (codes "line")
-    → each ≡ first_value found (codes "each") → tear_by image script probe line (is_given each) ≡ tear_of (rows_of found)
-tear_read found image script probe line each i s p l e =
-    ap₂ (λ (o q : Option Text). tear_by o q probe line (is_given each)) (i ∙ first_value-rows found (codes "image")) (s ∙ first_value-rows found (codes "script"))
-    ∙ ap₂ (λ (o q : Option Text). tear_by (first_of (codes "image") (rows_of found)) (first_of (codes "script") (rows_of found)) o q (is_given each))
-    (p ∙ first_value-rows found (codes "probe")) (l ∙ first_value-rows found (codes "line"))
+    → each ≡ first_value found (codes "each") → recovery ≡ first_value found (codes "recovery") → part ≡ first_value found (codes "part")
+    → tear_by image script probe line (is_given each) (depth_of recovery) part ≡ tear_of (rows_of found)
+tear_read found image script probe line each recovery part i s p l e r q =
+    ap₂ (λ (o r : Option Text). tear_by o r probe line (is_given each) (depth_of recovery) part) (i ∙ first_value-rows found (codes "image"))
+    (s ∙ first_value-rows found (codes "script"))
+    ∙ ap₂ (λ (o r : Option Text). tear_by (first_of (codes "image") (rows_of found)) (first_of (codes "script") (rows_of found)) o r (is_given each)
+    (depth_of recovery) part) (p ∙ first_value-rows found (codes "probe")) (l ∙ first_value-rows found (codes "line"))
+    ∙ ap₂ (λ (o r : Option Text). tear_by (first_of (codes "image") (rows_of found)) (first_of (codes "script") (rows_of found))
+    (first_of (codes "probe") (rows_of found)) (first_of (codes "line") (rows_of found)) (is_given o) (depth_of r) part)
+    (e ∙ first_value-rows found (codes "each")) (r ∙ first_value-rows found (codes "recovery"))
     ∙ ap (λ (o : Option Text). tear_by (first_of (codes "image") (rows_of found)) (first_of (codes "script") (rows_of found))
-    (first_of (codes "probe") (rows_of found)) (first_of (codes "line") (rows_of found)) (is_given o))
-    (e ∙ first_value-rows found (codes "each"))
+    (first_of (codes "probe") (rows_of found)) (first_of (codes "line") (rows_of found)) (is_given (first_of (codes "each") (rows_of found)))
+    (depth_of (first_of (codes "recovery") (rows_of found))) o) (q ∙ first_value-rows found (codes "part"))
 
 -- those of `try`
 pub try_read : (found : Found) (script table words : Option Text) → script ≡ first_value found (codes "script") → table ≡ first_value found (codes "table")
@@ -86,3 +91,8 @@ pub try_read : (found : Found) (script table words : Option Text) → script ≡
 try_read found script table words s t w =
     ap (λ (o : Option Text). try_by o table words) (s ∙ first_value-rows found (codes "script"))
     ∙ ap₂ (try_by (first_of (codes "script") (rows_of found))) (t ∙ first_value-rows found (codes "table")) (w ∙ first_value-rows found (codes "words"))
+
+-- those of `test`
+pub test_read : (found : Found) (files : Option (List Text)) (junit : Option Text) → files ≡ option_map raw_values (matched_of found (codes "file"))
+    → junit ≡ first_value found (codes "junit") → test_by files junit ≡ test_of (rows_of found)
+test_read found files junit f j = ap₂ test_by (f ∙ raw_values-rows found (codes "file")) (j ∙ first_value-rows found (codes "junit"))

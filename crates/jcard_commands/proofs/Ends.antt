@@ -4,13 +4,13 @@ use Rattle.std.specs.Io.KnownBytes.{Appends}
 use Rattle.jc_words.specs.Count.{failures_after}
 use Rattle.jcard_commands.specs.FileDeeds.{FileDeed}
 use Rattle.jcard_commands.specs.CommandLine.{CommandLineRequest, IsTakenAs, request_of_words}
-use Rattle.jcard_commands.specs.Faults.{failures_of, is_unwritten, status_of, IsDone, IsLastLine, IsPerformed, IsStarted, IsUnbegun}
+use Rattle.jcard_commands.specs.Faults.{failures_of, is_unwritten, status_of, IsDone, IsDoneOrNoMemory, IsLastLine, IsPerformed, IsStarted, IsUnbegun}
 use Rattle.jcard_commands.specs.declared.fault.Fault.{Fault}
 use Rattle.jcard_commands.specs.declared.fault.Fault.TheVariants.{BadCommandLine, NoMemory, CannotRead}
 
 -- words that are taken for nothing, or memory that was refused
 pub nothing_done : (words : List (List ℕ)) (fault : Fault) → IsTakenAs (request_of_words words) (Err fault)
-    → IsPerformed words (Err fault) [] []
+    → IsDoneOrNoMemory words (Err fault) [] []
 nothing_done words BadCommandLine h = inr (subst (λ (o : Option CommandLineRequest). IsDone o (Err BadCommandLine) [] []) (sym h)
     (refl, refl, refl))
 nothing_done words NoMemory h = inl (refl, refl, refl)

@@ -5,8 +5,10 @@ pub mod Ends
 pub mod FlagWords
 pub mod Listings
 pub mod OptionLines
+pub mod RowTests
 pub mod RunLines
 pub mod Runs
 pub mod Stores
 pub mod TearLines
 pub mod Tears
+pub mod Joinings

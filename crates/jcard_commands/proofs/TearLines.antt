@@ -1,5 +1,5 @@
--- Plain lines of the command `tear`, which takes two operands, the options `--probe` and `--line`, and the flag `--each`.
-use Rattle.std.proofs.Common.{◌≡◌, ◌∙◌, ℕ, false, true, List, [], ◌∷◌, Option, Some, None, refl, codes}
+-- Plain lines of the command `tear`, which takes two operands, the options `--probe`, `--line`, `--recovery` and `--part`, and the flag `--each`.
+use Rattle.std.proofs.Common.{◌≡◌, ◌∙◌, ℕ, false, true, List, [], ◌∷◌, Option, Some, None, ap, refl, codes}
 use Rattle.std.specs.Prelude.{fold}
 use Rattle.clap.specs.Words.{Row, Text}
 use Rattle.clap.specs.Walk.{Waiting, Walk, finished, idle, nothing_held, option, settled, walk_from, walked}
@@ -8,7 +8,8 @@ use Rattle.clap.specs.Faults.{defaults_fault, turn_fault, walk_fault}
 use Rattle.clap.proofs.OnLiterals.{clap_on_literals}
 use Rattle.jcard_commands.proofs.Runs.{no_hyphen}
 use Rattle.jcard_commands.proofs.CommandWalk.{after_next, as_ended, causes_of, met, none_more, opened_by, request_after, whole}
-use Rattle.jcard_commands.specs.CommandLine.{IsNoFlag, CommandLineRequest, TakesTears, ToTear, program_grammar, request_of_words, tear_grammar, tear_of}
+use Rattle.jcard_outcomes.specs.declared.recoveries.Depth.TheVariants.{Zero}
+use Rattle.jcard_commands.specs.CommandLine.{IsNoFlag, CommandLineRequest, TakesTears, ToTear, depth_of, program_grammar, request_of_words, tear_by, tear_grammar, tear_of}
 
 -- the command, as the build leaves it
 abbrev shape : Shape
@@ -108,23 +109,38 @@ unfolding clap_on_literals
 line_second image script probe = record { fault = refl; walk = refl }
 
 -- the last word
-operands_last : (image script : Text) → after (at_options image script) [] ≡ Some (ToTear image script None None false)
+operands_last : (image script : Text) → after (at_options image script) [] ≡ Some (ToTear image script None None false Zero None)
 unfolding request_after clap_on_literals
 operands_last image script = refl
 
 probe_last : (image script probe : Text)
-    → after (given (operands_read image script) (codes "probe") probe) [] ≡ Some (ToTear image script (Some probe) None false)
+    → after (given (operands_read image script) (codes "probe") probe) [] ≡ Some (ToTear image script (Some probe) None false Zero None)
 unfolding request_after clap_on_literals
 probe_last image script probe = refl
 
-line_last : (image script line : Text) → after (given (operands_read image script) (codes "line") line) [] ≡ Some (ToTear image script None (Some line) false)
+line_last : (image script line : Text) → after (given (operands_read image script) (codes "line") line) [] ≡ Some (ToTear image script None (Some line) false Zero None)
 unfolding request_after clap_on_literals
 line_last image script line = refl
 
 both_last : (image script probe line : Text) → after (given (read (operands_read image script) (codes "probe") probe) (codes "line") line) []
-    ≡ Some (ToTear image script (Some probe) (Some line) false)
+    ≡ Some (ToTear image script (Some probe) (Some line) false Zero None)
 unfolding request_after clap_on_literals
 both_last image script probe line = refl
+
+-- the option that says how many recoveries are cut, after the operands
+recovery_first : (image script : Text) → Goes (at_options image script) (codes "--recovery") (named (operands_read image script) (codes "recovery"))
+unfolding clap_on_literals
+recovery_first image script = record { fault = refl; walk = refl }
+
+at_recovery : (rows : List Row) (value : Text) → IsNoFlag value → Goes (named rows (codes "recovery")) value (given rows (codes "recovery") value)
+unfolding clap_on_literals
+at_recovery rows [] h = record { fault = refl; walk = refl }
+at_recovery rows (x ∷ xs) h = record { fault = simp (no_hyphen x xs h); walk = simp (no_hyphen x xs h) }
+
+recovery_last : (image script recovery : Text) → after (given (operands_read image script) (codes "recovery") recovery) []
+    ≡ tear_by (Some image) (Some script) None None false (depth_of (Some recovery)) None
+unfolding request_after clap_on_literals
+recovery_last image script recovery = refl
 
 -- the flag, after the operands, and after the probe
 with_each : Walk → Walk
@@ -139,14 +155,29 @@ each_second : (image script probe : Text) → Goes (given (operands_read image s
 unfolding clap_on_literals with_each
 each_second image script probe = record { fault = refl; walk = refl }
 
-each_last : (image script : Text) → after (with_each (at_options image script)) [] ≡ Some (ToTear image script None None true)
+each_last : (image script : Text) → after (with_each (at_options image script)) [] ≡ Some (ToTear image script None None true Zero None)
 unfolding request_after clap_on_literals with_each
 each_last image script = refl
 
 each_behind_probe : (image script probe : Text)
-    → after (with_each (given (operands_read image script) (codes "probe") probe)) [] ≡ Some (ToTear image script (Some probe) None true)
+    → after (with_each (given (operands_read image script) (codes "probe") probe)) [] ≡ Some (ToTear image script (Some probe) None true Zero None)
 unfolding request_after clap_on_literals with_each
 each_behind_probe image script probe = refl
+
+-- a part, after the operands
+at_part : (rows : List Row) (value : Text) → IsNoFlag value → Goes (named rows (codes "part")) value (given rows (codes "part") value)
+unfolding clap_on_literals
+at_part rows [] h = record { fault = refl; walk = refl }
+at_part rows (x ∷ xs) h = record { fault = simp (no_hyphen x xs h); walk = simp (no_hyphen x xs h) }
+
+part_first : (image script : Text) → Goes (at_options image script) (codes "--part") (named (operands_read image script) (codes "part"))
+unfolding clap_on_literals
+part_first image script = record { fault = refl; walk = refl }
+
+part_last : (image script part : Text)
+    → after (given (operands_read image script) (codes "part") part) [] ≡ Some (ToTear image script None None false Zero (Some part))
+unfolding request_after clap_on_literals
+part_last image script part = refl
 
 -- ---- the lines
 
@@ -156,7 +187,7 @@ at_operands name image script words hi hs = opened name (image ∷ script ∷ wo
     ∙ (step (at_image image hi) (script ∷ words) ∙ step (at_script image script hs) words)
 
 pub tears : TakesTears
-tears name image script probe line hi hs hp hl = (
+tears name image script probe line recovery hi hs hp hl hr = (
   at_operands name image script [] hi hs ∙ operands_last image script,
   at_operands name image script (codes "--probe" ∷ probe ∷ []) hi hs
       ∙ (step (probe_first image script) (probe ∷ [])
@@ -180,4 +211,13 @@ tears name image script probe line hi hs hp hl = (
       ∙ (step (at_probe (operands_read image script) probe hp) (codes "--each" ∷ [])
       ∙ (step (each_second image script probe) []
       ∙ each_behind_probe image script probe))),
+  λ depth is. at_operands name image script (codes "--recovery" ∷ recovery ∷ []) hi hs
+      ∙ (step (recovery_first image script) (recovery ∷ [])
+      ∙ (step (at_recovery (operands_read image script) recovery hr) []
+      ∙ (recovery_last image script recovery
+      ∙ ap (λ d. tear_by (Some image) (Some script) None None false d None) is))),
+  at_operands name image script (codes "--part" ∷ line ∷ []) hi hs
+      ∙ (step (part_first image script) (line ∷ [])
+      ∙ (step (at_part (operands_read image script) line hl) []
+      ∙ part_last image script line)),
 )

@@ -1,7 +1,5 @@
 -- How `jcard tear` ends where a command was not cut.
-use Rattle.std.proofs.Common.{◌≡◌, ℕ, true, false, List, Option, Some, None, Err, refl, sym, subst}
-use Rattle.std.specs.Option.{is_none}
-use Rattle.std.proofs.lemmas.Bool.{false≢true, true≢false}
+use Rattle.std.proofs.Common.{◌≡◌, ℕ, false, List, Err, refl, sym, subst}
 use Rattle.jc_card.specs.declared.power_up.PowerFault.{PowerFault}
 use Rattle.jc_card.specs.declared.power_up.PowerFault.TheVariants.{BadMagic, BadVersion, BadSize, BadLog, BadTable, BadPackage, StoreDown, NoMemory}
 use Rattle.jcard_commands.specs.Faults.{IsUnpowered, is_unwritten}
@@ -24,13 +22,3 @@ unpowered_uncut image BadTable fault h = subst (λ f. IsUncut f) (sym h) tt
 unpowered_uncut image BadPackage fault h = subst (λ f. IsUncut f) (sym h) tt
 unpowered_uncut image NoMemory fault h = subst (λ f. IsUncut f) (sym h) tt
 unpowered_uncut image StoreDown fault h = subst (λ f. IsUncut f) (sym h.1) tt
-
--- no cut is told as broken
-pub none_broken : (o : Option ℕ) → is_none o ≡ true → o ≡ None
-none_broken None e = refl
-none_broken (Some k) e = absurd (false≢true e)
-
--- or one is
-pub one_broken : (o : Option ℕ) → is_none o ≡ false → (k : ℕ) × (o ≡ Some k)
-one_broken None e = absurd (true≢false e)
-one_broken (Some k) e = (k, refl)

@@ -1,12 +1,14 @@
 -- What a command line is taken for: the program's commands, in the grammar that clap's definitions give to them.
-use Rattle.std.specs.Prelude.{◌≡◌, ◌==◌, ◌&&◌, Bool, true, false, is_some, List, [], ◌∷◌, codes, Option, Some, None, if◌then◌else◌, option_map, option_and_then}
+use Rattle.std.specs.Prelude.{map, ◌≡◌, ◌==◌, ◌&&◌, Bool, true, false, is_some, List, [], ◌∷◌, codes, Option, Some, None, if◌then◌else◌, option_map, option_and_then}
 use Rattle.std.specs.Prelude.{slice_get, Result, Ok, Err}
 use Rattle.std.specs.Str.{bytes_eq, chars}
 use Rattle.std.specs.Borrow.{Bor}
-use Rattle.clap.specs.Words.{App, Kinds, Row, Rule, Text, fault_of, first_of, new_app, new_rule, subcommand_of, with_rule, with_subcommand}
-use Rattle.clap.specs.declared.builder.action.ArgAction.TheVariants.{Set, SetTrue}
+use Rattle.clap.specs.Words.{App, Kinds, Row, Rule, Text, all_of, fault_of, first_of, new_app, new_rule, subcommand_of, with_rule, with_subcommand}
+use Rattle.clap.specs.declared.builder.action.ArgAction.TheVariants.{Append, Set, SetTrue}
+use Rattle.jcard_outcomes.specs.declared.recoveries.Depth.{Depth}
+use Rattle.jcard_outcomes.specs.declared.recoveries.Depth.TheVariants.{Zero, One, Two, Three}
 use Rattle.jcard_commands.specs.declared.arguments.Action.{Action}
-use Rattle.jcard_commands.specs.declared.arguments.Action.TheVariants.{New, Run, Dump, Try, Tear}
+use Rattle.jcard_commands.specs.declared.arguments.Action.TheVariants.{New, Run, Dump, Try, Tear, Test}
 use Rattle.jcard_commands.specs.declared.fault.Fault.{Fault}
 use Rattle.jcard_commands.specs.declared.fault.Fault.TheVariants.{BadCommandLine, NoMemory}
 
@@ -21,14 +23,22 @@ pub data CommandLineRequest : Type 0 where
   -- the script of this name is carried out, on a new card in memory of so many words, with the platform table of this name
   ToTry : Text → Text → Text → CommandLineRequest
   -- a command of the script of the second name is cut, over the words of the image of the first: the last one, or that in the line
-  -- of this number, or each; behind each cut the lines of the probe of this name, if there is one
-  ToTear : Text → Text → Option Text → Option Text → Bool → CommandLineRequest
+  -- of this number, or each; behind each cut the lines of the probe of this name, if there is one, and so many recoveries that are cut; or
+  -- only the cuts of a part, with no recovery
+  ToTear : Text → Text → Option Text → Option Text → Bool → Depth → Option Text → CommandLineRequest
+  -- the rows of the files of these names are answered by new cards in memory, and the report for build servers is written to the file of
+  -- this name, if there is one
+  ToTest : List Text → Option Text → CommandLineRequest
 
 -- ---- the grammar
 
 -- a word that must stand there
 abbrev pub operand : Text → Rule
 operand name = record (new_rule name) { required = true; action = Some Set }
+
+-- one word or more that must stand there
+abbrev pub operands_rule : Text → Rule
+operands_rule name = record (new_rule name) { required = true; action = Some Append }
 
 -- an option that must be given, once and with one value
 abbrev pub given_option : Text → Rule
@@ -58,15 +68,22 @@ dump_grammar = with_rule (new_app (codes "dump")) (operand (codes "image"))
 abbrev pub try_grammar : App
 try_grammar = with_rule (with_rule (with_rule (new_app (codes "try")) (operand (codes "script"))) (given_option (codes "table"))) (free_option (codes "words"))
 
--- `tear IMAGE SCRIPT [--probe FILE] [--line N | --each]`
-abbrev pub tear_grammar : App
-tear_grammar = with_rule (with_rule (with_rule (with_rule (with_rule (new_app (codes "tear")) (operand (codes "image"))) (operand (codes "script")))
+-- `tear IMAGE SCRIPT [--probe FILE] [--line N | --each] [--recovery D | --part I/N]`
+abbrev pub tear_choices : App
+tear_choices = with_rule (with_rule (with_rule (with_rule (with_rule (new_app (codes "tear")) (operand (codes "image"))) (operand (codes "script")))
     (free_option (codes "probe"))) (free_option (codes "line"))) (flag (codes "each"))
+
+abbrev pub tear_grammar : App
+tear_grammar = with_rule (with_rule tear_choices (free_option (codes "recovery"))) (free_option (codes "part"))
+
+-- `test FILE.. [--junit FILE]`
+abbrev pub test_grammar : App
+test_grammar = with_rule (with_rule (new_app (codes "test")) (operands_rule (codes "file"))) (free_option (codes "junit"))
 
 -- the program's name and one of its commands
 abbrev pub program_grammar : App
-program_grammar = with_subcommand (with_subcommand (with_subcommand (with_subcommand (with_subcommand (new_app (codes "jcard"))
-    new_grammar.top) run_grammar.top) dump_grammar.top) try_grammar.top) tear_grammar.top
+program_grammar = with_subcommand (with_subcommand (with_subcommand (with_subcommand (with_subcommand (with_subcommand (new_app (codes "jcard"))
+    new_grammar.top) run_grammar.top) dump_grammar.top) try_grammar.top) tear_grammar.top) test_grammar.top
 
 -- ---- what the words are taken for
 
@@ -90,17 +107,39 @@ abbrev pub try_by : Option Text → Option Text → Option Text → Option Comma
 try_by (Some script) (Some table) words = Some (ToTry script (tried_words words) table)
 try_by script table words = None
 
+-- what `test` asks for, with these operands and this option
+abbrev pub test_by : Option (List Text) → Option Text → Option CommandLineRequest
+test_by (Some files) junit = Some (ToTest files junit)
+test_by None junit = None
+
 -- a flag is given where its value is `true`
 abbrev pub is_given : Option Text → Bool
 is_given (Some value) = bytes_eq value (codes "true")
 is_given None = false
 
--- what `tear` asks for, with these operands and options; a line and each command together are nothing
-abbrev pub tear_by : Option Text → Option Text → Option Text → Option Text → Bool → Option CommandLineRequest
-tear_by (Some image) (Some script) probe line false = Some (ToTear image script probe line false)
-tear_by (Some image) (Some script) probe None true = Some (ToTear image script probe None true)
-tear_by (Some image) (Some script) probe (Some line) true = None
-tear_by image script probe line each = None
+-- how many recoveries are cut: none where nothing is said, else a number from 0 to 3
+abbrev pub depth_of : Option Text → Option Depth
+depth_of None = Some Zero
+depth_of (Some text) = if bytes_eq text (codes "0") then Some Zero
+    else (if bytes_eq text (codes "1") then Some One
+    else (if bytes_eq text (codes "2") then Some Two
+    else (if bytes_eq text (codes "3") then Some Three else None)))
+
+-- what `tear` asks for a part of a command's cuts, or for all: a part has no recoveries
+abbrev pub cuts_by : Text → Text → Option Text → Option Text → Depth → Option Text → Option CommandLineRequest
+cuts_by image script probe line depth None = Some (ToTear image script probe line false depth None)
+cuts_by image script probe line Zero (Some part) = Some (ToTear image script probe line false Zero (Some part))
+cuts_by image script probe line One (Some part) = None
+cuts_by image script probe line Two (Some part) = None
+cuts_by image script probe line Three (Some part) = None
+
+-- what it asks for, with these operands and options; a line or a part and each command together are nothing
+abbrev pub tear_by : Option Text → Option Text → Option Text → Option Text → Bool → Option Depth → Option Text → Option CommandLineRequest
+tear_by (Some image) (Some script) probe line false (Some depth) part = cuts_by image script probe line depth part
+tear_by (Some image) (Some script) probe None true (Some depth) None = Some (ToTear image script probe None true depth None)
+tear_by (Some image) (Some script) probe None true (Some depth) (Some part) = None
+tear_by (Some image) (Some script) probe (Some line) true (Some depth) part = None
+tear_by image script probe line each depth part = None
 
 -- the same, with these values of all operands and options
 abbrev pub new_of : List Row → Option CommandLineRequest
@@ -114,7 +153,10 @@ try_of rows = try_by (first_of (codes "script") rows) (first_of (codes "table") 
 
 abbrev pub tear_of : List Row → Option CommandLineRequest
 tear_of rows = tear_by (first_of (codes "image") rows) (first_of (codes "script") rows) (first_of (codes "probe") rows) (first_of (codes "line") rows)
-    (is_given (first_of (codes "each") rows))
+    (is_given (first_of (codes "each") rows)) (depth_of (first_of (codes "recovery") rows)) (first_of (codes "part") rows)
+
+abbrev pub test_of : List Row → Option CommandLineRequest
+test_of rows = test_by (all_of (codes "file") rows) (first_of (codes "junit") rows)
 
 abbrev pub dump_of : List Row → Option CommandLineRequest
 dump_of rows = option_map ToTell (first_of (codes "image") rows)
@@ -126,7 +168,8 @@ request_of named =
     else (if bytes_eq named.0 (codes "run") then run_of named.1
     else (if bytes_eq named.0 (codes "dump") then dump_of named.1
     else (if bytes_eq named.0 (codes "try") then try_of named.1
-    else (if bytes_eq named.0 (codes "tear") then tear_of named.1 else None))))
+    else (if bytes_eq named.0 (codes "tear") then tear_of named.1
+    else (if bytes_eq named.0 (codes "test") then test_of named.1 else None)))))
 
 -- nothing where the words are refused for a cause
 abbrev pub unless_faulty : Kinds → Option CommandLineRequest → Option CommandLineRequest
@@ -166,17 +209,21 @@ TakesTries = (name script words table : Text) → IsNoFlag script → IsNoFlag w
     × (request_of_words (name ∷ codes "try" ∷ script ∷ codes "--words" ∷ words ∷ codes "--table" ∷ table ∷ []) ≡ Some (ToTry script words table))
 
 -- `NAME tear IMAGE SCRIPT` asks to cut the last command of exactly this script over this image; with `--probe FILE`, `--line N` or both,
--- in this order, with this probe, and the command in this line; with `--each`, behind a probe or without one, each command
+-- in this order, with this probe, and the command in this line; with `--each`, behind a probe or without one, each command; with
+-- `--recovery D`, where D is a number from 0 to 3, with so many recoveries cut; with `--part I/N`, in this part
 abbrev pub TakesTears : Type 0
-TakesTears = (name image script probe line : Text) → IsNoFlag image → IsNoFlag script → IsNoFlag probe → IsNoFlag line
-    → (request_of_words (name ∷ codes "tear" ∷ image ∷ script ∷ []) ≡ Some (ToTear image script None None false))
-    × (request_of_words (name ∷ codes "tear" ∷ image ∷ script ∷ codes "--probe" ∷ probe ∷ []) ≡ Some (ToTear image script (Some probe) None false))
-    × (request_of_words (name ∷ codes "tear" ∷ image ∷ script ∷ codes "--line" ∷ line ∷ []) ≡ Some (ToTear image script None (Some line) false))
+TakesTears = (name image script probe line recovery : Text) → IsNoFlag image → IsNoFlag script → IsNoFlag probe → IsNoFlag line → IsNoFlag recovery
+    → (request_of_words (name ∷ codes "tear" ∷ image ∷ script ∷ []) ≡ Some (ToTear image script None None false Zero None))
+    × (request_of_words (name ∷ codes "tear" ∷ image ∷ script ∷ codes "--probe" ∷ probe ∷ []) ≡ Some (ToTear image script (Some probe) None false Zero None))
+    × (request_of_words (name ∷ codes "tear" ∷ image ∷ script ∷ codes "--line" ∷ line ∷ []) ≡ Some (ToTear image script None (Some line) false Zero None))
     × (request_of_words (name ∷ codes "tear" ∷ image ∷ script ∷ codes "--probe" ∷ probe ∷ codes "--line" ∷ line ∷ [])
-    ≡ Some (ToTear image script (Some probe) (Some line) false))
-    × (request_of_words (name ∷ codes "tear" ∷ image ∷ script ∷ codes "--each" ∷ []) ≡ Some (ToTear image script None None true))
+    ≡ Some (ToTear image script (Some probe) (Some line) false Zero None))
+    × (request_of_words (name ∷ codes "tear" ∷ image ∷ script ∷ codes "--each" ∷ []) ≡ Some (ToTear image script None None true Zero None))
     × (request_of_words (name ∷ codes "tear" ∷ image ∷ script ∷ codes "--probe" ∷ probe ∷ codes "--each" ∷ [])
-    ≡ Some (ToTear image script (Some probe) None true))
+    ≡ Some (ToTear image script (Some probe) None true Zero None))
+    × ((depth : Depth) → depth_of (Some recovery) ≡ Some depth
+    → request_of_words (name ∷ codes "tear" ∷ image ∷ script ∷ codes "--recovery" ∷ recovery ∷ []) ≡ Some (ToTear image script None None false depth None))
+    × (request_of_words (name ∷ codes "tear" ∷ image ∷ script ∷ codes "--part" ∷ line ∷ []) ≡ Some (ToTear image script None None false Zero (Some line)))
 
 -- ---- every line of a command
 
@@ -211,8 +258,9 @@ request_by (New image words table) = ToMake image.now words.now table.now
 request_by (Run image script) = ToRun image.now script.now
 request_by (Dump image) = ToTell image.now
 request_by (Try script words table) = ToTry script.now words.now table.now
-request_by (Tear image script probe line each) = ToTear image.now script.now (option_map (λ (t : Bor Text). t.now) probe)
-    (option_map (λ (t : Bor Text). t.now) line) each
+request_by (Tear image script probe line each depth part) = ToTear image.now script.now (option_map (λ (t : Bor Text). t.now) probe)
+    (option_map (λ (t : Bor Text). t.now) line) each depth (option_map (λ (t : Bor Text). t.now) part)
+request_by (Test files junit) = ToTest (map (λ (t : Bor Text). t.now) files.items) (option_map (λ (t : Bor Text). t.now) junit)
 
 -- the action is the one that is asked for; the command line is bad only where nothing is; else memory was refused
 abbrev pub IsTakenAs : Option CommandLineRequest → Result Action Fault → Type 0

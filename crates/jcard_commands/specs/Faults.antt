@@ -18,18 +18,21 @@ use Rattle.jcard_script.specs.declared.script.ScriptFault.TheVariants.{ReadFaile
 use Rattle.jcard_script.specs.declared.script.ScriptFault.TheVariants.{PowerFault as NotPoweredUp}
 use Rattle.jc_card.specs.declared.power_up.PowerFault.{PowerFault}
 use Rattle.jc_card.specs.declared.power_up.PowerFault.TheVariants as power
-use Rattle.jcard_commands.specs.CommandLine.{CommandLineRequest, ToMake, ToRun, ToTear, ToTell, ToTry, request_of_words}
+use Rattle.jcard_commands.specs.CommandLine.{CommandLineRequest, ToMake, ToRun, ToTear, ToTell, ToTest, ToTry, request_of_words}
 use Rattle.jcard_commands.specs.Dumps.{IsDump}
 use Rattle.jcard_commands.specs.FileDeeds.{FileDeed, ClosesImage, OpensImage, ReadsText, fresh_store, untouched}
 use Rattle.jcard_commands.specs.Images.{IsNotOpenedToWrite, IsUnopened}
+use Rattle.jcard_commands.specs.Joinings.{IsJoining, files_of}
 use Rattle.jcard_commands.specs.NewImages.{IsNew, IsNewImage, IsTable, IsTextOf, IsUnread, IsWordCount}
 use Rattle.jcard_commands.specs.Tears.{IsTear}
+use Rattle.jcard_commands.specs.Tests.{IsTest}
 use Rattle.jcard_commands.specs.declared.fault.Damage.{Damage}
 use Rattle.jcard_commands.specs.declared.fault.Damage.TheVariants.{Magic, Version, Size, Log, Table, Package}
 use Rattle.jcard_commands.specs.declared.fault.Fault.{Fault}
 use Rattle.jcard_commands.specs.declared.fault.Fault.TheVariants.{BadCommandLine, NoMemory, BadWords, BadTable, ImageTooSmall, CannotRead, CannotOpenToWrite}
 use Rattle.jcard_commands.specs.declared.fault.Fault.TheVariants.{CannotWrite, ImageInUse, BadImage, BadCommand, ScriptTooLong, WriteFailed}
-use Rattle.jcard_commands.specs.declared.fault.Fault.TheVariants.{Down, NoCommand, TooManyCuts, NotAllOrNothing}
+use Rattle.jcard_commands.specs.declared.fault.Fault.TheVariants.{Down, NoCommand, TooManyCuts, NotAllOrNothing, CannotInclude, RowsFailed}
+use Rattle.jcard_commands.specs.declared.fault.Fault.TheVariants.{BadCut, BadPart, CutMissing, CutTwice, OtherSweep}
 
 -- the exit status
 abbrev pub status_of : Result Unit Fault → ℕ
@@ -51,6 +54,13 @@ status_of (Err Down) = 1
 status_of (Err NoCommand) = 1
 status_of (Err TooManyCuts) = 1
 status_of (Err NotAllOrNothing) = 3
+status_of (Err (CannotInclude path number)) = 1
+status_of (Err RowsFailed) = 4
+status_of (Err BadPart) = 1
+status_of (Err (CutMissing k)) = 1
+status_of (Err (CutTwice k)) = 1
+status_of (Err (BadCut k)) = 1
+status_of (Err (OtherSweep k)) = 1
 
 -- the number of the check that finds a damage
 abbrev pub check_of : Damage → ℕ
@@ -61,7 +71,15 @@ check_of Log = 4
 check_of Table = 5
 check_of Package = 6
 
--- the line that tells a fault; none tells a failed write, and a cut that was not all or nothing is told by the report
+-- the line that tells that a file cannot be read that this line of a file includes
+abbrev pub unincluded_text : List ℕ → ℕ → List ℕ
+unincluded_text path number = (codes "jcard: " ++ path ++ codes ": line ") ++ (decimal number ++ codes ": cannot read the file that is included" ++ codes "\n")
+
+-- the line that tells what is wrong with what parts tell of a cut
+abbrev pub cut_line : ℕ → List ℕ → List ℕ
+cut_line k wrong = codes "jcard: cut " ++ decimal k ++ wrong
+
+-- the line that tells a fault; none tells a failed write, and a cut that was not all or nothing, or a row that failed, is told by the report
 abbrev pub line_of : Fault → List ℕ
 line_of BadCommandLine = codes "jcard: bad command line\n"
 line_of NoMemory = codes "jcard: no memory\n"
@@ -80,6 +98,13 @@ line_of Down = codes "jcard: the card is down at the command\n"
 line_of NoCommand = codes "jcard: no command to cut\n"
 line_of TooManyCuts = codes "jcard: more than 65535 cuts\n"
 line_of NotAllOrNothing = []
+line_of (CannotInclude path number) = unincluded_text path.now number
+line_of RowsFailed = []
+line_of BadPart = codes "jcard: part must be 1/N to N/N\n"
+line_of (CutMissing k) = cut_line k (codes " is missing\n")
+line_of (CutTwice k) = cut_line k (codes " stands twice\n")
+line_of (BadCut k) = cut_line k (codes " is told in no known form\n")
+line_of (OtherSweep k) = cut_line k (codes " is of another sweep\n")
 
 -- whether a write of what was asked for failed
 abbrev pub is_unwritten : Result Unit Fault → Bool
@@ -164,12 +189,21 @@ IsDone (Some (ToMake image words table)) ended text deeds = IsNew image words ta
 IsDone (Some (ToRun image script)) ended text deeds = IsRun image script ended text deeds
 IsDone (Some (ToTell image)) ended text deeds = IsDump image ended text deeds
 IsDone (Some (ToTry script words table)) ended text deeds = IsTrial script words table ended text deeds
-IsDone (Some (ToTear image script probe line each)) ended text deeds = IsTear image script each probe ended text deeds
+IsDone (Some (ToTear image script probe line each depth part)) ended text deeds = IsTear image script line each depth part probe ended text deeds
+IsDone (Some (ToTest names junit)) ended text deeds = IsTest names junit ended text deeds
 
--- on these words the program came to this end, wrote this text and did this with files: memory was refused before anything was
--- done, or what the words are taken for was done
+-- memory was refused before anything was done, or what the words are taken for was done
+abbrev pub IsDoneOrNoMemory : List (List ℕ) → Result Unit Fault → List ℕ → List FileDeed → Type 0
+IsDoneOrNoMemory words ended text deeds = ((ended ≡ Err NoMemory) × (text ≡ []) × (deeds ≡ [])) ⊎ IsDone (request_of_words words) ended text deeds
+
+-- the files that they name were joined; or, where they name none to join, that was done
+abbrev pub IsPerformedBy : Option (List (List ℕ)) → List (List ℕ) → Result Unit Fault → List ℕ → List FileDeed → Type 0
+IsPerformedBy (Some files) words ended text deeds = IsJoining files ended text deeds
+IsPerformedBy None words ended text deeds = IsDoneOrNoMemory words ended text deeds
+
+-- on these words the program came to this end, wrote this text and did this with files
 abbrev pub IsPerformed : List (List ℕ) → Result Unit Fault → List ℕ → List FileDeed → Type 0
-IsPerformed words ended text deeds = ((ended ≡ Err NoMemory) × (text ≡ []) × (deeds ≡ [])) ⊎ IsDone (request_of_words words) ended text deeds
+IsPerformed words = IsPerformedBy (files_of words) words
 
 -- a writer's count of failures rises by one for each of these
 abbrev pub failures_of : ℕ → Result Unit Fault → Bool → ℕ

@@ -15,6 +15,8 @@ pub data FileDeed : Type 0 where
   ClosesImage : List ℕ → StoreValue → FileDeed
   -- a text was asked for: its bytes, where they are known
   ReadsText : List ℕ → Option (Option (List ℕ)) → FileDeed
+  -- a file of these bytes was asked for: whether it was written
+  WritesText : List ℕ → List ℕ → Bool → FileDeed
 
 -- the store of these words, of which no write was asked for
 abbrev pub untouched : List ℕ → StoreValue

@@ -46,6 +46,12 @@ IsNotMade name ImageInUse = Unit {0}
 IsNotMade name NoMemory = Unit {0}
 IsNotMade name other = ⊥
 
+-- why a text of this name was not written
+abbrev pub IsUnwritten : List ℕ → Fault → Type 0
+IsUnwritten name (CannotWrite path) = path.now ≡ name
+IsUnwritten name NoMemory = Unit {0}
+IsUnwritten name other = ⊥
+
 -- ---- causes
 
 -- what is told where the image of this name was not opened to change it

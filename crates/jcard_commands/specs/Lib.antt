@@ -7,3 +7,5 @@ pub mod Listings
 pub mod MemDisks
 pub mod NewImages
 pub mod Tears
+pub mod Tests
+pub mod Joinings

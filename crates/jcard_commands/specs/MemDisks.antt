@@ -2,13 +2,15 @@
 use Rattle.std.specs.Prelude.{ℕ, ◌≡◌, ◌==◌, ◌*◌, true, false, Bool, List, [], ◌∷◌, ◌++◌, flat_map, length, position, replicate, slice_get, slice_set, if◌then◌else◌}
 use Rattle.std.specs.Prelude.{Option, Some, None, MatchOption}
 use Rattle.std.specs.Str.{bytes_eq}
+use Rattle.std.specs.String.{string_bytes}
 use Rattle.std.proofs.Common.{subst}
 use Rattle.byteorder.specs.Endian.{big_bytes}
 use Rattle.jc_words.specs.Count.{saturating_count}
 use Rattle.jc_words.specs.Files.{AreWordsOf}
 use Rattle.jc_words.specs.Stores.{StoreValue}
-use Rattle.jcard_commands.specs.FileDeeds.{FileDeed, ClosesImage, MakesImage, OpensImage, ReadsImage, ReadsText}
+use Rattle.jcard_commands.specs.FileDeeds.{FileDeed, ClosesImage, MakesImage, OpensImage, ReadsImage, ReadsText, WritesText}
 use Rattle.jcard_commands.specs.declared.text_file.TextFile.{TextFile}
+use Rattle.jcard_commands.specs.declared.text_file.WrittenText.{WrittenText}
 
 -- an image, by its name: its bytes, and how many words were written to it since it was made
 pub record ImageFileValue : Type 0 where
@@ -16,10 +18,11 @@ pub record ImageFileValue : Type 0 where
   pub bytes : List ℕ
   pub writes : ℕ
 
--- a disk in memory
+-- a disk in memory: texts that stand, images, and texts that were written, in the order in which they were
 pub record MemDiskValue : Type 0 where
   pub texts : List TextFile
   pub images : List ImageFileValue
+  pub written : List WrittenText
 
 -- where the first text of this name stands
 abbrev pub text_place : List ℕ → List TextFile → Option ℕ
@@ -61,6 +64,11 @@ abbrev pub IsClosed : List ℕ → StoreValue → MemDiskValue → MemDiskValue 
 IsClosed name store old new = MatchOption (image_place name old.images) (new ≡ old) (λ i. (image : ImageFileValue) × (slice_get old.images i ≡ Some image)
     × (new ≡ record old { images = slice_set old.images i (image_after store image) }))
 
+-- the text of these bytes was written
+abbrev pub IsWritten : List ℕ → List ℕ → MemDiskValue → MemDiskValue → Type 0
+IsWritten name bytes old new = (text : WrittenText) × (string_bytes text.name ≡ name) × (text.bytes.items ≡ bytes)
+    × (new ≡ record old { written = old.written ++ text ∷ [] })
+
 -- this was done
 abbrev pub IsDeed : FileDeed → MemDiskValue → MemDiskValue → Type 0
 IsDeed (OpensImage name told) old new = IsTold name told old × (new ≡ old)
@@ -69,6 +77,8 @@ IsDeed (MakesImage name n true) old new = new ≡ record old { images = images_w
 IsDeed (MakesImage name n false) old new = new ≡ old
 IsDeed (ClosesImage name store) old new = IsClosed name store old new
 IsDeed (ReadsText name told) old new = IsGiven name told old × (new ≡ old)
+IsDeed (WritesText name bytes true) old new = IsWritten name bytes old new
+IsDeed (WritesText name bytes false) old new = new ≡ old
 
 -- exactly these things were done, in this order
 abbrev pub AreDeeds : List FileDeed → MemDiskValue → MemDiskValue → Type 0

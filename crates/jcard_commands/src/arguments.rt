@@ -5,16 +5,18 @@ ghost use Rattle.std.specs.Borrow.{Bor};
 ghost use Rattle.std.specs.String.{string_bytes};
 ghost use Rattle.clap.specs.Words.{app_of, found_of, kind_of, new_app, rows_of, rule_of, subcommand_rows_of, with_rule, with_subcommand};
 ghost use Rattle.jcard_commands.specs.CommandLine.{IsTakenAs, TakesDumps, TakesNews, TakesRunLines, TakesRuns, TakesTears, TakesTries, dump_grammar, dump_of, flag, free_option, is_given};
-ghost use Rattle.jcard_commands.specs.CommandLine.{given_option, new_grammar, new_of, operand, program_grammar, request_by, request_of, run_grammar, run_of};
-ghost use Rattle.jcard_commands.specs.CommandLine.{request_of_words, tear_by, tear_grammar, tear_of, try_grammar, try_of};
+ghost use Rattle.jcard_commands.specs.CommandLine.{depth_of, given_option, new_grammar, new_of, operand, program_grammar, request_by, request_of, run_grammar, run_of};
+ghost use Rattle.jcard_commands.specs.CommandLine.{request_of_words, tear_by, tear_choices, tear_grammar, tear_of, try_grammar, try_of};
+ghost use Rattle.jcard_commands.specs.CommandLine.{operands_rule, test_grammar, test_of};
 
 use crate::fault::Fault;
 use clap::error::ErrorKind;
 use clap::{Arg, ArgAction, ArgMatches, Command, Error};
+use jcard_outcomes::recoveries::Depth;
 use std::alloc::{AllocError, Global};
 
 /// What the words ask for.
-#[derive(Clone, Copy, Debug, PartialEq, Eq, Drop)]
+#[derive(Debug, PartialEq, Eq, Drop)]
 pub enum Action<'a> {
     /// An image with so many words is made, from the platform table of this name.
     New {
@@ -39,13 +41,22 @@ pub enum Action<'a> {
         table: &'a str,
     },
     /// A command of the script is cut after each number of its writes, over copies of the words of the image: the last one, or that in
-    /// the line of this number, or each. Behind each cut come the lines of the probe of this name, if there is one.
+    /// the line of this number, or each. Behind each cut come the lines of the probe of this name, if there is one, and
+    /// so many recoveries that are cut. With a part, only the cuts of that part are done, and no recovery is cut.
     Tear {
         image: &'a str,
         script: &'a str,
         probe: Option<&'a str>,
         line: Option<&'a str>,
         each: bool,
+        depth: Depth,
+        part: Option<&'a str>,
+    },
+    /// The rows of the files of these names are answered by new cards in memory. The report for build servers is written to the file of
+    /// the last name, if there is one.
+    Test {
+        files: Vec<&'a str>,
+        junit: Option<&'a str>,
     },
 }
 
@@ -88,7 +99,8 @@ fn request_by_clap(alloc: Global, words: &[String]) -> Result<Option<Action<'_>>
         ⊎ (request_of_words (map string_bytes words.now) ≡ None)) }
 {
     let matches = commands(alloc)?.try_get_matches_from(words)?;
-    Ok(request_of(&matches))
+    let asked = request_of(alloc, &matches)?;
+    Ok(asked)
 }
 
 // The program's commands.
@@ -100,11 +112,13 @@ fn commands<'a>(alloc: Global) -> Result<Command<'a>, AllocError>
     let dump = dump_command(alloc)?;
     let trial = try_command(alloc)?;
     let tear = tear_command(alloc)?;
+    let test = test_command(alloc)?;
     let program = with_command(Command::new(alloc, "jcard"), new)?;
     let program = with_command(program, run)?;
     let program = with_command(program, dump)?;
     let program = with_command(program, trial)?;
-    with_command(program, tear)
+    let program = with_command(program, tear)?;
+    with_command(program, test)
 }
 
 // The program with one command more.
@@ -152,9 +166,18 @@ fn try_command<'a>(alloc: Global) -> Result<Command<'a>, AllocError>
         .arg(free_option(alloc, "words"))
 }
 
-// `tear IMAGE SCRIPT [--probe FILE] [--line N | --each]`.
+// `tear IMAGE SCRIPT [--probe FILE] [--line N | --each] [--recovery D | --part I/N]`.
 fn tear_command<'a>(alloc: Global) -> Result<Command<'a>, AllocError>
     ensures { IfOk result (λ c. app_of c ≡ tear_grammar) }
+{
+    tear_choices(alloc)?
+        .arg(free_option(alloc, "recovery"))?
+        .arg(free_option(alloc, "part"))
+}
+
+// Its operands, what is asked behind a cut, and which commands are cut.
+fn tear_choices<'a>(alloc: Global) -> Result<Command<'a>, AllocError>
+    ensures { IfOk result (λ c. app_of c ≡ tear_choices) }
 {
     tear_operands(alloc)?
         .arg(free_option(alloc, "probe"))?
@@ -170,6 +193,25 @@ fn tear_operands<'a>(alloc: Global) -> Result<Command<'a>, AllocError>
     Command::new(alloc, "tear")
         .arg(operand(alloc, "image"))?
         .arg(operand(alloc, "script"))
+}
+
+// `test FILE.. [--junit FILE]`.
+fn test_command<'a>(alloc: Global) -> Result<Command<'a>, AllocError>
+    ensures { IfOk result (λ c. app_of c ≡ test_grammar) }
+{
+    Command::new(alloc, "test")
+        .arg(operands(alloc, "file"))?
+        .arg(free_option(alloc, "junit"))
+}
+
+// One operand or more.
+fn operands<'a>(alloc: Global, name: &'a str) -> Arg<'a>
+    ensures rule { rule_of result ≡ operands_rule name.entry.now }
+    ensures local { result.global ≡ false }
+{
+    Arg::new(alloc, name)
+        .required(true)
+        .action(ArgAction::Append)
 }
 
 fn operand<'a>(alloc: Global, name: &'a str) -> Arg<'a>
@@ -201,18 +243,33 @@ fn flag<'a>(alloc: Global, name: &'a str) -> Arg<'a>
 }
 
 // What the matches ask for.
-fn request_of<'a>(matches: &ArgMatches<'a>) -> Option<Action<'a>>
-    ensures { option_map request_by result ≡ option_and_then request_of
-        (subcommand_rows_of matches.now) }
+fn request_of<'a>(alloc: Global, matches: &ArgMatches<'a>) -> Result<Option<Action<'a>>, AllocError>
+    ensures { IfOk result (λ asked. option_map request_by asked ≡ option_and_then request_of
+        (subcommand_rows_of matches.now)) }
 {
-    let (name, operands) = matches.subcommand()?;
+    match matches.subcommand() {
+        Some((name, operands)) => command_asked(alloc, name, operands),
+        None => Ok(None),
+    }
+}
+
+// What the command of this name asks for.
+fn command_asked<'a>(
+    alloc: Global,
+    name: &str,
+    operands: &ArgMatches<'a>,
+) -> Result<Option<Action<'a>>, AllocError>
+    ensures { IfOk result (λ asked. option_map request_by asked ≡ request_of
+        (name.now, rows_of (found_of operands.now))) }
+{
     match name {
-        "new" => new_asked(operands),
-        "run" => run_asked(operands),
-        "dump" => dump_asked(operands),
-        "try" => try_asked(operands),
-        "tear" => tear_asked(operands),
-        _ => None,
+        "new" => Ok(new_asked(operands)),
+        "run" => Ok(run_asked(operands)),
+        "dump" => Ok(dump_asked(operands)),
+        "try" => Ok(try_asked(operands)),
+        "tear" => Ok(tear_asked(operands)),
+        "test" => test_asked(alloc, operands),
+        _ => Ok(None),
     }
 }
 
@@ -269,22 +326,32 @@ fn tear_asked<'a>(operands: &ArgMatches<'a>) -> Option<Action<'a>>
     let line = operands.get_str("line");
     let given = operands.get_str("each");
     let each = is_given(given);
-    tear_action(image, script, probe, line, each)
+    let recovery = operands.get_str("recovery");
+    let depth = depth_of(recovery);
+    let part = operands.get_str("part");
+    tear_action(image, script, probe, line, each, depth, part)
 }
 
-// A command is cut, or each: not both.
+// A command is cut, or each: not both. Behind it not more than three recoveries are, and none in a part.
 fn tear_action<'a>(
     image: &'a str,
     script: &'a str,
     probe: Option<&'a str>,
     line: Option<&'a str>,
     each: bool,
+    depth: Option<Depth>,
+    part: Option<&'a str>,
 ) -> Option<Action<'a>>
     ensures { option_map request_by result ≡ tear_by (Some image.now) (Some script.now)
         (option_map (λ (text : Bor (List ℕ)). text.now) probe.entry)
-        (option_map (λ (text : Bor (List ℕ)). text.now) line.entry) each }
+        (option_map (λ (text : Bor (List ℕ)). text.now) line.entry) each depth
+        (option_map (λ (text : Bor (List ℕ)). text.now) part.entry) }
 {
+    let depth = depth?;
     if each && line.is_some() {
+        return None;
+    }
+    if part.is_some() && (each || depth != Depth::Zero) {
         return None;
     }
     Some(Action::Tear {
@@ -293,7 +360,42 @@ fn tear_action<'a>(
         probe,
         line,
         each,
+        depth,
+        part,
     })
+}
+
+fn test_asked<'a>(
+    alloc: Global,
+    operands: &ArgMatches<'a>,
+) -> Result<Option<Action<'a>>, AllocError>
+    ensures { IfOk result (λ asked. option_map request_by asked
+        ≡ test_of (rows_of (found_of operands.now))) }
+{
+    match operands.get_strs("file") {
+        Some(files) => {
+            let files = Vec::from_slice(alloc, files)?;
+            let junit = operands.get_str("junit");
+            Ok(Some(Action::Test { files, junit }))
+        }
+        None => Ok(None),
+    }
+}
+
+// How many recoveries are cut: none, or the number that this text tells, up to 3.
+fn depth_of(text: Option<&str>) -> Option<Depth>
+    ensures { result ≡ depth_of (option_map (λ (text : Bor (List ℕ)). text.now) text.entry) }
+{
+    match text {
+        Some(text) => match text {
+            "0" => Some(Depth::Zero),
+            "1" => Some(Depth::One),
+            "2" => Some(Depth::Two),
+            "3" => Some(Depth::Three),
+            _ => None,
+        },
+        None => Some(Depth::Zero),
+    }
 }
 
 // Whether a flag with this value is given.

@@ -3,8 +3,8 @@ ghost use Rattle.std.specs.Prelude.{◌≡◌, ◌++◌, ◌*◌, ◌∷◌, [],
 ghost use Rattle.jc_words.specs.Files.{IsImageSize};
 ghost use Rattle.jc_words.specs.Refusals.{no_refusals};
 ghost use Rattle.jc_words.specs.Stores.{refusals_of_file, store_value};
-ghost use Rattle.jcard_commands.specs.FileDeeds.{FileDeed, ClosesImage, MakesImage, OpensImage, ReadsImage, ReadsText, told_of};
-ghost use Rattle.jcard_commands.specs.Images.{IsCreateFault, IsCreatedAs, IsNotMade, IsNotOpened, IsNotOpenedToWrite, IsOpenedAs, IsOpenFault, IsReadFault, IsUnopened};
+ghost use Rattle.jcard_commands.specs.FileDeeds.{FileDeed, ClosesImage, MakesImage, OpensImage, ReadsImage, ReadsText, WritesText, told_of};
+ghost use Rattle.jcard_commands.specs.Images.{IsCreateFault, IsCreatedAs, IsNotMade, IsNotOpened, IsNotOpenedToWrite, IsOpenedAs, IsOpenFault, IsReadFault, IsUnopened, IsUnwritten};
 
 use crate::closed_store::ClosedStore;
 use crate::fault::{Damage, Fault};
@@ -68,6 +68,11 @@ pub trait Disk {
         ensures refused { IfErr result (λ fault. IsUnopened name.now fault) }
         ensures does { does self.old (ReadsText name.now (told_of Self.Text.remaining result) ∷ [])
             self.new };
+
+    /// Makes a file of this name with these bytes, in place of any file of that name.
+    fn write_text<'n>(&mut self, name: &'n str, bytes: &[u8]) -> Result<(), Fault<'n>>
+        ensures refused { IfErr result (λ fault. IsUnwritten name.now fault) }
+        ensures does { does self.old (WritesText name.now bytes.now (is_ok result) ∷ []) self.new };
 
     // nothing changes where nothing is done
     ghost none: { (disk : Self) → does disk [] disk };
@@ -164,6 +169,16 @@ where
         match fs::open(self.rt, name) {
             Ok(file) => Ok(file),
             Err(_) => Err(Fault::CannotRead(name)),
+        }
+    }
+
+    fn write_text<'n>(&mut self, name: &'n str, bytes: &[u8]) -> Result<(), Fault<'n>>
+        ensures refused { IfErr result (λ fault. IsUnwritten name.now fault) }
+        ensures does { Unit {0} }
+    {
+        match fs::write(self.rt, name, bytes) {
+            Ok(()) => Ok(()),
+            Err(_) => Err(Fault::CannotWrite(name)),
         }
     }
 }

@@ -3,7 +3,7 @@ ghost use Rattle.std.specs.Prelude.{◌≡◌, ℕ, List, Bool, is_err, MatchRes
 ghost use Rattle.std.specs.Io.KnownBytes.{Appends};
 ghost use Rattle.jcard_script.specs.Texts.{AppendsCut};
 ghost use Rattle.jc_words.specs.Count.{failures_after};
-ghost use Rattle.jcard_commands.specs.Faults.{check_of, status_of, line_of, IsLastLine};
+ghost use Rattle.jcard_commands.specs.Faults.{check_of, cut_line, status_of, line_of, unincluded_text, IsLastLine};
 
 use itoa::Buffer;
 use jcard_script::streams::{TextOut, WriteFailed, write_all, write_parts};
@@ -62,10 +62,24 @@ pub enum Fault<'a> {
     TooManyCuts,
     /// A cut left neither what was before the command nor what comes after it.
     NotAllOrNothing,
+    /// The file that the line of this number in this file of rows includes cannot be read.
+    CannotInclude(&'a str, usize),
+    /// A row is not answered as it says.
+    RowsFailed,
+    /// No part is named so.
+    BadPart,
+    /// No part tells of this cut.
+    CutMissing(usize),
+    /// A part tells of this cut twice, or two parts do.
+    CutTwice(usize),
+    /// What a part tells of this cut has no form.
+    BadCut(usize),
+    /// A part tells of this cut in another sweep.
+    OtherSweep(usize),
 }
 
 /// Writes the last line, if there is a fault that has one, and answers the exit status: 0, 2 for
-/// a bad command line, 3 where a cut left something else, 1 for every other fault.
+/// a bad command line, 3 where a cut left something else, 4 where a row failed, 1 for every other fault.
 pub fn tell<W: TextOut>(ended: Result<(), Fault>, out: &mut W) -> u8
     ensures status { result ≡ status_of ended.entry }
     ensures line { (text : List ℕ) × (failed : Bool)
@@ -80,6 +94,7 @@ pub fn tell<W: TextOut>(ended: Result<(), Fault>, out: &mut W) -> u8
     match fault {
         Fault::BadCommandLine => 2,
         Fault::NotAllOrNothing => 3,
+        Fault::RowsFailed => 4,
         _ => 1,
     }
 }
@@ -125,8 +140,44 @@ fn write_line<W: TextOut>(fault: Fault, out: &mut W) -> Result<(), WriteFailed>
         Fault::Down => write_all(out, b"jcard: the card is down at the command\n"),
         Fault::NoCommand => write_all(out, b"jcard: no command to cut\n"),
         Fault::TooManyCuts => write_all(out, b"jcard: more than 65535 cuts\n"),
-        Fault::WriteFailed | Fault::NotAllOrNothing => Ok(()),
+        Fault::CannotInclude(path, number) => write_unincluded(path, number, out),
+        Fault::BadPart => write_all(out, b"jcard: part must be 1/N to N/N\n"),
+        Fault::CutMissing(k) => write_cut(out, k, b" is missing\n"),
+        Fault::CutTwice(k) => write_cut(out, k, b" stands twice\n"),
+        Fault::BadCut(k) => write_cut(out, k, b" is told in no known form\n"),
+        Fault::OtherSweep(k) => write_cut(out, k, b" is of another sweep\n"),
+        Fault::WriteFailed | Fault::NotAllOrNothing | Fault::RowsFailed => Ok(()),
     }
+}
+
+// Writes that a file cannot be read that the line of this number in the file of this name includes.
+fn write_unincluded<W: TextOut>(path: &str, number: usize, out: &mut W) -> Result<(), WriteFailed>
+    ensures text { MatchResult result
+        (λ _. Appends (W.contents out.old) (W.contents out.new) (unincluded_text path.now number))
+        (λ _. AppendsCut (W.contents out.old) (W.contents out.new)
+        (unincluded_text path.now number)) }
+    ensures count { W.failures out.new ≡ failures_after (W.failures out.old) (is_err result) }
+{
+    let mut digits = Buffer::new();
+    write_parts(out, b"jcard: ", path.as_bytes(), b": line ")?;
+    write_parts(
+        out,
+        digits.format(number).as_bytes(),
+        b": cannot read the file that is included",
+        b"\n",
+    )
+}
+
+// Writes what is wrong with what parts tell of a cut.
+fn write_cut<W: TextOut>(out: &mut W, number: usize, wrong: &[u8]) -> Result<(), WriteFailed>
+    ensures text { MatchResult result
+        (λ _. Appends (W.contents out.old) (W.contents out.new) (cut_line number wrong.now))
+        (λ _. AppendsCut (W.contents out.old) (W.contents out.new) (cut_line number wrong.now)) }
+    ensures count { W.failures out.new ≡ failures_after (W.failures out.old) (is_err result) }
+{
+    let mut digits = Buffer::new();
+    let digits = digits.format(number).as_bytes();
+    write_parts(out, b"jcard: cut ", digits, wrong)
 }
 
 // The number of the check that finds a damage.

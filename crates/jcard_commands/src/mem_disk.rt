@@ -1,26 +1,28 @@
 //! A disk in memory, of which all is known that is done with its files.
-ghost use Rattle.std.specs.Prelude.{◌≡◌, ◌<◌, ◌*◌, ◌∷◌, [], false, length, refl, replicate, is_ok, IfErr, IfOk, IfSome, OnErr};
+ghost use Rattle.std.specs.String.{string_bytes};
+ghost use Rattle.std.specs.Prelude.{◌≡◌, ◌<◌, ◌*◌, ◌∷◌, ◌++◌, [], false, length, refl, replicate, is_ok, IfErr, IfOk, IfSome, OnErr};
 ghost use Rattle.jc_words.specs.Files.{IsImageSize};
 ghost use Rattle.jc_words.specs.Refusals.{no_refusals};
-ghost use Rattle.jcard_commands.specs.FileDeeds.{ClosesImage, MakesImage, OpensImage, ReadsImage, ReadsText, told_of};
-ghost use Rattle.jcard_commands.specs.Images.{IsNotMade, IsNotOpened, IsNotOpenedToWrite, IsUnopened};
+ghost use Rattle.jcard_commands.specs.FileDeeds.{ClosesImage, MakesImage, OpensImage, ReadsImage, ReadsText, WritesText, told_of};
+ghost use Rattle.jcard_commands.specs.Images.{IsNotMade, IsNotOpened, IsNotOpenedToWrite, IsUnopened, IsUnwritten};
 ghost use Rattle.jcard_commands.specs.MemDisks.{AreDeeds, deeds_then, image_place, images_with, text_place};
 
 use crate::closed_store::ClosedStore;
 use crate::disk::Disk;
 use crate::fault::Fault;
 use crate::image_file::ImageFile;
-use crate::text_file::TextFile;
+use crate::text_file::{TextFile, WrittenText};
 use jc_words::MemStore;
 use std::alloc::{AllocError, Global};
 use std::marker::Model;
 
-/// Texts that stand, and images that are made and changed.
+/// Texts that stand, images that are made and changed, and texts that are written, which nobody reads here.
 #[derive(Drop)]
 pub struct MemDisk<'a> {
     alloc: Global,
     texts: &'a [TextFile<'a>],
     images: Vec<ImageFile>,
+    written: Vec<WrittenText>,
 }
 
 impl<'a> Model for MemDisk<'a> {
@@ -28,18 +30,27 @@ impl<'a> Model for MemDisk<'a> {
 
     ghost Value = { MemDiskValue };
 
-    ghost view = { λ d. record { texts = d.texts.now; images = d.images.items } };
+    ghost view = { λ d. record {
+      texts = d.texts.now;
+      images = d.images.items;
+      written = d.written.items;
+    } };
 }
 
 impl<'a> MemDisk<'a> {
     /// A disk with these texts and images.
     pub fn new(alloc: Global, texts: &'a [TextFile<'a>], images: Vec<ImageFile>) -> MemDisk<'a>
-        ensures { result ≡ record { texts = texts.entry.now; images = images.items } }
+        ensures { result ≡ record {
+          texts = texts.entry.now;
+          images = images.items;
+          written = [];
+        } }
     {
         MemDisk {
             alloc,
             texts,
             images,
+            written: Vec::new(alloc),
         }
     }
 
@@ -48,6 +59,23 @@ impl<'a> MemDisk<'a> {
         ensures { result.now ≡ self.now.images }
     {
         &self.images
+    }
+
+    /// The texts that were written, in the order in which they were.
+    pub fn written(&self) -> &[WrittenText]
+        ensures { result.now ≡ self.now.written }
+    {
+        &self.written
+    }
+
+    // Keeps a text that is written.
+    fn keep_text(&mut self, text: WrittenText) -> Result<(), AllocError>
+        ensures kept { IfOk result (λ _. self.new
+            ≡ record self.old { written = self.old.written ++ text ∷ [] }) }
+        ensures refused { OnErr result (self.new ≡ self.old) }
+    {
+        self.written.push(text)?;
+        Ok(())
     }
 
     /// Gives the images back.
@@ -183,4 +211,29 @@ impl<'a> Disk for MemDisk<'a> {
             None => Err(Fault::CannotRead(name)),
         }
     }
+
+    fn write_text<'n>(&mut self, name: &'n str, bytes: &[u8]) -> Result<(), Fault<'n>>
+        ensures refused { IfErr result (λ fault. IsUnwritten name.now fault) }
+        ensures does { AreDeeds (WritesText name.now bytes.now (is_ok result) ∷ [])
+            self.old self.new }
+    {
+        let Ok(text) = written_text(self.alloc, name, bytes) else {
+            return Err(Fault::NoMemory);
+        };
+        match self.keep_text(text) {
+            Ok(()) => Ok(()),
+            Err(AllocError) => Err(Fault::NoMemory),
+        }
+    }
+}
+
+// A text of this name with these bytes.
+fn written_text(alloc: Global, name: &str, bytes: &[u8]) -> Result<WrittenText, AllocError>
+    ensures name { IfOk result (λ text. string_bytes text.name ≡ name.now) }
+    ensures bytes { IfOk result (λ text. text.bytes.items ≡ bytes.now) }
+{
+    Ok(WrittenText {
+        name: String::from_str(alloc, name)?,
+        bytes: Vec::from_slice(alloc, bytes)?,
+    })
 }

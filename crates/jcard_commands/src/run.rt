@@ -6,7 +6,7 @@ ghost use Rattle.jc_words.specs.Count.{failures_after};
 ghost use Rattle.jcard_commands.specs.CommandLine.{request_by};
 ghost use Rattle.jcard_commands.specs.FileDeeds.{FileDeed};
 ghost use Rattle.jcard_commands.specs.Faults.{status_of, failures_of, is_unwritten, IsCarriedOut, IsDone, IsLastLine, IsPerformed, IsRun, IsScriptFault};
-ghost use Rattle.jcard_commands.specs.Faults.{IsUnpowered};
+ghost use Rattle.jcard_commands.specs.Faults.{IsDoneOrNoMemory, IsUnpowered};
 ghost use Rattle.jcard_commands.specs.declared.fault.Fault.{Fault};
 
 use crate::arguments::{Action, parse};
@@ -14,8 +14,10 @@ use crate::closed_store::ClosedStore;
 use crate::disk::Disk;
 use crate::dump::dump_image;
 use crate::fault::{Damage, Fault, tell};
+use crate::joining::{files_of, join_files};
 use crate::new_image::make_image;
 use crate::tearing::{Asked, tear_image};
+use crate::testing::test_files;
 use crate::trial::try_script;
 use jc_words::{FuseStore, WordStore};
 use jcard_script::card::power_up::PowerFault;
@@ -47,6 +49,25 @@ pub(crate) fn perform<'n, D: Disk, W: TextOut>(
     ensures done { (text : List ℕ) × (deeds : List FileDeed)
         × Appends (W.contents out.old) (W.contents out.new) text
         × IsPerformed (map string_bytes words.now) result text deeds
+        × D.does disk.old deeds disk.new }
+    ensures writes { W.failures out.new ≡ failures_after (W.failures out.old)
+        (is_unwritten result) }
+{
+    match files_of(words) {
+        Some(files) => join_files(disk, files, out),
+        None => perform_parsed(disk, words, out),
+    }
+}
+
+// Does what the words ask for, which name no files to join.
+fn perform_parsed<'n, D: Disk, W: TextOut>(
+    disk: &mut D,
+    words: &'n [String],
+    out: &mut W,
+) -> Result<(), Fault<'n>>
+    ensures done { (text : List ℕ) × (deeds : List FileDeed)
+        × Appends (W.contents out.old) (W.contents out.new) text
+        × IsDoneOrNoMemory (map string_bytes words.now) result text deeds
         × D.does disk.old deeds disk.new }
     ensures writes { W.failures out.new ≡ failures_after (W.failures out.old)
         (is_unwritten result) }
@@ -88,6 +109,8 @@ fn act<'n, D: Disk, W: TextOut>(
             probe,
             line,
             each,
+            depth,
+            part,
         } => tear_image(
             disk,
             image,
@@ -96,9 +119,12 @@ fn act<'n, D: Disk, W: TextOut>(
                 probe,
                 line,
                 each,
+                depth,
+                part,
             },
             out,
         ),
+        Action::Test { files, junit } => test_files(disk, &files, junit, out),
     }
 }
 

@@ -1,5 +1,5 @@
 //! `jcard tear`: cutting the power within commands of a script, after each number of their word writes.
-ghost use Rattle.std.specs.Prelude.{◌≡◌, ◌⊎◌, ◌<◌, ℕ, List, Some, Err, MatchResult, IfOk, IfErr, IfSome, false, length, map, take, option_map};
+ghost use Rattle.std.specs.Prelude.{◌≡◌, ◌⊎◌, ◌+◌, ◌*◌, ◌<◌, ℕ, List, Some, Err, MatchResult, IfOk, IfErr, IfSome, false, length, map, take, option_map};
 ghost use Rattle.std.specs.Borrow.{Bor};
 ghost use Rattle.std.specs.Io.KnownBytes.{Appends};
 ghost use Rattle.jc_words.specs.Count.{failures_after};
@@ -7,8 +7,9 @@ ghost use Rattle.jcard_commands.specs.Faults.{is_unwritten};
 ghost use Rattle.jcard_commands.specs.FileDeeds.{FileDeed};
 ghost use Rattle.jcard_commands.specs.Images.{IsNotRead};
 ghost use Rattle.jcard_commands.specs.NewImages.{IsUnread};
-ghost use Rattle.jcard_commands.specs.Tears.{AreReported, AreTornOf, EndsUncut, IsImageRead, IsImageUnread, IsProbeRead, IsProbeUnread, IsProbed, IsReported, IsScriptRead};
+ghost use Rattle.jcard_commands.specs.Tears.{AreReported, AreTornOf, EndsUncut, IsImageRead, IsImageUnread, IsLineNumber, IsMeantBy, IsProbeRead, IsProbeUnread, IsProbed, IsReported, IsScriptRead};
 ghost use Rattle.jcard_commands.specs.Tears.{IsTear, IsTearOver, IsTornEach, IsTornIn, IsTornOne, IsUncut};
+ghost use Rattle.jcard_commands.specs.Tears.{IsPartTold, IsTornPart, IsTornShare};
 ghost use Rattle.jcard_tear.specs.ScriptLines.{line_of};
 ghost use Rattle.jcard_outcomes.specs.Reports.{report_text, verdicts_text};
 
@@ -17,11 +18,14 @@ use crate::disk::Disk;
 use crate::fault::Fault;
 use crate::run::{Names, power_up_fault};
 use jcard_outcomes::each::{LineSweep, are_all_or_nothing, verdicts};
+use jcard_outcomes::part::{Part, Share, part_lines, share_of};
+use jcard_outcomes::recoveries::Depth;
 use jcard_outcomes::report::{Sweep, report};
 use jcard_outcomes::verdict::is_all_or_nothing;
 use jcard_script::script::ScriptFault;
 use jcard_script::streams::{TextOut, write_all};
 use jcard_tear::each::{tear_each, tear_line};
+use jcard_tear::parts::tear_line_part;
 use jcard_tear::runs::copied;
 use jcard_tear::script_lines::{ScriptLine, chosen, commands};
 use jcard_tear::tearing::TearFault;
@@ -31,14 +35,16 @@ use std::io::Read;
 /// The most bytes of a script that are read: one more than are carried out, so that a longer one is seen.
 const MOST_READ: u64 = 16_777_217;
 
-/// What is torn of an image: the names of a script and perhaps of a probe, and the command in the line of a number, the last
-/// command, or each.
+/// What is torn of an image: the names of a script and perhaps of a probe, the command in the line of a number, the last
+/// command, or each, and how many recoveries are cut behind each cut.
 #[derive(Clone, Copy, Debug, PartialEq, Eq, Drop)]
 pub(crate) struct Asked<'a> {
     pub(crate) script: &'a str,
     pub(crate) probe: Option<&'a str>,
     pub(crate) line: Option<&'a str>,
     pub(crate) each: bool,
+    pub(crate) depth: Depth,
+    pub(crate) part: Option<&'a str>,
 }
 
 /// `jcard tear`: cuts a command of the script, or each, after each number of its writes, each time on a card of a copy of the image's
@@ -51,7 +57,9 @@ pub(crate) fn tear_image<'n, D: Disk, W: TextOut>(
 ) -> Result<(), Fault<'n>>
     ensures done { (text : List ℕ) × (deeds : List FileDeed)
         × Appends (W.contents out.old) (W.contents out.new) text
-        × IsTear image.now asked.entry.script.now asked.entry.each
+        × IsTear image.now asked.entry.script.now
+        (option_map (λ (name : Bor (List ℕ)). name.now) asked.entry.line) asked.entry.each asked.entry.depth
+        (option_map (λ (name : Bor (List ℕ)). name.now) asked.entry.part)
         (option_map (λ (name : Bor (List ℕ)). name.now) asked.entry.probe) result text deeds
         × D.does disk.old deeds disk.new }
     ensures writes { W.failures out.new ≡ failures_after (W.failures out.old)
@@ -74,7 +82,9 @@ fn tear_over<'n, D: Disk, W: TextOut>(
     requires { length words.now < 65536 }
     ensures done { (text : List ℕ) × (deeds : List FileDeed)
         × Appends (W.contents out.old) (W.contents out.new) text
-        × IsTearOver words.now asked.entry.script.now asked.entry.each
+        × IsTearOver words.now asked.entry.script.now
+        (option_map (λ (name : Bor (List ℕ)). name.now) asked.entry.line) asked.entry.each asked.entry.depth
+        (option_map (λ (name : Bor (List ℕ)). name.now) asked.entry.part)
         (option_map (λ (name : Bor (List ℕ)). name.now) asked.entry.probe) result text deeds
         × D.does disk.old deeds disk.new }
     ensures writes { W.failures out.new ≡ failures_after (W.failures out.old)
@@ -108,7 +118,9 @@ fn tear_in<'n, D: Disk, W: TextOut>(
     requires { length words.now < 65536 }
     ensures done { (text : List ℕ) × (deeds : List FileDeed)
         × Appends (W.contents out.old) (W.contents out.new) text
-        × IsTornIn words.now script.now asked.entry.each
+        × IsTornIn words.now script.now
+        (option_map (λ (name : Bor (List ℕ)). name.now) asked.entry.line) asked.entry.each asked.entry.depth
+        (option_map (λ (name : Bor (List ℕ)). name.now) asked.entry.part)
         (option_map (λ (name : Bor (List ℕ)). name.now) asked.entry.probe) result text deeds
         × D.does disk.old deeds disk.new }
     ensures writes { W.failures out.new ≡ failures_after (W.failures out.old)
@@ -132,7 +144,9 @@ fn tear_meant<'n, D: Disk, W: TextOut>(
     requires { length words.now < 65536 }
     ensures done { (text : List ℕ) × (deeds : List FileDeed)
         × Appends (W.contents out.old) (W.contents out.new) text
-        × AreTornOf words.now commands.now asked.entry.each
+        × AreTornOf words.now commands.now
+        (option_map (λ (name : Bor (List ℕ)). name.now) asked.entry.line) asked.entry.each asked.entry.depth
+        (option_map (λ (name : Bor (List ℕ)). name.now) asked.entry.part)
         (option_map (λ (name : Bor (List ℕ)). name.now) asked.entry.probe) result text deeds
         × D.does disk.old deeds disk.new }
     ensures writes { W.failures out.new ≡ failures_after (W.failures out.old)
@@ -142,9 +156,40 @@ fn tear_meant<'n, D: Disk, W: TextOut>(
         return Err(Fault::NoCommand);
     };
     if asked.each {
-        return tear_all(disk, names, words, commands, asked.probe, out);
+        return tear_all(disk, names, words, commands, asked, out);
     }
-    tear_one(disk, names, words, found, asked.probe, out)
+    if let Some(part) = asked.part {
+        return tear_part(disk, names, words, found, part, asked.probe, out);
+    }
+    tear_one(disk, names, words, found, asked, out)
+}
+
+// Cuts a command in the part of this name.
+fn tear_part<'n, D: Disk, W: TextOut>(
+    disk: &mut D,
+    names: Names<'n>,
+    words: &[u16],
+    found: ScriptLine,
+    part: &str,
+    probe: Option<&'n str>,
+    out: &mut W,
+) -> Result<(), Fault<'n>>
+    requires { length words.now < 65536 }
+    ensures done { (text : List ℕ) × (deeds : List FileDeed)
+        × Appends (W.contents out.old) (W.contents out.new) text
+        × IsTornPart words.now (line_of found.entry) part.now
+        (option_map (λ (name : Bor (List ℕ)). name.now) probe.entry) result text deeds
+        × D.does disk.old deeds disk.new }
+    ensures writes { W.failures out.new ≡ failures_after (W.failures out.old)
+        (is_unwritten result) }
+{
+    let Some(share) = share_of(part.as_bytes()) else {
+        return Err(Fault::BadPart);
+    };
+    match probe_of(disk, probe) {
+        Ok(probe) => cut_part(disk.alloc(), names, words, found, share, lent(&probe), out),
+        Err(fault) => Err(fault),
+    }
 }
 
 // Cuts a command, with the lines of the probe of this name behind each cut, if there is one.
@@ -153,20 +198,28 @@ fn tear_one<'n, D: Disk, W: TextOut>(
     names: Names<'n>,
     words: &[u16],
     found: ScriptLine,
-    probe: Option<&'n str>,
+    asked: Asked<'n>,
     out: &mut W,
 ) -> Result<(), Fault<'n>>
     requires { length words.now < 65536 }
     ensures done { (text : List ℕ) × (deeds : List FileDeed)
         × Appends (W.contents out.old) (W.contents out.new) text
-        × IsProbed (IsTornOne words.now (line_of found.entry))
-        (option_map (λ (name : Bor (List ℕ)). name.now) probe.entry) result text deeds
+        × IsProbed (IsTornOne words.now (line_of found.entry) asked.entry.depth)
+        (option_map (λ (name : Bor (List ℕ)). name.now) asked.entry.probe) result text deeds
         × D.does disk.old deeds disk.new }
     ensures writes { W.failures out.new ≡ failures_after (W.failures out.old)
         (is_unwritten result) }
 {
-    match probe_of(disk, probe) {
-        Ok(probe) => cut_one(disk.alloc(), names, words, found, lent(&probe), out),
+    match probe_of(disk, asked.probe) {
+        Ok(probe) => cut_one(
+            disk.alloc(),
+            names,
+            words,
+            found,
+            lent(&probe),
+            asked.depth,
+            out,
+        ),
         Err(fault) => Err(fault),
     }
 }
@@ -177,20 +230,28 @@ fn tear_all<'n, D: Disk, W: TextOut>(
     names: Names<'n>,
     words: &[u16],
     commands: &[ScriptLine],
-    probe: Option<&'n str>,
+    asked: Asked<'n>,
     out: &mut W,
 ) -> Result<(), Fault<'n>>
     requires { length words.now < 65536 }
     ensures done { (text : List ℕ) × (deeds : List FileDeed)
         × Appends (W.contents out.old) (W.contents out.new) text
-        × IsProbed (IsTornEach words.now (map line_of commands.now))
-        (option_map (λ (name : Bor (List ℕ)). name.now) probe.entry) result text deeds
+        × IsProbed (IsTornEach words.now (map line_of commands.now) asked.entry.depth)
+        (option_map (λ (name : Bor (List ℕ)). name.now) asked.entry.probe) result text deeds
         × D.does disk.old deeds disk.new }
     ensures writes { W.failures out.new ≡ failures_after (W.failures out.old)
         (is_unwritten result) }
 {
-    match probe_of(disk, probe) {
-        Ok(probe) => cut_each(disk.alloc(), names, words, commands, lent(&probe), out),
+    match probe_of(disk, asked.probe) {
+        Ok(probe) => cut_each(
+            disk.alloc(),
+            names,
+            words,
+            commands,
+            lent(&probe),
+            asked.depth,
+            out,
+        ),
         Err(fault) => Err(fault),
     }
 }
@@ -202,18 +263,59 @@ fn cut_one<'n, W: TextOut>(
     words: &[u16],
     found: ScriptLine,
     probe: Option<&[u8]>,
+    depth: Depth,
     out: &mut W,
 ) -> Result<(), Fault<'n>>
     requires { length words.now < 65536 }
     ensures done { (text : List ℕ) × Appends (W.contents out.old) (W.contents out.new) text
-        × IsTornOne words.now (line_of found.entry)
+        × IsTornOne words.now (line_of found.entry) depth
         (option_map (λ (text : Bor (List ℕ)). text.now) probe.entry) result text }
     ensures writes { W.failures out.new ≡ failures_after (W.failures out.old)
         (is_unwritten result) }
 {
-    match tear_line(alloc, words, found, probe, &[]) {
+    match tear_line(alloc, words, found, probe, depth, &[]) {
         Ok(sweep) => tell_sweep(alloc, &sweep, out),
         Err(cause) => Err(tear_fault(names, cause)),
+    }
+}
+
+// Cuts a command in this part, with these lines of a probe, if any, and writes what that leaves.
+fn cut_part<'n, W: TextOut>(
+    alloc: Global,
+    names: Names<'n>,
+    words: &[u16],
+    found: ScriptLine,
+    share: Share,
+    probe: Option<&[u8]>,
+    out: &mut W,
+) -> Result<(), Fault<'n>>
+    requires { length words.now < 65536 }
+    ensures done { (text : List ℕ) × Appends (W.contents out.old) (W.contents out.new) text
+        × IsTornShare words.now (line_of found.entry) share
+        (option_map (λ (text : Bor (List ℕ)). text.now) probe.entry) result text }
+    ensures writes { W.failures out.new ≡ failures_after (W.failures out.old)
+        (is_unwritten result) }
+{
+    match tear_line_part(alloc, words, found, probe, &[], share.first, share.step) {
+        Ok(part) => tell_part(alloc, &part, out),
+        Err(cause) => Err(tear_fault(names, cause)),
+    }
+}
+
+// Writes the lines of a part.
+fn tell_part<'n, W: TextOut>(alloc: Global, part: &Part, out: &mut W) -> Result<(), Fault<'n>>
+    requires { part.now.first + part.now.step * length part.now.sweep.cuts.items < 65536 }
+    ensures done { (text : List ℕ) × Appends (W.contents out.old) (W.contents out.new) text
+        × (IsPartTold part.now result text ⊎ EndsUncut result text) }
+    ensures writes { W.failures out.new ≡ failures_after (W.failures out.old)
+        (is_unwritten result) }
+{
+    let Ok(lines) = part_lines(alloc, part) else {
+        return Err(Fault::NoMemory);
+    };
+    match write_all(out, &lines) {
+        Ok(()) => Ok(()),
+        Err(_) => Err(Fault::WriteFailed),
     }
 }
 
@@ -224,16 +326,17 @@ fn cut_each<'n, W: TextOut>(
     words: &[u16],
     commands: &[ScriptLine],
     probe: Option<&[u8]>,
+    depth: Depth,
     out: &mut W,
 ) -> Result<(), Fault<'n>>
     requires { length words.now < 65536 }
     ensures done { (text : List ℕ) × Appends (W.contents out.old) (W.contents out.new) text
-        × IsTornEach words.now (map line_of commands.now)
+        × IsTornEach words.now (map line_of commands.now) depth
         (option_map (λ (text : Bor (List ℕ)). text.now) probe.entry) result text }
     ensures writes { W.failures out.new ≡ failures_after (W.failures out.old)
         (is_unwritten result) }
 {
-    match tear_each(alloc, words, commands, probe, &[]) {
+    match tear_each(alloc, words, commands, probe, depth, &[]) {
         Ok(sweeps) => tell_verdicts(alloc, &sweeps, out),
         Err(cause) => Err(tear_fault(names, cause)),
     }
@@ -278,10 +381,10 @@ fn tell_verdicts<'n, W: TextOut>(
     ensures writes { W.failures out.new ≡ failures_after (W.failures out.old)
         (is_unwritten result) }
 {
-    let Ok(lines) = verdicts(alloc, sweeps) else {
+    let Ok(verdicts) = verdicts(alloc, sweeps) else {
         return Err(Fault::NoMemory);
     };
-    match write_all(out, &lines) {
+    match write_all(out, &verdicts) {
         Ok(()) => each_all_or_nothing(sweeps),
         Err(_) => Err(Fault::WriteFailed),
     }
@@ -322,14 +425,26 @@ fn tear_script_fault<'n>(names: Names<'n>, fault: ScriptFault) -> Fault<'n>
     }
 }
 
-// The number that a text tells; 0, which no line has, where it tells none.
-fn number_of(line: Option<&str>) -> Option<usize> {
+// The number of the line that is meant, if one is told.
+fn number_of(line: Option<&str>) -> Option<usize>
+    ensures { IsMeantBy (option_map (λ (text : Bor (List ℕ)). text.now) line.entry) result }
+{
     match line {
-        Some(text) => match text.parse::<usize>() {
-            Ok(number) => Some(number),
-            Err(_) => Some(0),
-        },
+        Some(text) => Some(line_number(text)),
         None => None,
+    }
+}
+
+// The number that a text tells; 0, which no line has, where it tells none.
+fn line_number(text: &str) -> usize
+    ensures { IsLineNumber text.now result }
+{
+    if text.starts_with('+') {
+        return 0;
+    }
+    match text.parse::<usize>() {
+        Ok(number) => number,
+        Err(_) => 0,
     }
 }
 
@@ -382,8 +497,8 @@ fn lent(probe: &Option<Vec<u8>>) -> Option<&[u8]>
     }
 }
 
-// What the script of this name holds, up to one byte more than is carried out.
-fn script_of<'n, D: Disk>(disk: &mut D, name: &'n str) -> Result<Vec<u8>, Fault<'n>>
+/// What the script of this name holds, up to one byte more than is carried out.
+pub(crate) fn script_of<'n, D: Disk>(disk: &mut D, name: &'n str) -> Result<Vec<u8>, Fault<'n>>
     ensures read { (deeds : List FileDeed) × D.does disk.old deeds disk.new × MatchResult result
         (λ text. IsScriptRead name.now text.items deeds) (λ fault. IsUnread name.now fault deeds) }
     ensures unwritten { IfErr result (λ fault. is_unwritten (Err fault) ≡ false) }

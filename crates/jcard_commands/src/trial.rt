@@ -82,8 +82,8 @@ fn try_on<'n, D: Disk, W: TextOut>(
     run_named(disk.alloc(), names, FuseStore::new(store), &mut reader, out).1
 }
 
-// A new image in memory.
-fn new_image<'a>(alloc: Global, count: u16, table: &[u8]) -> Result<MemStore, Fault<'a>>
+/// A new image in memory.
+pub(crate) fn new_image<'a>(alloc: Global, count: u16, table: &[u8]) -> Result<MemStore, Fault<'a>>
     requires enough { least_size ≤ count }
     requires table { IsTable table.now }
     ensures { IsNewImageInMemory count table.now result }

@@ -11,3 +11,9 @@ pub appended : {E : Type 0} (r : Result Unit E) (end between start first second 
     → OnOk r (end ≡ between ++ second) → OnOk r (end ≡ start ++ (first ++ second))
 appended (Ok done) end between start first second e p = p ∙ ap (λ l. l ++ second) e ∙ append_assoc start first second
 appended (Err fault) end between start first second e p = tt
+
+-- text that was appended in three pieces
+pub appended_again : {E : Type 0} (r : Result Unit E) (end second first start a b c : List ℕ) → first ≡ start ++ a → second ≡ first ++ b
+    → OnOk r (end ≡ second ++ c) → OnOk r (end ≡ start ++ (a ++ b ++ c))
+appended_again r end second first start a b c e f p =
+    appended r end second start (a ++ b) c (f ∙ ap (λ l. l ++ b) e ∙ append_assoc start a b) p

@@ -2,3 +2,17 @@ pub mod Items
 pub mod Counts
 pub mod RowSteps
 pub mod Verdicts
+pub mod Differences
+pub mod PartSteps
+pub mod Splits
+pub mod Told
+pub mod Dealt
+pub mod Joined
+pub mod SweepLines
+pub mod PartsDealt
+pub mod Ends
+pub mod Heads
+pub mod CutLines
+pub mod LineReads
+pub mod Shares
+pub mod JoinEnds

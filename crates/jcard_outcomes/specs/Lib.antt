@@ -1,3 +1,6 @@
 pub mod Heaps
 pub mod Standings
+pub mod Recoveries
 pub mod Reports
+pub mod Parts
+pub mod Joins

@@ -1,6 +1,9 @@
 -- The text that tells what cuts left.
-use Rattle.std.specs.Prelude.{ℕ, ◌+◌, ◌==◌, ◌||◌, Bool, true, false, List, [], ◌∷◌, ◌++◌, map, codes, decimal, length, Option, Some, None, if◌then◌else◌}
+use Rattle.std.specs.Prelude.{ℕ, ◌+◌, ◌==◌, ◌||◌, ◌&&◌, Bool, true, false, List, [], ◌∷◌, ◌++◌, map, codes, decimal, length, is_none, Option, Some, None, if◌then◌else◌}
 use Rattle.std.specs.Str.{bytes_eq}
+use Rattle.jcard_outcomes.specs.Recoveries.{first_difference, recoveries_text}
+use Rattle.jcard_outcomes.specs.declared.recoveries.Depth.{Depth}
+use Rattle.jcard_outcomes.specs.declared.recoveries.Depth.TheVariants.{Zero}
 use Rattle.jcard_outcomes.specs.declared.standing.Cut.{Cut}
 use Rattle.jcard_outcomes.specs.declared.each.LineSweep.{LineSweep}
 use Rattle.jcard_outcomes.specs.declared.report.Sweep.{Sweep}
@@ -92,6 +95,10 @@ unfoldable pub first_broken : ℕ → List Cut → Option ℕ
 first_broken k [] = None
 first_broken k (c ∷ more) = if is_before c.standing || is_after c.standing then first_broken (k + 1) more else Some k
 
+-- each cut left what was before or what comes after, and no recovery made a difference
+abbrev pub are_whole : List Cut → Bool
+are_whole cuts = is_none (first_broken 0 cuts) && is_none (first_difference 0 cuts)
+
 -- how many cuts left which
 abbrev pub shares_text : ℕ → ℕ → List ℕ
 shares_text total before = if before == total then codes "each as before\n" else (if before == 0 then codes "each as after\n"
@@ -123,6 +130,7 @@ verdict_text cuts = verdict_by (first_broken 0 cuts) cuts
 -- all that is told of the cuts of a command
 abbrev pub report_text : Sweep → List ℕ
 report_text s = rows_text s.cuts.items ++ uncut_text s.answer.items s.after.answers.items ++ verdict_text s.cuts.items
+    ++ recoveries_text s.depth s.cuts.items
 
 -- ---- the commands of a script
 
@@ -130,9 +138,14 @@ report_text s = rows_text s.cuts.items ++ uncut_text s.answer.items s.after.answ
 abbrev pub line_number_text : ℕ → List ℕ
 line_number_text n = codes "line " ++ decimal n ++ codes ": "
 
+-- what is told of recoveries behind the cuts of a command in a line, if any were cut
+abbrev pub line_recoveries_text : Depth → ℕ → List Cut → List ℕ
+line_recoveries_text Zero n cuts = []
+line_recoveries_text depth n cuts = line_number_text n ++ recoveries_text depth cuts
+
 -- the verdict of a command, behind the number of its line
 unfoldable pub line_verdict_text : LineSweep → List ℕ
-line_verdict_text s = line_number_text s.number ++ verdict_text s.sweep.cuts.items
+line_verdict_text s = line_number_text s.number ++ verdict_text s.sweep.cuts.items ++ line_recoveries_text s.sweep.depth s.number s.sweep.cuts.items
 
 -- the verdicts of all commands
 unfoldable pub verdicts_text : List LineSweep → List ℕ

@@ -1,7 +1,8 @@
 //! The commands of a script, each with the verdict over its cuts.
-ghost use Rattle.std.specs.Prelude.{◌≡◌, ◌++◌, ◌↔◌, All, IsTrue, None, IfOk, OnOk};
-ghost use Rattle.jcard_outcomes.specs.Reports.{first_broken, line_number_text, line_verdict_text, verdicts_text};
+ghost use Rattle.std.specs.Prelude.{◌≡◌, ◌++◌, ◌↔◌, true, All, IsTrue, IfOk, OnOk};
+ghost use Rattle.jcard_outcomes.specs.Reports.{are_whole, line_number_text, line_recoveries_text, line_verdict_text, verdicts_text};
 
+use crate::recoveries::{Depth, push_recoveries};
 use crate::report::Sweep;
 use crate::rows::push_number;
 use crate::verdict::{is_all_or_nothing, push_verdict};
@@ -28,7 +29,7 @@ pub fn verdicts(alloc: Global, sweeps: &[LineSweep]) -> Result<Vec<u8>, AllocErr
 /// Whether the cuts of each command were all or nothing.
 pub fn are_all_or_nothing(sweeps: &[LineSweep]) -> bool
     ensures { IsTrue result
-        ↔ All (λ s. first_broken 0 s.sweep.cuts.items ≡ None) sweeps.now }
+        ↔ All (λ s. are_whole s.sweep.cuts.items ≡ true) sweeps.now }
 {
     sweeps
         .iter()
@@ -39,7 +40,19 @@ fn push_line_verdict(text: &mut Vec<u8>, sweep: &LineSweep) -> Result<(), AllocE
     ensures { OnOk result (text.new.items ≡ text.old.items ++ line_verdict_text sweep.now) }
 {
     push_line_number(text, sweep.number)?;
-    push_verdict(text, &sweep.sweep.cuts)
+    push_verdict(text, &sweep.sweep.cuts)?;
+    push_line_recoveries(text, &sweep.sweep, sweep.number)
+}
+
+fn push_line_recoveries(text: &mut Vec<u8>, sweep: &Sweep, number: usize) -> Result<(), AllocError>
+    ensures { OnOk result (text.new.items ≡ text.old.items
+        ++ line_recoveries_text sweep.now.depth number sweep.now.cuts.items) }
+{
+    if sweep.depth == Depth::Zero {
+        return Ok(());
+    }
+    push_line_number(text, number)?;
+    push_recoveries(text, sweep.depth, &sweep.cuts)
 }
 
 fn push_line_number(text: &mut Vec<u8>, number: usize) -> Result<(), AllocError>

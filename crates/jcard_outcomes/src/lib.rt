@@ -4,6 +4,10 @@
 
 pub mod each;
 pub mod heaps;
+pub mod join;
+mod line;
+pub mod part;
+pub mod recoveries;
 pub mod report;
 pub mod rows;
 pub mod standing;

@@ -2,19 +2,21 @@
 ghost use Rattle.std.specs.Prelude.{◌≡◌, ◌++◌, codes, IfOk, OnOk};
 ghost use Rattle.jcard_outcomes.specs.Reports.{ended, in_line, report_text};
 
+use crate::recoveries::{Depth, push_recoveries};
 use crate::rows::{push_ended, push_in_line, push_rows};
 use crate::standing::{Cut, Left};
 use crate::verdict::push_verdict;
 use std::alloc::{AllocError, Global};
 
 /// A command that was cut after each number of its writes, from none on: what was before it, its answer where it is not cut,
-/// what it then leaves, and what each cut left.
+/// what it then leaves, what each cut left, and how many recoveries were cut behind each.
 #[derive(Drop)]
 pub struct Sweep {
     pub before: Left,
     pub answer: Vec<u8>,
     pub after: Left,
     pub cuts: Vec<Cut>,
+    pub depth: Depth,
 }
 
 /// The text that tells what the cuts left.
@@ -26,6 +28,7 @@ pub fn report(alloc: Global, sweep: &Sweep) -> Result<Vec<u8>, AllocError>
     let outcome = uncut_outcome(alloc, &sweep.after.answers)?;
     push_uncut(&mut text, &sweep.answer, &outcome)?;
     push_verdict(&mut text, &sweep.cuts)?;
+    push_recoveries(&mut text, sweep.depth, &sweep.cuts)?;
     Ok(text)
 }
 

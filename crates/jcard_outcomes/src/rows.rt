@@ -43,7 +43,8 @@ fn push_rows_from(
     push_row(text, first, last, &outcome)
 }
 
-fn is_same(outcome: &[u8], next: &[u8]) -> bool
+/// Whether two texts are the same.
+pub(crate) fn is_same(outcome: &[u8], next: &[u8]) -> bool
     ensures { result ≡ bytes_eq outcome.now next.now }
 {
     outcome == next
@@ -107,7 +108,8 @@ pub(crate) fn push_in_line(text: &mut Vec<u8>, answers: &[u8]) -> Result<(), All
     Ok(())
 }
 
-fn push_standing(text: &mut Vec<u8>, standing: Standing) -> Result<(), AllocError>
+/// Writes how a standing is told.
+pub(crate) fn push_standing(text: &mut Vec<u8>, standing: Standing) -> Result<(), AllocError>
     ensures { OnOk result (text.new.items ≡ text.old.items ++ standing_text standing) }
 {
     match standing {

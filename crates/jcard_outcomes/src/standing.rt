@@ -4,6 +4,7 @@ ghost use Rattle.jcard_outcomes.specs.Heaps.{AgreeAtSpared};
 ghost use Rattle.jcard_outcomes.specs.Standings.{IsJudged, IsLikeness, IsStanding};
 
 use crate::heaps::{Difference, agree_at_spared, changed_since, is_as_after};
+use crate::recoveries::Recoveries;
 
 /// What a reset found, and what a probe was answered then.
 #[derive(Drop)]
@@ -12,11 +13,13 @@ pub struct Left {
     pub answers: Vec<u8>,
 }
 
-/// What the power cut within a command left, and what a probe was answered then.
+/// What the power cut within a command left, what a probe was answered then, and whether recoveries that were cut made a
+/// difference.
 #[derive(Drop)]
 pub struct Cut {
     pub standing: Standing,
     pub answers: Vec<u8>,
+    pub recoveries: Recoveries,
 }
 
 /// How what is left compares with one state of a card.

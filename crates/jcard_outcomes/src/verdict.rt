@@ -1,13 +1,21 @@
 //! The verdict over all cuts of a command.
 ghost use Rattle.std.specs.Prelude.{◌≡◌, ◌++◌, ◌==◌, ◌||◌, OnOk, length, is_none, if◌then◌else◌};
-ghost use Rattle.jcard_outcomes.specs.Reports.{any_but_tries, broken_text, claim_text, count_before, cuts_text, first_broken, is_after, is_before, is_but_tries, shares_text, verdict_text, whole_text};
+ghost use Rattle.jcard_outcomes.specs.Reports.{any_but_tries, are_whole, broken_text, claim_text, count_before, cuts_text, first_broken, is_after, is_before, is_but_tries, shares_text, verdict_text, whole_text};
 
+use crate::recoveries::first_difference;
 use crate::rows::push_number;
 use crate::standing::{Cut, Standing};
 use std::alloc::AllocError;
 
-/// Whether each cut left what was before the command or what it leaves where it is not cut.
+/// Whether each cut left what was before the command or what it leaves where it is not cut, and no recovery made a difference.
 pub fn is_all_or_nothing(cuts: &[Cut]) -> bool
+    ensures { result ≡ are_whole cuts.now }
+{
+    is_each_whole(cuts) && first_difference(cuts).is_none()
+}
+
+/// Whether each cut left what was before the command or what it leaves where it is not cut.
+pub(crate) fn is_each_whole(cuts: &[Cut]) -> bool
     ensures { result ≡ is_none (first_broken 0 cuts.now) }
 {
     first_broken(cuts).is_none()
@@ -58,7 +66,8 @@ fn push_cuts(text: &mut Vec<u8>, total: usize) -> Result<(), AllocError>
     push_either(text, total == 1, b" cut, ", b" cuts, ")
 }
 
-fn push_either(
+/// Writes one of two texts behind a text.
+pub(crate) fn push_either(
     text: &mut Vec<u8>,
     is_first: bool,
     first: &[u8],

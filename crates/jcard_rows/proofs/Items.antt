@@ -24,3 +24,6 @@ pub appended : {E : Type 0} (r : Result (Unit {0}) E) (end between start first s
     → OnOk r (end ≡ between ++ second) → OnOk r (end ≡ start ++ (first ++ second))
 appended (Ok done) end between start first second e p = p ∙ ap (λ l. l ++ second) e ∙ append_assoc start first second
 appended (Err fault) end between start first second e p = tt
+
+pub grown : (end between start first second : List ℕ) → between ≡ start ++ first → end ≡ between ++ second → end ≡ start ++ (first ++ second)
+grown end between start first second e h = h ∙ ap (λ l. l ++ second) e ∙ append_assoc start first second

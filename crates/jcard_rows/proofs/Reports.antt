@@ -1,6 +1,7 @@
 -- Steps of the report.
 use Rattle.std.proofs.Common.{◌≡◌, ℕ, ◌+◌, ◌<◌, ◌≤◌, List, [], ◌∷◌, ◌++◌, length, get_or, drop, refl, ap}
 use Rattle.std.proofs.lemmas.List.{drop_all}
+use Rattle.jcard_rows.specs.Junit.{case_text, cases_text, escape, escaped}
 use Rattle.jcard_rows.specs.Reports.{lines_text, passed_in, passed_of, tested_text}
 use Rattle.jcard_rows.specs.Rows.{line_text, script_text}
 use Rattle.jcard_rows.specs.declared.outcome.Tested.{Tested}
@@ -32,3 +33,19 @@ passed_more ts i t h e = ap passed_of (drop_at ts i t h e)
 pub passed_end : (ts : List Tested) (i : ℕ) → length ts ≤ i → passed_of (drop i ts) ≡ 0
 unfolding passed_of
 passed_end ts i h = ap passed_of (drop_all i ts h)
+
+pub cases_none : cases_text [] ≡ []
+unfolding cases_text
+cases_none = refl
+
+pub cases_more : (t : Tested) (ts : List Tested) → cases_text (t ∷ ts) ≡ case_text t ++ cases_text ts
+unfolding cases_text
+cases_more t ts = refl
+
+pub escaped_none : escaped [] ≡ []
+unfolding escaped
+escaped_none = refl
+
+pub escaped_more : (c : ℕ) (cs : List ℕ) → escaped (c ∷ cs) ≡ escape c ++ escaped cs
+unfolding escaped
+escaped_more c cs = refl

@@ -1,5 +1,9 @@
 pub mod Answers
+pub mod Cards
 pub mod Comparing
+pub mod Junit
+pub mod Lines
 pub mod Outcomes
 pub mod Reports
 pub mod Rows
+pub mod Unrolled

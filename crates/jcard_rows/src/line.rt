@@ -1,5 +1,6 @@
 //! The lines of a row file.
-ghost use Rattle.std.specs.Prelude.{◌≡◌, slice_index};
+ghost use Rattle.std.specs.Prelude.{ℕ, List, Option, IfSome, MatchOption};
+ghost use Rattle.jcard_rows.specs.Lines.{HasText, IsDirective, IsLoopLine, IsNoDirective, IsNumberedLoop, IsPartedAt, IsRowLine, Says};
 
 /// What a line says.
 #[derive(Drop)]
@@ -20,7 +21,7 @@ pub enum Line<'a> {
 
 /// Reads a line. What begins with `#`, or follows a ` #`, is a comment.
 pub fn read_line(line: &str) -> Line<'_>
-    ensures comment { slice_index line.now 0 ≡ 35 → result ≡ Line.Nothing }
+    ensures { Says line.now result }
 {
     if line.starts_with('#') {
         return Line::Nothing;
@@ -36,7 +37,9 @@ pub fn read_line(line: &str) -> Line<'_>
 }
 
 /// A directive, where the text is one.
-fn read_directive(text: &str) -> Option<Line<'_>> {
+fn read_directive(text: &str) -> Option<Line<'_>>
+    ensures { MatchOption result (IsNoDirective text.now) (λ line. IsDirective text.now line) }
+{
     if text == "new" {
         return Some(Line::New);
     }
@@ -50,17 +53,29 @@ fn read_directive(text: &str) -> Option<Line<'_>> {
 }
 
 /// The numbers of a loop, with a name before them, or named `n`.
-fn read_for(words: &str) -> Option<Line<'_>> {
+fn read_for(words: &str) -> Option<Line<'_>>
+    ensures { IfSome result (λ line. IsLoopLine words.now line) }
+{
     let (word, more) = words.split_once(' ')?;
-    let (name, first, last) = match more.split_once(' ') {
-        Some((first, last)) => (word, first, last),
-        None => ("n", word, more),
-    };
-    Some(Line::For(name, first.parse::<u16>().ok()?, last.parse::<u16>().ok()?))
+    if let Some((first, last)) = more.split_once(' ') {
+        return read_numbers(word, first, last);
+    }
+    read_numbers("n", word, more)
+}
+
+/// A loop whose number has this name, from one number to another.
+fn read_numbers<'a>(name: &'a str, first: &str, last: &str) -> Option<Line<'a>>
+    ensures { IfSome result (λ line. IsNumberedLoop name.entry.now first.now last.now line) }
+{
+    let first = first.parse::<u16>().ok()?;
+    let last = last.parse::<u16>().ok()?;
+    Some(Line::For(name, first, last))
 }
 
 /// A command and what stands behind a ` = `.
-fn read_row(text: &str) -> Line<'_> {
+fn read_row(text: &str) -> Line<'_>
+    ensures { IsRowLine text.now result }
+{
     match text.split_once(" = ") {
         Some((command, answer)) => Line::Row(command.trim_end(), Some(answer.trim_start())),
         None => Line::Row(text, None),
@@ -68,7 +83,9 @@ fn read_row(text: &str) -> Line<'_> {
 }
 
 /// What stands before a mark, or all.
-fn before<'a>(line: &'a str, mark: &str) -> &'a str {
+fn before<'a>(line: &'a str, mark: &str) -> &'a str
+    ensures { (behind : Option (List ℕ)) × IsPartedAt mark.now line.entry.now result.now behind }
+{
     match line.split_once(mark) {
         Some((front, _)) => front,
         None => line,

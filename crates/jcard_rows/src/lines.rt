@@ -1,38 +1,29 @@
 //! The lines of a text of rows, those of loops as often as they stand there.
-ghost use Rattle.std.specs.Prelude.{◌≡◌, ◌<◌, ◌≤◌, ◌++◌, ℕ, List, IfOk, length};
+ghost use Rattle.std.specs.Prelude.{◌≡◌, ◌<◌, ◌++◌, [], ℕ, List, IfOk, OnOk, map};
+ghost use Rattle.std.specs.Borrow.{Bor};
+ghost use Rattle.std.specs.Str.Lines.{lines};
 ghost use Rattle.std.specs.String.{string_bytes};
+ghost use Rattle.jcard_rows.specs.Lines.{Says};
+ghost use Rattle.jcard_rows.specs.Unrolled.{AreAllNumbered, AreLinesOf, AreTakenIn, IsBeside, IsLineOf, IsTakenIn, IsUnrolled};
+ghost use Rattle.jcard_rows.specs.declared.line.Line.{Line};
+ghost use Rattle.jcard_rows.specs.declared.numbered.Numbered.{Numbered};
 
 use crate::line::{Line, read_line};
+use crate::loops::Loop;
+use crate::numbered::Numbered;
 use std::alloc::{AllocError, Global};
-
-/// A line of a file, by its number, which counts from 1.
-#[derive(Drop)]
-pub struct Numbered {
-    pub number: usize,
-    pub text: String,
-    ghost counted: { 0 < number },
-}
-
-/// A loop whose end has not come yet: the number of its line, the name of its number, its numbers, and its lines up to here.
-#[derive(Drop)]
-struct Loop {
-    number: usize,
-    name: String,
-    first: u16,
-    last: u16,
-    lines: Vec<Numbered>,
-    ghost counted: { 0 < number },
-}
+use std::mem;
 
 /// The path of a file that a file of this path names: both stand in one folder.
 pub fn beside(alloc: Global, path: &str, name: &str) -> Result<String, AllocError>
-    ensures { IfOk result (λ beside. (folder : List ℕ)
-        × (string_bytes beside ≡ folder ++ name.now)) }
+    ensures { IfOk result (λ beside. IsBeside path.now name.now (string_bytes beside)) }
 {
     let mut beside = String::new(alloc);
     if let Some((folder, _)) = path.rsplit_once('/') {
         beside.push_str(folder)?;
         beside.push_str("/")?;
+        beside.push_str(name)?;
+        return Ok(beside);
     }
     beside.push_str(name)?;
     Ok(beside)
@@ -41,30 +32,97 @@ pub fn beside(alloc: Global, path: &str, name: &str) -> Result<String, AllocErro
 /// The lines of a text, where those between `for` and `end` stand once for each number. In them `{n}`, or the name of the
 /// number, is the number in decimal digits, and `{h}` in two hexadecimal ones. In the place of a `for` without an `end`, or of an
 /// `end` without a `for`, stands a line that says so, which no card answers.
-pub fn unroll(alloc: Global, text: &str) -> Result<Vec<Numbered>, AllocError> {
+pub fn unroll(alloc: Global, text: &str) -> Result<Vec<Numbered>, AllocError>
+    ensures { IfOk result (λ lines. IsUnrolled text.now lines.items) }
+{
+    let texts = lines_in(alloc, text)?;
+    let mut loops = Vec::new(alloc);
     let mut lines = Vec::new(alloc);
-    let mut open = Vec::new(alloc);
-    for (index, line) in text.lines().enumerate() {
-        let number = index.saturating_add(1);
-        match read_line(line) {
-            Line::For(name, first, last) => open.push(Loop {
+    take_lines(alloc, &texts, &mut loops, &mut lines)?;
+    match loops.pop() {
+        None => Ok(lines),
+        Some(innermost) => without_end(alloc, outermost(loops, innermost)),
+    }
+}
+
+/// The first of open loops, of which one is the last.
+fn outermost(mut others: Vec<Loop>, innermost: Loop) -> Loop {
+    if others.is_empty() {
+        return innermost;
+    }
+    others.swap_remove(0)
+}
+
+/// The lines of a text.
+fn lines_in<'a>(alloc: Global, text: &'a str) -> Result<Vec<&'a str>, AllocError>
+    ensures { IfOk result (λ all. map (λ (line : Bor (List ℕ)). line.now) all.items
+        ≡ lines text.entry.now) }
+{
+    text.lines().collect(alloc)
+}
+
+/// Takes these lines, the first as number 1.
+fn take_lines(
+    alloc: Global,
+    texts: &[&str],
+    loops: &mut Vec<Loop>,
+    lines: &mut Vec<Numbered>,
+) -> Result<(), AllocError>
+    requires none_open { loops.old.items ≡ [] }
+    requires no_lines { lines.old.items ≡ [] }
+    ensures { OnOk result (AreTakenIn (map (λ (line : Bor (List ℕ)). line.now) texts.now)
+        (map (λ (line : Bor (List ℕ)). line.now) texts.now) loops.new.items lines.new.items) }
+{
+    for (index, line) in texts.iter().enumerate() {
+        take_line(alloc, index.saturating_add(1), line, loops, lines)?;
+    }
+    Ok(())
+}
+
+/// The lines before a loop without an end, and one that says so.
+fn without_end(alloc: Global, unended: Loop) -> Result<Vec<Numbered>, AllocError> {
+    let mut lines = unended.before;
+    lines.push(line_of(alloc, unended.number, "for without end")?)?;
+    Ok(lines)
+}
+
+/// Takes the next line: it begins a loop, ends the innermost one, or stands behind the lines of that.
+fn take_line(
+    alloc: Global,
+    number: usize,
+    line: &str,
+    loops: &mut Vec<Loop>,
+    lines: &mut Vec<Numbered>,
+) -> Result<(), AllocError>
+    requires { 0 < number }
+    ensures { OnOk result ((said : Line) × Says line.now said
+        × IsTakenIn number line.now said loops.old.items loops.new.items lines.old.items
+        lines.new.items) }
+{
+    match read_line(line) {
+        Line::For(name, first, last) => {
+            let before = mem::replace(lines, Vec::new(alloc));
+            loops.push(Loop {
                 number,
                 name: String::from_str(alloc, name)?,
                 first,
                 last,
-                lines: Vec::new(alloc),
-            })?,
-            Line::End => match open.pop() {
-                Some(ended) => add_loop(alloc, &ended, innermost(&mut open, &mut lines))?,
-                None => lines.push(line_of(alloc, number, "end without for")?)?,
-            },
-            _ => innermost(&mut open, &mut lines).push(line_of(alloc, number, line)?)?,
+                before,
+            })?;
+            Ok(())
+        }
+        Line::End => match loops.pop() {
+            Some(ended) => end_loop(alloc, ended, lines),
+            None => {
+                lines.push(line_of(alloc, number, "end without for")?)?;
+                Ok(())
+            }
+        },
+        _ => {
+            lines.push(line_of(alloc, number, line)?)?;
+            Ok(())
         }
     }
-    for unended in &open {
-        lines.push(line_of(alloc, unended.number, "for without end")?)?;
-    }
-    Ok(lines)
 }
 
 /// Adds the lines of a text, all with this number.
@@ -75,10 +133,27 @@ pub fn add_lines(
     lines: &mut Vec<Numbered>,
 ) -> Result<(), AllocError>
     requires { 0 < number }
-    ensures { length lines.old.items ≤ length lines.new.items }
+    ensures { OnOk result ((added : List Numbered) × AreLinesOf number text.now added
+        × (lines.new.items ≡ lines.old.items ++ added)) }
 {
-    for line in text.lines() {
-        lines.push(line_of(alloc, number, line)?)?;
+    let texts = lines_in(alloc, text)?;
+    add_all(alloc, &texts, number, lines)
+}
+
+/// Adds these lines so.
+fn add_all(
+    alloc: Global,
+    texts: &[&str],
+    number: usize,
+    lines: &mut Vec<Numbered>,
+) -> Result<(), AllocError>
+    requires { 0 < number }
+    ensures { OnOk result ((added : List Numbered)
+        × AreAllNumbered number (map (λ (line : Bor (List ℕ)). line.now) texts.now) added
+        × (lines.new.items ≡ lines.old.items ++ added)) }
+{
+    for text in texts {
+        lines.push(line_of(alloc, number, text)?)?;
     }
     Ok(())
 }
@@ -86,8 +161,7 @@ pub fn add_lines(
 /// A line of this number, which counts from 1.
 fn line_of(alloc: Global, number: usize, text: &str) -> Result<Numbered, AllocError>
     requires { 0 < number }
-    ensures number { IfOk result (λ line. line.number ≡ number) }
-    ensures text { IfOk result (λ line. string_bytes line.text ≡ text.now) }
+    ensures { IfOk result (λ line. IsLineOf number text.now line) }
 {
     Ok(Numbered {
         number,
@@ -95,18 +169,18 @@ fn line_of(alloc: Global, number: usize, text: &str) -> Result<Numbered, AllocEr
     })
 }
 
-/// Where the next line stands: in the innermost loop, or in none.
-fn innermost<'a>(open: &'a mut [Loop], lines: &'a mut Vec<Numbered>) -> &'a mut Vec<Numbered> {
-    match open.last_mut() {
-        Some(around) => &mut around.lines,
-        None => lines,
-    }
-}
-
-/// Adds the lines of a loop, once for each of its numbers.
-fn add_loop(alloc: Global, ended: &Loop, lines: &mut Vec<Numbered>) -> Result<(), AllocError> {
-    for k in ended.first..=ended.last {
-        add_for(alloc, k, ended, lines)?;
+/// Ends a loop with these lines: they stand behind those before it, once for each of its numbers.
+fn end_loop(alloc: Global, ended: Loop, lines: &mut Vec<Numbered>) -> Result<(), AllocError> {
+    let Loop {
+        name,
+        first,
+        last,
+        before,
+        ..
+    } = ended;
+    let body = mem::replace(lines, before);
+    for k in first..=last {
+        add_for(alloc, k, name.as_str(), &body, lines)?;
     }
     Ok(())
 }
@@ -115,14 +189,14 @@ fn add_loop(alloc: Global, ended: &Loop, lines: &mut Vec<Numbered>) -> Result<()
 fn add_for(
     alloc: Global,
     k: u16,
-    ended: &Loop,
+    name: &str,
+    body: &[Numbered],
     lines: &mut Vec<Numbered>,
 ) -> Result<(), AllocError> {
-    let name = ended.name.as_str();
     let mark = format!(in alloc; "{{{name}}}")?;
     let decimal = format!(in alloc; "{k}")?;
     let hexadecimal = format!(in alloc; "{k:02X}")?;
-    for line in &ended.lines {
+    for line in body {
         let text = line
             .text
             .as_str()

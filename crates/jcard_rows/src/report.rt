@@ -139,8 +139,8 @@ fn push_total(text: &mut Vec<u8>, passed: usize, failed: usize) -> Result<(), Al
     text.extend_from_slice(b" failed\n")
 }
 
-// Writes a number in decimal digits.
-fn push_number(text: &mut Vec<u8>, number: usize) -> Result<(), AllocError>
+/// Writes a number in decimal digits.
+pub(crate) fn push_number(text: &mut Vec<u8>, number: usize) -> Result<(), AllocError>
     ensures { OnOk result (text.new.items ≡ text.old.items ++ decimal number) }
 {
     let mut digits = Buffer::new();

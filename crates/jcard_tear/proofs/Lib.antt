@@ -3,3 +3,7 @@ pub mod CutLists
 pub mod EachSwept
 pub mod Lines
 pub mod Selects
+pub mod CutRecoveries
+pub mod Powers
+pub mod Fuses
+pub mod EveryLists

@@ -2,10 +2,13 @@
 use Rattle.std.specs.Prelude.{ℕ, ◌≡◌, ◌+◌, ◌-◌, ◌<◌, ◌≤◌, ◌≢◌, ◌⊎◌, true, false, List, [], ◌∷◌, ◌++◌, codes, decimal, drop, take, length, slice_index, Option, Some, None}
 use Rattle.jc_words.specs.Stores.{FuseStoreValue}
 use Rattle.jcard_outcomes.specs.Standings.{IsStanding}
+use Rattle.jcard_outcomes.specs.declared.recoveries.Depth.{Depth}
+use Rattle.jcard_outcomes.specs.declared.recoveries.Recoveries.{Recoveries}
 use Rattle.jcard_outcomes.specs.declared.standing.Cut.{Cut}
 use Rattle.jcard_outcomes.specs.declared.standing.Left.{Left}
 use Rattle.jcard_outcomes.specs.declared.each.LineSweep.{LineSweep}
 use Rattle.jcard_outcomes.specs.declared.report.Sweep.{Sweep}
+use Rattle.jcard_tear.specs.Recoveries.{AreRecoveries}
 use Rattle.jcard_tear.specs.Runs.{IsLeft, Runs}
 use Rattle.jcard_tear.specs.ScriptLines.{Line, last_select}
 use Rattle.jcard_tear.specs.declared.cuts.Command.{Command}
@@ -14,10 +17,10 @@ use Rattle.jcard_tear.specs.declared.cuts.Command.{Command}
 abbrev pub cut_script : Command → ℕ → List ℕ
 cut_script c k = c.before.now ++ (codes "stop " ++ decimal k ++ codes "\n") ++ c.line.now
 
--- with the power cut after k writes of the command the card is down, and this is left
-abbrev pub IsCutAt : List ℕ → Command → ℕ → Left → Type 0
-IsCutAt words c k left = (text : List ℕ) × (after : FuseStoreValue) × Runs words (cut_script c k) text after × (after.down ≡ true)
-    × IsLeft after.words c.probe.now left
+-- with the power cut after k writes of the command the card is down, this is left, and so it is with recoveries that are cut
+abbrev pub IsCutAt : List ℕ → Command → ℕ → Left → Recoveries → Type 0
+IsCutAt words c k left recoveries = (text : List ℕ) × (after : FuseStoreValue) × Runs words (cut_script c k) text after × (after.down ≡ true)
+    × IsLeft after.words c.probe.now left × AreRecoveries c.depth after.words c.probe.now left recoveries
 
 -- the command makes no more writes than k, and is not cut
 abbrev pub IsUncutAt : List ℕ → Command → ℕ → Type 0
@@ -25,7 +28,7 @@ IsUncutAt words c k = (text : List ℕ) × (after : FuseStoreValue) × Runs word
 
 -- what a cut left is told so
 abbrev pub IsToldCut : List ℕ → Command → List ℕ → Left → Left → ℕ → Cut → Type 0
-IsToldCut words c spared before after k cut = (left : Left) × IsCutAt words c k left × (cut.answers.items ≡ left.answers.items)
+IsToldCut words c spared before after k cut = (left : Left) × IsCutAt words c k left cut.recoveries × (cut.answers.items ≡ left.answers.items)
     × IsStanding spared before after left.words.items left.answers.items cut.standing
 
 -- what the cuts after k, k + 1, .. writes left is told so
@@ -54,6 +57,7 @@ pub record IsSwept (words : List ℕ) (c : Command) (spared : List ℕ) (s : Swe
   pub done : IsDone words c s.answer.items s.after
   pub cuts : AreCuts words c spared s.before s.after 0 s.cuts.items
   pub uncut : IsUncutAt words c (length s.cuts.items)
+  pub depth : s.depth ≡ c.depth
 
 -- ---- the commands of a script
 
@@ -62,14 +66,14 @@ abbrev pub probe_of : Option (List ℕ) → List ℕ → List ℕ
 probe_of (Some given) before = given
 probe_of None before = last_select before
 
--- the command in this line was cut
-abbrev pub IsLineSwept : List ℕ → Option (List ℕ) → List ℕ → Line → Sweep → Type 0
-IsLineSwept words given spared l sweep = (c : Command) × (c.before.now ≡ l.before) × (c.line.now ≡ l.text) × (c.probe.now ≡ probe_of given l.before)
-    × IsSwept words c spared sweep
+-- the command in this line was cut, and so many recoveries behind each cut
+abbrev pub IsLineSwept : List ℕ → Option (List ℕ) → Depth → List ℕ → Line → Sweep → Type 0
+IsLineSwept words given depth spared l sweep = (c : Command) × (c.before.now ≡ l.before) × (c.line.now ≡ l.text) × (c.probe.now ≡ probe_of given l.before)
+    × (c.depth ≡ depth) × IsSwept words c spared sweep
 
 -- the commands in these lines were cut, one after the other
-unfoldable pub AreSwept : List ℕ → Option (List ℕ) → List ℕ → List Line → List LineSweep → Type 0
-AreSwept words given spared [] [] = Unit {0}
-AreSwept words given spared (l ∷ lines) (s ∷ sweeps) = (s.number ≡ l.number) × IsLineSwept words given spared l s.sweep
-    × AreSwept words given spared lines sweeps
-AreSwept words given spared lines sweeps = ⊥
+unfoldable pub AreSwept : List ℕ → Option (List ℕ) → Depth → List ℕ → List Line → List LineSweep → Type 0
+AreSwept words given depth spared [] [] = Unit {0}
+AreSwept words given depth spared (l ∷ lines) (s ∷ sweeps) = (s.number ≡ l.number) × IsLineSwept words given depth spared l s.sweep
+    × AreSwept words given depth spared lines sweeps
+AreSwept words given depth spared lines sweeps = ⊥

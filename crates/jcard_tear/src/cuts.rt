@@ -2,21 +2,25 @@
 ghost use Rattle.std.specs.Prelude.{◌≡◌, ◌<◌, ◌++◌, ◌∷◌, [], length, IfOk, OnOk, MatchOption};
 ghost use Rattle.jcard_tear.specs.Sweeps.{AreCuts, IsCutAt, IsUncutAt, cut_script};
 
+use crate::recoveries::recoveries;
 use crate::runs::{RunFault, left, run_copy};
 use crate::tearing::TearFault;
 use itoa::Buffer;
+use jcard_outcomes::recoveries::{Depth, Recoveries};
 use jcard_outcomes::standing::{Cut, Left, standing_of};
 use std::alloc::{AllocError, Global};
 
 /// The most cuts of a command.
-const MOST: u16 = 65_535;
+pub(crate) const MOST: u16 = 65_535;
 
-/// A command of a script: the text before its line, its line, and what is asked after a reset.
+/// A command of a script: the text before its line, its line, what is asked after a reset, and how many recoveries are cut behind
+/// each of its cuts.
 #[derive(Clone, Copy, Drop)]
 pub struct Command<'a> {
     pub before: &'a [u8],
     pub line: &'a [u8],
     pub probe: &'a [u8],
+    pub depth: Depth,
 }
 
 /// What each cut of a command left, from the one on that no write passes, up to the number with which it is not cut.
@@ -34,20 +38,21 @@ pub(crate) fn cut_all(
 {
     let mut cuts = Vec::new(alloc);
     for number in 0..MOST {
-        let Some(left) = cut_at(alloc, words, command, number)? else {
+        let Some((left, recoveries)) = cut_at(alloc, words, command, number)? else {
             return Ok(cuts);
         };
         let standing = standing_of(spared, before, after, &left.words, &left.answers);
         let cut = Cut {
             standing,
             answers: left.answers,
+            recoveries,
         };
         push_cut(&mut cuts, cut)?;
     }
     Err(TearFault::TooManyCuts)
 }
 
-fn push_cut(cuts: &mut Vec<Cut>, cut: Cut) -> Result<(), TearFault>
+pub(crate) fn push_cut(cuts: &mut Vec<Cut>, cut: Cut) -> Result<(), TearFault>
     ensures { OnOk result (cuts.new.items ≡ cuts.old.items ++ cut ∷ []) }
 {
     match cuts.push(cut) {
@@ -56,24 +61,27 @@ fn push_cut(cuts: &mut Vec<Cut>, cut: Cut) -> Result<(), TearFault>
     }
 }
 
-// What is left of a command that is cut after so many writes; none where it is not cut.
-fn cut_at(
+// What is left of a command that is cut after so many writes, and what recoveries were like that were cut behind it; none where it
+// is not cut.
+pub(crate) fn cut_at(
     alloc: Global,
     words: &[u16],
     command: Command,
     number: u16,
-) -> Result<Option<Left>, RunFault>
+) -> Result<Option<(Left, Recoveries)>, RunFault>
     requires { length words.now < 65536 }
     ensures { IfOk result (λ cut. MatchOption cut (IsUncutAt words.now command.entry number)
-        (λ left. IsCutAt words.now command.entry number left)) }
+        (λ found. IsCutAt words.now command.entry number found.0 found.1)) }
 {
     let script = cut_script(alloc, command, number)?;
     let ran = run_copy(alloc, words, &script)?;
     if !ran.is_down {
         return Ok(None);
     }
+    let torn = Vec::from_slice(alloc, &ran.words)?;
     let left = left(alloc, ran.words, command.probe)?;
-    Ok(Some(left))
+    let recoveries = recoveries(alloc, &torn, command.probe, command.depth, &left)?;
+    Ok(Some((left, recoveries)))
 }
 
 // The script up to the command, with the power cut after so many of its writes.

@@ -8,27 +8,30 @@ use crate::cuts::Command;
 use crate::script_lines::{ScriptLine, last_select};
 use crate::tearing::{TearFault, tear};
 use jcard_outcomes::each::LineSweep;
+use jcard_outcomes::recoveries::Depth;
 use jcard_outcomes::report::Sweep;
 use std::alloc::Global;
 
 /// Cuts the command in a line, with these lines of a probe behind each cut; or, where none are given, with the last SELECT
-/// before it.
+/// before it. So many recoveries are cut behind each cut.
 pub fn tear_line(
     alloc: Global,
     words: &[u16],
     line: ScriptLine,
     probe: Option<&[u8]>,
+    depth: Depth,
     spared: &[u16],
 ) -> Result<Sweep, TearFault>
     requires { length words.now < 65536 }
     ensures { IfOk result (λ sweep. IsLineSwept words.now
-        (option_map (λ (text : Bor (List ℕ)). text.now) probe.entry) spared.now
+        (option_map (λ (text : Bor (List ℕ)). text.now) probe.entry) depth spared.now
         (line_of line.entry) sweep) }
 {
     let command = Command {
         before: line.before,
         line: line.line,
         probe: probe_for(probe, line.before),
+        depth,
     };
     tear(alloc, words, command, spared)
 }
@@ -39,16 +42,17 @@ pub fn tear_each(
     words: &[u16],
     lines: &[ScriptLine],
     probe: Option<&[u8]>,
+    depth: Depth,
     spared: &[u16],
 ) -> Result<Vec<LineSweep>, TearFault>
     requires { length words.now < 65536 }
     ensures { IfOk result (λ sweeps. AreSwept words.now
-        (option_map (λ (text : Bor (List ℕ)). text.now) probe.entry) spared.now
+        (option_map (λ (text : Bor (List ℕ)). text.now) probe.entry) depth spared.now
         (map line_of lines.now) sweeps.items) }
 {
     let mut sweeps = Vec::new(alloc);
     for line in lines {
-        let sweep = tear_line(alloc, words, *line, probe, spared)?;
+        let sweep = tear_line(alloc, words, *line, probe, depth, spared)?;
         let number = line.number;
         push_sweep(&mut sweeps, LineSweep { number, sweep })?;
     }
@@ -56,7 +60,7 @@ pub fn tear_each(
 }
 
 // The lines of the probe of a command that stands behind this text.
-fn probe_for<'a>(probe: Option<&'a [u8]>, before: &'a [u8]) -> &'a [u8]
+pub(crate) fn probe_for<'a>(probe: Option<&'a [u8]>, before: &'a [u8]) -> &'a [u8]
     ensures { result.now ≡ probe_of (option_map (λ (text : Bor (List ℕ)). text.now) probe.entry)
         before.now }
 {

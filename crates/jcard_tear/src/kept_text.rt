@@ -8,14 +8,14 @@ use std::alloc::Global;
 
 /// A text that grows as it is written. A write fails where memory is refused.
 #[derive(Drop)]
-pub(crate) struct KeptText {
+pub struct KeptText {
     bytes: Vec<u8>,
     failures: u64,
 }
 
 impl KeptText {
     /// An empty text.
-    pub(crate) fn new(alloc: Global) -> Self
+    pub fn new(alloc: Global) -> Self
         ensures bytes { result.bytes.items ≡ [] }
     {
         KeptText {
@@ -25,7 +25,7 @@ impl KeptText {
     }
 
     /// What was written.
-    pub(crate) fn into_bytes(self) -> Vec<u8>
+    pub fn into_bytes(self) -> Vec<u8>
         ensures { result ≡ self.bytes }
     {
         self.bytes

@@ -4,6 +4,8 @@
 pub mod cuts;
 pub mod each;
 pub mod kept_text;
+pub mod parts;
+mod recoveries;
 pub mod runs;
 pub mod script_lines;
 pub mod tearing;

@@ -98,10 +98,11 @@ fn recovered(words: Vec<u16>) -> Result<Vec<u16>, RunFault>
     }
 }
 
-// The words of a store in memory.
-fn words_of(store: FuseStore<MemStore>) -> Vec<u16>
+/// The words of a store in memory, which itself refuses no write.
+pub(crate) fn words_of(store: FuseStore<MemStore>) -> Vec<u16>
     ensures words { result.items ≡ store.words }
     ensures short { vec_len result < 65536 }
+    ensures refuses_none { store.refusals.faults ≡ 0 }
 {
     let _size = store.size();
     store.into_store().into_words()

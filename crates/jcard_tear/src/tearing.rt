@@ -27,7 +27,8 @@ pub enum TearFault {
 }
 
 /// Carries out the script up to the command on a card of a copy of these words, and then cuts the command after each number
-/// of its writes, each time on a card of a copy of its own. After each cut comes a reset, and then the probe.
+/// of its writes, each time on a card of a copy of its own. After each cut comes a reset, and then the probe; and as many
+/// recoveries as the command says are cut before a reset that is not.
 pub fn tear(
     alloc: Global,
     words: &[u16],
@@ -45,11 +46,16 @@ pub fn tear(
         answer,
         after,
         cuts,
+        depth: command.depth,
     })
 }
 
 // The answer of a command that is not cut, and what it leaves.
-fn done(alloc: Global, words: &[u16], command: Command) -> Result<(Vec<u8>, Left), TearFault>
+pub(crate) fn done(
+    alloc: Global,
+    words: &[u16],
+    command: Command,
+) -> Result<(Vec<u8>, Left), TearFault>
     requires { length words.now < 65536 }
     ensures { IfOk result (λ r. IsDone words.now command.entry r.0.items r.1) }
 {
@@ -65,7 +71,7 @@ fn done(alloc: Global, words: &[u16], command: Command) -> Result<(Vec<u8>, Left
 }
 
 // What is left by the lines before a command.
-fn begun(alloc: Global, words: &[u16], command: Command) -> Result<Left, TearFault>
+pub(crate) fn begun(alloc: Global, words: &[u16], command: Command) -> Result<Left, TearFault>
     requires { length words.now < 65536 }
     ensures { IfOk result (λ left. IsBegun words.now command.entry left) }
 {

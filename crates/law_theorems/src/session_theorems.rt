@@ -28,9 +28,9 @@ pub fn sessions_take_back_what_is_not_committed()
     ensures { IsTakenBack }
 {}
 
-/// Behind `stop K` the power is cut when exactly K more writes have passed: until the fuse is armed again, and while
-/// the store below refuses no write by itself, no write is refused, and the fuse stands K writes ahead of those that
-/// had passed; or exactly one is, behind K more, and burns the fuse out. A reset in between changes nothing of that.
+/// Behind `stop K`, until the fuse is armed again, and while the store below refuses no write by itself, no write is
+/// refused, and the fuse stands K writes ahead of those that had passed; or exactly one is, when K more have
+/// passed, and burns the fuse out. A reset in between changes nothing of that, and its own writes count.
 pub fn fuses_cut_where_they_were_set()
     ensures { FusesCut }
 {}

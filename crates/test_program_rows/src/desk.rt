@@ -15,7 +15,7 @@
 //! `same NAME OTHER`, `there NAME`
 //!                               whether two files have the same bytes, and whether one is there
 //!
-//! A text is one piece in double quotes or several, each so often as `N times` before it says, with `\n`, `\r`, `\t`, `\s`.
+//! A text is one piece in double quotes or several, each so often as `N times` before it says, with `\n`, `\r`, `\t`, `\q`, `\s`.
 use crate::card::run_on_new_card;
 use crate::conversation::{Asker, Listener};
 use crate::files;

@@ -58,10 +58,11 @@ fn times_of(text: &str) -> Option<usize> {
     text.strip_suffix(" times")?.parse::<usize>().ok()
 }
 
-/// With the bytes for which escapes stand: `\n`, `\r` and `\t`, and `\s` for a space.
+/// With the bytes for which escapes stand: `\n`, `\r` and `\t`, `\q` for a double quote, and `\s` for a space.
 fn unescaped(alloc: Global, text: &str) -> Result<String, AllocError> {
     let text = text.replace(alloc, "\\n", "\n")?;
     let text = text.as_str().replace(alloc, "\\r", "\r")?;
     let text = text.as_str().replace(alloc, "\\t", "\t")?;
+    let text = text.as_str().replace(alloc, "\\q", "\"")?;
     text.as_str().replace(alloc, "\\s", " ")
 }

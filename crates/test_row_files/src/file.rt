@@ -2,7 +2,8 @@
 ghost use Rattle.std.specs.Prelude.{◌<◌};
 
 use jcard_rows::line::{Line, read_line};
-use jcard_rows::lines::{Numbered, add_lines, beside, unroll};
+use jcard_rows::lines::{add_lines, beside, unroll};
+use jcard_rows::numbered::Numbered;
 use std::rt::Files;
 use std::{fs, io};
 

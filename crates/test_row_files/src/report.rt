@@ -5,7 +5,7 @@ ghost use Rattle.std.specs.String.{string_bytes};
 use crate::file::read_lines;
 use crate::subject::{FileSubject, Subject, WithoutFiles};
 use jcard_rows::line::{Line, read_line};
-use jcard_rows::lines::Numbered;
+use jcard_rows::numbered::Numbered;
 use std::alloc::{AllocError, Global};
 use std::fs::File;
 use std::rt::Files;

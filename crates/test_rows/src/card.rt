@@ -5,7 +5,7 @@ use crate::order::{Order, read_order};
 use crate::piece::Piece;
 use crate::words::no_store;
 use jcard_rows::line::{Line, read_line};
-use jcard_rows::lines::Numbered;
+use jcard_rows::numbered::Numbered;
 use std::alloc::{AllocError, Global};
 use std::mem;
 use test_row_files::report::Wrong;

@@ -2,7 +2,7 @@
 ghost use Rattle.std.specs.Prelude.{◌<◌, IfOk};
 
 use crate::card::Card;
-use jcard_rows::lines::Numbered;
+use jcard_rows::numbered::Numbered;
 use std::alloc::Global;
 use std::io;
 use std::rt::Files;

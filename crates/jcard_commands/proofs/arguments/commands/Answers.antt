@@ -13,4 +13,5 @@ returns c =
     let two = c.in_ok-program-2.ensures ∙ ap₂ with_top one c.in_ok-run.ensures in
     let three = c.in_ok-program-3.ensures ∙ ap₂ with_top two c.in_ok-dump.ensures in
     let four = c.in_ok-program-4.ensures ∙ ap₂ with_top three c.in_ok-trial.ensures in
-    IfOk-weaker c.with_command-5.result _ _ (λ r h. h ∙ ap₂ with_top four c.in_ok-tear.ensures) c.with_command-5.ensures
+    let five = c.in_ok-program-5.ensures ∙ ap₂ with_top four c.in_ok-tear.ensures in
+    IfOk-weaker c.with_command-6.result _ _ (λ r h. h ∙ ap₂ with_top five c.in_ok-test.ensures) c.with_command-6.ensures

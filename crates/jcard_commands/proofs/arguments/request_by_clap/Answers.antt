@@ -10,4 +10,4 @@ returns-in_err-matches-clause-refused c =
 
 pub returns-clause-found : goal.returns-clause-found
 returns-clause-found c = taken_as _ _ c.in_ok-matches.matches c.in_ok-commands.ensures c.in_ok-matches.ensures.matches c.in_ok-matches.ensures.kinds
-    ∙ sym c.request_of.ensures
+    ∙ sym c.in_ok-asked.ensures

@@ -19,3 +19,6 @@ pub returns-in-BadCommand-clause-text : goal.returns-in-BadCommand-clause-text
 returns-in-BadCommand-clause-text g c =
     let number = c.as_bytes-in-BadCommand.ensures.value ∙ c.format-in-BadCommand.ensures.text in
     rw c.in-BadCommand.is (rw number at c.write_parts-in-BadCommand.ensures.text)
+
+pub returns-in-CannotInclude-clause-text : goal.returns-in-CannotInclude-clause-text
+returns-in-CannotInclude-clause-text g c = rw c.in-CannotInclude.is c.write_unincluded.ensures.text

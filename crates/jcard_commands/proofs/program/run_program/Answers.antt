@@ -1,4 +1,5 @@
-use Rattle.std.proofs.Common.{Err, ◌∙◌, ap, inl}
+use Rattle.std.proofs.Common.{Err, ◌∙◌, ap, inl, map}
+use Rattle.std.specs.String.{string_bytes}
 use Rattle.jc_words.specs.Count.{failures_after}
 use Rattle.jcard_script.proofs.Known.{appends_then_appends}
 use Rattle.jcard_commands.specs.declared.fault.Fault.TheVariants.{NoMemory}
@@ -21,7 +22,7 @@ returns-in-Ok-collect g c =
       done.1,
       told.1,
       appends_then_appends _ _ _ done.0 told.0 done.2 told.2,
-      inl (_, done.3),
+      inl (map string_bytes c.deref.result.now, done.3),
       told.3,
       failures,
       c.tell-in-Ok-collect.ensures.status,

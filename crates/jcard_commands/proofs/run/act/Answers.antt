@@ -1,5 +1,8 @@
-use Rattle.std.proofs.Common.{[], refl}
+use Rattle.std.proofs.Common.{ℕ, List, [], map, refl, subst}
+use Rattle.std.specs.Prelude.{option_map}
+use Rattle.std.specs.Borrow.{Bor}
 use Rattle.jcard_script.proofs.Known.{appends_same}
+use Rattle.jcard_commands.specs.Tests.{IsTest}
 use Rattle.jcard_commands.proofs.run.act.Goals as goal
 
 pub returns-in-New-clause-done : goal.returns-in-New-clause-done
@@ -21,3 +24,11 @@ pub returns-in-Tear-clause-done : goal.returns-in-Tear-clause-done
 returns-in-Tear-clause-done g c =
     let done = c.tear_image.ensures.done in
     (done.0, done.1, done.2, rw c.in-Tear.is done.3, done.4)
+
+pub returns-in-Test-clause-done : goal.returns-in-Test-clause-done
+returns-in-Test-clause-done g c =
+    let done = c.test_files.ensures.done in
+    let test = subst (λ (files : List (Bor (List ℕ))). IsTest (map (λ (name : Bor (List ℕ)). name.now) files)
+    (option_map (λ (name : Bor (List ℕ)). name.now) c.in-Test.junit) c.test_files.result done.0 done.1)
+    c.deref.ensures.value done.3 in
+    (done.0, done.1, done.2, rw c.in-Test.is test, done.4)

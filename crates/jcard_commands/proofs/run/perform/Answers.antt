@@ -1,13 +1,25 @@
-use Rattle.std.proofs.Common.{[], inr}
-use Rattle.jcard_script.proofs.Known.{appends_same}
-use Rattle.jcard_commands.proofs.Ends.{nothing_done}
+use Rattle.std.proofs.Common.{sym, subst, List, ℕ}
+use Rattle.std.specs.Prelude.{Option, map}
+use Rattle.std.specs.String.{string_bytes}
+use Rattle.jcard_commands.specs.Faults.{IsPerformedBy}
 use Rattle.jcard_commands.proofs.run.perform.Goals as goal
 
-pub returns-in-Ok-clause-done : goal.returns-in-Ok-clause-done
-returns-in-Ok-clause-done g c =
-    let done = c.act.ensures.done in
-    (done.0, done.1, done.2, inr (rw c.in-Ok.ensures.taken done.3), done.4)
+pub returns-in-Some-clause-done : goal.returns-in-Some-clause-done
+returns-in-Some-clause-done g c =
+    let done = c.join_files.ensures.done in (
+      done.0,
+      done.1,
+      done.2,
+      subst (λ (files : Option (List (List ℕ))). IsPerformedBy files (map string_bytes c.args.words.now) c.join_files.result done.0 done.1) (sym c.in-Some.ensures.0) done.3,
+      done.4,
+    )
 
-pub returns-in-Err-clause-done : goal.returns-in-Err-clause-done
-returns-in-Err-clause-done g c =
-    ([], [], appends_same _, nothing_done _ c.in-Err.fault c.in-Err.ensures.taken, g.met.D.Disk.none c.args.disk.now)
+pub returns-in-None-clause-done : goal.returns-in-None-clause-done
+returns-in-None-clause-done g c =
+    let done = c.perform_parsed.ensures.done in (
+      done.0,
+      done.1,
+      done.2,
+      subst (λ (files : Option (List (List ℕ))). IsPerformedBy files (map string_bytes c.args.words.now) c.perform_parsed.result done.0 done.1) (sym c.in-None.ensures) done.3,
+      done.4,
+    )

@@ -15,11 +15,11 @@ returns-in_default c =
 pub loop-number-preserved : goal.loop-number-preserved
 loop-number-preserved c =
     let cuts = c.loop-number.cuts.items in
-    let cut : Cut = record { standing = c.standing_of-standing.result; answers = c.in-Some.left.answers } in
+    let cut : Cut = record { standing = c.standing_of-standing.result; answers = c.in-Some.left.answers; recoveries = c.in-Some.recoveries } in
     let left = rw c.in-Some.is at c.in_ok-left.ensures in
     let standing = rw (c.deref.ensures.value, c.deref-in-loop-number.ensures.value) at c.standing_of-standing.ensures in
     let place : c.loop-number.number ≡ 0 + length cuts = omega (arith, c.loop-number.invariant.count) in
-    let here = subst (λ n. IsCutAt c.args.words.now c.args.command n c.in-Some.left) place left in
+    let here = subst (λ n. IsCutAt c.args.words.now c.args.command n c.in-Some.left c.in-Some.recoveries) place left in
     record {
       cuts = rw c.in_ok-push_cut.ensures (cuts_more c.args.words.now c.args.command c.args.spared.now c.args.before.now c.args.after.now 0 cuts cut
           c.loop-number.invariant.cuts (c.in-Some.left, here, refl, standing));

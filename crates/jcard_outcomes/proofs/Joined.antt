@@ -1,0 +1,217 @@
+-- Sweeps that are told in the same lines have the same report.
+use Rattle.std.proofs.Common.{arith, ◌≡◌, ◌∙◌, ℕ, suc, zero, ◌+◌, ◌<◌, ◌||◌, false, List, [], ◌∷◌, ◌++◌, if◌then◌else◌, length, drop, replicate, ap, sym, refl, codes, append_assoc, append-nil, Some, None, Option}
+use Rattle.std.specs.Prelude.{map}
+use Rattle.std.specs.List.{All}
+use Rattle.std.specs.Str.{bytes_eq}
+use Rattle.std.proofs.lemmas.List.{append_cancel_left, length-map}
+use Rattle.std.proofs.lemmas.List.Elements.{All-cons, All-head, All-nil, All-tail}
+use Rattle.jcard_outcomes.specs.Joins.{IsTellable, IsUncutTold, TellCuts, joined_text}
+use Rattle.jcard_outcomes.specs.Parts.{IsOfWords, has, told_cut, told_sweep, told_uncut}
+use Rattle.jcard_outcomes.specs.Reports.{any_but_tries, count_before, first_broken, in_line, is_after, is_before, is_but_tries, outcome_text, report_text, row_text, rows_from, rows_text, standing_text, uncut_text, verdict_by, verdict_text, whole_text}
+use Rattle.jcard_outcomes.specs.Recoveries.{recoveries_text}
+use Rattle.jcard_outcomes.specs.declared.recoveries.Depth.TheVariants.{Zero}
+use Rattle.jcard_outcomes.specs.declared.report.Sweep.{Sweep}
+use Rattle.jcard_outcomes.specs.declared.standing.Cut.{Cut}
+use Rattle.jcard_outcomes.specs.declared.standing.Standing.{Standing}
+use Rattle.jcard_outcomes.specs.declared.standing.Standing.TheVariants.{Before, BeforeButTries, After, AfterButTries, Answers, Changed}
+use Rattle.jcard_outcomes.proofs.Splits.{cut_unique}
+use Rattle.jcard_outcomes.proofs.Told.{standing_has_no_comma, told_parts}
+
+-- ---- one cut
+
+-- what a standing is, by how it is told
+before_told : (s : Standing) → is_before s ≡ (bytes_eq (standing_text s) (codes "as before") || bytes_eq (standing_text s) (codes "as before but for PIN tries"))
+before_told Before = refl
+before_told BeforeButTries = refl
+before_told After = refl
+before_told AfterButTries = refl
+before_told Answers = refl
+before_told (Changed d) = refl
+
+after_told : (s : Standing) → is_after s ≡ (bytes_eq (standing_text s) (codes "as after") || bytes_eq (standing_text s) (codes "as after but for PIN tries"))
+after_told Before = refl
+after_told BeforeButTries = refl
+after_told After = refl
+after_told AfterButTries = refl
+after_told Answers = refl
+after_told (Changed d) = refl
+
+tries_told : (s : Standing) → is_but_tries s
+    ≡ (bytes_eq (standing_text s) (codes "as before but for PIN tries") || bytes_eq (standing_text s) (codes "as after but for PIN tries"))
+tries_told Before = refl
+tries_told BeforeButTries = refl
+tries_told After = refl
+tries_told AfterButTries = refl
+tries_told Answers = refl
+tries_told (Changed d) = refl
+
+before_alike : (a b : Standing) → standing_text a ≡ standing_text b → is_before a ≡ is_before b
+before_alike a b e = before_told a
+    ∙ ap (λ t. bytes_eq t (codes "as before") || bytes_eq t (codes "as before but for PIN tries")) e ∙ sym (before_told b)
+
+after_alike : (a b : Standing) → standing_text a ≡ standing_text b → is_after a ≡ is_after b
+after_alike a b e = after_told a ∙ ap (λ t. bytes_eq t (codes "as after") || bytes_eq t (codes "as after but for PIN tries")) e ∙ sym (after_told b)
+
+tries_alike : (a b : Standing) → standing_text a ≡ standing_text b → is_but_tries a ≡ is_but_tries b
+tries_alike a b e = tries_told a
+    ∙ ap (λ t. bytes_eq t (codes "as before but for PIN tries") || bytes_eq t (codes "as after but for PIN tries")) e ∙ sym (tries_told b)
+
+-- two cuts leave the same
+record Alike (a b : Cut) : Type 0 where
+  standing : standing_text a.standing ≡ standing_text b.standing
+  outcome : outcome_text a ≡ outcome_text b
+
+alike : (a b : Cut) → told_cut a ≡ told_cut b → has 44 (standing_text a.standing) ≡ false → has 44 (standing_text b.standing) ≡ false → Alike a b
+unfolding outcome_text
+alike a b e p q =
+    let parts = cut_unique 44 (standing_text a.standing) (standing_text b.standing) (codes " answers " ++ in_line a.answers.items)
+    (codes " answers " ++ in_line b.answers.items) p q (sym (told_parts a) ∙ e ∙ told_parts b) in
+    let answers = append_cancel_left (codes " answers ") (in_line a.answers.items) (in_line b.answers.items) parts.1 in
+    record {
+      standing = parts.0;
+      outcome = ap (λ l. l ++ standing_text a.standing) answers ∙ ap (λ l. in_line b.answers.items ++ l) parts.0;
+    }
+
+-- ---- all cuts
+
+abbrev AreAlike : List Cut → List Cut → Type 0
+AreAlike [] [] = Unit {0}
+AreAlike (c ∷ cs) (d ∷ ds) = Alike c d × AreAlike cs ds
+AreAlike cs ds = ⊥
+
+all_alike : (cs ds : List Cut) → All (λ c. has 44 (standing_text c.standing) ≡ false) cs → All (λ c. has 44 (standing_text c.standing) ≡ false) ds
+    → map told_cut cs ≡ map told_cut ds → AreAlike cs ds
+all_alike [] [] p q e = tt
+all_alike [] (d ∷ ds) p q e = let h : [] ≡ told_cut d ∷ map told_cut ds = e in absurd cc
+all_alike (c ∷ cs) [] p q e = let h : told_cut c ∷ map told_cut cs ≡ [] = e in absurd cc
+all_alike (c ∷ cs) (d ∷ ds) p q e =
+    let whole : told_cut c ∷ map told_cut cs ≡ told_cut d ∷ map told_cut ds = e in
+    let head : told_cut c ≡ told_cut d = cc in
+    let tail : map told_cut cs ≡ map told_cut ds = cc in (
+      alike c d head (All-head (λ c. has 44 (standing_text c.standing) ≡ false) c cs p) (All-head (λ c. has 44 (standing_text c.standing) ≡ false) d ds q),
+      all_alike cs ds (All-tail (λ c. has 44 (standing_text c.standing) ≡ false) c cs p) (All-tail (λ c. has 44 (standing_text c.standing) ≡ false) d ds q) tail,
+    )
+
+rows_alike : (cs ds : List Cut) → AreAlike cs ds → (first last : ℕ) (o : List ℕ) → rows_from first last o cs ≡ rows_from first last o ds
+unfolding rows_from
+rows_alike [] [] h first last o = refl
+rows_alike [] (d ∷ ds) h first last o = absurd h
+rows_alike (c ∷ cs) [] h first last o = absurd h
+rows_alike (c ∷ cs) (d ∷ ds) h first last o =
+    ap (λ x. if bytes_eq o x then rows_from first (last + 1) o cs else row_text first last o ++ rows_from (last + 1) (last + 1) x cs) h.0.outcome
+    ∙ ap (λ r. if bytes_eq o (outcome_text d) then r else row_text first last o ++ rows_from (last + 1) (last + 1) (outcome_text d) cs)
+    (rows_alike cs ds h.1 first (last + 1) o)
+    ∙ ap (λ r. if bytes_eq o (outcome_text d) then rows_from first (last + 1) o ds else row_text first last o ++ r)
+    (rows_alike cs ds h.1 (last + 1) (last + 1) (outcome_text d))
+
+all_rows_alike : (cs ds : List Cut) → AreAlike cs ds → rows_text cs ≡ rows_text ds
+all_rows_alike [] [] h = refl
+all_rows_alike [] (d ∷ ds) h = absurd h
+all_rows_alike (c ∷ cs) [] h = absurd h
+all_rows_alike (c ∷ cs) (d ∷ ds) h = ap (λ o. rows_from 0 0 o cs) h.0.outcome ∙ rows_alike cs ds h.1 0 0 (outcome_text d)
+
+counts_alike : (cs ds : List Cut) → AreAlike cs ds → count_before cs ≡ count_before ds
+unfolding count_before
+counts_alike [] [] h = refl
+counts_alike [] (d ∷ ds) h = absurd h
+counts_alike (c ∷ cs) [] h = absurd h
+counts_alike (c ∷ cs) (d ∷ ds) h =
+    ap (λ x. if x then count_before cs + 1 else count_before cs) (before_alike c.standing d.standing h.0.standing)
+    ∙ ap (λ n. if is_before d.standing then n + 1 else n) (counts_alike cs ds h.1)
+
+any_alike : (cs ds : List Cut) → AreAlike cs ds → any_but_tries cs ≡ any_but_tries ds
+unfolding any_but_tries
+any_alike [] [] h = refl
+any_alike [] (d ∷ ds) h = absurd h
+any_alike (c ∷ cs) [] h = absurd h
+any_alike (c ∷ cs) (d ∷ ds) h = ap (λ x. x || any_but_tries cs) (tries_alike c.standing d.standing h.0.standing)
+    ∙ ap (λ r. is_but_tries d.standing || r) (any_alike cs ds h.1)
+
+broken_alike : (cs ds : List Cut) → AreAlike cs ds → (k : ℕ) → first_broken k cs ≡ first_broken k ds
+unfolding first_broken
+broken_alike [] [] h k = refl
+broken_alike [] (d ∷ ds) h k = absurd h
+broken_alike (c ∷ cs) [] h k = absurd h
+broken_alike (c ∷ cs) (d ∷ ds) h k =
+    ap (λ x. if x || is_after c.standing then first_broken (k + 1) cs else Some k) (before_alike c.standing d.standing h.0.standing)
+    ∙ ap (λ x. if is_before d.standing || x then first_broken (k + 1) cs else Some k) (after_alike c.standing d.standing h.0.standing)
+    ∙ ap (λ r. if is_before d.standing || is_after d.standing then r else Some k) (broken_alike cs ds h.1 (k + 1))
+
+lengths_alike : (cs ds : List Cut) → AreAlike cs ds → length cs ≡ length ds
+lengths_alike [] [] h = refl
+lengths_alike [] (d ∷ ds) h = absurd h
+lengths_alike (c ∷ cs) [] h = absurd h
+lengths_alike (c ∷ cs) (d ∷ ds) h = ap suc (lengths_alike cs ds h.1)
+
+verdict_alike : (f : Option ℕ) (cs ds : List Cut) → AreAlike cs ds → verdict_by f cs ≡ verdict_by f ds
+verdict_alike (Some k) cs ds h = refl
+verdict_alike None cs ds h = ap (λ n. whole_text n (count_before cs) (any_but_tries cs)) (lengths_alike cs ds h)
+    ∙ ap (λ n. whole_text (length ds) n (any_but_tries cs)) (counts_alike cs ds h) ∙ ap (λ t. whole_text (length ds) (count_before ds) t) (any_alike cs ds h)
+
+all_verdicts_alike : (cs ds : List Cut) → AreAlike cs ds → verdict_text cs ≡ verdict_text ds
+all_verdicts_alike cs ds h = ap (λ f. verdict_by f cs) (broken_alike cs ds h 0) ∙ verdict_alike (first_broken 0 ds) cs ds h
+
+-- ---- the report
+
+-- the line of the command that is not cut
+uncut_line : (answer answers : List ℕ) → told_uncut answer answers ++ codes "\n" ≡ uncut_text answer answers
+unfolding told_uncut
+uncut_line answer answers = simp append_assoc
+
+report_alike : (s : Sweep) (cuts : List Cut) (uncut : List ℕ) → AreAlike cuts s.cuts.items → uncut ≡ told_uncut s.answer.items s.after.answers.items
+    → s.depth ≡ Zero → joined_text cuts uncut ≡ report_text s
+report_alike s cuts uncut h e none =
+    ap (λ r. r ++ uncut ++ codes "\n" ++ verdict_text cuts) (all_rows_alike cuts s.cuts.items h)
+    ∙ ap (λ v. rows_text s.cuts.items ++ uncut ++ codes "\n" ++ v) (all_verdicts_alike cuts s.cuts.items h)
+    ∙ ap (λ l. l ++ verdict_text s.cuts.items) (append_assoc (rows_text s.cuts.items) uncut (codes "\n")
+    ∙ ap (λ u. rows_text s.cuts.items ++ u) (ap (λ u. u ++ codes "\n") e ∙ uncut_line s.answer.items s.after.answers.items))
+    ∙ sym (append-nil (rows_text s.cuts.items ++ uncut_text s.answer.items s.after.answers.items ++ verdict_text s.cuts.items))
+    ∙ ap (λ r. rows_text s.cuts.items ++ uncut_text s.answer.items s.after.answers.items ++ verdict_text s.cuts.items ++ r)
+    (sym (ap (λ depth. recoveries_text depth s.cuts.items) none))
+
+-- ---- the lines behind the cuts
+
+drop_front : {A : Type 0} (a b : List A) → drop (length a) (a ++ b) ≡ b
+drop_front [] b = refl
+drop_front (x ∷ a) b = drop_front a b
+
+pub behind_cuts : (cuts : List Cut) (rest : List (List ℕ)) → drop (length cuts) (map told_cut cuts ++ rest) ≡ rest
+behind_cuts cuts rest = ap (λ n. drop n (map told_cut cuts ++ rest)) (sym (length-map cuts told_cut)) ∙ drop_front (map told_cut cuts) rest
+
+first_of_all : {A : Type 0} (n : ℕ) (x y : A) → 0 < n → replicate n x ≡ replicate n y → x ≡ y
+first_of_all zero x y h e = absurd (omega arith)
+first_of_all (suc n) x y h e = let whole : x ∷ replicate n x ≡ y ∷ replicate n y = e in cc
+
+begins_with : {A : Type 0} (n : ℕ) (x : A) (rest : List A) → 0 < n → rest ≡ replicate n x → (more : List A) × (rest ≡ x ∷ more)
+begins_with zero x rest h e = absurd (omega arith)
+begins_with (suc n) x rest h e = (replicate n x, e)
+
+pub same_lengths : (cs ds : List Cut) → map told_cut cs ≡ map told_cut ds → length cs ≡ length ds
+same_lengths cs ds e = sym (length-map cs told_cut) ∙ ap length e ∙ length-map ds told_cut
+
+-- the lines tell a sweep
+pub joined_read : (n : ℕ) (lines : List (List ℕ)) (cuts : List Cut) (uncut : List ℕ) → 0 < n → TellCuts lines cuts
+    → drop (length cuts) lines ≡ replicate n uncut → (lines ≡ told_sweep n cuts uncut) × IsUncutTold uncut
+joined_read n lines cuts uncut some t e =
+    let rest : t.0 ≡ replicate n uncut = sym (behind_cuts cuts t.0) ∙ ap (drop (length cuts)) (sym t.1) ∙ e in
+    let first = begins_with n uncut t.0 some rest in
+    (t.1 ∙ ap (λ l. map told_cut cuts ++ l) rest, t.2 uncut first.0 first.1)
+
+no_commas : (cuts : List Cut) → All (λ c. IsOfWords c.standing) cuts → All (λ c. has 44 (standing_text c.standing) ≡ false) cuts
+no_commas [] w = All-nil (λ c. has 44 (standing_text c.standing) ≡ false)
+no_commas (c ∷ cuts) w = All-cons (λ c. has 44 (standing_text c.standing) ≡ false) c cuts
+    (standing_has_no_comma c.standing (All-head (λ c. IsOfWords c.standing) c cuts w)) (no_commas cuts (All-tail (λ c. IsOfWords c.standing) c cuts w))
+
+-- the report of a sweep that the lines tell is the one that is told
+pub joined_whole : (s : Sweep) (lines : List (List ℕ)) (n : ℕ) (cuts : List Cut) (uncut : List ℕ) → IsTellable s → 0 < n
+    → lines ≡ told_sweep n s.cuts.items (told_uncut s.answer.items s.after.answers.items)
+    → All (λ c. has 44 (standing_text c.standing) ≡ false) cuts → map told_cut cuts ≡ map told_cut s.cuts.items
+    → drop (length cuts) lines ≡ replicate n uncut
+    → (joined_text cuts uncut ≡ report_text s) × (first_broken 0 cuts ≡ first_broken 0 s.cuts.items)
+joined_whole s lines n cuts uncut tellable some e lacking same behind =
+    let alikes = all_alike cuts s.cuts.items lacking (no_commas s.cuts.items tellable.0) same in
+    let u = told_uncut s.answer.items s.after.answers.items in
+    let at : drop (length cuts) lines ≡ replicate n u =
+    ap (drop (length cuts)) e ∙ ap (λ m. drop m (told_sweep n s.cuts.items u)) (same_lengths cuts s.cuts.items same)
+    ∙ behind_cuts s.cuts.items (replicate n u) in
+    (report_alike s cuts uncut alikes (first_of_all n uncut u some (sym behind ∙ at)) tellable.2, broken_alike cuts s.cuts.items alikes 0)

@@ -1,0 +1,70 @@
+-- Reading the lines of all parts.
+use Rattle.std.proofs.Common.{arith, ◌≡◌, ◌∙◌, ℕ, ◌+◌, ◌%◌, ◌<◌, ◌≤◌, List, [], ◌∷◌, ◌++◌, length, get_or, ap, sym, refl, subst, Some, None, Result, Ok, Err}
+use Rattle.std.specs.Prelude.{IfErr, IfOk, MatchResult}
+use Rattle.std.specs.Borrow.{Bor}
+use Rattle.std.specs.List.{All}
+use Rattle.std.proofs.lemmas.List.{get_or-map}
+use Rattle.std.proofs.Math.Nat.{mod-lt}
+use Rattle.jcard_outcomes.specs.Joins.{AreOrdered, IsNextLine}
+use Rattle.jcard_outcomes.specs.Parts.{line_text}
+use Rattle.jcard_outcomes.specs.declared.join.JoinFault.{JoinFault}
+use Rattle.jcard_outcomes.specs.declared.join.JoinFault.TheVariants.{BadLine, Missing, NoMemory, OtherSweep, Twice}
+use Rattle.jcard_outcomes.proofs.Dealt.{Reading, begun, line_some, next, none_left, read_whole, stuck}
+use Rattle.jcard_outcomes.proofs.Ends.{lent, lent_at, lent_length, nothing}
+
+pub reads_begun : (texts : List (List ℕ)) (lines rests : List (Bor (List ℕ))) → lines ≡ [] → lent rests ≡ texts → Reading texts (lent lines) (lent rests) 0
+reads_begun texts lines rests e f = subst (λ l. Reading texts (lent l) (lent rests) 0) (sym e) (begun texts (lent rests) f)
+
+pub reads_next : (texts : List (List ℕ)) (lines rests more left : List (Bor (List ℕ))) (k : ℕ) (told : Bor (List ℕ)) → Reading texts (lent lines) (lent rests) k
+    → 0 < length texts → IsNextLine k (lent rests) (lent left) (Ok (Some told)) → lent more ≡ lent lines ++ told.now ∷ []
+    → Reading texts (lent more) (lent left) (k + 1)
+reads_next texts lines rests more left k told r some n pushed =
+    next texts (lent lines) (lent rests) k r some told.now n.0 (lent more) (lent left) n.1 n.2 n.3 pushed
+
+pub reads_whole : (texts : List (List ℕ)) (lines rests left : List (Bor (List ℕ))) (k : ℕ) → Reading texts (lent lines) (lent rests) k → 0 < length texts
+    → IsNextLine k (lent rests) (lent left) (Ok None) → All (λ t. t.now ≡ []) left
+    → AreOrdered texts (lent lines) × ((all : List (List ℕ)) → AreOrdered texts all → lent lines ≡ all)
+reads_whole texts lines rests left k r some n all =
+    read_whole texts (lent lines) (lent rests) k r some
+    (λ j h. let within : j < length left = omega (arith, sym (lent_length left) ∙ ap length n.1, h) in
+    ap (λ l. get_or l j []) (sym n.1) ∙ lent_at left j within ∙ all j nothing within)
+
+pub reads_missing : (texts : List (List ℕ)) (lines rests left : List (Bor (List ℕ))) (k : ℕ) → Reading texts (lent lines) (lent rests) k → 0 < length texts
+    → IsNextLine k (lent rests) (lent left) (Ok None) → (All (λ t. t.now ≡ []) left → ⊥) → (all : List (List ℕ)) → AreOrdered texts all → ⊥
+reads_missing texts lines rests left k r some n none all o =
+    let short : length all ≤ k = stuck texts (lent lines) (lent rests) k r some (λ told rest e. line_some k told rest (sym e ∙ n.0)) all o in
+    none (λ j d h. let within : j < length (lent rests) = omega (arith, sym (lent_length left) ∙ ap length n.1, h) in
+    sym (get_or-map (λ (t : Bor (List ℕ)). t.now) left j d [] h) ∙ ap (λ l. get_or l j []) n.1 ∙ none_left texts (lent lines) (lent rests) k r all o short j within)
+
+refused : (texts : List (List ℕ)) (lines rests : List (Bor (List ℕ))) (k : ℕ) → Reading texts (lent lines) (lent rests) k → 0 < length texts
+    → (get_or (lent rests) (k % length (lent rests)) [] ≡ [] → ⊥)
+    → ((told rest : List ℕ) → get_or (lent rests) (k % length (lent rests)) [] ≡ line_text k told ++ rest → ⊥) → (all : List (List ℕ)) → AreOrdered texts all → ⊥
+refused texts lines rests k r some full none all o =
+    let short : length all ≤ k = stuck texts (lent lines) (lent rests) k r some none all o in
+    let within : k % length (lent rests) < length (lent rests) = mod-lt k (omega (arith, r.parts, some)) in
+    full (none_left texts (lent lines) (lent rests) k r all o short (k % length (lent rests)) within)
+
+pub reads_fault : (texts : List (List ℕ)) (lines rests left : List (Bor (List ℕ))) (k : ℕ) (f : JoinFault) → Reading texts (lent lines) (lent rests) k
+    → 0 < length texts → IsNextLine k (lent rests) (lent left) (Err f) → (all : List (List ℕ)) → AreOrdered texts all → f ≡ NoMemory
+reads_fault texts lines rests left k NoMemory r some n all o = refl
+reads_fault texts lines rests left k (Missing m) r some n all o = absurd (refused texts lines rests k r some n.1 n.2 all o)
+reads_fault texts lines rests left k (Twice m) r some n all o = absurd (refused texts lines rests k r some n.1 n.2 all o)
+reads_fault texts lines rests left k (BadLine m) r some n all o = absurd (refused texts lines rests k r some n.1 n.2 all o)
+reads_fault texts lines rests left k (OtherSweep m) r some n all o = absurd (refused texts lines rests k r some n.1 n.2 all o)
+
+-- ---- the end, for lists of any kind
+
+pub ended_read : {V : Type 0} (items : V → List (Bor (List ℕ))) (texts : List (List ℕ)) (lines : V) (rests left : List (Bor (List ℕ))) (k : ℕ)
+    (r : Result V JoinFault) → Reading texts (lent (items lines)) (lent rests) k → 0 < length texts → IsNextLine k (lent rests) (lent left) (Ok None)
+    → IfOk r (λ v. (v ≡ lines) × All (λ t. t.now ≡ []) left) → IfOk r (λ v. AreOrdered texts (lent (items v)))
+ended_read items texts lines rests left k (Ok v) r some n h =
+    subst (λ l. AreOrdered texts (lent (items l))) (sym h.0) (reads_whole texts (items lines) rests left k r some n h.1).0
+ended_read items texts lines rests left k (Err f) r some n h = tt
+
+pub ended_whole : {V : Type 0} (items : V → List (Bor (List ℕ))) (texts : List (List ℕ)) (lines : V) (rests left : List (Bor (List ℕ))) (k : ℕ)
+    (r : Result V JoinFault) → Reading texts (lent (items lines)) (lent rests) k → 0 < length texts → IsNextLine k (lent rests) (lent left) (Ok None)
+    → IfOk r (λ v. (v ≡ lines) × All (λ t. t.now ≡ []) left) → IfErr r (λ f. (f ≡ Missing k) × (All (λ t. t.now ≡ []) left → ⊥))
+    → (all : List (List ℕ)) → AreOrdered texts all → MatchResult r (λ v. lent (items v) ≡ all) (λ f. f ≡ NoMemory)
+ended_whole items texts lines rests left k (Ok v) r some n h g all o =
+    ap (λ l. lent (items l)) h.0 ∙ (reads_whole texts (items lines) rests left k r some n h.1).1 all o
+ended_whole items texts lines rests left k (Err f) r some n h g all o = absurd (reads_missing texts (items lines) rests left k r some n g.1 all o)

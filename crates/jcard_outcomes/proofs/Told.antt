@@ -1,0 +1,191 @@
+-- What a line tells of a cut is told of no other one.
+use Rattle.std.proofs.Common.{arith, ◌≡◌, inl, ◌∙◌, ℕ, ◌<◌, ◌==◌, ◌||◌, Bool, true, false, List, [], ◌∷◌, ◌++◌, if◌then◌else◌, ap, sym, refl, codes, decimal, append_assoc}
+use Rattle.std.proofs.lemmas.Bool.{false≢true}
+use Rattle.std.proofs.lemmas.List.Folds.{list_any-append}
+use Rattle.jcard_outcomes.specs.Parts.{AreWords, IsOfWords, has, told_cut}
+use Rattle.jcard_outcomes.specs.Reports.{in_line, standing_text}
+use Rattle.jcard_outcomes.specs.declared.heaps.Difference.{Difference}
+use Rattle.jcard_outcomes.specs.declared.standing.Cut.{Cut}
+use Rattle.jcard_outcomes.specs.declared.standing.Standing.{Standing}
+use Rattle.jcard_outcomes.specs.declared.standing.Standing.TheVariants.{Before, BeforeButTries, After, AfterButTries, Answers, Changed}
+use Rattle.jcard_outcomes.proofs.Splits.{cut_again, decimal_lacks, not_lacking, rest_again}
+
+-- ---- words behind labels
+
+pub no_space : (text label rest : List ℕ) → text ≡ label ++ rest → has 32 rest ≡ false → (n : ℕ) (tail : List ℕ) → n < 65536
+    → text ≡ label ++ (decimal n ++ 32 ∷ tail) → ⊥
+no_space text label rest e lacking n tail small h = not_lacking 32 rest (decimal n) tail lacking (rest_again text label rest (decimal n ++ 32 ∷ tail) e h)
+
+pub no_word : (text label rest digits more : List ℕ) → text ≡ label ++ rest → rest ≡ digits ++ 32 ∷ more → has 32 digits ≡ false
+    → ((n : ℕ) → n < 65536 → digits ≡ decimal n → ⊥) → (n : ℕ) (tail : List ℕ) → n < 65536 → text ≡ label ++ (decimal n ++ 32 ∷ tail) → ⊥
+no_word text label rest digits more e f lacking none n tail small h =
+    none n small ((cut_again 32 rest digits (decimal n) more tail f lacking (rest_again text label rest (decimal n ++ 32 ∷ tail) e h)
+    (decimal_lacks 32 n (inl (omega arith)) (omega arith))).0)
+
+pub word_there : (text label rest digits more : List ℕ) (n : ℕ) → text ≡ label ++ rest → rest ≡ digits ++ 32 ∷ more → digits ≡ decimal n
+    → text ≡ label ++ (decimal n ++ 32 ∷ more)
+word_there text label rest digits more n e f g = e ∙ ap (λ l. label ++ l) (f ∙ ap (λ l. l ++ 32 ∷ more) g)
+
+-- what follows a word is known
+pub word_again : (text label : List ℕ) (n m : ℕ) (rest more : List ℕ) → n < 65536 → m < 65536 → text ≡ label ++ (decimal n ++ 32 ∷ rest)
+    → text ≡ label ++ (decimal m ++ 32 ∷ more) → rest ≡ more
+word_again text label n m rest more small fits e f =
+    (cut_again 32 (decimal n ++ 32 ∷ rest) (decimal n) (decimal m) rest more refl (decimal_lacks 32 n (inl (omega arith)) (omega arith))
+    (rest_again text label (decimal n ++ 32 ∷ rest) (decimal m ++ 32 ∷ more) e f) (decimal_lacks 32 m (inl (omega arith)) (omega arith))).1
+
+-- ---- differences
+
+pub changed_text : (d : Difference) → standing_text (Changed d)
+    ≡ codes "changed: word " ++ (decimal d.address ++ 32 ∷ (codes "was " ++ (decimal d.before ++ 32 ∷ (codes "and is " ++ decimal d.now))))
+changed_text d = ap (λ t. codes "changed: word " ++ t) (append_assoc (decimal d.address) (codes " was " ++ decimal d.before) (codes " and is " ++ decimal d.now))
+
+-- the first word lacks
+pub no_address : (text : List ℕ) → ((n : ℕ) (rest : List ℕ) → n < 65536 → text ≡ codes "changed: word " ++ (decimal n ++ 32 ∷ rest) → ⊥)
+    → (d : Difference) → AreWords d → text ≡ standing_text (Changed d) → ⊥
+no_address text none d words e = none d.address _ words.0 (e ∙ changed_text d)
+
+behind_address : (text : List ℕ) (a : ℕ) (rest : List ℕ) → a < 65536 → text ≡ codes "changed: word " ++ (decimal a ++ 32 ∷ rest)
+    → (d : Difference) → AreWords d → text ≡ standing_text (Changed d) → rest ≡ codes "was " ++ (decimal d.before ++ 32 ∷ (codes "and is " ++ decimal d.now))
+behind_address text a rest small f d words e = word_again text (codes "changed: word ") a d.address rest _ small words.0 f (e ∙ changed_text d)
+
+pub no_before : (text : List ℕ) (a : ℕ) (rest : List ℕ) → a < 65536 → text ≡ codes "changed: word " ++ (decimal a ++ 32 ∷ rest)
+    → ((n : ℕ) (more : List ℕ) → n < 65536 → rest ≡ codes "was " ++ (decimal n ++ 32 ∷ more) → ⊥)
+    → (d : Difference) → AreWords d → text ≡ standing_text (Changed d) → ⊥
+no_before text a rest small f none d words e = none d.before _ words.1 (behind_address text a rest small f d words e)
+
+behind_before : (text : List ℕ) (a : ℕ) (rest : List ℕ) (b : ℕ) (more : List ℕ) → a < 65536 → b < 65536
+    → text ≡ codes "changed: word " ++ (decimal a ++ 32 ∷ rest) → rest ≡ codes "was " ++ (decimal b ++ 32 ∷ more)
+    → (d : Difference) → AreWords d → text ≡ standing_text (Changed d) → more ≡ codes "and is " ++ decimal d.now
+behind_before text a rest b more small fits f g d words e =
+    word_again rest (codes "was ") b d.before more _ fits words.1 g (behind_address text a rest small f d words e)
+
+pub no_is : (text : List ℕ) (a : ℕ) (rest : List ℕ) (b : ℕ) (more : List ℕ) → a < 65536 → b < 65536
+    → text ≡ codes "changed: word " ++ (decimal a ++ 32 ∷ rest) → rest ≡ codes "was " ++ (decimal b ++ 32 ∷ more)
+    → ((end : List ℕ) → more ≡ codes "and is " ++ end → ⊥) → (d : Difference) → AreWords d → text ≡ standing_text (Changed d) → ⊥
+no_is text a rest b more small fits f g none d words e = none (decimal d.now) (behind_before text a rest b more small fits f g d words e)
+
+pub no_now : (text : List ℕ) (a : ℕ) (rest : List ℕ) (b : ℕ) (more digits : List ℕ) → a < 65536 → b < 65536
+    → text ≡ codes "changed: word " ++ (decimal a ++ 32 ∷ rest) → rest ≡ codes "was " ++ (decimal b ++ 32 ∷ more)
+    → more ≡ codes "and is " ++ digits → ((n : ℕ) → n < 65536 → digits ≡ decimal n → ⊥)
+    → (d : Difference) → AreWords d → text ≡ standing_text (Changed d) → ⊥
+no_now text a rest b more digits small fits f g h none d words e =
+    none d.now words.2 (rest_again more (codes "and is ") digits (decimal d.now) h (behind_before text a rest b more small fits f g d words e))
+
+pub difference_there : (text : List ℕ) (a : ℕ) (rest : List ℕ) (b : ℕ) (more digits : List ℕ) (n : ℕ)
+    → text ≡ codes "changed: word " ++ (decimal a ++ 32 ∷ rest) → rest ≡ codes "was " ++ (decimal b ++ 32 ∷ more)
+    → more ≡ codes "and is " ++ digits → digits ≡ decimal n → text ≡ standing_text (Changed (record { address = a; before = b; now = n }))
+difference_there text a rest b more digits n f g h e =
+    f ∙ ap (λ r. codes "changed: word " ++ (decimal a ++ 32 ∷ r)) (g ∙ ap (λ m. codes "was " ++ (decimal b ++ 32 ∷ m)) (h ∙ ap (λ l. codes "and is " ++ l) e))
+    ∙ sym (changed_text (record { address = a; before = b; now = n }))
+
+-- ---- standings
+
+pub no_standing : (text : List ℕ) → (text ≡ codes "as before" → ⊥) → (text ≡ codes "as before but for PIN tries" → ⊥) → (text ≡ codes "as after" → ⊥)
+    → (text ≡ codes "as after but for PIN tries" → ⊥) → (text ≡ codes "with other answers" → ⊥)
+    → ((d : Difference) → AreWords d → text ≡ standing_text (Changed d) → ⊥) → (s : Standing) → IsOfWords s → text ≡ standing_text s → ⊥
+no_standing text a b c d e f Before words h = a h
+no_standing text a b c d e f BeforeButTries words h = b h
+no_standing text a b c d e f After words h = c h
+no_standing text a b c d e f AfterButTries words h = d h
+no_standing text a b c d e f Answers words h = e h
+no_standing text a b c d e f (Changed difference) words h = f difference words h
+
+-- two texts lack a byte together
+pub lacks_both : (s : ℕ) (a b : List ℕ) → has s a ≡ false → has s b ≡ false → has s (a ++ b) ≡ false
+lacks_both s a b p q = list_any-append (λ x. x == s) a b ∙ ap (λ r. r || has s b) p ∙ q
+
+-- a text lacks what its end lacks
+pub end_lacks : (s : ℕ) (a b : List ℕ) → has s (a ++ b) ≡ false → has s b ≡ false
+end_lacks s a b n = by (has s a) (has s b) (sym (list_any-append (λ x. x == s) a b) ∙ n)
+  where
+    by : (p q : Bool) → (p || q) ≡ false → q ≡ false
+    by true q n = absurd (false≢true (sym n))
+    by false q n = n
+
+changed_lacks : (s : ℕ) → s < 48 → has s (codes "changed: word ") ≡ false → has s (codes " was ") ≡ false → has s (codes " and is ") ≡ false
+    → (d : Difference) → AreWords d → has s (standing_text (Changed d)) ≡ false
+changed_lacks s low p q r d words =
+    lacks_both s ((codes "changed: word " ++ decimal d.address) ++ (codes " was " ++ decimal d.before)) (codes " and is " ++ decimal d.now)
+    (lacks_both s (codes "changed: word " ++ decimal d.address) (codes " was " ++ decimal d.before)
+    (lacks_both s (codes "changed: word ") (decimal d.address) p (decimal_lacks s d.address (inl low) (omega (arith, words.0))))
+    (lacks_both s (codes " was ") (decimal d.before) q (decimal_lacks s d.before (inl low) (omega (arith, words.1)))))
+    (lacks_both s (codes " and is ") (decimal d.now) r (decimal_lacks s d.now (inl low) (omega (arith, words.2))))
+
+pub standing_has_no_comma : (s : Standing) → IsOfWords s → has 44 (standing_text s) ≡ false
+standing_has_no_comma Before words = refl
+standing_has_no_comma BeforeButTries words = refl
+standing_has_no_comma After words = refl
+standing_has_no_comma AfterButTries words = refl
+standing_has_no_comma Answers words = refl
+standing_has_no_comma (Changed d) words = changed_lacks 44 (omega arith) refl refl refl d words
+
+pub standing_in_one_line : (s : Standing) → IsOfWords s → has 10 (standing_text s) ≡ false
+standing_in_one_line Before words = refl
+standing_in_one_line BeforeButTries words = refl
+standing_in_one_line After words = refl
+standing_in_one_line AfterButTries words = refl
+standing_in_one_line Answers words = refl
+standing_in_one_line (Changed d) words = changed_lacks 10 (omega arith) refl refl refl d words
+
+-- ---- answers
+
+none_step : (x : ℕ) (xs : List ℕ) (b : Bool) → (x == 10) ≡ b → has 10 (in_line xs) ≡ false → has 10 (in_line (x ∷ xs)) ≡ false
+none_step x xs true e rest = ap (λ b. ((if b then 32 else x) == 10) || has 10 (in_line xs)) e ∙ rest
+none_step x xs false e rest = ap (λ b. ((if b then 32 else x) == 10) || has 10 (in_line xs)) e ∙ ap (λ b. b || has 10 (in_line xs)) e ∙ rest
+
+pub in_line_has_none : (text : List ℕ) → has 10 (in_line text) ≡ false
+in_line_has_none [] = refl
+in_line_has_none (x ∷ xs) = none_step x xs (x == 10) refl (in_line_has_none xs)
+
+same_step : (x : ℕ) (xs : List ℕ) (b : Bool) → (x == 10) ≡ b → has 10 (x ∷ xs) ≡ false → (has 10 xs ≡ false → in_line xs ≡ xs)
+    → in_line (x ∷ xs) ≡ x ∷ xs
+same_step x xs true e n rest = absurd (false≢true (sym n ∙ ap (λ b. b || has 10 xs) e))
+same_step x xs false e n rest =
+    ap (λ b. (if b then 32 else x) ∷ in_line xs) e ∙ ap (λ l. x ∷ l) (rest (sym (ap (λ b. b || has 10 xs) e) ∙ n))
+
+pub in_line_same : (text : List ℕ) → has 10 text ≡ false → in_line text ≡ text
+in_line_same [] n = refl
+in_line_same (x ∷ xs) n = same_step x xs (x == 10) refl n (in_line_same xs)
+
+-- ---- cuts
+
+pub told_parts : (c : Cut) → told_cut c ≡ standing_text c.standing ++ 44 ∷ (codes " answers " ++ in_line c.answers.items)
+unfolding told_cut
+told_parts c = append_assoc (standing_text c.standing) (codes ", answers ") (in_line c.answers.items)
+
+pub told_in_one_line : (c : Cut) → IsOfWords c.standing → has 10 (told_cut c) ≡ false
+told_in_one_line c words = ap (has 10) (told_parts c)
+    ∙ lacks_both 10 (standing_text c.standing) (44 ∷ (codes " answers " ++ in_line c.answers.items)) (standing_in_one_line c.standing words) (in_line_has_none c.answers.items)
+
+-- no cut is told in parts that are none
+pub no_parts : (told : List ℕ) → ((standing answers : List ℕ) → told ≡ standing ++ 44 ∷ (codes " answers " ++ answers) → has 44 standing ≡ false → ⊥)
+    → (c : Cut) → IsOfWords c.standing → told ≡ told_cut c → ⊥
+no_parts told none c words e = none (standing_text c.standing) (in_line c.answers.items) (e ∙ told_parts c) (standing_has_no_comma c.standing words)
+
+pub no_cut : (told standing answers : List ℕ) → told ≡ standing ++ 44 ∷ (codes " answers " ++ answers) → has 44 standing ≡ false
+    → ((s : Standing) → IsOfWords s → standing ≡ standing_text s → ⊥) → (c : Cut) → IsOfWords c.standing → told ≡ told_cut c → ⊥
+no_cut told standing answers e lacking none c words h =
+    none c.standing words ((cut_again 44 told standing (standing_text c.standing) _ _ e lacking (h ∙ told_parts c) (standing_has_no_comma c.standing words)).0)
+
+pub cut_there : (told standing : List ℕ) (c : Cut) → told ≡ standing ++ 44 ∷ (codes " answers " ++ c.answers.items) → standing ≡ standing_text c.standing
+    → has 10 told ≡ false → told ≡ told_cut c
+cut_there told standing c e f n =
+    let more : has 10 (44 ∷ (codes " answers " ++ c.answers.items)) ≡ false =
+    end_lacks 10 standing (44 ∷ (codes " answers " ++ c.answers.items)) (ap (has 10) (sym e) ∙ n) in
+    e ∙ ap (λ l. l ++ 44 ∷ (codes " answers " ++ c.answers.items)) f
+    ∙ ap (λ l. standing_text c.standing ++ 44 ∷ (codes " answers " ++ l)) (sym (in_line_same c.answers.items more)) ∙ sym (told_parts c)
+
+-- ---- parts
+
+pub no_comma : (told : List ℕ) → has 44 told ≡ false → (standing answers : List ℕ) → told ≡ standing ++ 44 ∷ (codes " answers " ++ answers)
+    → has 44 standing ≡ false → ⊥
+no_comma told n standing answers e lacking = not_lacking 44 told standing _ n e
+
+pub no_answers : (told front rest : List ℕ) → told ≡ front ++ 44 ∷ rest → has 44 front ≡ false → ((more : List ℕ) → rest ≡ codes " answers " ++ more → ⊥)
+    → (standing answers : List ℕ) → told ≡ standing ++ 44 ∷ (codes " answers " ++ answers) → has 44 standing ≡ false → ⊥
+no_answers told front rest e lacking none standing answers h lacks =
+    none answers ((cut_again 44 told front standing rest _ e lacking h lacks).1)
+
+pub parts_there : (told front rest answers : List ℕ) → told ≡ front ++ 44 ∷ rest → rest ≡ codes " answers " ++ answers
+    → told ≡ front ++ 44 ∷ (codes " answers " ++ answers)
+parts_there told front rest answers e f = e ∙ ap (λ l. front ++ 44 ∷ l) f

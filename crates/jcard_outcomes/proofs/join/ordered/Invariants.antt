@@ -1,0 +1,8 @@
+use Rattle.std.proofs.Common.{List, ℕ, map}
+use Rattle.std.specs.Borrow.{Bor}
+use Rattle.jcard_outcomes.proofs.Dealt.{Reading}
+use Rattle.jcard_outcomes.proofs.join.ordered.Given as goal
+
+abbrev pub invariant-loop-number : goal.invariant-loop-number
+invariant-loop-number l = Reading (map (λ t. t.items) l.texts) (map (λ (t : Bor (List ℕ)). t.now) l.lines.items)
+    (map (λ (t : Bor (List ℕ)). t.now) l.rests.items) l.number

@@ -1,0 +1,310 @@
+//! Joining the texts of all parts of a sweep to its report.
+ghost use Rattle.std.specs.Prelude.{◌≡◌, ◌++◌, ◌∷◌, ◌<◌, ◌≤◌, ◌↔◌, [], ℕ, List, All, map, drop, replicate, false, length, slice_index_or, is_none, IsTrue, IfOk, IfErr, OnOk, MatchOption, MatchResult};
+ghost use Rattle.std.specs.Bool.{MatchBool};
+ghost use Rattle.std.specs.Borrow.{Bor};
+ghost use Rattle.jcard_outcomes.specs.Joins.{AreJoined, AreOrdered, ArePartsOf, AreTold, IsHeadFault, IsJoinOf, IsJoinOfCuts, IsNextLine, IsTellable, IsUncutTold, TellCuts, joined_text};
+ghost use Rattle.jcard_outcomes.specs.Parts.{has, line_start, told_cut};
+ghost use Rattle.jcard_outcomes.specs.Reports.{first_broken, report_text};
+ghost use Rattle.jcard_outcomes.specs.declared.join.JoinFault.TheVariants.{NoMemory};
+ghost use Rattle.jcard_outcomes.specs.declared.report.Sweep.{Sweep as ASweep};
+ghost use Rattle.jcard_outcomes.specs.declared.standing.Cut.{Cut as ACut};
+
+use crate::line::{after, cut_of, cut_once};
+use crate::part::push_line_start;
+use crate::rows::{is_same, push_rows};
+use crate::standing::Cut;
+use crate::verdict::{is_each_whole, push_verdict};
+use std::alloc::{AllocError, Global};
+
+/// The report of a sweep, and whether each of its cuts was all or nothing.
+#[derive(Drop)]
+pub struct Joined {
+    pub text: Vec<u8>,
+    pub is_all_or_nothing: bool,
+}
+
+/// Why texts are not the parts of a sweep.
+#[derive(Clone, Copy, Debug, PartialEq, Eq, Drop)]
+pub enum JoinFault {
+    NoMemory,
+    /// The line about so many writes is missing.
+    Missing(usize),
+    /// It stands twice.
+    Twice(usize),
+    /// It tells of no cut.
+    BadLine(usize),
+    /// It is one of another sweep.
+    OtherSweep(usize),
+}
+
+/// Joins the texts of all parts of a sweep, from the first part on, to what one run tells of it.
+pub fn join(alloc: Global, texts: &[Vec<u8>]) -> Result<Joined, JoinFault>
+    requires { 0 < length texts.now }
+    ensures joined { IfOk result (λ joined. AreJoined (map (λ t. t.items) texts.now) joined) }
+    ensures parts { (sweep : ASweep) → IsTellable sweep
+        → ArePartsOf sweep (map (λ t. t.items) texts.now) → MatchResult result (λ joined. (joined.text.items ≡ report_text sweep)
+        × (joined.is_all_or_nothing ≡ is_none (first_broken 0 sweep.cuts.items)))
+        (λ fault. fault ≡ JoinFault.NoMemory) }
+{
+    match ordered(alloc, texts) {
+        Ok(lines) => joined_lines(alloc, &lines, texts.len()),
+        Err(fault) => Err(fault),
+    }
+}
+
+// Joins the lines of so many parts.
+fn joined_lines(alloc: Global, lines: &[&[u8]], parts: usize) -> Result<Joined, JoinFault>
+    requires some { 0 < parts }
+    requires plain { All (λ t. has 10 t ≡ false) (map (λ (t : Bor (List ℕ)). t.now) lines.now) }
+    ensures { IsJoinOf parts (map (λ (t : Bor (List ℕ)). t.now) lines.now) result }
+{
+    match cuts_of(alloc, lines) {
+        Ok(cuts) => joined_cuts(alloc, lines, &cuts, parts),
+        Err(fault) => Err(fault),
+    }
+}
+
+// Joins the lines of so many parts, which tell of these cuts.
+fn joined_cuts(
+    alloc: Global,
+    lines: &[&[u8]],
+    cuts: &[Cut],
+    parts: usize,
+) -> Result<Joined, JoinFault>
+    requires some { 0 < parts }
+    requires told { TellCuts (map (λ (t : Bor (List ℕ)). t.now) lines.now) cuts.now }
+    requires within { length cuts.now ≤ length lines.now }
+    ensures { IsJoinOfCuts parts (map (λ (t : Bor (List ℕ)). t.now) lines.now) cuts.now result }
+{
+    match uncut_of(lines, cuts.len(), parts) {
+        Ok(uncut) => joined_report(alloc, cuts, uncut),
+        Err(fault) => Err(fault),
+    }
+}
+
+fn joined_report(alloc: Global, cuts: &[Cut], uncut: &[u8]) -> Result<Joined, JoinFault>
+    ensures { MatchResult result (λ joined. (joined.text.items ≡ joined_text cuts.now uncut.now)
+        × (joined.is_all_or_nothing ≡ is_none (first_broken 0 cuts.now)))
+        (λ fault. fault ≡ JoinFault.NoMemory) }
+{
+    let text = joined_text(alloc, cuts, uncut)?;
+    Ok(Joined {
+        text,
+        is_all_or_nothing: is_each_whole(cuts),
+    })
+}
+
+// What the lines of all parts tell, in the order of their numbers.
+fn ordered<'a>(alloc: Global, texts: &'a [Vec<u8>]) -> Result<Vec<&'a [u8]>, JoinFault>
+    requires { 0 < length texts.now }
+    ensures read { IfOk result (λ lines. AreOrdered (map (λ t. t.items) texts.now)
+        (map (λ (t : Bor (List ℕ)). t.now) lines.items)) }
+    ensures whole { (lines : List (List ℕ)) → AreOrdered (map (λ t. t.items) texts.now) lines
+        → MatchResult result (λ r. map (λ (t : Bor (List ℕ)). t.now) r.items ≡ lines)
+        (λ fault. fault ≡ JoinFault.NoMemory) }
+{
+    let mut rests = lent(alloc, texts)?;
+    let mut lines = Vec::new(alloc);
+    for number in 0..usize::MAX {
+        match next_line(alloc, &mut rests, number) {
+            Ok(Some(told)) => push_told(&mut lines, told)?,
+            Ok(None) => return ended(lines, &rests, number),
+            Err(fault) => return Err(fault),
+        }
+    }
+    // There is no memory for so many lines.
+    Err(JoinFault::NoMemory)
+}
+
+// The lines before this one, if nothing is left behind them.
+fn ended<'a>(
+    lines: Vec<&'a [u8]>,
+    rests: &[&[u8]],
+    number: usize,
+) -> Result<Vec<&'a [u8]>, JoinFault>
+    ensures whole { IfOk result (λ r. (r ≡ lines.entry) × All (λ t. t.now ≡ []) rests.now) }
+    ensures missing { IfErr result (λ fault. (fault ≡ JoinFault.Missing number)
+        × (All (λ t. t.now ≡ []) rests.now → ⊥)) }
+{
+    if are_empty(rests) {
+        return Ok(lines);
+    }
+    Err(JoinFault::Missing(number))
+}
+
+// The texts, lent.
+fn lent<'a>(alloc: Global, texts: &'a [Vec<u8>]) -> Result<Vec<&'a [u8]>, JoinFault>
+    ensures lent { IfOk result (λ rests. map (λ (t : Bor (List ℕ)). t.now) rests.items
+        ≡ map (λ t. t.items) texts.now) }
+    ensures refused { IfErr result (λ fault. fault ≡ JoinFault.NoMemory) }
+{
+    let mut rests = Vec::new(alloc);
+    for text in texts {
+        push_told(&mut rests, text.as_slice())?;
+    }
+    Ok(rests)
+}
+
+fn push_told<'a>(lines: &mut Vec<&'a [u8]>, told: &'a [u8]) -> Result<(), JoinFault>
+    ensures pushed { OnOk result (map (λ (t : Bor (List ℕ)). t.now) lines.new.items
+        ≡ map (λ (t : Bor (List ℕ)). t.now) lines.old.items ++ told.entry.now ∷ []) }
+    ensures refused { IfErr result (λ fault. fault ≡ JoinFault.NoMemory) }
+{
+    match lines.push(told) {
+        Ok(()) => Ok(()),
+        Err(_) => Err(JoinFault::NoMemory),
+    }
+}
+
+// Reads the line about so many writes from the text that has it; none where that text is read whole.
+fn next_line<'a>(
+    alloc: Global,
+    rests: &mut Vec<&'a [u8]>,
+    number: usize,
+) -> Result<Option<&'a [u8]>, JoinFault>
+    requires { 0 < length rests.old.items }
+    ensures { IsNextLine number (map (λ (t : Bor (List ℕ)). t.now) rests.old.items)
+        (map (λ (t : Bor (List ℕ)). t.now) rests.new.items) result }
+{
+    let parts = rests.len();
+    let place = number % parts;
+    let rest = rest_at(rests, place);
+    if rest.is_empty() {
+        return Ok(None);
+    }
+    let Some((told, more)) = line_at(alloc, rest, number)? else {
+        return Err(head_fault(alloc, rest, number, parts));
+    };
+    rests[place] = more;
+    Ok(Some(told))
+}
+
+fn rest_at<'a>(rests: &[&'a [u8]], place: usize) -> &'a [u8]
+    requires { place < length rests.now }
+    ensures { result.now ≡ slice_index_or (map (λ (t : Bor (List ℕ)). t.now) rests.now) place [] }
+{
+    rests[place]
+}
+
+// What the line about so many writes tells, with which a text begins, and what follows it.
+fn line_at<'a>(
+    alloc: Global,
+    text: &'a [u8],
+    number: usize,
+) -> Result<Option<(&'a [u8], &'a [u8])>, AllocError>
+    ensures { IfOk result (λ found. MatchOption found
+        ((told rest : List ℕ) → text.now ≡ line_start number ++ (told ++ 10 ∷ rest) → ⊥)
+        (λ r. (text.now ≡ line_start number ++ (r.0.now ++ 10 ∷ r.1.now)) × (has 10 r.0.now ≡ false))) }
+{
+    let mut start = Vec::new(alloc);
+    push_line_start(&mut start, number)?;
+    let Some(rest) = after(text, &start) else {
+        return Ok(None);
+    };
+    Ok(cut_once(rest, b'\n'))
+}
+
+// Why a text does not begin with the line about so many writes: the one before it stands there again, or that line is missing.
+fn head_fault(alloc: Global, text: &[u8], number: usize, parts: usize) -> JoinFault
+    ensures { IsHeadFault parts number text.now result }
+{
+    if number < parts {
+        return JoinFault::Missing(number);
+    }
+    match line_at(alloc, text, number - parts) {
+        Ok(Some(_)) => JoinFault::Twice(number - parts),
+        Ok(None) => JoinFault::Missing(number),
+        Err(AllocError) => JoinFault::NoMemory,
+    }
+}
+
+fn are_empty(rests: &[&[u8]]) -> bool
+    ensures { IsTrue result ↔ All (λ t. t.now ≡ []) rests.now }
+{
+    rests.iter().all(|rest| rest.is_empty())
+}
+
+// The cuts that lines tell of, up to the first that tells of none.
+fn cuts_of(alloc: Global, lines: &[&[u8]]) -> Result<Vec<Cut>, JoinFault>
+    requires { All (λ t. has 10 t ≡ false) (map (λ (t : Bor (List ℕ)). t.now) lines.now) }
+    ensures told { IfOk result (λ cuts. TellCuts (map (λ (t : Bor (List ℕ)). t.now) lines.now)
+        cuts.items) }
+    ensures whole { (cuts : List ACut) (uncut : List ℕ) (parts : ℕ)
+        → AreTold cuts uncut parts (map (λ (t : Bor (List ℕ)). t.now) lines.now)
+        → MatchResult result (λ r. map told_cut r.items ≡ map told_cut cuts)
+        (λ fault. fault ≡ JoinFault.NoMemory) }
+{
+    let mut cuts = Vec::new(alloc);
+    for (number, told) in lines.iter().enumerate() {
+        if is_uncut(told) {
+            return Ok(cuts);
+        }
+        match cut_of(alloc, told)? {
+            Some(cut) => push_cut(&mut cuts, cut)?,
+            None => return Err(JoinFault::BadLine(number)),
+        }
+    }
+    Ok(cuts)
+}
+
+fn push_cut(cuts: &mut Vec<Cut>, cut: Cut) -> Result<(), JoinFault>
+    ensures pushed { OnOk result (cuts.new.items ≡ cuts.old.items ++ cut ∷ []) }
+    ensures refused { IfErr result (λ fault. fault ≡ JoinFault.NoMemory) }
+{
+    match cuts.push(cut) {
+        Ok(()) => Ok(()),
+        Err(_) => Err(JoinFault::NoMemory),
+    }
+}
+
+// Whether a line tells of a number that does not cut.
+fn is_uncut(told: &[u8]) -> bool
+    ensures { MatchBool result (IsUncutTold told.now) (IsUncutTold told.now → ⊥) }
+{
+    match after(told, b"no cut, answer ") {
+        Some(_rest) => true,
+        None => false,
+    }
+}
+
+// What the lines behind so many cuts tell: as many as there are parts, and all the same.
+fn uncut_of<'a>(lines: &[&'a [u8]], count: usize, parts: usize) -> Result<&'a [u8], JoinFault>
+    requires some { 0 < parts }
+    requires within { count ≤ length lines.now }
+    ensures { MatchResult result
+        (λ uncut. drop count (map (λ (t : Bor (List ℕ)). t.now) lines.now) ≡ replicate parts uncut.now)
+        (λ fault. (uncut : List ℕ) → drop count (map (λ (t : Bor (List ℕ)). t.now) lines.now)
+        ≡ replicate parts uncut → ⊥) }
+{
+    let ends = &lines[count..];
+    if ends.len() < parts {
+        return Err(JoinFault::Missing(lines.len()));
+    }
+    let uncut = ends[0];
+    for (place, told) in ends.iter().enumerate() {
+        if place >= parts || !is_same(told, uncut) {
+            return Err(JoinFault::OtherSweep(count + place));
+        }
+    }
+    Ok(uncut)
+}
+
+// The report of these cuts, with this line of the command that is not cut.
+fn joined_text(alloc: Global, cuts: &[Cut], uncut: &[u8]) -> Result<Vec<u8>, AllocError>
+    ensures { IfOk result (λ text. text.items ≡ joined_text cuts.now uncut.now) }
+{
+    let mut text = Vec::new(alloc);
+    push_rows(alloc, &mut text, cuts)?;
+    text.extend_from_slice(uncut)?;
+    text.extend_from_slice(b"\n")?;
+    push_verdict(&mut text, cuts)?;
+    Ok(text)
+}
+
+impl From<AllocError> for JoinFault {
+    ghost from_gives = { λ _ fault. fault ≡ NoMemory };
+
+    fn from(_: AllocError) -> Self {
+        JoinFault::NoMemory
+    }
+}

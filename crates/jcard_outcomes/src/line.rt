@@ -1,0 +1,183 @@
+//! Reading back what the line of a part tells of a cut.
+ghost use Rattle.std.specs.Prelude.{◌≡◌, ◌++◌, ◌∷◌, ◌<◌, ℕ, List, Some, false, codes, decimal, MatchOption, IfOk};
+ghost use Rattle.std.specs.Str.{bytes_eq};
+ghost use Rattle.jcard_outcomes.specs.Parts.{AreWords, IsOfWords, has, told_cut};
+ghost use Rattle.jcard_outcomes.specs.Reports.{standing_text};
+ghost use Rattle.jcard_outcomes.specs.declared.heaps.Difference.{Difference as ADifference};
+ghost use Rattle.jcard_outcomes.specs.declared.standing.Cut.{Cut as ACut};
+ghost use Rattle.jcard_outcomes.specs.declared.standing.Standing.{Standing as AStanding};
+
+use crate::heaps::Difference;
+use crate::recoveries::Recoveries;
+use crate::rows::is_same;
+use crate::standing::{Cut, Standing};
+use itoa::Buffer;
+use std::alloc::{AllocError, Global};
+
+/// The cut of which a line tells this; none where it tells of no cut.
+pub(crate) fn cut_of(alloc: Global, told: &[u8]) -> Result<Option<Cut>, AllocError>
+    requires { has 10 told.now ≡ false }
+    ensures { IfOk result (λ found. MatchOption found
+        ((c : ACut) → IsOfWords c.standing → told.now ≡ told_cut c → ⊥)
+        (λ c. (told.now ≡ told_cut c) × (has 44 (standing_text c.standing) ≡ false))) }
+{
+    let Some((standing, answers)) = parts_of(told) else {
+        return Ok(None);
+    };
+    let Some(standing) = standing_of(standing) else {
+        return Ok(None);
+    };
+    let answers = Vec::from_slice(alloc, answers)?;
+    Ok(Some(Cut {
+        standing,
+        answers,
+        recoveries: Recoveries {
+            ways: 0,
+            difference: None,
+        },
+    }))
+}
+
+// How it stands, and the answers.
+fn parts_of(told: &[u8]) -> Option<(&[u8], &[u8])>
+    ensures { MatchOption result
+        ((standing answers : List ℕ) → told.now ≡ standing ++ 44 ∷ (codes " answers " ++ answers)
+        → has 44 standing ≡ false → ⊥)
+        (λ r. (told.now ≡ r.0.now ++ 44 ∷ (codes " answers " ++ r.1.now))
+        × (has 44 r.0.now ≡ false)) }
+{
+    let Some((standing, rest)) = cut_once(told, b',') else {
+        return None;
+    };
+    match after(rest, b" answers ") {
+        Some(answers) => Some((standing, answers)),
+        None => None,
+    }
+}
+
+// The standing that is told so.
+fn standing_of(text: &[u8]) -> Option<Standing>
+    ensures { MatchOption result ((s : AStanding) → IsOfWords s → text.now ≡ standing_text s → ⊥)
+        (λ s. text.now ≡ standing_text s) }
+{
+    if is_same(text, b"as before") {
+        return Some(Standing::Before);
+    }
+    if is_same(text, b"as before but for PIN tries") {
+        return Some(Standing::BeforeButTries);
+    }
+    if is_same(text, b"as after") {
+        return Some(Standing::After);
+    }
+    if is_same(text, b"as after but for PIN tries") {
+        return Some(Standing::AfterButTries);
+    }
+    if is_same(text, b"with other answers") {
+        return Some(Standing::Answers);
+    }
+    match difference_of(text) {
+        Some(difference) => Some(Standing::Changed(difference)),
+        None => None,
+    }
+}
+
+// The difference that is told so.
+fn difference_of(text: &[u8]) -> Option<Difference>
+    ensures { MatchOption result
+        ((d : ADifference) → AreWords d → text.now ≡ standing_text (Standing.Changed d) → ⊥)
+        (λ d. text.now ≡ standing_text (Standing.Changed d)) }
+{
+    let Some((address, rest)) = labelled_word(text, b"changed: word ") else {
+        return None;
+    };
+    let Some((before, rest)) = labelled_word(rest, b"was ") else {
+        return None;
+    };
+    let Some(digits) = after(rest, b"and is ") else {
+        return None;
+    };
+    match word_of(digits) {
+        Some(now) => Some(Difference {
+            address,
+            before,
+            now,
+        }),
+        None => None,
+    }
+}
+
+// The word behind a label, up to a space, and what follows.
+fn labelled_word<'a>(text: &'a [u8], label: &[u8]) -> Option<(u16, &'a [u8])>
+    ensures { MatchOption result
+        ((n : ℕ) (rest : List ℕ) → n < 65536 → text.now ≡ label.now ++ (decimal n ++ 32 ∷ rest) → ⊥)
+        (λ r. (r.0 < 65536) × (text.now ≡ label.now ++ (decimal r.0 ++ 32 ∷ r.1.now))) }
+{
+    let Some(rest) = after(text, label) else {
+        return None;
+    };
+    let Some((digits, rest)) = cut_once(rest, b' ') else {
+        return None;
+    };
+    match word_of(digits) {
+        Some(word) => Some((word, rest)),
+        None => None,
+    }
+}
+
+/// The word that these decimal digits write.
+pub(crate) fn word_of(digits: &[u8]) -> Option<u16>
+    ensures { MatchOption result ((n : ℕ) → n < 65536 → digits.now ≡ decimal n → ⊥)
+        (λ n. digits.now ≡ decimal n) }
+{
+    let Some(word) = parsed(digits) else {
+        return None;
+    };
+    if is_written(word, digits) {
+        return Some(word);
+    }
+    None
+}
+
+fn parsed(digits: &[u8]) -> Option<u16>
+    ensures { (n : ℕ) → n < 65536 → digits.now ≡ decimal n → result ≡ Some n }
+{
+    match str::from_utf8(digits) {
+        Ok(text) => text.parse::<u16>().ok(),
+        Err(_) => None,
+    }
+}
+
+fn is_written(word: u16, digits: &[u8]) -> bool
+    ensures { result ≡ bytes_eq (decimal word) digits.now }
+{
+    let mut printed = Buffer::new();
+    is_same(printed.format(word).as_bytes(), digits)
+}
+
+/// What follows this beginning.
+pub(crate) fn after<'a>(text: &'a [u8], beginning: &[u8]) -> Option<&'a [u8]>
+    ensures { MatchOption result ((rest : List ℕ) → text.now ≡ beginning.now ++ rest → ⊥)
+        (λ rest. text.now ≡ beginning.now ++ rest.now) }
+{
+    if text.len() < beginning.len() {
+        return None;
+    }
+    let (front, rest) = text.split_at(beginning.len());
+    if is_same(front, beginning) {
+        return Some(rest);
+    }
+    None
+}
+
+/// What stands before the first such byte, and what follows it.
+pub(crate) fn cut_once(text: &[u8], separator: u8) -> Option<(&[u8], &[u8])>
+    ensures { MatchOption result (has separator text.now ≡ false)
+        (λ r. (text.now ≡ r.0.now ++ separator ∷ r.1.now) × (has separator r.0.now ≡ false)) }
+{
+    for (place, byte) in text.iter().enumerate() {
+        if *byte == separator {
+            return Some((&text[..place], &text[place + 1..]));
+        }
+    }
+    None
+}

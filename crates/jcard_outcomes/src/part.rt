@@ -1,0 +1,134 @@
+//! The text of a part of a sweep, with a line for each of its cuts.
+ghost use Rattle.std.specs.Prelude.{◌≡◌, ◌++◌, ◌+◌, ◌*◌, ◌<◌, ◌^◌, codes, length, IfOk, MatchOption, OnOk};
+ghost use Rattle.jcard_outcomes.specs.Parts.{IsShareText, line_start, line_text, lines_text, part_text, told_cut, told_uncut};
+ghost use Rattle.jcard_outcomes.specs.declared.part.Share.{Share as AShare};
+
+use crate::line::{cut_once, word_of};
+use crate::report::Sweep;
+use crate::rows::{push_in_line, push_number, push_standing};
+use crate::standing::Cut;
+use std::alloc::{AllocError, Global};
+
+/// A part of a sweep: a command that was cut after `first` writes and each `step`-th number behind it, up to the first of these
+/// that does not cut it.
+#[derive(Drop)]
+pub struct Part {
+    pub first: usize,
+    pub step: usize,
+    pub sweep: Sweep,
+}
+
+/// Part I of N of a sweep: how many writes its first cut lets pass, which is I - 1, and N.
+#[derive(Clone, Copy, Debug, PartialEq, Eq, Drop)]
+pub struct Share {
+    pub first: u16,
+    pub step: u16,
+}
+
+/// The part that the text `I/N` tells, with I from 1 to N.
+pub fn share_of(text: &[u8]) -> Option<Share>
+    ensures { MatchOption result ((share : AShare) → IsShareText text.now share → ⊥)
+        (λ share. IsShareText text.now share) }
+{
+    let Some((digits, rest)) = cut_once(text, b'/') else {
+        return None;
+    };
+    let Some(rank) = word_of(digits) else {
+        return None;
+    };
+    let Some(step) = word_of(rest) else {
+        return None;
+    };
+    if rank == 0 {
+        return None;
+    }
+    if rank > step {
+        return None;
+    }
+    Some(Share {
+        first: rank - 1,
+        step,
+    })
+}
+
+/// The lines that tell what the cuts of a part left, and where they end.
+pub fn part_lines(alloc: Global, part: &Part) -> Result<Vec<u8>, AllocError>
+    requires { part.now.first + part.now.step * length part.now.sweep.cuts.items < 2 ^ 64 }
+    ensures { IfOk result (λ text. text.items ≡ part_text part.now) }
+{
+    let sweep = &part.sweep;
+    let mut text = Vec::new(alloc);
+    let uncut = uncut_told(alloc, &sweep.answer, &sweep.after.answers)?;
+    push_lines(alloc, &mut text, part.first, part.step, &sweep.cuts, &uncut)?;
+    Ok(text)
+}
+
+// Writes the lines of these cuts, and of the number that does not cut.
+fn push_lines(
+    alloc: Global,
+    text: &mut Vec<u8>,
+    first: usize,
+    step: usize,
+    cuts: &[Cut],
+    uncut: &[u8],
+) -> Result<(), AllocError>
+    requires { first + step * length cuts.now < 2 ^ 64 }
+    ensures { OnOk result (text.new.items ≡ text.old.items
+        ++ lines_text first step cuts.now uncut.now) }
+{
+    let mut number = first;
+    for cut in cuts {
+        let told = cut_told(alloc, cut)?;
+        push_line(text, number, &told)?;
+        number += step;
+    }
+    push_line(text, number, uncut)
+}
+
+// Writes the line about this number.
+fn push_line(text: &mut Vec<u8>, number: usize, told: &[u8]) -> Result<(), AllocError>
+    ensures { OnOk result (text.new.items ≡ text.old.items ++ line_text number told.now) }
+{
+    push_line_start(text, number)?;
+    push_ending(text, told)
+}
+
+fn push_ending(text: &mut Vec<u8>, told: &[u8]) -> Result<(), AllocError>
+    ensures { OnOk result (text.new.items ≡ text.old.items ++ (told.now ++ codes "\n")) }
+{
+    text.extend_from_slice(told)?;
+    text.extend_from_slice(b"\n")
+}
+
+/// Writes how the line begins about this number.
+#[tactic(auto, unfolding(crate::specs::Parts::line_start))]
+pub(crate) fn push_line_start(text: &mut Vec<u8>, number: usize) -> Result<(), AllocError>
+    ensures { OnOk result (text.new.items ≡ text.old.items ++ line_start number) }
+{
+    text.extend_from_slice(b"cut after ")?;
+    push_number(text, number)?;
+    text.extend_from_slice(b": ")
+}
+
+#[tactic(auto, unfolding(crate::specs::Parts::told_cut))]
+fn cut_told(alloc: Global, cut: &Cut) -> Result<Vec<u8>, AllocError>
+    ensures { IfOk result (λ text. text.items ≡ told_cut cut.now) }
+{
+    let mut text = Vec::new(alloc);
+    push_standing(&mut text, cut.standing)?;
+    text.extend_from_slice(b", answers ")?;
+    push_in_line(&mut text, &cut.answers)?;
+    Ok(text)
+}
+
+#[tactic(auto, unfolding(crate::specs::Parts::told_uncut))]
+fn uncut_told(alloc: Global, answer: &[u8], answers: &[u8]) -> Result<Vec<u8>, AllocError>
+    ensures { IfOk result (λ text. text.items ≡ told_uncut answer.now answers.now) }
+{
+    let mut text = Vec::from_slice(alloc, b"no cut, answer ")?;
+    text.extend_from_slice(answer)?;
+    text.extend_from_slice(b": ")?;
+    push_in_line(&mut text, answers)?;
+    text.extend_from_slice(b"as after")?;
+    Ok(text)
+}

@@ -1,0 +1,12 @@
+//! A new card, with the rows that it is told.
+ghost use Rattle.std.specs.Prelude.{◌≤◌};
+
+use crate::row::Row;
+
+/// A new card of so many words, and the rows that it is told.
+#[derive(Drop)]
+pub struct CardRows {
+    pub words: u16,
+    pub rows: Vec<Row>,
+    ghost enough: { 4096 ≤ words },
+}

@@ -1,0 +1,226 @@
+-- What recoveries leave that are cut one after the other: what one leaves that is cut after as many writes as one of them.
+use Rattle.std.specs.Prelude.{if◌then◌else◌, Bool}
+use Rattle.std.proofs.Common.{◌≡◌, ◌≢◌, ◌∙◌, ◌<◌, ◌≤◌, ℕ, zero, suc, ◌+◌, max, true, List, [], ◌∷◌, ◌++◌, length, take, set, get_or, refl, sym, ap}
+use Rattle.std.proofs.Common.{arith, subst, get_or-set_other, get_or-set_same, eq-eqb, false, ⊎_elim}
+use Rattle.std.proofs.Math.Nat.{suc-max-suc}
+use Rattle.std.proofs.lemmas.List.{length-set, set-get_or}
+use Rattle.std.proofs.lemmas.Bool.{cases_lt, false≢true}
+use Rattle.std.specs.Prelude.{All, IsTrue, MatchBool, MatchOption, Option, Some, None, ◌↔◌}
+use Rattle.jc_words.specs.Layout.{count_address}
+use Rattle.jc_commit.specs.Image.{IsGoodLog, IsPlace, address_at, capacity, count_of, old_at, with_words}
+use Rattle.jc_commit.specs.Replay.{after_replays, replay_writes, torn_replay, write_backs}
+use Rattle.jc_commit.proofs.Parts.{SameLog, address_same, old_same, same_log-set, so_many_writes, stopped_before}
+use Rattle.jc_commit.proofs.TornWrites.{stops}
+use Rattle.jc_commit.proofs.Words.{readable}
+use Rattle.jcard_outcomes.specs.declared.standing.Left.{Left}
+use Rattle.jcard_tear.specs.Recoveries.{AreCutAfter, AreTheSame, ComesToAnother, ComesToTheSame, IsFirstDifference, IsSameLeft, MakeNoDifference, NamesEachOnce}
+use Rattle.jcard_tear.specs.Runs.{IsLeft}
+
+-- ---- writes that are made again
+
+none : (n : ℕ) (w : List ℕ) → with_words w (take n []) ≡ w
+none zero w = refl
+none (suc n) w = refl
+
+length-with : (log w : List ℕ) (k n : ℕ) → length (with_words w (take n (write_backs log k))) ≡ length w
+length-with log w zero n = ap (λ (u : List ℕ). length u) (none n w)
+length-with log w (suc k) zero = refl
+length-with log w (suc k) (suc n) =
+    length-with log (set w (address_at log k) (old_at log k)) k n ∙ length-set w (address_at log k) (old_at log k)
+
+-- a word stays that none of the first k entries names
+kept : (log w : List ℕ) (k n a : ℕ) → ((j : ℕ) → j < k → address_at log j ≢ a)
+    → get_or (with_words w (take n (write_backs log k))) a 0 ≡ get_or w a 0
+kept log w zero n a other = ap (λ (u : List ℕ). get_or u a 0) (none n w)
+kept log w (suc k) zero a other = refl
+kept log w (suc k) (suc n) a other =
+    kept log (set w (address_at log k) (old_at log k)) k n a (λ j h. other j (omega arith))
+    ∙ get_or-set_other w (address_at log k) a (old_at log k) 0 (λ e. other k (omega arith) (sym e))
+
+-- old values are written back, some of them again
+again : (log w : List ℕ) (k n m : ℕ) → ((j : ℕ) → j < k → address_at log j < length w)
+    → ((i j : ℕ) → i < j → j < k → address_at log i ≢ address_at log j)
+    → with_words (with_words w (take n (write_backs log k))) (take m (write_backs log k)) ≡ with_words w (take (max n m) (write_backs log k))
+again log w zero n m within once =
+    none m (with_words w (take n [])) ∙ none n w ∙ sym (none (max n m) w)
+again log w (suc k) zero m within once =
+    let whole : m ≡ max 0 m = omega arith in
+    ap (λ (i : ℕ). with_words w (take i (write_backs log (suc k)))) whole
+again log w (suc k) (suc n) zero within once =
+    let whole : suc n ≡ max (suc n) 0 = omega arith in
+    ap (λ (i : ℕ). with_words w (take i (write_backs log (suc k)))) whole
+again log w (suc k) (suc n) (suc m) within once =
+    let a : ℕ = address_at log k in
+    let v : ℕ = old_at log k in
+    let first : List ℕ = set w a v in
+    let some : List ℕ = with_words first (take n (write_backs log k)) in
+    let there : get_or some a 0 ≡ v = kept log first k n a (λ j h. once j k h (omega arith)) ∙ get_or-set_same w a v 0 (within k (omega arith)) in
+    let same : set some a v ≡ some = ap (λ (x : ℕ). set some a x) (sym there) ∙ set-get_or some a 0 in
+    let long : length first ≡ length w = length-set w a v in
+    ap (λ (u : List ℕ). with_words u (take m (write_backs log k))) same
+    ∙ again log first k n m (λ j h. subst (λ (l : ℕ). address_at log j < l) (sym long) (within j (omega arith))) (λ i j h below. once i j h (omega arith))
+    ∙ ap (λ (i : ℕ). with_words w (take i (write_backs log (suc k)))) (sym (suc-max-suc n m))
+
+-- ---- the entries stay
+
+same_log : (w u : List ℕ) (k n : ℕ) → length u ≡ length w → ((j : ℕ) → j < k → IsPlace (length w) (address_at w j)) → SameLog w u
+    → SameLog w (with_words u (take n (write_backs w k)))
+same_log w u zero n long places same = subst (λ (v : List ℕ). SameLog w v) (sym (none n u)) same
+same_log w u (suc k) zero long places same = same
+same_log w u (suc k) (suc n) long places same =
+    let a : ℕ = address_at w k in
+    let place : IsPlace (length u) a = subst (λ (l : ℕ). IsPlace l a) (sym long) (places k (omega arith)) in
+    same_log w (set u a (old_at w k)) k n (length-set u a (old_at w k) ∙ long) (λ j h. places j (omega arith))
+    (same_log-set w u (set u a (old_at w k)) a (old_at w k) (readable (length u) a place) refl same)
+
+same_entries : (w v : List ℕ) (k : ℕ) → k ≤ capacity → SameLog w v → write_backs v k ≡ write_backs w k
+same_entries w v zero few same = refl
+same_entries w v (suc k) few same =
+    let address : address_at v k ≡ address_at w k = address_same w v k (omega arith) same in
+    let old : old_at v k ≡ old_at w k = old_same w v k (omega arith) same in
+    let rest : write_backs v k ≡ write_backs w k = same_entries w v k (omega arith) same in
+    cc
+
+-- ---- a recovery that is cut
+
+-- a recovery that writes has entries
+some_entry : (w : List ℕ) (n : ℕ) → n < length (replay_writes w) → count_of w ≡ 0 → ⊥
+some_entry w n h empty =
+    let nothing : replay_writes w ≡ [] =
+    ap (λ (b : Bool). if b then [] else write_backs w (count_of w) ++ (count_address, 0) ∷ []) (eq-eqb (count_of w) 0 empty) in
+    let long : length (replay_writes w) ≡ 0 = ap (λ (ws : List (ℕ × ℕ)). length ws) nothing in
+    absurd (omega (arith, long, h))
+
+-- what is known of words in which a recovery is cut
+record IsCut (w : List ℕ) (n : ℕ) (v : List ℕ) : Type 0 where
+  words : v ≡ with_words w (take n (write_backs w (count_of w)))
+  within : n ≤ count_of w
+  log : SameLog w v
+  count : count_of v ≡ count_of w
+  writes : length (replay_writes v) ≡ length (replay_writes w)
+  good : IsGoodLog v
+  once : NamesEachOnce v
+
+is_cut : (w : List ℕ) (n : ℕ) → IsGoodLog w → NamesEachOnce w → n < length (replay_writes w) → IsCut w n (torn_replay n w)
+is_cut w n good once h =
+    let some = some_entry w n h in
+    let many : length (replay_writes w) ≡ count_of w + 1 = so_many_writes w some in
+    let within : n ≤ count_of w = omega (arith, many, h) in
+    let partly : List ℕ = with_words w (take n (write_backs w (count_of w))) in
+    let words : torn_replay n w ≡ partly = sym (stopped_before w partly n some within refl) in
+    let log : SameLog w (torn_replay n w) = subst (λ (v : List ℕ). SameLog w v) (sym words) (same_log w w (count_of w) n refl good.places (λ j own. refl)) in
+    let count : count_of (torn_replay n w) ≡ count_of w = log count_address refl in
+    let few = good.few in
+    let some_left : count_of (torn_replay n w) ≡ 0 → ⊥ = λ e. some (sym count ∙ e) in
+    let many_left : length (replay_writes (torn_replay n w)) ≡ count_of (torn_replay n w) + 1 = so_many_writes (torn_replay n w) some_left in
+    record {
+      words = words;
+      within = within;
+      log = log;
+      count = count;
+      writes = omega (arith, many, many_left, count);
+      good = (stops n w good).good;
+      once = λ j k below counts e.
+          once j k below (omega (arith, count, counts))
+          (sym (address_same w (torn_replay n w) j (omega (arith, few, count, counts, below)) log) ∙ e
+          ∙ address_same w (torn_replay n w) k (omega (arith, few, count, counts)) log);
+    }
+
+-- a second one comes to what one leaves that is cut after the greater of both numbers
+cut_twice : (w : List ℕ) (n m : ℕ) → IsGoodLog w → NamesEachOnce w → n < length (replay_writes w) → m < length (replay_writes w)
+    → torn_replay m (torn_replay n w) ≡ torn_replay (max n m) w
+cut_twice w n m good once h below =
+    let some = some_entry w n h in
+    let c : ℕ = count_of w in
+    let v : List ℕ = torn_replay n w in
+    let first = is_cut w n good once h in
+    let many : length (replay_writes w) ≡ c + 1 = so_many_writes w some in
+    let few = good.few in
+    let second = is_cut v m first.good first.once (omega (arith, below, first.writes)) in
+    let entries : write_backs v (count_of v) ≡ write_backs w c =
+    ap (λ (i : ℕ). write_backs v i) first.count ∙ same_entries w v c few first.log in
+    let within : max n m ≤ c = omega (arith, first.within, below, many) in
+    second.words
+    ∙ ap (λ (ws : List (ℕ × ℕ)). with_words v (take m ws)) entries
+    ∙ ap (λ (u : List ℕ). with_words u (take m (write_backs w c))) first.words
+    ∙ again w w c n m (λ j h. let place = good.places j h in place.below) (λ i j h below. once i j h below)
+    ∙ stopped_before w (with_words w (take (max n m) (write_backs w c))) (max n m) some within refl
+
+-- recoveries that are cut leave what one leaves that is cut after as many writes as one of them, n
+pub record LeaveAsOne (w : List ℕ) (cuts : List ℕ) (n : ℕ) : Type 0 where
+  pub within : n < length (replay_writes w)
+  pub words : after_replays cuts w ≡ torn_replay n w
+  pub one : (bound : ℕ) → All (λ m. m < bound) cuts → n < bound
+
+pub leave_as_one : (w : List ℕ) (n : ℕ) (more : List ℕ) → IsGoodLog w → NamesEachOnce w → AreCutAfter w (n ∷ more) → (m : ℕ) × LeaveAsOne w (n ∷ more) m
+unfolding AreCutAfter
+leave_as_one w n [] good once cut = (n, record { within = cut.0; words = refl; one = λ bound all. all 0 0 (omega arith) })
+leave_as_one w n (next ∷ more) good once cut =
+    let v : List ℕ = torn_replay n w in
+    let first = is_cut w n good once cut.0 in
+    let rest = leave_as_one v next more first.good first.once cut.1 in
+    let m : ℕ = rest.0 in
+    let below : m < length (replay_writes w) = omega (arith, rest.1.within, first.writes) in (
+      max n m,
+      record {
+        within = omega (arith, below, cut.0);
+        words = rest.1.words ∙ cut_twice w n m good once cut.0 below;
+        one = λ bound all.
+            let here : n < bound = all 0 0 (omega arith) in
+            let there : m < bound = rest.1.one bound (λ k d h. all (suc k) d (omega (arith, h))) in
+            omega (arith, here, there);
+      },
+    )
+
+-- ---- what comes of them
+
+-- a recovery comes to the same behind others that are cut, where it does behind each one that is cut as early as those
+come_to_the_same : (words probe : List ℕ) (left : Left) (bound : ℕ) (stops : List ℕ) → (0 < length (replay_writes words) → IsGoodLog words)
+    → NamesEachOnce words → IsLeft words probe left → AreTheSame words probe left bound → AreCutAfter words stops
+    → ((m : ℕ) → LeaveAsOne words stops m → m < bound) → ComesToTheSame (after_replays stops words) probe left
+unfolding AreCutAfter
+come_to_the_same words probe left bound [] good once is same cut below = (left, is, (refl, refl))
+come_to_the_same words probe left bound (n ∷ more) good once is same cut below =
+    let h : n < length (replay_writes words) = cut.0 in
+    let one = leave_as_one words n more (good (omega (arith, h))) once cut in
+    subst (λ (w : List ℕ). ComesToTheSame w probe left) (sym one.1.words) (same one.0 (below one.0 one.1))
+
+-- so it is however many are cut, if it is with one
+pub recoveries_told : (words probe : List ℕ) (left : Left) (writes depth : ℕ) (found : Option ℕ) → writes ≡ length (replay_writes words)
+    → (0 < writes → IsGoodLog words) → NamesEachOnce words → IsLeft words probe left
+    → MatchOption found (AreTheSame words probe left writes)
+    (λ n. (n < writes) × ComesToAnother (torn_replay n words) probe left × AreTheSame words probe left n)
+    → MatchOption found (MakeNoDifference depth words probe left) (λ n. IsFirstDifference depth words probe left n)
+recoveries_told words probe left writes depth None many good once is same = λ stops long cut.
+    come_to_the_same words probe left writes stops (λ h. good (omega (arith, many, h))) once is same cut (λ m one. omega (arith, many, one.within))
+recoveries_told words probe left writes depth (Some n) many good once is found = record {
+  cut = omega (arith, many, found.0);
+  other = found.1;
+  earlier = λ stops long cut all. come_to_the_same words probe left n stops (λ h. good (omega (arith, many, h))) once is found.2 cut
+      (λ m one. one.one n all);
+}
+
+-- none is cut, and one that is whole comes to what is left
+pub none_cut : (words probe : List ℕ) (left : Left) → IsLeft words probe left → MakeNoDifference 0 words probe left
+none_cut words probe left is [] long cut = (left, is, (refl, refl))
+none_cut words probe left is (n ∷ more) long cut = absurd (omega (arith, long))
+
+-- what is compared with what is left
+pub compared : (b : Bool) (words probe : List ℕ) (left found : Left) → IsTrue b ↔ IsSameLeft left found → IsLeft words probe found
+    → MatchBool b (ComesToTheSame words probe left) (ComesToAnother words probe left)
+compared true words probe left found same is = (found, is, same.0 refl)
+compared false words probe left found same is = (found, is, λ e. absurd (false≢true (same.1 e)))
+
+-- behind one more number of writes it is the same
+pub same_more : (words probe : List ℕ) (left : Left) (n : ℕ) → AreTheSame words probe left n → ComesToTheSame (torn_replay n words) probe left
+    → AreTheSame words probe left (n + 1)
+same_more words probe left n same here m below =
+    ⊎_elim (λ before. same m before)
+    (λ behind. let is : n ≡ m = omega (arith, below, behind) in subst (λ (i : ℕ). ComesToTheSame (torn_replay i words) probe left) is here)
+    (cases_lt m n)
+
+-- how many writes a recovery makes that has entries
+pub writes_of_some : (words : List ℕ) (n : ℕ) → n ≡ count_of words → (n ≡ 0 → ⊥) → n + 1 ≡ length (replay_writes words)
+writes_of_some words n is some =
+    let many : length (replay_writes words) ≡ count_of words + 1 = so_many_writes words (λ e. some (is ∙ e)) in
+    omega (arith, many, is)

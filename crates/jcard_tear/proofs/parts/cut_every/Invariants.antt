@@ -1,0 +1,10 @@
+use Rattle.std.proofs.Common.{◌≡◌, ◌+◌, ◌*◌, ◌<◌, length}
+use Rattle.jcard_tear.specs.Parts.{AreEvery}
+use Rattle.jcard_tear.proofs.parts.cut_every.Given as goal
+
+abbrev pub invariant-loop-place : goal.invariant-loop-place
+invariant-loop-place l = record {
+  cuts : AreEvery l.words l.command l.spared l.before l.after l.first l.step l.cuts.items;
+  count : l.number ≡ l.first + l.step * length l.cuts.items;
+  fits : l.number < 65536;
+}

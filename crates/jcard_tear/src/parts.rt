@@ -1,0 +1,108 @@
+//! A part of the cuts of a command, so that several runs share a large sweep.
+ghost use Rattle.std.specs.Prelude.{◌≡◌, ◌<◌, ◌+◌, ◌*◌, ℕ, List, length, option_map, IfOk};
+ghost use Rattle.std.specs.Borrow.{Bor};
+ghost use Rattle.jcard_tear.specs.Parts.{AreEvery, IsLinePart, IsPartSwept};
+ghost use Rattle.jcard_tear.specs.ScriptLines.{line_of};
+ghost use Rattle.jcard_tear.specs.Sweeps.{IsUncutAt};
+
+use crate::cuts::{Command, MOST, cut_at, push_cut};
+use crate::each::probe_for;
+use crate::script_lines::ScriptLine;
+use crate::tearing::{TearFault, begun, done};
+use jcard_outcomes::part::Part;
+use jcard_outcomes::recoveries::Depth;
+use jcard_outcomes::report::Sweep;
+use jcard_outcomes::standing::{Cut, Left, standing_of};
+use std::alloc::Global;
+
+/// Cuts the command in a line after `first` writes, and each `step`-th number behind it. Behind each cut come these lines of a
+/// probe; or, where none are given, the last SELECT before the command. No recovery is cut.
+pub fn tear_line_part(
+    alloc: Global,
+    words: &[u16],
+    line: ScriptLine,
+    probe: Option<&[u8]>,
+    spared: &[u16],
+    first: u16,
+    step: u16,
+) -> Result<Part, TearFault>
+    requires { length words.now < 65536 }
+    ensures swept { IfOk result (λ part. IsLinePart words.now
+        (option_map (λ (text : Bor (List ℕ)). text.now) probe.entry) spared.now
+        (line_of line.entry) first step part) }
+    ensures below { IfOk result (λ part. part.first + part.step * length part.sweep.cuts.items < 65536) }
+{
+    let command = Command {
+        before: line.before,
+        line: line.line,
+        probe: probe_for(probe, line.before),
+        depth: Depth::Zero,
+    };
+    tear_part(alloc, words, command, spared, first, step)
+}
+
+/// Carries out the script up to the command, and then cuts the command after `first` writes, and each `step`-th number behind it.
+pub fn tear_part(
+    alloc: Global,
+    words: &[u16],
+    command: Command,
+    spared: &[u16],
+    first: u16,
+    step: u16,
+) -> Result<Part, TearFault>
+    requires { length words.now < 65536 }
+    ensures swept { IfOk result (λ part. IsPartSwept words.now command.entry spared.now first step part) }
+    ensures below { IfOk result (λ part. part.first + part.step * length part.sweep.cuts.items < 65536) }
+{
+    let (answer, after) = done(alloc, words, command)?;
+    let before = begun(alloc, words, command)?;
+    let cuts = cut_every(alloc, words, command, spared, &before, &after, first, step)?;
+    Ok(Part {
+        first: usize::from(first),
+        step: usize::from(step),
+        sweep: Sweep {
+            before,
+            answer,
+            after,
+            cuts,
+            depth: command.depth,
+        },
+    })
+}
+
+// What the cuts left, from the first on, up to the number with which the command is not cut.
+fn cut_every(
+    alloc: Global,
+    words: &[u16],
+    command: Command,
+    spared: &[u16],
+    before: &Left,
+    after: &Left,
+    first: u16,
+    step: u16,
+) -> Result<Vec<Cut>, TearFault>
+    requires { length words.now < 65536 }
+    ensures cut { IfOk result (λ cuts. AreEvery words.now command.entry spared.now before.now after.now first step cuts.items
+        × IsUncutAt words.now command.entry (first + step * length cuts.items)) }
+    ensures below { IfOk result (λ cuts. first + step * length cuts.items < 65536) }
+{
+    let mut cuts = Vec::new(alloc);
+    let mut number = first;
+    for _place in 0..MOST {
+        let Some((left, recoveries)) = cut_at(alloc, words, command, number)? else {
+            return Ok(cuts);
+        };
+        let standing = standing_of(spared, before, after, &left.words, &left.answers);
+        let cut = Cut {
+            standing,
+            answers: left.answers,
+            recoveries,
+        };
+        push_cut(&mut cuts, cut)?;
+        let Some(next) = number.checked_add(step) else {
+            return Err(TearFault::TooManyCuts);
+        };
+        number = next;
+    }
+    Err(TearFault::TooManyCuts)
+}

@@ -1,0 +1,212 @@
+//! Recoveries of what a cut left, which are cut themselves, and what comes of the one behind them.
+ghost use Rattle.std.specs.Prelude.{◌≡◌, ◌≢◌, ◌≤◌, ◌<◌, ◌^◌, ◌↔◌, ℕ, false, length, vec_len, IfOk, IfSome, IsTrue, MatchBool, MatchOption, OnOk};
+ghost use Rattle.jc_words.specs.Layout.{log_end};
+ghost use Rattle.jc_commit.specs.Image.{IsGoodLog, address_at, capacity, count_of};
+ghost use Rattle.jc_commit.specs.Replay.{replay_writes, torn_replay};
+ghost use Rattle.jcard_outcomes.specs.Recoveries.{recoveries_of};
+ghost use Rattle.jcard_tear.specs.Recoveries.{AreRecoveries, AreTheSame, ComesToAnother, ComesToTheSame, IsSameLeft, NamesEachOnce};
+ghost use Rattle.jcard_tear.specs.Runs.{IsLeft};
+
+use crate::runs::{RunFault, left, words_of};
+use jc_card::power_up::PowerFault;
+use jc_commit::{Journal, OpenRefusal};
+use jc_words::layout::{ADDRESSES, COUNT, JOURNAL_CAPACITY, LOG_START};
+use jc_words::{FuseStore, MemStore};
+use jcard_outcomes::recoveries::{Depth, Recoveries};
+use jcard_outcomes::standing::Left;
+use jcard_script::script::ScriptFault;
+use std::alloc::Global;
+
+/// The entries cannot be taken back, or two of them name the same word, as no transaction leaves them.
+const BAD_LOG: RunFault = RunFault::Script(ScriptFault::PowerFault(PowerFault::BadLog));
+
+/// Cuts recoveries of these words, as many as this one after the other, and compares what the next one comes to with what
+/// is left where none is cut. However many are cut, they leave what one of them leaves that is cut: each of these images is
+/// tried once.
+pub(crate) fn recoveries(
+    alloc: Global,
+    words: &[u16],
+    probe: &[u8],
+    depth: Depth,
+    whole: &Left,
+) -> Result<Recoveries, RunFault>
+    requires small { length words.now < 65536 }
+    requires left { IsLeft words.now probe.now whole.now }
+    ensures { IfOk result (λ found. AreRecoveries depth words.now probe.now whole.now found) }
+{
+    match depth {
+        Depth::Zero => Ok(Recoveries {
+            ways: 1,
+            difference: None,
+        }),
+        Depth::One | Depth::Two | Depth::Three => cut_deep(alloc, words, probe, depth, whole),
+    }
+}
+
+// Cuts them.
+fn cut_deep(
+    alloc: Global,
+    words: &[u16],
+    probe: &[u8],
+    depth: Depth,
+    whole: &Left,
+) -> Result<Recoveries, RunFault>
+    requires small { length words.now < 65536 }
+    requires left { IsLeft words.now probe.now whole.now }
+    ensures { IfOk result (λ found. AreRecoveries depth words.now probe.now whole.now found) }
+{
+    let writes = recovery_writes(words)?;
+    let difference = first_difference(alloc, words, probe, writes, whole)?;
+    Ok(Recoveries {
+        ways: ways(writes, depth),
+        difference,
+    })
+}
+
+// In how many ways recoveries of so many writes can be cut, one after the other.
+fn ways(writes: u16, depth: Depth) -> u64
+    ensures { result ≡ writes ^ recoveries_of depth }
+{
+    let writes = u64::from(writes);
+    match depth {
+        Depth::Zero => 1,
+        Depth::One => writes,
+        Depth::Two => writes * writes,
+        Depth::Three => writes * writes * writes,
+    }
+}
+
+// After how many of its writes a recovery has to be cut to make a difference.
+fn first_difference(
+    alloc: Global,
+    words: &[u16],
+    probe: &[u8],
+    writes: u16,
+    whole: &Left,
+) -> Result<Option<u16>, RunFault>
+    requires small { length words.now < 65536 }
+    requires size { log_end ≤ length words.now }
+    requires left { IsLeft words.now probe.now whole.now }
+    ensures difference { IfOk result (λ found. MatchOption found
+        (AreTheSame words.now probe.now whole.now writes)
+        (λ n. (n < writes) × ComesToAnother (torn_replay n words.now) probe.now whole.now
+        × AreTheSame words.now probe.now whole.now n)) }
+    ensures good { OnOk result (0 < writes → IsGoodLog words.now) }
+{
+    let mut tried = Vec::from_slice(alloc, words)?;
+    for number in 0..writes {
+        let torn = cut_recovery(alloc, words, number)?;
+        if !are_equal(&torn, &tried) {
+            if !comes_to_the_same(alloc, &torn, probe, whole)? {
+                return Ok(Some(number));
+            }
+            tried = torn;
+        }
+    }
+    Ok(None)
+}
+
+// The words that a recovery of these leaves which is cut after so many of its writes.
+fn cut_recovery(alloc: Global, words: &[u16], number: u16) -> Result<Vec<u16>, RunFault>
+    requires small { length words.now < 65536 }
+    requires size { log_end ≤ length words.now }
+    ensures torn { IfOk result (λ torn. torn.items ≡ torn_replay number words.now) }
+    ensures good { OnOk result (IsGoodLog words.now) }
+    ensures short { IfOk result (λ torn. vec_len torn < 65536) }
+{
+    let copy = Vec::from_slice(alloc, words)?;
+    let mut store = FuseStore::new(MemStore::of(copy));
+    store.arm(u64::from(number));
+    match Journal::open(store) {
+        Err((OpenRefusal::StoreDown, store)) => Ok(words_of(store)),
+        Ok(_) | Err((OpenRefusal::BadLog, _)) => Err(BAD_LOG),
+    }
+}
+
+// Whether a recovery of these words, and the probe, come to the same as is left where no recovery is cut.
+fn comes_to_the_same(
+    alloc: Global,
+    words: &[u16],
+    probe: &[u8],
+    whole: &Left,
+) -> Result<bool, RunFault>
+    requires { length words.now < 65536 }
+    ensures { IfOk result (λ same. MatchBool same (ComesToTheSame words.now probe.now whole.now)
+        (ComesToAnother words.now probe.now whole.now)) }
+{
+    let copy = Vec::from_slice(alloc, words)?;
+    let found = left(alloc, copy, probe)?;
+    Ok(is_same(whole, &found))
+}
+
+fn is_same(a: &Left, b: &Left) -> bool
+    ensures { IsTrue result ↔ IsSameLeft a.now b.now }
+{
+    a.words == b.words && a.answers == b.answers
+}
+
+fn are_equal(a: &[u16], b: &[u16]) -> bool
+    ensures { IsTrue result → a.now ≡ b.now }
+{
+    a == b
+}
+
+// How many writes a recovery of these words makes: one for each entry that counts, and one for their count.
+fn recovery_writes(words: &[u16]) -> Result<u16, RunFault>
+    ensures writes { IfOk result (λ n. n ≡ length (replay_writes words.now)) }
+    ensures size { OnOk result (log_end ≤ length words.now) }
+    ensures once { OnOk result (NamesEachOnce words.now) }
+{
+    match entries(words) {
+        Some(0) => Ok(0),
+        Some(count) => Ok(count + 1),
+        None => Err(BAD_LOG),
+    }
+}
+
+// How many entries count; none where they are too many, or two of them name the same word.
+fn entries(words: &[u16]) -> Option<u16>
+    ensures count { IfSome result (λ n. n ≡ count_of words.now) }
+    ensures few { IfSome result (λ n. n ≤ capacity) }
+    ensures size { IfSome result (λ _. log_end ≤ length words.now) }
+    ensures once { IfSome result (λ _. NamesEachOnce words.now) }
+{
+    if words.len() < usize::from(ADDRESSES) {
+        return None;
+    }
+    let count = words[usize::from(COUNT)];
+    if count > JOURNAL_CAPACITY {
+        return None;
+    }
+    for entry in 0..count {
+        if is_named_before(words, entry) {
+            return None;
+        }
+    }
+    Some(count)
+}
+
+// Whether an entry before this one names the same word.
+fn is_named_before(words: &[u16], entry: u16) -> bool
+    requires size { log_end ≤ length words.now }
+    requires entry { entry < capacity }
+    ensures { result ≡ false
+        → (j : ℕ) → j < entry → address_at words.now j ≢ address_at words.now entry }
+{
+    let address = address_in(words, entry);
+    for earlier in 0..entry {
+        if address_in(words, earlier) == address {
+            return true;
+        }
+    }
+    false
+}
+
+// The address that an entry names.
+fn address_in(words: &[u16], entry: u16) -> u16
+    requires size { log_end ≤ length words.now }
+    requires entry { entry < capacity }
+    ensures { result ≡ address_at words.now entry }
+{
+    words[usize::from(LOG_START + 2 * entry)]
+}
