@@ -7,7 +7,7 @@ mod watch;
 
 use crate::watch::Watch;
 use jc_platform::example::EXAMPLE;
-use jc_words::{FileStore, FuseStore, MemStore, WordStore};
+use jc_words::{FileStore, FuseStore, MemStore, WordStore, ZeroWords};
 use jcard_script::card::formatting::format;
 use jcard_script::mem_text::MemText;
 use jcard_script::script::run_script;
@@ -28,8 +28,11 @@ fn main(rt: HostRuntime) -> io::Result<ExitCode> {
     if image.as_str() == "memory" {
         let store = MemStore::new(rt.alloc(), WORDS)?;
         run_on(&rt, store, setup.as_bytes(), commands.as_bytes())?;
-    } else if let Ok(store) = FileStore::create(&rt, image.as_str(), WORDS) {
-        run_on(&rt, store, setup.as_bytes(), commands.as_bytes())?;
+    } else {
+        let zeros = ZeroWords::new(rt.alloc(), WORDS)?;
+        if let Ok(store) = FileStore::create(&rt, image.as_str(), zeros) {
+            run_on(&rt, store, setup.as_bytes(), commands.as_bytes())?;
+        }
     }
     Ok(ExitCode::from(0))
 }

@@ -1,2 +1,4 @@
 pub mod Told
 pub mod Named
+pub mod Taken
+pub mod AreRead

@@ -35,7 +35,7 @@ use Rattle.jc_cap.specs.declared.texts.PackageBytes.{PackageBytes}
 use Rattle.jc_cap.specs.declared.texts.LoadedComponents.{LoadedComponents}
 use Rattle.jc_cap.specs.Contents.{PackageContents}
 use Rattle.jc_cap.specs.Reading as reading
-use Rattle.jc_cap.specs.Reading.{header_in, directory_in, applets_in, imports_in, pool_in, classes_in, methods_in, statics_in, exports_in}
+use Rattle.jc_cap.specs.ComponentReading.{header_in, directory_in, applets_in, imports_in, pool_in, classes_in, methods_in, statics_in, exports_in}
 use Rattle.jc_cap.specs.Sizes.{sizes_agree}
 use Rattle.jc_cap.specs.Fitting.{class_fits, method_fits, entry_fits, applet_fits, export_fits, all_if_present, offsets_fit}
 use Rattle.jc_cap.specs.Assembling.{package_of, required_components, checked_package, assembly_of}

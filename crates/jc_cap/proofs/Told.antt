@@ -1,5 +1,5 @@
 -- What is read of a component stands in its bytes, and the other way round.
-use Rattle.std.proofs.Common.{◌≡◌, ℕ, eqb, List, Result, Ok, Err, refl, sym, ap, subst, inl, inr}
+use Rattle.std.proofs.Common.{◌≡◌, ℕ, eqb, List, Option, Result, Ok, Err, refl, sym, ap, subst, ◌∙◌, inl, inr}
 use Rattle.std.specs.Prelude.{IfOk}
 use Rattle.std.proofs.lemmas.Bool.{eqb-true, eqb-false, ne_eqb}
 use Rattle.jc_cap_linkage.specs.declared.fault.CapFault.{CapFault}
@@ -30,11 +30,11 @@ use Rattle.jc_cap_code.specs.StaticGrammar.{AreStatics}
 use Rattle.jc_cap_code.proofs.RecordWalk.{classes_found, classes_only}
 use Rattle.jc_cap_code.proofs.MethodTelling.{methods_take, methods_again}
 use Rattle.jc_cap_code.proofs.StaticTelling.{statics_tells}
-use Rattle.jc_cap.specs.declared.component.Component.{Component}
+use Rattle.jc_cap.specs.declared.texts.LoadedComponents.{LoadedComponents}
+use Rattle.jc_cap.specs.Taking.{Taken, taken, taken_with}
 use Rattle.jc_cap.specs.Contents.{Content}
 use Rattle.jc_cap.specs.Contents as contents
 use Rattle.jc_cap.specs.Components.{content_result, content_at, component_at, IsContent, IsComponent}
-use Rattle.jc_cap.specs.Views.{content}
 
 -- ---- classes
 
@@ -157,11 +157,19 @@ pub component_again : (format : Format) (tag : ℕ) (x : Content) (bytes : List 
 unfolding component_at
 component_again format tag x bytes is = rw (info_again tag is.0 bytes is.1) (content_again format tag x is.0 is.2)
 
-pub is_found : (format : Format) (tag : ℕ) (bytes : List ℕ) (r : Result Component CapFault) → ParsesAs content r (component_at format tag bytes)
-    → IfOk r (λ c. IsComponent format tag (content c) bytes)
-is_found format tag bytes (Ok c) read = component_takes format tag bytes (content c) read
-is_found format tag bytes (Err f) read = tt
+-- what was taken stands in the bytes
+pub is_found : (format : Format) (tag : ℕ) (bytes : List ℕ) (old new : LoadedComponents) (r : Result (Option Format) CapFault)
+    → taken r new ≡ taken_with old tag bytes (component_at format tag bytes) → IfOk r (λ _. (x : Content) × IsComponent format tag x bytes)
+is_found format tag bytes old new r made = by_result (component_at format tag bytes) refl r made
+  where
+    by_result : (read : Result Content CapFault) → component_at format tag bytes ≡ read → (r : Result (Option Format) CapFault)
+        → taken r new ≡ taken_with old tag bytes read → IfOk r (λ _. (x : Content) × IsComponent format tag x bytes)
+    by_result (Ok x) is (Ok heard) made = (x, component_takes format tag bytes x is)
+    by_result (Err fault) is (Ok heard) made = let wrong = ap (λ (p : Taken). p.0) made in absurd cc
+    by_result read is (Err fault) made = tt
 
-pub is_only : (format : Format) (tag : ℕ) (bytes : List ℕ) (r : Result Component CapFault) → ParsesAs content r (component_at format tag bytes) → (x : Content)
-    → IsComponent format tag x bytes → ParsesAs content r (Ok x)
-is_only format tag bytes r read x is = subst (λ (y : Result Content CapFault). ParsesAs content r y) (component_again format tag x bytes is) read
+-- and what the bytes are is taken
+pub is_only : (format : Format) (tag : ℕ) (bytes : List ℕ) (old new : LoadedComponents) (r : Result (Option Format) CapFault)
+    → taken r new ≡ taken_with old tag bytes (component_at format tag bytes) → (x : Content) → IsComponent format tag x bytes
+    → taken r new ≡ taken_with old tag bytes (Ok x)
+is_only format tag bytes old new r made x is = made ∙ ap (taken_with old tag bytes) (component_again format tag x bytes is)

@@ -6,23 +6,24 @@ use Rattle.jc_cap_linkage.specs.Reading.{◌>>=◌}
 use Rattle.jc_cap_linkage.specs.Tags.{header_tag, directory_tag, applet_tag, import_tag, constant_pool_tag, class_tag, method_tag, static_field_tag, export_tag}
 use Rattle.jc_cap.specs.declared.texts.LoadedComponents.{LoadedComponents}
 use Rattle.jc_cap.specs.declared.texts.PackageBytes.{PackageBytes}
+use Rattle.jc_cap.specs.ComponentReading.{header_in}
 use Rattle.jc_cap.specs.Reading as reading
 use Rattle.jc_cap.specs.Sizes.{sizes_agree}
 use Rattle.jc_cap.specs.Fitting.{offsets_fit}
 
 -- a component that every package has
-abbrev pub required_component : ℕ → Option (List ℕ) → Result (List ℕ) CapFault
+abbrev pub required_component : {A : Type 0} → ℕ → Option A → Result A CapFault
 required_component tag (Some text) = Ok text
 required_component tag None = Err (Missing tag)
 
 -- one that a flag of the header asks for
-abbrev pub flagged_component : ℕ → Bool → Option (List ℕ) → Result (Option (List ℕ)) CapFault
+abbrev pub flagged_component : {A : Type 0} → ℕ → Bool → Option A → Result (Option A) CapFault
 flagged_component tag flag (Some text) = Ok (Some text)
 flagged_component tag flag None = if flag then Err (Missing tag) else Ok None
 
 -- whether the header asks for an Export, and for an Applet component
 abbrev pub flags_in : List ℕ → Result (Bool × Bool) CapFault
-flags_in header = reading.header_in header >>= λ head. Ok (head.exports, head.has_applets)
+flags_in header = header_in header >>= λ head. Ok (head.exports, head.has_applets)
 
 -- all that a package needs, or the lowest tag that is missing
 unfoldable pub required_components : LoadedComponents → Result PackageBytes CapFault

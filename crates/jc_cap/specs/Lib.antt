@@ -2,8 +2,11 @@ pub mod Texts
 pub mod Contents
 pub mod Components
 pub mod Views
+pub mod ComponentReading
 pub mod Reading
 pub mod Sizes
 pub mod Fitting
 pub mod Assembling
 pub mod Packages
+pub mod Kept
+pub mod Taking

@@ -7,32 +7,29 @@ ghost use Rattle.jc_cap.specs.Packages.{IsPackage};
 ghost use Rattle.jc_cap.specs.Reading.{contents_of};
 ghost use Rattle.jc_cap.specs.Views.{package_contents};
 
-use crate::contents::{Contents, header_in, read_contents};
+use crate::contents::{Contents, contents_of};
 use crate::fitting::offsets_fit;
+use crate::linkage_components::HeaderComponent;
 use crate::sizes::sizes_agree;
-use crate::texts::{ComponentBytes, LoadedComponents, PackageBytes};
+use crate::texts::{LoadedComponents, PackageBytes};
 use jc_cap_linkage::fault::CapFault;
 use jc_cap_linkage::tags;
 use std::marker::Model;
 
-fn required_component(tag: u8, text: Option<ComponentBytes>) -> Result<ComponentBytes, CapFault>
-    ensures { ParsesAs (λ x. x) result (required_component tag text) }
+fn required_component<T>(tag: u8, component: Option<T>) -> Result<T, CapFault>
+    ensures { ParsesAs (λ x. x) result (required_component tag component) }
 {
-    match text {
-        Some(text) => Ok(text),
+    match component {
+        Some(component) => Ok(component),
         None => Err(CapFault::Missing(tag)),
     }
 }
 
-fn flagged_component(
-    tag: u8,
-    flag: bool,
-    text: Option<ComponentBytes>,
-) -> Result<Option<ComponentBytes>, CapFault>
-    ensures { ParsesAs (λ x. x) result (flagged_component tag flag text) }
+fn flagged_component<T>(tag: u8, flag: bool, component: Option<T>) -> Result<Option<T>, CapFault>
+    ensures { ParsesAs (λ x. x) result (flagged_component tag flag component) }
 {
-    match text {
-        Some(text) => Ok(Some(text)),
+    match component {
+        Some(component) => Ok(Some(component)),
         None => {
             if flag {
                 return Err(CapFault::Missing(tag));
@@ -43,24 +40,24 @@ fn flagged_component(
 }
 
 /// Which components the header asks for: Export, and Applet.
-fn flags_in(header: &ComponentBytes) -> Result<(bool, bool), CapFault>
-    ensures { ParsesAs (λ x. x) result (flags_in header.now) }
+fn flags_in(header: &HeaderComponent) -> (bool, bool)
+    ensures { flags_in header.now ≡ Ok result }
 {
-    let header = header_in(header.bytes())?;
-    Ok((header.exports, header.has_applets))
+    let header = header.header();
+    (header.exports, header.has_applets)
 }
 
 /// All components that a package needs, of those that came. They are moved, and no memory is taken.
 ///
-/// The first of these is answered: Missing with the lowest tag of a component that every package needs, or that the
-/// header's flags ask for; behind the Directory component the fault of a header that cannot be read.
+/// Missing with the lowest tag of a component that every package needs, or that the header's flags ask for, and that did not
+/// come.
 #[tactic(auto, unfolding(crate::specs::Assembling::required_components))]
 pub fn required_components(load: LoadedComponents) -> Result<PackageBytes, CapFault>
     ensures { ParsesAs (λ x. x) result (required_components load) }
 {
     let header = required_component(tags::HEADER, load.header)?;
     let directory = required_component(tags::DIRECTORY, load.directory)?;
-    let (exports, has_applets) = flags_in(&header)?;
+    let (exports, has_applets) = flags_in(&header);
     let applets = flagged_component(tags::APPLET, has_applets, load.applets)?;
     let imports = required_component(tags::IMPORT, load.imports)?;
     let pool = required_component(tags::CONSTANT_POOL, load.pool)?;
@@ -88,7 +85,7 @@ pub fn required_components(load: LoadedComponents) -> Result<PackageBytes, CapFa
 fn check(texts: &PackageBytes) -> Result<Contents<'_>, CapFault>
     ensures { TellsContents texts.now result }
 {
-    let contents = read_contents(texts)?;
+    let contents = contents_of(texts)?;
     if !sizes_agree(texts, &contents) {
         return Err(CapFault::SizesDisagree);
     }
@@ -128,10 +125,10 @@ fn package_of(texts: &PackageBytes) -> Result<Package<'_>, CapFault>
 }
 
 impl<'a> Package<'a> {
-    /// Reads the package of these components. Each is read once, and no memory is taken.
+    /// The package of these components, which were read. No memory is taken.
     ///
-    /// The first of these is answered: the fault of a component that cannot be read; SizesDisagree where the directory does
-    /// not agree with them; BadOffset where an offset names no record or no method.
+    /// The first of these is answered: the fault of a component that cannot be read in the header's format; SizesDisagree
+    /// where the directory does not agree with them; BadOffset where an offset names no record or no method.
     pub fn of(texts: &'a PackageBytes) -> Result<Package<'a>, CapFault>
         // What is read is a package.
         ensures found { IfOk result (λ p. IsPackage p) }

@@ -2,8 +2,9 @@
 #![tactic(auto)]
 
 pub mod assembling;
-pub mod component;
+pub mod code_components;
 pub mod contents;
 mod fitting;
+pub mod linkage_components;
 mod sizes;
 pub mod texts;

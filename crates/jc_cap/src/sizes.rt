@@ -5,22 +5,32 @@ ghost use Rattle.jc_cap.specs.Sizes.{count_if_present, sizes_agree};
 ghost use Rattle.jc_cap.specs.Views.{package_contents};
 
 use crate::contents::Contents;
-use crate::texts::{ComponentBytes, PackageBytes};
+use crate::linkage_components::{AppletComponent, ExportComponent};
+use crate::texts::PackageBytes;
 use jc_cap_linkage::applets::Applets;
 use jc_cap_linkage::lists::U2List;
 use jc_cap_linkage::tags;
 
-fn size_of(text: &ComponentBytes) -> usize
-    ensures { result ≡ size_of text.now }
+fn size_of(bytes: &[u8]) -> usize
+    ensures { result ≡ size_of bytes.now }
 {
-    text.bytes().len().saturating_sub(3)
+    bytes.len().saturating_sub(3)
 }
 
-fn size_if_present(text: &Option<ComponentBytes>) -> usize
-    ensures { result ≡ size_if_present text.now }
+fn size_of_applets(component: &Option<AppletComponent>) -> usize
+    ensures { result ≡ size_if_present component.now }
 {
-    match text {
-        Some(text) => size_of(text),
+    match component {
+        Some(component) => size_of(component.bytes()),
+        None => 0,
+    }
+}
+
+fn size_of_exports(component: &Option<ExportComponent>) -> usize
+    ensures { result ≡ size_if_present component.now }
+{
+    match component {
+        Some(component) => size_of(component.bytes()),
         None => 0,
     }
 }
@@ -52,21 +62,21 @@ fn agrees_if_present(sizes: &U2List<'_>, tag: u8, size: Option<u16>) -> bool
 fn required_sizes_agree(texts: &PackageBytes, sizes: &U2List<'_>) -> bool
     ensures { result ≡ required_sizes_agree texts.now sizes.now }
 {
-    directory_size_of(sizes, tags::HEADER) == size_of(&texts.header)
-        && directory_size_of(sizes, tags::DIRECTORY) == size_of(&texts.directory)
-        && directory_size_of(sizes, tags::IMPORT) == size_of(&texts.imports)
-        && directory_size_of(sizes, tags::CONSTANT_POOL) == size_of(&texts.pool)
-        && directory_size_of(sizes, tags::CLASS) == size_of(&texts.classes)
-        && directory_size_of(sizes, tags::METHOD) == size_of(&texts.methods)
-        && directory_size_of(sizes, tags::STATIC_FIELD) == size_of(&texts.statics)
+    directory_size_of(sizes, tags::HEADER) == size_of(texts.header.bytes())
+        && directory_size_of(sizes, tags::DIRECTORY) == size_of(texts.directory.bytes())
+        && directory_size_of(sizes, tags::IMPORT) == size_of(texts.imports.bytes())
+        && directory_size_of(sizes, tags::CONSTANT_POOL) == size_of(texts.pool.bytes())
+        && directory_size_of(sizes, tags::CLASS) == size_of(texts.classes.bytes())
+        && directory_size_of(sizes, tags::METHOD) == size_of(texts.methods.bytes())
+        && directory_size_of(sizes, tags::STATIC_FIELD) == size_of(texts.statics.bytes())
 }
 
 /// The sizes of the others: 0 where an Applet or an Export component is absent.
 fn optional_sizes_agree(texts: &PackageBytes, sizes: &U2List<'_>) -> bool
     ensures { result ≡ optional_sizes_agree texts.now sizes.now }
 {
-    directory_size_of(sizes, tags::APPLET) == size_if_present(&texts.applets)
-        && directory_size_of(sizes, tags::EXPORT) == size_if_present(&texts.exports)
+    directory_size_of(sizes, tags::APPLET) == size_of_applets(&texts.applets)
+        && directory_size_of(sizes, tags::EXPORT) == size_of_exports(&texts.exports)
         && agrees_if_present(sizes, tags::REFERENCE_LOCATION, texts.reference_location)
         && agrees_if_present(sizes, tags::DESCRIPTOR, texts.descriptor)
 }

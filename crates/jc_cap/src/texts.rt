@@ -1,52 +1,37 @@
-//! The components of a package as they came.
-ghost use Rattle.std.specs.Prelude.{◌≡◌, ◌<◌, ◌-◌, length};
-ghost use Rattle.jc_cap.specs.Texts.{no_components, with_component};
+//! The components of a package as they came, each of them read.
+ghost use Rattle.std.specs.Prelude.{◌≡◌, ◌<◌, ◌-◌, length, IfOk, Ok};
+ghost use Rattle.jc_cap.specs.Texts.{no_components};
+ghost use Rattle.jc_cap.specs.Contents.{Content};
+ghost use Rattle.jc_cap.specs.Contents as contents;
+ghost use Rattle.jc_cap.specs.Components.{component_at, content_result, IsComponent};
+ghost use Rattle.jc_cap.specs.ComponentReading.{header_in, directory_in, imports_in, pool_in, classes_in, methods_in, statics_in};
+ghost use Rattle.jc_cap.specs.Kept.{applets_told, exports_told};
+ghost use Rattle.jc_cap.specs.Taking.{taken, taken_with, unused_taken};
+ghost use Rattle.jc_cap_linkage.specs.Envelope.{info_at};
+ghost use Rattle.jc_cap_linkage.specs.Tags.{header_tag, directory_tag, applet_tag, import_tag, constant_pool_tag, class_tag, method_tag, static_field_tag, export_tag};
 
+use crate::code_components::{ClassComponent, MethodComponent, StaticFieldComponent};
+use crate::linkage_components::{
+    AppletComponent, ConstantPoolComponent, DirectoryComponent, ExportComponent, HeaderComponent,
+    ImportComponent,
+};
+use jc_cap_linkage::envelope::info_of;
+use jc_cap_linkage::fault::CapFault;
+use jc_cap_linkage::formats::Format;
 use jc_cap_linkage::tags;
-use std::marker::Model;
-
-/// The bytes of a component that came, with its tag and its size.
-#[derive(Drop)]
-pub struct ComponentBytes {
-    bytes: Vec<u8>,
-}
-
-impl Model for ComponentBytes {
-    ghost use Rattle.std.specs.Prelude.{ℕ, List};
-
-    ghost Value = { List ℕ };
-
-    ghost view = { λ a. a.bytes.items };
-}
-
-impl ComponentBytes {
-    /// Keeps these bytes. They are moved, and no memory is taken.
-    pub fn new(bytes: Vec<u8>) -> ComponentBytes
-        ensures { result ≡ bytes.items }
-    {
-        ComponentBytes { bytes }
-    }
-
-    /// The bytes.
-    pub fn bytes(&self) -> &[u8]
-        ensures { result.now ≡ self.now }
-    {
-        self.bytes.as_slice()
-    }
-}
 
 /// The components of a package that have come, those that are used.
 #[derive(Drop)]
 pub struct LoadedComponents {
-    pub header: Option<ComponentBytes>,
-    pub directory: Option<ComponentBytes>,
-    pub applets: Option<ComponentBytes>,
-    pub imports: Option<ComponentBytes>,
-    pub pool: Option<ComponentBytes>,
-    pub classes: Option<ComponentBytes>,
-    pub methods: Option<ComponentBytes>,
-    pub statics: Option<ComponentBytes>,
-    pub exports: Option<ComponentBytes>,
+    pub header: Option<HeaderComponent>,
+    pub directory: Option<DirectoryComponent>,
+    pub applets: Option<AppletComponent>,
+    pub imports: Option<ImportComponent>,
+    pub pool: Option<ConstantPoolComponent>,
+    pub classes: Option<ClassComponent>,
+    pub methods: Option<MethodComponent>,
+    pub statics: Option<StaticFieldComponent>,
+    pub exports: Option<ExportComponent>,
     /// The size of the ReferenceLocation component's info, if that came.
     pub reference_location: Option<u16>,
     /// The size of the Descriptor component's info, if that came.
@@ -73,29 +58,151 @@ impl LoadedComponents {
         }
     }
 
-    /// Keeps the component with this tag, in place of an earlier one. Its bytes are moved, and no memory is taken. Of
+    /// Reads the component with this tag that the bytes are, all of them: the tag, two bytes of size, and the info. It is kept in
+    /// place of an earlier one, and a Header component tells its format. Where it cannot be read nothing is kept.
+    ///
+    /// A Directory and a Class component are read in this format. The bytes are moved, and no memory is taken. Of
     /// ReferenceLocation and Descriptor the size of the info is kept, and of other components nothing.
-    #[tactic(auto, unfolding(crate::specs::Texts::with_component))]
-    pub fn keep(&mut self, tag: u8, bytes: Vec<u8>)
-        requires { length bytes.items < 65539 }
-        ensures { self.new ≡ with_component self.old tag bytes.items }
+    pub fn take(
+        &mut self,
+        format: Format,
+        tag: u8,
+        bytes: Vec<u8>,
+    ) -> Result<Option<Format>, CapFault>
+        requires small { length bytes.items < 65539 }
+        // What is read stands in the bytes.
+        ensures found { IfOk result (λ _. (x : Content) × IsComponent format tag x bytes.items) }
+        // A component that the bytes are is read.
+        ensures only { (x : Content) → IsComponent format tag x bytes.items
+            → taken result self.new ≡ taken_with self.old tag bytes.items (Ok x) }
+        // Otherwise the fault is the first one from the left.
+        ensures exact { taken result self.new ≡ taken_with self.old tag bytes.items
+            (component_at format tag bytes.items) }
     {
-        let size = size_of(bytes.as_slice());
-        let text = ComponentBytes::new(bytes);
+        self.take_by_tag(format, tag, bytes)
+    }
+
+    fn take_by_tag(
+        &mut self,
+        format: Format,
+        tag: u8,
+        bytes: Vec<u8>,
+    ) -> Result<Option<Format>, CapFault>
+        requires small { length bytes.items < 65539 }
+        ensures { taken result self.new ≡ taken_with self.old tag bytes.items
+            (component_at format tag bytes.items) }
+    {
         match tag {
-            tags::HEADER => self.header = Some(text),
-            tags::DIRECTORY => self.directory = Some(text),
-            tags::APPLET => self.applets = Some(text),
-            tags::IMPORT => self.imports = Some(text),
-            tags::CONSTANT_POOL => self.pool = Some(text),
-            tags::CLASS => self.classes = Some(text),
-            tags::METHOD => self.methods = Some(text),
-            tags::STATIC_FIELD => self.statics = Some(text),
+            tags::HEADER => self.take_header(bytes),
+            tags::DIRECTORY => self.take_directory(format, bytes),
+            tags::APPLET => self.take_applets(bytes),
+            tags::IMPORT => self.take_imports(bytes),
+            tags::CONSTANT_POOL => self.take_pool(bytes),
+            tags::CLASS => self.take_classes(format, bytes),
+            tags::METHOD => self.take_methods(bytes),
+            tags::STATIC_FIELD => self.take_statics(bytes),
+            tags::EXPORT => self.take_exports(bytes),
+            _ => self.take_unused(tag, bytes),
+        }
+    }
+
+    #[tactic(auto, unfolding(crate::specs::Texts::with_component))]
+    fn take_header(&mut self, bytes: Vec<u8>) -> Result<Option<Format>, CapFault>
+        ensures { taken result self.new ≡ taken_with self.old header_tag bytes.items
+            (content_result contents.header (header_in bytes.items)) }
+    {
+        let component = HeaderComponent::read(bytes)?;
+        let format = component.header().format;
+        self.header = Some(component);
+        Ok(Some(format))
+    }
+
+    #[tactic(auto, unfolding(crate::specs::Texts::with_component))]
+    fn take_directory(&mut self, format: Format, bytes: Vec<u8>) -> Result<Option<Format>, CapFault>
+        ensures { taken result self.new ≡ taken_with self.old directory_tag bytes.items
+            (content_result contents.directory (directory_in format bytes.items)) }
+    {
+        self.directory = Some(DirectoryComponent::read(format, bytes)?);
+        Ok(None)
+    }
+
+    #[tactic(auto, unfolding(crate::specs::Texts::with_component))]
+    fn take_applets(&mut self, bytes: Vec<u8>) -> Result<Option<Format>, CapFault>
+        ensures { taken result self.new ≡ taken_with self.old applet_tag bytes.items
+            (content_result contents.applets (applets_told bytes.items)) }
+    {
+        self.applets = Some(AppletComponent::read(bytes)?);
+        Ok(None)
+    }
+
+    #[tactic(auto, unfolding(crate::specs::Texts::with_component))]
+    fn take_imports(&mut self, bytes: Vec<u8>) -> Result<Option<Format>, CapFault>
+        ensures { taken result self.new ≡ taken_with self.old import_tag bytes.items
+            (content_result contents.imports (imports_in bytes.items)) }
+    {
+        self.imports = Some(ImportComponent::read(bytes)?);
+        Ok(None)
+    }
+
+    #[tactic(auto, unfolding(crate::specs::Texts::with_component))]
+    fn take_pool(&mut self, bytes: Vec<u8>) -> Result<Option<Format>, CapFault>
+        ensures { taken result self.new ≡ taken_with self.old constant_pool_tag bytes.items
+            (content_result contents.pool (pool_in bytes.items)) }
+    {
+        self.pool = Some(ConstantPoolComponent::read(bytes)?);
+        Ok(None)
+    }
+
+    #[tactic(auto, unfolding(crate::specs::Texts::with_component))]
+    fn take_classes(&mut self, format: Format, bytes: Vec<u8>) -> Result<Option<Format>, CapFault>
+        ensures { taken result self.new ≡ taken_with self.old class_tag bytes.items
+            (content_result contents.classes (classes_in format bytes.items)) }
+    {
+        self.classes = Some(ClassComponent::read(format, bytes)?);
+        Ok(None)
+    }
+
+    #[tactic(auto, unfolding(crate::specs::Texts::with_component))]
+    fn take_methods(&mut self, bytes: Vec<u8>) -> Result<Option<Format>, CapFault>
+        ensures { taken result self.new ≡ taken_with self.old method_tag bytes.items
+            (content_result contents.methods (methods_in bytes.items)) }
+    {
+        self.methods = Some(MethodComponent::read(bytes)?);
+        Ok(None)
+    }
+
+    #[tactic(auto, unfolding(crate::specs::Texts::with_component))]
+    fn take_statics(&mut self, bytes: Vec<u8>) -> Result<Option<Format>, CapFault>
+        ensures { taken result self.new ≡ taken_with self.old static_field_tag bytes.items
+            (content_result contents.statics (statics_in bytes.items)) }
+    {
+        self.statics = Some(StaticFieldComponent::read(bytes)?);
+        Ok(None)
+    }
+
+    #[tactic(auto, unfolding(crate::specs::Texts::with_component))]
+    fn take_exports(&mut self, bytes: Vec<u8>) -> Result<Option<Format>, CapFault>
+        ensures { taken result self.new ≡ taken_with self.old export_tag bytes.items
+            (content_result contents.exports (exports_told bytes.items)) }
+    {
+        self.exports = Some(ExportComponent::read(bytes)?);
+        Ok(None)
+    }
+
+    // A component whose info is not looked at.
+    #[tactic(auto, unfolding(crate::specs::Taking::with_size))]
+    fn take_unused(&mut self, tag: u8, bytes: Vec<u8>) -> Result<Option<Format>, CapFault>
+        requires small { length bytes.items < 65539 }
+        ensures { taken result self.new ≡ unused_taken self.old tag bytes.items (info_at tag bytes.items) }
+    {
+        info_of(tag, bytes.as_slice())?;
+        let size = size_of(bytes.as_slice());
+        match tag {
             tags::REFERENCE_LOCATION => self.reference_location = Some(size),
-            tags::EXPORT => self.exports = Some(text),
             tags::DESCRIPTOR => self.descriptor = Some(size),
             _ => {}
         }
+        Ok(None)
     }
 }
 
@@ -110,15 +217,15 @@ fn size_of(bytes: &[u8]) -> u16
 /// The components of a package, all that it needs.
 #[derive(Drop)]
 pub struct PackageBytes {
-    pub header: ComponentBytes,
-    pub directory: ComponentBytes,
-    pub applets: Option<ComponentBytes>,
-    pub imports: ComponentBytes,
-    pub pool: ComponentBytes,
-    pub classes: ComponentBytes,
-    pub methods: ComponentBytes,
-    pub statics: ComponentBytes,
-    pub exports: Option<ComponentBytes>,
+    pub header: HeaderComponent,
+    pub directory: DirectoryComponent,
+    pub applets: Option<AppletComponent>,
+    pub imports: ImportComponent,
+    pub pool: ConstantPoolComponent,
+    pub classes: ClassComponent,
+    pub methods: MethodComponent,
+    pub statics: StaticFieldComponent,
+    pub exports: Option<ExportComponent>,
     /// The size of the ReferenceLocation component's info, if that came.
     pub reference_location: Option<u16>,
     /// The size of the Descriptor component's info, if that came.

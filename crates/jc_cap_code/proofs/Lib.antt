@@ -9,5 +9,6 @@ pub mod ClassTelling
 pub mod RecordWalk
 pub mod Starts
 pub mod Every
+pub mod Found
 pub mod ArraySizes
 pub mod Earlier

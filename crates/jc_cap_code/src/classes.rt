@@ -1,8 +1,9 @@
 //! The Class component.
 ghost use Rattle.std.specs.Prelude.{◌≡◌, ◌<◌, ◌^◌, List, length, false, Some, Ok, IfOk, MatchOption, slice_get, take};
 ghost use Rattle.jc_cap_linkage.specs.Reading.{ParsesAs};
+ghost use Rattle.jc_cap_linkage.specs.Again.{IsReadable};
 ghost use Rattle.jc_cap_code.specs.ClassValues.{RecordAt, offsets_of, contents_of};
-ghost use Rattle.jc_cap_code.specs.ClassReading.{is_among, records_start, classes_of, record_offsets_or_none};
+ghost use Rattle.jc_cap_code.specs.ClassReading.{is_among, records_start, classes_of, record_offsets_or_none, records_or_none};
 ghost use Rattle.jc_cap_code.specs.ClassGrammar.{LooksBack, AreClasses};
 
 use crate::class_reading::{Known, is_among, read_record};
@@ -25,6 +26,17 @@ fn records_start(format: Format, info: &[u8]) -> Result<&[u8], CapFault>
             let (_, records) = run(count as usize, rest)?;
             Ok(records)
         }
+    }
+}
+
+/// The same offsets.
+fn copy_of(offsets: &ArrayVec<u16, 256>) -> ArrayVec<u16, 256>
+    ensures { result.items ≡ offsets.now.items }
+{
+    let mut copy: ArrayVec<u16, 256> = ArrayVec::new();
+    match copy.try_extend_from_slice(offsets.as_slice()) {
+        Ok(()) => copy,
+        Err(_) => unreachable!(),
     }
 }
 
@@ -125,6 +137,29 @@ pub fn read_class(format: Format, info: &[u8]) -> Result<Classes<'_>, CapFault>
 }
 
 impl<'a> Classes<'a> {
+    /// The classes that an info is which was read before in this format, and whose records begin at these offsets. They are
+    /// found again without reading them.
+    pub fn found_in(format: Format, info: &'a [u8], offsets: &ArrayVec<u16, 256>) -> Classes<'a>
+        requires readable { IsReadable (classes_of format info.now) }
+        requires offsets { offsets.now.items ≡ offsets_of (records_or_none
+            (classes_of format info.now)) }
+        ensures { classes_of format info.now ≡ Ok result }
+    {
+        Classes {
+            format,
+            info,
+            offsets: copy_of(offsets),
+        }
+    }
+
+    /// Where the records begin.
+    pub fn into_offsets(self) -> ArrayVec<u16, 256>
+        ensures { result.items ≡ offsets_of self.entry }
+    {
+        let Classes { offsets, .. } = self;
+        offsets
+    }
+
     /// How many there are, 256 at most.
     pub fn count(&self) -> usize
         ensures { result ≡ length self.now }

@@ -1,6 +1,7 @@
 //! The exception handlers of a Method component.
 ghost use Rattle.std.specs.Prelude.{◌≡◌, ◌<◌, length, Some, Ok, slice_get};
 ghost use Rattle.jc_cap_linkage.specs.Reading.{ParsesAs, many_at, rest_after};
+ghost use Rattle.jc_cap_linkage.specs.Again.{IsReadable};
 ghost use Rattle.jc_cap_code.specs.MethodReading.{active_at, handler_at};
 
 use jc_cap_linkage::counted::{Part, skip_many};
@@ -96,6 +97,15 @@ pub(crate) fn read_handlers(count: u8, bytes: &[u8]) -> Result<(Handlers<'_>, &[
 {
     let rest = skip_many::<HandlerPart>(count as u16, bytes)?;
     Ok((Handlers { count, bytes }, rest))
+}
+
+/// As many handlers as are counted, which were read before, and the bytes behind them: found again without reading them.
+pub(crate) fn handlers_found_in(count: u8, bytes: &[u8]) -> (Handlers<'_>, &[u8])
+    requires { IsReadable (many_at handler_at count bytes.now) }
+    ensures { many_at handler_at count bytes.now ≡ Ok (result.0, result.1.now) }
+{
+    let (_, rest) = bytes.split_at(count as usize * 8);
+    (Handlers { count, bytes }, rest)
 }
 
 impl<'a> Handlers<'a> {

@@ -1,12 +1,13 @@
 //! The Method component.
 ghost use Rattle.std.specs.Prelude.{◌≡◌, Ok, IfOk};
 ghost use Rattle.jc_cap_linkage.specs.Reading.{ParsesAs};
+ghost use Rattle.jc_cap_linkage.specs.Again.{IsReadable};
 ghost use Rattle.jc_cap_code.specs.MethodValues.{MethodParts};
 ghost use Rattle.jc_cap_code.specs.MethodReading.{methods_of, methods_start, short_header, extended_header, header_of, method_at, has_room};
 ghost use Rattle.jc_cap_code.specs.MethodGrammar.{AreMethods};
 ghost use Rattle.jc_cap_code.specs.MethodViews.{method_parts, method_value};
 
-use crate::handlers::{Handlers, read_handlers};
+use crate::handlers::{Handlers, handlers_found_in, read_handlers};
 use jc_cap_linkage::fault::CapFault;
 use jc_cap_linkage::fields::u1;
 
@@ -109,6 +110,20 @@ fn read_header(bytes: &[u8]) -> Option<MethodHeader>
 }
 
 impl<'a> Methods<'a> {
+    /// What an info is that was read before. It is found again without reading it.
+    pub fn found_in(info: &'a [u8]) -> Methods<'a>
+        requires { IsReadable (methods_of info.now) }
+        ensures { methods_of info.now ≡ Ok (method_parts result) }
+    {
+        match u1(info) {
+            Ok((count, bytes)) => {
+                let (handlers, code) = handlers_found_in(count, bytes);
+                Methods { handlers, code }
+            }
+            Err(_) => unreachable!(),
+        }
+    }
+
     /// The offset, in the info, of the first byte behind the handlers.
     pub fn start(&self) -> u16
         ensures { result ≡ methods_start (method_parts self.now) }

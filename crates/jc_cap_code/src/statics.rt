@@ -1,6 +1,7 @@
 //! The StaticField component.
 ghost use Rattle.std.specs.Prelude.{◌≡◌, Ok, IfOk};
 ghost use Rattle.jc_cap_linkage.specs.Reading.{ParsesAs, value_of_whole};
+ghost use Rattle.jc_cap_linkage.specs.Again.{IsReadable};
 ghost use Rattle.jc_cap_code.specs.StaticValues.{StaticParts};
 ghost use Rattle.jc_cap_code.specs.StaticReading.{value_counts_at, statics_at};
 ghost use Rattle.jc_cap_code.specs.StaticGrammar.{AreStatics};
@@ -89,4 +90,17 @@ pub fn read_static_field(info: &[u8]) -> Result<StaticFields<'_>, CapFault>
     ensures exact { ParsesAs static_parts result (value_of_whole (statics_at info.now)) }
 {
     read_whole(info)
+}
+
+impl<'a> StaticFields<'a> {
+    /// The static fields that an info is which was read before.
+    pub fn found_in(info: &'a [u8]) -> StaticFields<'a>
+        requires { IsReadable (value_of_whole (statics_at info.now)) }
+        ensures { value_of_whole (statics_at info.now) ≡ Ok (static_parts result) }
+    {
+        match read_whole(info) {
+            Ok(fields) => fields,
+            Err(_) => unreachable!(),
+        }
+    }
 }

@@ -9,3 +9,4 @@ pub mod ToldLists
 pub mod ToldDirectory
 pub mod ToldPool
 pub mod ToldEnvelope
+pub mod Again

@@ -1,5 +1,6 @@
 pub mod Numbers
 pub mod Reading
+pub mod Again
 pub mod Grammar
 pub mod ClassRefs
 pub mod Packages

@@ -1,6 +1,7 @@
 //! The Applet component.
 ghost use Rattle.std.specs.Prelude.{◌≡◌, ◌∷◌, [], ◌<◌, List, length, Some, None, Ok, IfOk, MatchOption, slice_get};
 ghost use Rattle.jc_cap_linkage.specs.Reading.{ParsesAs, rest_after, many_at, value_of_whole};
+ghost use Rattle.jc_cap_linkage.specs.Again.{IsReadable};
 ghost use Rattle.jc_cap_linkage.specs.Applets.{AppletNamed, applet_at, applets_at, IsApplets};
 ghost use Rattle.jc_cap_linkage.specs.ComponentViews.{applet_info};
 
@@ -98,6 +99,17 @@ pub fn read_applets(info: &[u8]) -> Result<Applets<'_>, CapFault>
 }
 
 impl<'a> Applets<'a> {
+    /// The applets that an info is which was read before. They are found again without reading it.
+    pub fn found_in(info: &'a [u8]) -> Applets<'a>
+        requires { IsReadable (value_of_whole (applets_at info.now)) }
+        ensures { value_of_whole (applets_at info.now) ≡ Ok result }
+    {
+        match u1(info) {
+            Ok((count, bytes)) => Applets { count, bytes },
+            Err(_) => unreachable!(),
+        }
+    }
+
     /// How many there are.
     pub fn count(&self) -> u8
         ensures { result ≡ length self.now }

@@ -1,6 +1,7 @@
 //! The Directory component.
 ghost use Rattle.std.specs.Prelude.{◌≡◌, Ok, IfOk};
 ghost use Rattle.jc_cap_linkage.specs.Reading.{ParsesAs, value_of_whole};
+ghost use Rattle.jc_cap_linkage.specs.Again.{IsReadable};
 ghost use Rattle.jc_cap_linkage.specs.declared.directory.Directory.{Directory};
 ghost use Rattle.jc_cap_linkage.specs.Directory.{sizes_of, static_field_size_at, directory_at, IsDirectory};
 
@@ -98,4 +99,17 @@ pub fn read_directory(format: Format, info: &[u8]) -> Result<Directory<'_>, CapF
     ensures exact { ParsesAs (λ y. y) result (value_of_whole (directory_at format info.now)) }
 {
     whole_directory(format, info)
+}
+
+impl<'a> Directory<'a> {
+    /// The directory that an info is which was read before in this format.
+    pub fn found_in(format: Format, info: &'a [u8]) -> Directory<'a>
+        requires { IsReadable (value_of_whole (directory_at format info.now)) }
+        ensures { value_of_whole (directory_at format info.now) ≡ Ok result }
+    {
+        match whole_directory(format, info) {
+            Ok(directory) => directory,
+            Err(_) => unreachable!(),
+        }
+    }
 }

@@ -1,7 +1,8 @@
 //! The tag and the size that stand before each component's info.
-ghost use Rattle.std.specs.Prelude.{◌≡◌, ◌<◌, ◌^◌, length, IfOk};
+ghost use Rattle.std.specs.Prelude.{◌≡◌, ◌<◌, ◌^◌, length, Ok, IfOk};
 ghost use Rattle.jc_cap_linkage.specs.Reading.{ParsesAs};
 ghost use Rattle.jc_cap_linkage.specs.Envelope.{info_at};
+ghost use Rattle.jc_cap_linkage.specs.Again.{IsReadable};
 
 use crate::fault::CapFault;
 use crate::fields::u2;
@@ -29,5 +30,17 @@ pub fn info_of(tag: u8, bytes: &[u8]) -> Result<&[u8], CapFault>
             }
             Ok(info)
         }
+    }
+}
+
+/// The info of a component that was read before.
+pub fn info_found_in(tag: u8, bytes: &[u8]) -> &[u8]
+    requires { IsReadable (info_at tag bytes.now) }
+    ensures found { info_at tag bytes.now ≡ Ok result.now }
+    ensures small { length result.now < 2 ^ 16 }
+{
+    match info_of(tag, bytes) {
+        Ok(info) => info,
+        Err(_) => unreachable!(),
     }
 }

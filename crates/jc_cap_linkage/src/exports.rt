@@ -1,6 +1,7 @@
 //! The Export component.
 ghost use Rattle.std.specs.Prelude.{◌≡◌, ◌∷◌, [], ◌<◌, List, length, Some, None, Ok, IfOk, MatchOption, slice_get};
 ghost use Rattle.jc_cap_linkage.specs.Reading.{ParsesAs, rest_after, many_at, value_of_whole};
+ghost use Rattle.jc_cap_linkage.specs.Again.{IsReadable};
 ghost use Rattle.jc_cap_linkage.specs.declared.exports.ExportedClass.{ExportedClass};
 ghost use Rattle.jc_cap_linkage.specs.Exports.{exported_class_at, exports_at, IsExports};
 
@@ -108,6 +109,17 @@ pub fn read_exports(info: &[u8]) -> Result<Exports<'_>, CapFault>
 }
 
 impl<'a> Exports<'a> {
+    /// The classes that an info is which was read before. They are found again without reading it.
+    pub fn found_in(info: &'a [u8]) -> Exports<'a>
+        requires { IsReadable (value_of_whole (exports_at info.now)) }
+        ensures { value_of_whole (exports_at info.now) ≡ Ok result }
+    {
+        match u1(info) {
+            Ok((count, bytes)) => Exports { count, bytes },
+            Err(_) => unreachable!(),
+        }
+    }
+
     /// How many there are.
     pub fn count(&self) -> u8
         ensures { result ≡ length self.now }

@@ -1,6 +1,7 @@
 //! The Header component.
 ghost use Rattle.std.specs.Prelude.{◌≡◌, Ok, IfOk};
 ghost use Rattle.jc_cap_linkage.specs.Reading.{ParsesAs, value_of_whole};
+ghost use Rattle.jc_cap_linkage.specs.Again.{IsReadable};
 ghost use Rattle.jc_cap_linkage.specs.Header.{HeaderValue, magic_at, format_of, version_at, flags_at, name_at, header_at, IsHeader};
 ghost use Rattle.jc_cap_linkage.specs.ComponentViews.{head};
 
@@ -143,4 +144,17 @@ pub fn read_header(info: &[u8]) -> Result<Header<'_>, CapFault>
     ensures exact { ParsesAs head result (value_of_whole (header_at info.now)) }
 {
     whole_header(info)
+}
+
+impl<'a> Header<'a> {
+    /// The header that an info is which was read before.
+    pub fn found_in(info: &'a [u8]) -> Header<'a>
+        requires { IsReadable (value_of_whole (header_at info.now)) }
+        ensures { value_of_whole (header_at info.now) ≡ Ok (head result) }
+    {
+        match whole_header(info) {
+            Ok(header) => header,
+            Err(_) => unreachable!(),
+        }
+    }
 }

@@ -1,6 +1,7 @@
 //! The Import component.
 ghost use Rattle.std.specs.Prelude.{◌≡◌, ◌∷◌, [], ◌<◌, List, length, Some, None, Ok, IfOk, MatchOption, slice_get};
 ghost use Rattle.jc_cap_linkage.specs.Reading.{ParsesAs, many_at, value_of_whole};
+ghost use Rattle.jc_cap_linkage.specs.Again.{IsReadable};
 ghost use Rattle.jc_cap_linkage.specs.Packages.{NamedPackage, package_at};
 ghost use Rattle.jc_cap_linkage.specs.FieldViews.{package_info};
 ghost use Rattle.jc_cap_linkage.specs.Imports.{imports_at, IsImports};
@@ -65,6 +66,17 @@ pub fn read_imports(info: &[u8]) -> Result<Imports<'_>, CapFault>
 }
 
 impl<'a> Imports<'a> {
+    /// The packages that an info is which was read before. They are found again without reading it.
+    pub fn found_in(info: &'a [u8]) -> Imports<'a>
+        requires { IsReadable (value_of_whole (imports_at info.now)) }
+        ensures { value_of_whole (imports_at info.now) ≡ Ok result }
+    {
+        match u1(info) {
+            Ok((count, bytes)) => Imports { count, bytes },
+            Err(_) => unreachable!(),
+        }
+    }
+
     /// How many there are.
     pub fn count(&self) -> u8
         ensures { result ≡ length self.now }

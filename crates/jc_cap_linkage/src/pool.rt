@@ -1,6 +1,7 @@
 //! The ConstantPool component.
 ghost use Rattle.std.specs.Prelude.{◌≡◌, ◌<◌, List, length, Some, Ok, IfOk, slice_get};
 ghost use Rattle.jc_cap_linkage.specs.Reading.{ParsesAs, rest_after, many_at, value_of_whole};
+ghost use Rattle.jc_cap_linkage.specs.Again.{IsReadable};
 ghost use Rattle.jc_cap_linkage.specs.declared.pool.Entry.{Entry};
 ghost use Rattle.jc_cap_linkage.specs.Pool.{virtual_token_at, static_ref_at, entry_at, pool_at, IsPool};
 
@@ -197,6 +198,17 @@ pub fn read_pool(info: &[u8]) -> Result<ConstantPool<'_>, CapFault>
 }
 
 impl<'a> ConstantPool<'a> {
+    /// The entries that an info is which was read before. They are found again without reading it.
+    pub fn found_in(info: &'a [u8]) -> ConstantPool<'a>
+        requires { IsReadable (value_of_whole (pool_at info.now)) }
+        ensures { value_of_whole (pool_at info.now) ≡ Ok result }
+    {
+        match u2(info) {
+            Ok((count, bytes)) => ConstantPool { count, bytes },
+            Err(_) => unreachable!(),
+        }
+    }
+
     /// How many there are.
     pub fn count(&self) -> u16
         ensures { result ≡ length self.now }

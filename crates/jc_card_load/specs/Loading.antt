@@ -1,5 +1,5 @@
 -- A load, component by component.
-use Rattle.std.specs.Prelude.{ℕ, ◌+◌, ◌-◌, ◌==◌, ◌≡◌, ◌&&◌, ◌||◌, nat_lt, nat_le, Bool, true, false, List, [], ◌++◌, length, replicate, slice_set}
+use Rattle.std.specs.Prelude.{ℕ, ◌+◌, ◌==◌, ◌&&◌, ◌||◌, nat_lt, nat_le, Bool, true, false, List, [], ◌++◌, length, replicate, slice_set}
 use Rattle.std.specs.Prelude.{slice_index_or, Option, Some, None, is_some, Result, Ok, Err, if◌then◌else◌}
 use Rattle.jc_cap_linkage.specs.declared.fault.CapFault.{CapFault}
 use Rattle.jc_cap_linkage.specs.declared.fault.CapFault.TheVariants.{Trailing, Missing, Repeated, NoMemory}
@@ -7,6 +7,7 @@ use Rattle.jc_cap_linkage.specs.declared.formats.Format.{Format}
 use Rattle.jc_cap_linkage.specs.declared.formats.Format.TheVariants.{V2_1}
 use Rattle.jc_cap_linkage.specs.Tags.{header_tag, directory_tag, class_tag, debug_tag, first_custom_tag}
 use Rattle.jc_cap.specs.declared.texts.LoadedComponents.{LoadedComponents}
+use Rattle.jc_cap.specs.Taking.{Taken}
 use Rattle.jc_cap.specs.Texts.{no_components, with_component}
 use Rattle.jc_cap.specs.Contents.{Content}
 use Rattle.jc_cap.specs.Contents as contents
@@ -89,6 +90,16 @@ abbrev pub format_behind : Option Format → Content → Option Format
 format_behind told (contents.header h) = Some h.format
 format_behind told x = told
 
+-- the format in which a component with this tag is read, where the header that came, if one came, told this one
+abbrev pub format_for : Option Format → ℕ → Result Format CapFault
+format_for (Some format) tag = Ok format
+format_for None tag = if tag == directory_tag || tag == class_tag then Err (Missing header_tag) else Ok V2_1
+
+-- a component that says this is kept with the others, and the format that is told behind it; where it cannot be read nothing is kept
+abbrev pub taken_behind : Option Format → LoadedComponents → ℕ → List ℕ → Result Content CapFault → Taken
+taken_behind told texts tag bytes (Ok x) = (Ok (format_behind told x), with_component texts tag bytes)
+taken_behind told texts tag bytes (Err fault) = (Err fault, texts)
+
 -- a component that was read is kept; one that cannot be read is dropped
 abbrev pub load_with : OpenLoad → IncomingValue → Result Content CapFault → CommandResult × OpenLoad
 load_with load c (Err fault) = (Err (BadComponents fault), record load { coming = None })
@@ -105,11 +116,6 @@ load_with load c (Ok x) = (
 abbrev pub read_of : OpenLoad → Option IncomingValue → CommandResult × OpenLoad
 read_of load None = (Err OutOfSequence, load)
 read_of load (Some c) = load_with load c (content_in load.format c.tag c.bytes)
-
--- what was found: the format that is told behind the component, or its fault
-abbrev pub TellsFormat : Option Format → Result Content CapFault → Result (Option Format) CapFault → Type 0
-TellsFormat told said (Ok format) = (x : Content) × (said ≡ Ok x) × (format_behind told x ≡ format)
-TellsFormat told said (Err fault) = said ≡ Err fault
 
 -- the component that is open ends
 abbrev pub component_end : OpenLoad → CommandResult × OpenLoad

@@ -1,8 +1,12 @@
 -- Packages as the records of a heap have them.
-use Rattle.std.specs.Prelude.{ℕ, ◌/◌, ◌%◌, List, [], ◌∷◌, drop, map, Option, Some, None, Result, Ok, Err}
+use Rattle.std.specs.Prelude.{◌≡◌, ℕ, ◌/◌, ◌%◌, List, [], ◌∷◌, drop, map, Option, Some, None, Result, Ok, Err}
 use Rattle.std.specs.Option.{option_and_then, option_map}
 use Rattle.jc_cap_linkage.specs.Tags.{header_tag, directory_tag, applet_tag, import_tag, constant_pool_tag, class_tag, method_tag, static_field_tag, export_tag}
+use Rattle.jc_cap_linkage.specs.declared.fault.CapFault.{CapFault}
+use Rattle.jc_cap_linkage.specs.declared.formats.Format.{Format}
 use Rattle.jc_cap.specs.declared.texts.LoadedComponents.{LoadedComponents}
+use Rattle.jc_cap.specs.Taking.{Taken}
+use Rattle.jc_card_load.specs.Loading.{content_in, taken_behind}
 use Rattle.jc_heap.specs.declared.component.Span.{Span}
 use Rattle.jc_heap.specs.Components.{info_of, record_of}
 use Rattle.jc_heap.specs.Heap.{HeapState}
@@ -41,6 +45,16 @@ load_of words = record {
   descriptor = None;
 }
 
+-- a record's component, if there is one, is kept with the others behind a header that told this format
+abbrev pub text_taken : Option Format → LoadedComponents → ℕ → Option (List ℕ) → Taken
+text_taken told load tag (Some text) = taken_behind told load tag text (content_in told tag text)
+text_taken told load tag None = (Ok told, load)
+
+-- it is there, and cannot be read
+abbrev pub CannotBeTaken : Option Format → ℕ → Option (List ℕ) → Type 0
+CannotBeTaken told tag (Some text) = (fault : CapFault) × (content_in told tag text ≡ Err fault)
+CannotBeTaken told tag None = ⊥
+
 -- why a package that was refused is not read: the only refusal of it for want of memory is that of linking
 abbrev pub fault_of : LoadRefusal → RecordFault
 fault_of (LinkFailed link.NoMemory) = NoMemory
@@ -58,6 +72,10 @@ fault_of HeapFull = Damaged
 abbrev pub with_prepared : Packages → Result PendingPackageValue LoadRefusal → Option Packages
 with_prepared p (Err refusal) = None
 with_prepared p (Ok q) = Some (with_package p q.linked)
+
+-- whatever packages are there, none is added of these components
+abbrev pub IsNoPackage : LoadedComponents → Type 0
+IsNoPackage load = (p : Packages) → with_prepared p (linked_components p load) ≡ None
 
 -- with the packages of these records behind them, each linked against those before it; none, where one does not link
 abbrev pub with_records : Packages → List (List ℕ) → Option Packages

@@ -63,13 +63,6 @@ impl IncomingComponent {
     }
 
     /// The bytes that came.
-    pub(crate) fn bytes(&self) -> &[u8]
-        ensures { result.now ≡ self.now.bytes }
-    {
-        self.bytes.as_slice()
-    }
-
-    /// The bytes that came.
     pub(crate) fn into_bytes(self) -> Vec<u8>
         ensures bytes { result.items ≡ self.bytes }
         ensures small { length result.items < 65539 }

@@ -1,13 +1,12 @@
 //! An open load.
-ghost use Rattle.std.specs.Prelude.{◌≡◌, ◌⊎◌};
-ghost use Rattle.jc_cap.specs.Views.{content};
+ghost use Rattle.std.specs.Prelude.{◌≡◌, ◌⊎◌, ◌<◌, length};
+ghost use Rattle.jc_cap.specs.Taking.{taken};
 ghost use Rattle.jc_cap_linkage.specs.Reading.{ParsesAs};
 ghost use Rattle.jc_card_load.specs.Loading.{empty_load, component_begin, component_end, component_append, is_tag, without_memory, command_result};
-ghost use Rattle.jc_card_load.specs.Loading.{TellsFormat, content_in, format_behind};
+ghost use Rattle.jc_card_load.specs.Loading.{content_in, format_for, taken_behind};
 
 use crate::incoming::IncomingComponent;
 use crate::load_refusal::LoadRefusal;
-use jc_cap::component::{Component, read_component};
 use jc_cap::texts::LoadedComponents;
 use jc_cap_linkage::fault::CapFault;
 use jc_cap_linkage::formats::Format;
@@ -79,11 +78,10 @@ impl OpenLoad {
             return Err(LoadRefusal::OutOfSequence);
         };
         let tag = coming.tag();
-        match format_told(self.format, &coming) {
+        match take_in(self.format, &mut self.texts, tag, coming.into_bytes()) {
             Ok(format) => {
                 self.format = format;
                 self.came[tag as usize] = true;
-                self.texts.keep(tag, coming.into_bytes());
                 Ok(())
             }
             Err(fault) => Err(LoadRefusal::BadComponents(fault)),
@@ -98,31 +96,37 @@ fn is_tag(tag: u8) -> bool
     tag >= tags::HEADER && tag <= tags::DEBUG || tag >= tags::FIRST_CUSTOM
 }
 
-// What a component says. A Directory and a Class component are read in the format that the header told; before one came
-// they are refused.
-fn read_in(format: Option<Format>, tag: u8, bytes: &[u8]) -> Result<Component<'_>, CapFault>
-    ensures { ParsesAs content result (content_in format tag bytes.now) }
+// The format in which a component with this tag is read: a Directory and a Class component in the one that the header told;
+// before one came they are refused.
+fn format_for(told: Option<Format>, tag: u8) -> Result<Format, CapFault>
+    ensures { ParsesAs (λ x. x) result (format_for told tag) }
 {
-    match format {
-        Some(format) => read_component(format, tag, bytes),
+    match told {
+        Some(format) => Ok(format),
         None => {
             if tag == tags::DIRECTORY || tag == tags::CLASS {
                 return Err(CapFault::Missing(tags::HEADER));
             }
-            read_component(Format::V2_1, tag, bytes)
+            Ok(Format::V2_1)
         }
     }
 }
 
-// The format that is told behind a component that can be read.
-fn format_told(
-    format: Option<Format>,
-    coming: &IncomingComponent,
+/// Reads a component, and keeps it with the others. The format is the one that the header told, if it came; the answer is the
+/// one that is told behind it. Where the component cannot be read nothing is kept.
+pub(crate) fn take_in(
+    told: Option<Format>,
+    texts: &mut LoadedComponents,
+    tag: u8,
+    bytes: Vec<u8>,
 ) -> Result<Option<Format>, CapFault>
-    ensures { TellsFormat format (content_in format coming.now.tag coming.now.bytes) result }
+    requires small { length bytes.items < 65539 }
+    ensures { taken result texts.new ≡ taken_behind told texts.old tag bytes.items
+        (content_in told tag bytes.items) }
 {
-    match read_in(format, coming.tag(), coming.bytes())? {
-        Component::Header(header) => Ok(Some(header.format)),
-        _ => Ok(format),
+    let format = format_for(told, tag)?;
+    match texts.take(format, tag, bytes)? {
+        Some(format) => Ok(Some(format)),
+        None => Ok(told),
     }
 }

@@ -1,14 +1,19 @@
 //! Packages read from the records of a heap.
-ghost use Rattle.std.specs.Prelude.{◌≡◌, ◌<◌, ◌++◌, [], ◌∷◌, false, length, slice_index, IfOk, OnOk, Some, None, Err};
+ghost use Rattle.std.specs.Prelude.{◌≡◌, ◌<◌, ◌++◌, [], ◌∷◌, false, length, slice_index, IfOk, OnOk, Some, Ok, None, Err};
+ghost use Rattle.jc_cap.specs.Taking.{taken};
+ghost use Rattle.jc_cap.specs.Texts.{no_components};
 ghost use Rattle.jc_heap.specs.Whole.{IsConsistent};
 ghost use Rattle.jc_heap.specs.Components.{record_of, IsWithin};
-ghost use Rattle.jc_card_load.specs.Reading.{fault_of, load_of, packages_of, text_at, text_in, with_prepared};
+ghost use Rattle.jc_card_load.specs.Reading.{CannotBeTaken, IsNoPackage, fault_of, load_of, packages_of, text_at, text_in, text_taken};
+ghost use Rattle.jc_card_load.specs.Reading.{with_prepared};
 ghost use Rattle.jc_card_load.specs.PendingPackages.{linked_components, linked_texts};
 
+use crate::load::take_in;
 use crate::load_refusal::LoadRefusal;
 use crate::pending_package::read_and_link;
 use jc_cap::assembling::required_components;
-use jc_cap::texts::{ComponentBytes, LoadedComponents, PackageBytes};
+use jc_cap::texts::{LoadedComponents, PackageBytes};
+use jc_cap_linkage::formats::Format;
 use jc_cap_linkage::tags;
 use jc_heap::{Heap, Span};
 use jc_linker::fault::LinkFault;
@@ -42,10 +47,10 @@ fn read_text<S: WordStore>(
     at: Ref,
     tag: u8,
     span: Span,
-) -> Result<ComponentBytes, AllocError>
+) -> Result<Vec<u8>, AllocError>
     requires up { heap.now.down ≡ false }
     requires within { IsWithin span (record_of heap.now.now at) }
-    ensures { IfOk result (λ text. text ≡ text_at tag (record_of heap.now.now at) span) }
+    ensures { IfOk result (λ text. text.items ≡ text_at tag (record_of heap.now.now at) span) }
 {
     let mut bytes = Vec::with_capacity(alloc, 3 + usize::from(span.size))?;
     push_byte(&mut bytes, tag)?;
@@ -54,62 +59,88 @@ fn read_text<S: WordStore>(
     for i in 0..span.size {
         push_byte(&mut bytes, heap.info_byte(at, span, i))?;
     }
-    Ok(ComponentBytes::new(bytes))
+    Ok(bytes)
 }
 
-// The bytes of a record's component with this tag, if there is one.
-fn text_in<S: WordStore>(
+// The size of an info.
+fn size_of(span: Span) -> u16
+    ensures { result ≡ span.size }
+{
+    span.size
+}
+
+// Reads a record's component with this tag, if there is one, behind a header that told this format, and keeps it with the
+// others. The answer is the format that is told behind it.
+fn take_text<S: WordStore>(
     alloc: Global,
     heap: &Heap<S>,
     at: Ref,
+    told: Option<Format>,
     tag: u8,
-) -> Result<Option<ComponentBytes>, AllocError>
+    load: &mut LoadedComponents,
+) -> Result<Option<Format>, RecordFault>
     requires up { heap.now.down ≡ false }
     requires there { 0 < length (record_of heap.now.now at) }
     requires tag { 0 < tag }
-    ensures { IfOk result (λ text. text ≡ text_in (record_of heap.now.now at) tag) }
+    ensures took { IfOk result (λ format. taken (Ok format) load.new
+        ≡ text_taken told load.old tag (text_in (record_of heap.now.now at) tag)) }
+    ensures damaged { result ≡ Err RecordFault.Damaged
+        → CannotBeTaken told tag (text_in (record_of heap.now.now at) tag) }
 {
-    match heap.component(at, tag) {
-        Some(span) => {
-            let text = read_text(alloc, heap, at, tag, span)?;
-            Ok(Some(text))
-        }
-        None => Ok(None),
+    let Some(span) = heap.component(at, tag) else {
+        return Ok(told);
+    };
+    let _size = size_of(span);
+    let Ok(bytes) = read_text(alloc, heap, at, tag, span) else {
+        return Err(RecordFault::NoMemory);
+    };
+    match take_in(told, load, tag, bytes) {
+        Ok(format) => Ok(format),
+        Err(_) => Err(RecordFault::Damaged),
     }
 }
 
-// The components of a record.
+// Reads the components of a record, and keeps them where none is.
+fn take_texts<S: WordStore>(
+    alloc: Global,
+    heap: &Heap<S>,
+    at: Ref,
+    load: &mut LoadedComponents,
+) -> Result<(), RecordFault>
+    requires up { heap.now.down ≡ false }
+    requires there { 0 < length (record_of heap.now.now at) }
+    requires none { load.old ≡ no_components }
+    ensures taken { OnOk result (load.new ≡ load_of (record_of heap.now.now at)) }
+    ensures damaged { result ≡ Err RecordFault.Damaged
+        → IsNoPackage (load_of (record_of heap.now.now at)) }
+{
+    let told = take_text(alloc, heap, at, None, tags::HEADER, load)?;
+    take_text(alloc, heap, at, told, tags::DIRECTORY, load)?;
+    take_text(alloc, heap, at, told, tags::APPLET, load)?;
+    take_text(alloc, heap, at, told, tags::IMPORT, load)?;
+    take_text(alloc, heap, at, told, tags::CONSTANT_POOL, load)?;
+    take_text(alloc, heap, at, told, tags::CLASS, load)?;
+    take_text(alloc, heap, at, told, tags::METHOD, load)?;
+    take_text(alloc, heap, at, told, tags::STATIC_FIELD, load)?;
+    take_text(alloc, heap, at, told, tags::EXPORT, load)?;
+    Ok(())
+}
+
+// The components of a record, each of them read.
 fn load_of<S: WordStore>(
     alloc: Global,
     heap: &Heap<S>,
     at: Ref,
-) -> Result<LoadedComponents, AllocError>
+) -> Result<LoadedComponents, RecordFault>
     requires up { heap.now.down ≡ false }
     requires there { 0 < length (record_of heap.now.now at) }
-    ensures { IfOk result (λ load. load ≡ load_of (record_of heap.now.now at)) }
+    ensures taken { IfOk result (λ load. load ≡ load_of (record_of heap.now.now at)) }
+    ensures damaged { result ≡ Err RecordFault.Damaged
+        → IsNoPackage (load_of (record_of heap.now.now at)) }
 {
-    let header = text_in(alloc, heap, at, tags::HEADER)?;
-    let directory = text_in(alloc, heap, at, tags::DIRECTORY)?;
-    let applets = text_in(alloc, heap, at, tags::APPLET)?;
-    let imports = text_in(alloc, heap, at, tags::IMPORT)?;
-    let pool = text_in(alloc, heap, at, tags::CONSTANT_POOL)?;
-    let classes = text_in(alloc, heap, at, tags::CLASS)?;
-    let methods = text_in(alloc, heap, at, tags::METHOD)?;
-    let statics = text_in(alloc, heap, at, tags::STATIC_FIELD)?;
-    let exports = text_in(alloc, heap, at, tags::EXPORT)?;
-    Ok(LoadedComponents {
-        header,
-        directory,
-        applets,
-        imports,
-        pool,
-        classes,
-        methods,
-        statics,
-        exports,
-        reference_location: None,
-        descriptor: None,
-    })
+    let mut load = LoadedComponents::new();
+    take_texts(alloc, heap, at, &mut load)?;
+    Ok(load)
 }
 
 // Why a package that was refused is not read.
@@ -153,9 +184,7 @@ fn add_record<S: WordStore>(
         → with_prepared linked.old (linked_components linked.old
         (load_of (record_of heap.now.now at))) ≡ None }
 {
-    let Ok(load) = load_of(alloc, heap, at) else {
-        return Err(RecordFault::NoMemory);
-    };
+    let load = load_of(alloc, heap, at)?;
     match required_components(load) {
         Ok(texts) => link_and_add(alloc, linked, &texts),
         Err(_) => Err(RecordFault::Damaged),

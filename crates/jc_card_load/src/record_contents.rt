@@ -7,7 +7,7 @@ ghost use Rattle.jc_heap.specs.Packages.{part as component_part};
 ghost use Rattle.jc_card_load.specs.RecordContents.{AreRecordContents, array_of, kind_of, part, parts_of, statics_of, zeros_of};
 
 use crate::linker_view::info_in;
-use jc_cap::texts::{ComponentBytes, PackageBytes};
+use jc_cap::texts::PackageBytes;
 use jc_cap_code::static_arrays::{ArrayInit, ArrayInits, ElementType};
 use jc_cap_code::statics::StaticFields;
 use jc_cap_linkage::tags;
@@ -24,12 +24,12 @@ pub struct RecordContents<'a> {
 }
 
 // A component of a record.
-fn component(tag: u8, text: &ComponentBytes) -> RecordComponent<'_>
+fn component(tag: u8, text: &[u8]) -> RecordComponent<'_>
     ensures { component_part result ≡ part tag text.entry.now }
 {
     RecordComponent {
         tag,
-        info: info_in(tag, text.bytes()),
+        info: info_in(tag, text),
     }
 }
 
@@ -42,18 +42,18 @@ fn record_components_of(
     ensures { IfOk result (λ made. parts made.items ≡ parts_of texts.entry.now) }
 {
     let mut components = Vec::new(alloc);
-    components.push(component(tags::HEADER, &texts.header))?;
-    components.push(component(tags::DIRECTORY, &texts.directory))?;
+    components.push(component(tags::HEADER, texts.header.bytes()))?;
+    components.push(component(tags::DIRECTORY, texts.directory.bytes()))?;
     if let Some(text) = &texts.applets {
-        components.push(component(tags::APPLET, text))?;
+        components.push(component(tags::APPLET, text.bytes()))?;
     }
-    components.push(component(tags::IMPORT, &texts.imports))?;
-    components.push(component(tags::CONSTANT_POOL, &texts.pool))?;
-    components.push(component(tags::CLASS, &texts.classes))?;
-    components.push(component(tags::METHOD, &texts.methods))?;
-    components.push(component(tags::STATIC_FIELD, &texts.statics))?;
+    components.push(component(tags::IMPORT, texts.imports.bytes()))?;
+    components.push(component(tags::CONSTANT_POOL, texts.pool.bytes()))?;
+    components.push(component(tags::CLASS, texts.classes.bytes()))?;
+    components.push(component(tags::METHOD, texts.methods.bytes()))?;
+    components.push(component(tags::STATIC_FIELD, texts.statics.bytes()))?;
     if let Some(text) = &texts.exports {
-        components.push(component(tags::EXPORT, text))?;
+        components.push(component(tags::EXPORT, text.bytes()))?;
     }
     Ok(components)
 }

@@ -26,6 +26,13 @@ run_words-at at (v ∷ vs) (suc k) h =
     let next : suc at + k ≡ at + suc k = omega arith in
     run_words-at (suc at) vs k (omega arith) ∙ ap (λ (a : ℕ). (a, get_or vs k 0)) next
 
+-- a word of a run, by its address and its value
+pub run_word : (at : ℕ) (vs : List ℕ) (words : List (ℕ × ℕ)) (k v : ℕ) → run_words at vs ≡ words → k < length words → v ≡ get_or vs k 0
+    → (at + k, v) ≡ get_or words k (0, 0)
+run_word at vs words k v is below e =
+    ap (λ (x : ℕ). (at + k, x)) e ∙ sym (run_words-at at vs k (omega (arith, below, viewed_length at vs words is)))
+    ∙ ap (λ (l : List (ℕ × ℕ)). get_or l k (0, 0)) is
+
 address-at : (at : ℕ) (vs : List ℕ) (k d : ℕ) → k < length (addresses_of (run_words at vs)) → get_or (addresses_of (run_words at vs)) k d ≡ at + k
 address-at at [] k d h = absurd (omega arith)
 address-at at (v ∷ vs) zero d h = sym (add-zero at)

@@ -1,5 +1,5 @@
 //! Changes of several words, made up as they are read.
-ghost use Rattle.std.specs.Prelude.{◌≡◌, ◌<◌, ◌≤◌, ◌+◌, ◌-◌, ◌^◌, ◌++◌, ℕ, List, length, drop, slice_index, slice_index_or, IfOk, IfErr};
+ghost use Rattle.std.specs.Prelude.{◌≡◌, ◌<◌, ◌≤◌, ◌+◌, ◌-◌, ◌^◌, ◌++◌, ℕ, List, length, drop, slice_index, slice_index_or, IfOk, IfErr, IfSome};
 ghost use Rattle.jc_heap.specs.Heap.{run_words};
 ghost use Rattle.jc_heap.specs.Places.{place_word, words_of};
 ghost use Rattle.jc_heap.specs.WordRuns.{AreWords};
@@ -174,6 +174,23 @@ impl<'a> CellRun<'a> {
         }
     }
 
+    /// The same where its bytes fill its words.
+    #[inline(always)]
+    pub(crate) fn whole(&self) -> Option<WholeRun<'a>>
+        ensures { IfSome result (λ run. run ≡ self.now) }
+    {
+        let Elements::Bytes(bytes) = self.values else {
+            return None;
+        };
+        let Packing::Double { .. } = self.packing else {
+            return None;
+        };
+        if 2 * self.length() != bytes.len() {
+            return None;
+        }
+        Some(WholeRun { at: self.at, bytes })
+    }
+
     /// The same with its words ready to be read, where two bytes of a slice stand in each.
     #[inline(never)]
     pub(crate) fn packed(self) -> Result<PackedRun<'a>, CellRun<'a>>
@@ -213,6 +230,43 @@ impl<'a> WordChanges for CellRun<'a> {
     #[inline(always)]
     fn change(&self, k: usize) -> (u16, u16) {
         self.word(k)
+    }
+}
+
+/// A run of bytes that fill its words, two each.
+#[derive(Drop)]
+pub(crate) struct WholeRun<'a> {
+    at: u16,
+    bytes: &'a [u8],
+}
+
+impl<'a> Model for WholeRun<'a> {
+    ghost use Rattle.std.specs.Prelude.{List, ℕ, length, ◌+◌, ◌%◌, ◌≤◌, ◌≡◌};
+    ghost use Rattle.jc_heap.specs.Heap.{run_words};
+    ghost use Rattle.jc_heap.specs.Packed.{packed_words};
+
+    ghost Value = { List (ℕ × ℕ) };
+
+    ghost view = { λ r. run_words r.at (packed_words r.bytes.now) };
+
+    ghost invariant = { λ r. (r.at + length (packed_words r.bytes.now) ≤ 65536)
+        × (length r.bytes.now % 2 ≡ 0) };
+}
+
+impl<'a> WordChanges for WholeRun<'a> {
+    ghost changes = { λ words. words };
+
+    #[inline(always)]
+    fn count(&self) -> usize {
+        let bytes = self.bytes;
+        bytes.len() / 2
+    }
+
+    #[inline(always)]
+    fn change(&self, k: usize) -> (u16, u16) {
+        let bytes = self.bytes;
+        let value = 256 * u16::from(bytes[2 * k]) + u16::from(bytes[2 * k + 1]);
+        (self.at + k as u16, value)
     }
 }
 

@@ -1,5 +1,8 @@
 //! The cells of persistent objects in words: one in a word, or two in a word of a packed array.
-ghost use Rattle.std.specs.Prelude.{ℕ, ◌≡◌, ◌<◌, ◌≤◌, ◌+◌, true, false, length, slice_index};
+ghost use Rattle.std.specs.Prelude.{ℕ, ◌≡◌, ◌<◌, ◌≤◌, ◌+◌, ◌↔◌, true, false, length, slice_index, Err, OnOk};
+ghost use Rattle.jc_commit.specs.Entries.{addresses_of, AreDistinct, ArePlaces};
+ghost use Rattle.jc_commit.specs.Keeping.{has_room_for};
+ghost use Rattle.jc_commit.specs.State.{keeping, Changes, IsTornWrite};
 ghost use Rattle.jc_heap.specs.Object.{IsElement, is_packed};
 ghost use Rattle.jc_heap.specs.Image.{IsWellFormed};
 ghost use Rattle.jc_heap.specs.Heap.{heap_of, cells, facts, cell_address};
@@ -11,7 +14,7 @@ use crate::changes::{CellRun, Elements, Packing};
 use crate::layout::HEADER;
 use crate::object::is_packed_header;
 use crate::place::Place;
-use jc_commit::Journal;
+use jc_commit::{Journal, WriteRefusal};
 use jc_transient::Ref;
 use jc_words::WordStore;
 
@@ -225,4 +228,27 @@ pub(crate) fn run_for<'a, S: WordStore>(
         behind: byte_behind(journal, object, usize::from(i) + count),
     };
     CellRun::new(word_at(object, i / 2), values, packing)
+}
+
+/// Writes the words of a run as one change.
+pub(crate) fn change_run<S: WordStore>(
+    journal: &mut Journal<S>,
+    run: CellRun,
+) -> Result<(), WriteRefusal>
+    requires up { journal.old.down ≡ false }
+    requires places { ArePlaces (length journal.old.plain) run }
+    requires distinct { AreDistinct (addresses_of run) }
+    ensures ok { OnOk result (Changes run.entry journal.old journal.new) }
+    ensures full { (result ≡ Err WriteRefusal.Full)
+        ↔ (has_room_for (keeping journal.old) (addresses_of run.entry) ≡ false) }
+    ensures kept { result ≡ Err WriteRefusal.Full → journal.new ≡ journal.old }
+    ensures stopped { result ≡ Err WriteRefusal.StoreDown → IsTornWrite journal.old journal.new }
+{
+    if let Some(whole) = run.whole() {
+        return journal.write_all(&whole);
+    }
+    match run.packed() {
+        Ok(packed) => journal.write_all(&packed),
+        Err(cells) => journal.write_all(&cells),
+    }
 }

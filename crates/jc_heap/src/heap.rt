@@ -14,7 +14,7 @@ ghost use Rattle.jc_heap.specs.Moves.{Write, SetCells, Begin, Commit, Abort, Per
 ghost use Rattle.jc_heap.specs.Completions.{Completed, after_change, after_step};
 
 use crate::changes::Elements;
-use crate::elements::{cell_bytes, cell_value, run_for};
+use crate::elements::{cell_bytes, cell_value, change_run, run_for};
 use crate::lookup::{facts_at, next_behind};
 use crate::object::Facts;
 use crate::place::Place;
@@ -136,10 +136,8 @@ impl<S: WordStore> Heap<S> {
             self.old (after_change result self.new)
             (SetCells object i (elements_of values.entry) ∷ []) tt }
     {
-        match run_for(&self.journal, object, i, values).packed() {
-            Ok(run) => self.journal.write_all(&run)?,
-            Err(run) => self.journal.write_all(&run)?,
-        }
+        let run = run_for(&self.journal, object, i, values);
+        change_run(&mut self.journal, run)?;
         Ok(())
     }
 

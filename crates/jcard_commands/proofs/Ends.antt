@@ -2,11 +2,12 @@
 use Rattle.std.proofs.Common.{◌≡◌, ℕ, Bool, List, [], ◌++◌, Option, Result, Err, refl, sym, subst, ap, ◌∙◌, inl, inr}
 use Rattle.std.specs.Io.KnownBytes.{Appends}
 use Rattle.jc_words.specs.Count.{failures_after}
-use Rattle.jcard_commands.specs.FileDeeds.{FileDeed}
-use Rattle.jcard_commands.specs.CommandLine.{CommandLineRequest, IsTakenAs, request_of_words}
-use Rattle.jcard_commands.specs.Faults.{failures_of, is_unwritten, status_of, IsDone, IsDoneOrNoMemory, IsLastLine, IsPerformed, IsStarted, IsUnbegun}
-use Rattle.jcard_commands.specs.declared.fault.Fault.{Fault}
-use Rattle.jcard_commands.specs.declared.fault.Fault.TheVariants.{BadCommandLine, NoMemory, CannotRead}
+use Rattle.jcard_files.specs.FileDeeds.{FileDeed}
+use Rattle.jcard_arguments.specs.CommandLine.{CommandLineRequest, IsTakenAs, request_of_words}
+use Rattle.jcard_faults.specs.Faults.{failures_of, is_unwritten, status_of, IsLastLine}
+use Rattle.jcard_commands.specs.Commands.{IsDone, IsDoneOrNoMemory, IsPerformed, IsStarted, IsUnbegun}
+use Rattle.jcard_faults.specs.declared.fault.Fault.{Fault}
+use Rattle.jcard_faults.specs.declared.fault.Fault.TheVariants.{BadCommandLine, NoMemory, CannotRead}
 
 -- words that are taken for nothing, or memory that was refused
 pub nothing_done : (words : List (List ℕ)) (fault : Fault) → IsTakenAs (request_of_words words) (Err fault)

@@ -1,14 +1,2 @@
-pub mod CommandLine
-pub mod CommandWalk
-pub mod Dumps
 pub mod Ends
-pub mod FlagWords
-pub mod Listings
-pub mod OptionLines
-pub mod RowTests
-pub mod RunLines
-pub mod Runs
-pub mod Stores
-pub mod TearLines
-pub mod Tears
-pub mod Joinings
+pub mod Trials

@@ -1,11 +1,3 @@
-pub mod FileDeeds
-pub mod CommandLine
-pub mod Dumps
-pub mod Faults
-pub mod Images
-pub mod Listings
-pub mod MemDisks
-pub mod NewImages
-pub mod Tears
-pub mod Tests
-pub mod Joinings
+pub mod Commands
+pub mod Runs
+pub mod Trials

@@ -1,14 +1,15 @@
 //! The program, from its arguments to its exit status.
 ghost use Rattle.std.specs.Prelude.{◌≡◌, ◌++◌, ℕ, List, Bool, Result, Err};
 ghost use Rattle.std.specs.Io.KnownBytes.{Appends};
-ghost use Rattle.jcard_commands.specs.FileDeeds.{FileDeed};
-ghost use Rattle.jcard_commands.specs.Faults.{failures_of, status_of, IsLastLine, IsStarted, IsUnbegun};
-ghost use Rattle.jcard_commands.specs.declared.fault.Fault.{Fault};
+ghost use Rattle.jcard_files.specs.FileDeeds.{FileDeed};
+ghost use Rattle.jcard_faults.specs.Faults.{failures_of, status_of, IsLastLine};
+ghost use Rattle.jcard_commands.specs.Commands.{IsStarted, IsUnbegun};
+ghost use Rattle.jcard_faults.specs.declared.fault.Fault.{Fault};
 
-use crate::disk::SystemDisk;
-use crate::fault::{Fault, tell};
 use crate::run::perform;
 use jc_words::LockFile;
+use jcard_faults::fault::{Fault, tell};
+use jcard_files::disk::SystemDisk;
 use jcard_script::streams::TextOut;
 use std::alloc::AllocError;
 use std::env::{self, Env};

@@ -3,27 +3,29 @@ ghost use Rattle.std.specs.Prelude.{◌≡◌, ◌++◌, ℕ, List, Bool, Result
 ghost use Rattle.std.specs.String.{string_bytes};
 ghost use Rattle.std.specs.Io.KnownBytes.{Appends};
 ghost use Rattle.jc_words.specs.Count.{failures_after};
-ghost use Rattle.jcard_commands.specs.CommandLine.{request_by};
-ghost use Rattle.jcard_commands.specs.FileDeeds.{FileDeed};
-ghost use Rattle.jcard_commands.specs.Faults.{status_of, failures_of, is_unwritten, IsCarriedOut, IsDone, IsLastLine, IsPerformed, IsRun, IsScriptFault};
-ghost use Rattle.jcard_commands.specs.Faults.{IsDoneOrNoMemory, IsUnpowered};
-ghost use Rattle.jcard_commands.specs.declared.fault.Fault.{Fault};
+ghost use Rattle.jcard_arguments.specs.CommandLine.{request_by};
+ghost use Rattle.jcard_files.specs.FileDeeds.{FileDeed};
+ghost use Rattle.jcard_faults.specs.Faults.{status_of, failures_of, is_unwritten, IsLastLine};
+ghost use Rattle.jcard_commands.specs.Runs.{IsCarriedOut, IsRun};
+ghost use Rattle.jcard_commands.specs.Commands.{IsDone, IsPerformed, IsDoneOrNoMemory};
+ghost use Rattle.jcard_faults.specs.declared.fault.Fault.{Fault};
 
-use crate::arguments::{Action, parse};
-use crate::closed_store::ClosedStore;
-use crate::disk::Disk;
-use crate::dump::dump_image;
-use crate::fault::{Damage, Fault, tell};
-use crate::joining::{files_of, join_files};
-use crate::new_image::make_image;
-use crate::tearing::{Asked, tear_image};
-use crate::testing::test_files;
 use crate::trial::try_script;
 use jc_words::{FuseStore, WordStore};
-use jcard_script::card::power_up::PowerFault;
-use jcard_script::script::{ScriptFault, run_script};
+use jcard_arguments::arguments::{Action, parse};
+use jcard_arguments::join_line::files_of;
+use jcard_faults::fault::{Fault, tell};
+use jcard_faults::script_fault::{Names, script_fault};
+use jcard_files::closed_store::ClosedStore;
+use jcard_files::disk::Disk;
+use jcard_images::dump::dump_image;
+use jcard_images::new_image::make_image;
+use jcard_script::script::run_script;
 use jcard_script::std_text::StdText;
 use jcard_script::streams::{TextIn, TextOut};
+use jcard_sweeps::joining::join_files;
+use jcard_sweeps::tearing::{Asked, tear_image};
+use jcard_tests::testing::test_files;
 use std::alloc::Global;
 
 /// Does what the words ask for, the program's name among them as the first, and answers the exit
@@ -160,13 +162,6 @@ fn run_file<'n, D: Disk, W: TextOut>(
     }
 }
 
-/// The names of an image and of a script.
-#[derive(Clone, Copy, Drop)]
-pub(crate) struct Names<'a> {
-    pub(crate) image: &'a str,
-    pub(crate) script: &'a str,
-}
-
 /// Carries out the script on the card of this store, and gives the store back.
 pub(crate) fn run_named<'a, S: WordStore + Drop, I: TextIn, W: TextOut>(
     alloc: Global,
@@ -185,34 +180,5 @@ pub(crate) fn run_named<'a, S: WordStore + Drop, I: TextIn, W: TextOut>(
     match ended {
         Ok(()) => (store, Ok(())),
         Err(cause) => (store, Err(script_fault(names, cause))),
-    }
-}
-
-// What it means that the script was not carried out to its end.
-fn script_fault<'a>(names: Names<'a>, cause: ScriptFault) -> Fault<'a>
-    ensures { IsScriptFault names.entry.image.now names.entry.script.now cause result }
-{
-    match cause {
-        ScriptFault::ReadFailed => Fault::CannotRead(names.script),
-        ScriptFault::WriteFailed => Fault::WriteFailed,
-        ScriptFault::BadLine(n) => Fault::BadCommand(n),
-        ScriptFault::TooLong => Fault::ScriptTooLong,
-        ScriptFault::PowerFault(cause) => power_up_fault(names.image, cause),
-    }
-}
-
-/// What it means that the card of the image of this name does not power up.
-pub(crate) fn power_up_fault(image: &str, cause: PowerFault) -> Fault<'_>
-    ensures { IsUnpowered image.now cause result }
-{
-    match cause {
-        PowerFault::BadMagic => Fault::BadImage(Damage::Magic),
-        PowerFault::BadVersion => Fault::BadImage(Damage::Version),
-        PowerFault::BadSize => Fault::BadImage(Damage::Size),
-        PowerFault::BadLog => Fault::BadImage(Damage::Log),
-        PowerFault::BadTable => Fault::BadImage(Damage::Table),
-        PowerFault::BadPackage => Fault::BadImage(Damage::Package),
-        PowerFault::NoMemory => Fault::NoMemory,
-        PowerFault::StoreDown => Fault::CannotWrite(image),
     }
 }

@@ -1,23 +1,26 @@
 //! Trying a script on a new card in memory.
-ghost use Rattle.std.specs.Prelude.{◌≡◌, ◌≤◌, ◌∷◌, [], ℕ, List, Option};
+ghost use Rattle.std.specs.Prelude.{◌≡◌, ◌≤◌, ◌∷◌, [], ℕ, List, Option, Result};
 ghost use Rattle.std.specs.Io.KnownBytes.{Appends};
 ghost use Rattle.jc_words.specs.Count.{failures_after};
 ghost use Rattle.jc_words.specs.Layout.{least_size};
-ghost use Rattle.jcard_commands.specs.Faults.{IsTrial, IsTriedOn, is_unwritten};
-ghost use Rattle.jcard_commands.specs.FileDeeds.{FileDeed, ReadsText};
-ghost use Rattle.jcard_commands.specs.NewImages.{IsNewImageInMemory, IsTable};
+ghost use Rattle.jcard_commands.specs.Trials.{IsTrial, IsTriedOn};
+ghost use Rattle.jcard_faults.specs.Faults.{is_unwritten};
+ghost use Rattle.jcard_faults.specs.declared.fault.Fault.{Fault};
+ghost use Rattle.jcard_files.specs.FileDeeds.{FileDeed, ReadsText};
+ghost use Rattle.jcard_images.specs.NewImages.{IsTable};
 
-use crate::disk::Disk;
-use crate::fault::Fault;
-use crate::new_image::{format_fault, text_of, word_count};
-use crate::run::{Names, run_named};
+use crate::run::run_named;
 use jc_platform::fault::TableFault;
 use jc_platform::read::read_table;
-use jc_words::{FuseStore, MemStore};
-use jcard_script::card::formatting::format;
+use jc_words::FuseStore;
+use jcard_faults::fault::Fault;
+use jcard_faults::script_fault::Names;
+use jcard_files::disk::Disk;
+use jcard_files::reading::text_of;
+use jcard_images::memory_image::new_image;
+use jcard_images::new_image::word_count;
 use jcard_script::std_text::StdText;
 use jcard_script::streams::TextOut;
-use std::alloc::Global;
 
 /// Carries out the script in the file of the first name, on a new card in memory of so many words, a
 /// decimal number, with the platform table in the file of the last name. No file is changed.
@@ -58,7 +61,7 @@ fn try_on<'n, D: Disk, W: TextOut>(
 ) -> Result<(), Fault<'n>>
     requires enough { least_size ≤ count }
     requires table { IsTable table.now }
-    ensures done { (text : List ℕ) × (opened : Option (Option (List ℕ)))
+    ensures done { (text : List ℕ) × (opened : Result (Option (List ℕ)) Fault)
         × Appends (W.contents out.old) (W.contents out.new) text
         × IsTriedOn script.now count table.now result text opened
         × D.does disk.old (ReadsText script.now opened ∷ []) disk.new }
@@ -80,22 +83,4 @@ fn try_on<'n, D: Disk, W: TextOut>(
     };
     let mut reader = StdText::new(file);
     run_named(disk.alloc(), names, FuseStore::new(store), &mut reader, out).1
-}
-
-/// A new image in memory.
-pub(crate) fn new_image<'a>(alloc: Global, count: u16, table: &[u8]) -> Result<MemStore, Fault<'a>>
-    requires enough { least_size ≤ count }
-    requires table { IsTable table.now }
-    ensures { IsNewImageInMemory count table.now result }
-{
-    let Ok(store) = MemStore::new(alloc, count) else {
-        return Err(Fault::NoMemory);
-    };
-    let (store, made) = format(store, table);
-    match made {
-        // What it took to make the image does not count as writes of the card.
-        Ok(()) => Ok(MemStore::of(store.into_words())),
-        // The number and the table are good, and a store in memory refuses no write: the table is too large.
-        Err(cause) => Err(format_fault("memory", cause)),
-    }
 }

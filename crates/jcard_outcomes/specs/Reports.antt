@@ -117,8 +117,11 @@ abbrev pub whole_text : ℕ → ℕ → Bool → List ℕ
 whole_text total before tries = claim_text tries ++ cuts_text total ++ shares_text total before
 
 -- one of them left something else
+abbrev pub broken_told : ℕ → List ℕ
+broken_told k = codes "NOT all or nothing: first at cut " ++ decimal k
+
 abbrev pub broken_text : ℕ → List ℕ
-broken_text k = codes "NOT all or nothing: first at cut " ++ decimal k ++ codes "\n"
+broken_text k = broken_told k ++ codes "\n"
 
 abbrev pub verdict_by : Option ℕ → List Cut → List ℕ
 verdict_by (Some k) cuts = broken_text k

@@ -1,11 +1,11 @@
 //! The verdict over all cuts of a command.
-ghost use Rattle.std.specs.Prelude.{◌≡◌, ◌++◌, ◌==◌, ◌||◌, OnOk, length, is_none, if◌then◌else◌};
-ghost use Rattle.jcard_outcomes.specs.Reports.{any_but_tries, are_whole, broken_text, claim_text, count_before, cuts_text, first_broken, is_after, is_before, is_but_tries, shares_text, verdict_text, whole_text};
+ghost use Rattle.std.specs.Prelude.{◌≡◌, ◌++◌, ◌==◌, ◌||◌, IfOk, OnOk, length, is_none, option_map, if◌then◌else◌};
+ghost use Rattle.jcard_outcomes.specs.Reports.{any_but_tries, are_whole, broken_told, broken_text, claim_text, count_before, cuts_text, first_broken, is_after, is_before, is_but_tries, shares_text, verdict_text, whole_text};
 
 use crate::recoveries::first_difference;
 use crate::rows::push_number;
 use crate::standing::{Cut, Standing};
-use std::alloc::AllocError;
+use std::alloc::{AllocError, Global};
 
 /// Whether each cut left what was before the command or what it leaves where it is not cut, and no recovery made a difference.
 pub fn is_all_or_nothing(cuts: &[Cut]) -> bool
@@ -31,12 +31,31 @@ pub(crate) fn push_verdict(text: &mut Vec<u8>, cuts: &[Cut]) -> Result<(), Alloc
     }
 }
 
+/// What is told, without a line feed, where a cut left something else; none where each left what was before or what comes after.
+pub fn broken(alloc: Global, cuts: &[Cut]) -> Result<Option<Vec<u8>>, AllocError>
+    ensures { IfOk result (λ found. option_map (λ text. text.items) found
+        ≡ option_map broken_told (first_broken 0 cuts.now)) }
+{
+    let Some(number) = first_broken(cuts) else {
+        return Ok(None);
+    };
+    let mut text = Vec::new(alloc);
+    push_broken_told(&mut text, number)?;
+    Ok(Some(text))
+}
+
 fn push_broken(text: &mut Vec<u8>, number: usize) -> Result<(), AllocError>
     ensures { OnOk result (text.new.items ≡ text.old.items ++ broken_text number) }
 {
-    text.extend_from_slice(b"NOT all or nothing: first at cut ")?;
-    push_number(text, number)?;
+    push_broken_told(text, number)?;
     text.extend_from_slice(b"\n")
+}
+
+fn push_broken_told(text: &mut Vec<u8>, number: usize) -> Result<(), AllocError>
+    ensures { OnOk result (text.new.items ≡ text.old.items ++ broken_told number) }
+{
+    text.extend_from_slice(b"NOT all or nothing: first at cut ")?;
+    push_number(text, number)
 }
 
 fn push_whole(

@@ -1,12 +1,25 @@
 -- The cards that lines make, a line after the other.
-use Rattle.std.proofs.Common.{◌≡◌, ℕ, ◌+◌, ◌<◌, ◌≤◌, List, [], ◌∷◌, ◌++◌, Some, None, length, get_or, drop, refl, sym, subst, inl, inr, append_assoc}
+use Rattle.std.specs.Prelude.{MatchBool, ◌&&◌, not}
+use Rattle.std.proofs.Common.{◌≡◌, ℕ, ◌+◌, ◌-◌, ◌<◌, ◌≤◌, Bool, true, false, take, List, [], ◌∷◌, ◌++◌, Some, None, length, get_or, drop, refl, sym, subst, inl, inr, append_assoc}
 use Rattle.std.specs.String.{string_bytes}
+use Rattle.std.proofs.lemmas.Bool.{false≢true}
 use Rattle.std.proofs.lemmas.List.{drop_all}
-use Rattle.jcard_rows.specs.Cards.{AreCards, IsNewCard, IsRowOfLine}
+use Rattle.jcard_rows.specs.Cards.{AddsRow, AreCards, IsNewCard, IsRowOfLine, ends_with_tear, is_tear, torn}
 use Rattle.jcard_rows.specs.declared.card_rows.CardRows.{CardRows}
 use Rattle.jcard_rows.specs.declared.numbered.Numbered.{Numbered}
 use Rattle.jcard_rows.specs.declared.row.Row.{Row}
 use Rattle.jcard_rows.proofs.Items.{drop_at}
+
+by_tests : (b t : Bool) (P Q : Type 0) → b ≡ false → t ≡ true → P → MatchBool (not b && t) P Q
+by_tests false true P Q e f p = p
+by_tests false false P Q e f p = absurd (false≢true f)
+by_tests true t P Q e f p = absurd (false≢true (sym e))
+
+-- a row behind one that says so is torn
+pub torn_behind : (rows : List Row) (r : Row) (all : List Row) → is_tear r ≡ false → ends_with_tear rows ≡ true
+    → all ≡ take (length rows - 1) rows ++ torn r ∷ [] → AddsRow rows r all
+torn_behind rows r all other said is = by_tests (is_tear r) (ends_with_tear rows) (all ≡ take (length rows - 1) rows ++ torn r ∷ []) (all ≡ rows ++ r ∷ [])
+    other said is
 
 -- the card behind the last line
 pub card_last : (lines : List Numbered) (i words : ℕ) (rows : List Row) (card : CardRows) → length lines ≤ i → card.words ≡ words
@@ -22,10 +35,11 @@ module _ (lines : List Numbered) (i : ℕ) (line : Numbered) (h : i < length lin
   card_same more says a = subst (λ (ls : List Numbered). AreCards ls words rows more) (sym (drop_at lines i line h e)) (inl (says, a))
 
   -- it is a row
-  pub card_row : (more : List CardRows) (r : Row) → IsRowOfLine line (Some r) → ((size : ℕ) → IsNewCard (string_bytes r.command) size → ⊥)
-      → AreCards (drop (i + 1) lines) words (rows ++ r ∷ []) more → AreCards (drop i lines) words rows more
+  pub card_row : (more : List CardRows) (r : Row) (all : List Row) → IsRowOfLine line (Some r) → ((size : ℕ) → IsNewCard (string_bytes r.command) size → ⊥)
+      → AddsRow rows r all → AreCards (drop (i + 1) lines) words all more → AreCards (drop i lines) words rows more
   unfolding AreCards
-  card_row more r says none a = subst (λ (ls : List Numbered). AreCards ls words rows more) (sym (drop_at lines i line h e)) (inr (r, says, inr (none, a)))
+  card_row more r all says none adds a = subst (λ (ls : List Numbered). AreCards ls words rows more) (sym (drop_at lines i line h e))
+      (inr (r, says, inr (none, all, adds, a)))
 
   -- it makes a card
   pub card_next : (more : List CardRows) (r : Row) (size : ℕ) (card : CardRows) → IsRowOfLine line (Some r) → IsNewCard (string_bytes r.command) size

@@ -1,5 +1,6 @@
 -- The cards that the lines of a file make, and their rows.
-use Rattle.std.specs.Prelude.{ℕ, ◌≡◌, ◌≤◌, ◌⊎◌, List, [], ◌∷◌, ◌++◌, codes, option_map, unwrap_or, Option, Some, None}
+use Rattle.std.specs.Prelude.{ℕ, ◌≡◌, ◌≤◌, ◌⊎◌, ◌-◌, ◌&&◌, Bool, true, false, not, MatchBool, List, [], ◌∷◌, ◌++◌, codes, length, slice_get, take, option_map, unwrap_or, Option, Some, None}
+use Rattle.std.specs.Str.{bytes_eq}
 use Rattle.std.specs.Borrow.{Bor}
 use Rattle.std.specs.String.{string_bytes}
 use Rattle.jcard_rows.specs.Lines.{IsNumber, Says}
@@ -9,11 +10,12 @@ use Rattle.jcard_rows.specs.declared.line.Line.TheVariants.{Nothing, Row as Says
 use Rattle.jcard_rows.specs.declared.numbered.Numbered.{Numbered}
 use Rattle.jcard_rows.specs.declared.row.Row.{Row}
 
--- a row of this number, command and answer
+-- a row of this number, command and answer, which is not torn
 pub record IsRow (number : ℕ) (command wanted : List ℕ) (r : Row) : Type 0 where
   pub number_is : r.number ≡ number
   pub command_is : string_bytes r.command ≡ command
   pub wanted_is : string_bytes r.wanted ≡ wanted
+  pub whole : r.torn ≡ false
 
 -- the row of a line that says so: 9000 is wanted where it says nothing else, and a directive is a row that no card answers
 abbrev pub IsRowOf : Numbered → Line → Row → Type 0
@@ -34,12 +36,33 @@ IsNewCard command words = (digits : List ℕ) × (command ≡ codes "card " ++ d
 abbrev pub IsCard : ℕ → List Row → CardRows → Type 0
 IsCard words rows card = (card.words ≡ words) × (card.rows.items ≡ rows)
 
+-- a row says that the one behind it is torn
+abbrev pub is_tear : Row → Bool
+is_tear r = bytes_eq (string_bytes r.command) (codes "tear all-or-nothing")
+
+abbrev pub says_tear : Option Row → Bool
+says_tear (Some r) = is_tear r
+says_tear None = false
+
+-- the last of these rows does
+abbrev pub ends_with_tear : List Row → Bool
+ends_with_tear rows = says_tear (slice_get rows (length rows - 1))
+
+-- a row that is torn
+abbrev pub torn : Row → Row
+torn r = record r { torn = true }
+
+-- one more row: behind a row that says so it is torn, and stands in its place. A row that says so itself is not
+abbrev pub AddsRow : List Row → Row → List Row → Type 0
+AddsRow rows r all = MatchBool (not (is_tear r) && ends_with_tear rows)
+    (all ≡ take (length rows - 1) rows ++ torn r ∷ []) (all ≡ rows ++ r ∷ [])
+
 -- with a row that makes a new card the next begins; any other is one more row of this one
 abbrev pub GoesOn : (ℕ → List Row → List CardRows → Type 0) → ℕ → List Row → Row → List CardRows → Type 0
 GoesOn then words rows r cards =
     ((size : ℕ) × (card : CardRows) × (more : List CardRows) × IsNewCard (string_bytes r.command) size × (cards ≡ card ∷ more) × IsCard words rows card
     × then size [] more)
-    ⊎ (((size : ℕ) → IsNewCard (string_bytes r.command) size → ⊥) × then words (rows ++ r ∷ []) cards)
+    ⊎ (((size : ℕ) → IsNewCard (string_bytes r.command) size → ⊥) × (all : List Row) × AddsRow rows r all × then words all cards)
 
 -- the cards that these lines make, from one of so many words with these rows on
 unfoldable pub AreCards : List Numbered → ℕ → List Row → List CardRows → Type 0

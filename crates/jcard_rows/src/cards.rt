@@ -1,7 +1,7 @@
 //! New cards, and the rows that each is told.
-ghost use Rattle.std.specs.Prelude.{◌≡◌, ℕ, List, codes, IfOk, MatchOption, option_map, unwrap_or};
+ghost use Rattle.std.specs.Prelude.{◌≡◌, ℕ, List, codes, IfOk, OnOk, MatchOption, option_map, unwrap_or};
 ghost use Rattle.std.specs.Borrow.{Bor};
-ghost use Rattle.jcard_rows.specs.Cards.{AreCardsOf, IsNewCard, IsRow, IsRowOfLine};
+ghost use Rattle.jcard_rows.specs.Cards.{AddsRow, AreCardsOf, IsNewCard, IsRow, IsRowOfLine, ends_with_tear, is_tear, torn};
 
 use crate::card_rows::CardRows;
 use crate::line::{Line, read_line};
@@ -16,7 +16,7 @@ const WORDS: u16 = 8192;
 const LEAST: u16 = 4096;
 
 /// The cards that lines make by `card WORDS`, behind one with which they begin, and the rows of each; 9000 is wanted where a row
-/// says nothing. A directive that is left is a row too, which no card answers.
+/// says nothing. The row behind a line `tear all-or-nothing` is torn. A directive that is left is a row too, which no card answers.
 pub fn cards_of(alloc: Global, lines: &[Numbered]) -> Result<Vec<CardRows>, AllocError>
     ensures { IfOk result (λ cards. AreCardsOf lines.now cards.items) }
 {
@@ -33,11 +33,52 @@ pub fn cards_of(alloc: Global, lines: &[Numbered]) -> Result<Vec<CardRows>, Allo
                 words = size;
                 rows = Vec::new(alloc);
             }
-            None => rows.push(row)?,
+            None => push_row(&mut rows, row)?,
         }
     }
     cards.push(CardRows { words, rows })?;
     Ok(cards)
+}
+
+// Adds a row, which is torn where the one before it says so, and stands in its place.
+fn push_row(rows: &mut Vec<Row>, row: Row) -> Result<(), AllocError>
+    ensures { OnOk result (AddsRow rows.old.items row rows.new.items) }
+{
+    if is_tear(&row) || !ends_with_tear(rows) {
+        rows.push(row)?;
+        return Ok(());
+    }
+    let _directive = rows.pop();
+    rows.push(torn(row))?;
+    Ok(())
+}
+
+// The last row says that the one behind it is torn.
+fn ends_with_tear(rows: &[Row]) -> bool
+    ensures { result ≡ ends_with_tear rows.now }
+{
+    match rows.last() {
+        Some(row) => is_tear(row),
+        None => false,
+    }
+}
+
+fn is_tear(row: &Row) -> bool
+    ensures { result ≡ is_tear row.now }
+{
+    row.command.as_str() == "tear all-or-nothing"
+}
+
+// The row, torn.
+fn torn(row: Row) -> Row
+    ensures { result ≡ torn row }
+{
+    Row {
+        number: row.number,
+        command: row.command,
+        wanted: row.wanted,
+        torn: true,
+    }
 }
 
 // The row of a line, if it is one.
@@ -75,6 +116,7 @@ fn new_row(alloc: Global, number: usize, command: &str, wanted: &str) -> Result<
         number,
         command: String::from_str(alloc, command)?,
         wanted: String::from_str(alloc, wanted)?,
+        torn: false,
     })
 }
 

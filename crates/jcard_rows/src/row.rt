@@ -4,12 +4,14 @@ ghost use Rattle.jcard_rows.specs.Rows.{line_text, script_text};
 
 use std::alloc::{AllocError, Global};
 
-/// A row: the number of its line in its file, a line of a script, and the answer that is wanted.
+/// A row: the number of its line in its file, a line of a script, the answer that is wanted, and whether the power is cut within the
+/// line too, after each of its writes.
 #[derive(Drop)]
 pub struct Row {
     pub number: usize,
     pub command: String,
     pub wanted: String,
+    pub torn: bool,
 }
 
 /// The script of the lines of rows, each with a line feed.
@@ -21,6 +23,15 @@ pub fn script(alloc: Global, rows: &[Row]) -> Result<Vec<u8>, AllocError>
         push_line(&mut script, row)?;
     }
     Ok(script)
+}
+
+/// The line of a row, with a line feed.
+pub fn line(alloc: Global, row: &Row) -> Result<Vec<u8>, AllocError>
+    ensures { IfOk result (λ line. line.items ≡ line_text row.now) }
+{
+    let mut line = Vec::new(alloc);
+    push_line(&mut line, row)?;
+    Ok(line)
 }
 
 // Writes the line of a row behind a text.

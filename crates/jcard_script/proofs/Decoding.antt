@@ -34,7 +34,7 @@ take_pairs (suc n) i (a ∷ b ∷ rest) bytes h =
     let two : 2 * suc n ≡ suc (suc (2 * n)) = omega arith in
     rw two (step (pair_value a b i) (decode_pairs (i + 2) rest) (decode_pairs (i + 2) (take (2 * n) rest)) n bytes h (λ bs e. take_pairs n (i + 2) rest bs e))
 
-form_plain : (line : List ℕ) → IsPlain line → plain_form_of line ≡ form_of_decoded (decode_of (without_spaces line))
+pub form_plain : (line : List ℕ) → IsPlain line → plain_form_of line ≡ form_of_decoded (decode_of (without_spaces line))
 form_plain [] h = absurd h
 form_plain (x ∷ line) h = rw h refl
 

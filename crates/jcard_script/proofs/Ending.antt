@@ -1,6 +1,6 @@
 -- How lines and scripts end.
 use Rattle.std.proofs.Common.{◌≡◌, ℕ, ◌+◌, ◌<◌, true, false, List, [], ◌∷◌, ◌++◌, length, take, Result, Ok, Err, refl, sym, ◌∙◌, ap, subst, arith, append_assoc}
-use Rattle.std.proofs.Common.{append-nil, length-append, get_or, drop, take-append-drop}
+use Rattle.std.proofs.Common.{append-nil, length-append, slice_index, ◌==◌, drop, take-append-drop}
 use Rattle.std.proofs.lemmas.List.{take_more}
 use Rattle.std.specs.Prelude.{OnOk}
 use Rattle.std.specs.Str.Lines.{lines}
@@ -95,22 +95,27 @@ pub if_carried : (r : Result Unit ScriptFault) (all : List (List ℕ)) (text : L
 if_carried (Ok done) all text s t P h f = f h
 if_carried (Err fault) all text s t P h f = tt
 
--- a byte of a piece after those before it, and the rest of the piece
-piece_whole : (script piece : List ℕ) (i b : ℕ) → i < length piece → get_or piece i 0 ≡ b
-    → ((script ++ take i piece) ++ b ∷ []) ++ drop (i + 1) piece ≡ script ++ piece
-piece_whole script piece i b h e =
-    let one : take (i + 1) piece ≡ take i piece ++ b ∷ [] = take_more piece i 0 h ∙ ap (λ n. take i piece ++ n ∷ []) e in
-    ap (λ l. l ++ drop (i + 1) piece) (append_assoc script (take i piece) (b ∷ []) ∙ ap (λ l. script ++ l) (sym one))
-    ∙ append_assoc script (take (i + 1) piece) (drop (i + 1) piece) ∙ ap (λ l. script ++ l) (take-append-drop (i + 1) piece)
+-- what came of a piece, the bytes before a line feed, it, and the rest of the piece
+pub piece_whole : (script done rest piece : List ℕ) (n : ℕ) → piece ≡ done ++ rest → n < length rest → (slice_index rest n == 10) ≡ true
+    → (((script ++ done) ++ take n rest) ++ 10 ∷ []) ++ drop (n + 1) rest ≡ script ++ piece
+piece_whole script done rest piece n h lt feed =
+    let ten : slice_index rest n ≡ 10 = is_ten (slice_index rest n) feed in
+    let one : take (n + 1) rest ≡ take n rest ++ 10 ∷ [] = take_more rest n 0 lt ∙ ap (λ b. take n rest ++ b ∷ []) ten in
+    ap (λ l. l ++ drop (n + 1) rest) (append_assoc (script ++ done) (take n rest) (10 ∷ []) ∙ ap (λ l. (script ++ done) ++ l) (sym one))
+    ∙ append_assoc (script ++ done) (take (n + 1) rest) (drop (n + 1) rest) ∙ ap (λ l. (script ++ done) ++ l) (take-append-drop (n + 1) rest)
+    ∙ append_assoc script done rest ∙ ap (λ l. script ++ l) (sym h)
+  where
+    is_ten : (b : ℕ) → (b == 10) ≡ true → b ≡ 10
+    is_ten b h = grind arith
 
--- a fault at a byte of a piece
-pub fault_inside : (fault : ScriptFault) (script text piece more next : List ℕ) (i b : ℕ) (s t : ScriptState) → i < length piece → get_or piece i 0 ≡ b
-    → LinesEnd (Err fault) (ended_lines ((script ++ take i piece) ++ b ∷ [])) s t ((text ++ more) ++ next)
+-- a fault at a line within a piece
+pub fault_inside : (fault : ScriptFault) (script text piece more next ended rest : List ℕ) (s t : ScriptState) → ended ++ rest ≡ script ++ piece
+    → LinesEnd (Err fault) (ended_lines ended) s t ((text ++ more) ++ next)
     → LinesEnd (Err fault) (ended_lines (script ++ piece)) s t (text ++ (more ++ next))
-fault_inside fault script text piece more next i b s t h e k =
-    let all = ended_then fault ((script ++ take i piece) ++ b ∷ []) (drop (i + 1) piece) ((text ++ more) ++ next) s t k in
+fault_inside fault script text piece more next ended rest s t e k =
+    let all = ended_then fault ended rest ((text ++ more) ++ next) s t k in
     subst (λ x. LinesEnd (Err fault) (ended_lines (script ++ piece)) s t x) (append_assoc text more next)
-    (subst (λ x. LinesEnd (Err fault) (ended_lines x) s t ((text ++ more) ++ next)) (piece_whole script piece i b h e) all)
+    (subst (λ x. LinesEnd (Err fault) (ended_lines x) s t ((text ++ more) ++ next)) e all)
 
 -- a line for which nothing is written
 pub failed_line : (fault : ScriptFault) (n : ℕ) (form : Form) (s t : ScriptState) → LineFails fault n form s t → LineEnds (Err fault) n form s t []

@@ -1,5 +1,6 @@
 pub mod Carried
 pub mod Decoding
+pub mod Digits
 pub mod Ending
 pub mod Kept
 pub mod Known

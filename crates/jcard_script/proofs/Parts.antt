@@ -1,11 +1,15 @@
 -- The lines of a text that grows by a byte.
-use Rattle.std.proofs.Common.{◌≡◌, ℕ, ◌<◌, ◌≤◌, ◌==◌, Bool, true, false, cond, List, [], ◌∷◌, ◌++◌, length, refl, sym, ◌∙◌, ap, arith, append_assoc, append-nil}
+use Rattle.std.proofs.Common.{◌≡◌, ℕ, suc, take, slice_index, length-take, ◌<◌, ◌≤◌, ◌==◌, Bool, true, false, cond, List, [], ◌∷◌, ◌++◌, length, refl, sym, ◌∙◌, ap, arith, append_assoc, append-nil}
 use Rattle.std.proofs.Common.{length-append}
 use Rattle.std.specs.List.{slice_split, onto_first}
+use Rattle.std.proofs.Common.{subst}
 use Rattle.std.proofs.lemmas.Bool.{ne_eqb}
+use Rattle.std.proofs.lemmas.List.{take_all}
 use Rattle.std.specs.Str.Lines.{lines, lines_of_parts, strip_carriage_return}
 use Rattle.jcard_script.specs.Script.{ended_lines, ended_parts}
-use Rattle.jcard_script.specs.Session.{unfinished_line, last_part}
+use Rattle.memchr.specs.Find.{Nowhere, Passes, is_byte}
+use Rattle.std.proofs.lemmas.Grind.{common_steps}
+use Rattle.jcard_script.specs.Session.{unfinished_line, last_part, IsUnbroken}
 
 -- the parts between line feeds
 abbrev pub parts : List ℕ → List (List ℕ)
@@ -88,6 +92,45 @@ ended_feed s = ap ended_parts (parts_feed s) ∙ ended_next (parts s) (parts_som
 
 pub begun_feed : (s : List ℕ) → unfinished_line (s ++ 10 ∷ []) ≡ []
 begun_feed s = ap last_part (parts_feed s) ∙ last_next (parts s)
+
+-- bytes without a line feed end no line
+pub more_unbroken : (s bs : List ℕ) → IsUnbroken bs → (ended_lines (s ++ bs) ≡ ended_lines s) × (unfinished_line (s ++ bs) ≡ unfinished_line s ++ bs)
+more_unbroken s [] h = (ap ended_lines (append-nil s), ap unfinished_line (append-nil s) ∙ sym (append-nil (unfinished_line s)))
+more_unbroken s (b ∷ bs) h =
+    let first = h 0 (omega arith) in
+    let whole = sym (append_assoc s (b ∷ []) bs) in
+    let rest = more_unbroken (s ++ b ∷ []) bs (λ k lt. h (suc k) (omega arith)) in (
+      ap ended_lines whole ∙ rest.0 ∙ ended_other s b first,
+      ap unfinished_line whole ∙ rest.1 ∙ ap (λ l. l ++ bs) (begun_other s b first) ∙ append_assoc (unfinished_line s) (b ∷ []) bs,
+    )
+
+-- bytes without a line feed and then one end the line that had begun
+pub line_ended : (s bs : List ℕ) → IsUnbroken bs
+    → (ended_lines (s ++ bs ++ 10 ∷ []) ≡ ended_lines s ++ strip_carriage_return (unfinished_line s ++ bs) ∷ [])
+    × (unfinished_line (s ++ bs ++ 10 ∷ []) ≡ [])
+line_ended s bs h =
+    let more = more_unbroken s bs h in (
+      ended_feed (s ++ bs) ∙ ap (λ l. l ++ strip_carriage_return (unfinished_line (s ++ bs)) ∷ []) more.0
+          ∙ ap (λ l. ended_lines s ++ strip_carriage_return l ∷ []) more.1,
+      begun_feed (s ++ bs),
+    )
+
+-- the bytes before the first line feed have none
+pub unbroken_before : (bytes : List ℕ) (n : ℕ) → Nowhere (Passes (is_byte 10) bytes) 0 n → IsUnbroken (take n bytes)
+unbroken_before bytes n none k h =
+    let below : k < n = omega (arith, h, length-take n bytes) in
+    ap (λ b. b == 10) (taken bytes n k below) ∙ no_feed (slice_index bytes k == 10) (none k (omega arith) below)
+  where
+    taken : (bytes : List ℕ) (n k : ℕ) → k < n → slice_index (take n bytes) k ≡ slice_index bytes k
+    taken bytes n k h = grind (arith, common_steps)
+
+    no_feed : (t : Bool) → (t ≡ true → ⊥) → t ≡ false
+    no_feed true h = absurd (h refl)
+    no_feed false h = refl
+
+-- bytes among which there is no line feed
+pub unbroken_whole : (bytes : List ℕ) → Nowhere (Passes (is_byte 10) bytes) 0 (length bytes) → IsUnbroken bytes
+unbroken_whole bytes none = subst IsUnbroken (take_all (length bytes) bytes (omega arith)) (unbroken_before bytes (length bytes) none)
 
 -- the line that the end of a text ends
 abbrev pub last_line : List ℕ → List (List ℕ)

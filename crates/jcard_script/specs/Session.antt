@@ -1,5 +1,5 @@
 -- A script that is being carried out.
-use Rattle.std.specs.Prelude.{ℕ, ◌≡◌, ◌==◌, List, [], ◌∷◌, length, Result, Ok, Err}
+use Rattle.std.specs.Prelude.{ℕ, ◌≡◌, ◌<◌, ◌==◌, false, List, [], ◌∷◌, length, slice_index, Result, Ok, Err}
 use Rattle.std.specs.List.{slice_split}
 use Rattle.std.specs.Str.Lines.{strip_carriage_return}
 use Rattle.jcard_script.specs.CardOrStore.{state_of_held}
@@ -22,6 +22,10 @@ last_part (x ∷ y ∷ more) = last_part (y ∷ more)
 -- what stands after the last line feed
 abbrev pub unfinished_line : List ℕ → List ℕ
 unfinished_line text = last_part (slice_split (λ b. b == 10) text)
+
+-- no byte is a line feed
+abbrev pub IsUnbroken : List ℕ → Type 0
+IsUnbroken line = (k : ℕ) → k < length line → (slice_index line k == 10) ≡ false
 
 -- what is kept of a line of which these bytes have come
 abbrev pub IsKeptOf : Line → List ℕ → Type 0

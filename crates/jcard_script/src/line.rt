@@ -1,8 +1,9 @@
-//! One line of a script, byte by byte, in fixed room.
-ghost use Rattle.std.specs.Prelude.{◌≡◌, ◌≢◌, ◌≤◌, ℕ, List, [], ◌∷◌, ◌++◌, length, IsErr, MatchOption, Ok};
+//! One line of a script, in fixed room.
+ghost use Rattle.std.specs.Prelude.{◌≡◌, ◌≢◌, ◌≤◌, ℕ, List, [], ◌∷◌, ◌++◌, length, IsErr, IfSome, MatchOption, Ok, true};
 ghost use Rattle.std.specs.Str.Lines.{strip_carriage_return};
 ghost use Rattle.hex.specs.Hex.{decode_of, is_hex_digit};
 ghost use Rattle.jcard_script.specs.Line.{IsLineOf, IsPlain, HasDigits, AsksFor, PlainlyAsksFor};
+ghost use Rattle.jcard_script.specs.declared.line.LineRequest.TheVariants.{Exchange};
 ghost use Rattle.jcard_script.specs.Session.{IsKeptOf};
 ghost use Rattle.jcard_script.specs.Word.{IsWordOf};
 
@@ -169,12 +170,35 @@ impl Line {
         }
     }
 
-    /// What the line asks for if a line feed follows.
-    pub(crate) fn ended(&self) -> LineRequest
-        ensures { (line : List ℕ) → IsKeptOf self.now line
-            → AsksFor result (strip_carriage_return line) }
+    /// More bytes of the line, none of which is a line feed.
+    pub(crate) fn push_all(&mut self, bytes: &[u8])
+        ensures { (line : List ℕ) → IsKeptOf self.old line → IsKeptOf self.new (line ++ bytes.now) }
     {
+        for byte in bytes {
+            self.push(*byte);
+        }
+    }
+
+    /// What the line asks for if these bytes, none of which is a line feed, and a line feed follow.
+    /// Where no byte has come before and they spell a command, they are not kept.
+    pub(crate) fn ended_by(&mut self, bytes: &[u8]) -> LineRequest
+        ensures { (line : List ℕ) → IsKeptOf self.old line
+            → AsksFor result (strip_carriage_return (line ++ bytes.now)) }
+    {
+        if self.is_new() {
+            if let Some(command) = command_in(bytes) {
+                return LineRequest::Exchange(command);
+            }
+        }
+        self.push_all(bytes);
         asked_by(&self.content, &self.word)
+    }
+
+    // Whether no byte has come.
+    fn is_new(&self) -> bool
+        ensures { (line : List ℕ) → IsKeptOf self.now line → result ≡ true → line ≡ [] }
+    {
+        matches!(self.content.kind, Kind::Empty) && !self.carriage_return
     }
 
     /// What the line asks for if it is the script's last, which no line feed ends.
@@ -207,6 +231,16 @@ fn asked_by(content: &Content, word: &Word) -> LineRequest
         Some(asked) => asked,
         None => content.asked(),
     }
+}
+
+// The command that a line of these bytes is which are hexadecimal digits alone.
+fn command_in(line: &[u8]) -> Option<ArrayVec<u8, 262>>
+    ensures { IfSome result (λ command. AsksFor (Exchange command) (strip_carriage_return line.now)) }
+{
+    if line.is_empty() || line.len() > DIGITS {
+        return None;
+    }
+    command_of(line)
 }
 
 fn is_digit(byte: u8) -> bool

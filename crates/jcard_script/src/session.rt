@@ -11,7 +11,7 @@ ghost use Rattle.jcard_script.specs.Reply.{text_of_reply};
 ghost use Rattle.jcard_script.specs.Script.{EndsFrom, IsAnswered, IsWholeScript, IsWrittenFor, armed_text, form_of, power_text, is_read_failed};
 ghost use Rattle.jcard_script.specs.Script.{is_write_failed, ended_lines};
 ghost use Rattle.jcard_script.specs.ScriptStates.{ScriptState, Down, IsSessionStore, PowersUp, FailsUp, IsReset, FailsReset, with_fuse};
-ghost use Rattle.jcard_script.specs.Session.{StandsAt, LineEnds, LineFails, LinesEnd};
+ghost use Rattle.jcard_script.specs.Session.{StandsAt, IsUnbroken, LineEnds, LineFails, LinesEnd};
 
 use crate::card_or_store::CardOrStore;
 use crate::line::{Line, LineRequest};
@@ -20,7 +20,11 @@ use crate::script::{BOUND, ScriptFault};
 use crate::streams::{TextIn, TextOut, WriteFailed};
 use jc_card::power_up::PowerFault;
 use jc_words::{FuseStore, WordStore};
+use memchr::memchr;
 use std::alloc::Global;
+
+/// How many bytes of a script are asked for at once.
+const PIECE: usize = 16_384;
 
 /// A script that is being carried out.
 #[derive(Drop)]
@@ -85,7 +89,7 @@ impl<S: WordStore + Drop> Session<S> {
         ensures writes { W.failures writer.new ≡ failures_after (W.failures writer.old)
             (is_write_failed result) }
     {
-        let mut piece = [0u8; 4096];
+        let mut piece = [0u8; PIECE];
         let mut left = BOUND;
         loop {
             let Ok(count) = reader.read(&mut piece) else {
@@ -117,36 +121,18 @@ impl<S: WordStore + Drop> Session<S> {
         ensures writes { W.failures writer.new ≡ failures_after (W.failures writer.old)
             (is_write_failed result) }
     {
-        for byte in piece {
-            self.push(*byte, writer)?;
+        let mut rest = piece;
+        while let Some(end) = memchr(b'\n', rest) {
+            self.end_line(&rest[..end], writer)?;
+            rest = &rest[end + 1..];
         }
+        self.line.push_all(rest);
         Ok(())
     }
 
-    // The next byte.
-    fn push<W: TextOut>(&mut self, byte: u8, writer: &mut W) -> Result<(), ScriptFault>
-        requires number { self.old.number < 2 ^ 32 - 1 }
-        requires held { IsState self.old.held }
-        ensures held { IsState self.new.held }
-        ensures number { OnOk result (self.new.number ≤ self.old.number + 1) }
-        ensures goes { (script text : List ℕ) → (first : ScriptState)
-            → StandsAt self.old first script text
-            → (more : List ℕ) × Appends (W.contents writer.old) (W.contents writer.new) more
-            × OnOk result (StandsAt self.new first (script ++ byte ∷ []) (text ++ more))
-            × LinesEnd result (ended_lines (script ++ byte ∷ [])) first
-            (state_of_held self.new.held) (text ++ more) }
-        ensures writes { W.failures writer.new ≡ failures_after (W.failures writer.old)
-            (is_write_failed result) }
-    {
-        if byte == b'\n' {
-            return self.end_line(writer);
-        }
-        self.line.push(byte);
-        Ok(())
-    }
-
-    // Carries out the line that a line feed ends, and begins the next.
-    fn end_line<W: TextOut>(&mut self, writer: &mut W) -> Result<(), ScriptFault>
+    // Carries out the line that these bytes and a line feed end, and begins the next.
+    fn end_line<W: TextOut>(&mut self, bytes: &[u8], writer: &mut W) -> Result<(), ScriptFault>
+        requires unbroken { IsUnbroken bytes.now }
         requires number { self.old.number < 2 ^ 32 - 1 }
         requires held { IsState self.old.held }
         ensures held { IsState self.new.held }
@@ -154,13 +140,13 @@ impl<S: WordStore + Drop> Session<S> {
         ensures goes { (script text : List ℕ) → (first : ScriptState)
             → StandsAt self.old first script text
             → (more : List ℕ) × Appends (W.contents writer.old) (W.contents writer.new) more
-            × OnOk result (StandsAt self.new first (script ++ 10 ∷ []) (text ++ more))
-            × LinesEnd result (ended_lines (script ++ 10 ∷ [])) first (state_of_held self.new.held)
-            (text ++ more) }
+            × OnOk result (StandsAt self.new first (script ++ bytes.now ++ 10 ∷ []) (text ++ more))
+            × LinesEnd result (ended_lines (script ++ bytes.now ++ 10 ∷ [])) first
+            (state_of_held self.new.held) (text ++ more) }
         ensures writes { W.failures writer.new ≡ failures_after (W.failures writer.old)
             (is_write_failed result) }
     {
-        let asked = self.line.ended();
+        let asked = self.line.ended_by(bytes);
         self.number += 1;
         let result = self.answer_line(asked, writer);
         self.line.clear();

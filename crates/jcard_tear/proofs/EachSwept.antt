@@ -8,30 +8,30 @@ use Rattle.jcard_tear.specs.declared.script_lines.ScriptLine.{ScriptLine}
 use Rattle.jcard_tear.specs.Sweeps.{AreSwept, IsLineSwept}
 
 -- one command more
-pub swept_more : (words : List ℕ) (given : Option (List ℕ)) (depth : Depth) (spared : List ℕ) (lines : List Line) (sweeps : List LineSweep) (l : Line) (s : LineSweep)
-    → AreSwept words given depth spared lines sweeps → s.number ≡ l.number → IsLineSwept words given depth spared l s.sweep
-    → AreSwept words given depth spared (lines ++ l ∷ []) (sweeps ++ s ∷ [])
+pub swept_more : (words : List ℕ) (given : Option (List ℕ)) (depth : Depth) (lines : List Line) (sweeps : List LineSweep) (l : Line) (s : LineSweep)
+    → AreSwept words given depth lines sweeps → s.number ≡ l.number → IsLineSwept words given depth l s.sweep
+    → AreSwept words given depth (lines ++ l ∷ []) (sweeps ++ s ∷ [])
 unfolding AreSwept
-swept_more words given depth spared [] [] l s a n t = (n, t, tt)
-swept_more words given depth spared [] (x ∷ xs) l s a n t = absurd a
-swept_more words given depth spared (y ∷ ys) [] l s a n t = absurd a
-swept_more words given depth spared (y ∷ ys) (x ∷ xs) l s a n t = (a.0, a.1, swept_more words given depth spared ys xs l s a.2 n t)
+swept_more words given depth [] [] l s a n t = (n, t, tt)
+swept_more words given depth [] (x ∷ xs) l s a n t = absurd a
+swept_more words given depth (y ∷ ys) [] l s a n t = absurd a
+swept_more words given depth (y ∷ ys) (x ∷ xs) l s a n t = (a.0, a.1, swept_more words given depth ys xs l s a.2 n t)
 
 -- none yet
-pub swept_none : (words : List ℕ) (given : Option (List ℕ)) (depth : Depth) (spared : List ℕ) → AreSwept words given depth spared [] []
+pub swept_none : (words : List ℕ) (given : Option (List ℕ)) (depth : Depth) → AreSwept words given depth [] []
 unfolding AreSwept
-swept_none words given depth spared = tt
+swept_none words given depth = tt
 
 -- the command of the next line
-pub swept_next : (words : List ℕ) (given : Option (List ℕ)) (depth : Depth) (spared : List ℕ) (lines : List ScriptLine) (i : ℕ) (d : ScriptLine)
-    (sweeps next : List LineSweep) (s : LineSweep) → i < length lines → AreSwept words given depth spared (map line_of (take i lines)) sweeps
-    → s.number ≡ (get_or lines i d).number → IsLineSwept words given depth spared (line_of (get_or lines i d)) s.sweep → next ≡ sweeps ++ s ∷ []
-    → AreSwept words given depth spared (map line_of (take (i + 1) lines)) next
-swept_next words given depth spared lines i d sweeps next s h a n t e =
+pub swept_next : (words : List ℕ) (given : Option (List ℕ)) (depth : Depth) (lines : List ScriptLine) (i : ℕ) (d : ScriptLine)
+    (sweeps next : List LineSweep) (s : LineSweep) → i < length lines → AreSwept words given depth (map line_of (take i lines)) sweeps
+    → s.number ≡ (get_or lines i d).number → IsLineSwept words given depth (line_of (get_or lines i d)) s.sweep → next ≡ sweeps ++ s ∷ []
+    → AreSwept words given depth (map line_of (take (i + 1) lines)) next
+swept_next words given depth lines i d sweeps next s h a n t e =
     let before : List Line = map line_of (take i lines) in
     let line : Line = line_of (get_or lines i d) in
     let step : map line_of (take (i + 1) lines) ≡ before ++ line ∷ [] = ap (map line_of) (take_more lines i d h)
     ∙ map-append line_of (take i lines) (get_or lines i d ∷ []) in
-    subst (λ (l : List Line). AreSwept words given depth spared l next) (sym step)
-    (subst (λ (xs : List LineSweep). AreSwept words given depth spared (before ++ line ∷ []) xs) (sym e)
-    (swept_more words given depth spared before sweeps line s a n t))
+    subst (λ (l : List Line). AreSwept words given depth l next) (sym step)
+    (subst (λ (xs : List LineSweep). AreSwept words given depth (before ++ line ∷ []) xs) (sym e)
+    (swept_more words given depth before sweeps line s a n t))

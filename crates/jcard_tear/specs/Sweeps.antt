@@ -1,6 +1,7 @@
 -- A command of a script that is cut after each number of its word writes.
 use Rattle.std.specs.Prelude.{ℕ, ◌≡◌, ◌+◌, ◌-◌, ◌<◌, ◌≤◌, ◌≢◌, ◌⊎◌, true, false, List, [], ◌∷◌, ◌++◌, codes, decimal, drop, take, length, slice_index, Option, Some, None}
 use Rattle.jc_words.specs.Stores.{FuseStoreValue}
+use Rattle.jc_objects.specs.Pins.{AreTriesIn}
 use Rattle.jcard_outcomes.specs.Standings.{IsStanding}
 use Rattle.jcard_outcomes.specs.declared.recoveries.Depth.{Depth}
 use Rattle.jcard_outcomes.specs.declared.recoveries.Recoveries.{Recoveries}
@@ -51,11 +52,11 @@ abbrev pub IsBegun : List ℕ → Command → Left → Type 0
 IsBegun words c left = (text : List ℕ) × (after : FuseStoreValue) × Runs words c.before.now text after × IsLeft after.words c.probe.now left
 
 -- what was before a command and what it leaves, its answer, and what is left of it after each number of its writes, up to the first
--- that does not cut it
-pub record IsSwept (words : List ℕ) (c : Command) (spared : List ℕ) (s : Sweep) : Type 0 where
+-- that does not cut it. The words with the tries left of the OwnerPINs that stand behind it are spared in each comparison
+pub record IsSwept (words : List ℕ) (c : Command) (s : Sweep) : Type 0 where
   pub begun : IsBegun words c s.before
   pub done : IsDone words c s.answer.items s.after
-  pub cuts : AreCuts words c spared s.before s.after 0 s.cuts.items
+  pub cuts : (spared : List ℕ) × AreTriesIn s.after.words.items spared × AreCuts words c spared s.before s.after 0 s.cuts.items
   pub uncut : IsUncutAt words c (length s.cuts.items)
   pub depth : s.depth ≡ c.depth
 
@@ -67,13 +68,13 @@ probe_of (Some given) before = given
 probe_of None before = last_select before
 
 -- the command in this line was cut, and so many recoveries behind each cut
-abbrev pub IsLineSwept : List ℕ → Option (List ℕ) → Depth → List ℕ → Line → Sweep → Type 0
-IsLineSwept words given depth spared l sweep = (c : Command) × (c.before.now ≡ l.before) × (c.line.now ≡ l.text) × (c.probe.now ≡ probe_of given l.before)
-    × (c.depth ≡ depth) × IsSwept words c spared sweep
+abbrev pub IsLineSwept : List ℕ → Option (List ℕ) → Depth → Line → Sweep → Type 0
+IsLineSwept words given depth l sweep = (c : Command) × (c.before.now ≡ l.before) × (c.line.now ≡ l.text) × (c.probe.now ≡ probe_of given l.before)
+    × (c.depth ≡ depth) × IsSwept words c sweep
 
 -- the commands in these lines were cut, one after the other
-unfoldable pub AreSwept : List ℕ → Option (List ℕ) → Depth → List ℕ → List Line → List LineSweep → Type 0
-AreSwept words given depth spared [] [] = Unit {0}
-AreSwept words given depth spared (l ∷ lines) (s ∷ sweeps) = (s.number ≡ l.number) × IsLineSwept words given depth spared l s.sweep
-    × AreSwept words given depth spared lines sweeps
-AreSwept words given depth spared lines sweeps = ⊥
+unfoldable pub AreSwept : List ℕ → Option (List ℕ) → Depth → List Line → List LineSweep → Type 0
+AreSwept words given depth [] [] = Unit {0}
+AreSwept words given depth (l ∷ lines) (s ∷ sweeps) = (s.number ≡ l.number) × IsLineSwept words given depth l s.sweep
+    × AreSwept words given depth lines sweeps
+AreSwept words given depth lines sweeps = ⊥

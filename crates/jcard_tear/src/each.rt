@@ -20,11 +20,10 @@ pub fn tear_line(
     line: ScriptLine,
     probe: Option<&[u8]>,
     depth: Depth,
-    spared: &[u16],
 ) -> Result<Sweep, TearFault>
     requires { length words.now < 65536 }
     ensures { IfOk result (λ sweep. IsLineSwept words.now
-        (option_map (λ (text : Bor (List ℕ)). text.now) probe.entry) depth spared.now
+        (option_map (λ (text : Bor (List ℕ)). text.now) probe.entry) depth
         (line_of line.entry) sweep) }
 {
     let command = Command {
@@ -33,7 +32,7 @@ pub fn tear_line(
         probe: probe_for(probe, line.before),
         depth,
     };
-    tear(alloc, words, command, spared)
+    tear(alloc, words, command)
 }
 
 /// Cuts each of these commands.
@@ -43,16 +42,15 @@ pub fn tear_each(
     lines: &[ScriptLine],
     probe: Option<&[u8]>,
     depth: Depth,
-    spared: &[u16],
 ) -> Result<Vec<LineSweep>, TearFault>
     requires { length words.now < 65536 }
     ensures { IfOk result (λ sweeps. AreSwept words.now
-        (option_map (λ (text : Bor (List ℕ)). text.now) probe.entry) depth spared.now
+        (option_map (λ (text : Bor (List ℕ)). text.now) probe.entry) depth
         (map line_of lines.now) sweeps.items) }
 {
     let mut sweeps = Vec::new(alloc);
     for line in lines {
-        let sweep = tear_line(alloc, words, *line, probe, depth, spared)?;
+        let sweep = tear_line(alloc, words, *line, probe, depth)?;
         let number = line.number;
         push_sweep(&mut sweeps, LineSweep { number, sweep })?;
     }

@@ -8,7 +8,7 @@ ghost use Rattle.jcard_tear.specs.Sweeps.{IsUncutAt};
 use crate::cuts::{Command, MOST, cut_at, push_cut};
 use crate::each::probe_for;
 use crate::script_lines::ScriptLine;
-use crate::tearing::{TearFault, begun, done};
+use crate::tearing::{TearFault, begun, done, tries_in};
 use jcard_outcomes::part::Part;
 use jcard_outcomes::recoveries::Depth;
 use jcard_outcomes::report::Sweep;
@@ -22,13 +22,12 @@ pub fn tear_line_part(
     words: &[u16],
     line: ScriptLine,
     probe: Option<&[u8]>,
-    spared: &[u16],
     first: u16,
     step: u16,
 ) -> Result<Part, TearFault>
     requires { length words.now < 65536 }
     ensures swept { IfOk result (λ part. IsLinePart words.now
-        (option_map (λ (text : Bor (List ℕ)). text.now) probe.entry) spared.now
+        (option_map (λ (text : Bor (List ℕ)). text.now) probe.entry)
         (line_of line.entry) first step part) }
     ensures below { IfOk result (λ part. part.first + part.step * length part.sweep.cuts.items < 65536) }
 {
@@ -38,7 +37,7 @@ pub fn tear_line_part(
         probe: probe_for(probe, line.before),
         depth: Depth::Zero,
     };
-    tear_part(alloc, words, command, spared, first, step)
+    tear_part(alloc, words, command, first, step)
 }
 
 /// Carries out the script up to the command, and then cuts the command after `first` writes, and each `step`-th number behind it.
@@ -46,17 +45,17 @@ pub fn tear_part(
     alloc: Global,
     words: &[u16],
     command: Command,
-    spared: &[u16],
     first: u16,
     step: u16,
 ) -> Result<Part, TearFault>
     requires { length words.now < 65536 }
-    ensures swept { IfOk result (λ part. IsPartSwept words.now command.entry spared.now first step part) }
+    ensures swept { IfOk result (λ part. IsPartSwept words.now command.entry first step part) }
     ensures below { IfOk result (λ part. part.first + part.step * length part.sweep.cuts.items < 65536) }
 {
     let (answer, after) = done(alloc, words, command)?;
     let before = begun(alloc, words, command)?;
-    let cuts = cut_every(alloc, words, command, spared, &before, &after, first, step)?;
+    let spared = tries_in(alloc, &after)?;
+    let cuts = cut_every(alloc, words, command, &spared, &before, &after, first, step)?;
     Ok(Part {
         first: usize::from(first),
         step: usize::from(step),

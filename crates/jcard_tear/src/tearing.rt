@@ -4,13 +4,19 @@ ghost use Rattle.jcard_tear.specs.declared.tearing.TearFault.TheVariants.{NoMemo
 ghost use Rattle.jcard_tear.specs.Sweeps.{IsBegun, IsDone, IsLastLine, IsSwept};
 ghost use Rattle.jcard_tear.specs.Runs.{IsLeft};
 ghost use Rattle.jcard_tear.specs.Faults.{told_run_fault};
+ghost use Rattle.jc_objects.specs.Pins.{AreTriesIn};
 
 use crate::cuts::{Command, cut_all};
 use crate::runs::{RunFault, left, run_copy};
+use jc_card::power_up::PowerFault;
+use jc_objects::pins::{ImageFault, try_words};
 use jcard_outcomes::report::Sweep;
 use jcard_outcomes::standing::Left;
 use jcard_script::script::ScriptFault;
 use std::alloc::{AllocError, Global};
+
+/// What a command leaves is no whole image.
+const DAMAGED: TearFault = TearFault::Script(ScriptFault::PowerFault(PowerFault::BadPackage));
 
 /// Why a command was not cut after each number of its writes.
 #[derive(Clone, Copy, Debug, PartialEq, Eq, Drop)]
@@ -28,19 +34,15 @@ pub enum TearFault {
 
 /// Carries out the script up to the command on a card of a copy of these words, and then cuts the command after each number
 /// of its writes, each time on a card of a copy of its own. After each cut comes a reset, and then the probe; and as many
-/// recoveries as the command says are cut before a reset that is not.
-pub fn tear(
-    alloc: Global,
-    words: &[u16],
-    command: Command,
-    spared: &[u16],
-) -> Result<Sweep, TearFault>
+/// recoveries as the command says are cut before a reset that is not. The tries of OwnerPINs do not count in a comparison.
+pub fn tear(alloc: Global, words: &[u16], command: Command) -> Result<Sweep, TearFault>
     requires { length words.now < 65536 }
-    ensures { IfOk result (λ sweep. IsSwept words.now command.entry spared.now sweep) }
+    ensures { IfOk result (λ sweep. IsSwept words.now command.entry sweep) }
 {
     let (answer, after) = done(alloc, words, command)?;
     let before = begun(alloc, words, command)?;
-    let cuts = cut_all(alloc, words, command, spared, &before, &after)?;
+    let spared = tries_in(alloc, &after)?;
+    let cuts = cut_all(alloc, words, command, &spared, &before, &after)?;
     Ok(Sweep {
         before,
         answer,
@@ -88,6 +90,18 @@ fn left_by_probe(alloc: Global, words: Vec<u16>, probe: &[u8]) -> Result<Left, T
         Ok(left) => Ok(left),
         Err(RunFault::NoMemory) => Err(TearFault::NoMemory),
         Err(RunFault::Script(fault)) => Err(TearFault::Probe(fault)),
+    }
+}
+
+// The words with the tries of the OwnerPINs in what is left.
+pub(crate) fn tries_in(alloc: Global, left: &Left) -> Result<Vec<u16>, TearFault>
+    ensures { IfOk result (λ tries. AreTriesIn left.now.words.items tries.items) }
+{
+    let copy = Vec::from_slice(alloc, &left.words)?;
+    match try_words(alloc, copy) {
+        Ok(tries) => Ok(tries),
+        Err(ImageFault::NoMemory) => Err(TearFault::NoMemory),
+        Err(ImageFault::Damaged) => Err(DAMAGED),
     }
 }
 

@@ -1,12 +1,5 @@
 pub mod TransactionPins
 pub mod Torn
 pub mod Same
-pub mod Changed
 pub mod Guesses
-pub mod Setting
-pub mod Groups
-pub mod CounterPins
-pub mod Natives
-pub mod Steps
-pub mod Staying
 pub mod Ordered

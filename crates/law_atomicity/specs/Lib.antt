@@ -4,6 +4,3 @@ pub mod Same
 pub mod Changed
 pub mod Guesses
 pub mod Runs
-pub mod Leaving
-pub mod CounterLaws
-pub mod Staying

@@ -15,15 +15,15 @@ use Rattle.law_soundness.specs.State.{IsSoundMemory, IsSoundUpTo, last_own}
 use Rattle.law_soundness.proofs.Frames.{same_object}
 use Rattle.law_soundness.specs.Commands.{IsServed}
 use Rattle.law_soundness.proofs.Serving.{serving_keeps}
-use Rattle.law_images.specs.Loads.{CountPackages, CountsPackages}
-use Rattle.law_images.proofs.Counts.{effects_count}
+use Rattle.law_images.specs.Loads.{AreLaidOut, IsLaidOut}
+use Rattle.law_images.proofs.LaidOut.{effects_keep_layout}
 use Rattle.law_images.specs.Heaps.{IsOwnHeap}
 use Rattle.law_images.specs.NewImages.{EffectsKeepBeginnings, KeepsBeginning}
 
 -- the heap that a loss of power leaves
 pub record IsLeft (n : ℕ) (t : Tokens) (p : Packages) (h : HeapState) : Type 0 where
   pub heap : IsOwnHeap n t p h
-  pub counted : CountsPackages h
+  pub layout : IsLaidOut h
 
 -- what each effect of a command leaves so
 pub record IsOwnMemory (n : ℕ) (t : Tokens) (p : Packages) (m : MemoryState) : Type 0 where
@@ -31,7 +31,7 @@ pub record IsOwnMemory (n : ℕ) (t : Tokens) (p : Packages) (m : MemoryState) :
   pub environment : HasEnvironment p m
   pub reading : IsReadAs t p m
   pub beginning : KeepsBeginning n t m
-  pub counted : CountPackages m
+  pub layout : AreLaidOut m
 
 read_served : (t : Tokens) (p : Packages) (e : Effect) (m : MemoryState) → IsServed p e m → IsSoundMemory p m → IsReadAs t p m → IsReadAs t p (apply_effect e m)
 read_served t p (HeapMove move) m due s r = keeps_reading t p (HeapMove move) m due s r
@@ -49,7 +49,7 @@ still_own begins n t p e m due o = record {
   environment = serving_keeps.environment p e m due o.sound o.environment;
   reading = read_served t p e m due o.sound o.reading;
   beginning = begins n t e m o.beginning;
-  counted = effects_count e m o.counted;
+  layout = effects_keep_layout p e m due o.sound o.layout;
 }
 
 module _ (n : ℕ) (t : Tokens) (p : Packages) (m : MemoryState) (o : IsOwnMemory n t p m) where
@@ -73,4 +73,4 @@ module _ (n : ℕ) (t : Tokens) (p : Packages) (m : MemoryState) (o : IsOwnMemor
   }
 
   pub left_own : IsLeft n t p m.heap.durable
-  left_own = record { heap = durable_own; counted = o.counted.durable }
+  left_own = record { heap = durable_own; layout = o.layout.durable }

@@ -19,9 +19,10 @@ use Rattle.jc_card.proofs.FittingImages.{counts_add, packages_add}
 use Rattle.jc_card_checks.specs.Sound.{IsSound}
 use Rattle.jc_session.specs.Power.{KeptState, Up, durable_rest}
 use Rattle.law_soundness.specs.State.{IsFitObject}
-use Rattle.law_images.specs.Loads.{CountsPackages}
+use Rattle.law_images.specs.Loads.{IsLaidOut}
 use Rattle.law_images.specs.Heaps.{IsOwnHeap}
 use Rattle.law_images.proofs.NewImages.{new_images}
+use Rattle.law_images.proofs.NewApart.{new_apart}
 use Rattle.law_images.specs.Cards.{IsOwnCard, IsOwnKept}
 use Rattle.law_images.specs.CardImages.{ImagesStayMade, Keeps}
 use Rattle.law_images.proofs.Sessions.{kept_own}
@@ -52,8 +53,11 @@ kept_made t words k own keeps = record {
 }
 
 -- a new image has no packages
-new_counted : (n : ℕ) (text : List ℕ) (t : Tokens) → CountsPackages (new_card_heap n text t)
-new_counted n text t = ap (λ c. c.0) (counts_add t (unsealed_heap n text) fixed_objects) ∙ ap length (sym (packages_add t (unsealed_heap n text) fixed_objects))
+pub new_layout : (n : ℕ) (text : List ℕ) (t : Tokens) → IsLaidOut (new_card_heap n text t)
+new_layout n text t = record {
+  counted = ap (λ c. c.0) (counts_add t (unsealed_heap n text) fixed_objects) ∙ ap length (sym (packages_add t (unsealed_heap n text) fixed_objects));
+  apart = new_apart n text t;
+}
 
 new_kept : (t : Tokens) (text words : List ℕ) (k : KeptState) → IsMade words → Reads text (Ok t)
     → heap_of (recovered_of words) ≡ new_card_heap (length words) text t → Keeps words k → IsOwnKept t k
@@ -69,7 +73,7 @@ new_kept t text words k made reads is keeps =
       };
       heap = subst (λ n. IsOwnHeap n t (record { platform = t; loaded = [] }) k.durable) keeps.size
           (subst (IsOwnHeap (length words) t (record { platform = t; loaded = [] })) same fits);
-      counted = subst CountsPackages same (new_counted (length words) text t);
+      layout = subst IsLaidOut same (new_layout (length words) text t);
     }
 
 card_made : (t : Tokens) (words : List ℕ) (down : Bool) (passed : ℕ) (refusals : Refusals) (card : CardState) → IsOwnCard t card

@@ -53,7 +53,7 @@ own_memory t card own = record {
   environment = own.ready.environment;
   reading = own.reading;
   beginning = own.beginning;
-  counted = own.counted;
+  layout = own.layout;
 }
 
 module _ (begins : EffectsKeepBeginnings) (t : Tokens) (card : CardState) (own : IsOwnCard t card) (d : Program LoadResponse)
@@ -75,7 +75,7 @@ module _ (begins : EffectsKeepBeginnings) (t : Tokens) (card : CardState) (own :
         ready = left.ready;
         reading = memory.reading;
         beginning = subst (λ n. KeepsBeginning n t new) (sym size) memory.beginning;
-        counted = memory.counted;
+        layout = memory.layout;
         load = left.load;
       })
 

@@ -81,7 +81,7 @@ module _ (g : OneTable) (t : Tokens) (before : StoreState) (own : IsOwnStore t b
   first_own : (first : PowerState) → Starts before first → IsOwnPower t first × IsLaidIn first
   first_own (Up card) h = (powered_own g t (durable_state_in_store before) card own.own h.1, refl)
   first_own (Off k) h = (
-    subst (IsOwnKept t) (sym h.1) (record { packages = own.own.packages; linked = own.own.linked; heap = own.own.heap; counted = own.own.counted }),
+    subst (IsOwnKept t) (sym h.1) (record { packages = own.own.packages; linked = own.own.linked; heap = own.own.heap; layout = own.own.layout }),
     ap (λ (x : KeptState). x.laid) h.1 ∙ if_laid (recovered_of before.words) own.keeps.laid,
   )
 
@@ -110,7 +110,7 @@ reset_own t s after fault own laid fails =
         packages = left.packages;
         linked = left.linked;
         heap = left.heap;
-        counted = left.counted;
+        layout = left.layout;
       }) laid fails.4,
     )
 

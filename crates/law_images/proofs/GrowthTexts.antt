@@ -21,7 +21,8 @@ use Rattle.jc_cap.specs.declared.texts.LoadedComponents.{LoadedComponents}
 use Rattle.jc_cap.specs.declared.texts.PackageBytes.{PackageBytes}
 use Rattle.jc_cap.specs.Contents.{PackageContents}
 use Rattle.jc_cap.specs.Assembling.{flagged_component, assembly_of, checked_package, flags_in, required_component, required_components}
-use Rattle.jc_cap.specs.Reading.{applets_in, classes_in, contents_of, directory_in, exports_in, header_in, imports_in, methods_in, pool_in, statics_in}
+use Rattle.jc_cap.specs.ComponentReading.{applets_in, classes_in, directory_in, exports_in, header_in, imports_in, methods_in, pool_in, statics_in}
+use Rattle.jc_cap.specs.Reading.{contents_of}
 use Rattle.jc_cap.proofs.Named.{is_assembled}
 use Rattle.jc_card_load.specs.Reading.{text_at, text_in}
 use Rattle.law_linking.proofs.Closed.{anything}

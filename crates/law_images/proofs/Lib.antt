@@ -20,12 +20,14 @@ pub mod Prepared
 pub mod Whole
 pub mod LoadRecords
 pub mod Fitting
+pub mod Apart
+pub mod LaidOut
 pub mod Memories
-pub mod Counts
 pub mod Finding
 pub mod Beginnings
 pub mod ImageEffects
 pub mod NewImages
+pub mod NewApart
 pub mod CardHeaps
 pub mod Commands
 pub mod Loads

@@ -7,7 +7,7 @@ use Rattle.jc_cap.specs.declared.texts.LoadedComponents.{LoadedComponents}
 use Rattle.jc_heap.specs.declared.refusal.HeapRefusal.{HeapRefusal}
 use Rattle.jc_heap.specs.Heap.{HeapState}
 use Rattle.jc_heap.specs.Moves.{AddPackage, refusal_of_package}
-use Rattle.jc_heap.specs.Completions.{Done, Refused}
+use Rattle.jc_heap.specs.Completions.{Done}
 use Rattle.jc_memory.specs.State.{MemoryState, HeapMove, apply_effect}
 use Rattle.jc_memory.specs.Programs.{Program, Finish, Perform, Choose, Completes, TearLeaves, bind, unless_refused}
 use Rattle.jc_memory.proofs.ProgramLemmas.{did_bind, left_bind, size_did}
@@ -55,7 +55,7 @@ module _ (begins : EffectsKeepBeginnings) (loads : LoadsKeepSound) (t : Tokens) 
   itself : HasEnded p m
   itself = record {
     linked = own.linked;
-    fits = record { sound = own.ready.sound; environment = own.ready.environment; counted = own.counted };
+    fits = record { sound = own.ready.sound; environment = own.ready.environment; layout = own.layout };
     closed = own.ready.closed;
     idle = own.ready.idle;
     beginning = own.beginning;
@@ -166,7 +166,7 @@ module _ (begins : EffectsKeepBeginnings) (loads : LoadsKeepSound) (t : Tokens) 
         ready = record { sound = done.fits.sound; environment = done.fits.environment; closed = done.closed; idle = done.idle };
         reading = read.0;
         beginning = subst (λ k. KeepsBeginning k t mid) (sym size) done.beginning;
-        counted = done.fits.counted;
+        layout = done.fits.layout;
         load = read.1;
       } in
       subst (λ v. IsOwnCard t (record { memory = v; packages = ans.packages; load = ans.load })) (sym both.3.1)

@@ -25,11 +25,12 @@ use Rattle.law_soundness.specs.Environment.{HasEnvironment, AreEnvironmentObject
 use Rattle.law_soundness.specs.State.{IsSoundMemory, IsSoundUpTo, is_home, is_open, is_owner_up_to, last_own, most_owner}
 use Rattle.law_images.specs.Growth.{GrowthKeepsSound}
 use Rattle.law_images.proofs.Grows.{growth_keeps}
-use Rattle.law_images.specs.Loads.{CountPackages, CountsPackages, IsSoundForLoads, LoadsKeepSound, load_move, with_record}
+use Rattle.law_images.specs.Loads.{AreLaidOut, CountsPackages, IsLaidOut, IsSoundForLoads, LoadsKeepSound, load_move, with_record}
 use Rattle.law_images.proofs.Fitting.{records_fit}
 use Rattle.law_images.proofs.Prepared.{initial_arrays}
 use Rattle.law_images.proofs.LoadRecords.{applets_same, counts_grown, item_low, item_old, longer, no_instance, old_or_new}
 use Rattle.law_images.proofs.Whole.{package_stands}
+use Rattle.law_images.proofs.Apart.{package_apart}
 
 -- owners, with one package more
 owner_more : (most : ℕ) (h g : HeapState) (n : ℕ) → length h.packages ≤ length g.packages → is_owner_up_to most h n ≡ true → is_owner_up_to most g n ≡ true
@@ -52,7 +53,7 @@ home_closed h (Registered home) closed = refl
 module _ (all : List LinkerComponents) (p : Packages) (load : LoadedComponents) (q : PendingPackageValue) (m : MemoryState) (linked : AreLinked all p)
     (is : linked_components p load ≡ Ok q) (off : m.heap.begun ≡ false) (closed : is_open m.registers.installation ≡ false)
     (room : length m.heap.now.packages < 32)
-    (sound : IsSoundMemory p m) (environment : HasEnvironment p m) (both : CountPackages m) (grows : GrowthKeepsSound) where
+    (sound : IsSoundMemory p m) (environment : HasEnvironment p m) (both : AreLaidOut m) (grows : GrowthKeepsSound) where
   abbrev more : Packages
   more = with_package p q.linked
 
@@ -72,7 +73,7 @@ module _ (all : List LinkerComponents) (p : Packages) (load : LoadedComponents) 
   s = sound.whole.now
 
   counted : CountsPackages h
-  counted = both.now
+  counted = both.now.counted
 
   abbrev cs : List (ℕ × List ℕ)
   cs = parts_of q.texts
@@ -158,17 +159,20 @@ module _ (all : List LinkerComponents) (p : Packages) (load : LoadedComponents) 
   counts_after : CountsPackages g
   counts_after = ap (λ c. c.0) counts_are ∙ ap (λ n. n + 1) counted ∙ sym (longer h cs xs rest s)
 
+  layout_after : IsLaidOut g
+  layout_after = record { counted = counts_after; apart = package_apart h cs xs rest s.end both.now.apart }
+
   sound_with : IsSoundForLoads more after
   sound_with = record {
     sound = memory_sound;
     environment = record { now = environments_now; durable = subst (λ k. AreEnvironmentObjects more k own) (sym settled) environments_now };
-    counted = record { now = counts_after; durable = subst CountsPackages (sym settled) counts_after };
+    layout = record { now = layout_after; durable = subst IsLaidOut (sym settled) layout_after };
   }
 
 -- where more packages leave what a heap fits
 pub loads_keep_sound : GrowthKeepsSound → LoadsKeepSound
 loads_keep_sound grows = λ all p load q m linked is off closed room old. sound_with all p load q m linked is off closed room old.sound old.environment
-    old.counted grows
+    old.layout grows
 
 pub loads_are_sound : LoadsKeepSound
 loads_are_sound = loads_keep_sound growth_keeps

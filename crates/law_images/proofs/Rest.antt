@@ -17,14 +17,14 @@ use Rattle.law_images.proofs.Shut.{IsShut, exchanging_shut}
 use Rattle.law_images.specs.Rest.{IsResting, LeaveAtRest}
 
 -- where no transaction is open none keeps old values
-abbrev IsEmpty : MemoryState → Type 0
+abbrev pub IsEmpty : MemoryState → Type 0
 IsEmpty s = s.heap.begun ≡ false → s.heap.touched ≡ []
 
 still_empty : (v : HeapView) (places : List ℕ) → (v.begun ≡ false → v.touched ≡ []) → v.begun ≡ false → v.touched ++ unlogged_places v places ≡ []
 still_empty v places empty none = ap (λ (l : List ℕ). v.touched ++ l) (keeps_old_values.outside (keeping v) places none).0
     ∙ ap (λ (t : List ℕ). t ++ []) (empty none)
 
-empty_effect : (e : Effect) (s : MemoryState) → IsEmpty s → IsEmpty (apply_effect e s)
+pub empty_effect : (e : Effect) (s : MemoryState) → IsEmpty s → IsEmpty (apply_effect e s)
 empty_effect (HeapMove (Write p v)) s empty = still_empty s.heap _ empty
 empty_effect (HeapMove (SetPlaces cs)) s empty = still_empty s.heap _ empty
 empty_effect (HeapMove (WriteNonAtomic p v)) s empty = empty

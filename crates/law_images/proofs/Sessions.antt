@@ -44,7 +44,7 @@ use Rattle.law_images.specs.Heaps.{IsOwnHeap}
 use Rattle.law_images.proofs.Memories.{loads_are_sound}
 use Rattle.law_images.proofs.ImageEffects.{effects_keep}
 use Rattle.law_images.specs.Cards.{AreLinkedWell, AreOfBytes, IsOfBytes, IsOwnCard, IsOwnKept, IsOwnPower, StaysOwn}
-use Rattle.law_images.specs.Loads.{CountsPackages}
+use Rattle.law_images.specs.Loads.{IsLaidOut}
 use Rattle.law_images.proofs.Commands.{IsAnswered, answers_good, creates_good, did_own, dispatched_good, grows_good, loads_good, lost_own, on_load_good}
 use Rattle.law_images.proofs.Commands.{own_memory, runs_good}
 use Rattle.law_images.proofs.CardHeaps.{IsLeft, left_own}
@@ -146,8 +146,7 @@ module _ (t : Tokens) (card : CardState) (own : IsOwnCard t card) where
     packages = card.packages;
     linked = own.linked;
     heap = subst (λ n. IsOwnHeap n t card.packages k.durable) (sym lost.3) ((exchanging_does bytes are).lost k.durable lost.0).heap;
-    counted =
-        ((exchanging_does bytes are).lost k.durable lost.0).counted;
+    layout = ((exchanging_does bytes are).lost k.durable lost.0).layout;
   }
   command_own bytes (Response r) (Off k) are none = absurd none
   command_own bytes Ready next are none = absurd none
@@ -160,11 +159,11 @@ kept_own t (Up card) own = record {
   packages = card.packages;
   linked = own.linked;
   heap = (left_own card.memory.heap.size t card.packages card.memory (own_memory t card own)).heap;
-  counted = own.counted.durable;
+  layout = own.layout.durable;
 }
 kept_own t (Off k) own = own
 
-module _ (n : ℕ) (t : Tokens) (p : Packages) (h : HeapState) (own : IsOwnHeap n t p h) (linked : AreLinkedWell p) (counted : CountsPackages h)
+module _ (n : ℕ) (t : Tokens) (p : Packages) (h : HeapState) (own : IsOwnHeap n t p h) (linked : AreLinkedWell p) (layout : IsLaidOut h)
     (passed : ℕ) (refusals : Refusals) (m : MemoryState) where
   abbrev reset_memory : MemoryState
   reset_memory = record m { heap = heap_at_rest h passed refusals n; fixed = fixed_of h; registers = at_reset }
@@ -196,7 +195,7 @@ module _ (n : ℕ) (t : Tokens) (p : Packages) (h : HeapState) (own : IsOwnHeap 
     ready = record { sound = reset_sound; environment = record { now = own.environment; durable = own.environment }; closed = refl; idle = refl };
     reading = record { now = own.packages; durable = own.packages };
     beginning = record { now = own.beginning; durable = own.beginning; fixed = refl; same = refl };
-    counted = record { now = counted; durable = counted };
+    layout = record { now = layout; durable = layout };
     load = tt;
   }
 
@@ -205,7 +204,7 @@ powered_own g t k card own up =
     let table : up.reset.packages.0 ≡ t = g k.durable.text up.reset.packages.0 t up.reset.packages.1 own.heap.beginning.table in
     let read : packages_of t k.durable ≡ Some card.packages = subst (λ u. packages_of u k.durable ≡ Some card.packages) table up.reset.packages.2 in
     let same : card.packages ≡ own.packages = same_Some card.packages own.packages (sym read ∙ own.heap.packages) in
-    let reset = reset_own k.size t own.packages k.durable own.heap own.linked own.counted card.memory.heap.passed k.refusals card.memory in
+    let reset = reset_own k.size t own.packages k.durable own.heap own.linked own.layout card.memory.heap.passed k.refusals card.memory in
     let path : card ≡ record {
       memory = record card.memory {
         heap = heap_at_rest k.durable card.memory.heap.passed k.refusals k.size;
@@ -234,7 +233,7 @@ reset_answered : OneTable → (t : Tokens) (s : PowerState) (answer : Answer) (n
 reset_answered g t s Ready (Up card) own up = powered_own g t (durable_state s) card (kept_own t s own) up
 reset_answered g t s Down (Off k) own same =
     let old = kept_own t s own in
-    subst (IsOwnKept t) (sym same) (record { packages = old.packages; linked = old.linked; heap = old.heap; counted = old.counted })
+    subst (IsOwnKept t) (sym same) (record { packages = old.packages; linked = old.linked; heap = old.heap; layout = old.layout })
 reset_answered g t s Ready (Off k) own none = absurd none
 reset_answered g t s Down (Up card) own none = absurd none
 reset_answered g t s (Response r) next own none = absurd none

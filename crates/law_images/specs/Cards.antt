@@ -15,7 +15,7 @@ use Rattle.law_images.specs.Kept.{IsReadAs}
 use Rattle.law_images.specs.Loaded.{AreBytes}
 use Rattle.law_images.specs.ReadingLoads.{IsOpenReadable}
 use Rattle.law_soundness.specs.Commands.{IsReady}
-use Rattle.law_images.specs.Loads.{CountPackages, CountsPackages}
+use Rattle.law_images.specs.Loads.{AreLaidOut, IsLaidOut}
 use Rattle.law_images.specs.Heaps.{IsOwnHeap}
 use Rattle.law_images.specs.NewImages.{KeepsBeginning}
 
@@ -32,7 +32,7 @@ pub record IsOwnCard (t : Tokens) (card : CardState) : Type 0 where
   pub ready : IsReady card.packages card.memory
   pub reading : IsReadAs t card.packages card.memory
   pub beginning : KeepsBeginning card.memory.heap.size t card.memory
-  pub counted : CountPackages card.memory
+  pub layout : AreLaidOut card.memory
   pub load : IfSome card.load IsOpenReadable
 
 -- what is left of one without power
@@ -40,7 +40,7 @@ pub record IsOwnKept (t : Tokens) (k : KeptState) : Type 0 where
   pub packages : Packages
   pub linked : AreLinkedWell packages
   pub heap : IsOwnHeap k.size t packages k.durable
-  pub counted : CountsPackages k.durable
+  pub layout : IsLaidOut k.durable
 
 -- a card that is so, up or off
 abbrev pub IsOwnPower : Tokens → PowerState → Type 0

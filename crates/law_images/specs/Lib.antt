@@ -3,6 +3,7 @@ pub mod Loaded
 pub mod ReadingLoads
 pub mod Growth
 pub mod GrowthRecords
+pub mod Apart
 pub mod Loads
 pub mod Heaps
 pub mod NewImages

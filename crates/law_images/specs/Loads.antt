@@ -14,8 +14,10 @@ use Rattle.jc_linker.specs.Linking.{with_package}
 use Rattle.law_linking.specs.Linked.{AreLinked}
 use Rattle.jc_card_load.specs.RecordContents.{arrays_of, image_of, parts_of, statics_of}
 use Rattle.jc_card_load.specs.PendingPackages.{PendingPackageValue, linked_components}
+use Rattle.law_soundness.specs.Commands.{IsServed}
 use Rattle.law_soundness.specs.Environment.{HasEnvironment}
 use Rattle.law_soundness.specs.State.{IsSoundMemory, IsSoundUpTo, is_open}
+use Rattle.law_images.specs.Apart.{StandApart}
 
 -- the heap counts its packages
 abbrev pub CountsPackages : HeapState → Type 0
@@ -35,20 +37,25 @@ RecordsFit = (most : ℕ) (p : Packages) (load : LoadedComponents) (q : PendingP
     → length h.packages ≡ length p.loaded → CountsPackages h → IsConsistentHeap h → own < h.top →
     IsSoundUpTo most (with_package p q.linked) h own → IsSoundUpTo most (with_package p q.linked) (with_record h q.texts) own
 
--- both heaps of the memory do
-pub record CountPackages (m : MemoryState) : Type 0 where
-  pub now : CountsPackages m.heap.now
-  pub durable : CountsPackages m.heap.durable
+-- and what stands in it stands apart
+pub record IsLaidOut (h : HeapState) : Type 0 where
+  pub counted : CountsPackages h
+  pub apart : StandApart h
 
--- each effect leaves it so
-abbrev pub EffectsCount : Type 0
-EffectsCount = (e : Effect) (m : MemoryState) → CountPackages m → CountPackages (apply_effect e m)
+-- so it is with both heaps of the memory
+pub record AreLaidOut (m : MemoryState) : Type 0 where
+  pub now : IsLaidOut m.heap.now
+  pub durable : IsLaidOut m.heap.durable
 
--- the memory is sound, the objects with which it begins are the runtime environment's, and it counts its packages
+-- each effect that fits a sound memory leaves it so
+abbrev pub EffectsKeepLayout : Type 0
+EffectsKeepLayout = (p : Packages) (e : Effect) (m : MemoryState) → IsServed p e m → IsSoundMemory p m → AreLaidOut m → AreLaidOut (apply_effect e m)
+
+-- the memory is sound, the objects with which it begins are the runtime environment's, and its heaps are laid out
 pub record IsSoundForLoads (p : Packages) (m : MemoryState) : Type 0 where
   pub sound : IsSoundMemory p m
   pub environment : HasEnvironment p m
-  pub counted : CountPackages m
+  pub layout : AreLaidOut m
 
 -- while no transaction and no installation is open, all this stays so behind the move that adds the package that a load brings, with
 -- that package linked onto the others

@@ -58,4 +58,3 @@ pub mod Serving
 pub mod Phases
 pub mod Commands
 pub mod CommandLaws
-mod Held

@@ -12,4 +12,3 @@ pub mod Steps
 pub mod Calls
 pub mod Soundness
 pub mod Commands
-pub mod OwnerPinLaws

@@ -1,11 +1,9 @@
 //! Soundness: effects that leave the heap of a memory fitting the packages that are linked.
 //! Soundness of what code does: instructions, calls of the platform, steps, runs, and what serves a command.
-//! The counters of PINs' tries, over packages that were linked.
 #![tactic(auto)]
 
 mod machine_laws;
 mod memory_laws;
-mod owner_pin_laws;
 
 pub use machine_laws::{
     commands_keep_memories_sound, effects_of_array_instructions_fit_packages,
@@ -20,4 +18,3 @@ pub use memory_laws::{
     fit_effects_keep_memories_sound, fit_effects_keep_the_environments_objects,
     sound_memories_outlast_losses,
 };
-pub use owner_pin_laws::sound_steps_change_try_counters_by_pin_calls_alone;

@@ -2,11 +2,17 @@ pub mod Sessions
 pub mod Prefixes
 pub mod Exchanged
 pub mod Commands
+pub mod Coming
 pub mod Within
 pub mod Orders
 pub mod Served
+pub mod Sized
 pub mod Others
 pub mod Pins
+pub mod Named
+pub mod OwnerPins
+pub mod Staying
+pub mod Renewed
 pub mod Founds
 pub mod TakenBack
 pub mod Isolated

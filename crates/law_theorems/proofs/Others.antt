@@ -21,7 +21,7 @@ use Rattle.law_soundness.proofs.Frames.{same_object}
 use Rattle.law_soundness.proofs.Serving.{serving_keeps}
 use Rattle.law_theorems.specs.Tries.{is_owner_pin}
 
-stands_if : (b : Bool) (d x : HeapState) → b ≡ true → (if b then d else x) ≡ d
+pub stands_if : (b : Bool) (d x : HeapState) → b ≡ true → (if b then d else x) ≡ d
 stands_if true d x e = refl
 stands_if false d x e = absurd (true≢false (sym e))
 

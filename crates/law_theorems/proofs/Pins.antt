@@ -13,7 +13,18 @@ use Rattle.jc_heap.proofs.Laws.{heap_item_at-set_cell, heap_item_at-set_other, i
 use Rattle.jc_memory.specs.State.{MemoryState, Effect, HeapMove, SetTransient, SetFlag, ClearTransient, SetRegisters, BeginCommand, SendBytes}
 use Rattle.jc_memory.specs.State.{apply_effect}
 use Rattle.law_atomicity.specs.Tears.{SavedHeapAfter}
-use Rattle.law_theorems.specs.Tries.{tries_in, tries_left}
+use Rattle.law_theorems.specs.Tries.{tries_in}
+
+-- so many tries of a PIN stay, of as many before, where an effect sets them for good, unless an abort takes back what is written there
+abbrev pub tries_behind : ℕ → Effect → MemoryState → ℕ → ℕ
+tries_behind q (HeapMove (WriteNonAtomic (Cell r i) v)) m tries =
+    if goes_back m.heap (place_word (Cell r i)) then tries else (if (r == q) && (i == 2) then v else tries)
+tries_behind q e m tries = tries
+
+-- so many stay where these effects are taken back
+abbrev pub tries_left : ℕ → List Effect → MemoryState → ℕ → ℕ
+tries_left q [] m tries = tries
+tries_left q (e ∷ es) m tries = tries_left q es (apply_effect e m) (tries_behind q e m tries)
 
 module _ (r : ℕ) where
   -- an object with a counter, as a PIN is

@@ -1,5 +1,5 @@
--- What a command sets of a transient object lies within that object, and what begins one fits the APDU buffer.
-use Rattle.std.proofs.Common.{◌≡◌, ℕ, zero, suc, ◌+◌, ◌<◌, ◌≤◌, true, List, length, Option, Some, None, sym, subst, arith}
+-- What a command sets of an object lies within that object, and what begins one fits the APDU buffer.
+use Rattle.std.proofs.Common.{◌≡◌, ℕ, zero, suc, ◌+◌, ◌<◌, ◌≤◌, true, false, List, length, Option, Some, None, refl, sym, ap, subst, arith}
 use Rattle.std.proofs.lemmas.Bool.{and_parts, leb-true}
 use Rattle.std.proofs.lemmas.List.{length-map}
 use Rattle.std.specs.Prelude.{◌&&◌, is_some, nat_le}
@@ -8,15 +8,24 @@ use Rattle.jc_transient.specs.declared.cell.CellValue.{CellValue}
 use Rattle.jc_transient.specs.declared.cell.CellValue.TheVariants.{Short}
 use Rattle.jc_transient.specs.declared.cell.ClearEvent.{ClearEvent}
 use Rattle.jc_heap.specs.declared.object.Facts.{Facts}
-use Rattle.jc_heap.specs.Heap.{facts}
+use Rattle.jc_heap.specs.declared.object.Kind.TheVariants.{Instance}
+use Rattle.jc_heap.specs.declared.place.Place.TheVariants.{Cell as CellOf, Static, Registry, AppletCount}
+use Rattle.jc_heap.specs.Heap.{add_object, facts, heap_item_at, is_allocated}
+use Rattle.jc_heap.specs.Moves.{Move, Write, SetPlaces, WriteNonAtomic, SetCells, AddObject, AddTransient, AddPackage, Begin, Commit, Abort, new_move}
+use Rattle.jc_heap.specs.Object.{AnObject, Object, facts_of, new_object, object_size}
+use Rattle.jc_heap.proofs.Laws.{heap_item_at-add_object}
 use Rattle.jc_memory.specs.declared.making.NewObject.{NewObject}
 use Rattle.jc_memory.specs.Cells.{cell_effect, cell_effect_in, cells_effect, cells_effect_in}
-use Rattle.jc_memory.specs.Making.{creation_refusal}
+use Rattle.jc_memory.specs.Making.{creation_move, creation_refusal}
 use Rattle.jc_memory.specs.Programs.{Program}
 use Rattle.jc_memory.specs.Reading.{AllDue}
 use Rattle.jc_memory.specs.State.{MemoryState, Effect, HeapMove, SetTransient, SetFlag, ClearTransient, SetRegisters, BeginCommand, SendBytes}
+use Rattle.jc_memory.specs.State.{IsNew, apply_effect}
 use Rattle.jc_linker.specs.Values.{Packages}
+use Rattle.jc_platform.specs.declared.names.PlatformClass.TheVariants.{Aid}
 use Rattle.jc_platform.specs.declared.names.PlatformMethod.{PlatformMethod}
+use Rattle.jc_platform.specs.Distinct.{class_word}
+use Rattle.jc_card_checks.specs.Objects.{is_persistent_instance}
 use Rattle.jc_frames.specs.declared.cell.Cell.{Cell}
 use Rattle.jc_frames.specs.declared.outcome.Outcome.{Outcome}
 use Rattle.jc_frames.specs.Frames.{Frames, Next, GoesOn, Throws, Ends}
@@ -39,9 +48,30 @@ use Rattle.law_isolation.proofs.Walk.{step_due}
 use Rattle.law_theorems.proofs.Commands.{CommandPasses}
 use Rattle.law_theorems.proofs.Exchanged.{then_due}
 
+-- these cells are those of a persistent object
+abbrev pub AreCellsOf : MemoryState → ℕ → ℕ → Type 0
+AreCellsOf m r end = ((facts m.heap.now r).event ≡ None) × (end ≤ (facts m.heap.now r).length)
+
+-- cells of a persistent object are set within it, as long as the command fits the buffer, and an instance gets nine at once at most
+abbrev pub IsMoveWithin : Move → MemoryState → Type 0
+IsMoveWithin (Write (CellOf r i) v) m = AreCellsOf m r (i + 1)
+IsMoveWithin (Write (Static r j) v) m = Unit {0}
+IsMoveWithin (Write (Registry i) v) m = Unit {0}
+IsMoveWithin (Write AppletCount v) m = Unit {0}
+IsMoveWithin (SetPlaces changes) m = Unit {0}
+IsMoveWithin (WriteNonAtomic place v) m = Unit {0}
+IsMoveWithin (SetCells r i words) m = length m.command ≤ 261 → (is_persistent_instance (facts m.heap.now r) ≡ true → length words ≤ 9)
+    → AreCellsOf m r (i + length words)
+IsMoveWithin (AddObject o size) m = Unit {0}
+IsMoveWithin (AddTransient kind event class owner long) m = Unit {0}
+IsMoveWithin (AddPackage components arrays image) m = Unit {0}
+IsMoveWithin Begin m = Unit {0}
+IsMoveWithin Commit m = Unit {0}
+IsMoveWithin Abort m = Unit {0}
+
 -- transient cells are set within their object, as long as the command fits the buffer; and one that begins does
 abbrev pub IsWithin : Effect → MemoryState → Type 0
-IsWithin (HeapMove move) m = Unit {0}
+IsWithin (HeapMove move) m = IsMoveWithin move m
 IsWithin (SetTransient r i values) m = length m.command ≤ 261 → i + length values ≤ (facts m.heap.now r).length
 IsWithin (SetFlag r flag) m = Unit {0}
 IsWithin (ClearTransient event) m = Unit {0}
@@ -52,21 +82,42 @@ IsWithin (SendBytes bytes) m = Unit {0}
 -- ---- cells that are set
 
 module _ (m : MemoryState) where
-  cell_in : (event : Option ClearEvent) (r i : ℕ) (v : CellValue) → i < (facts m.heap.now r).length → IsWithin (cell_effect_in event r i v) m
-  cell_in None r i v within = tt
-  cell_in (Some event) r i v within = λ few. omega (arith, within)
+  cell_in : (event : Option ClearEvent) (r i : ℕ) (v : CellValue) → (facts m.heap.now r).event ≡ event → i < (facts m.heap.now r).length
+      → IsWithin (cell_effect_in event r i v) m
+  cell_in None r i v is within = (is, omega (arith, within))
+  cell_in (Some event) r i v is within = λ few. omega (arith, within)
 
   cell_within : (r i : ℕ) (v : CellValue) → i < (facts m.heap.now r).length → IsWithin (cell_effect m r i v) m
-  cell_within r i v within = cell_in (facts m.heap.now r).event r i v within
+  cell_within r i v within = cell_in (facts m.heap.now r).event r i v refl within
 
-  cells_in : (event : Option ClearEvent) (r i : ℕ) (words : List ℕ) → (length m.command ≤ 261 → i + length words ≤ (facts m.heap.now r).length)
-      → IsWithin (cells_effect_in event r i words) m
-  cells_in None r i words within = tt
-  cells_in (Some event) r i words within = λ few. let le = within few in let long = length-map words number_of in omega (arith, le, long)
+  cells_in : (event : Option ClearEvent) (r i : ℕ) (words : List ℕ) → (facts m.heap.now r).event ≡ event
+      → (length m.command ≤ 261 → i + length words ≤ (facts m.heap.now r).length) → IsWithin (cells_effect_in event r i words) m
+  cells_in None r i words is within = λ few nine. (is, within few)
+  cells_in (Some event) r i words is within = λ few. let le = within few in let long = length-map words number_of in omega (arith, le, long)
 
   cells_within : (r i : ℕ) (words : List ℕ) → (length m.command ≤ 261 → i + length words ≤ (facts m.heap.now r).length)
       → IsWithin (cells_effect m r i words) m
-  cells_within r i words within = cells_in (facts m.heap.now r).event r i words within
+  cells_within r i words within = cells_in (facts m.heap.now r).event r i words refl within
+
+-- ---- what is made
+
+made_within : (event : Option ClearEvent) (o : NewObject) (m : MemoryState) → IsWithin (HeapMove (creation_move event o)) m
+made_within None o m = tt
+made_within (Some event) o m = tt
+
+-- the cells of an applet's AID object
+aid_within : (p : Packages) (m : MemoryState) (r : ℕ) (words : List ℕ) → IsNew m.heap.now r
+    → IsWithin (HeapMove (SetCells r 0 words)) (apply_effect (HeapMove (new_move Instance (class_word p.platform Aid) 0 9)) m)
+aid_within p m r words new few nine =
+    let o : Object = new_object Instance (class_word p.platform Aid) 0 9 in
+    let size = object_size Instance 9 in
+    let is : facts (add_object m.heap.now o size) r ≡ o.facts =
+    ap facts_of (subst (λ q. heap_item_at (add_object m.heap.now o size) q ≡ AnObject o) (sym new.chosen)
+    (heap_item_at-add_object m.heap.now o size (subst (λ q. is_allocated m.heap.now q ≡ false) new.chosen new.free))) in (
+      ap (λ f. f.event) is,
+      (let n = nine (ap is_persistent_instance is) in let long : (facts (add_object m.heap.now o size) r).length ≡ 9 = ap (λ f. f.length) is in
+          omega (arith, n, long)),
+    )
 
 -- ---- steps and runs
 
@@ -83,7 +134,7 @@ bears = record {
 module _ (p : Packages) (m : MemoryState) where
   new_due : (o : NewObject) (s : Frames) → AllDue IsWithin (new_on_top o s m) m
   unfolding new_on_top
-  new_due o s = due_unless IsWithin m s (creation_refusal m o) _ (λ r new. (tt, tt))
+  new_due o s = due_unless IsWithin m s (creation_refusal m o) _ (λ r new. (made_within o.event o m, tt))
 
   fields_pass : FieldsPass IsWithin p m
   fields_pass = record {
@@ -99,7 +150,8 @@ module _ (p : Packages) (m : MemoryState) where
   }
 
   registers : (aid : List ℕ) (instance : ℕ) → AllDue IsWithin (registration aid instance p m) m
-  registers = registered_due IsWithin (λ g v. tt) (λ v on. tt) p m (λ r words new. (tt, (tt, tt))) (λ entry v is. tt)
+  registers = registered_due IsWithin (λ g v. tt) (λ v on. tt) p m
+      (λ r words new. (tt, (aid_within p m r words new, tt))) (λ entry v is. tt)
 
   method_passes : (method : PlatformMethod) (args : List Cell) → MethodPasses IsWithin method args p m
   method_passes method args = record {
@@ -109,7 +161,7 @@ module _ (p : Packages) (m : MemoryState) where
     aid = λ init own bytes is long fine. cells_within m own 0 (cells_of_aid bytes)
         (λ few. let l = long.cells in let n = nine bytes in omega (arith, l, n));
     buffer = λ r is. cells_within m r 5 (data_of m.command) (λ few. let d = data_fits m.command few in let l = is.long in omega (arith, d, l));
-    transient = λ kind count event o none fine room r new. (tt, tt);
+    transient = λ kind count event o none fine room r new. (made_within o.event o m, tt);
     starts = λ pin is limit maximum value new. (tt, (tt, (tt, tt)));
     flags = λ pin is flag v. tt;
     counts = λ pin is n. tt;

@@ -1,5 +1,5 @@
 -- A new image, its first reset, and a command.
-use Rattle.std.proofs.Common.{◌≡◌, ℕ, zero, suc, ◌+◌, ◌≤◌, Bool, true, false, List, [], ◌∷◌, length, get_or, refl, sym, ◌∙◌, ap, Some, None}
+use Rattle.std.proofs.Common.{◌≡◌, ℕ, zero, suc, ◌+◌, ◌≤◌, Bool, true, false, List, [], ◌∷◌, get_or, refl, ◌∙◌, ap, Some, None}
 use Rattle.std.specs.Prelude.{pos, replicate, Ok}
 use Rattle.std.proofs.lemmas.List.{length-replicate}
 use Rattle.std.proofs.lemmas.Option.{none-some}
@@ -18,17 +18,16 @@ use Rattle.jc_platform.specs.Table.{Reads}
 use Rattle.jc_platform.specs.Tokens.{Tokens}
 use Rattle.jc_platform.proofs.NamesTold.{names_told}
 use Rattle.law_linking.proofs.Bytes.{have_bytes}
-use Rattle.jc_card.proofs.FittingImages.{counts_add, packages_add}
 use Rattle.jc_card.specs.Answers.{manager_command, exchange}
 use Rattle.jc_card_load.specs.Loading.{empty_load}
 use Rattle.jc_card.specs.CardState.{CardState}
-use Rattle.jc_card.specs.Fixed.{fixed_objects, fixed_of, last_fixed}
+use Rattle.jc_card.specs.Fixed.{fixed_of, last_fixed}
 use Rattle.jc_card.specs.Made.{IsCardHeap, new_card_heap}
 use Rattle.jc_card.specs.Reset.{ReadsAsZero}
-use Rattle.jc_image.specs.Laying.{unsealed_heap}
 use Rattle.jc_card_checks.specs.Sound.{IsSound}
 use Rattle.law_soundness.specs.State.{IsFitObject}
 use Rattle.law_images.specs.Heaps.{IsOwnHeap}
+use Rattle.law_images.proofs.CardImages.{new_layout}
 use Rattle.law_images.proofs.NewImages.{new_images}
 use Rattle.jc_session.specs.declared.event.Event.TheVariants.{Reset}
 use Rattle.jc_session.specs.declared.event.Answer.TheVariants.{Ready, Down}
@@ -90,7 +89,7 @@ module _ (n : ℕ) (text : List ℕ) (t : Tokens) (enough : least_size ≤ n) (r
       applets = λ i c e. absurd (none-some c e);
     };
     heap = fits;
-    counted = ap (λ c. c.0) (counts_add t (unsealed_heap n text) fixed_objects) ∙ ap length (sym (packages_add t (unsealed_heap n text) fixed_objects));
+    layout = new_layout n text t;
   }
 
   found : IsSound none heap (last_fixed heap)

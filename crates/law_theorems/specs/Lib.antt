@@ -3,6 +3,7 @@ pub mod Refusals
 pub mod Images
 pub mod Comes
 pub mod Tries
+pub mod TryChanges
 pub mod TakenBack
 pub mod Isolation
 pub mod Fuse

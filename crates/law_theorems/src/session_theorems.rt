@@ -5,6 +5,7 @@ ghost use Rattle.law_theorems.specs.Images.{PowerUpAgain};
 ghost use Rattle.law_theorems.specs.Isolation.{StayApart};
 ghost use Rattle.law_theorems.specs.Refusals.{DownTells};
 ghost use Rattle.law_theorems.specs.TakenBack.{IsTakenBack};
+ghost use Rattle.law_theorems.specs.TryChanges.{TriesChangeByPinCalls};
 ghost use Rattle.law_theorems.specs.WholeCopies.{AreOfWholeCopies};
 ghost use Rattle.law_theorems.specs.Witness.{HaveWitnesses};
 
@@ -22,10 +23,16 @@ pub fn down_tells_of_refused_writes()
 
 /// What is not committed is taken back: by an abort, by the end of the command, and by a loss of power at any
 /// write, followed by any number of resets that are cut as well. The heap is then as the transaction found it, but
-/// for the tries of OwnerPINs: each try stays counted that was counted before the transaction changed the PIN's
-/// counter itself. Where no transaction is open, all changes before the loss stay.
+/// for the tries of its OwnerPINs: those that were counted before the transaction first updated the PIN or ran its
+/// constructor stay counted, and no others. Where no transaction is open, all changes before the loss stay.
 pub fn sessions_take_back_what_is_not_committed()
     ensures { IsTakenBack }
+{}
+
+/// At whatever moment of whatever command of a session, the tries of an OwnerPIN change only as they are counted, by an
+/// update of that PIN or its constructor, or as an abort takes changes back.
+pub fn sessions_change_tries_by_pin_calls_alone()
+    ensures { TriesChangeByPinCalls }
 {}
 
 /// Behind `stop K`, until the fuse is armed again, and while the store below refuses no write by itself, no write is

@@ -9,8 +9,8 @@ use jc_session::card::formatting::FormatFault;
 use jc_session::card::power_up::PowerFault;
 use jc_session::session::SessionFault;
 use jc_words::{
-    BlankFault, FileCreateFault, FileFailed, FileOpenFault, FileReadFault, ImageFault, LockFault,
-    StoreDown,
+    BlankFault, FileCreateFault, FileFailed, FileLockFault, FileOpenFault, FileReadFault,
+    ImageFault, LockFault, NotOpened, StoreDown,
 };
 use jcard_script::script::ScriptFault;
 use jcard_script::streams::{ReadFailed, WriteFailed};
@@ -62,10 +62,22 @@ const FILE_OPEN_TEXTS: [(FileOpenFault, &str); 5] = [
     (FileOpenFault::NoMemory, "no memory for the words"),
 ];
 
-const FILE_CREATE_TEXTS: [(FileCreateFault, &str); 3] = [
-    (FileCreateFault::CannotWrite, "the file cannot be written"),
-    (FileCreateFault::InUse, "another has the file open"),
-    (FileCreateFault::NoMemory, "no memory for the words"),
+const FILE_PATH_TEXTS: [(NotOpened, &str); 1] = [(NotOpened, "the file cannot be opened")];
+
+const FILE_LOCK_TEXTS: [(FileLockFault, &str); 2] = [
+    (FileLockFault::NotOpened, "the file cannot be opened"),
+    (
+        FileLockFault::NotLocked(LockFault::InUse),
+        "another has the file locked",
+    ),
+];
+
+const FILE_CREATE_TEXTS: [(FileCreateFault, &str); 2] = [
+    (
+        FileCreateFault::NotHeld(FileLockFault::NotOpened),
+        "the file cannot be opened",
+    ),
+    (FileCreateFault::NotWritten, "the file cannot be written"),
 ];
 
 const JOURNAL_WRITE_TEXTS: [(WriteRefusal, &str); 2] = [
@@ -226,6 +238,8 @@ fn of_files(rt: HostRuntime) {
     check_texts(&rt, &FILE_READ_TEXTS);
     check_texts(&rt, &LOCK_TEXTS);
     check_texts(&rt, &FILE_OPEN_TEXTS);
+    check_texts(&rt, &FILE_PATH_TEXTS);
+    check_texts(&rt, &FILE_LOCK_TEXTS);
     check_texts(&rt, &FILE_CREATE_TEXTS);
 }
 

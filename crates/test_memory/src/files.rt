@@ -1,5 +1,8 @@
 //! Files of the operating system that hold words.
-use jc_words::{FileCreateFault, FileOpenFault, FileStore, StdFile, StoreDown, WordStore};
+use jc_words::{
+    FileCreateFault, FileLockFault, FileOpenFault, FileStore, LockFault, StdFile, StoreDown,
+    WordStore, ZeroWords,
+};
 use std::fs::File;
 use std::io::Read;
 use std::process::Abort;
@@ -45,7 +48,7 @@ fn check_made<R: Files<File = File> + AllocGlobal + Abort>(
     path: &str,
     size: u16,
 ) -> Result<(), Fail> {
-    let made = FileStore::create(rt, path, size)?;
+    let made = FileStore::create(rt, path, ZeroWords::new(rt.alloc(), size)?)?;
     assert_eq!(rt; made.size(), size);
     let bytes = bytes_of(rt, path)?;
     assert!(rt; bytes.len() == 2 * size as usize && bytes.iter().all(|byte| *byte == 0));
@@ -56,7 +59,7 @@ fn check_made<R: Files<File = File> + AllocGlobal + Abort>(
 fn a_file_that_is_made_has_its_bytes_and_no_others(rt: HostRuntime) -> Result<(), Fail> {
     let path = "made_shorter.image";
     {
-        let mut made = FileStore::create(&rt, path, 5000)?;
+        let mut made = FileStore::create(&rt, path, ZeroWords::new(rt.alloc(), 5000)?)?;
         for i in [0, 4095, 4096, 4999] {
             put(&mut made, i, 0xABCD)?;
         }
@@ -69,7 +72,7 @@ fn a_file_that_is_made_has_its_bytes_and_no_others(rt: HostRuntime) -> Result<()
 
 // Makes a file of 4096 words, in which each word is its own number.
 fn make_counting<R: Files<File = File> + AllocGlobal>(rt: &R, path: &str) -> Result<(), Fail> {
-    let mut made = FileStore::create(rt, path, 4096)?;
+    let mut made = FileStore::create(rt, path, ZeroWords::new(rt.alloc(), 4096)?)?;
     for i in 0..made.size() {
         put(&mut made, i, i)?;
     }
@@ -113,25 +116,18 @@ fn check_not_opened<R: Abort>(
     Ok(())
 }
 
-// Looks that a making failed in this way. Where it failed for want of memory the test ends by that.
-fn check_not_made<R: Abort>(
-    rt: &R,
-    fault: Option<FileCreateFault>,
-    wanted: FileCreateFault,
-) -> Result<(), Fail> {
-    if fault == Some(FileCreateFault::NoMemory) {
-        Err(FileCreateFault::NoMemory)?;
-    }
-    assert!(rt; fault == Some(wanted));
-    Ok(())
-}
-
 #[test]
 fn a_file_that_is_not_there_is_told(rt: HostRuntime) -> Result<(), Fail> {
     let fault = opened(&rt, "no_such_file.image").err();
     check_not_opened(&rt, fault, FileOpenFault::CannotOpen)?;
-    let made = FileStore::create(&rt, "no_such_folder/words.image", 4096).err();
-    check_not_made(&rt, made, FileCreateFault::CannotWrite)
+    let made = FileStore::create(
+        &rt,
+        "no_such_folder/words.image",
+        ZeroWords::new(rt.alloc(), 4096)?,
+    )
+    .err();
+    assert!(rt; made == Some(FileCreateFault::NotHeld(FileLockFault::NotOpened)));
+    Ok(())
 }
 
 // Looks that a file of 4096 words that somebody has open is neither opened to change it nor made anew.
@@ -140,11 +136,9 @@ fn check_in_use<R: Files<File = File> + AllocGlobal + Abort>(
     path: &str,
 ) -> Result<(), Fail> {
     check_not_opened(rt, opened(rt, path).err(), FileOpenFault::InUse)?;
-    check_not_made(
-        rt,
-        FileStore::create(rt, path, 5000).err(),
-        FileCreateFault::InUse,
-    )?;
+    let made = FileStore::create(rt, path, ZeroWords::new(rt.alloc(), 5000)?).err();
+    let in_use = FileLockFault::NotLocked(LockFault::InUse);
+    assert!(rt; made == Some(FileCreateFault::NotHeld(in_use)));
     assert_eq!(rt; bytes_of(rt, path)?.len(), 8192);
     Ok(())
 }
@@ -161,7 +155,7 @@ fn check_not_read<R: Files<File = File> + AllocGlobal + Abort>(
 fn a_file_that_is_being_changed_is_in_use(rt: HostRuntime) -> Result<(), Fail> {
     let path = "changed.image";
     {
-        let mut made = FileStore::create(&rt, path, 4096)?;
+        let mut made = FileStore::create(&rt, path, ZeroWords::new(rt.alloc(), 4096)?)?;
         check_in_use(&rt, path)?;
         check_not_read(&rt, path)?;
         put(&mut made, 0, 0xABCD)?;

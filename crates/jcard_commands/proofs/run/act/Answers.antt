@@ -2,7 +2,7 @@ use Rattle.std.proofs.Common.{ℕ, List, [], map, refl, subst}
 use Rattle.std.specs.Prelude.{option_map}
 use Rattle.std.specs.Borrow.{Bor}
 use Rattle.jcard_script.proofs.Known.{appends_same}
-use Rattle.jcard_commands.specs.Tests.{IsTest}
+use Rattle.jcard_tests.specs.Tests.{IsTest}
 use Rattle.jcard_commands.proofs.run.act.Goals as goal
 
 pub returns-in-New-clause-done : goal.returns-in-New-clause-done

@@ -1,7 +1,7 @@
 use Rattle.std.proofs.Common.{sym, subst, List, ℕ}
 use Rattle.std.specs.Prelude.{Option, map}
 use Rattle.std.specs.String.{string_bytes}
-use Rattle.jcard_commands.specs.Faults.{IsPerformedBy}
+use Rattle.jcard_commands.specs.Commands.{IsPerformedBy}
 use Rattle.jcard_commands.proofs.run.perform.Goals as goal
 
 pub returns-in-Some-clause-done : goal.returns-in-Some-clause-done

@@ -1,15 +1,15 @@
-use Rattle.std.proofs.Common.{◌≡◌, ◌∙◌, inl, inr, List, [], ◌∷◌, Some, None, refl, ap, subst}
+use Rattle.std.proofs.Common.{◌≡◌, ◌∙◌, inl, inr, List, [], ◌∷◌, Ok, Err, refl, ap, subst}
 use Rattle.jcard_script.proofs.Known.{appends_same}
 use Rattle.jc_words.specs.Stores.{below_fuse, store_value}
-use Rattle.jcard_commands.specs.FileDeeds.{FileDeed, ClosesImage, OpensImage, ReadsText, fresh_store, untouched}
-use Rattle.jcard_commands.specs.Faults.{IsCarriedOut}
-use Rattle.jcard_commands.proofs.Stores.{fresh_under_fuse}
+use Rattle.jcard_files.specs.FileDeeds.{FileDeed, ClosesImage, OpensImage, ReadsText, fresh_store, untouched}
+use Rattle.jcard_commands.specs.Runs.{IsCarriedOut}
+use Rattle.jcard_files.proofs.Stores.{fresh_under_fuse}
 use Rattle.jcard_commands.proofs.run.run_file.Goals as goal
 
 pub returns-in-Err-clause-done : goal.returns-in-Err-clause-done
 returns-in-Err-clause-done g c = (
   [],
-  OpensImage c.args.image.now None ∷ [],
+  OpensImage c.args.image.now (Err c.in-Err.fault) ∷ [],
   appends_same _,
   inl (c.in-Err.fault, refl, c.in-Err.ensures.refused, refl, refl),
   c.in-Err.ensures.does,
@@ -34,10 +34,10 @@ returns-in-Ok-open_text-clause-done g c =
     let value = store_value I.words I.down I.passed I.refusals in
     let below : value c.new.result.store ≡ below_fuse after = ap value c.new.ensures ∙ c.into_store.ensures in
     let closed = subst (λ s. g.D.Disk.does c.open_text.new.self (ClosesImage image s ∷ []) c.close_image.new.self) below c.close_image.ensures in
-    let opens : List FileDeed = OpensImage image (Some words) ∷ [] in
-    let reads : List FileDeed = ReadsText script (Some known) ∷ [] in (
+    let opens : List FileDeed = OpensImage image (Ok words) ∷ [] in
+    let reads : List FileDeed = ReadsText script (Ok known) ∷ [] in (
       done.0,
-      OpensImage image (Some words) ∷ ReadsText script (Some known) ∷ ClosesImage image (below_fuse after) ∷ [],
+      OpensImage image (Ok words) ∷ ReadsText script (Ok known) ∷ ClosesImage image (below_fuse after) ∷ [],
       done.1,
       inr (inr (words, known, left, after, c.in-Ok.ensures.size, carried, refl)),
       g.met.D.Disk.then _ _ _ opens _ c.in-Ok.ensures.does (g.met.D.Disk.then _ _ _ reads _ c.in-Ok-open_text.ensures.does closed),
@@ -56,10 +56,10 @@ returns-in-Err-open_text-clause-done g c =
     ∙ (c.into_store-in-Err-open_text.ensures ∙ ap below_fuse fresh) in
     let closed = subst (λ s. g.D.Disk.does c.open_text.new.self (ClosesImage image s ∷ []) c.close_image-in-Err-open_text.new.self) below
     c.close_image-in-Err-open_text.ensures in
-    let opens : List FileDeed = OpensImage image (Some words) ∷ [] in
-    let reads : List FileDeed = ReadsText script None ∷ [] in (
+    let opens : List FileDeed = OpensImage image (Ok words) ∷ [] in
+    let reads : List FileDeed = ReadsText script (Err c.in-Err-open_text.fault) ∷ [] in (
       [],
-      OpensImage image (Some words) ∷ ReadsText script None ∷ ClosesImage image (untouched words) ∷ [],
+      OpensImage image (Ok words) ∷ ReadsText script (Err c.in-Err-open_text.fault) ∷ ClosesImage image (untouched words) ∷ [],
       appends_same _,
       inr (inl (words, c.in-Err-open_text.fault, refl, c.in-Err-open_text.ensures.refused, refl, refl)),
       g.met.D.Disk.then _ _ _ opens _ c.in-Ok.ensures.does (g.met.D.Disk.then _ _ _ reads _ c.in-Err-open_text.ensures.does closed),

@@ -1,19 +1,20 @@
-use Rattle.std.proofs.Common.{◌≡◌, ◌∙◌, [], Some, None, refl, subst, inl, inr}
+use Rattle.std.proofs.Common.{◌≡◌, ◌∙◌, [], Ok, Err, refl, subst, inl, inr}
 use Rattle.std.specs.Prelude.{codes}
 use Rattle.jcard_script.proofs.Known.{appends_same}
-use Rattle.jcard_commands.specs.FileDeeds.{fresh_store}
-use Rattle.jcard_commands.specs.Faults.{IsCarriedOut}
-use Rattle.jcard_commands.proofs.Stores.{fresh_under_fuse, not_tried}
+use Rattle.jcard_files.specs.FileDeeds.{fresh_store}
+use Rattle.jcard_commands.specs.Runs.{IsCarriedOut}
+use Rattle.jcard_files.proofs.Stores.{fresh_under_fuse}
+use Rattle.jcard_commands.proofs.Trials.{not_tried}
 use Rattle.jcard_commands.proofs.trial.try_on.Goals as goal
 
 pub returns-in-Err-clause-done : goal.returns-in-Err-clause-done
-returns-in-Err-clause-done g c = ([], None, appends_same _, inl (c.in-Err.fault, refl, c.in-Err.ensures.refused, refl, refl), c.in-Err.ensures.does)
+returns-in-Err-clause-done g c = ([], Err c.in-Err.fault, appends_same _, inl (c.in-Err.fault, refl, c.in-Err.ensures.refused, refl, refl), c.in-Err.ensures.does)
 
 pub returns-in-Err-new_image-clause-done : goal.returns-in-Err-new_image-clause-done
 returns-in-Err-new_image-clause-done g c =
     let known = g.D.Text.Read.remaining c.in-Ok.file in (
       [],
-      Some known,
+      Ok known,
       appends_same _,
       not_tried c.args.script.now c.args.count c.args.table.now c.in-Err-new_image.fault known c.in-Err-new_image.ensures,
       c.in-Ok.ensures.does,
@@ -34,7 +35,7 @@ returns-clause-done g c =
     let over = subst (λ f. IsCarriedOut (codes "memory") script (unread f) left c.new.result after ended done.0) c.new-reader.ensures.inner done.2 in
     let carried = subst (λ s. IsCarriedOut (codes "memory") script known left s after ended done.0) fresh over in (
       done.0,
-      Some known,
+      Ok known,
       done.1,
       inr (known, left, refl, inr (inr (words, after, made.0, carried))),
       c.in-Ok.ensures.does,

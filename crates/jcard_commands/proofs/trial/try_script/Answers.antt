@@ -1,9 +1,9 @@
-use Rattle.std.proofs.Common.{List, [], ◌∷◌, Some, Ok, refl, sym, subst, ◌∙◌, inl, inr, rules, arith}
+use Rattle.std.proofs.Common.{List, [], ◌∷◌, Ok, refl, sym, subst, ◌∙◌, inl, inr, rules, arith}
 use Rattle.std.proofs.lemmas.Grind.{common_steps}
 use Rattle.jc_platform.specs.Table.{Reads}
 use Rattle.jcard_script.proofs.Known.{appends_same}
-use Rattle.jcard_commands.specs.FileDeeds.{FileDeed, ReadsText}
-use Rattle.jcard_commands.specs.NewImages.{IsTextOf}
+use Rattle.jcard_files.specs.FileDeeds.{FileDeed, ReadsText}
+use Rattle.jcard_files.specs.Readings.{IsTextOf}
 use Rattle.jcard_commands.proofs.trial.try_script.Goals as goal
 
 pub returns-in_default-clause-done : goal.returns-in_default-clause-done
@@ -32,9 +32,9 @@ returns-in-Ok-read_table-clause-done g c =
     let is_table = subst (λ t. Reads t (Ok c.in-Ok-read_table.field-0)) (c.deref.ensures.value ∙ sym c.deref-in-Ok-read_table.ensures.value)
     c.in-Ok-read_table.ensures in
     let does = subst (λ d. g.D.Disk.does c.args.disk.now d c.text_of.new.disk) read.2 text.1 in
-    let reads : List FileDeed = ReadsText table (Some read.0) ∷ [] in (
+    let reads : List FileDeed = ReadsText table (Ok read.0) ∷ [] in (
       done.0,
-      ReadsText table (Some read.0) ∷ ReadsText script done.1 ∷ [],
+      ReadsText table (Ok read.0) ∷ ReadsText script done.1 ∷ [],
       done.2,
       inr (inr (inr (
         c.in-Some.count,
@@ -57,7 +57,7 @@ returns-clause-done g c =
     let is_text = subst (λ t. IsTextOf t read.0) (sym c.deref.ensures.value) read.1 in
     let does = subst (λ d. g.D.Disk.does c.args.disk.now d c.text_of.new.disk) read.2 text.1 in (
       [],
-      ReadsText c.args.table.now (Some read.0) ∷ [],
+      ReadsText c.args.table.now (Ok read.0) ∷ [],
       appends_same _,
       inr (inr (inl (c.deref.result.now, read.0, _, refl, is_text, first_of (search rules, grind (arith, common_steps)), refl, refl))),
       does,

@@ -4,7 +4,7 @@ use Rattle.jcard_rows.specs.Cards.{AreCards, IsNewCard, IsRowOfLine}
 use Rattle.jcard_rows.specs.declared.row.Row.{Row}
 use Rattle.jcard_rows.proofs.CardSteps.{card_ended, card_last, card_next, card_pushed, card_row, card_same}
 use Rattle.jcard_rows.proofs.cards.cards_of.Goals as goal
-use Rattle.jcard_rows.proofs.cards.cards_of.Goals.{in-Some-card_size+in_ok-push-in-Some-card_size, in-None+in_ok-push-in-None}
+use Rattle.jcard_rows.proofs.cards.cards_of.Goals.{in-Some-card_size+in_ok-push-in-Some-card_size, in-None+in_ok-push_row-in-None}
 
 pub loop-line-preserved-in_default : goal.loop-line-preserved-in_default
 loop-line-preserved-in_default c = (
@@ -29,11 +29,11 @@ loop-line-preserved c =
                 (c.loop-line.invariant.1 (_ ∷ more) (card_next lines i c.line-item.result c.loop-line-test.true c.line-item.is c.loop-line.words
                 c.loop-line.rows.items more row size _ says new refl refl a)),
           )
-      | in-None+in_ok-push-in-None w ↦
-          rw (w.cards-is, w.words-is, w.rows-is, w.in_ok-push-in-None.ensures.items) (
+      | in-None+in_ok-push_row-in-None w ↦
+          rw (w.cards-is, w.words-is, w.rows-is) (
             c.loop-line.invariant.0,
             λ more a. c.loop-line.invariant.1 more (card_row lines i c.line-item.result c.loop-line-test.true c.line-item.is c.loop-line.words
-                c.loop-line.rows.items more row says (λ size new. w.in-None.ensures size (subst (λ t. IsNewCard t size) (sym c.as_str.ensures.value) new)) a),
+                c.loop-line.rows.items more row _ says (λ size new. w.in-None.ensures size (subst (λ t. IsNewCard t size) (sym c.as_str.ensures.value) new)) w.in_ok-push_row-in-None.ensures a),
           )
     ]
 

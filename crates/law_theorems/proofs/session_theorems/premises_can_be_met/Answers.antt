@@ -1,4 +1,4 @@
-use Rattle.law_theorems.proofs.TakenBack.{stores_come}
+use Rattle.law_theorems.proofs.Coming.{stores_come}
 use Rattle.law_theorems.proofs.Witness.{witnesses}
 use Rattle.law_theorems.proofs.session_theorems.premises_can_be_met.Goals as goal
 

@@ -1,7 +1,7 @@
 use Rattle.std.proofs.Common.{◌≡◌, ℕ, ◌+◌, ◌*◌, List, length, get_or, sym, ap, subst, ◌∙◌, arith}
 use Rattle.jc_heap.specs.Packed.{packed_words}
 use Rattle.jc_heap.specs.Elements.{elements_of, packing_words, bytes_with, FitPacking}
-use Rattle.jc_heap.proofs.Runs.{viewed_length, run_words-at}
+use Rattle.jc_heap.proofs.Runs.{viewed_length, run_word}
 use Rattle.jc_heap.proofs.Packing.{packed_words-word}
 use Rattle.jc_heap.proofs.changes.CellRun.word.Goals.{in-Single, in-Double}
 use Rattle.jc_heap.proofs.changes.CellRun.word.Goals as goal
@@ -46,8 +46,7 @@ returns c =
           omega (arith, w.value-is, w.byte_of_run.ensures.value, w.byte_of_run-in-Double.ensures.value, word) in
           said ∙ ap (λ p. get_or (packing_words p (elements_of c.self.inside.values)) c.args.k 0) (sym w.in-Double.is)
     ] in
-    let said : get_or c.args.self.now c.args.k (0, 0) ≡ (c.self.inside.at + c.args.k, c.match-self.value) =
-    ap (λ (l : List (ℕ × ℕ)). get_or l c.args.k (0, 0)) (sym c.self.view_is)
-    ∙ run_words-at c.self.inside.at (packing_words c.self.inside.packing (elements_of c.self.inside.values)) c.args.k (omega (arith, packing, c.requires))
-    ∙ ap (λ (v : ℕ). (c.self.inside.at + c.args.k, v)) (sym value) in
-    ap (λ (a : ℕ). (a, c.match-self.value)) (c.address.ensures ∙ ap (λ (w : ℕ × ℕ). w.0) said) ∙ sym said
+    let there : (c.self.inside.at + c.args.k, c.match-self.value) ≡ get_or c.args.self.now c.args.k (0, 0) =
+    run_word c.self.inside.at (packing_words c.self.inside.packing (elements_of c.self.inside.values)) c.args.self.now c.args.k c.match-self.value
+    c.self.view_is c.requires value in
+    ap (λ (a : ℕ). (a, c.match-self.value)) (c.address.ensures ∙ ap (λ (w : ℕ × ℕ). w.0) (sym there)) ∙ there

@@ -1,0 +1,176 @@
+//! The words of an image with the tries that its OwnerPINs have left.
+ghost use Rattle.std.specs.Prelude.{ℕ, List, ◌≡◌, ◌+◌, ◌<◌, ◌≤◌, ◌/◌, ◌↔◌, IfOk, IfSome, OnOk, IsTrue, Ok, Some, false, length, slice_index};
+ghost use Rattle.jc_words.specs.Layout.{text_length_address, text_start};
+ghost use Rattle.jc_heap.specs.Heap.{IsObject, heap_of, next_object};
+ghost use Rattle.jc_heap.specs.Image.{table_text};
+ghost use Rattle.jc_platform.specs.Table.{Reads};
+ghost use Rattle.jc_objects.specs.Pins.{AreTriesIn, AreTriesOf, AreTryWords, is_pin, noted};
+ghost use Rattle.jc_card_checks.specs.Objects.{is_persistent_instance};
+ghost use Rattle.jc_objects.specs.declared.pins.ImageFault.TheVariants.{NoMemory};
+
+use jc_card_load::reading::{RecordFault, read_packages};
+use jc_heap::{Facts, Heap, Kind};
+use jc_image::OpenImage;
+use jc_linker::linked::Linked;
+use jc_platform::names::PlatformClass;
+use jc_platform::platform::Platform;
+use jc_platform::read::{LARGEST_TEXT, read_table};
+use jc_transient::Ref;
+use jc_words::layout::TEXT_START;
+use jc_words::{MemStore, WordStore};
+use std::alloc::{AllocError, Global};
+
+/// Where an OwnerPIN has the word with the tries that are left: behind a header of four words the third cell.
+const TRIES: u32 = 6;
+
+/// Why nothing is told of an image.
+#[derive(Clone, Copy, Debug, PartialEq, Eq, Drop)]
+pub enum ImageFault {
+    NoMemory,
+    /// The words are no image, or its heap or its packages are damaged.
+    Damaged,
+}
+
+impl From<AllocError> for ImageFault {
+    ghost from_gives = { λ _ fault. fault ≡ NoMemory };
+
+    fn from(_: AllocError) -> Self {
+        ImageFault::NoMemory
+    }
+}
+
+/// The addresses of the words with the tries that are left of the OwnerPINs which stand in an image, once it is recovered.
+pub fn try_words(alloc: Global, words: Vec<u16>) -> Result<Vec<u16>, ImageFault>
+    ensures { IfOk result (λ found. AreTriesIn words.items found.items) }
+{
+    if words.len() < TEXT_START as usize || words.len() >= 65_536 {
+        return Err(ImageFault::Damaged);
+    }
+    match OpenImage::open(MemStore::of(words)) {
+        Ok(image) => try_words_of(alloc, image),
+        Err(_) => Err(ImageFault::Damaged),
+    }
+}
+
+// Those of a recovered image.
+fn try_words_of(alloc: Global, image: OpenImage<MemStore>) -> Result<Vec<u16>, ImageFault>
+    requires { image.down ≡ false }
+    ensures { IfOk result (λ found. AreTriesOf image.plain found.items) }
+{
+    let platform = platform_of(alloc, &image)?;
+    let Ok(heap) = image.check(&[]) else {
+        return Err(ImageFault::Damaged);
+    };
+    match read_packages(alloc, platform, &heap) {
+        Ok(linked) => Ok(try_words_in(alloc, &linked, &heap)?),
+        Err(RecordFault::NoMemory) => Err(ImageFault::NoMemory),
+        Err(RecordFault::Damaged) => Err(ImageFault::Damaged),
+    }
+}
+
+// Those of a heap and its packages.
+fn try_words_in<S: WordStore>(
+    alloc: Global,
+    linked: &Linked,
+    heap: &Heap<S>,
+) -> Result<Vec<u16>, AllocError>
+    requires up { heap.now.down ≡ false }
+    requires words { (w : List ℕ) × (heap.now.now ≡ heap_of w) }
+    ensures { IfOk result (λ found. AreTryWords linked.now heap.now.now found.items) }
+{
+    let mut found = Vec::new(alloc);
+    let mut at = Ref::null();
+    while let Some(object) = next_of(heap, at) {
+        note(linked, heap, object, &mut found)?;
+        at = object;
+    }
+    Ok(found)
+}
+
+// The object behind this one, or the first one of all behind null.
+fn next_of<S: WordStore>(heap: &Heap<S>, at: Ref) -> Option<Ref>
+    requires up { heap.now.down ≡ false }
+    requires there { (at ≡ 0 → ⊥) → IsObject heap.now.now at }
+    ensures next { result ≡ next_object heap.now.now at }
+    ensures object { IfSome result (IsObject heap.now.now) }
+{
+    heap.next(at)
+}
+
+// Adds the word of this object, if it is an OwnerPIN.
+fn note<S: WordStore>(
+    linked: &Linked,
+    heap: &Heap<S>,
+    object: Ref,
+    found: &mut Vec<u16>,
+) -> Result<(), AllocError>
+    requires up { heap.now.down ≡ false }
+    requires there { IsObject heap.now.now object }
+    ensures { OnOk result (found.new.items
+        ≡ noted linked.now heap.now.now object found.old.items) }
+{
+    if !is_pin(linked, heap, object) {
+        return Ok(());
+    }
+    let word = u32::from(object.address()) + TRIES;
+    if word >= 65_536 {
+        return Ok(());
+    }
+    found.push(word as u16)?;
+    Ok(())
+}
+
+// The object is an OwnerPIN.
+fn is_pin<S: WordStore>(linked: &Linked, heap: &Heap<S>, object: Ref) -> bool
+    requires up { heap.now.down ≡ false }
+    requires there { IsObject heap.now.now object }
+    ensures { result ≡ is_pin linked.now heap.now.now object }
+{
+    let facts = heap.facts(object);
+    is_persistent_instance(facts)
+        && linked.is_below(
+            facts.class(),
+            linked.platform().class_word(PlatformClass::OwnerPin),
+        )
+}
+
+// The header says that it is a persistent instance.
+fn is_persistent_instance(facts: Facts) -> bool
+    ensures { result ≡ is_persistent_instance facts }
+{
+    matches!(facts.kind, Kind::Instance) && facts.event.is_none()
+}
+
+// The platform that the table text of an image tells.
+fn platform_of<S: WordStore>(alloc: Global, image: &OpenImage<S>) -> Result<Platform, ImageFault>
+    ensures { IfOk result (λ t. Reads (table_text image.now.plain) (Ok t)) }
+{
+    let long = usize::from(image.text_length());
+    if long > LARGEST_TEXT || !image.has_text() {
+        return Err(ImageFault::Damaged);
+    }
+    let text = text_of(alloc, image)?;
+    match read_table(text.as_slice()) {
+        Ok(table) => Ok(table.platform()),
+        Err(_) => Err(ImageFault::Damaged),
+    }
+}
+
+// The table text of an image that has its words.
+fn text_of<S: WordStore>(alloc: Global, image: &OpenImage<S>) -> Result<Vec<u8>, AllocError>
+    requires { text_start + (slice_index image.now.plain text_length_address + 1) / 2
+        ≤ length image.now.plain }
+    ensures { IfOk result (λ text. text.items ≡ table_text image.now.plain) }
+{
+    let mut text = zeros(alloc, usize::from(image.text_length()))?;
+    image.read_text(text.as_mut_slice());
+    Ok(text)
+}
+
+// So many zero bytes.
+fn zeros(alloc: Global, count: usize) -> Result<Vec<u8>, AllocError>
+    ensures { IfOk result (λ bytes. length bytes.items ≡ count) }
+{
+    let bytes = vec![in alloc; 0u8; count]?;
+    Ok(bytes)
+}

@@ -1,0 +1,9 @@
+pub mod CommandLine
+pub mod CommandWalk
+pub mod Dumps
+pub mod FlagWords
+pub mod OptionLines
+pub mod RunLines
+pub mod Runs
+pub mod TearLines
+pub mod TestLines

@@ -1,0 +1,204 @@
+-- Plain lines of the commands `new` and `try`, which take one operand and the options `--words` and `--table`.
+use Rattle.std.proofs.Common.{◌≡◌, ◌∙◌, false, List, [], ◌∷◌, Option, Some, None, refl, codes}
+use Rattle.std.specs.Prelude.{fold}
+use Rattle.clap.specs.Words.{App, Row, Text}
+use Rattle.clap.specs.Walk.{Waiting, Walk, finished, idle, nothing_held, option, settled, walk_from, walked}
+use Rattle.clap.specs.Simple.{Shape, built_leaf, inherited, marked_built, names_of, on_top, with_leaf_noted}
+use Rattle.clap.specs.Faults.{defaults_fault, turn_fault, walk_fault}
+use Rattle.clap.proofs.OnLiterals.{clap_on_literals}
+use Rattle.jcard_arguments.proofs.Runs.{no_hyphen}
+use Rattle.jcard_arguments.proofs.CommandWalk.{after_next, as_ended, causes_of, met, none_more, opened_by, request_after, whole}
+use Rattle.jcard_arguments.specs.CommandLine.{IsNoFlag, CommandLineRequest, TakesNews, TakesTries, ToMake, ToTry, new_grammar, new_of, program_grammar}
+use Rattle.jcard_arguments.specs.CommandLine.{request_of_words, try_grammar, try_of}
+
+data OptionCommand : Type 0 where
+  NewCommand : OptionCommand
+  TryCommand : OptionCommand
+
+abbrev name_of : OptionCommand → Text
+name_of NewCommand = codes "new"
+name_of TryCommand = codes "try"
+
+abbrev operand_of : OptionCommand → Text
+operand_of NewCommand = codes "image"
+operand_of TryCommand = codes "script"
+
+abbrev grammar_of : OptionCommand → App
+grammar_of NewCommand = new_grammar
+grammar_of TryCommand = try_grammar
+
+abbrev taken_by : OptionCommand → List Row → Option CommandLineRequest
+taken_by NewCommand rows = new_of rows
+taken_by TryCommand rows = try_of rows
+
+-- what it asks for, with this operand, these words and this table
+abbrev request_by : OptionCommand → Text → Text → Text → CommandLineRequest
+request_by NewCommand operand words table = ToMake operand words table
+request_by TryCommand operand words table = ToTry operand words table
+
+-- the command, as the build leaves it
+abbrev shape_of : OptionCommand → Shape
+shape_of c = built_leaf (inherited (on_top with_leaf_noted (on_top marked_built program_grammar)).top (grammar_of c).top)
+
+-- what the words are taken for, from here on
+abbrev after : OptionCommand → Walk → List Text → Option CommandLineRequest
+after c w words = request_after (shape_of c) (taken_by c) w words
+
+-- ---- the words before those of the command
+
+by_walk : (c : OptionCommand) (name : Text) (words : List Text) → request_of_words (name ∷ name_of c ∷ words)
+    ≡ as_ended (fold (walked whole.top.rules (names_of whole)) (met (name_of c) []) words) (walk_fault whole.top (names_of whole) (met (name_of c) []) words)
+unfolding request_of_words as_ended walked walk_fault
+by_walk NewCommand name words = refl
+by_walk TryCommand name words = refl
+
+by_command : (c : OptionCommand) (words : List Text) → as_ended (met (name_of c) words) [] ≡ after c (walk_from nothing_held) words
+unfolding as_ended request_after defaults_fault
+by_command NewCommand words = none_more (causes_of (shape_of NewCommand) new_of (walk_from nothing_held) words)
+    (new_of (finished (shape_of NewCommand).rules (fold (walked (shape_of NewCommand).rules []) (walk_from nothing_held) words).held))
+by_command TryCommand words = none_more (causes_of (shape_of TryCommand) try_of (walk_from nothing_held) words)
+    (try_of (finished (shape_of TryCommand).rules (fold (walked (shape_of TryCommand).rules []) (walk_from nothing_held) words).held))
+
+opened : (c : OptionCommand) (name : Text) (words : List Text) → request_of_words (name ∷ name_of c ∷ words) ≡ after c (walk_from nothing_held) words
+opened c name words = opened_by (shape_of c) (taken_by c) (name_of c) (request_of_words (name ∷ name_of c ∷ words)) words
+    (by_walk c name words) (by_command c words)
+
+-- ---- the words
+
+-- with these values of an argument that is being read
+abbrev reading : List Row → Text → List Text → Waiting → Walk
+reading rows id values waiting = record {
+  held = record { rows = rows; pending = Some (id, values); skip = 0 };
+  waiting = waiting;
+  position = 2;
+  is_trailing = false;
+  stopped = None;
+}
+
+-- the rows after an argument was read
+abbrev read : OptionCommand → List Row → Text → Text → List Row
+read c rows id value = (settled (shape_of c).rules (record { rows = rows; pending = Some (id, value ∷ []); skip = 0 })).rows
+
+abbrev operand_read : OptionCommand → Text → List Row
+operand_read c operand = read c [] (operand_of c) operand
+
+-- after the name of an option
+abbrev named : List Row → Text → Walk
+named rows id = reading rows id [] (option id)
+
+-- after a value
+abbrev given : List Row → Text → Text → Walk
+given rows id value = reading rows id (value ∷ []) idle
+
+-- a word is no fault, and the walk then stands there
+record Goes (c : OptionCommand) (w : Walk) (word : Text) (next : Walk) : Type 0 where
+  fault : turn_fault (shape_of c) [] w word ≡ []
+  walk : walked (shape_of c).rules [] w word ≡ next
+
+step : {c : OptionCommand} {w next : Walk} {word : Text} → Goes c w word next → (words : List Text) → after c w (word ∷ words) ≡ after c next words
+step {c = c} {w = w} {next = next} {word = word} goes words = after_next (shape_of c) (taken_by c) w next word words goes.fault goes.walk
+
+at_operand : (c : OptionCommand) (operand : Text) → IsNoFlag operand → Goes c (walk_from nothing_held) operand (given [] (operand_of c) operand)
+unfolding clap_on_literals
+at_operand NewCommand [] h = record { fault = refl; walk = refl }
+at_operand NewCommand (x ∷ xs) h = record { fault = simp (no_hyphen x xs h); walk = simp (no_hyphen x xs h) }
+at_operand TryCommand [] h = record { fault = refl; walk = refl }
+at_operand TryCommand (x ∷ xs) h = record { fault = simp (no_hyphen x xs h); walk = simp (no_hyphen x xs h) }
+
+at_words : (c : OptionCommand) (rows : List Row) (value : Text) → IsNoFlag value → Goes c (named rows (codes "words")) value (given rows (codes "words") value)
+unfolding clap_on_literals
+at_words NewCommand rows [] h = record { fault = refl; walk = refl }
+at_words NewCommand rows (x ∷ xs) h = record { fault = simp (no_hyphen x xs h); walk = simp (no_hyphen x xs h) }
+at_words TryCommand rows [] h = record { fault = refl; walk = refl }
+at_words TryCommand rows (x ∷ xs) h = record { fault = simp (no_hyphen x xs h); walk = simp (no_hyphen x xs h) }
+
+at_table : (c : OptionCommand) (rows : List Row) (value : Text) → IsNoFlag value → Goes c (named rows (codes "table")) value (given rows (codes "table") value)
+unfolding clap_on_literals
+at_table NewCommand rows [] h = record { fault = refl; walk = refl }
+at_table NewCommand rows (x ∷ xs) h = record { fault = simp (no_hyphen x xs h); walk = simp (no_hyphen x xs h) }
+at_table TryCommand rows [] h = record { fault = refl; walk = refl }
+at_table TryCommand rows (x ∷ xs) h = record { fault = simp (no_hyphen x xs h); walk = simp (no_hyphen x xs h) }
+
+-- the name of an option after the operand, and after the other option
+words_first : (c : OptionCommand) (operand : Text)
+    → Goes c (given [] (operand_of c) operand) (codes "--words") (named (operand_read c operand) (codes "words"))
+unfolding clap_on_literals
+words_first NewCommand operand = record { fault = refl; walk = refl }
+words_first TryCommand operand = record { fault = refl; walk = refl }
+
+table_first : (c : OptionCommand) (operand : Text)
+    → Goes c (given [] (operand_of c) operand) (codes "--table") (named (operand_read c operand) (codes "table"))
+unfolding clap_on_literals
+table_first NewCommand operand = record { fault = refl; walk = refl }
+table_first TryCommand operand = record { fault = refl; walk = refl }
+
+table_second : (c : OptionCommand) (operand words : Text) → Goes c (given (operand_read c operand) (codes "words") words) (codes "--table")
+    (named (read c (operand_read c operand) (codes "words") words) (codes "table"))
+unfolding clap_on_literals
+table_second NewCommand operand words = record { fault = refl; walk = refl }
+table_second TryCommand operand words = record { fault = refl; walk = refl }
+
+words_second : (c : OptionCommand) (operand table : Text) → Goes c (given (operand_read c operand) (codes "table") table) (codes "--words")
+    (named (read c (operand_read c operand) (codes "table") table) (codes "words"))
+unfolding clap_on_literals
+words_second NewCommand operand table = record { fault = refl; walk = refl }
+words_second TryCommand operand table = record { fault = refl; walk = refl }
+
+-- the last word
+table_last : (c : OptionCommand) (operand words table : Text)
+    → after c (given (read c (operand_read c operand) (codes "words") words) (codes "table") table) [] ≡ Some (request_by c operand words table)
+unfolding request_after clap_on_literals
+table_last NewCommand operand words table = refl
+table_last TryCommand operand words table = refl
+
+words_last : (c : OptionCommand) (operand words table : Text)
+    → after c (given (read c (operand_read c operand) (codes "table") table) (codes "words") words) [] ≡ Some (request_by c operand words table)
+unfolding request_after clap_on_literals
+words_last NewCommand operand words table = refl
+words_last TryCommand operand words table = refl
+
+table_alone : (script table : Text)
+    → after TryCommand (given (operand_read TryCommand script) (codes "table") table) [] ≡ Some (ToTry script (codes "8192") table)
+unfolding request_after clap_on_literals
+table_alone script table = refl
+
+-- ---- the lines
+
+words_before_table : (c : OptionCommand) (name operand words table : Text) → IsNoFlag operand → IsNoFlag words → IsNoFlag table
+    → request_of_words (name ∷ name_of c ∷ operand ∷ codes "--words" ∷ words ∷ codes "--table" ∷ table ∷ []) ≡ Some (request_by c operand words table)
+words_before_table c name operand words table ho hw ht =
+    opened c name (operand ∷ codes "--words" ∷ words ∷ codes "--table" ∷ table ∷ [])
+    ∙ (step (at_operand c operand ho) (codes "--words" ∷ words ∷ codes "--table" ∷ table ∷ [])
+    ∙ (step (words_first c operand) (words ∷ codes "--table" ∷ table ∷ [])
+    ∙ (step (at_words c (operand_read c operand) words hw) (codes "--table" ∷ table ∷ [])
+    ∙ (step (table_second c operand words) (table ∷ [])
+    ∙ (step (at_table c (read c (operand_read c operand) (codes "words") words) table ht) []
+    ∙ table_last c operand words table)))))
+
+table_before_words : (c : OptionCommand) (name operand words table : Text) → IsNoFlag operand → IsNoFlag words → IsNoFlag table
+    → request_of_words (name ∷ name_of c ∷ operand ∷ codes "--table" ∷ table ∷ codes "--words" ∷ words ∷ []) ≡ Some (request_by c operand words table)
+table_before_words c name operand words table ho hw ht =
+    opened c name (operand ∷ codes "--table" ∷ table ∷ codes "--words" ∷ words ∷ [])
+    ∙ (step (at_operand c operand ho) (codes "--table" ∷ table ∷ codes "--words" ∷ words ∷ [])
+    ∙ (step (table_first c operand) (table ∷ codes "--words" ∷ words ∷ [])
+    ∙ (step (at_table c (operand_read c operand) table ht) (codes "--words" ∷ words ∷ [])
+    ∙ (step (words_second c operand table) (words ∷ [])
+    ∙ (step (at_words c (read c (operand_read c operand) (codes "table") table) words hw) []
+    ∙ words_last c operand words table)))))
+
+pub news : TakesNews
+news name image words table hi hw ht = (
+  words_before_table NewCommand name image words table hi hw ht,
+  table_before_words NewCommand name image words table hi hw ht,
+)
+
+pub tries : TakesTries
+tries name script words table hs hw ht = (
+  opened TryCommand name (script ∷ codes "--table" ∷ table ∷ [])
+      ∙ (step (at_operand TryCommand script hs) (codes "--table" ∷ table ∷ [])
+      ∙ (step (table_first TryCommand script) (table ∷ [])
+      ∙ (step (at_table TryCommand (operand_read TryCommand script) table ht) []
+      ∙ table_alone script table))),
+  table_before_words TryCommand name script words table hs hw ht,
+  words_before_table TryCommand name script words table hs hw ht,
+)

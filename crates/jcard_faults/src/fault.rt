@@ -1,0 +1,195 @@
+//! Why the program ends early, and how it tells that.
+ghost use Rattle.std.specs.Prelude.{◌≡◌, ℕ, List, Bool, is_err, MatchResult};
+ghost use Rattle.std.specs.Io.KnownBytes.{Appends};
+ghost use Rattle.jcard_script.specs.Texts.{AppendsCut};
+ghost use Rattle.jc_words.specs.Count.{failures_after};
+ghost use Rattle.jcard_faults.specs.Faults.{check_of, cut_line, status_of, line_of, unincluded_text, IsLastLine};
+
+use itoa::Buffer;
+use jcard_script::streams::{TextOut, WriteFailed, write_all, write_parts};
+
+/// What is wrong with an image, by the check that refuses it, in their order.
+#[derive(Clone, Copy, Debug, PartialEq, Eq, Drop)]
+pub enum Damage {
+    /// Its first word is not the magic word.
+    Magic,
+    /// Its version is not known.
+    Version,
+    /// Its size is not the one that it tells, or none that an image has.
+    Size,
+    /// Its journal.
+    Log,
+    /// Its platform table.
+    Table,
+    /// Its heap or its packages.
+    Package,
+}
+
+/// Why the program ended early.
+#[derive(Clone, Copy, Debug, PartialEq, Eq, Drop)]
+pub enum Fault<'a> {
+    /// The words are no command line, or ask for help or the version.
+    BadCommandLine,
+    /// Memory was refused.
+    NoMemory,
+    /// An image cannot have so many words.
+    BadWords,
+    /// This line of the platform table, counted from 1, is bad; or 0.
+    BadTable(u16),
+    /// The platform table and the objects of the runtime environment don't fit.
+    ImageTooSmall,
+    /// This file cannot be opened or read.
+    CannotRead(&'a str),
+    /// This image cannot be opened to write to it.
+    CannotOpenToWrite(&'a str),
+    /// This file cannot be made or written.
+    CannotWrite(&'a str),
+    /// Another program has the image open.
+    ImageInUse,
+    /// The image is damaged.
+    BadImage(Damage),
+    /// This line of the script, counted from 1, has no form.
+    BadCommand(u32),
+    /// The script is longer than its bound.
+    ScriptTooLong,
+    /// Standard output cannot be written.
+    WriteFailed,
+    /// The card is down at the command that is to be cut.
+    Down,
+    /// The script has no command to cut, or none in the line that was named.
+    NoCommand,
+    /// The command that is to be cut makes more writes than are counted.
+    TooManyCuts,
+    /// A cut left neither what was before the command nor what comes after it.
+    NotAllOrNothing,
+    /// The file that the line of this number in this file of rows includes cannot be read.
+    CannotInclude(&'a str, usize),
+    /// A row is not answered as it says.
+    RowsFailed,
+    /// No part is named so.
+    BadPart,
+    /// No part tells of this cut.
+    CutMissing(usize),
+    /// A part tells of this cut twice, or two parts do.
+    CutTwice(usize),
+    /// What a part tells of this cut has no form.
+    BadCut(usize),
+    /// A part tells of this cut in another sweep.
+    OtherSweep(usize),
+}
+
+/// Writes the last line, if there is a fault that has one, and answers the exit status: 0, 2 for
+/// a bad command line, 3 where a cut left something else, 4 where a row failed, 1 for every other fault.
+pub fn tell<W: TextOut>(ended: Result<(), Fault>, out: &mut W) -> u8
+    ensures status { result ≡ status_of ended.entry }
+    ensures line { (text : List ℕ) × (failed : Bool)
+        × Appends (W.contents out.old) (W.contents out.new) text
+        × IsLastLine ended.entry failed text × (W.failures out.new
+        ≡ failures_after (W.failures out.old) failed) }
+{
+    let Err(fault) = ended else {
+        return 0;
+    };
+    let _ = write_line(fault, out);
+    match fault {
+        Fault::BadCommandLine => 2,
+        Fault::NotAllOrNothing => 3,
+        Fault::RowsFailed => 4,
+        _ => 1,
+    }
+}
+
+fn write_line<W: TextOut>(fault: Fault, out: &mut W) -> Result<(), WriteFailed>
+    ensures text { MatchResult result
+        (λ _. Appends (W.contents out.old) (W.contents out.new) (line_of fault.entry))
+        (λ _. AppendsCut (W.contents out.old) (W.contents out.new) (line_of fault.entry)) }
+    ensures count { W.failures out.new ≡ failures_after (W.failures out.old) (is_err result) }
+{
+    let mut digits = Buffer::new();
+    match fault {
+        Fault::BadCommandLine => write_all(out, b"jcard: bad command line\n"),
+        Fault::NoMemory => write_all(out, b"jcard: no memory\n"),
+        Fault::BadWords => write_all(out, b"jcard: words must be 4096 to 65535\n"),
+        Fault::BadTable(n) => write_parts(
+            out,
+            b"jcard: bad table line ",
+            digits.format(n).as_bytes(),
+            b"\n",
+        ),
+        Fault::ImageTooSmall => write_all(out, b"jcard: image too small\n"),
+        Fault::CannotRead(path) | Fault::CannotOpenToWrite(path) => {
+            write_parts(out, b"jcard: cannot read ", path.as_bytes(), b"\n")
+        }
+        Fault::CannotWrite(path) => {
+            write_parts(out, b"jcard: cannot write ", path.as_bytes(), b"\n")
+        }
+        Fault::ImageInUse => write_all(out, b"jcard: image in use\n"),
+        Fault::BadImage(damage) => write_parts(
+            out,
+            b"jcard: bad image ",
+            digits.format(number_of(damage)).as_bytes(),
+            b"\n",
+        ),
+        Fault::BadCommand(n) => write_parts(
+            out,
+            b"jcard: line ",
+            digits.format(n).as_bytes(),
+            b": bad command\n",
+        ),
+        Fault::ScriptTooLong => write_all(out, b"jcard: script too long\n"),
+        Fault::Down => write_all(out, b"jcard: the card is down at the command\n"),
+        Fault::NoCommand => write_all(out, b"jcard: no command to cut\n"),
+        Fault::TooManyCuts => write_all(out, b"jcard: more than 65535 cuts\n"),
+        Fault::CannotInclude(path, number) => write_unincluded(path, number, out),
+        Fault::BadPart => write_all(out, b"jcard: part must be 1/N to N/N\n"),
+        Fault::CutMissing(k) => write_cut(out, k, b" is missing\n"),
+        Fault::CutTwice(k) => write_cut(out, k, b" stands twice\n"),
+        Fault::BadCut(k) => write_cut(out, k, b" is told in no known form\n"),
+        Fault::OtherSweep(k) => write_cut(out, k, b" is of another sweep\n"),
+        Fault::WriteFailed | Fault::NotAllOrNothing | Fault::RowsFailed => Ok(()),
+    }
+}
+
+// Writes that a file cannot be read that the line of this number in the file of this name includes.
+fn write_unincluded<W: TextOut>(path: &str, number: usize, out: &mut W) -> Result<(), WriteFailed>
+    ensures text { MatchResult result
+        (λ _. Appends (W.contents out.old) (W.contents out.new) (unincluded_text path.now number))
+        (λ _. AppendsCut (W.contents out.old) (W.contents out.new)
+        (unincluded_text path.now number)) }
+    ensures count { W.failures out.new ≡ failures_after (W.failures out.old) (is_err result) }
+{
+    let mut digits = Buffer::new();
+    write_parts(out, b"jcard: ", path.as_bytes(), b": line ")?;
+    write_parts(
+        out,
+        digits.format(number).as_bytes(),
+        b": cannot read the file that is included",
+        b"\n",
+    )
+}
+
+// Writes what is wrong with what parts tell of a cut.
+fn write_cut<W: TextOut>(out: &mut W, number: usize, wrong: &[u8]) -> Result<(), WriteFailed>
+    ensures text { MatchResult result
+        (λ _. Appends (W.contents out.old) (W.contents out.new) (cut_line number wrong.now))
+        (λ _. AppendsCut (W.contents out.old) (W.contents out.new) (cut_line number wrong.now)) }
+    ensures count { W.failures out.new ≡ failures_after (W.failures out.old) (is_err result) }
+{
+    let mut digits = Buffer::new();
+    let digits = digits.format(number).as_bytes();
+    write_parts(out, b"jcard: cut ", digits, wrong)
+}
+
+// The number of the check that finds a damage.
+fn number_of(damage: Damage) -> u8
+    ensures { result ≡ check_of damage }
+{
+    match damage {
+        Damage::Magic => 1,
+        Damage::Version => 2,
+        Damage::Size => 3,
+        Damage::Log => 4,
+        Damage::Table => 5,
+        Damage::Package => 6,
+    }
+}

@@ -1,0 +1,5 @@
+//! Why the program ends early, and how it tells that.
+#![tactic(auto)]
+
+pub mod fault;
+pub mod script_fault;

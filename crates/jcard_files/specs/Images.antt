@@ -1,0 +1,93 @@
+-- Images in files.
+use Rattle.std.specs.Prelude.{ℕ, ◌≡◌, List, Option, Result, Ok, Err}
+use Rattle.std.specs.Borrow.{Bor}
+use Rattle.jc_words.specs.Files.{IsCreated, IsOpened}
+use Rattle.jc_words.specs.Stores.{FileStoreValue}
+use Rattle.jc_words.specs.declared.file.FileOpenFault.{FileOpenFault}
+use Rattle.jc_words.specs.declared.file.FileOpenFault.TheVariants as opening
+use Rattle.jc_words.specs.declared.file.FileCreateFault.{FileCreateFault}
+use Rattle.jc_words.specs.declared.file.FileCreateFault.TheVariants as making
+use Rattle.jc_words.specs.declared.file.FileLockFault.TheVariants as holding
+use Rattle.jc_words.specs.declared.file.Unopened.{Unopened}
+use Rattle.jc_words.specs.declared.lock.Lock.{Lock}
+use Rattle.jc_words.specs.declared.lock.LockFault.{LockFault}
+use Rattle.jc_words.specs.declared.lock.LockFault.TheVariants as locking
+use Rattle.jc_words.specs.declared.opening.NotOpened.{NotOpened}
+use Rattle.jc_words.specs.declared.image.ImageFault.TheVariants.{BadSize}
+use Rattle.jc_words.specs.declared.word_file.StdFile.{StdFile}
+use Rattle.jcard_faults.specs.declared.fault.Damage.TheVariants.{Size}
+use Rattle.jcard_faults.specs.declared.fault.Fault.{Fault}
+use Rattle.jcard_faults.specs.declared.fault.Fault.TheVariants.{NoMemory, CannotRead, CannotOpenToWrite, CannotWrite, BadImage, ImageInUse}
+
+-- why a file of this name was not read
+abbrev pub IsNotRead : List ℕ → Fault → Type 0
+IsNotRead name (CannotRead path) = path.now ≡ name
+IsNotRead name NoMemory = Unit {0}
+IsNotRead name other = ⊥
+
+-- a file of this name could not be opened or read
+abbrev pub IsUnopened : List ℕ → Fault → Type 0
+IsUnopened name fault = (path : Bor (List ℕ)) × (fault ≡ CannotRead path) × (path.now ≡ name)
+
+-- why the image of this name was not opened to read it alone; its file can have no image's size, and another can have it open
+abbrev pub IsNotOpened : List ℕ → Fault → Type 0
+IsNotOpened name (BadImage Size) = Unit {0}
+IsNotOpened name ImageInUse = Unit {0}
+IsNotOpened name fault = IsNotRead name fault
+
+-- why it was not opened to change it
+abbrev pub IsNotOpenedToWrite : List ℕ → Fault → Type 0
+IsNotOpenedToWrite name (CannotOpenToWrite path) = path.now ≡ name
+IsNotOpenedToWrite name fault = IsNotOpened name fault
+
+-- why a file of this name was not made
+abbrev pub IsNotMade : List ℕ → Fault → Type 0
+IsNotMade name (CannotWrite path) = path.now ≡ name
+IsNotMade name ImageInUse = Unit {0}
+IsNotMade name NoMemory = Unit {0}
+IsNotMade name other = ⊥
+
+-- why a text of this name was not written
+abbrev pub IsUnwritten : List ℕ → Fault → Type 0
+IsUnwritten name (CannotWrite path) = path.now ≡ name
+IsUnwritten name NoMemory = Unit {0}
+IsUnwritten name other = ⊥
+
+-- ---- causes
+
+-- the file of this name could not be written
+abbrev pub IsNotWritten : List ℕ → Fault → Type 0
+IsNotWritten name fault = (path : Bor (List ℕ)) × (fault ≡ CannotWrite path) × (path.now ≡ name)
+
+-- what is told where the image of this name was not opened to change it
+abbrev pub IsOpenFault : List ℕ → FileOpenFault → Fault → Type 0
+IsOpenFault name opening.CannotOpen fault = (path : Bor (List ℕ)) × (fault ≡ CannotOpenToWrite path) × (path.now ≡ name)
+IsOpenFault name opening.InUse fault = fault ≡ ImageInUse
+IsOpenFault name opening.CannotRead fault = IsUnopened name fault
+IsOpenFault name opening.BadSize fault = fault ≡ BadImage Size
+IsOpenFault name opening.NoMemory fault = fault ≡ NoMemory
+
+-- what is told where it was not opened to read it alone
+abbrev pub IsReadFault : List ℕ → FileOpenFault → Fault → Type 0
+IsReadFault name opening.CannotOpen fault = IsUnopened name fault
+IsReadFault name cause fault = IsOpenFault name cause fault
+
+-- what is told where a file of this name was not made
+abbrev pub IsCreateFault : List ℕ → FileCreateFault → Fault → Type 0
+IsCreateFault name (making.NotHeld (holding.NotLocked locking.InUse)) fault = fault ≡ ImageInUse
+IsCreateFault name (making.NotHeld (holding.NotLocked locking.CannotLock)) fault = IsNotWritten name fault
+IsCreateFault name (making.NotHeld holding.NotOpened) fault = IsNotWritten name fault
+IsCreateFault name making.NotWritten fault = IsNotWritten name fault
+
+-- the file of an image was opened as a store, and where it was not, that is told so
+abbrev pub IsOpenedAs : {F : Type 0} → (FileOpenFault → Fault → Type 0) → (Result F NotOpened → Type 0) → (F → Lock → Result Unit LockFault → Type 0)
+    → (F → Option (List ℕ)) → Lock → Result (FileStoreValue (StdFile F)) Fault → Type 0
+IsOpenedAs tells opens gives unread lock (Ok store) = IsOpened opens gives unread lock (Ok store)
+IsOpenedAs {F = F} tells opens gives unread lock (Err fault) = (unopened : Unopened (StdFile F)) × IsOpened opens gives unread lock (Err unopened)
+    × tells unopened.fault fault
+
+-- the file of an image was made, and where it was not, that is told so
+abbrev pub IsCreatedAs : {F : Type 0} → (FileCreateFault → Fault → Type 0) → (Result F NotOpened → Type 0) → (F → Lock → Result Unit LockFault → Type 0)
+    → (F → Option (List ℕ)) → ℕ → Result (FileStoreValue (StdFile F)) Fault → Type 0
+IsCreatedAs tells opens gives contents n (Ok store) = IsCreated opens gives contents n (Ok store)
+IsCreatedAs tells opens gives contents n (Err fault) = (cause : FileCreateFault) × IsCreated opens gives contents n (Err cause) × tells cause fault

@@ -1,0 +1,4 @@
+pub mod FileDeeds
+pub mod Images
+pub mod MemDisks
+pub mod Readings

@@ -1,0 +1,246 @@
+//! The files that the program uses.
+ghost use Rattle.std.specs.Prelude.{◌≡◌, ◌⊎◌, ◌++◌, ◌*◌, ◌∷◌, [], List, ℕ, false, is_ok, IfOk, IfErr, length, replicate};
+ghost use Rattle.jc_words.specs.Files.{IsImageSize};
+ghost use Rattle.jc_words.specs.Refusals.{no_refusals};
+ghost use Rattle.jc_words.specs.Stores.{refusals_of_file, store_value};
+ghost use Rattle.jcard_files.specs.FileDeeds.{FileDeed, ClosesImage, MakesImage, OpensImage, ReadsImage, ReadsText, WritesText, told_of};
+ghost use Rattle.jcard_files.specs.Images.{IsCreateFault, IsCreatedAs, IsNotMade, IsNotOpened, IsNotOpenedToWrite, IsNotWritten, IsOpenedAs, IsOpenFault, IsReadFault, IsUnopened, IsUnwritten};
+
+use crate::closed_store::ClosedStore;
+use jc_words::{
+    FileCreateFault, FileLockFault, FileOpenFault, FileStore, Lock, LockFault, LockFile, OpenPath,
+    Opening, StdFile, WordStore, ZeroWords,
+};
+use jcard_faults::fault::{Damage, Fault};
+use std::alloc::{AllocError, Global};
+use std::fs;
+use std::io::Read;
+use std::rt::Files;
+
+/// The files that the program uses, by their names.
+pub trait Disk {
+    /// An image that is open.
+    type Image: WordStore + Drop;
+
+    /// A text that is open.
+    type Text: Read + Drop;
+
+    // what is known where from the first state to the last exactly these things were done, in this order
+    ghost does: { Self → List FileDeed → Self → Type 0 };
+
+    /// The allocator.
+    fn alloc(&self) -> Global;
+
+    /// Opens the image of this name to change it. Nobody else has it open.
+    fn open_image<'n>(&mut self, image: &'n str) -> Result<Self::Image, Fault<'n>>
+        ensures size { IfOk result (λ store. IsImageSize (2 * length (Self.Image.words store))) }
+        ensures up { IfOk result (λ store. Self.Image.down store ≡ false) }
+        ensures none_passed { IfOk result (λ store. Self.Image.passed store ≡ 0) }
+        ensures none_refused { IfOk result (λ store. Self.Image.refusals store ≡ no_refusals) }
+        ensures refused { IfErr result (λ fault. IsNotOpenedToWrite image.now fault) }
+        ensures does { does self.old (OpensImage image.now (told_of Self.Image.words result) ∷ [])
+            self.new };
+
+    /// Opens the image of this name to read it alone. Others may read it too.
+    fn open_image_to_read<'n>(&mut self, image: &'n str) -> Result<Self::Image, Fault<'n>>
+        ensures size { IfOk result (λ store. IsImageSize (2 * length (Self.Image.words store))) }
+        ensures up { IfOk result (λ store. Self.Image.down store ≡ false) }
+        ensures none_passed { IfOk result (λ store. Self.Image.passed store ≡ 0) }
+        ensures none_refused { IfOk result (λ store. Self.Image.refusals store ≡ no_refusals) }
+        ensures refused { IfErr result (λ fault. IsNotOpened image.now fault) }
+        ensures does { does self.old (ReadsImage image.now (told_of Self.Image.words result) ∷ [])
+            self.new };
+
+    /// Makes a file of this name with n zero words. A file that is there is replaced, unless somebody
+    /// has it open.
+    fn make_image<'n>(&mut self, image: &'n str, n: u16) -> Result<Self::Image, Fault<'n>>
+        ensures words { IfOk result (λ store. Self.Image.words store ≡ replicate n 0) }
+        ensures up { IfOk result (λ store. Self.Image.down store ≡ false) }
+        ensures none_passed { IfOk result (λ store. Self.Image.passed store ≡ 0) }
+        ensures none_refused { IfOk result (λ store. Self.Image.refusals store ≡ no_refusals) }
+        ensures refused { IfErr result (λ fault. IsNotMade image.now fault) }
+        ensures does { does self.old (MakesImage image.now n (told_of (λ _. tt) result) ∷ []) self.new };
+
+    /// Closes the image of this name as its store is. Nobody can write to that any more.
+    fn close_image(&mut self, image: &str, store: ClosedStore<Self::Image>)
+        ensures { does self.old (ClosesImage image.now (store_value Self.Image.words
+            Self.Image.down Self.Image.passed Self.Image.refusals store.store) ∷ []) self.new };
+
+    /// Opens the text of this name.
+    fn open_text<'n>(&mut self, name: &'n str) -> Result<Self::Text, Fault<'n>>
+        ensures refused { IfErr result (λ fault. IsUnopened name.now fault) }
+        ensures does { does self.old (ReadsText name.now (told_of Self.Text.remaining result) ∷ [])
+            self.new };
+
+    /// Makes a file of this name with these bytes, in place of any file of that name.
+    fn write_text<'n>(&mut self, name: &'n str, bytes: &[u8]) -> Result<(), Fault<'n>>
+        ensures refused { IfErr result (λ fault. IsUnwritten name.now fault) }
+        ensures does { does self.old (WritesText name.now bytes.now result ∷ []) self.new };
+
+    // nothing changes where nothing is done
+    ghost none: { (disk : Self) → does disk [] disk };
+
+    // some things are done, and then others
+    ghost then: { (first between last : Self) (deeds more : List FileDeed)
+        → does first deeds between → does between more last → does first (deeds ++ more) last };
+}
+
+/// The files of a runtime. What was done with them it does not tell.
+#[derive(Drop)]
+pub struct SystemDisk<'a, R: Files + AllocGlobal> {
+    rt: &'a R,
+}
+
+impl<'a, R: Files + AllocGlobal> SystemDisk<'a, R> {
+    /// The files of this runtime.
+    pub fn new(rt: &'a R) -> Self {
+        SystemDisk { rt }
+    }
+}
+
+impl<'a, R: Files + AllocGlobal> SystemDisk<'a, R>
+where
+    R::File: LockFile,
+{
+    // Makes a file of this name with these zero words. No memory is asked for.
+    fn make_of<'n>(
+        &mut self,
+        image: &'n str,
+        zeros: ZeroWords,
+    ) -> Result<FileStore<StdFile<R::File>>, Fault<'n>>
+        ensures created { IsCreatedAs (IsCreateFault image.now)
+            (⟦<R as OpenPath>⟧.open_gives self.old.rt.now image.now Opening.ToMake)
+            R.File.lock_gives R.File.contents zeros result }
+        ensures refused { IfErr result (λ fault. IsNotMade image.now fault) }
+    {
+        match FileStore::create(self.rt, image, zeros) {
+            Ok(store) => Ok(store),
+            Err(cause) => Err(create_fault(image, cause)),
+        }
+    }
+}
+
+impl<'a, R: Files + AllocGlobal> Disk for SystemDisk<'a, R>
+where
+    R::File: LockFile,
+{
+    type Image = FileStore<StdFile<R::File>>;
+
+    type Text = R::File;
+
+    ghost does = { λ _ _ _. Unit {0} };
+
+    ghost none = { λ _. tt };
+
+    ghost then = { λ _ _ _ _ _ _ _. tt };
+
+    fn alloc(&self) -> Global {
+        self.rt.alloc()
+    }
+
+    fn open_image<'n>(&mut self, image: &'n str) -> Result<Self::Image, Fault<'n>>
+        ensures size { IfOk result (λ store. IsImageSize (2 * length store.words)) }
+        ensures up { IfOk result (λ store. store.down ≡ false) }
+        ensures none_passed { IfOk result (λ store. store.passed ≡ 0) }
+        ensures none_refused { IfOk result (λ store. refusals_of_file store ≡ no_refusals) }
+        ensures refused { IfErr result (λ fault. IsNotOpenedToWrite image.now fault) }
+        ensures does { Unit {0} }
+        ensures opened { IsOpenedAs (IsOpenFault image.now)
+            (⟦<R as OpenPath>⟧.open_gives self.old.rt.now image.now Opening.ToChange)
+            R.File.lock_gives R.File.remaining Lock.Exclusive result }
+    {
+        match FileStore::open(self.rt, image) {
+            Ok(store) => Ok(store),
+            Err(unopened) => Err(open_fault(image, unopened.fault)),
+        }
+    }
+
+    fn open_image_to_read<'n>(&mut self, image: &'n str) -> Result<Self::Image, Fault<'n>>
+        ensures size { IfOk result (λ store. IsImageSize (2 * length store.words)) }
+        ensures up { IfOk result (λ store. store.down ≡ false) }
+        ensures none_passed { IfOk result (λ store. store.passed ≡ 0) }
+        ensures none_refused { IfOk result (λ store. refusals_of_file store ≡ no_refusals) }
+        ensures refused { IfErr result (λ fault. IsNotOpened image.now fault) }
+        ensures does { Unit {0} }
+        ensures opened { IsOpenedAs (IsReadFault image.now)
+            (⟦<R as OpenPath>⟧.open_gives self.old.rt.now image.now Opening.ToRead)
+            R.File.lock_gives R.File.remaining Lock.Shared result }
+    {
+        match FileStore::open_to_read(self.rt, image) {
+            Ok(store) => Ok(store),
+            Err(unopened) => Err(read_fault(image, unopened.fault)),
+        }
+    }
+
+    fn make_image<'n>(&mut self, image: &'n str, n: u16) -> Result<Self::Image, Fault<'n>>
+        ensures words { IfOk result (λ store. store.words ≡ replicate n 0) }
+        ensures up { IfOk result (λ store. store.down ≡ false) }
+        ensures none_passed { IfOk result (λ store. store.passed ≡ 0) }
+        ensures none_refused { IfOk result (λ store. refusals_of_file store ≡ no_refusals) }
+        ensures refused { IfErr result (λ fault. IsNotMade image.now fault) }
+        ensures does { Unit {0} }
+        ensures created { IsCreatedAs (IsCreateFault image.now)
+            (⟦<R as OpenPath>⟧.open_gives self.old.rt.now image.now Opening.ToMake)
+            R.File.lock_gives R.File.contents n result ⊎ (result ≡ Err Fault.NoMemory) }
+    {
+        match ZeroWords::new(self.rt.alloc(), n) {
+            Ok(zeros) => self.make_of(image, zeros),
+            Err(AllocError) => Err(Fault::NoMemory),
+        }
+    }
+
+    fn close_image(&mut self, _image: &str, _store: ClosedStore<Self::Image>)
+        ensures { Unit {0} }
+    {}
+
+    fn open_text<'n>(&mut self, name: &'n str) -> Result<Self::Text, Fault<'n>> {
+        match fs::open(self.rt, name) {
+            Ok(file) => Ok(file),
+            Err(_) => Err(Fault::CannotRead(name)),
+        }
+    }
+
+    fn write_text<'n>(&mut self, name: &'n str, bytes: &[u8]) -> Result<(), Fault<'n>>
+        ensures refused { IfErr result (λ fault. IsUnwritten name.now fault) }
+        ensures does { Unit {0} }
+        ensures told { IfErr result (λ fault. IsNotWritten name.now fault) }
+    {
+        match fs::write(self.rt, name, bytes) {
+            Ok(()) => Ok(()),
+            Err(_) => Err(Fault::CannotWrite(name)),
+        }
+    }
+}
+
+// What it means that the image of this name was not opened to change it.
+fn open_fault(image: &str, cause: FileOpenFault) -> Fault<'_>
+    ensures { IsOpenFault image.now cause result }
+{
+    match cause {
+        FileOpenFault::CannotOpen => Fault::CannotOpenToWrite(image),
+        FileOpenFault::InUse => Fault::ImageInUse,
+        FileOpenFault::CannotRead => Fault::CannotRead(image),
+        FileOpenFault::BadSize => Fault::BadImage(Damage::Size),
+        FileOpenFault::NoMemory => Fault::NoMemory,
+    }
+}
+
+// What it means that it was not opened to read it alone.
+fn read_fault(image: &str, cause: FileOpenFault) -> Fault<'_>
+    ensures { IsReadFault image.now cause result }
+{
+    match cause {
+        FileOpenFault::CannotOpen => Fault::CannotRead(image),
+        cause => open_fault(image, cause),
+    }
+}
+
+// What it means that a file of this name was not made.
+fn create_fault(image: &str, cause: FileCreateFault) -> Fault<'_>
+    ensures { IsCreateFault image.now cause result }
+{
+    match cause {
+        FileCreateFault::NotHeld(FileLockFault::NotLocked(LockFault::InUse)) => Fault::ImageInUse,
+        FileCreateFault::NotHeld(_) | FileCreateFault::NotWritten => Fault::CannotWrite(image),
+    }
+}

@@ -1,0 +1,3 @@
+pub mod Dumps
+pub mod Listings
+pub mod NewImages

@@ -1,0 +1,82 @@
+-- Making an image.
+use Rattle.std.specs.Prelude.{ℕ, ◌≡◌, ◌≢◌, ◌⊎◌, ◌+◌, ◌<◌, ◌≤◌, true, false, List, [], ◌∷◌, length, replicate, slice_index, Option, Some, Result, Ok, Err}
+use Rattle.std.specs.Borrow.{Bor}
+use Rattle.std.specs.Str.Parse.{IsNumeral, digits_value}
+use Rattle.jc_words.specs.Layout.{least_size, magic, magic_address}
+use Rattle.jc_words.specs.Stores.{MemStoreValue, StoreValue}
+use Rattle.jc_commit.specs.Image.{recovered_of}
+use Rattle.jc_heap.specs.Heap.{heap_of}
+use Rattle.jc_image.specs.Laying.{first_free}
+use Rattle.jc_platform.specs.Tokens.{Tokens}
+use Rattle.jc_platform.specs.Table.{Reads}
+use Rattle.jc_platform.specs.declared.fault.TableFault.TheVariants.{BadTable as BadLine}
+use Rattle.jc_card.specs.Fixed.{fixed_size}
+use Rattle.jc_card.specs.Made.{IsMade, new_card_heap}
+use Rattle.jc_card.specs.declared.formatting.FormatFault.{FormatFault}
+use Rattle.jc_card.specs.declared.formatting.FormatFault.TheVariants as format
+use Rattle.jcard_files.specs.Readings.{IsTextOf, IsUnread}
+use Rattle.jcard_files.specs.FileDeeds.{FileDeed, ClosesImage, MakesImage, ReadsText, untouched}
+use Rattle.jcard_files.specs.Images.{IsNotMade}
+use Rattle.jcard_faults.specs.declared.fault.Fault.{Fault}
+use Rattle.jcard_faults.specs.declared.fault.Fault.TheVariants.{NoMemory, BadWords, BadTable, ImageTooSmall, CannotWrite}
+
+-- the text is decimal digits, and tells how many words an image has, 4096 to 65535
+pub record IsWordCount (text : List ℕ) (n : ℕ) : Type 0 where
+  pub digits : IsNumeral 10 text
+  pub told : digits_value 10 text ≡ n
+  pub low : least_size ≤ n
+  pub high : n ≤ 65535
+
+-- the text of a platform table
+abbrev pub IsTable : List ℕ → Type 0
+IsTable text = (t : Tokens) × Reads text (Ok t)
+
+-- these are n words of a new image with the platform table of this text
+pub record IsNewImage (n : ℕ) (text w : List ℕ) : Type 0 where
+  pub size : length w ≡ n
+  pub made : IsMade w
+  pub heap : (t : Tokens) × Reads text (Ok t) × (heap_of (recovered_of w) ≡ new_card_heap n text t)
+
+-- a store in memory holds a new image, and no write of it counts yet; or the table and the objects of the runtime environment do not fit
+abbrev pub IsLaidInMemory : ℕ → List ℕ → Result MemStoreValue Fault → Type 0
+IsLaidInMemory n text (Ok store) = IsNewImage n text store.words × (store.passed ≡ 0)
+IsLaidInMemory n text (Err ImageTooSmall) = n < first_free (length text) + fixed_size
+IsLaidInMemory n text (Err other) = ⊥
+
+-- so it is; or memory was refused for the words
+abbrev pub IsNewImageInMemory : ℕ → List ℕ → Result MemStoreValue Fault → Type 0
+IsNewImageInMemory n text (Ok store) = IsLaidInMemory n text (Ok store)
+IsNewImageInMemory n text (Err NoMemory) = Unit {0}
+IsNewImageInMemory n text (Err fault) = IsLaidInMemory n text (Err fault)
+
+-- what is told where the image of this name was not made of its file's words
+abbrev pub IsFormatFault : List ℕ → FormatFault → Fault → Type 0
+IsFormatFault image format.StoreDown fault = (path : Bor (List ℕ)) × (fault ≡ CannotWrite path) × (path.now ≡ image)
+IsFormatFault image format.BadSize fault = fault ≡ BadWords
+IsFormatFault image (format.BadTable line) fault = fault ≡ BadTable line
+IsFormatFault image format.TooSmall fault = fault ≡ ImageTooSmall
+
+-- how a store of n zero words ended as the image of this name, from this table's text: it is a new image, and refused no write; or it
+-- refused one, and has no magic word; or the table and the objects of the runtime environment do not fit, and no write was asked for
+abbrev pub IsLaid : List ℕ → ℕ → List ℕ → Result Unit Fault → StoreValue → Type 0
+IsLaid image n text (Ok done) store = IsNewImage n text store.words × (store.down ≡ false) × (store.refused ≡ 0)
+IsLaid image n text (Err (CannotWrite path)) store = (path.now ≡ image) × (store.down ≡ true) × (store.refused ≡ 1)
+    × ((store.words ≡ replicate n 0) ⊎ (slice_index store.words magic_address ≢ magic))
+IsLaid image n text (Err ImageTooSmall) store = (n < first_free (length text) + fixed_size) × (store ≡ untouched (replicate n 0))
+IsLaid image n text (Err other) store = ⊥
+
+-- how the making of an image of this name and size ended, from this text, and what was done with files: it is no table, and no file was
+-- asked for; or the file was not made; or it was, and was closed as it ended
+abbrev pub IsMadeFrom : List ℕ → ℕ → List ℕ → Result Unit Fault → List FileDeed → Type 0
+IsMadeFrom image n text ended deeds =
+    ((line : ℕ) × (ended ≡ Err (BadTable line)) × Reads text (Err (BadLine line)) × (deeds ≡ []))
+    ⊎ ((fault : Fault) × (ended ≡ Err fault) × IsTable text × IsNotMade image fault × (deeds ≡ MakesImage image n (Err fault) ∷ []))
+    ⊎ ((store : StoreValue) × IsTable text × IsLaid image n text ended store × (deeds ≡ MakesImage image n (Ok tt) ∷ ClosesImage image store ∷ []))
+
+-- the image of the first name was made, with so many words, from the text in the file of the last; or an image cannot have so many,
+-- and no file was asked for; or after that the file was not read, and no other was asked for
+abbrev pub IsNew : List ℕ → List ℕ → List ℕ → Result Unit Fault → List FileDeed → Type 0
+IsNew image words table ended deeds = ((ended ≡ Err BadWords) × ((n : ℕ) → IsWordCount words n → ⊥) × (deeds ≡ []))
+    ⊎ ((n : ℕ) × IsWordCount words n × (((fault : Fault) × (ended ≡ Err fault) × IsUnread table fault deeds)
+    ⊎ ((text : List ℕ) × (known : Option (List ℕ)) × (then : List FileDeed) × IsTextOf text known × IsMadeFrom image n text ended then
+    × (deeds ≡ ReadsText table (Ok known) ∷ then))))

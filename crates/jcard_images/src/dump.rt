@@ -1,0 +1,130 @@
+//! Telling what an image holds.
+ghost use Rattle.std.specs.Prelude.{◌≡◌, ◌≤◌, ◌++◌, ℕ, List, is_err, length, MatchResult};
+ghost use Rattle.jc_words.specs.Layout.{text_start};
+ghost use Rattle.std.specs.Io.KnownBytes.{Appends};
+ghost use Rattle.jcard_script.specs.Texts.{AppendsCut};
+ghost use Rattle.jc_words.specs.Count.{failures_after};
+ghost use Rattle.jcard_files.specs.FileDeeds.{FileDeed};
+ghost use Rattle.jcard_faults.specs.Faults.{is_unwritten};
+ghost use Rattle.jcard_images.specs.Dumps.{IsDump, IsTold, lines_of, told_listing_fault, damage_of};
+ghost use Rattle.jcard_images.specs.Listings.{Tells, applet_text, count_line, line, numbered_lines, package_text, then_lines};
+ghost use Rattle.jcard_images.specs.Listings.{is_not_written};
+
+use crate::listing::{ListingFault, write_applets, write_count, write_packages};
+use jc_words::{ImageFault, WordStore};
+use jcard_faults::fault::{Damage, Fault};
+use jcard_files::closed_store::ClosedStore;
+use jcard_files::disk::Disk;
+use jcard_script::card::inventory::Inventory;
+use jcard_script::streams::{TextOut, WriteFailed};
+
+/// A count and what stands before it in its line.
+type Count<'a> = (&'a [u8], u16);
+
+/// `jcard dump IMAGE`: prints what the image of this name holds: how many words, entries of its journal,
+/// packages and applets, a line each, and then a line of each package and of each applet. Nothing is recovered.
+pub fn dump_image<'n, D: Disk, W: TextOut>(
+    disk: &mut D,
+    image: &'n str,
+    out: &mut W,
+) -> Result<(), Fault<'n>>
+    ensures told { (text : List ℕ) × (deeds : List FileDeed)
+        × Appends (W.contents out.old) (W.contents out.new) text
+        × IsDump image.now result text deeds × D.does disk.old deeds disk.new }
+    ensures writes { W.failures out.new ≡ failures_after (W.failures out.old)
+        (is_unwritten result) }
+{
+    match disk.open_image_to_read(image) {
+        Ok(store) => {
+            let told = dump_store(&store, out);
+            disk.close_image(image, ClosedStore::new(store));
+            told
+        }
+        Err(fault) => Err(fault),
+    }
+}
+
+// Writes what the words of a store hold.
+fn dump_store<'a, S: WordStore, W: TextOut>(store: &S, out: &mut W) -> Result<(), Fault<'a>>
+    ensures told { (text : List ℕ) × Appends (W.contents out.old) (W.contents out.new) text
+        × IsTold (S.words store.now) result text }
+    ensures writes { W.failures out.new ≡ failures_after (W.failures out.old)
+        (is_unwritten result) }
+{
+    match Inventory::of(store) {
+        Ok(found) => match write_all_lines(store, found, out) {
+            Ok(()) => Ok(()),
+            Err(cause) => Err(listing_fault(cause)),
+        },
+        Err(fault) => Err(Fault::BadImage(damage_by(fault))),
+    }
+}
+
+// Writes the lines of an inventory, then those of its packages and of its applets.
+fn write_all_lines<S: WordStore, W: TextOut>(
+    store: &S,
+    found: Inventory,
+    out: &mut W,
+) -> Result<(), ListingFault>
+    requires { text_start ≤ length (S.words store.now) }
+    ensures text { Tells (W.contents out.old) (W.contents out.new)
+        (then_lines (line (lines_of found)) (then_lines
+        (numbered_lines (package_text (S.words store.now)) found.packages)
+        (numbered_lines (applet_text (S.words store.now)) found.applets))) result }
+    ensures writes { W.failures out.new ≡ failures_after (W.failures out.old)
+        (is_not_written result) }
+{
+    write_inventory(found, out)?;
+    write_packages(store, found.packages, out)?;
+    write_applets(store, found.applets, out)
+}
+
+// What it means that not all lines were written.
+fn listing_fault(cause: ListingFault) -> Fault<'static>
+    ensures { result ≡ told_listing_fault cause }
+{
+    match cause {
+        ListingFault::NotWritten => Fault::WriteFailed,
+        ListingFault::Unreadable => Fault::BadImage(Damage::Package),
+    }
+}
+
+// The damage that a fault of the first words is.
+fn damage_by(fault: ImageFault) -> Damage
+    ensures { result ≡ damage_of fault }
+{
+    match fault {
+        ImageFault::BadMagic => Damage::Magic,
+        ImageFault::BadVersion => Damage::Version,
+        ImageFault::BadSize => Damage::Size,
+    }
+}
+
+fn write_inventory<W: TextOut>(found: Inventory, out: &mut W) -> Result<(), WriteFailed>
+    ensures text { MatchResult result
+        (λ _. Appends (W.contents out.old) (W.contents out.new) (lines_of found))
+        (λ _. AppendsCut (W.contents out.old) (W.contents out.new) (lines_of found)) }
+    ensures count { W.failures out.new ≡ failures_after (W.failures out.old) (is_err result) }
+{
+    write_counts(out, (b"words ", found.words), (b"journal ", found.journal))?;
+    write_counts(
+        out,
+        (b"packages ", found.packages),
+        (b"applets ", found.applets),
+    )
+}
+
+// Writes the lines of two counts.
+fn write_counts<W: TextOut>(out: &mut W, first: Count, second: Count) -> Result<(), WriteFailed>
+    ensures text { MatchResult result
+        (λ _. Appends (W.contents out.old) (W.contents out.new)
+        (count_line first.entry.0.now first.entry.1 ++ count_line second.entry.0.now
+        second.entry.1))
+        (λ _. AppendsCut (W.contents out.old) (W.contents out.new)
+        (count_line first.entry.0.now first.entry.1 ++ count_line second.entry.0.now
+        second.entry.1)) }
+    ensures count { W.failures out.new ≡ failures_after (W.failures out.old) (is_err result) }
+{
+    write_count(out, first.0, first.1)?;
+    write_count(out, second.0, second.1)
+}

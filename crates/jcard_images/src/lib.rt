@@ -1,0 +1,7 @@
+//! Images: made, made in memory, and told.
+#![tactic(auto)]
+
+pub mod dump;
+mod listing;
+pub mod memory_image;
+pub mod new_image;

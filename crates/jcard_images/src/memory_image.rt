@@ -1,0 +1,38 @@
+//! New images in memory.
+ghost use Rattle.std.specs.Prelude.{◌≡◌, ◌≤◌, length, replicate};
+ghost use Rattle.jc_words.specs.Layout.{least_size};
+ghost use Rattle.jcard_images.specs.NewImages.{IsLaidInMemory, IsNewImageInMemory, IsTable};
+
+use crate::new_image::format_fault;
+use jc_words::MemStore;
+use jcard_faults::fault::Fault;
+use jcard_script::card::formatting::format;
+use std::alloc::{AllocError, Global};
+
+/// A new image in memory.
+pub fn new_image<'a>(alloc: Global, count: u16, table: &[u8]) -> Result<MemStore, Fault<'a>>
+    requires enough { least_size ≤ count }
+    requires table { IsTable table.now }
+    ensures { IsNewImageInMemory count table.now result }
+{
+    match MemStore::new(alloc, count) {
+        Ok(store) => laid_in(store, table),
+        Err(AllocError) => Err(Fault::NoMemory),
+    }
+}
+
+// The image of a store of zero words, for which no memory is asked.
+fn laid_in<'a>(store: MemStore, table: &[u8]) -> Result<MemStore, Fault<'a>>
+    requires enough { least_size ≤ length store.words }
+    requires zeros { store.words ≡ replicate (length store.words) 0 }
+    requires table { IsTable table.now }
+    ensures { IsLaidInMemory (length store.words) table.now result }
+{
+    let (store, made) = format(store, table);
+    match made {
+        // What it took to make the image does not count as writes of the card.
+        Ok(()) => Ok(MemStore::of(store.into_words())),
+        // The number and the table are good, and a store in memory refuses no write: the table is too large.
+        Err(cause) => Err(format_fault("memory", cause)),
+    }
+}

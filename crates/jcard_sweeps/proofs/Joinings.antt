@@ -1,0 +1,101 @@
+-- Reading the texts of parts, and joining them.
+use Rattle.std.proofs.Common.{arith, ◌≡◌, ◌∙◌, ◌⊎◌, inl, inr, ℕ, suc, Bool, add-one, drop-cons, ◌+◌, ◌<◌, ◌≤◌, List, [], ◌∷◌, ◌++◌, length, get_or, take, drop, map, ap, sym, refl, subst, append_assoc, append-nil, Ok, Err, Result, None, true, false, ◌&&◌}
+use Rattle.std.specs.Option.{is_none}
+use Rattle.std.specs.Prelude.{if◌then◌else◌, is_err, is_ok}
+use Rattle.std.proofs.lemmas.Bool.{true≢false}
+use Rattle.std.proofs.lemmas.List.{map-append, take-append-drop, take_more}
+use Rattle.jcard_outcomes.specs.Joins.{AreJoined, ArePartsOf, IsTellable}
+use Rattle.jcard_outcomes.specs.Recoveries.{first_difference}
+use Rattle.jcard_outcomes.specs.Reports.{first_broken, report_text}
+use Rattle.jcard_outcomes.specs.declared.join.JoinFault.{JoinFault}
+use Rattle.jcard_outcomes.specs.declared.join.JoinFault.TheVariants as joining
+use Rattle.jcard_outcomes.specs.declared.join.Joined.{Joined}
+use Rattle.jcard_outcomes.specs.declared.report.Sweep.{Sweep}
+use Rattle.jcard_script.specs.Texts.{IsCutOf}
+use Rattle.jcard_files.specs.FileDeeds.{FileDeed}
+use Rattle.jcard_sweeps.specs.Joinings.{AreFirstRead, AreRead, AreUnread, IsJoinTold, IsJoinedTo, IsJoining, told_join_fault}
+use Rattle.jcard_files.specs.Readings.{IsUnread, IsScriptRead}
+use Rattle.jcard_sweeps.specs.Tears.{IsReported}
+use Rattle.jcard_faults.specs.declared.fault.Fault.{Fault}
+use Rattle.jcard_faults.specs.declared.fault.Fault.TheVariants.{NoMemory, NotAllOrNothing, WriteFailed}
+
+-- files that could not be read are not joined
+pub unread_joining : (names : List (List ℕ)) (fault : Fault) (deeds : List FileDeed)
+    → ((fault ≡ NoMemory) × AreFirstRead names deeds) ⊎ AreUnread names fault deeds
+    → IsJoining names (Err fault) [] deeds
+unread_joining names fault deeds (inl e) = inr (inl (ap Err e.0, refl, e.1))
+unread_joining names fault deeds (inr h) = inl (fault, refl, refl, h)
+
+-- one more was read
+pub read_push : (names texts : List (List ℕ)) (deeds : List FileDeed) (name text : List ℕ) (opened : List FileDeed) → AreRead names texts deeds
+    → IsScriptRead name text opened → AreRead (names ++ name ∷ []) (texts ++ text ∷ []) (deeds ++ opened)
+read_push [] [] deeds name text opened h r = (opened, [], r, ap (λ l. l ++ opened) h ∙ sym (append-nil opened), refl)
+read_push [] (t ∷ texts) deeds name text opened h r = absurd h
+read_push (n ∷ names) [] deeds name text opened h r = absurd h
+read_push (n ∷ names) (t ∷ texts) deeds name text opened h r = (
+  h.0,
+  h.1 ++ opened,
+  h.2,
+  ap (λ l. l ++ opened) h.3 ∙ append_assoc h.0 h.1 opened,
+  read_push names texts h.1 name text opened h.4 r,
+)
+
+reported : (s : Sweep) (j : Joined) (ended : Result (Unit {0}) Fault) (text : List ℕ) → j.text.items ≡ report_text s
+    → j.is_all_or_nothing ≡ is_none (first_broken 0 s.cuts.items) → first_difference 0 s.cuts.items ≡ None → IsJoinTold j ended text → IsReported s ended text
+reported s j (Ok done) text e f none h = (
+  h.0 ∙ e,
+  ap (λ b. b && is_none (first_difference 0 s.cuts.items)) (sym f ∙ h.1) ∙ ap (λ d. is_none d) none,
+)
+reported s j (Err NotAllOrNothing) text e f none h = (h.0 ∙ e, ap (λ b. b && is_none (first_difference 0 s.cuts.items)) (sym f ∙ h.1))
+reported s j (Err WriteFailed) text e f none h = subst (λ t. IsCutOf t text) e h
+reported s j (Err other) text e f none h = absurd h
+
+-- the report was told
+pub joined_told : (texts : List (List ℕ)) (j : Joined) (ended : Result (Unit {0}) Fault) (text : List ℕ) → AreJoined texts j
+    → ((s : Sweep) → IsTellable s → ArePartsOf s texts
+    → (j.text.items ≡ report_text s) × (j.is_all_or_nothing ≡ is_none (first_broken 0 s.cuts.items))) → IsJoinTold j ended text → IsJoinedTo texts ended text
+joined_told texts j ended text joined parts told = record {
+  joined = inl (j, joined, told);
+  whole = λ s tellable h. let of = parts s tellable h in inl (reported s j ended text of.0 of.1 tellable.3 told);
+}
+
+-- the texts were not joined
+pub unjoined : (texts : List (List ℕ)) (cause : JoinFault) (fault : Fault) → fault ≡ told_join_fault cause
+    → ((s : Sweep) → IsTellable s → ArePartsOf s texts → cause ≡ joining.NoMemory) → IsJoinedTo texts (Err fault) []
+unjoined texts cause fault e none = record {
+  joined = inr (cause, ap Err e, refl);
+  whole = λ s tellable h. inr (ap Err (e ∙ ap told_join_fault (none s tellable h)), refl);
+}
+
+-- as many texts were read as there are names
+pub read_lengths : (names texts : List (List ℕ)) (deeds : List FileDeed) → AreRead names texts deeds → length names ≡ length texts
+read_lengths [] [] deeds h = refl
+read_lengths [] (t ∷ texts) deeds h = absurd h
+read_lengths (n ∷ names) [] deeds h = absurd h
+read_lengths (n ∷ names) (t ∷ texts) deeds h = ap suc (read_lengths names texts h.1 h.4)
+
+-- an item was pushed
+pub pushed : {A E V : Type 0} (r : Result A E) (b : Bool) (new old : List V) (v : V) → b ≡ is_err r → b ≡ false
+    → new ≡ (if is_ok r then old ++ v ∷ [] else old) → new ≡ old ++ v ∷ []
+pushed (Ok x) b new old v e n h = h
+pushed (Err f) b new old v e n h = absurd (true≢false (sym e ∙ n))
+
+-- the names up to the next, and around it
+pub names_next : {S : Type 0} (f : S → List ℕ) (files : List S) (i : ℕ) (x : S) → i < length files → x ≡ get_or files i x
+    → map f (take (i + 1) files) ≡ map f (take i files) ++ f x ∷ []
+names_next f files i x h e = ap (map f) (take_more files i x h) ∙ map-append f (take i files) (get_or files i x ∷ [])
+    ∙ ap (λ y. map f (take i files) ++ f y ∷ []) (sym e)
+
+pub names_around : {S : Type 0} (f : S → List ℕ) (files : List S) (i : ℕ) (x : S) → i < length files → x ≡ get_or files i x
+    → map f files ≡ map f (take i files) ++ f x ∷ map f (drop (i + 1) files)
+names_around f files i x h e =
+    let at : drop i files ≡ get_or files i x ∷ drop (i + 1) files = rw add-one (drop-cons files i x h) in
+    sym (ap (map f) (take-append-drop i files)) ∙ map-append f (take i files) (drop i files)
+    ∙ ap (λ l. map f (take i files) ++ l) (ap (map f) at ∙ ap (λ y. f y ∷ map f (drop (i + 1) files)) (sym e))
+
+-- the names up to the next, and those behind it
+pub names_split : {S : Type 0} (f : S → List ℕ) (files : List S) (i : ℕ) → map f files ≡ map f (take i files) ++ map f (drop i files)
+names_split f files i = sym (ap (map f) (take-append-drop i files)) ∙ map-append f (take i files) (drop i files)
+
+pub texts_next : {V : Type 0} (f : V → List ℕ) (old new : List V) (v : V) → new ≡ old ++ v ∷ [] → map f new ≡ map f old ++ f v ∷ []
+texts_next f old new v e = ap (map f) e ∙ map-append f old (v ∷ [])

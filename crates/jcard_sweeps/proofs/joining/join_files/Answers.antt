@@ -1,0 +1,30 @@
+use Rattle.std.proofs.Common.{arith, [], map, refl, inl, inr, subst}
+use Rattle.std.specs.String.{string_bytes}
+use Rattle.std.proofs.lemmas.List.{length-map}
+use Rattle.jcard_script.proofs.Known.{appends_same}
+use Rattle.jcard_sweeps.specs.Joinings.{IsJoinedTo}
+use Rattle.jcard_sweeps.proofs.Joinings.{read_lengths, unread_joining}
+use Rattle.jcard_sweeps.proofs.joining.join_files.Goals as goal
+
+pub join_texts-requires : goal.join_texts-requires
+join_texts-requires g c =
+    let read = c.in-Ok.ensures.read in
+    rw c.deref.ensures.value (omega (
+      arith,
+      read_lengths (map string_bytes c.args.files.now) (map (λ t. t.items) c.in-Ok.texts.items) read.0 read.2,
+      length-map c.args.files.now string_bytes,
+      length-map c.in-Ok.texts.items (λ t. t.items),
+      c.requires,
+    ))
+
+pub returns-in-Ok-clause-done : goal.returns-in-Ok-clause-done
+returns-in-Ok-clause-done g c =
+    let read = c.in-Ok.ensures.read in
+    let done = c.join_texts.ensures.done in
+    let joined = subst (λ ts. IsJoinedTo (map (λ t. t.items) ts) c.join_texts.result done.0) c.deref.ensures.value done.2 in
+    (done.0, read.0, done.1, inr (inr (map (λ t. t.items) c.in-Ok.texts.items, read.2, joined)), read.1)
+
+pub returns-in-Err-clause-done : goal.returns-in-Err-clause-done
+returns-in-Err-clause-done g c =
+    let read = c.in-Err.ensures.read in
+    ([], read.0, appends_same _, unread_joining (map string_bytes c.args.files.now) c.in-Err.fault read.0 read.2, read.1)

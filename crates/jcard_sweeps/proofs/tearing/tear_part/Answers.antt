@@ -1,0 +1,20 @@
+use Rattle.std.proofs.Common.{[], refl, subst, inl, inr}
+use Rattle.jcard_script.proofs.Known.{appends_same}
+use Rattle.jcard_tear.specs.ScriptLines.{line_of}
+use Rattle.jcard_sweeps.specs.Tears.{IsTornShare}
+use Rattle.jcard_sweeps.proofs.tearing.tear_part.Goals as goal
+
+pub returns-in_default-clause-done : goal.returns-in_default-clause-done
+returns-in_default-clause-done g c = ([], [], appends_same _, inl (refl, rw c.as_bytes.ensures.value at c.in_default.ensures, refl, refl), g.met.D.Disk.none c.args.disk.now)
+
+pub returns-in-Ok-clause-done : goal.returns-in-Ok-clause-done
+returns-in-Ok-clause-done g c =
+    let read = c.in-Ok.ensures.read in
+    let done = c.cut_part.ensures.done in
+    let torn = subst (λ given. IsTornShare c.args.words.now (line_of c.args.found) c.in-Some.share given c.cut_part.result done.0) c.lent.ensures done.2 in
+    (done.0, read.0, done.1, inr (c.in-Some.share, rw c.as_bytes.ensures.value at c.in-Some.ensures, inr (_, read.2, torn)), read.1)
+
+pub returns-in-Err-clause-done : goal.returns-in-Err-clause-done
+returns-in-Err-clause-done g c =
+    let read = c.in-Err.ensures.read in
+    ([], read.0, appends_same _, inr (c.in-Some.share, rw c.as_bytes.ensures.value at c.in-Some.ensures, inl (c.in-Err.fault, refl, refl, read.2)), read.1)

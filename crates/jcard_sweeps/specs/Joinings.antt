@@ -1,0 +1,56 @@
+-- `jcard tear --join`: what is read, and what is told.
+use Rattle.std.specs.Prelude.{ℕ, ◌≡◌, ◌⊎◌, true, false, List, [], ◌∷◌, ◌++◌, Result, Ok, Err}
+use Rattle.jcard_outcomes.specs.Joins.{AreJoined, ArePartsOf, IsTellable}
+use Rattle.jcard_outcomes.specs.declared.join.JoinFault.{JoinFault}
+use Rattle.jcard_outcomes.specs.declared.join.JoinFault.TheVariants as joining
+use Rattle.jcard_outcomes.specs.declared.join.Joined.{Joined}
+use Rattle.jcard_outcomes.specs.declared.report.Sweep.{Sweep}
+use Rattle.jcard_script.specs.Texts.{IsCutOf}
+use Rattle.jcard_files.specs.FileDeeds.{FileDeed}
+use Rattle.jcard_files.specs.Readings.{IsUnread, IsScriptRead}
+use Rattle.jcard_sweeps.specs.Tears.{IsReported}
+use Rattle.jcard_faults.specs.declared.fault.Fault.{Fault}
+use Rattle.jcard_faults.specs.declared.fault.Fault.TheVariants.{BadCut, CutMissing, CutTwice, NoMemory, NotAllOrNothing, OtherSweep, WriteFailed}
+
+-- these texts were read from the files of these names, in their order
+abbrev pub AreRead : List (List ℕ) → List (List ℕ) → List FileDeed → Type 0
+AreRead [] [] deeds = deeds ≡ []
+AreRead (name ∷ names) (text ∷ texts) deeds = (opened more : List FileDeed) × IsScriptRead name text opened × (deeds ≡ opened ++ more)
+    × AreRead names texts more
+AreRead names texts deeds = ⊥
+
+-- the files were read up to one that could not be
+abbrev pub AreUnread : List (List ℕ) → Fault → List FileDeed → Type 0
+AreUnread names fault deeds = (before rest texts : List (List ℕ)) × (name : List ℕ) × (opened more : List FileDeed) × (names ≡ before ++ name ∷ rest)
+    × AreRead before texts opened × IsUnread name fault more × (deeds ≡ opened ++ more)
+
+-- only the first files were read
+abbrev pub AreFirstRead : List (List ℕ) → List FileDeed → Type 0
+AreFirstRead names deeds = (first rest texts : List (List ℕ)) × (names ≡ first ++ rest) × AreRead first texts deeds
+
+-- what is told of texts that are not the parts of a sweep
+abbrev pub told_join_fault : JoinFault → Fault
+told_join_fault joining.NoMemory = NoMemory
+told_join_fault (joining.Missing k) = CutMissing k
+told_join_fault (joining.Twice k) = CutTwice k
+told_join_fault (joining.BadLine k) = BadCut k
+told_join_fault (joining.OtherSweep k) = OtherSweep k
+
+-- the report was written, and so it ended
+abbrev pub IsJoinTold : Joined → Result Unit Fault → List ℕ → Type 0
+IsJoinTold j (Ok done) text = (text ≡ j.text.items) × (j.is_all_or_nothing ≡ true)
+IsJoinTold j (Err NotAllOrNothing) text = (text ≡ j.text.items) × (j.is_all_or_nothing ≡ false)
+IsJoinTold j (Err WriteFailed) text = IsCutOf j.text.items text
+IsJoinTold j (Err other) text = ⊥
+
+-- the texts were joined to a report; or they are not the parts of a sweep, or memory was refused. The parts of a sweep are joined to
+-- what is told of it, or memory was refused
+pub record IsJoinedTo (texts : List (List ℕ)) (ended : Result Unit Fault) (text : List ℕ) : Type 0 where
+  pub joined : ((j : Joined) × AreJoined texts j × IsJoinTold j ended text) ⊎ ((cause : JoinFault) × (ended ≡ Err (told_join_fault cause)) × (text ≡ []))
+  pub whole : (s : Sweep) → IsTellable s → ArePartsOf s texts → IsReported s ended text ⊎ ((ended ≡ Err NoMemory) × (text ≡ []))
+
+-- the files were read, and joined; or they were read up to one that could not be, or up to one for whose text memory was refused
+abbrev pub IsJoining : List (List ℕ) → Result Unit Fault → List ℕ → List FileDeed → Type 0
+IsJoining names ended text deeds = ((fault : Fault) × (ended ≡ Err fault) × (text ≡ []) × AreUnread names fault deeds)
+    ⊎ ((ended ≡ Err NoMemory) × (text ≡ []) × AreFirstRead names deeds)
+    ⊎ ((texts : List (List ℕ)) × AreRead names texts deeds × IsJoinedTo texts ended text)

@@ -1,0 +1,3 @@
+pub mod Joinings
+pub mod Tears
+pub mod TearFaults

@@ -1,0 +1,154 @@
+-- `jcard tear`: what is read, what is done with it, and what is told.
+use Rattle.std.specs.Prelude.{ℕ, ◌≡◌, ◌⊎◌, ◌<◌, Bool, false, true, All, map, List, [], ◌∷◌, ◌++◌, Option, Some, None, Result, Ok, Err}
+use Rattle.jcard_outcomes.specs.Reports.{are_whole, report_text, verdicts_text}
+use Rattle.jcard_outcomes.specs.Parts.{IsShareText, part_text}
+use Rattle.jcard_outcomes.specs.declared.recoveries.Depth.{Depth}
+use Rattle.jcard_outcomes.specs.declared.each.LineSweep.{LineSweep}
+use Rattle.jcard_outcomes.specs.declared.part.Part.{Part}
+use Rattle.jcard_outcomes.specs.declared.part.Share.{Share}
+use Rattle.jcard_outcomes.specs.declared.report.Sweep.{Sweep}
+use Rattle.jcard_script.specs.Texts.{IsCutOf}
+use Rattle.jcard_tear.specs.Parts.{IsLinePart}
+use Rattle.std.specs.Str.Parse.{IsNumeral, digits_value}
+use Rattle.jcard_tear.specs.ScriptLines.{Line, chosen, commands_of, line_of}
+use Rattle.jcard_tear.specs.Sweeps.{AreSwept, IsLineSwept}
+use Rattle.jcard_tear.specs.declared.script_lines.ScriptLine.{ScriptLine}
+use Rattle.jcard_files.specs.Readings.{IsScriptRead, IsUnread}
+use Rattle.jcard_files.specs.FileDeeds.{FileDeed, ClosesImage, ReadsImage, untouched}
+use Rattle.jcard_files.specs.Images.{IsNotOpened}
+use Rattle.jcard_faults.specs.declared.fault.Fault.{Fault}
+use Rattle.jcard_faults.specs.declared.fault.Fault.TheVariants.{BadCommand, BadImage, CannotWrite, Down, NoCommand, NoMemory, NotAllOrNothing}
+use Rattle.jcard_faults.specs.declared.fault.Fault.TheVariants.{BadPart, ScriptTooLong, TooManyCuts, WriteFailed}
+
+-- ---- files
+
+-- the image of this name was opened to read it alone, and closed with no write asked for
+abbrev pub IsImageRead : List ℕ → List ℕ → List FileDeed → Type 0
+IsImageRead image w deeds = deeds ≡ ReadsImage image (Ok w) ∷ ClosesImage image (untouched w) ∷ []
+
+-- it could not be opened; or memory was refused for its words
+abbrev pub IsImageUnread : List ℕ → Fault → List FileDeed → Type 0
+IsImageUnread image fault deeds = (IsNotOpened image fault × (deeds ≡ ReadsImage image (Err fault) ∷ []))
+    ⊎ ((w : List ℕ) × (fault ≡ NoMemory) × IsImageRead image w deeds)
+
+-- ---- what is told
+
+-- the report of a sweep was written, and so it ended: each cut was all or nothing, and no recovery made a difference, or one was not or
+-- one did; or a write failed within it
+abbrev pub IsReported : Sweep → Result Unit Fault → List ℕ → Type 0
+IsReported s (Ok done) text = (text ≡ report_text s) × (are_whole s.cuts.items ≡ true)
+IsReported s (Err NotAllOrNothing) text = (text ≡ report_text s) × (are_whole s.cuts.items ≡ false)
+IsReported s (Err WriteFailed) text = IsCutOf (report_text s) text
+IsReported s (Err other) text = ⊥
+
+-- the verdicts over the commands of a script were written, and so it ended
+abbrev pub AreReported : List LineSweep → Result Unit Fault → List ℕ → Type 0
+AreReported sweeps (Ok done) text = (text ≡ verdicts_text sweeps) × All (λ s. are_whole s.sweep.cuts.items ≡ true) sweeps
+AreReported sweeps (Err NotAllOrNothing) text = (text ≡ verdicts_text sweeps) × (All (λ s. are_whole s.sweep.cuts.items ≡ true) sweeps → ⊥)
+AreReported sweeps (Err WriteFailed) text = IsCutOf (verdicts_text sweeps) text
+AreReported sweeps (Err other) text = ⊥
+
+-- why a command is not cut: memory was refused; or the lines before it, it, or those of the probe cannot be carried out over the image;
+-- or the card is down at the command; or it makes too many writes
+abbrev pub IsUncut : Fault → Type 0
+IsUncut NoMemory = Unit {0}
+IsUncut (BadImage damage) = Unit {0}
+IsUncut (CannotWrite path) = Unit {0}
+IsUncut (BadCommand line) = Unit {0}
+IsUncut ScriptTooLong = Unit {0}
+IsUncut Down = Unit {0}
+IsUncut TooManyCuts = Unit {0}
+IsUncut other = ⊥
+
+-- it was not cut for one of these causes, and nothing was written
+abbrev pub EndsUncut : Result Unit Fault → List ℕ → Type 0
+EndsUncut ended text = (fault : Fault) × (ended ≡ Err fault) × IsUncut fault × (text ≡ [])
+
+-- the command in this line was cut after each number of its writes, on cards of copies of these words, with these lines of a probe, if
+-- any, and so many recoveries cut behind each, and that was told; or it could not be
+abbrev pub IsTornOne : List ℕ → Line → Depth → Option (List ℕ) → Result Unit Fault → List ℕ → Type 0
+IsTornOne w l depth given ended text = ((s : Sweep) × IsLineSwept w given depth l s × IsReported s ended text) ⊎ EndsUncut ended text
+
+-- each command in these lines was cut so, and the verdicts were told; or one could not be
+abbrev pub IsTornEach : List ℕ → List Line → Depth → Option (List ℕ) → Result Unit Fault → List ℕ → Type 0
+IsTornEach w lines depth given ended text = ((sweeps : List LineSweep) × AreSwept w given depth lines sweeps × AreReported sweeps ended text) ⊎ EndsUncut ended text
+
+-- ---- the probe
+
+-- these lines were read, if a probe was named
+abbrev pub IsProbeRead : Option (List ℕ) → Option (List ℕ) → List FileDeed → Type 0
+IsProbeRead None given deeds = (given ≡ None) × (deeds ≡ [])
+IsProbeRead (Some name) given deeds = (text : List ℕ) × (given ≡ Some text) × IsScriptRead name text deeds
+
+-- they could not be read
+abbrev pub IsProbeUnread : Option (List ℕ) → Fault → List FileDeed → Type 0
+IsProbeUnread None fault deeds = ⊥
+IsProbeUnread (Some name) fault deeds = IsUnread name fault deeds
+
+-- the lines of the probe were read, if one was named, and with them this was done
+abbrev pub IsProbed : (Option (List ℕ) → Result Unit Fault → List ℕ → Type 0) → Option (List ℕ) → Result Unit Fault → List ℕ → List FileDeed → Type 0
+IsProbed Does name ended text deeds = ((fault : Fault) × (ended ≡ Err fault) × (text ≡ []) × IsProbeUnread name fault deeds)
+    ⊎ ((given : Option (List ℕ)) × IsProbeRead name given deeds × Does given ended text)
+
+-- ---- parts
+
+-- the lines of a part were written; or a write failed within them
+abbrev pub IsPartTold : Part → Result Unit Fault → List ℕ → Type 0
+IsPartTold p (Ok done) text = text ≡ part_text p
+IsPartTold p (Err WriteFailed) text = IsCutOf (part_text p) text
+IsPartTold p (Err other) text = ⊥
+
+-- the command in this line was cut in this part, on cards of copies of these words, with these lines of a probe, if any, and that was
+-- told; or it could not be
+abbrev pub IsTornShare : List ℕ → Line → Share → Option (List ℕ) → Result Unit Fault → List ℕ → Type 0
+IsTornShare w l share given ended text = ((p : Part) × IsLinePart w given l share.first share.step p × IsPartTold p ended text) ⊎ EndsUncut ended text
+
+-- it was cut in the part that this text names; or the text names none
+abbrev pub IsTornPart : List ℕ → Line → List ℕ → Option (List ℕ) → Result Unit Fault → List ℕ → List FileDeed → Type 0
+IsTornPart w l part probe ended text deeds = ((ended ≡ Err BadPart) × ((share : Share) → IsShareText part share → ⊥) × (text ≡ []) × (deeds ≡ []))
+    ⊎ ((share : Share) × IsShareText part share × IsProbed (IsTornShare w l share) probe ended text deeds)
+
+-- ---- scripts
+
+-- a command was cut whole, or in the part of this name
+abbrev pub IsTornIf : List ℕ → Line → Depth → Option (List ℕ) → Option (List ℕ) → Result Unit Fault → List ℕ → List FileDeed → Type 0
+IsTornIf w l depth None probe ended text deeds = IsProbed (IsTornOne w l depth) probe ended text deeds
+IsTornIf w l depth (Some part) probe ended text deeds = IsTornPart w l part probe ended text deeds
+
+-- the text tells a number in decimal digits, if it is not too large; 0 is no number of a line
+pub record IsLineNumber (text : List ℕ) (n : ℕ) : Type 0 where
+  pub told : (n ≡ 0 → ⊥) → IsNumeral 10 text × (digits_value 10 text ≡ n)
+  pub taken : IsNumeral 10 text → digits_value 10 text < 18446744073709551616 → n ≡ digits_value 10 text
+
+-- the number of the line that is meant: the one that is told, or none is
+abbrev pub IsMeantBy : Option (List ℕ) → Option ℕ → Type 0
+IsMeantBy None number = number ≡ None
+IsMeantBy (Some text) number = (n : ℕ) × (number ≡ Some n) × IsLineNumber text n
+
+-- the one of these commands that is meant was cut, or each
+abbrev pub AreTornBy : List ℕ → List ScriptLine → Option (List ℕ) → Bool → Depth → Option (List ℕ) → Option (List ℕ) → Result Unit Fault → List ℕ → List FileDeed → Type 0
+AreTornBy w all line false depth part probe ended text deeds = (number : Option ℕ) × (found : ScriptLine) × IsMeantBy line number
+    × (chosen number all ≡ Some found) × IsTornIf w (line_of found) depth part probe ended text deeds
+AreTornBy w all line true depth part probe ended text deeds = IsProbed (IsTornEach w (map line_of all) depth) probe ended text deeds
+
+-- so they were, or none is meant
+abbrev pub AreTornOf : List ℕ → List ScriptLine → Option (List ℕ) → Bool → Depth → Option (List ℕ) → Option (List ℕ) → Result Unit Fault → List ℕ → List FileDeed → Type 0
+AreTornOf w all line each depth part probe ended text deeds = ((number : Option ℕ) × IsMeantBy line number × (chosen number all ≡ None)
+    × (ended ≡ Err NoCommand) × (text ≡ []) × (deeds ≡ [])) ⊎ AreTornBy w all line each depth part probe ended text deeds
+
+-- the commands of this script that are meant were cut; or memory was refused for them
+abbrev pub IsTornIn : List ℕ → List ℕ → Option (List ℕ) → Bool → Depth → Option (List ℕ) → Option (List ℕ) → Result Unit Fault → List ℕ → List FileDeed → Type 0
+IsTornIn w script line each depth part probe ended text deeds = ((ended ≡ Err NoMemory) × (text ≡ []) × (deeds ≡ []))
+    ⊎ ((all : List ScriptLine) × (map line_of all ≡ commands_of script) × AreTornOf w all line each depth part probe ended text deeds)
+
+-- the script was read, and of its commands those that are meant were cut
+abbrev pub IsTearOver : List ℕ → List ℕ → Option (List ℕ) → Bool → Depth → Option (List ℕ) → Option (List ℕ) → Result Unit Fault → List ℕ → List FileDeed → Type 0
+IsTearOver w script line each depth part probe ended text deeds = ((fault : Fault) × (ended ≡ Err fault) × (text ≡ []) × IsUnread script fault deeds)
+    ⊎ ((s : List ℕ) × (opened more : List FileDeed) × IsScriptRead script s opened × (deeds ≡ opened ++ more)
+    × IsTornIn w s line each depth part probe ended text more)
+
+-- the words of the image were read, and then commands of the script were cut, on cards in memory alone
+abbrev pub IsTear : List ℕ → List ℕ → Option (List ℕ) → Bool → Depth → Option (List ℕ) → Option (List ℕ) → Result Unit Fault → List ℕ → List FileDeed → Type 0
+IsTear image script line each depth part probe ended text deeds = ((fault : Fault) × (ended ≡ Err fault) × (text ≡ []) × IsImageUnread image fault deeds)
+    ⊎ ((w : List ℕ) × (opened more : List FileDeed) × IsImageRead image w opened × (deeds ≡ opened ++ more)
+    × IsTearOver w script line each depth part probe ended text more)

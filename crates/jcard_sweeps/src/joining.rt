@@ -1,0 +1,102 @@
+//! `jcard tear --join`: joining the texts of all parts of a sweep.
+ghost use Rattle.std.specs.Prelude.{◌≡◌, ◌⊎◌, ◌<◌, ◌++◌, ◌∷◌, [], ℕ, List, Err, MatchResult, IfErr, map, false, length};
+ghost use Rattle.std.specs.Io.KnownBytes.{Appends};
+ghost use Rattle.std.specs.String.{string_bytes};
+ghost use Rattle.jc_words.specs.Count.{failures_after};
+ghost use Rattle.jcard_faults.specs.Faults.{is_unwritten};
+ghost use Rattle.jcard_files.specs.FileDeeds.{FileDeed};
+ghost use Rattle.jcard_sweeps.specs.Joinings.{AreFirstRead, AreRead, AreUnread, IsJoinTold, IsJoinedTo, IsJoining, told_join_fault};
+
+use jcard_faults::fault::Fault;
+use jcard_files::disk::Disk;
+use jcard_files::reading::script_of;
+use jcard_outcomes::join::{JoinFault, Joined, join};
+use jcard_script::streams::{TextOut, write_all};
+use std::alloc::Global;
+
+/// Joins the texts in the files of these names, which tell the parts of a sweep, to what one run tells of it.
+pub fn join_files<'n, D: Disk, W: TextOut>(
+    disk: &mut D,
+    files: &'n [String],
+    out: &mut W,
+) -> Result<(), Fault<'n>>
+    requires { 0 < length files.now }
+    ensures done { (text : List ℕ) × (deeds : List FileDeed)
+        × Appends (W.contents out.old) (W.contents out.new) text
+        × IsJoining (map string_bytes files.now) result text deeds
+        × D.does disk.old deeds disk.new }
+    ensures writes { W.failures out.new ≡ failures_after (W.failures out.old)
+        (is_unwritten result) }
+{
+    match texts_of(disk, files) {
+        Ok(texts) => join_texts(disk.alloc(), &texts, out),
+        Err(fault) => Err(fault),
+    }
+}
+
+// What the files of these names hold.
+fn texts_of<'n, D: Disk>(disk: &mut D, files: &'n [String]) -> Result<Vec<Vec<u8>>, Fault<'n>>
+    ensures read { (deeds : List FileDeed) × D.does disk.old deeds disk.new × MatchResult result
+        (λ texts. AreRead (map string_bytes files.now) (map (λ t. t.items) texts.items) deeds)
+        (λ fault. ((fault ≡ Fault.NoMemory) × AreFirstRead (map string_bytes files.now) deeds)
+        ⊎ AreUnread (map string_bytes files.now) fault deeds) }
+    ensures unwritten { IfErr result (λ fault. is_unwritten (Err fault) ≡ false) }
+{
+    let mut texts = Vec::new(disk.alloc());
+    for file in files {
+        let text = match script_of(disk, file.as_str()) {
+            Ok(text) => text,
+            Err(fault) => return Err(fault),
+        };
+        if texts.push(text).is_err() {
+            return Err(Fault::NoMemory);
+        }
+    }
+    Ok(texts)
+}
+
+// Joins these texts, and writes the report.
+fn join_texts<'n, W: TextOut>(
+    alloc: Global,
+    texts: &[Vec<u8>],
+    out: &mut W,
+) -> Result<(), Fault<'n>>
+    requires { 0 < length texts.now }
+    ensures done { (text : List ℕ) × Appends (W.contents out.old) (W.contents out.new) text
+        × IsJoinedTo (map (λ t. t.items) texts.now) result text }
+    ensures writes { W.failures out.new ≡ failures_after (W.failures out.old)
+        (is_unwritten result) }
+{
+    match join(alloc, texts) {
+        Ok(joined) => tell_joined(&joined, out),
+        Err(cause) => Err(join_fault(cause)),
+    }
+}
+
+// Writes a report, and tells whether each cut was all or nothing.
+fn tell_joined<'n, W: TextOut>(joined: &Joined, out: &mut W) -> Result<(), Fault<'n>>
+    ensures done { (text : List ℕ) × Appends (W.contents out.old) (W.contents out.new) text
+        × IsJoinTold joined.now result text }
+    ensures writes { W.failures out.new ≡ failures_after (W.failures out.old)
+        (is_unwritten result) }
+{
+    match write_all(out, &joined.text) {
+        Ok(()) if joined.is_all_or_nothing => Ok(()),
+        Ok(()) => Err(Fault::NotAllOrNothing),
+        Err(_) => Err(Fault::WriteFailed),
+    }
+}
+
+// What it means that texts are not the parts of a sweep.
+fn join_fault<'n>(cause: JoinFault) -> Fault<'n>
+    ensures told { result ≡ told_join_fault cause }
+    ensures unwritten { is_unwritten (Err result) ≡ false }
+{
+    match cause {
+        JoinFault::NoMemory => Fault::NoMemory,
+        JoinFault::Missing(number) => Fault::CutMissing(number),
+        JoinFault::Twice(number) => Fault::CutTwice(number),
+        JoinFault::BadLine(number) => Fault::BadCut(number),
+        JoinFault::OtherSweep(number) => Fault::OtherSweep(number),
+    }
+}

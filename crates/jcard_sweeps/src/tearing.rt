@@ -1,0 +1,496 @@
+//! `jcard tear`: cutting the power within commands of a script, after each number of their word writes.
+ghost use Rattle.std.specs.Prelude.{◌≡◌, ◌⊎◌, ◌+◌, ◌*◌, ◌<◌, ℕ, List, Some, Err, MatchResult, IfOk, IfErr, false, length, map, option_map};
+ghost use Rattle.std.specs.Borrow.{Bor};
+ghost use Rattle.std.specs.Io.KnownBytes.{Appends};
+ghost use Rattle.jc_words.specs.Count.{failures_after};
+ghost use Rattle.jcard_faults.specs.Faults.{is_unwritten};
+ghost use Rattle.jcard_files.specs.FileDeeds.{FileDeed};
+ghost use Rattle.jcard_sweeps.specs.Tears.{AreReported, AreTornOf, EndsUncut, IsImageRead, IsImageUnread, IsLineNumber, IsMeantBy, IsProbeRead, IsProbeUnread, IsProbed, IsReported};
+ghost use Rattle.jcard_sweeps.specs.Tears.{IsTear, IsTearOver, IsTornEach, IsTornIn, IsTornOne, IsUncut};
+ghost use Rattle.jcard_sweeps.specs.TearFaults.{IsFaultInMemory, IsTearFault};
+ghost use Rattle.jcard_sweeps.specs.Tears.{IsPartTold, IsTornPart, IsTornShare};
+ghost use Rattle.jcard_tear.specs.ScriptLines.{line_of};
+ghost use Rattle.jcard_outcomes.specs.Reports.{report_text, verdicts_text};
+
+use jcard_faults::fault::Fault;
+use jcard_faults::script_fault::{Names, power_up_fault};
+use jcard_files::closed_store::ClosedStore;
+use jcard_files::disk::Disk;
+use jcard_files::reading::script_of;
+use jcard_outcomes::each::{LineSweep, are_all_or_nothing, verdicts};
+use jcard_outcomes::part::{Part, Share, part_lines, share_of};
+use jcard_outcomes::recoveries::Depth;
+use jcard_outcomes::report::{Sweep, report};
+use jcard_outcomes::verdict::is_all_or_nothing;
+use jcard_script::script::ScriptFault;
+use jcard_script::streams::{TextOut, write_all};
+use jcard_tear::each::{tear_each, tear_line};
+use jcard_tear::parts::tear_line_part;
+use jcard_tear::runs::copied;
+use jcard_tear::script_lines::{ScriptLine, chosen, commands};
+use jcard_tear::tearing::TearFault;
+use std::alloc::{AllocError, Global};
+
+/// What is torn of an image: the names of a script and perhaps of a probe, the command in the line of a number, the last
+/// command, or each, and how many recoveries are cut behind each cut.
+#[derive(Clone, Copy, Debug, PartialEq, Eq, Drop)]
+pub struct Asked<'a> {
+    pub script: &'a str,
+    pub probe: Option<&'a str>,
+    pub line: Option<&'a str>,
+    pub each: bool,
+    pub depth: Depth,
+    pub part: Option<&'a str>,
+}
+
+/// `jcard tear`: cuts a command of the script, or each, after each number of its writes, each time on a card of a copy of the image's
+/// words, and tells what is left. The image is read, and never written.
+pub fn tear_image<'n, D: Disk, W: TextOut>(
+    disk: &mut D,
+    image: &'n str,
+    asked: Asked<'n>,
+    out: &mut W,
+) -> Result<(), Fault<'n>>
+    ensures done { (text : List ℕ) × (deeds : List FileDeed)
+        × Appends (W.contents out.old) (W.contents out.new) text
+        × IsTear image.now asked.entry.script.now
+        (option_map (λ (name : Bor (List ℕ)). name.now) asked.entry.line) asked.entry.each asked.entry.depth
+        (option_map (λ (name : Bor (List ℕ)). name.now) asked.entry.part)
+        (option_map (λ (name : Bor (List ℕ)). name.now) asked.entry.probe) result text deeds
+        × D.does disk.old deeds disk.new }
+    ensures writes { W.failures out.new ≡ failures_after (W.failures out.old)
+        (is_unwritten result) }
+{
+    match words_of(disk, image) {
+        Ok(words) => tear_over(disk, image, &words, asked, out),
+        Err(fault) => Err(fault),
+    }
+}
+
+// Cuts a command of the script over these words.
+fn tear_over<'n, D: Disk, W: TextOut>(
+    disk: &mut D,
+    image: &'n str,
+    words: &[u16],
+    asked: Asked<'n>,
+    out: &mut W,
+) -> Result<(), Fault<'n>>
+    requires { length words.now < 65536 }
+    ensures done { (text : List ℕ) × (deeds : List FileDeed)
+        × Appends (W.contents out.old) (W.contents out.new) text
+        × IsTearOver words.now asked.entry.script.now
+        (option_map (λ (name : Bor (List ℕ)). name.now) asked.entry.line) asked.entry.each asked.entry.depth
+        (option_map (λ (name : Bor (List ℕ)). name.now) asked.entry.part)
+        (option_map (λ (name : Bor (List ℕ)). name.now) asked.entry.probe) result text deeds
+        × D.does disk.old deeds disk.new }
+    ensures writes { W.failures out.new ≡ failures_after (W.failures out.old)
+        (is_unwritten result) }
+{
+    match script_of(disk, asked.script) {
+        Ok(script) => tear_in(
+            disk,
+            Names {
+                image,
+                script: asked.script,
+            },
+            words,
+            &script,
+            asked,
+            out,
+        ),
+        Err(fault) => Err(fault),
+    }
+}
+
+// Cuts the commands of this script that are meant.
+fn tear_in<'n, D: Disk, W: TextOut>(
+    disk: &mut D,
+    names: Names<'n>,
+    words: &[u16],
+    script: &[u8],
+    asked: Asked<'n>,
+    out: &mut W,
+) -> Result<(), Fault<'n>>
+    requires { length words.now < 65536 }
+    ensures done { (text : List ℕ) × (deeds : List FileDeed)
+        × Appends (W.contents out.old) (W.contents out.new) text
+        × IsTornIn words.now script.now
+        (option_map (λ (name : Bor (List ℕ)). name.now) asked.entry.line) asked.entry.each asked.entry.depth
+        (option_map (λ (name : Bor (List ℕ)). name.now) asked.entry.part)
+        (option_map (λ (name : Bor (List ℕ)). name.now) asked.entry.probe) result text deeds
+        × D.does disk.old deeds disk.new }
+    ensures writes { W.failures out.new ≡ failures_after (W.failures out.old)
+        (is_unwritten result) }
+{
+    match commands(disk.alloc(), script) {
+        Ok(commands) => tear_meant(disk, names, words, &commands, asked, out),
+        Err(AllocError) => Err(Fault::NoMemory),
+    }
+}
+
+// Cuts the one of these commands that is meant, or all of them.
+fn tear_meant<'n, D: Disk, W: TextOut>(
+    disk: &mut D,
+    names: Names<'n>,
+    words: &[u16],
+    commands: &[ScriptLine],
+    asked: Asked<'n>,
+    out: &mut W,
+) -> Result<(), Fault<'n>>
+    requires { length words.now < 65536 }
+    ensures done { (text : List ℕ) × (deeds : List FileDeed)
+        × Appends (W.contents out.old) (W.contents out.new) text
+        × AreTornOf words.now commands.now
+        (option_map (λ (name : Bor (List ℕ)). name.now) asked.entry.line) asked.entry.each asked.entry.depth
+        (option_map (λ (name : Bor (List ℕ)). name.now) asked.entry.part)
+        (option_map (λ (name : Bor (List ℕ)). name.now) asked.entry.probe) result text deeds
+        × D.does disk.old deeds disk.new }
+    ensures writes { W.failures out.new ≡ failures_after (W.failures out.old)
+        (is_unwritten result) }
+{
+    let Some(found) = chosen(commands, number_of(asked.line)) else {
+        return Err(Fault::NoCommand);
+    };
+    if asked.each {
+        return tear_all(disk, names, words, commands, asked, out);
+    }
+    if let Some(part) = asked.part {
+        return tear_part(disk, names, words, found, part, asked.probe, out);
+    }
+    tear_one(disk, names, words, found, asked, out)
+}
+
+// Cuts a command in the part of this name.
+fn tear_part<'n, D: Disk, W: TextOut>(
+    disk: &mut D,
+    names: Names<'n>,
+    words: &[u16],
+    found: ScriptLine,
+    part: &str,
+    probe: Option<&'n str>,
+    out: &mut W,
+) -> Result<(), Fault<'n>>
+    requires { length words.now < 65536 }
+    ensures done { (text : List ℕ) × (deeds : List FileDeed)
+        × Appends (W.contents out.old) (W.contents out.new) text
+        × IsTornPart words.now (line_of found.entry) part.now
+        (option_map (λ (name : Bor (List ℕ)). name.now) probe.entry) result text deeds
+        × D.does disk.old deeds disk.new }
+    ensures writes { W.failures out.new ≡ failures_after (W.failures out.old)
+        (is_unwritten result) }
+{
+    let Some(share) = share_of(part.as_bytes()) else {
+        return Err(Fault::BadPart);
+    };
+    match probe_of(disk, probe) {
+        Ok(probe) => cut_part(disk.alloc(), names, words, found, share, lent(&probe), out),
+        Err(fault) => Err(fault),
+    }
+}
+
+// Cuts a command, with the lines of the probe of this name behind each cut, if there is one.
+fn tear_one<'n, D: Disk, W: TextOut>(
+    disk: &mut D,
+    names: Names<'n>,
+    words: &[u16],
+    found: ScriptLine,
+    asked: Asked<'n>,
+    out: &mut W,
+) -> Result<(), Fault<'n>>
+    requires { length words.now < 65536 }
+    ensures done { (text : List ℕ) × (deeds : List FileDeed)
+        × Appends (W.contents out.old) (W.contents out.new) text
+        × IsProbed (IsTornOne words.now (line_of found.entry) asked.entry.depth)
+        (option_map (λ (name : Bor (List ℕ)). name.now) asked.entry.probe) result text deeds
+        × D.does disk.old deeds disk.new }
+    ensures writes { W.failures out.new ≡ failures_after (W.failures out.old)
+        (is_unwritten result) }
+{
+    match probe_of(disk, asked.probe) {
+        Ok(probe) => cut_one(
+            disk.alloc(),
+            names,
+            words,
+            found,
+            lent(&probe),
+            asked.depth,
+            out,
+        ),
+        Err(fault) => Err(fault),
+    }
+}
+
+// Cuts each of these commands so.
+fn tear_all<'n, D: Disk, W: TextOut>(
+    disk: &mut D,
+    names: Names<'n>,
+    words: &[u16],
+    commands: &[ScriptLine],
+    asked: Asked<'n>,
+    out: &mut W,
+) -> Result<(), Fault<'n>>
+    requires { length words.now < 65536 }
+    ensures done { (text : List ℕ) × (deeds : List FileDeed)
+        × Appends (W.contents out.old) (W.contents out.new) text
+        × IsProbed (IsTornEach words.now (map line_of commands.now) asked.entry.depth)
+        (option_map (λ (name : Bor (List ℕ)). name.now) asked.entry.probe) result text deeds
+        × D.does disk.old deeds disk.new }
+    ensures writes { W.failures out.new ≡ failures_after (W.failures out.old)
+        (is_unwritten result) }
+{
+    match probe_of(disk, asked.probe) {
+        Ok(probe) => cut_each(
+            disk.alloc(),
+            names,
+            words,
+            commands,
+            lent(&probe),
+            asked.depth,
+            out,
+        ),
+        Err(fault) => Err(fault),
+    }
+}
+
+// Cuts a command, with these lines of a probe, if any, and writes the report.
+fn cut_one<'n, W: TextOut>(
+    alloc: Global,
+    names: Names<'n>,
+    words: &[u16],
+    found: ScriptLine,
+    probe: Option<&[u8]>,
+    depth: Depth,
+    out: &mut W,
+) -> Result<(), Fault<'n>>
+    requires { length words.now < 65536 }
+    ensures done { (text : List ℕ) × Appends (W.contents out.old) (W.contents out.new) text
+        × IsTornOne words.now (line_of found.entry) depth
+        (option_map (λ (text : Bor (List ℕ)). text.now) probe.entry) result text }
+    ensures writes { W.failures out.new ≡ failures_after (W.failures out.old)
+        (is_unwritten result) }
+{
+    match tear_line(alloc, words, found, probe, depth) {
+        Ok(sweep) => tell_sweep(alloc, &sweep, out),
+        Err(cause) => Err(tear_fault(names, cause)),
+    }
+}
+
+// Cuts a command in this part, with these lines of a probe, if any, and writes what that leaves.
+fn cut_part<'n, W: TextOut>(
+    alloc: Global,
+    names: Names<'n>,
+    words: &[u16],
+    found: ScriptLine,
+    share: Share,
+    probe: Option<&[u8]>,
+    out: &mut W,
+) -> Result<(), Fault<'n>>
+    requires { length words.now < 65536 }
+    ensures done { (text : List ℕ) × Appends (W.contents out.old) (W.contents out.new) text
+        × IsTornShare words.now (line_of found.entry) share
+        (option_map (λ (text : Bor (List ℕ)). text.now) probe.entry) result text }
+    ensures writes { W.failures out.new ≡ failures_after (W.failures out.old)
+        (is_unwritten result) }
+{
+    match tear_line_part(alloc, words, found, probe, share.first, share.step) {
+        Ok(part) => tell_part(alloc, &part, out),
+        Err(cause) => Err(tear_fault(names, cause)),
+    }
+}
+
+// Writes the lines of a part.
+fn tell_part<'n, W: TextOut>(alloc: Global, part: &Part, out: &mut W) -> Result<(), Fault<'n>>
+    requires { part.now.first + part.now.step * length part.now.sweep.cuts.items < 65536 }
+    ensures done { (text : List ℕ) × Appends (W.contents out.old) (W.contents out.new) text
+        × (IsPartTold part.now result text ⊎ EndsUncut result text) }
+    ensures writes { W.failures out.new ≡ failures_after (W.failures out.old)
+        (is_unwritten result) }
+{
+    let Ok(lines) = part_lines(alloc, part) else {
+        return Err(Fault::NoMemory);
+    };
+    match write_all(out, &lines) {
+        Ok(()) => Ok(()),
+        Err(_) => Err(Fault::WriteFailed),
+    }
+}
+
+// Cuts each of these commands so, and writes the verdicts.
+fn cut_each<'n, W: TextOut>(
+    alloc: Global,
+    names: Names<'n>,
+    words: &[u16],
+    commands: &[ScriptLine],
+    probe: Option<&[u8]>,
+    depth: Depth,
+    out: &mut W,
+) -> Result<(), Fault<'n>>
+    requires { length words.now < 65536 }
+    ensures done { (text : List ℕ) × Appends (W.contents out.old) (W.contents out.new) text
+        × IsTornEach words.now (map line_of commands.now) depth
+        (option_map (λ (text : Bor (List ℕ)). text.now) probe.entry) result text }
+    ensures writes { W.failures out.new ≡ failures_after (W.failures out.old)
+        (is_unwritten result) }
+{
+    match tear_each(alloc, words, commands, probe, depth) {
+        Ok(sweeps) => tell_verdicts(alloc, &sweeps, out),
+        Err(cause) => Err(tear_fault(names, cause)),
+    }
+}
+
+// Writes the report of a sweep.
+fn tell_sweep<'n, W: TextOut>(alloc: Global, sweep: &Sweep, out: &mut W) -> Result<(), Fault<'n>>
+    ensures done { (text : List ℕ) × Appends (W.contents out.old) (W.contents out.new) text
+        × (IsReported sweep.now result text ⊎ EndsUncut result text) }
+    ensures writes { W.failures out.new ≡ failures_after (W.failures out.old)
+        (is_unwritten result) }
+{
+    let Ok(text) = report(alloc, sweep) else {
+        return Err(Fault::NoMemory);
+    };
+    match write_all(out, &text) {
+        Ok(()) => all_or_nothing(sweep),
+        Err(_) => Err(Fault::WriteFailed),
+    }
+}
+
+// Whether each cut of a sweep was all or nothing.
+fn all_or_nothing<'n>(sweep: &Sweep) -> Result<(), Fault<'n>>
+    ensures reported { IsReported sweep.now result (report_text sweep.now) }
+    ensures unwritten { is_unwritten result ≡ false }
+{
+    if is_all_or_nothing(&sweep.cuts) {
+        Ok(())
+    } else {
+        Err(Fault::NotAllOrNothing)
+    }
+}
+
+// Writes the verdicts over the commands of a script.
+fn tell_verdicts<'n, W: TextOut>(
+    alloc: Global,
+    sweeps: &[LineSweep],
+    out: &mut W,
+) -> Result<(), Fault<'n>>
+    ensures done { (text : List ℕ) × Appends (W.contents out.old) (W.contents out.new) text
+        × (AreReported sweeps.now result text ⊎ EndsUncut result text) }
+    ensures writes { W.failures out.new ≡ failures_after (W.failures out.old)
+        (is_unwritten result) }
+{
+    let Ok(verdicts) = verdicts(alloc, sweeps) else {
+        return Err(Fault::NoMemory);
+    };
+    match write_all(out, &verdicts) {
+        Ok(()) => each_all_or_nothing(sweeps),
+        Err(_) => Err(Fault::WriteFailed),
+    }
+}
+
+// Whether the cuts of each command were all or nothing.
+fn each_all_or_nothing<'n>(sweeps: &[LineSweep]) -> Result<(), Fault<'n>>
+    ensures reported { AreReported sweeps.now result (verdicts_text sweeps.now) }
+    ensures unwritten { is_unwritten result ≡ false }
+{
+    if !are_all_or_nothing(sweeps) {
+        return Err(Fault::NotAllOrNothing);
+    }
+    Ok(())
+}
+
+// What it means that a command was not cut.
+fn tear_fault<'n>(names: Names<'n>, cause: TearFault) -> Fault<'n>
+    ensures uncut { IsUncut result }
+    ensures told { IsTearFault names.entry.image.now cause result }
+{
+    match cause {
+        TearFault::NoMemory => Fault::NoMemory,
+        TearFault::Script(fault) | TearFault::Probe(fault) => tear_script_fault(names, fault),
+        TearFault::Down => Fault::Down,
+        TearFault::TooManyCuts => Fault::TooManyCuts,
+    }
+}
+
+// What it means that a script was not carried out in memory, where a text is read and written as long as there is memory.
+fn tear_script_fault<'n>(names: Names<'n>, fault: ScriptFault) -> Fault<'n>
+    ensures uncut { IsUncut result }
+    ensures told { IsFaultInMemory names.entry.image.now fault result }
+{
+    match fault {
+        ScriptFault::ReadFailed | ScriptFault::WriteFailed => Fault::NoMemory,
+        ScriptFault::BadLine(n) => Fault::BadCommand(n),
+        ScriptFault::TooLong => Fault::ScriptTooLong,
+        ScriptFault::PowerFault(cause) => power_up_fault(names.image, cause),
+    }
+}
+
+// The number of the line that is meant, if one is told.
+fn number_of(line: Option<&str>) -> Option<usize>
+    ensures { IsMeantBy (option_map (λ (text : Bor (List ℕ)). text.now) line.entry) result }
+{
+    match line {
+        Some(text) => Some(line_number(text)),
+        None => None,
+    }
+}
+
+// The number that a text tells; 0, which no line has, where it tells none.
+fn line_number(text: &str) -> usize
+    ensures { IsLineNumber text.now result }
+{
+    if text.starts_with('+') {
+        return 0;
+    }
+    match text.parse::<usize>() {
+        Ok(number) => number,
+        Err(_) => 0,
+    }
+}
+
+// The words of the image of this name, which is opened to read it alone.
+fn words_of<'n, D: Disk>(disk: &mut D, image: &'n str) -> Result<Vec<u16>, Fault<'n>>
+    ensures read { (deeds : List FileDeed) × D.does disk.old deeds disk.new × MatchResult result
+        (λ words. IsImageRead image.now words.items deeds) (λ fault. IsImageUnread image.now fault deeds) }
+    ensures short { IfOk result (λ words. length words.items < 65536) }
+    ensures unwritten { IfErr result (λ fault. is_unwritten (Err fault) ≡ false) }
+{
+    match disk.open_image_to_read(image) {
+        Ok(store) => {
+            let words = copied(disk.alloc(), &store);
+            disk.close_image(image, ClosedStore::new(store));
+            match words {
+                Ok(words) => Ok(words),
+                Err(AllocError) => Err(Fault::NoMemory),
+            }
+        }
+        Err(fault) => Err(fault),
+    }
+}
+
+// The lines of the probe of this name, if there is one.
+fn probe_of<'n, D: Disk>(disk: &mut D, probe: Option<&'n str>) -> Result<Option<Vec<u8>>, Fault<'n>>
+    ensures read { (deeds : List FileDeed) × D.does disk.old deeds disk.new × MatchResult result
+        (λ given. IsProbeRead (option_map (λ (name : Bor (List ℕ)). name.now) probe.entry)
+        (option_map (λ text. text.items) given) deeds)
+        (λ fault. IsProbeUnread (option_map (λ (name : Bor (List ℕ)). name.now) probe.entry)
+        fault deeds) }
+    ensures unwritten { IfErr result (λ fault. is_unwritten (Err fault) ≡ false) }
+{
+    match probe {
+        Some(name) => match script_of(disk, name) {
+            Ok(text) => Ok(Some(text)),
+            Err(fault) => Err(fault),
+        },
+        None => Ok(None),
+    }
+}
+
+// The lines of a probe, lent.
+fn lent(probe: &Option<Vec<u8>>) -> Option<&[u8]>
+    ensures { option_map (λ (text : Bor (List ℕ)). text.now) result
+        ≡ option_map (λ text. text.items) probe.now }
+{
+    match probe {
+        Some(text) => Some(text.as_slice()),
+        None => None,
+    }
+}

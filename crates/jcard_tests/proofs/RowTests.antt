@@ -1,0 +1,310 @@
+-- Files of rows that were read and answered, one after the other.
+use Rattle.std.proofs.Common.{Bool, true, false, ⊎_elim, Result, Ok, Err, ◌≡◌, ◌∙◌, ◌⊎◌, ℕ, zero, suc, ◌+◌, ◌<◌, ◌≤◌, List, [], ◌∷◌, ◌++◌, length, get_or, take, drop, map, min, Option, Some, None, IfSome, refl, ap, ap₂, sym, subst, inl, inr, append-nil, append_assoc, arith}
+use Rattle.std.specs.Prelude.{All, Any, IfOk, IfErr, IsSomeAnd, MatchResult, OnOk, option_map, slice_index_or}
+use Rattle.std.specs.declared.alloc.AllocError.{AllocError}
+use Rattle.jcard_outcomes.specs.Reports.{broken_told, first_broken}
+use Rattle.jcard_outcomes.specs.declared.recoveries.Depth.TheVariants.{Zero}
+use Rattle.jcard_outcomes.specs.declared.report.Sweep.{Sweep}
+use Rattle.jcard_tear.specs.ScriptLines.{Line as TornLine}
+use Rattle.jcard_tear.specs.Sweeps.{IsLineSwept}
+use Rattle.std.specs.Borrow.{Bor}
+use Rattle.std.proofs.lemmas.List.{drop_all, get_or_default, length-map, length-take, map-append, take_all, take_more}
+use Rattle.std.proofs.lemmas.List.Elements.{All-append}
+use Rattle.std.proofs.lemmas.Bool.{cases_lt}
+use Rattle.jcard_rows.proofs.Items.{drop_at}
+use Rattle.jcard_rows.proofs.Numbering.{get_or_texts}
+use Rattle.std.specs.String.{string_bytes}
+use Rattle.jcard_rows.specs.Cards.{AreCardsOf}
+use Rattle.jcard_rows.specs.Lines.{Says}
+use Rattle.jcard_rows.specs.Unrolled.{IsLineOf, IsUnrolled}
+use Rattle.jcard_rows.specs.declared.line.Line.{Line}
+use Rattle.jcard_rows.specs.declared.line.Line.TheVariants.{Include}
+use Rattle.jcard_rows.specs.Outcomes.{AllAnswered, IsFirstFailure}
+use Rattle.jcard_rows.specs.Rows.{script_text}
+use Rattle.jcard_rows.specs.declared.card_rows.CardRows.{CardRows}
+use Rattle.jcard_rows.specs.declared.numbered.Numbered.{Numbered}
+use Rattle.jcard_rows.specs.declared.outcome.Failure.{Failure}
+use Rattle.jcard_rows.specs.declared.outcome.Outcome.{Outcome}
+use Rattle.jcard_rows.specs.declared.outcome.Outcome.TheVariants.{Held, Failed}
+use Rattle.jcard_rows.specs.declared.outcome.Tested.{Tested}
+use Rattle.jcard_rows.specs.declared.row.Row.{Row}
+use Rattle.jc_platform.specs.declared.example.TheConstants.{EXAMPLE}
+use Rattle.jc_words.specs.Stores.{FuseStoreValue, MemStoreValue}
+use Rattle.jcard_script.specs.Script.{Ends}
+use Rattle.jcard_script.specs.declared.script.ScriptFault.{ScriptFault}
+use Rattle.jcard_faults.specs.Faults.{is_unwritten}
+use Rattle.jcard_files.specs.FileDeeds.{FileDeed, ReadsText, fresh_store}
+use Rattle.jcard_files.specs.Images.{IsNotRead}
+use Rattle.jcard_images.specs.NewImages.{IsNewImage, IsNewImageInMemory}
+use Rattle.jcard_files.specs.Readings.{IsUnread, IsScriptRead}
+use Rattle.jcard_tests.specs.Tests.{AreAnsweredOn, AreCut, AreCutWell, AreFileLines, EndsOn, IsCutWell, IsToldOf, IsToldOfLine, IsTornFailure, AreIncluded, AreTested, IsFilePlace, IsPlace, IsPrinted, IsReading, IsRowsText, IsTested, IsUnanswered, IsUntested, lacked_memory}
+use Rattle.jcard_faults.specs.declared.fault.Fault.{Fault}
+use Rattle.jcard_faults.specs.declared.fault.Fault.TheVariants.{BadTable, CannotRead, ImageTooSmall, NoMemory, WriteFailed}
+
+-- a text that is read up to one byte more than it may have
+pub whole_text : (known : Option (List ℕ)) (text : List ℕ) → IfSome known (λ bytes. text ≡ take 16777217 bytes) → length text ≤ 16777216
+    → IfSome known (λ bytes. text ≡ bytes)
+whole_text None text e h = tt
+whole_text (Some bytes) text e h =
+    let long : length text ≡ min 16777217 (length bytes) = ap length e ∙ length-take 16777217 bytes in
+    let short : length bytes ≤ 16777217 = omega arith in
+    e ∙ take_all 16777217 bytes short
+
+-- one line more of a file
+included_more : (name : List ℕ) (own lines : List Numbered) (deeds : List FileDeed) (line : Numbered) (here : List Numbered) (last : List FileDeed)
+    → AreIncluded name own lines deeds → IsPlace name line here last → AreIncluded name (own ++ line ∷ []) (lines ++ here) (deeds ++ last)
+unfolding AreIncluded
+included_more name [] lines deeds line here last a p = (
+  here,
+  [],
+  last,
+  [],
+  p,
+  (refl, refl),
+  ap (λ (ls : List Numbered). ls ++ here) a.0 ∙ sym (append-nil here),
+  ap (λ (ds : List FileDeed). ds ++ last) a.1 ∙ sym (append-nil last),
+)
+included_more name (x ∷ own) lines deeds line here last a p = (
+  a.0,
+  a.1 ++ here,
+  a.2,
+  a.3 ++ last,
+  a.4,
+  included_more name own a.1 a.3 line here last a.5 p,
+  ap (λ (ls : List Numbered). ls ++ here) a.6 ∙ append_assoc a.0 a.1 here,
+  ap (λ (ds : List FileDeed). ds ++ last) a.7 ∙ append_assoc a.2 a.3 last,
+)
+
+pub included_none : (name : List ℕ) → AreIncluded name [] [] []
+unfolding AreIncluded
+included_none name = (refl, refl)
+
+pub included_next : (name : List ℕ) (own : List Numbered) (i : ℕ) (line : Numbered) (lines next : List Numbered) (deeds : List FileDeed)
+    (here : List Numbered) (last : List FileDeed) → i < length own → line ≡ get_or own i line → AreIncluded name (take i own) lines deeds
+    → IsPlace name line here last → next ≡ lines ++ here → AreIncluded name (take (i + 1) own) next (deeds ++ last)
+included_next name own i line lines next deeds here last h e a p n =
+    let step : take (i + 1) own ≡ take i own ++ line ∷ [] = take_more own i line h ∙ ap (λ (x : Numbered). take i own ++ x ∷ []) (sym e) in
+    subst (λ (ls : List Numbered). AreIncluded name ls next (deeds ++ last)) (sym step)
+    (subst (λ (ls : List Numbered). AreIncluded name (take i own ++ line ∷ []) ls (deeds ++ last)) (sym n)
+    (included_more name (take i own) lines deeds line here last a p))
+
+-- one file more
+tested_more : (names : List (List ℕ)) (ts : List Tested) (deeds : List FileDeed) (name : List ℕ) (t : Tested) (last : List FileDeed)
+    → AreTested names ts deeds → IsTested name t last → AreTested (names ++ name ∷ []) (ts ++ t ∷ []) (deeds ++ last)
+unfolding AreTested
+tested_more [] [] deeds name t last a p = (last, [], p, refl, ap (λ (ds : List FileDeed). ds ++ last) a ∙ sym (append-nil last))
+tested_more [] (y ∷ ys) deeds name t last a p = absurd a
+tested_more (x ∷ xs) [] deeds name t last a p = absurd a
+tested_more (x ∷ xs) (y ∷ ys) deeds name t last a p = (
+  a.0,
+  a.1 ++ last,
+  a.2,
+  tested_more xs ys a.1 name t last a.3 p,
+  ap (λ (ds : List FileDeed). ds ++ last) a.4 ∙ append_assoc a.0 a.1 last,
+)
+
+pub tested_none : AreTested [] [] []
+unfolding AreTested
+tested_none = refl
+
+-- the names of files
+abbrev pub names_of : List (Bor (List ℕ)) → List (List ℕ)
+names_of files = map (λ (name : Bor (List ℕ)). name.now) files
+
+pub tested_next : (files : List (Bor (List ℕ))) (i : ℕ) (d : Bor (List ℕ)) (ts next : List Tested) (deeds : List FileDeed) (t : Tested)
+    (last : List FileDeed) → i < length files → AreTested (names_of (take i files)) ts deeds
+    → IsTested (get_or files i d).now t last → next ≡ ts ++ t ∷ [] → AreTested (names_of (take (i + 1) files)) next (deeds ++ last)
+tested_next files i d ts next deeds t last h a p n =
+    let step : names_of (take (i + 1) files) ≡ names_of (take i files) ++ (get_or files i d).now ∷ [] = ap names_of (take_more files i d h)
+    ∙ map-append (λ (name : Bor (List ℕ)). name.now) (take i files) (get_or files i d ∷ []) in
+    subst (λ (ns : List (List ℕ)). AreTested ns next (deeds ++ last)) (sym step)
+    (subst (λ (xs : List Tested). AreTested (names_of (take i files) ++ (get_or files i d).now ∷ []) xs (deeds ++ last)) (sym n)
+    (tested_more (names_of (take i files)) ts deeds (get_or files i d).now t last a p))
+
+-- deeds that read texts, and more of them
+pub reads_more : (first more : List FileDeed) → All IsReading first → All IsReading more → All IsReading (first ++ more)
+reads_more first more a b = All-append IsReading first more a b
+
+-- what holds of the name of one file
+pub any_at : (P : List ℕ → Type 0) (files : List (Bor (List ℕ))) (i : ℕ) (d : Bor (List ℕ)) → i < length files → P (get_or files i d).now
+    → Any P (names_of files)
+any_at P files i d h p =
+    let long : length (names_of files) ≡ length files = length-map files (λ (b : Bor (List ℕ)). b.now) in
+    let name : List ℕ = (get_or files i d).now in
+    let at : get_or (names_of files) i name ≡ name = get_or_default (names_of files) i name d.now (omega arith) ∙ get_or_texts files i d in
+    (i, name, omega arith, at, p)
+
+-- ---- cards
+
+-- no card is left
+pub answered_all : (cards : List CardRows) (i passed : ℕ) (outcome : Outcome) → length cards ≤ i → outcome ≡ Held passed
+    → AreAnsweredOn (drop i cards) passed outcome
+unfolding AreAnsweredOn
+answered_all cards i passed outcome h e = subst (λ (cs : List CardRows). AreAnsweredOn cs passed outcome) (sym (drop_all i cards h)) e
+
+-- the card at this place
+module _ (cards : List CardRows) (i : ℕ) (card : CardRows) (h : i < length cards) (e : card ≡ get_or cards i card) (passed : ℕ) (outcome : Outcome) where
+  -- all its rows hold
+  pub answered_next : EndsOn card passed None → AreAnsweredOn (drop (i + 1) cards) (min (passed + length card.rows.items) 18446744073709551615) outcome
+      → AreAnsweredOn (drop i cards) passed outcome
+  unfolding AreAnsweredOn
+  answered_next all more = subst (λ (cs : List CardRows). AreAnsweredOn cs passed outcome) (sym (drop_at cards i card h e)) (inl (all, more))
+
+  -- one does not
+  pub answered_not : (failure : Failure) → outcome ≡ Failed failure → EndsOn card passed (Some failure) → AreAnsweredOn (drop i cards) passed outcome
+  unfolding AreAnsweredOn
+  answered_not failure is first = subst (λ (cs : List CardRows). AreAnsweredOn cs passed outcome) (sym (drop_at cards i card h e)) (inr (failure, is, first))
+
+-- a card whose rows are all answered ends as its torn rows do
+pub ended_by : (card : CardRows) (passed : ℕ) (r : Result (Option Failure) Fault)
+    → (text : List ℕ) × IsPrinted card.words (script_text card.rows.items) text × AllAnswered card.rows.items text
+    → MatchResult r (λ failure. AreCut card.words card.rows.items passed failure) (λ f. IsUnanswered f)
+    → MatchResult r (λ failure. EndsOn card passed failure) (λ f. IsUnanswered f)
+ended_by card passed (Ok None) e p = (e.0, e.1, (e.2, p))
+ended_by card passed (Ok (Some f)) e p = (e.0, e.1, inr (e.2, p))
+ended_by card passed (Err fault) e p = p
+
+-- what is told of the cuts of a line
+told_by : (w : List ℕ) (l : TornLine) (sweep : Sweep) (found : Option (List ℕ)) (first : Option ℕ) → IsLineSwept w None Zero l sweep
+    → first_broken 0 sweep.cuts.items ≡ first → found ≡ option_map broken_told first → IsToldOfLine w l found
+told_by w l sweep found None swept e is = subst (IsToldOfLine w l) (sym is) (sweep, swept, e)
+told_by w l sweep found (Some k) swept e is = subst (IsToldOfLine w l) (sym is) (inl (sweep, swept, (k, e, refl)))
+
+pub told_all : {V : Type 0} (items : V → List ℕ) (w : List ℕ) (l : TornLine) (sweep : Sweep) (r : Result (Option V) AllocError) → IsLineSwept w None Zero l sweep
+    → IfOk r (λ found. option_map items found ≡ option_map broken_told (first_broken 0 sweep.cuts.items))
+    → IfOk r (λ found. IsToldOfLine w l (option_map items found))
+told_all items w l sweep (Ok found) swept is = told_by w l sweep (option_map items found) (first_broken 0 sweep.cuts.items) swept refl is
+told_all items w l sweep (Err e) swept is = tt
+
+-- the same words and the same line
+pub told_on : {V : Type 0} (items : V → List ℕ) (w x : List ℕ) (l m : TornLine) (r : Result (Option V) AllocError) → w ≡ x → l ≡ m
+    → IfOk r (λ found. IsToldOfLine w l (option_map items found)) → IfOk r (λ found. IsToldOfLine x m (option_map items found))
+told_on items w x l m r same line p = subst (λ (u : List ℕ). IfOk r (λ found. IsToldOfLine u m (option_map items found))) same
+    (subst (λ (k : TornLine). IfOk r (λ found. IsToldOfLine w k (option_map items found))) line p)
+
+-- the first row that was cut badly is the failure
+pub torn_first : (words : ℕ) (rows : List Row) (passed place : ℕ) (q : Row) (told : List ℕ) (r : Result (Option Failure) Fault)
+    → AreCutWell words rows place → place < length rows → q ≡ slice_index_or rows place q → IsToldOf words (take place rows) q (Some told)
+    → MatchResult r (λ failure. IsSomeAnd failure (λ f. IsTornFailure q (min (passed + place) 18446744073709551615) told f)) (λ f. IsUnanswered f)
+    → MatchResult r (λ failure. AreCut words rows passed failure) (λ f. IsUnanswered f)
+torn_first words rows passed place q told (Ok (Some f)) well below at is p = (place, q, told, well, below, at, is.0, is.1, p)
+torn_first words rows passed place q told (Ok None) well below at is p = absurd p
+torn_first words rows passed place q told (Err fault) well below at is p = p
+
+-- one more row was looked at: it is not torn, or was cut well
+pub cut_more : (words : ℕ) (rows : List Row) (n : ℕ) (r : Row) → r ≡ slice_index_or rows n r → n < length rows → AreCutWell words rows n
+    → (r.torn ≡ true → IsCutWell words (take n rows) r) → AreCutWell words rows (n + 1)
+cut_more words rows n r at here before this k q below is torn = ⊎_elim
+    (λ (less : k < n). before k q less is torn)
+    (λ (past : n ≤ k). let same : n ≡ k = omega arith in
+    let one : r ≡ q = at ∙ get_or_default rows n r q here ∙ ap (λ i. slice_index_or rows i q) same ∙ sym is in
+    subst (λ (i : ℕ). IsCutWell words (take i rows) q) same (subst (λ (x : Row). IsCutWell words (take n rows) x) one (this (ap (λ (x : Row). x.torn) one ∙ torn))))
+    (cases_lt k n)
+
+-- a new card in memory, of the table of the example
+pub new_card_of : (words : ℕ) (made : Result MemStoreValue Fault) → IsNewImageInMemory words EXAMPLE.now made
+    → MatchResult made (λ store. IsNewImage words EXAMPLE.now store.words × (store.passed ≡ 0)) (λ fault. IsUnanswered fault)
+new_card_of words (Ok store) new = new
+new_card_of words (Err NoMemory) new = tt
+new_card_of words (Err ImageTooSmall) new = tt
+new_card_of words (Err other) new = absurd new
+
+-- what a script printed on it
+pub printed_on : {V : Type 0} (items : V → List ℕ) (words : ℕ) (w script : List ℕ) (r : Result V Fault) → IsNewImage words EXAMPLE.now w
+    → MatchResult r (λ text. (read rest : List ℕ) × (carried : Result (Unit {0}) ScriptFault) × (at_end : Bool) × (after : FuseStoreValue)
+    × (script ≡ read ++ rest) × Ends carried (fresh_store w) after at_end read (items text) × (lacked_memory carried ≡ false)) (λ fault. IsUnanswered fault)
+    → MatchResult r (λ text. IsPrinted words script (items text)) (λ fault. IsUnanswered fault)
+printed_on items words w script (Ok text) new p = (w, p.0, p.1, p.2, p.3, p.4, new, p.5, p.6, p.7)
+printed_on items words w script (Err fault) new p = p
+
+-- ---- files that are read
+
+-- no text was read
+pub no_reading : All IsReading []
+no_reading = λ k d h. absurd (omega arith)
+
+-- one text was read
+single_reading : (name : List ℕ) (told : Result (Option (List ℕ)) Fault) (k : ℕ) (d : FileDeed) → k < 1 → IsReading (get_or (ReadsText name told ∷ []) k d)
+single_reading name told zero d h = tt
+single_reading name told (suc k) d h = absurd (omega arith)
+
+pub one_reading : (name : List ℕ) (told : Result (Option (List ℕ)) Fault) (deeds : List FileDeed) → deeds ≡ ReadsText name told ∷ [] → All IsReading deeds
+one_reading name told deeds e = subst (λ (ds : List FileDeed). All IsReading ds) (sym e) (single_reading name told)
+
+-- a file that cannot be read
+pub not_read : (name : List ℕ) (fault : Fault) → IsNotRead name fault → IsUntested name fault
+not_read name (CannotRead path) h = h
+not_read name NoMemory h = tt
+not_read name other h = absurd h
+
+pub unread_untested : (name : List ℕ) (fault : Fault) (deeds : List FileDeed) → IsUnread name fault deeds
+    → All IsReading deeds × IsUntested name fault
+unread_untested name fault deeds (inl u) = (one_reading name (Err fault) deeds u.1, subst (λ (f : Fault). IsUntested name f) (sym u.0.1) u.0.2)
+unread_untested name fault deeds (inr u) = (one_reading name (Ok u.1.0) deeds u.1.1, not_read name fault u.0)
+
+-- why cards did not answer is why a file was not tested
+pub unanswered_untested : (name : List ℕ) (fault : Fault) → IsUnanswered fault → IsUntested name fault
+unanswered_untested name NoMemory h = tt
+unanswered_untested name (BadTable line) h = h
+unanswered_untested name ImageTooSmall h = tt
+unanswered_untested name other h = absurd h
+
+-- no write failed then
+pub untested_unwritten : (name : List ℕ) (fault : Fault) → IsUntested name fault → is_unwritten (Err fault) ≡ false
+untested_unwritten name WriteFailed h = absurd h
+untested_unwritten name other h = refl
+
+-- ---- results of calls, from what their parts are
+
+pub text_read : {S : Type 0} (bytes_of : S → List ℕ) (r : Result S Fault) (name bytes : List ℕ) (deeds : List FileDeed) → IsScriptRead name bytes deeds
+    → IfOk r (λ t. (bytes_of t ≡ bytes) × (length bytes ≤ 16777216)) → IfErr r (λ f. IsUntested name f)
+    → MatchResult r (λ t. IsRowsText name (bytes_of t) deeds) (λ f. IsUntested name f)
+text_read bytes_of (Ok t) name bytes deeds read same refused = (
+  read.0,
+  subst (λ (x : List ℕ). IfSome read.0 (λ b. x ≡ b)) (sym same.0) (whole_text read.0 bytes read.1 same.1),
+  read.2,
+)
+text_read bytes_of (Err f) name bytes deeds read same refused = refused
+
+pub unrolled_lines : {V : Type 0} (items : V → List Numbered) (r : Result V Fault) (name text : List ℕ) (own : List Numbered) (deeds : List FileDeed)
+    → IsUnrolled text own → MatchResult r (λ ls. AreIncluded name own (items ls) deeds) (λ f. IsUntested name f)
+    → MatchResult r (λ ls. (o : List Numbered) × IsUnrolled text o × AreIncluded name o (items ls) deeds) (λ f. IsUntested name f)
+unrolled_lines items (Ok ls) name text own deeds u p = (own, u, p)
+unrolled_lines items (Err f) name text own deeds u p = p
+
+pub file_lines : {V : Type 0} (items : V → List Numbered) (r : Result V Fault) (name text shown : List ℕ) (first more : List FileDeed)
+    → IsRowsText name text first → shown ≡ text
+    → MatchResult r (λ ls. (o : List Numbered) × IsUnrolled shown o × AreIncluded name o (items ls) more) (λ f. IsUntested name f)
+    → MatchResult r (λ ls. AreFileLines name (items ls) (first ++ more)) (λ f. IsUntested name f)
+file_lines items (Ok ls) name text shown first more read e p = (text, p.0, first, more, read, subst (λ (t : List ℕ). IsUnrolled t p.0) e p.1, p.2, refl)
+file_lines items (Err f) name text shown first more read e p = p
+
+pub place_of_file : (r : Result (Unit {0}) Fault) (name : List ℕ) (line : Numbered) (file : Bor (List ℕ)) (deeds : List FileDeed) (old new : List Numbered)
+    → Says (string_bytes line.text) (Include file)
+    → MatchResult r (λ _. (here : List Numbered) × IsFilePlace name file.now line.number here deeds × (new ≡ old ++ here)) (λ f. IsUntested name f)
+    → MatchResult r (λ _. (here : List Numbered) × IsPlace name line here deeds × (new ≡ old ++ here)) (λ f. IsUntested name f)
+place_of_file (Ok done) name line file deeds old new says p = (p.0, (Include file, says, p.1), p.2)
+place_of_file (Err f) name line file deeds old new says p = p
+
+pub place_of_other : (name : List ℕ) (line : Numbered) (said : Line) (here : List Numbered) → ((file : Bor (List ℕ)) → said ≡ Include file → ⊥)
+    → Says (string_bytes line.text) said → (same : Numbered) → IsLineOf line.number (string_bytes line.text) same → here ≡ same ∷ []
+    → IsPlace name line here []
+place_of_other name line (Include file) here other says same is e = absurd (other file refl)
+place_of_other name line said here other says same is e = (said, says, (same, is, e, refl))
+
+pub file_tested : (r : Result Tested Fault) (name : List ℕ) (lines : List Numbered) (deeds : List FileDeed) → AreFileLines name lines deeds
+    → MatchResult r (λ file. (file.name.now ≡ name) × (cards : List CardRows) × AreCardsOf lines cards × AreAnsweredOn cards 0 file.outcome) (λ f. IsUnanswered f)
+    → MatchResult r (λ file. IsTested name file deeds) (λ f. IsUntested name f)
+file_tested (Ok file) name lines deeds read p = (p.0, lines, p.1, read, p.2, p.3)
+file_tested (Err f) name lines deeds read p = unanswered_untested name f p
+
+-- no write failed where a file was not tested
+pub any_unwritten : (names : List (List ℕ)) (fault : Fault) → Any (λ name. IsUntested name fault) names → is_unwritten (Err fault) ≡ false
+any_unwritten names fault any = untested_unwritten any.1 fault any.4
+
+-- a file was tested, and kept behind others
+pub file_pushed : (r : Result (Unit {0}) Fault) (name : List ℕ) (old new : List Tested) (file : Tested) (deeds : List FileDeed) → IsTested name file deeds
+    → OnOk r (new ≡ old ++ file ∷ []) → IfErr r (λ f. f ≡ NoMemory)
+    → MatchResult r (λ _. (f : Tested) × IsTested name f deeds × (new ≡ old ++ f ∷ [])) (λ f. IsUntested name f)
+file_pushed (Ok done) name old new file deeds t e refused = (file, t, e)
+file_pushed (Err f) name old new file deeds t e refused = subst (λ (x : Fault). IsUntested name x) (sym refused) tt

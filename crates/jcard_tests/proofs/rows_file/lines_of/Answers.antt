@@ -1,0 +1,13 @@
+use Rattle.std.proofs.Common.{◌++◌}
+use Rattle.jcard_tests.proofs.RowTests.{file_lines, reads_more}
+use Rattle.jcard_tests.proofs.rows_file.lines_of.Goals as goal
+
+pub returns-in-Ok : goal.returns-in-Ok
+returns-in-Ok g c =
+    let read = c.in-Ok.ensures in
+    let more = c.unrolled.ensures in (
+      read.0 ++ more.0,
+      g.met.D.Disk.then _ _ _ read.0 more.0 read.1 more.1,
+      reads_more read.0 more.0 read.2 more.2,
+      file_lines (λ v. v.items) c.unrolled.result c.args.name.now _ _ read.0 more.0 read.3 c.as_str.ensures.value more.3,
+    )

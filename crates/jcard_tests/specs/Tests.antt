@@ -1,0 +1,228 @@
+-- `jcard test`: what is read, which cards are told it, and what is told of them.
+use Rattle.std.specs.Prelude.{ℕ, ◌≡◌, ◌≤◌, ◌<◌, ◌⊎◌, ◌+◌, Any, All, Bool, true, false, List, [], ◌∷◌, ◌++◌, codes, length, min, Option, Some, None, IfSome}
+use Rattle.std.specs.Prelude.{Result, Ok, Err, slice_index_or, take}
+use Rattle.std.specs.String.{string_bytes}
+use Rattle.std.specs.Borrow.{Bor}
+use Rattle.jc_platform.specs.declared.example.TheConstants.{EXAMPLE}
+use Rattle.jc_platform.specs.Table.{Reads}
+use Rattle.jc_platform.specs.declared.fault.TableFault.TheVariants.{BadTable as BadLine}
+use Rattle.jc_card.specs.declared.power_up.PowerFault.TheVariants as power
+use Rattle.jc_words.specs.Stores.{FuseStoreValue}
+use Rattle.jcard_script.specs.Script.{Ends}
+use Rattle.jcard_script.specs.Texts.{IsCutOf}
+use Rattle.jcard_script.specs.declared.script.ScriptFault.{ScriptFault}
+use Rattle.jcard_script.specs.declared.script.ScriptFault.TheVariants.{PowerFault as NotPoweredUp, WriteFailed as NotWritten}
+use Rattle.jcard_rows.specs.Cards.{AreCardsOf}
+use Rattle.jcard_rows.specs.Junit.{junit_text}
+use Rattle.jcard_rows.specs.Lines.{Says}
+use Rattle.jcard_rows.specs.Outcomes.{AllAnswered, IsFirstFailure}
+use Rattle.jcard_rows.specs.Reports.{failed_of, report_text}
+use Rattle.jcard_outcomes.specs.Reports.{broken_told, first_broken}
+use Rattle.jcard_outcomes.specs.declared.recoveries.Depth.TheVariants.{Zero}
+use Rattle.jcard_outcomes.specs.declared.report.Sweep.{Sweep}
+use Rattle.jcard_tear.specs.ScriptLines.{Line}
+use Rattle.jcard_tear.specs.Sweeps.{IsLineSwept}
+use Rattle.jcard_rows.specs.Rows.{line_text, script_text}
+use Rattle.jcard_rows.specs.Unrolled.{AreLinesOf, IsBeside, IsLineOf, IsUnrolled}
+use Rattle.jcard_rows.specs.declared.card_rows.CardRows.{CardRows}
+use Rattle.jcard_rows.specs.declared.line.Line.{Line as RowLine}
+use Rattle.jcard_rows.specs.declared.line.Line.TheVariants.{Include}
+use Rattle.jcard_rows.specs.declared.numbered.Numbered.{Numbered}
+use Rattle.jcard_rows.specs.declared.outcome.Failure.{Failure}
+use Rattle.jcard_rows.specs.declared.outcome.Outcome.{Outcome}
+use Rattle.jcard_rows.specs.declared.outcome.Outcome.TheVariants.{Held, Failed}
+use Rattle.jcard_rows.specs.declared.outcome.Tested.{Tested}
+use Rattle.jcard_rows.specs.declared.row.Row.{Row}
+use Rattle.jcard_files.specs.FileDeeds.{FileDeed, ReadsText, WritesText, fresh_store}
+use Rattle.jcard_files.specs.Images.{IsUnwritten}
+use Rattle.jcard_images.specs.NewImages.{IsNewImage}
+use Rattle.jcard_faults.specs.declared.fault.Fault.{Fault}
+use Rattle.jcard_faults.specs.declared.fault.Fault.TheVariants.{BadTable, CannotInclude, CannotRead, ImageTooSmall, NoMemory, RowsFailed, ScriptTooLong}
+use Rattle.jcard_faults.specs.declared.fault.Fault.TheVariants.{WriteFailed}
+
+-- ---- files
+
+-- the whole text was read from the file of this name
+abbrev pub IsRowsText : List ℕ → List ℕ → List FileDeed → Type 0
+IsRowsText name text deeds = (known : Option (List ℕ)) × IfSome known (λ bytes. text ≡ bytes) × (deeds ≡ ReadsText name (Ok known) ∷ [])
+
+-- the lines of a file that a line of this number includes: it is looked for beside the file of this name
+abbrev pub IsFilePlace : List ℕ → List ℕ → ℕ → List Numbered → List FileDeed → Type 0
+IsFilePlace name file number here deeds = (path text : List ℕ) × IsBeside name file path × IsRowsText path text deeds × AreLinesOf number text here
+
+-- in the place of a line that includes a file stand the lines of that; any other stays as it is
+abbrev pub IsPlaceOf : List ℕ → Numbered → RowLine → List Numbered → List FileDeed → Type 0
+IsPlaceOf name line (Include file) here deeds = IsFilePlace name file.now line.number here deeds
+IsPlaceOf name line other here deeds = (same : Numbered) × IsLineOf line.number (string_bytes line.text) same × (here ≡ same ∷ []) × (deeds ≡ [])
+
+abbrev pub IsPlace : List ℕ → Numbered → List Numbered → List FileDeed → Type 0
+IsPlace name line here deeds = (said : RowLine) × Says (string_bytes line.text) said × IsPlaceOf name line said here deeds
+
+-- so it is with each of these lines of that file
+unfoldable pub AreIncluded : List ℕ → List Numbered → List Numbered → List FileDeed → Type 0
+AreIncluded name [] lines deeds = (lines ≡ []) × (deeds ≡ [])
+AreIncluded name (line ∷ own) lines deeds = (here rest : List Numbered) × (first more : List FileDeed) × IsPlace name line here first
+    × AreIncluded name own rest more × (lines ≡ here ++ rest) × (deeds ≡ first ++ more)
+
+-- these are the lines of the file of this name, with those of the files that it includes
+abbrev pub AreFileLines : List ℕ → List Numbered → List FileDeed → Type 0
+AreFileLines name lines deeds = (text : List ℕ) × (own : List Numbered) × (first more : List FileDeed) × IsRowsText name text first
+    × IsUnrolled text own × AreIncluded name own lines more × (deeds ≡ first ++ more)
+
+-- ---- cards
+
+-- a script came to this end for want of memory: for its answers, or to power a card up
+abbrev pub lacked_memory : Result Unit ScriptFault → Bool
+lacked_memory (Err NotWritten) = true
+lacked_memory (Err (NotPoweredUp power.NoMemory)) = true
+lacked_memory other = false
+
+-- on a new card of so many words, with the table of the example, a script was carried out, up to its end or to a line that ended it,
+-- and printed this text
+abbrev pub IsPrinted : ℕ → List ℕ → List ℕ → Type 0
+IsPrinted words script text = (w read rest : List ℕ) × (carried : Result Unit ScriptFault) × (at_end : Bool) × (after : FuseStoreValue)
+    × IsNewImage words EXAMPLE.now w × (script ≡ read ++ rest) × Ends carried (fresh_store w) after at_end read text × (lacked_memory carried ≡ false)
+
+-- ---- rows that are torn
+
+-- a cut of a sweep left neither what was before nor what comes after, and that is told
+abbrev pub IsBrokenTold : Sweep → List ℕ → Type 0
+IsBrokenTold sweep told = (k : ℕ) × (first_broken 0 sweep.cuts.items ≡ Some k) × (told ≡ broken_told k)
+
+-- what is told of a line that is cut after each number of its writes, over these words, with the last SELECT before it as the probe: nothing
+-- where each cut left what was before or what comes after; else the first that did not, or that it could not be cut
+abbrev pub IsToldOfLine : List ℕ → Line → Option (List ℕ) → Type 0
+IsToldOfLine w l None = (sweep : Sweep) × IsLineSwept w None Zero l sweep × (first_broken 0 sweep.cuts.items ≡ None)
+IsToldOfLine w l (Some told) = ((sweep : Sweep) × IsLineSwept w None Zero l sweep × IsBrokenTold sweep told) ⊎ (told ≡ codes "not cut")
+
+-- the same of the row behind these
+abbrev pub IsToldOfCuts : List ℕ → List Row → Row → Option (List ℕ) → Type 0
+IsToldOfCuts w before r told = IsToldOfLine w (record { number = r.number; before = script_text before; text = line_text r }) told
+
+-- over a new card of so many words each cut of the row behind these left what was before or what comes after
+abbrev pub IsCutWell : ℕ → List Row → Row → Type 0
+IsCutWell words before r = (w : List ℕ) × IsNewImage words EXAMPLE.now w × IsToldOfCuts w before r None
+
+-- one did not, and that is told; or it could not be cut
+abbrev pub IsCutBadly : ℕ → List Row → Row → List ℕ → Type 0
+IsCutBadly words before r told = (w : List ℕ) × IsNewImage words EXAMPLE.now w × IsToldOfCuts w before r (Some told)
+
+-- a row that is not torn is not cut; of one that is, this is told of its cuts
+abbrev pub IsToldOf : ℕ → List Row → Row → Option (List ℕ) → Type 0
+IsToldOf words before r None = r.torn ≡ true → IsCutWell words before r
+IsToldOf words before r (Some told) = (r.torn ≡ true) × IsCutBadly words before r told
+
+-- of these rows the torn ones among the first so many were cut well
+abbrev pub AreCutWell : ℕ → List Row → ℕ → Type 0
+AreCutWell words rows n = (k : ℕ) (r : Row) → k < n → r ≡ slice_index_or rows k r → r.torn ≡ true → IsCutWell words (take k rows) r
+
+-- a row was cut badly, behind so many that hold, and this was told
+pub record IsTornFailure (r : Row) (passed : ℕ) (told : List ℕ) (f : Failure) : Type 0 where
+  pub behind : f.passed ≡ passed
+  pub number : f.number ≡ r.number
+  pub command : string_bytes f.command ≡ string_bytes r.command
+  pub wanted : string_bytes f.wanted ≡ codes "all or nothing"
+  pub told_so : f.told.items ≡ told
+
+-- this failure is of the first of these rows that is torn and was cut badly, behind so many more that hold; as far as 64 bits count
+abbrev pub IsFirstTorn : ℕ → List Row → ℕ → Failure → Type 0
+IsFirstTorn words rows passed f = (k : ℕ) × (r : Row) × (told : List ℕ) × AreCutWell words rows k × (k < length rows) × (r ≡ slice_index_or rows k r)
+    × (r.torn ≡ true) × IsCutBadly words (take k rows) r told × IsTornFailure r (min (passed + k) 18446744073709551615) told f
+
+-- the torn rows were cut well, or this failure is of the first that was not
+abbrev pub AreCut : ℕ → List Row → ℕ → Option Failure → Type 0
+AreCut words rows passed None = AreCutWell words rows (length rows)
+AreCut words rows passed (Some f) = IsFirstTorn words rows passed f
+
+-- what came of the rows of a card that printed this text: all are answered as they say, and those that are torn were cut well; or this is
+-- the first that is not answered so, or else the first that was cut badly
+abbrev pub IsCardEnd : CardRows → List ℕ → ℕ → Option Failure → Type 0
+IsCardEnd card text passed None = AllAnswered card.rows.items text × AreCutWell card.words card.rows.items (length card.rows.items)
+IsCardEnd card text passed (Some f) = IsFirstFailure card.rows.items text passed f
+    ⊎ (AllAnswered card.rows.items text × IsFirstTorn card.words card.rows.items passed f)
+
+-- so it came of the rows of a new card
+abbrev pub EndsOn : CardRows → ℕ → Option Failure → Type 0
+EndsOn card passed failure = (text : List ℕ) × IsPrinted card.words (script_text card.rows.items) text × IsCardEnd card text passed failure
+
+-- what came of the rows of these cards, behind so many rows that hold, counted up to 2^64 - 1: those of each hold, or not
+unfoldable pub AreAnsweredOn : List CardRows → ℕ → Outcome → Type 0
+AreAnsweredOn [] passed outcome = outcome ≡ Held passed
+AreAnsweredOn (card ∷ cards) passed outcome =
+    (EndsOn card passed None × AreAnsweredOn cards (min (passed + length card.rows.items) 18446744073709551615) outcome)
+    ⊎ ((failure : Failure) × (outcome ≡ Failed failure) × EndsOn card passed (Some failure))
+
+-- ---- the command
+
+-- the rows of the file of this name were answered so
+abbrev pub IsTested : List ℕ → Tested → List FileDeed → Type 0
+IsTested name t deeds = (t.name.now ≡ name) × (lines : List Numbered) × (cards : List CardRows) × AreFileLines name lines deeds
+    × AreCardsOf lines cards × AreAnsweredOn cards 0 t.outcome
+
+-- those of the files of these names, one after the other
+unfoldable pub AreTested : List (List ℕ) → List Tested → List FileDeed → Type 0
+AreTested [] [] deeds = deeds ≡ []
+AreTested (name ∷ names) (t ∷ ts) deeds = (first more : List FileDeed) × IsTested name t first × AreTested names ts more × (deeds ≡ first ++ more)
+AreTested names ts deeds = ⊥
+
+-- why the rows of cards were not answered: memory was refused, or the example is no platform table or does not fit
+abbrev pub IsUnanswered : Fault → Type 0
+IsUnanswered NoMemory = Unit {0}
+IsUnanswered (BadTable line) = Reads EXAMPLE.now (Err (BadLine line))
+IsUnanswered ImageTooSmall = Unit {0}
+IsUnanswered other = ⊥
+
+-- why those of the file of this name were not
+abbrev pub IsUntested : List ℕ → Fault → Type 0
+IsUntested name ScriptTooLong = Unit {0}
+IsUntested name (CannotRead path) = path.now ≡ name
+IsUntested name (CannotInclude path number) = path.now ≡ name
+IsUntested name fault = IsUnanswered fault
+
+-- why the bytes of the file of this name are no text of rows: they are more than a script may have; or they are not, and are no text
+abbrev pub IsNoText : List ℕ → List ℕ → Fault → Type 0
+IsNoText name bytes ScriptTooLong = 16777216 < length bytes
+IsNoText name bytes (CannotRead path) = (path.now ≡ name) × (length bytes ≤ 16777216)
+IsNoText name bytes other = ⊥
+
+-- what is told where the file that the line of this number includes in the file of this name was not read: want of memory as such
+abbrev pub IsIncludeFault : List ℕ → ℕ → Fault → Fault → Type 0
+IsIncludeFault name number NoMemory told = told ≡ NoMemory
+IsIncludeFault name number fault told = (path : Bor (List ℕ)) × (told ≡ CannotInclude path number) × (path.now ≡ name)
+
+-- a text was read
+abbrev pub IsReading : FileDeed → Type 0
+IsReading (ReadsText name told) = Unit {0}
+IsReading other = ⊥
+
+-- the command ends as rows that failed demand: with the status for them exactly where one did
+abbrev pub IsVerdict : List Tested → Result Unit Fault → Type 0
+IsVerdict ts (Ok done) = failed_of ts ≡ 0
+IsVerdict ts (Err RowsFailed) = 0 < failed_of ts
+IsVerdict ts (Err other) = ⊥
+
+-- the report for build servers was written to the file of this name; or memory was refused for it, and no file was asked for; or it
+-- could not be written
+abbrev pub IsJunit : List ℕ → List Tested → Result Unit Fault → List FileDeed → Type 0
+IsJunit name ts (Ok done) deeds = deeds ≡ WritesText name (junit_text ts) (Ok tt) ∷ []
+IsJunit name ts (Err fault) deeds = ((fault ≡ NoMemory) × (deeds ≡ []))
+    ⊎ (IsUnwritten name fault × (deeds ≡ WritesText name (junit_text ts) (Err fault) ∷ []))
+
+-- so it was, if a file was named for it
+abbrev pub IsKept : Option (List ℕ) → List Tested → Result Unit Fault → List FileDeed → Type 0
+IsKept None ts ended deeds = IsVerdict ts ended × (deeds ≡ [])
+IsKept (Some name) ts ended deeds = (IsVerdict ts ended × IsJunit name ts (Ok tt) deeds)
+    ⊎ ((fault : Fault) × (ended ≡ Err fault) × IsJunit name ts (Err fault) deeds)
+
+-- the report over these files was not written, for memory or since a write failed within it; or it was, and then that for build servers
+abbrev pub IsTold : List Tested → Option (List ℕ) → Result Unit Fault → List ℕ → List FileDeed → Type 0
+IsTold ts junit ended text deeds = ((ended ≡ Err NoMemory) × (text ≡ []) × (deeds ≡ []))
+    ⊎ ((ended ≡ Err WriteFailed) × IsCutOf (report_text ts) text × (deeds ≡ []))
+    ⊎ ((text ≡ report_text ts) × IsKept junit ts ended deeds)
+
+-- the rows of the files of these names were answered, and that was told; or those of one were not, and nothing was written. Until then
+-- texts were read, and no file was asked for in another way
+abbrev pub IsTest : List (List ℕ) → Option (List ℕ) → Result Unit Fault → List ℕ → List FileDeed → Type 0
+IsTest names junit ended text deeds = (reads more : List FileDeed) × (deeds ≡ reads ++ more) × All IsReading reads
+    × (((fault : Fault) × (ended ≡ Err fault) × Any (λ name. IsUntested name fault) names × (text ≡ []) × (more ≡ []))
+    ⊎ ((ts : List Tested) × AreTested names ts reads × IsTold ts junit ended text more))

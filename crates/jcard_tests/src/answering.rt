@@ -1,0 +1,257 @@
+//! Rows that are answered by new cards in memory.
+ghost use Rattle.std.specs.Prelude.{◌≡◌, ◌≤◌, ◌<◌, ◌++◌, length, ℕ, List, Bool, Result, MatchResult, IfOk, IsSomeAnd, option_map, false};
+ghost use Rattle.jc_words.specs.Stores.{FuseStoreValue};
+ghost use Rattle.jcard_script.specs.Script.{Ends};
+ghost use Rattle.jcard_script.specs.declared.script.ScriptFault.{ScriptFault};
+ghost use Rattle.jcard_rows.specs.Outcomes.{IsCompared};
+ghost use Rattle.jcard_rows.specs.Rows.{script_text};
+ghost use Rattle.jcard_tear.specs.ScriptLines.{line_of};
+ghost use Rattle.jcard_files.specs.FileDeeds.{fresh_store};
+ghost use Rattle.jcard_images.specs.NewImages.{IsNewImage};
+ghost use Rattle.jcard_tests.specs.Tests.{AreAnsweredOn, AreCut, EndsOn, IsPrinted, IsToldOf, IsToldOfCuts, IsToldOfLine, IsTornFailure, IsUnanswered, lacked_memory};
+
+use jc_platform::example::EXAMPLE;
+use jc_platform::fault::TableFault;
+use jc_platform::read::read_table;
+use jc_words::{FuseStore, MemStore, WordStore};
+use jcard_faults::fault::Fault;
+use jcard_images::memory_image::new_image;
+use jcard_outcomes::recoveries::Depth;
+use jcard_outcomes::verdict::broken;
+use jcard_rows::card_rows::CardRows;
+use jcard_rows::failing::first_failure;
+use jcard_rows::outcome::{Failure, Outcome};
+use jcard_rows::row::{Row, line, script};
+use jcard_script::card::power_up::PowerFault;
+use jcard_script::mem_text::MemText;
+use jcard_script::script::{ScriptFault, run_script};
+use jcard_tear::each::tear_line;
+use jcard_tear::kept_text::KeptText;
+use jcard_tear::script_lines::ScriptLine;
+use jcard_tear::tearing::TearFault;
+use std::alloc::{AllocError, Global};
+
+/// What comes of the rows of these cards, each of which is new, has the platform table of the example, and is told its rows: the first
+/// row that is not answered as it says, or, where all are, the first that is torn and whose cuts are not all or nothing; or how many
+/// hold.
+pub(crate) fn outcome_of<'n>(alloc: Global, cards: &[CardRows]) -> Result<Outcome, Fault<'n>>
+    ensures { MatchResult result (λ outcome. AreAnsweredOn cards.now 0 outcome)
+        (λ fault. IsUnanswered fault) }
+{
+    let mut passed = 0usize;
+    for card in cards {
+        match first_failure_on(alloc, card, passed) {
+            Ok(Some(failure)) => return Ok(Outcome::Failed(failure)),
+            Ok(None) => passed = passed.saturating_add(card.rows.as_slice().len()),
+            Err(fault) => return Err(fault),
+        }
+    }
+    Ok(Outcome::Held(passed))
+}
+
+// The first row of a card that does not hold, behind so many that do.
+fn first_failure_on<'n>(
+    alloc: Global,
+    card: &CardRows,
+    passed: usize,
+) -> Result<Option<Failure>, Fault<'n>>
+    ensures { MatchResult result (λ failure. EndsOn card.now passed failure) (λ fault. IsUnanswered fault) }
+{
+    match failure_on(alloc, card, passed) {
+        Ok(Some(failure)) => Ok(Some(failure)),
+        Ok(None) => torn_failure_on(alloc, card.words, &card.rows, passed),
+        Err(fault) => Err(fault),
+    }
+}
+
+// The first row of a card that is not answered as it says, behind so many that hold.
+fn failure_on<'n>(
+    alloc: Global,
+    card: &CardRows,
+    passed: usize,
+) -> Result<Option<Failure>, Fault<'n>>
+    ensures { MatchResult result (λ failure. (text : List ℕ)
+        × IsPrinted card.now.words (script_text card.now.rows.items) text
+        × IsCompared card.now.rows.items text passed failure) (λ fault. IsUnanswered fault) }
+{
+    let Ok(script) = script(alloc, &card.rows) else {
+        return Err(Fault::NoMemory);
+    };
+    match answers(alloc, card.words, &script) {
+        Ok(text) => match first_failure(alloc, &card.rows, &text, passed) {
+            Ok(failure) => Ok(failure),
+            Err(AllocError) => Err(Fault::NoMemory),
+        },
+        Err(fault) => Err(fault),
+    }
+}
+
+// What a script prints on a new card of so many words.
+fn answers<'n>(alloc: Global, words: u16, script: &[u8]) -> Result<Vec<u8>, Fault<'n>>
+    requires { 4096 ≤ words }
+    ensures { MatchResult result (λ text. IsPrinted words script.now text.items)
+        (λ fault. IsUnanswered fault) }
+{
+    match new_card(alloc, words) {
+        Ok(store) => printed(alloc, store, script),
+        Err(fault) => Err(fault),
+    }
+}
+
+// The store of a new card of so many words.
+fn new_card<'n>(alloc: Global, words: u16) -> Result<MemStore, Fault<'n>>
+    requires { 4096 ≤ words }
+    ensures { MatchResult result (λ store. IsNewImage words EXAMPLE.now store.words
+        × (store.passed ≡ 0)) (λ fault. IsUnanswered fault) }
+{
+    match read_table(EXAMPLE.as_bytes()) {
+        Ok(_) => new_image(alloc, words, EXAMPLE.as_bytes()),
+        Err(TableFault::BadTable(line)) => Err(Fault::BadTable(line)),
+    }
+}
+
+// What a script prints on the card of this store, up to its end or to a line that is not carried out.
+fn printed<'n>(alloc: Global, store: MemStore, script: &[u8]) -> Result<Vec<u8>, Fault<'n>>
+    requires { store.passed ≡ 0 }
+    ensures { MatchResult result (λ text. (read rest : List ℕ) × (carried : Result Unit ScriptFault)
+        × (at_end : Bool) × (after : FuseStoreValue) × (script.now ≡ read ++ rest)
+        × Ends carried (fresh_store store.words) after at_end read text.items
+        × (lacked_memory carried ≡ false))
+        (λ fault. IsUnanswered fault) }
+{
+    let Ok(mut reader) = MemText::new(alloc, script, 0) else {
+        return Err(Fault::NoMemory);
+    };
+    let mut writer = KeptText::new(alloc);
+    let (_store, ended) = run_script(alloc, FuseStore::new(store), &mut reader, &mut writer);
+    if lacked_memory(ended) {
+        return Err(Fault::NoMemory);
+    }
+    Ok(writer.into_bytes())
+}
+
+// Whether a script came to this end for want of memory.
+fn lacked_memory(ended: Result<(), ScriptFault>) -> bool
+    ensures { result ≡ lacked_memory ended }
+{
+    match ended {
+        Err(ScriptFault::WriteFailed) => true,
+        Err(ScriptFault::PowerFault(PowerFault::NoMemory)) => true,
+        _ => false,
+    }
+}
+
+// The first of these rows, on a card of so many words, that is torn and whose cuts are not all or nothing, behind so many rows that hold.
+fn torn_failure_on<'n>(
+    alloc: Global,
+    words: u16,
+    rows: &[Row],
+    passed: usize,
+) -> Result<Option<Failure>, Fault<'n>>
+    requires { 4096 ≤ words }
+    ensures { MatchResult result (λ failure. AreCut words rows.now passed failure)
+        (λ fault. IsUnanswered fault) }
+{
+    for (place, row) in rows.iter().enumerate() {
+        match told_of_cuts(alloc, words, &rows[..place], row) {
+            Ok(Some(told)) => return failure_of(alloc, row, passed.saturating_add(place), told),
+            Ok(None) => (),
+            Err(fault) => return Err(fault),
+        }
+    }
+    Ok(None)
+}
+
+fn failure_of<'n>(
+    alloc: Global,
+    row: &Row,
+    passed: usize,
+    told: Vec<u8>,
+) -> Result<Option<Failure>, Fault<'n>>
+    ensures { MatchResult result (λ failure. IsSomeAnd failure (λ f. IsTornFailure row.now passed told.items f))
+        (λ fault. IsUnanswered fault) }
+{
+    match torn_failure(alloc, row, passed, told) {
+        Ok(failure) => Ok(Some(failure)),
+        Err(AllocError) => Err(Fault::NoMemory),
+    }
+}
+
+// The failure of a torn row behind so many that hold, of whose cuts this is told.
+fn torn_failure(
+    alloc: Global,
+    row: &Row,
+    passed: usize,
+    told: Vec<u8>,
+) -> Result<Failure, AllocError>
+    ensures { IfOk result (λ failure. IsTornFailure row.now passed told.items failure) }
+{
+    Ok(Failure {
+        passed,
+        number: row.number,
+        command: String::from_str(alloc, row.command.as_str())?,
+        wanted: String::from_str(alloc, "all or nothing")?,
+        told,
+    })
+}
+
+// What is told of the cuts of the row behind these, if it is torn and they are not all or nothing.
+fn told_of_cuts<'n>(
+    alloc: Global,
+    words: u16,
+    before: &[Row],
+    row: &Row,
+) -> Result<Option<Vec<u8>>, Fault<'n>>
+    requires { 4096 ≤ words }
+    ensures { MatchResult result (λ found. IsToldOf words before.now row.now
+        (option_map (λ told. told.items) found)) (λ fault. IsUnanswered fault) }
+{
+    if !row.torn {
+        return Ok(None);
+    }
+    match new_card(alloc, words) {
+        Ok(store) => match told_of_cuts_on(alloc, &store, before, row) {
+            Ok(found) => Ok(found),
+            Err(AllocError) => Err(Fault::NoMemory),
+        },
+        Err(fault) => Err(fault),
+    }
+}
+
+// What is told of its cuts on cards of copies of this store.
+fn told_of_cuts_on(
+    alloc: Global,
+    store: &MemStore,
+    before: &[Row],
+    row: &Row,
+) -> Result<Option<Vec<u8>>, AllocError>
+    ensures { IfOk result (λ found. IsToldOfCuts store.now.words before.now row.now
+        (option_map (λ told. told.items) found)) }
+{
+    let _ = store.size(); // so that the proof knows that there are fewer than 65,536 words
+    let script = script(alloc, before)?;
+    let line = line(alloc, row)?;
+    let command = ScriptLine {
+        number: row.number,
+        before: &script,
+        line: &line,
+    };
+    told_of_line(alloc, store.words(), command)
+}
+
+// What is told of the cuts of a line over these words.
+fn told_of_line(
+    alloc: Global,
+    words: &[u16],
+    command: ScriptLine,
+) -> Result<Option<Vec<u8>>, AllocError>
+    requires { length words.now < 65536 }
+    ensures { IfOk result (λ found. IsToldOfLine words.now (line_of command.entry)
+        (option_map (λ told. told.items) found)) }
+{
+    match tear_line(alloc, words, command, None, Depth::Zero) {
+        Ok(sweep) => broken(alloc, &sweep.cuts),
+        Err(TearFault::NoMemory) => Err(AllocError),
+        Err(_) => Ok(Some(Vec::from_slice(alloc, b"not cut")?)),
+    }
+}

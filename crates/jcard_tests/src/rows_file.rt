@@ -1,0 +1,169 @@
+//! The lines of files of rows.
+ghost use Rattle.std.specs.Prelude.{◌≡◌, ◌<◌, ◌++◌, ◌∷◌, [], OnOk, ℕ, List, All, length, ◌≤◌, IfOk, IfErr, MatchResult};
+ghost use Rattle.std.specs.String.{string_bytes};
+ghost use Rattle.jcard_files.specs.FileDeeds.{FileDeed};
+ghost use Rattle.jcard_tests.specs.Tests.{AreFileLines, AreIncluded, IsFilePlace, IsIncludeFault, IsNoText, IsPlace, IsReading, IsRowsText, IsUntested};
+ghost use Rattle.jcard_rows.specs.Unrolled.{IsLineOf, IsUnrolled};
+ghost use Rattle.jcard_rows.specs.declared.numbered.Numbered.{Numbered};
+
+use jcard_faults::fault::Fault;
+use jcard_files::disk::Disk;
+use jcard_files::reading::script_of;
+use jcard_rows::line::{Line, read_line};
+use jcard_rows::lines::{add_lines, beside, unroll};
+use jcard_rows::numbered::Numbered;
+use jcard_script::script::BOUND;
+use std::alloc::{AllocError, Global};
+
+/// The lines of the file of this name, those of loops as often as they stand there, with the lines of each file that it includes in
+/// the place of the line that names it. Such a file stands in the same folder, and has rows and comments alone.
+pub(crate) fn lines_of<'n, D: Disk>(disk: &mut D, name: &'n str) -> Result<Vec<Numbered>, Fault<'n>>
+    ensures { (deeds : List FileDeed) × D.does disk.old deeds disk.new × All IsReading deeds
+        × MatchResult result (λ lines. AreFileLines name.now lines.items deeds)
+        (λ fault. IsUntested name.now fault) }
+{
+    match rows_text(disk, name) {
+        Ok(text) => unrolled(disk, name, text.as_str()),
+        Err(fault) => Err(fault),
+    }
+}
+
+// The lines of this text in the file of this name.
+fn unrolled<'n, D: Disk>(
+    disk: &mut D,
+    name: &'n str,
+    text: &str,
+) -> Result<Vec<Numbered>, Fault<'n>>
+    ensures { (deeds : List FileDeed) × D.does disk.old deeds disk.new × All IsReading deeds
+        × MatchResult result (λ lines. (own : List Numbered) × IsUnrolled text.now own
+        × AreIncluded name.now own lines.items deeds) (λ fault. IsUntested name.now fault) }
+{
+    match unroll(disk.alloc(), text) {
+        Ok(lines) => with_included(disk, name, &lines),
+        Err(AllocError) => Err(Fault::NoMemory),
+    }
+}
+
+// These lines of the file of this name, with those of the files that it includes.
+fn with_included<'n, D: Disk>(
+    disk: &mut D,
+    name: &'n str,
+    own: &[Numbered],
+) -> Result<Vec<Numbered>, Fault<'n>>
+    ensures { (deeds : List FileDeed) × D.does disk.old deeds disk.new × All IsReading deeds
+        × MatchResult result (λ lines. AreIncluded name.now own.now lines.items deeds)
+        (λ fault. IsUntested name.now fault) }
+{
+    let mut lines = Vec::new(disk.alloc());
+    for line in own {
+        match add_line(disk, name, line, &mut lines) {
+            Ok(()) => (),
+            Err(fault) => return Err(fault),
+        }
+    }
+    Ok(lines)
+}
+
+// Adds a line of the file of this name; or, where it includes a file, the lines of that.
+fn add_line<'n, D: Disk>(
+    disk: &mut D,
+    name: &'n str,
+    line: &Numbered,
+    lines: &mut Vec<Numbered>,
+) -> Result<(), Fault<'n>>
+    ensures { (deeds : List FileDeed) × D.does disk.old deeds disk.new × All IsReading deeds
+        × MatchResult result (λ _. (here : List Numbered) × IsPlace name.now line.now here deeds
+        × (lines.new.items ≡ lines.old.items ++ here)) (λ fault. IsUntested name.now fault) }
+{
+    if let Line::Include(file) = read_line(line.text.as_str()) {
+        return add_file(disk, name, file, line.number, lines);
+    }
+    match add_copy(disk.alloc(), line, lines) {
+        Ok(()) => Ok(()),
+        Err(AllocError) => Err(Fault::NoMemory),
+    }
+}
+
+// Adds a line as it stands.
+fn add_copy(alloc: Global, line: &Numbered, lines: &mut Vec<Numbered>) -> Result<(), AllocError>
+    ensures { OnOk result ((same : Numbered)
+        × IsLineOf line.now.number (string_bytes line.now.text) same
+        × (lines.new.items ≡ lines.old.items ++ same ∷ [])) }
+{
+    lines.push(copy_of(alloc, line)?)?;
+    Ok(())
+}
+
+fn copy_of(alloc: Global, line: &Numbered) -> Result<Numbered, AllocError>
+    ensures { IfOk result (λ same. IsLineOf line.now.number (string_bytes line.now.text) same) }
+{
+    Ok(Numbered {
+        number: line.number,
+        text: String::from_str(alloc, line.text.as_str())?,
+    })
+}
+
+// Adds the lines of a file that the line of this number in the file of this name includes.
+fn add_file<'n, D: Disk>(
+    disk: &mut D,
+    name: &'n str,
+    file: &str,
+    number: usize,
+    lines: &mut Vec<Numbered>,
+) -> Result<(), Fault<'n>>
+    requires { 0 < number }
+    ensures { (deeds : List FileDeed) × D.does disk.old deeds disk.new × All IsReading deeds
+        × MatchResult result (λ _. (here : List Numbered)
+        × IsFilePlace name.now file.now number here deeds
+        × (lines.new.items ≡ lines.old.items ++ here)) (λ fault. IsUntested name.now fault) }
+{
+    let Ok(path) = beside(disk.alloc(), name, file) else {
+        return Err(Fault::NoMemory);
+    };
+    match rows_text(disk, path.as_str()) {
+        Ok(text) => match add_lines(disk.alloc(), text.as_str(), number, lines) {
+            Ok(()) => Ok(()),
+            Err(AllocError) => Err(Fault::NoMemory),
+        },
+        Err(fault) => Err(include_fault(name, number, fault)),
+    }
+}
+
+// What it means that a file is not read that the line of this number in the file of this name includes.
+fn include_fault<'n>(name: &'n str, number: usize, fault: Fault) -> Fault<'n>
+    ensures untested { IsUntested name.now result }
+    ensures told { IsIncludeFault name.now number fault.entry result }
+{
+    match fault {
+        Fault::NoMemory => Fault::NoMemory,
+        _ => Fault::CannotInclude(name, number),
+    }
+}
+
+// The text in the file of this name.
+fn rows_text<'n, D: Disk>(disk: &mut D, name: &'n str) -> Result<String, Fault<'n>>
+    ensures { (deeds : List FileDeed) × D.does disk.old deeds disk.new × All IsReading deeds
+        × MatchResult result (λ text. IsRowsText name.now (string_bytes text) deeds)
+        (λ fault. IsUntested name.now fault) }
+{
+    match script_of(disk, name) {
+        Ok(bytes) => text_of_bytes(name, bytes),
+        Err(fault) => Err(fault),
+    }
+}
+
+// These bytes of the file of this name as a text, which has no more than are read of a script.
+fn text_of_bytes(name: &str, bytes: Vec<u8>) -> Result<String, Fault<'_>>
+    ensures text { IfOk result (λ text. (string_bytes text ≡ bytes.items)
+        × (length bytes.items ≤ 16777216)) }
+    ensures refused { IfErr result (λ fault. IsUntested name.now fault) }
+    ensures told { IfErr result (λ fault. IsNoText name.now bytes.items fault) }
+{
+    if bytes.len() > BOUND {
+        return Err(Fault::ScriptTooLong);
+    }
+    match String::from_utf8(bytes) {
+        Ok(text) => Ok(text),
+        Err(_) => Err(Fault::CannotRead(name)),
+    }
+}
