@@ -8,6 +8,7 @@ from .class_file import ABSTRACT, CLASS, INTERFACE, read_class
 from .code import TooManyFields
 from .components import Components
 from .library import APPLET
+from .map_lines import map_text, told_method
 from .package import INSTALL, Package
 from .platform import read_table
 from .refusal import Refusal, class_name
@@ -24,16 +25,21 @@ class Converted:
     def __init__(self, request, files, packages, style=SHORT, minor=1):
         try:
             self.package = Package(request, files, packages, style)
-            self.contents = Components(self.package, minor).contents
+            components = Components(self.package, minor)
         except TooManyFields:
             self.package = Package(request, files, packages, replace(style, this_forms=False))
-            self.contents = Components(self.package, minor).contents
-        self.request = request
+            components = Components(self.package, minor)
+        self.request, self.contents, self.methods = request, components.contents, components.methods
         self.cap = cap_file(request.name, self.contents)
 
     def export(self):
         """The export file, or None where other packages can name nothing."""
         return export_file.Writer(self.package).content if self.package.exports else None
+
+
+    def map(self):
+        """Where the methods stand in the Method component, as tools/cap2script --map tells it."""
+        return map_text({offset: told_method(*method) for method, offset in self.methods.items()})
 
 
 def read_classes(folder):

@@ -1,9 +1,21 @@
-"""Export files: what other packages may name of a package, and by which numbers. Format 2.1 is written, and 2.1 to 2.3 read."""
+"""Export files: what other packages may name of a package, and by which numbers. Format 2.1 is written, and 2.1 to 2.3 read.
+
+What they are taken to be (u1, u2, u4 are numbers of so many bytes; an index is a place in the constants):
+
+  file: u4 magic, u1 minor, u1 major, u2 count and constants, u2 this_package; in 2.3 u1 count and u2 indices of packages; u1 count and classes
+  constant: u1 1, u2 length, text; or u1 3, u4 number; or u1 7, u2 name_index of a class;
+    or u1 13, u1 flags, u2 name_index, u1 minor, u1 major, u1 length, AID of a package
+  class: u1 token, u2 flags, u2 class_index, u2 count and u2 indices of the classes above, u1 count and u2 indices of interfaces,
+    u2 count and fields, u2 count and methods; in 2.3 u1 more
+  field: u1 token, u2 flags, u2 name_index, u2 descriptor_index, u2 count and attributes, each u2 name_index, u4 length and its bytes
+  method: u1 token, u2 flags, u2 name_index, u2 descriptor_index
+"""
 from .class_file import ABSTRACT, FINAL, INTERFACE, PUBLIC, STATIC, Bytes
 from .library import Classes, ClassInfo, PackageInfo
 from .refusal import Refusal, class_name
 
 MAGIC = 0x00FACADE
+FORMATS = (2, 1), (2, 2), (2, 3)
 UTF8, INTEGER, CLASS, PACKAGE = 1, 3, 7, 13
 IS_SHAREABLE = 0x0800
 ACCESS = 0x041F  # public, private, protected, static, final, abstract
@@ -105,9 +117,9 @@ class Reader:
         if source.unsigned(4) != MAGIC:
             raise ValueError("the magic number")
         minor, major = source.unsigned(1), source.unsigned(1)
-        if major != 2:
-            raise ValueError("the version")
-        self.has_packages = minor >= 3
+        if (major, minor) not in FORMATS:
+            raise Refusal(f"export files of format {major}.{minor} are not read, only 2.1 to 2.3")
+        self.has_packages = minor == 3
         self.constants = [self.constant() for _ in range(source.unsigned(2))]
         name, aid, version = self.constants[source.unsigned(2)]
         self.package = PackageInfo(self.constants[name], aid, version)
@@ -183,6 +195,8 @@ def read_exports(paths):
                 readers.append(Reader(file.read()))
         except OSError as error:
             raise Refusal(f"cannot read {path}: {error.strerror}") from None
+        except Refusal as refusal:
+            raise Refusal(f"{path}: {refusal}") from None
         except (IndexError, ValueError, TypeError, KeyError):
             raise Refusal(f"{path}: not an export file, or a damaged one") from None
     return readers

@@ -6,10 +6,12 @@ import glob
 import os
 import re
 
-from .library import FRAMEWORK, LANG, OBJECT, Classes, ClassInfo, PackageInfo
+from .library import FRAMEWORK, LANG, Classes, ClassInfo, PackageInfo
 from .refusal import Refusal
 
-STUBS = os.path.join(os.path.dirname(os.path.realpath(__file__)), "stubs")
+HERE = os.path.dirname(os.path.realpath(__file__))
+STUBS = os.path.join(HERE, "stubs")
+EXAMPLE = os.path.join(HERE, "../../examples/platform.table")  # has the names that each table has
 NAMES = {"A0000000620001": LANG, "A0000000620101": FRAMEWORK}
 # The classes of java.lang that stand above others than RuntimeException.
 ABOVE = {
@@ -106,20 +108,37 @@ class Table:
         return found[0]
 
 
-def read_table(path):
-    """The packages of a platform table."""
+def lines_of(path):
     try:
         with open(path, encoding="ascii") as file:
-            lines = file.read().splitlines()
+            return file.read().splitlines()
     except (OSError, UnicodeDecodeError) as error:
         raise Refusal(f"cannot read {path}: {getattr(error, 'strerror', 'it is no text')}") from None
+
+
+def names_of(lines):
+    """What the lines of a table name, without numbers and in any order."""
+    package = info = None
+    found = []
+    for kind, *words in (line.split() for line in lines):
+        if kind == "package":
+            package = words[0]
+        elif kind == "class":
+            info = words[1]
+        found.append((package,) if kind == "package" else (package, info, kind, words[1]))
+    return sorted(found)
+
+
+def read_table(path):
+    """The packages of a platform table."""
+    lines = lines_of(path)
     table = Table(path)
     for number, line in enumerate(lines, 1):
         try:
             table.line(line.split(" "))
         except (KeyError, ValueError, IndexError, AttributeError):
             raise Refusal(f"{path}: line {number} is no line of a platform table") from None
-    if [package.name for package in table.packages] != [LANG, FRAMEWORK] or OBJECT not in table.packages[0].classes:
-        raise Refusal(f"{path} is no platform table")
+    if names_of(lines) != names_of(lines_of(EXAMPLE)):
+        raise Refusal(f"{path} is no platform table: it lacks names, or has some twice")
     Classes(table.packages).set_ends()
     return table.packages

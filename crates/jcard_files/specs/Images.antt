@@ -13,7 +13,6 @@ use Rattle.jc_words.specs.declared.lock.Lock.{Lock}
 use Rattle.jc_words.specs.declared.lock.LockFault.{LockFault}
 use Rattle.jc_words.specs.declared.lock.LockFault.TheVariants as locking
 use Rattle.jc_words.specs.declared.opening.NotOpened.{NotOpened}
-use Rattle.jc_words.specs.declared.image.ImageFault.TheVariants.{BadSize}
 use Rattle.jc_words.specs.declared.word_file.StdFile.{StdFile}
 use Rattle.jcard_faults.specs.declared.fault.Damage.TheVariants.{Size}
 use Rattle.jcard_faults.specs.declared.fault.Fault.{Fault}

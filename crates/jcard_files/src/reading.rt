@@ -2,13 +2,13 @@
 ghost use Rattle.std.specs.Prelude.{ℕ, ◌≡◌, List, [], false, MatchResult, IfOk, IfErr, IfSome, OnOk, take};
 ghost use Rattle.jcard_files.specs.FileDeeds.{FileDeed};
 ghost use Rattle.jcard_files.specs.Images.{IsNotRead, IsUnopened};
-ghost use Rattle.jcard_files.specs.Readings.{IsRead, IsUnread, IsScriptRead};
+ghost use Rattle.jcard_files.specs.Readings.{IsRead, IsUnread, IsUnreadFault, IsScriptRead};
 ghost use Rattle.jcard_faults.specs.Faults.{is_unwritten};
 
 use crate::disk::Disk;
 use jcard_faults::fault::Fault;
 use std::alloc::Global;
-use std::io::Read;
+use std::io::{ErrorKind, Read};
 
 // One byte more than a table's text can have, so that a longer one is seen.
 const TABLE_LIMIT: u64 = 16_385;
@@ -79,6 +79,17 @@ fn read_script<'n, F: Read>(
     let mut text = Vec::new(alloc);
     match file.take(MOST_READ).read_to_end(&mut text) {
         Ok(_) => Ok(text),
-        Err(_) => Err(Fault::CannotRead(name)),
+        Err(cause) => Err(unread_fault(name, cause.kind())),
+    }
+}
+
+// What it means that reading the file of this name, for which memory is asked as it grows, ended by an error of this kind.
+fn unread_fault(name: &str, cause: ErrorKind) -> Fault<'_>
+    ensures told { IsUnreadFault name.now cause result }
+    ensures unread { IsNotRead name.now result }
+{
+    match cause {
+        ErrorKind::OutOfMemory => Fault::NoMemory,
+        _ => Fault::CannotRead(name),
     }
 }

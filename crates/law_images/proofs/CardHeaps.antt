@@ -64,7 +64,7 @@ module _ (n : ℕ) (t : Tokens) (p : Packages) (m : MemoryState) (o : IsOwnMemor
     registry = o.sound.registry_kept;
     loaded = ap length (sym o.sound.packages) ∙ o.sound.loaded;
     fits = subst (IsSoundUpTo m.heap.durable.counts.1 p m.heap.durable) last_is o.sound.durable;
-    environment = subst (AreEnvironmentObjects p m.heap.durable) last_is o.environment.durable;
+    environment = subst (AreEnvironmentObjects p m.heap.durable) o.beginning.fixed o.environment.durable;
     behind = let a = o.sound.behind in let b = last_is in omega (arith, a, b);
     own = λ r low there.
         let a = o.sound.behind in let b = last_is in let same = o.sound.whole.shape.items r (omega (arith, low, a, b)) in

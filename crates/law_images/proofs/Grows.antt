@@ -70,6 +70,7 @@ module _ (p : Packages) (q : PackageValue) (room : length p.loaded < 32) (stays 
           values = λ kept. holds_still r (class_there f.kind f.class f.length (and_parts (is_instance f.kind) _ kept).0 o.class) (o.values kept);
           cells = o.cells;
           small = o.small;
+          persistent = o.persistent;
         }
 
     registered_still : (a : ℕ) → IsRegistered p h a → IsRegistered more h a

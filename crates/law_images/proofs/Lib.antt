@@ -22,6 +22,7 @@ pub mod LoadRecords
 pub mod Fitting
 pub mod Apart
 pub mod LaidOut
+pub mod LivingLoads
 pub mod Memories
 pub mod Finding
 pub mod Beginnings

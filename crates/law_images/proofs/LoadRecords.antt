@@ -45,11 +45,11 @@ below h r end there = elim (cases_lt r h.top) [
   | inr above ↦ absurd (false≢true (sym (end r above) ∙ there))
 ]
 
-item_pushed : (h : HeapState) (words : List ℕ) → is_allocated h h.top ≡ false → heap_item_at (push_package h words) h.top ≡ APackage words
+pub item_pushed : (h : HeapState) (words : List ℕ) → is_allocated h h.top ≡ false → heap_item_at (push_package h words) h.top ≡ APackage words
 unfolding heap_item_at is_allocated push_package
 item_pushed h words free = at_or-push_same (APackage []) h.items h.top (APackage words) free
 
-item_beside : (h : HeapState) (words : List ℕ) (r : ℕ) → (h.top ≡ r → ⊥) → heap_item_at (push_package h words) r ≡ heap_item_at h r
+pub item_beside : (h : HeapState) (words : List ℕ) (r : ℕ) → (h.top ≡ r → ⊥) → heap_item_at (push_package h words) r ≡ heap_item_at h r
 unfolding heap_item_at push_package
 item_beside h words r other = at_or-push_other (APackage []) h.items h.top r (APackage words) other
 
@@ -140,6 +140,7 @@ module _ (h : HeapState) (cs : List (ℕ × List ℕ)) (xs : List (Kind × List 
     values = λ kept. let v : HoldsValues p h r = o.values kept in record { references = v.references; aid = v.aid; pin = λ ne. v.pin };
     cells = o.cells;
     small = o.small;
+    persistent = o.persistent;
   }
 
   there_viewed : (r : ℕ) → IsObject h r → IsObject viewed r
@@ -162,6 +163,7 @@ module _ (h : HeapState) (cs : List (ℕ × List ℕ)) (xs : List (Kind × List 
             let v : HoldsBut (suc r) p g r = b.values kept in record { references = v.references; aid = v.aid; pin = v.pin (λ e. omega (arith, e)) };
         cells = b.cells;
         small = b.small;
+        persistent = b.persistent;
       }
 
   -- an array
@@ -181,6 +183,7 @@ module _ (h : HeapState) (cs : List (ℕ × List ℕ)) (xs : List (Kind × List 
         values = λ kept. absurd (false≢true (sym other ∙ (and_parts (is_instance (facts g r).kind) _ kept).0));
         cells = λ none. ap (λ t. length (cells_of t)) a.item ∙ ap (λ f. f.length) (sym header);
         small = λ instance. absurd (false≢true (sym other ∙ instance));
+        persistent = λ instance. absurd (false≢true (sym other ∙ instance));
       }
 
   -- the registry's entries

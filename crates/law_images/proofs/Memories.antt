@@ -1,6 +1,7 @@
 -- A memory with the package that a load brings.
 use Rattle.std.proofs.Common.{◌≡◌, ℕ, ◌+◌, ◌-◌, ◌<◌, ◌≤◌, ◌==◌, ◌&&◌, true, false, inl, inr, List, [], ◌∷◌, length, refl, sym, ◌∙◌, ap, subst, arith}
 use Rattle.std.proofs.Common.{if◌then◌else◌, nat_lt, nat_le, Ok}
+use Rattle.std.specs.Prelude.{slice_index}
 use Rattle.std.proofs.lemmas.Bool.{and_from, and_parts, false≢true, le-leb, leb-true, or_cases, or_left, or_right}
 use Rattle.std.proofs.lemmas.List.{length-append}
 use Rattle.jc_cap.specs.declared.texts.LoadedComponents.{LoadedComponents}
@@ -29,6 +30,7 @@ use Rattle.law_images.specs.Loads.{AreLaidOut, CountsPackages, IsLaidOut, IsSoun
 use Rattle.law_images.proofs.Fitting.{records_fit}
 use Rattle.law_images.proofs.Prepared.{initial_arrays}
 use Rattle.law_images.proofs.LoadRecords.{applets_same, counts_grown, item_low, item_old, longer, no_instance, old_or_new}
+use Rattle.law_images.proofs.LivingLoads.{package_carried}
 use Rattle.law_images.proofs.Whole.{package_stands}
 use Rattle.law_images.proofs.Apart.{package_apart}
 
@@ -141,10 +143,13 @@ module _ (all : List LinkerComponents) (p : Packages) (load : LoadedComponents) 
     home = home_closed g m.registers.installation closed;
     selected = λ a e. (λ t. nat_lt 0 a.0 && nat_le a.0 ((ap (λ k. k.counts.1) settled ∙ ap (λ c. c.1) counts_are ∙ ap (λ c. c.1) counts_settled) t))
         ∙ sound.selected a e;
+    command = sound.command;
+    transients = package_carried h m.ram cs xs rest s.end sound.transients;
   }
 
-  environments_now : AreEnvironmentObjects more g own
+  environments_now : AreEnvironmentObjects more g m.fixed
   environments_now = record {
+    there = λ k low. ap is_object (item_old h cs xs rest s (slice_index m.fixed k) (environment.now.there k low)) ∙ environment.now.there k low;
     first = λ r low. ap (λ t. (facts_of t).owner) (item_low h cs xs rest s r (omega (arith, low, behind))) ∙ environment.now.first r low;
     classes = λ r there instance zero. elim (old_or_new h cs xs rest s (initial_arrays (statics_of q.texts).arrays) r there) [
       | inl stood ↦
@@ -165,7 +170,7 @@ module _ (all : List LinkerComponents) (p : Packages) (load : LoadedComponents) 
   sound_with : IsSoundForLoads more after
   sound_with = record {
     sound = memory_sound;
-    environment = record { now = environments_now; durable = subst (λ k. AreEnvironmentObjects more k own) (sym settled) environments_now };
+    environment = record { now = environments_now; durable = subst (λ k. AreEnvironmentObjects more k m.fixed) (sym settled) environments_now };
     layout = record { now = layout_after; durable = subst IsLaidOut (sym settled) layout_after };
   }
 

@@ -1,7 +1,9 @@
 -- The heap of a new image fits its packages.
-use Rattle.std.proofs.Common.{◌≡◌, ℕ, suc, ◌<◌, ◌≤◌, ◌&&◌, ◌==◌, not, Bool, true, false, inl, inr, List, [], ◌∷◌, ◌++◌, length, Option, Some, None, Ok}
+use Rattle.std.proofs.Common.{◌≡◌, ℕ, zero, suc, ◌+◌, ◌<◌, ◌≤◌, ◌&&◌, ◌==◌, not, Bool, true, false, inl, inr, List, [], ◌∷◌, ◌++◌, length, Option, Some, None, Ok}
 use Rattle.std.proofs.Common.{refl, sym, ◌∙◌, ap, subst, arith, if◌then◌else◌}
-use Rattle.std.specs.Prelude.{unwrap_or}
+use Rattle.std.specs.Prelude.{slice_index, unwrap_or}
+use Rattle.std.proofs.lemmas.List.FromFn.{get_or-map-range_with_len}
+use Rattle.std.proofs.lemmas.Option.{none-some}
 use Rattle.std.proofs.lemmas.Bool.{cases_lt, false≢true}
 use Rattle.std.proofs.lemmas.List.{length-replicate}
 use Rattle.jc_words.specs.Layout.{least_size, registry_length}
@@ -9,7 +11,7 @@ use Rattle.jc_transient.specs.declared.cell.ClearEvent.TheVariants.{Reset}
 use Rattle.jc_heap.specs.declared.object.Kind.{Kind}
 use Rattle.jc_heap.specs.Object.{AnObject, APackage, Item, facts_of, is_object, new_transient}
 use Rattle.jc_heap.specs.Table.{entry_or}
-use Rattle.jc_heap.specs.Heap.{HeapState, add_object, add_transient, area_end, heap_item_at, is_allocated, next_object}
+use Rattle.jc_heap.specs.Heap.{HeapState, IsObject, add_object, add_transient, area_end, heap_item_at, is_allocated, next_object}
 use Rattle.jc_heap.specs.Keeping.{IsConsistentHeap}
 use Rattle.jc_image.specs.Laying.{unsealed_heap}
 use Rattle.jc_platform.specs.declared.names.PlatformClass.{PlatformClass}
@@ -18,7 +20,8 @@ use Rattle.jc_platform.specs.Table.{Reads}
 use Rattle.jc_platform.specs.Tokens.{Tokens}
 use Rattle.jc_linker.specs.Values.{Packages}
 use Rattle.jc_card_checks.specs.Objects.{is_instance, is_persistent_instance}
-use Rattle.jc_card.specs.Fixed.{class_number_of, fixed_objects, last_fixed, next_or_null, object_number, with_objects}
+use Rattle.jc_card.specs.Fixed.{BeginsWithFixed, class_number_of, fixed_facts, fixed_objects, fixed_of, last_fixed, next_or_null, object_number, with_objects}
+use Rattle.jc_image.specs.Beginning.{HeadersFollow, HeapBeginsWith}
 use Rattle.jc_card.specs.Made.{new_card_heap}
 use Rattle.jc_card.proofs.FittingImages.{alone, counts_add, no_packages, number_suc, packages_add}
 use Rattle.jc_card.proofs.FixedObjects.{IsBelow, begins-new_card_heap, below-one, head-new_card_heap, items-one, next_is, text-new_card_heap, top-add}
@@ -143,6 +146,40 @@ next_below h r b some = go (next_object h r) refl
 number_below : (h : HeapState) (k : ℕ) → IsBelow h → 0 < h.top → object_number h (suc k) < h.top
 number_below h k b some = subst (λ q. q < h.top) (sym (number_suc h k)) (next_below h (object_number h k) b some)
 
+-- ---- the objects that it begins with are there
+
+number_zero : (h : HeapState) → object_number h 0 ≡ 0
+unfolding object_number
+number_zero h = refl
+
+seventeen : length fixed_objects ≡ 17
+unfolding fixed_objects
+seventeen = refl
+
+-- a header with an event is an object's
+of_object : (x : Item) → (facts_of x).event ≡ Some Reset → is_object x ≡ true
+of_object (AnObject o) e = refl
+of_object (APackage ws) e = absurd (none-some Reset e)
+
+follow_there : (h : HeapState) (t : Tokens) (place : ℕ) (os : List FixedObject) (j k n : ℕ) → HeadersFollow h (object_number h j) (fixed_facts t place os)
+    → k < length os → n ≡ j + suc k → IsObject h (object_number h n)
+follow_there h t place [] j k n follow lt is = absurd (omega (arith, lt))
+follow_there h t place (o ∷ os) j zero n follow lt is =
+    let next : object_number h (suc j) ≡ follow.0 = number_suc h j ∙ ap (λ x. unwrap_or x 0) follow.1 in
+    let at : suc j ≡ n = omega (arith, is) in
+    subst (λ q. IsObject h (object_number h q)) at (subst (IsObject h) (sym next) (of_object (heap_item_at h follow.0) (ap (λ f. f.event) follow.2)))
+follow_there h t place (o ∷ os) j (suc i) n follow lt is =
+    let next : object_number h (suc j) ≡ follow.0 = number_suc h j ∙ ap (λ x. unwrap_or x 0) follow.1 in
+    follow_there h t (place + o.cells) os (suc j) i n (subst (λ q. HeadersFollow h q (fixed_facts t (place + o.cells) os)) (sym next) follow.3)
+    (omega (arith, lt)) (omega (arith, is))
+
+begin_there : (h : HeapState) (t : Tokens) → BeginsWithFixed t h → (k : ℕ) → k < 17 → IsObject h (slice_index (fixed_of h) k)
+unfolding HeapBeginsWith
+begin_there h t begins k lt =
+    let at : slice_index (fixed_of h) k ≡ object_number h (1 + k) = get_or-map-range_with_len (object_number h) 1 17 k (1 + k) 0 lt refl in
+    subst (IsObject h) (sym at) (follow_there h t 0 fixed_objects 0 k (1 + k)
+    (subst (λ q. HeadersFollow h q (fixed_facts t 0 fixed_objects)) (sym (number_zero h)) begins) (omega (arith, lt, seventeen)) (omega arith))
+
 module _ (n : ℕ) (text : List ℕ) (t : Tokens) where
   abbrev made : HeapState
   made = with_objects t (unsealed_heap n text) fixed_objects
@@ -178,8 +215,9 @@ module _ (n : ℕ) (text : List ℕ) (t : Tokens) where
     aids = λ a low. absurd (omega (arith, low, ap (λ c. c.1) no_applet));
   }
 
-  environments : AreEnvironmentObjects (alone_with t) (new_card_heap n text t) (last_fixed (new_card_heap n text t))
+  environments : AreEnvironmentObjects (alone_with t) (new_card_heap n text t) (fixed_of (new_card_heap n text t))
   environments = record {
+    there = begin_there (new_card_heap n text t) t (begins-new_card_heap n text t);
     first = λ r low. (fixed_items r).owner;
     classes = λ r there instance zero. (fixed_items r).class there instance;
   }

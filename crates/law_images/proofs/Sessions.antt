@@ -1,11 +1,12 @@
 -- Sessions leave a card as it should be.
-use Rattle.std.proofs.Common.{◌≡◌, ℕ, ◌+◌, ◌<◌, ◌==◌, nat_le, nat_lt, Bool, true, false, List, [], ◌∷◌, length, drop, take, Option, Some, None}
+use Rattle.std.proofs.Common.{◌≡◌, ℕ, ◌+◌, ◌<◌, ◌≤◌, ◌==◌, nat_le, nat_lt, Bool, true, false, List, [], ◌∷◌, length, drop, take, Option, Some, None}
 use Rattle.std.proofs.Common.{refl, sym, ◌∙◌, ap, subst, arith, if◌then◌else◌}
 use Rattle.std.specs.Prelude.{Ok, slice_index}
 use Rattle.std.specs.Option.{option_map}
 use Rattle.std.proofs.lemmas.List.Elements.{All-drop, All-nil, All-take}
 use Rattle.std.proofs.lemmas.Option.{none-some, same_Some}
 use Rattle.jc_words.specs.Refusals.{Refusals}
+use Rattle.jc_transient.specs.State.{IsCleared, buffer_size}
 use Rattle.jc_heap.specs.Heap.{HeapState, heap_at_rest}
 use Rattle.jc_heap.specs.Keeping.{AreConsistent}
 use Rattle.jc_heap.proofs.Changing.{shape-same}
@@ -37,6 +38,7 @@ use Rattle.law_linking.proofs.MethodLaws.{have_methods, have_no_code}
 use Rattle.law_images.specs.Loaded.{AreBytes}
 use Rattle.law_images.proofs.OpenLoads.{are_readable}
 use Rattle.law_soundness.specs.State.{IsSoundMemory}
+use Rattle.law_soundness.proofs.Transients.{blank_lives}
 use Rattle.law_soundness.specs.Soundness.{AreKnown}
 use Rattle.law_soundness.proofs.CommandLaws.{commands_are_sound}
 use Rattle.law_soundness.proofs.Phases.{Good}
@@ -45,7 +47,7 @@ use Rattle.law_images.proofs.Memories.{loads_are_sound}
 use Rattle.law_images.proofs.ImageEffects.{effects_keep}
 use Rattle.law_images.specs.Cards.{AreLinkedWell, AreOfBytes, IsOfBytes, IsOwnCard, IsOwnKept, IsOwnPower, StaysOwn}
 use Rattle.law_images.specs.Loads.{IsLaidOut}
-use Rattle.law_images.proofs.Commands.{IsAnswered, answers_good, creates_good, did_own, dispatched_good, grows_good, loads_good, lost_own, on_load_good}
+use Rattle.law_images.proofs.Commands.{IsAnswered, answers_good, command_fits, creates_good, did_own, dispatched_good, grows_good, loads_good, lost_own, on_load_good}
 use Rattle.law_images.proofs.Commands.{own_memory, runs_good}
 use Rattle.law_images.proofs.CardHeaps.{IsLeft, left_own}
 use Rattle.law_images.proofs.Loads.{ends_lost, ends_own}
@@ -130,15 +132,16 @@ module _ (t : Tokens) (card : CardState) (own : IsOwnCard t card) where
   managed_does c are = does_if (c.class == 0x80) _ _ (commanded_does c are) (does (respond_with card (status_bytes cla_not_supported))
       (answers_good commands_are_sound t card own are_known (status_bytes cla_not_supported)))
 
-  apdu_does : (bytes : List ℕ) (o : Option Apdu) → ((c : Apdu) → o ≡ Some c → AreBytes c.content) → Does (exchange_of_apdu bytes o card)
-  apdu_does bytes None are = does (respond_with card (status_bytes wrong_length))
+  apdu_does : (bytes : List ℕ) (o : Option Apdu) → ((c : Apdu) → o ≡ Some c → AreBytes c.content) → ((c : Apdu) → o ≡ Some c → length bytes ≤ buffer_size)
+      → Does (exchange_of_apdu bytes o card)
+  apdu_does bytes None are fits = does (respond_with card (status_bytes wrong_length))
       (answers_good commands_are_sound t card own are_known (status_bytes wrong_length))
-  apdu_does bytes (Some c) are = does_if (is_dispatched card c) _ _ (does (dispatch bytes c card)
-      (dispatched_good commands_are_sound t card own are_known bytes c)) (managed_does c (are c refl))
+  apdu_does bytes (Some c) are fits = does_if (is_dispatched card c) _ _ (does (dispatch bytes c card)
+      (dispatched_good commands_are_sound t card own are_known bytes c (fits c refl))) (managed_does c (are c refl))
 
   exchanging_does : (bytes : List ℕ) → AreBytes bytes → Does (exchange bytes card)
   unfolding exchange
-  exchanging_does bytes are = apdu_does bytes (apdu_of bytes) (λ c is. content_of bytes (data_of bytes) c refl are is)
+  exchanging_does bytes are = apdu_does bytes (apdu_of bytes) (λ c is. content_of bytes (data_of bytes) c refl are is) (command_fits bytes are)
 
   pub command_own : (bytes : List ℕ) (answer : Answer) (next : PowerState) → AreBytes bytes → AnswersCommand (Up card) bytes answer next → IsOwnPower t next
   command_own bytes (Response r) (Up next) are did = (exchanging_does bytes are).did (with_response next r) next.memory did
@@ -164,7 +167,7 @@ kept_own t (Up card) own = record {
 kept_own t (Off k) own = own
 
 module _ (n : ℕ) (t : Tokens) (p : Packages) (h : HeapState) (own : IsOwnHeap n t p h) (linked : AreLinkedWell p) (layout : IsLaidOut h)
-    (passed : ℕ) (refusals : Refusals) (m : MemoryState) where
+    (passed : ℕ) (refusals : Refusals) (m : MemoryState) (clear : IsCleared m.ram) (none : m.command ≡ []) where
   abbrev reset_memory : MemoryState
   reset_memory = record m { heap = heap_at_rest h passed refusals n; fixed = fixed_of h; registers = at_reset }
 
@@ -187,6 +190,8 @@ module _ (n : ℕ) (t : Tokens) (p : Packages) (h : HeapState) (own : IsOwnHeap 
     own = own.own;
     home = refl;
     selected = λ a e. absurd (none-some a e);
+    command = let long = ap length none in omega (arith, long);
+    transients = blank_lives h m.ram clear;
   }
 
   reset_own : IsOwnCard t (record { memory = reset_memory; packages = p; load = None })
@@ -204,7 +209,8 @@ powered_own g t k card own up =
     let table : up.reset.packages.0 ≡ t = g k.durable.text up.reset.packages.0 t up.reset.packages.1 own.heap.beginning.table in
     let read : packages_of t k.durable ≡ Some card.packages = subst (λ u. packages_of u k.durable ≡ Some card.packages) table up.reset.packages.2 in
     let same : card.packages ≡ own.packages = same_Some card.packages own.packages (sym read ∙ own.heap.packages) in
-    let reset = reset_own k.size t own.packages k.durable own.heap own.linked own.layout card.memory.heap.passed k.refusals card.memory in
+    let reset = reset_own k.size t own.packages k.durable own.heap own.linked own.layout card.memory.heap.passed k.refusals card.memory
+    up.reset.ram up.reset.command in
     let path : card ≡ record {
       memory = record card.memory {
         heap = heap_at_rest k.durable card.memory.heap.passed k.refusals k.size;

@@ -8,7 +8,7 @@ use Rattle.jc_platform.specs.Table.{Reads}
 use Rattle.jc_linker.specs.Values.{Packages}
 use Rattle.jc_card_checks.specs.Objects.{is_persistent_instance}
 use Rattle.jc_card_load.specs.Reading.{packages_of}
-use Rattle.jc_card.specs.Fixed.{BeginsWithFixed, last_fixed}
+use Rattle.jc_card.specs.Fixed.{BeginsWithFixed, fixed_of, last_fixed}
 use Rattle.law_soundness.specs.Environment.{AreEnvironmentObjects}
 use Rattle.law_soundness.specs.State.{IsSoundUpTo}
 
@@ -27,6 +27,6 @@ pub record IsOwnHeap (n : ℕ) (t : Tokens) (p : Packages) (h : HeapState) : Typ
   pub registry : length h.applets ≡ registry_length
   pub loaded : length h.packages ≡ length p.loaded
   pub fits : IsSoundUpTo h.counts.1 p h (last_fixed h)
-  pub environment : AreEnvironmentObjects p h (last_fixed h)
+  pub environment : AreEnvironmentObjects p h (fixed_of h)
   pub behind : last_fixed h < h.top
   pub own : (r : ℕ) → r ≤ last_fixed h → IsObject h r → is_persistent_instance (facts h r) ≡ false

@@ -14,6 +14,7 @@ use Rattle.law_soundness.specs.Classes.{has_instances}
 use Rattle.law_linking.specs.Given.{AreRead}
 use Rattle.law_linking.specs.ClassLaws.{HaveCells, HaveClasses, HaveFields, HaveReceivers}
 use Rattle.law_linking.proofs.Cells.{field_behind, field_is, platform_cells}
+use Rattle.law_linking.proofs.Fields.{hide_fields}
 use Rattle.law_linking.proofs.Good.{AllGood, all_good}
 use Rattle.law_linking.proofs.Named.{named_there}
 use Rattle.law_linking.proofs.Receivers.{by_entry, by_token}
@@ -41,7 +42,7 @@ field_place cs p read number index of cell class reference platform is has plain
     (good_of cs p read) of token class c platform at less has plain below also)
 
 pub have_fields : HaveFields
-have_fields cs p read = record { kinds = field_kind cs p read; behind = field_place cs p read }
+have_fields cs p read = record { kinds = field_kind cs p read; hidden = hide_fields cs p read.linked; behind = field_place cs p read }
 
 pub have_receivers : HaveReceivers
 have_receivers cs p linked = record {

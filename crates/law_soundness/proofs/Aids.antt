@@ -12,10 +12,9 @@ use Rattle.jc_world.specs.Arrays.{bytes_argument, elements_of, bytes_in}
 use Rattle.jc_world.specs.Instances.{instance_at}
 use Rattle.jc_api_runtime.specs.AidCells.{is_aid_length, cells_of_aid}
 use Rattle.jc_api_runtime.specs.AidCalls.{aid_init, aid_equals, aid_equals_bytes, aid_get_bytes, aid_call}
-use Rattle.jc_memory.specs.declared.registers.Registers.{Registers}
-use Rattle.law_soundness.proofs.Still.{AsksNone, IsStillCall, still_if, still_ok, still_sets_run, still_some, still_unless}
+use Rattle.law_soundness.proofs.Still.{IsStillAnswer, IsStillCall, still_if, still_ok, still_sets_run, still_some, still_unless}
 
-module _ (g : Registers) where
+module _ (g : MemoryState) where
   made_still : (args : List Cell) (p : Packages) (m : MemoryState) → IsStillCall g (aid_init args p m)
   unfolding aid_init
   made_still args p m =
@@ -23,7 +22,7 @@ module _ (g : Registers) where
       (λ array. still_some g (short_argument args 2) _ (λ start. still_some g (short_argument args 3) _ (λ count.
       still_ok g (bytes_argument m array) _ (λ argument. still_ok g (instance_at m own 9) _
       (λ f. still_ok g (elements_of p m array argument start count) _ (λ e.
-      still_if g AsksNone (is_aid_length e.count) _ _ (still_unless g (cells_refusal m own 0 (cells_of_aid (bytes_in m e))) _
+      still_if g (IsStillAnswer g) (is_aid_length e.count) _ _ (still_unless g (cells_refusal m own 0 (cells_of_aid (bytes_in m e))) _
       (still_sets_run g m own 0 (cells_of_aid (bytes_in m e)), tt)) tt)))))))
 
   equals_still : (args : List Cell) (p : Packages) (m : MemoryState) → IsStillCall g (aid_equals args p m)
@@ -36,7 +35,7 @@ module _ (g : Registers) where
   equals_bytes_still args p m =
       still_some g (reference_argument args 0) _ (λ own. still_some g (reference_argument args 1) _
       (λ array. still_some g (short_argument args 2) _ (λ start. still_some g (short_argument args 3) _ (λ count.
-      still_some g (aid_at m own) _ (λ aid. still_ok g (bytes_argument m array) _ (λ argument. still_if g AsksNone (array == 0) _ _ tt
+      still_some g (aid_at m own) _ (λ aid. still_ok g (bytes_argument m array) _ (λ argument. still_if g (IsStillAnswer g) (array == 0) _ _ tt
       (still_ok g (elements_of p m array argument start count) _ (λ e. tt))))))))
 
   got_still : (args : List Cell) (p : Packages) (m : MemoryState) → IsStillCall g (aid_get_bytes args p m)

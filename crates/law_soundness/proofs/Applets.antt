@@ -43,14 +43,15 @@ use Rattle.jc_frames.specs.Reasons.{buffer_full, illegal_aid, in_progress, no_re
 use Rattle.jc_api_runtime.specs.Register.{aid_object_creation, registry_entry, installation_in_transaction, is_inside, is_owned, may_be_added, next_number}
 use Rattle.jc_api_runtime.specs.Register.{open_installation, registration, registration_package, registration_package_in, unless_full, with_installation}
 use Rattle.law_soundness.specs.Classes.{HasAids, KnowsClasses}
-use Rattle.law_soundness.specs.Fit.{FitsNew, FitsObject, FitsRun, FitsTurn, IsFit, KeepsSound, OfRegistry, RegistersApplet}
+use Rattle.law_soundness.specs.Fit.{AreCellsOf, FitsNew, FitsObject, FitsRun, FitsTurn, IsFit, KeepsSound, OfRegistry, RegistersApplet}
 use Rattle.law_soundness.specs.State.{IsSoundMemory, IsSteady, is_home, is_open, is_owner_up_to}
 use Rattle.law_isolation.proofs.Arguments.{length_bytes}
 use Rattle.law_isolation.proofs.Due.{call_ok}
 use Rattle.law_isolation.proofs.Reaching.{err_not_ok, header_is, same_Ok}
 use Rattle.law_isolation.proofs.Standing.{applets-add_object, applets-set_cells}
 use Rattle.law_soundness.proofs.Below.{aid_no_pin}
-use Rattle.law_soundness.proofs.RunCells.{aid_put, all_set, header_only-set_cells, item-set_cells, nine}
+use Rattle.law_soundness.proofs.Frames.{run_headers}
+use Rattle.law_soundness.proofs.RunCells.{aid_put, all_set, item-set_cells, nine}
 use Rattle.law_soundness.proofs.RunPins.{bare_object}
 use Rattle.law_soundness.proofs.RunRegistry.{unlike}
 
@@ -207,6 +208,12 @@ module _ (keeps : KeepsSound) (p : Packages) (m : MemoryState) (known : KnowsCla
       λ array. absurd (true≢false (ap is_instance (ap (λ f. f.kind) (sym facts_new) ∙ array))),
     )
 
+    cells_there : (aid : List ℕ) → AreCellsOf with_object r (0 + length (cells_of_aid aid))
+    cells_there aid = (
+      ap (λ f. f.event) facts_new,
+      (let n = nine aid in let long : (facts with_object r).length ≡ 9 = ap (λ f. f.length) facts_new in omega (arith, n, long)),
+    )
+
     module _ (aid : List ℕ) (instance : ℕ) (k : PackageNumber) (may : MayRegister m aid instance k) (long : is_aid_length (length aid) ≡ true)
         (bytes : (i : ℕ) → i < length aid → slice_index aid i < 256)
         (is : is_instance (facts m.heap.now instance).kind ≡ true) (class : is_a p (facts m.heap.now instance).class Applet ≡ true) where
@@ -220,7 +227,7 @@ module _ (keeps : KeepsSound) (p : Packages) (m : MemoryState) (known : KnowsCla
       open_now = open_home m.registers.installation k may.opened_by
 
       after_cells_sound : IsSoundMemory p after_cells
-      after_cells_sound = keeps p (HeapMove (SetCells r 0 (cells_of_aid aid))) after_new (cells_fit aid long)
+      after_cells_sound = keeps p (HeapMove (SetCells r 0 (cells_of_aid aid))) after_new (cells_there aid, cells_fit aid long)
           (keeps p (HeapMove (new_move Instance aid_class 0 9)) m made sound)
         where
           made : FitsObject p m (new_move Instance aid_class 0 9)
@@ -228,7 +235,7 @@ module _ (keeps : KeepsSound) (p : Packages) (m : MemoryState) (known : KnowsCla
 
       -- what stands in it
       bare_after_cells : (q : ℕ) → header_only (heap_item_at (with_cells aid r) q) ≡ header_only (heap_item_at with_object q)
-      bare_after_cells q = header_only-set_cells (cells_of_aid aid) with_object r 0 q
+      bare_after_cells q = run_headers (cells_of_aid aid) with_object r 0 q
 
       stands_after_cells : (q : ℕ) → is_object (heap_item_at (with_cells aid r) q) ≡ is_object (heap_item_at with_object q)
       stands_after_cells q = sym (bare_object (heap_item_at (with_cells aid r) q)) ∙ ap is_object (bare_after_cells q) ∙ bare_object (heap_item_at with_object q)
@@ -320,7 +327,7 @@ module _ (keeps : KeepsSound) (p : Packages) (m : MemoryState) (known : KnowsCla
       after_commit = apply_effect (HeapMove Commit) after_entry
 
       after_commit_sound : IsSoundMemory p after_commit
-      after_commit_sound = keeps p (HeapMove Commit) after_entry (λ on. one_more) after_entry_sound
+      after_commit_sound = keeps p (HeapMove Commit) after_entry (may.begun, λ on. one_more) after_entry_sound
 
       known_after_entry : is_owner_up_to after_entry.heap.now.counts.1 after_entry.heap.now (owner_number m.registers.active) ≡ true
       known_after_entry =
@@ -339,7 +346,7 @@ module _ (keeps : KeepsSound) (p : Packages) (m : MemoryState) (known : KnowsCla
 
       all_fit : IsFit p (HeapMove (SetPlaces (applet_changes after_cells.heap.now entry))) after_cells
           × (IsFit p (HeapMove Commit) after_entry × FitsTurn after_commit (with_installation after_entry (Registered k)))
-      all_fit = (OfRegistry registers_fit, (λ on. one_more, turn_registered))
+      all_fit = (OfRegistry registers_fit, ((may.begun, λ on. one_more), turn_registered))
 
   pub registered_due : (aid : List ℕ) (instance : ℕ) → is_aid_length (length aid) ≡ true → ((i : ℕ) → i < length aid → slice_index aid i < 256)
       → is_instance (facts m.heap.now instance).kind ≡ true → is_a p (facts m.heap.now instance).class Applet ≡ true
@@ -349,7 +356,7 @@ module _ (keeps : KeepsSound) (p : Packages) (m : MemoryState) (known : KnowsCla
       let may = registrable_is m aid instance k fine in
       let rest = all_fit r new aid instance k may long bytes is class in (
         record { kind = Instance; class = aid_class; owner = 0; long = 9; is = refl; fits = made_fits },
-        (cells_fit r new aid long, (rest.0, ((rest.1).0, ((rest.1).1, tt)))),
+        ((cells_there r new aid, cells_fit r new aid long), (rest.0, ((rest.1).0, ((rest.1).1, tt)))),
       ))
 
 -- the AID of an entry, and one whose bytes are those of an array

@@ -1,5 +1,5 @@
 -- Instructions on arrays.
-use Rattle.std.proofs.Common.{◌≡◌, ℕ, true, false, Option, Some, None, Result, Ok, Err, refl, sym, ◌∙◌, ap, subst}
+use Rattle.std.proofs.Common.{◌≡◌, ℕ, ◌<◌, true, false, [], ◌∷◌, Option, Some, None, Result, Ok, Err, refl, sym, ◌∙◌, ap, subst}
 use Rattle.std.proofs.lemmas.Bool.{and_parts, both_ways, true≢false}
 use Rattle.std.proofs.lemmas.Option.{none-some, same_Some}
 use Rattle.std.specs.Option.{option_and_then}
@@ -8,7 +8,6 @@ use Rattle.jc_transient.specs.declared.cell.CellValue.{CellValue}
 use Rattle.jc_transient.specs.declared.cell.CellValue.TheVariants as kept
 use Rattle.jc_heap.specs.declared.object.Kind.{Kind}
 use Rattle.jc_heap.specs.declared.object.Kind.TheVariants.{Instance, BooleanArray, ByteArray, ShortArray, ReferenceArray}
-use Rattle.jc_heap.specs.declared.place.Place.TheVariants.{Cell}
 use Rattle.jc_heap.specs.Heap.{facts}
 use Rattle.jc_opcodes.specs.declared.instr.PrimitiveArray.{PrimitiveArray}
 use Rattle.jc_opcodes.specs.declared.instr.PrimitiveArray.TheVariants.{Booleans, Bytes, Shorts}
@@ -37,15 +36,15 @@ use Rattle.jc_frames.specs.declared.cell.Cell.TheVariants.{Reference}
 use Rattle.jc_world.specs.Instructions.{continue_with}
 use Rattle.jc_world.specs.Values.{with_top}
 use Rattle.law_soundness.specs.Classes.{KnowsClasses}
-use Rattle.law_soundness.specs.Fit.{FitsNew, FitsPlace, IsFit}
-use Rattle.law_soundness.specs.State.{IsSoundMemory, IsSteady}
+use Rattle.law_soundness.specs.Fit.{FitsFill, FitsNew, FitsValue, IsFit}
+use Rattle.law_soundness.specs.State.{IsLivingValue, IsSoundMemory, IsSteady}
 use Rattle.law_isolation.proofs.Due.{due_unless}
 use Rattle.law_isolation.proofs.Instructions.{arrays_due}
 use Rattle.law_isolation.proofs.Passing.{ArraysPass, new_for}
 use Rattle.law_isolation.proofs.Reaching.{err_not_ok, same_Ok}
 use Rattle.law_soundness.specs.Groups.{ArraysFit}
-use Rattle.law_soundness.proofs.RunObjects.{active_known, new_kept, set_in}
-use Rattle.law_soundness.proofs.RunValues.{HasType, IsRef, has_type, keepable_is}
+use Rattle.law_soundness.proofs.RunObjects.{active_known, new_kept, one_fits, set_in}
+use Rattle.law_soundness.proofs.RunValues.{HasType, IsRef, element_of, has_type, keepable_is, keepable_lives, keepable_same}
 
 no_instance : (of_type : ValueType) (kind : Kind) → has_elements of_type kind ≡ true → is_instance kind ≡ true → ⊥
 no_instance types.Reference Instance has is = absurd cc
@@ -76,13 +75,21 @@ module _ (p : Packages) (m : MemoryState) where
   element_same class (kept.Reference r) v e = kept_same (kept.Reference r) v (assignable_or_null p m class r) e
 
   element_fits : (of_type : ValueType) (r i : ℕ) (value k v : CellValue) (class : ℕ) → has_elements of_type (facts m.heap.now r).kind ≡ true
-      → HasType of_type value → keepable p m value ≡ Ok k → element_value p m class k ≡ Ok v → FitsPlace p m.heap.now (Cell r i) (word_of v)
+      → HasType of_type value → keepable p m value ≡ Ok k → element_value p m class k ≡ Ok v → FitsValue p m.heap.now r i (word_of v)
   element_fits of_type r i value k v class has of kept fits = (
     λ stays. absurd (no_instance of_type (facts m.heap.now r).kind has (and_parts (is_instance (facts m.heap.now r).kind)
         (is_none (facts m.heap.now r).event) stays).0),
     λ array. subst (λ x. is_reference m.heap.now (word_of x) ≡ true) (element_same class k v fits)
         (keepable_is p m value k (references of_type (facts m.heap.now r).kind value has array of) kept),
   )
+
+  -- into a transient array
+  element_fills : (of_type : ValueType) (r i : ℕ) (value k v : CellValue) (class : ℕ) → has_elements of_type (facts m.heap.now r).kind ≡ true
+      → HasType of_type value → keepable p m value ≡ Ok k → element_value p m class k ≡ Ok v → i < (facts m.heap.now r).length → FitsFill m r i (v ∷ [])
+  element_fills of_type r i value k v class has of kept fits within =
+      let lives = subst (IsLivingValue m.heap.now) (element_same class k v fits) (keepable_lives p m value k kept) in
+      one_fits m r i v within lives (λ array. element_of m.heap.now v (subst IsRef (keepable_same p m value k kept ∙ element_same class k v fits)
+      (references of_type (facts m.heap.now r).kind value has array of)) lives)
 
 -- a new object on the stack
 pub new_due : (p : Packages) (m : MemoryState) (o : NewObject) (s : Frames) → o.event ≡ None → FitsNew p m o.kind o.class (owner_number o.owner) o.length
@@ -118,8 +125,10 @@ module _ (p : Packages) (m : MemoryState) (known : KnowsClasses p) (sound : IsSo
 
   pub arrays_pass : ArraysPass (IsFit p) p m
   arrays_pass = record {
-    element = λ of_type r f e cells v k w taken kept array inside fits. set_in p m (facts m.heap.now r).event r e.index w
-        (element_fits p m of_type r e.index v.0 k w e.class array.elements (has_type of_type cells v taken) kept fits);
+    element = λ of_type r f e cells v k w taken kept array inside fits. set_in p m (facts m.heap.now r).event r e.index w refl
+        (element_fits p m of_type r e.index v.0 k w e.class array.elements (has_type of_type cells v taken) kept fits)
+        (element_fills p m of_type r e.index v.0 k w e.class array.elements (has_type of_type cells v taken) kept fits
+        (subst (λ g. e.index < g.length) array.is inside));
     numbers = of_kind;
     references = λ number index class n s named. array_due ReferenceArray class n s refl (named_there number index class named);
   }

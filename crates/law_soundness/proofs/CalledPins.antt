@@ -9,7 +9,6 @@ use Rattle.jc_heap.specs.Moves.{SetPlaces, refusal_of_places}
 use Rattle.jc_heap.specs.Places.{places_of, cell_changes}
 use Rattle.jc_frames.specs.declared.cell.Cell.{Cell}
 use Rattle.jc_frames.specs.declared.outcome.FrameExit.{FrameExit}
-use Rattle.jc_memory.specs.declared.registers.Registers.{Registers}
 use Rattle.jc_memory.specs.State.{MemoryState, HeapMove, SetFlag}
 use Rattle.jc_memory.specs.Programs.{Program, Finish, Perform}
 use Rattle.jc_platform.specs.declared.names.PlatformMethod.{PlatformMethod}
@@ -32,13 +31,13 @@ use Rattle.jc_api_data.specs.OwnerPin.{bytes_in, pin_comparison, owner_pin_init,
 use Rattle.jc_api_data.specs.OwnerPin.{owner_pin_get_tries_remaining, return_unless_refused, owner_pin_is_validated, owner_pin_update, owner_pin_reset}
 use Rattle.jc_api_data.specs.OwnerPin.{owner_pin_reset_and_unblock}
 use Rattle.law_soundness.specs.LocalEffects.{AreElsewhere}
-use Rattle.law_soundness.proofs.Still.{AllStill, Any, AsksNone, IsLike, IsStillCall, still_bind, still_if, still_makes_new, still_ok, still_some}
+use Rattle.law_soundness.proofs.Still.{AllStill, Any, IsLike, IsStillAnswer, IsStillCall, still_bind, still_if, still_makes_new, still_ok, still_some}
 
 put_elsewhere : (bytes : List ℕ) (array i : ℕ) (cs : List (Place × ℕ)) → AreElsewhere cs → AreElsewhere (cell_changes array i bytes ++ cs)
 put_elsewhere [] array i cs rest = rest
 put_elsewhere (b ∷ bytes) array i cs rest = (tt, put_elsewhere bytes array (suc i) cs rest)
 
-module _ (g : Registers) where
+module _ (g : MemoryState) where
   -- what is done to PINs
   judged_still : (s : MemoryState) (r : ℕ) (guess : Option (List ℕ)) → AllStill g Any (comparison s r guess)
   judged_still s r None = tt
@@ -79,7 +78,7 @@ module _ (g : Registers) where
     answered (Err e) = tt
 
     settled_still : (change : Program (Result (Unit {0}) PinRefusal)) → AllStill g Any change → IsStillCall g (changed_or_thrown change m)
-    settled_still change still = still_bind g Any AsksNone (λ result v. return_unless_refused result) change m like still (λ result v any same. answered result)
+    settled_still change still = still_bind g Any (IsStillAnswer g) (λ result v. return_unless_refused result) change m like still (λ result v any same. answered result)
 
     constructed_still : IsStillCall g (owner_pin_init args m)
     unfolding owner_pin_init
@@ -90,8 +89,8 @@ module _ (g : Registers) where
     compared_still : (pin : ℕ) (bytes : Result Stretch FrameExit) → IsStillCall g (pin_comparison m pin bytes)
     unfolding pin_comparison
     compared_still pin bytes =
-        still_if g AsksNone ((record_of m pin).tries == 0) _ _ tt
-        (still_bind g Any AsksNone _ (pin_check m pin (guess_of m bytes)) m like (checked_still m pin (guess_of m bytes))
+        still_if g (IsStillAnswer g) ((record_of m pin).tries == 0) _ _ tt
+        (still_bind g Any (IsStillAnswer g) _ (pin_check m pin (guess_of m bytes)) m like (checked_still m pin (guess_of m bytes))
         (λ same v any l. still_ok g bytes _ (λ e. tt)))
 
     pin_checked_still : IsStillCall g (owner_pin_check args p m)
@@ -106,7 +105,7 @@ module _ (g : Registers) where
 
     was_reset_still : IsStillCall g (owner_pin_reset args m)
     unfolding owner_pin_reset
-    was_reset_still = still_some g (receiver m args) _ (λ pin. still_bind g Any AsksNone (λ u v. return_value ReturnVoid) (pin_reset m pin) m like
+    was_reset_still = still_some g (receiver m args) _ (λ pin. still_bind g Any (IsStillAnswer g) (λ u v. return_value ReturnVoid) (pin_reset m pin) m like
         (reset_still m pin) (λ u v any same. tt))
 
     was_unblocked_still : IsStillCall g (owner_pin_reset_and_unblock args m)

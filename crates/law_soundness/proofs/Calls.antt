@@ -31,6 +31,7 @@ use Rattle.law_soundness.proofs.Natives.{natives_are_fit}
 use Rattle.law_soundness.specs.Methods.{KnowsMethods}
 use Rattle.law_soundness.specs.Steps.{AsksFit, CallsFit, IsSoundInvoke}
 use Rattle.law_soundness.proofs.Arguments.{receiver_first}
+use Rattle.law_soundness.proofs.Living.{arguments_living}
 use Rattle.law_soundness.proofs.Minding.{aid_minds}
 use Rattle.law_soundness.proofs.Owners.{turn_known}
 use Rattle.law_soundness.proofs.Receivers.{IsFitCall, chosen_fit}
@@ -70,7 +71,9 @@ calls_are_fit = record {
     aids = given.aids;
     sound = given.machine.sound;
     steady = given.machine.steady;
+    environment = given.machine.environment;
     receiver = is_receiver p m given.methods given.machine.sound s.current.stack args c method (selected_fit i c p s m given) is are;
+    living = arguments_living m.heap.now c.arguments s.current.stack args given.machine.living.current.stack are;
   });
   entered = λ i c number offset place p s m given is. entering_due p m given.methods given.machine.sound _ _ s (selected_fit i c p s m given).switches;
 }

@@ -5,9 +5,11 @@ use Rattle.std.specs.Prelude.{pos}
 use Rattle.std.specs.List.{range_with_len}
 use Rattle.std.specs.Option.{option_map}
 use Rattle.std.proofs.lemmas.Bool.{and_from, and_parts, both_ways, false≢true, true≢false, le-leb, leb-true, lt-ltb, ltb-true, or_left, or_right}
-use Rattle.std.proofs.lemmas.Option.{none-some, option_and_then_some, same_Some}
+use Rattle.std.proofs.lemmas.List.{length-take}
+use Rattle.std.proofs.lemmas.Option.{cond_some, none-some, option_and_then_some, same_Some}
 use Rattle.jc_words.specs.Layout.{most_applets}
 use Rattle.jc_transient.specs.declared.cell.ClearEvent.TheVariants.{Deselect}
+use Rattle.jc_transient.specs.State.{buffer_size}
 use Rattle.jc_heap.specs.Heap.{HeapState}
 use Rattle.jc_heap.specs.Moves.{Begin}
 use Rattle.jc_frames.specs.declared.cell.Cell.TheVariants.{Short, Reference}
@@ -22,13 +24,14 @@ use Rattle.jc_memory.specs.Programs.{Program, Finish}
 use Rattle.jc_linker.specs.Lookups.{applet_entry, entry_with_aid}
 use Rattle.jc_linker.specs.Values.{Packages}
 use Rattle.jc_platform.specs.declared.names.PlatformMethod.TheVariants.{AppletDeselect, AppletProcess, AppletSelect}
-use Rattle.jc_interp.specs.Running.{bare_frames, run_ad_hoc}
+use Rattle.jc_interp.specs.Running.{bare_frames, no_package, run_ad_hoc}
 use Rattle.jc_memory.specs.Reading.{AllDue}
 use Rattle.jc_memory.proofs.ProgramLemmas.{each_more}
 use Rattle.jc_dispatch.specs.declared.applet_result.AppletResult.{AppletResult}
 use Rattle.jc_dispatch.specs.declared.applet_result.AppletResult.TheVariants.{RegistryFull}
 use Rattle.jc_dispatch.specs.Buffer.{apdu_buffer, apdu_object, buffer_fill}
-use Rattle.jc_dispatch.specs.Creating.{applet_named, applet_creation, creation_in_registry, creation_by_data, creation_of, first_with_entry, creation_by_entry}
+use Rattle.jc_dispatch.specs.Creating.{applet_named, applet_creation, are_parameters, creation_in_registry, creation_by_data, creation_of, ends_with_data}
+use Rattle.jc_dispatch.specs.Creating.{field_of, first_with_entry, creation_by_entry, has_aid_length, instance_named, parameters_or_none}
 use Rattle.jc_dispatch.specs.AppletResults.{is_select_accepted}
 use Rattle.jc_dispatch.specs.Installing.{applet_installation, next_applet, with_installation}
 use Rattle.jc_dispatch.specs.AdHocCode.{ad_hoc_run}
@@ -42,6 +45,9 @@ use Rattle.law_soundness.specs.Machines.{IsSoundMachine}
 use Rattle.law_soundness.specs.Soundness.{AreKnown, RunsAreSound}
 use Rattle.law_soundness.specs.Commands.{CommandsAreSound, IsReady, LeavesReady, OpensInstallation}
 use Rattle.law_soundness.proofs.Phases.{Good, IsFilled, MayRun, called_good, closed_good, filled_good, good_bind, good_gives, good_more}
+use Rattle.law_soundness.specs.Living.{AreLivingCells}
+use Rattle.law_soundness.proofs.Living.{first_living, more_living, none_living}
+use Rattle.law_soundness.proofs.Registered.{instance_refers}
 use Rattle.law_soundness.proofs.Phases.{good_then, run_for_good}
 use Rattle.law_soundness.proofs.Serving.{StandsBehind, all_served, behind_both, behind_each, behind_itself, behind_one, same_fits, serving_keeps}
 
@@ -98,6 +104,20 @@ mapped_first : (q : ℕ) (o : Option ℕ) (x : ℕ × ℕ) → option_map (λ en
 mapped_first q None x is = absurd (none-some x is)
 mapped_first q (Some entry) x is = ap (λ y. y.0) (same_Some (q, entry) x is)
 
+-- ---- the buffer has room for a header, and for the parameters of an installation
+
+header_fits : (bytes : List ℕ) → length (header_of bytes) ≤ buffer_size
+header_fits bytes = let l = length-take 5 bytes in omega (arith, l)
+
+parameters_fit : (bytes : List ℕ) (c : List ℕ × List ℕ) → creation_of bytes ≡ Some c → length c.1 ≤ buffer_size
+unfolding creation_of
+parameters_fit bytes c e = option_and_then_some parameters_or_none (field_of bytes) c e (λ d is fits.
+    let held = cond_some (has_aid_length d.0 && are_parameters d.1) d c fits in
+    let own = (and_parts (has_aid_length d.0) (are_parameters d.1) held.0).1 in
+    let few = leb-true (length d.1) 127 (and_parts (nat_le (length d.1) 127) (instance_named d.1)
+    (and_parts (nat_le (length d.1) 127 && instance_named d.1) (ends_with_data d.1) own).0).0 in
+    subst (λ (x : List ℕ × List ℕ). length x.1 ≤ buffer_size) held.1 (omega (arith, few)))
+
 -- ---- an applet is left, selected, and answers
 
 module _ (runs : RunsAreSound) (p : Packages) (known : AreKnown p) where
@@ -120,6 +140,10 @@ module _ (runs : RunsAreSound) (p : Packages) (known : AreKnown p) where
 
   runs_behind : (m n : MemoryState) (a : AppletNumber) → Behind m n → is_applet m.heap.durable a ≡ true → MayRun p n (Applet a)
   runs_behind m n a b there = may_run p n a b.stands.sound b.stands.environment b.idle (there_still m n a b there)
+
+  -- an applet's own instance
+  own_living : (m : MemoryState) (a : AppletNumber) → IsSoundMemory p m → AreLivingCells m.heap.now (Reference (instance_of m a.0) ∷ [])
+  own_living m a sound = more_living m.heap.now (Reference (instance_of m a.0)) [] (instance_refers p m sound a.0) (none_living m.heap.now)
 
   -- what is left shut
   record IsShut (m n : MemoryState) : Type 0 where
@@ -144,7 +168,7 @@ module _ (runs : RunsAreSound) (p : Packages) (known : AreKnown p) where
   left_good budget (Some a) m r there =
       good_bind p _ _ (applet_method_call budget p AppletDeselect (instance_of m a.0) (Reference (instance_of m a.0) ∷ []) (Applet a) m) m
       (good_more p _ _ (applet_method_call budget p AppletDeselect (instance_of m a.0) (Reference (instance_of m a.0) ∷ []) (Applet a) m) m
-      (called_good runs p known budget AppletDeselect (instance_of m a.0) (Reference (instance_of m a.0) ∷ []) (Applet a) m
+      (called_good runs p known budget AppletDeselect (instance_of m a.0) (Reference (instance_of m a.0) ∷ []) (Applet a) m (own_living m a r.sound)
       (runs_behind m m a (begins m r) (there a refl)))
       (λ end v ran. good_bind p _ _ (close v) v (good_more p _ _ (close v) v (closed_behind m v (goes_on m m v (begins m r) ran.behind)) (λ u w shut.
       good_then p _ (ClearTransient Deselect) (Finish end.0) w tt (good_gives p _ end.0 _ (cleared m w shut))))))
@@ -158,14 +182,15 @@ module _ (runs : RunsAreSound) (p : Packages) (known : AreKnown p) where
       let v = apply_effect (SetRegisters (with_command expected selecting n.registers)) n in
       let first = goes_on m n v b (behind_one p n (SetRegisters (with_command expected selecting n.registers)) fits b.stands.sound b.stands.environment) in
       good_then p _ (SetRegisters (with_command expected selecting n.registers)) _ n (inl fits) (good_bind p _ _ (buffer_fill v (header_of v.command)) v
-      (good_more p _ _ (buffer_fill v (header_of v.command)) v (filled_good p v first.stands.sound first.stands.environment (header_of v.command)) (λ u w full.
+      (good_more p _ _ (buffer_fill v (header_of v.command)) v (filled_good p v first.stands.sound first.stands.environment (header_of v.command) (header_fits v.command)) (λ u w full.
       let second = goes_on m v w first full.behind in
       good_bind p _ _ (applet_method_call budget p AppletProcess (instance_of w a.0) (Reference (instance_of w a.0) ∷ Reference (apdu_object w) ∷ [])
       (Applet a) w) w
       (good_more p _ _ (applet_method_call budget p AppletProcess (instance_of w a.0) (Reference (instance_of w a.0) ∷ Reference (apdu_object w) ∷ [])
       (Applet a) w) w
       (called_good runs p known budget AppletProcess (instance_of w a.0) (Reference (instance_of w a.0) ∷ Reference (apdu_object w) ∷ []) (Applet a) w
-      (runs_behind m w a second there))
+      (more_living w.heap.now (Reference (instance_of w a.0)) (Reference (apdu_object w) ∷ []) (instance_refers p w second.stands.sound a.0) (more_living w.heap.now (Reference (apdu_object w)) []
+      (inr ((second.stands).environment.now.there 15 (omega arith))) (none_living w.heap.now))) (runs_behind m w a second there))
       (λ end x ran. good_bind p _ _ (close x) x (good_more p _ _ (close x) x (closed_behind m x (goes_on m w x second ran.behind))
       (λ u2 y shut. good_gives p _ _ y (ready m y shut.behind shut.shut))))))))
 
@@ -205,7 +230,8 @@ module _ (runs : RunsAreSound) (p : Packages) (known : AreKnown p) where
       good_then p _ (SetRegisters (with_selected (Some a) v.registers)) _ v (inl fits)
       (good_bind p _ _ (applet_method_call rest p AppletSelect (instance_of w a.0) (Reference (instance_of w a.0) ∷ []) (Applet a) w) w
       (good_more p _ _ (applet_method_call rest p AppletSelect (instance_of w a.0) (Reference (instance_of w a.0) ∷ []) (Applet a) w) w
-      (called_good runs p known rest AppletSelect (instance_of w a.0) (Reference (instance_of w a.0) ∷ []) (Applet a) w (runs_behind m w a second there))
+      (called_good runs p known rest AppletSelect (instance_of w a.0) (Reference (instance_of w a.0) ∷ []) (Applet a) w
+      (own_living w a second.stands.sound) (runs_behind m w a second there))
       (λ end x ran. good_bind p _ _ (close x) x (good_more p _ _ (close x) x (closed_behind m x (goes_on m w x second ran.behind))
       (λ u y shut. accepted_behind (is_select_accepted end.1) end.0 a expected m y shut there)))))))
 
@@ -279,18 +305,19 @@ module _ (runs : RunsAreSound) (p : Packages) (known : AreKnown p) where
       opens = λ one. absurd (false≢true one);
     }
 
-    installed_good : (budget offset : ℕ) (parameters : List ℕ) → Good p (applet_installation budget p q entry offset parameters m) m (λ e k. IsReady p k)
+    installed_good : (budget offset : ℕ) (parameters : List ℕ) → length parameters ≤ buffer_size → Good p (applet_installation budget p q entry offset parameters m) m (λ e k. IsReady p k)
     unfolding applet_installation
-    installed_good budget offset parameters =
+    installed_good budget offset parameters few =
         good_then p _ (HeapMove Begin) _ m r.closed (good_then p _ (SetRegisters opened) _ v (inr opens)
-        (good_bind p _ _ (buffer_fill w parameters) w (good_more p _ _ (buffer_fill w parameters) w (filled_good p w w_sound w_environment parameters)
+        (good_bind p _ _ (buffer_fill w parameters) w (good_more p _ _ (buffer_fill w parameters) w (filled_good p w w_sound w_environment parameters few)
         (λ u x full.
         good_bind p _ _ (method_run budget p q.0 offset (Reference (apdu_buffer x) ∷ Short (pos 0) ∷ Short (pos (length parameters)) ∷ [])
         (Applet (next_applet m)) x) x
         (good_more p _ _ (method_run budget p q.0 offset (Reference (apdu_buffer x) ∷ Short (pos 0) ∷ Short (pos (length parameters)) ∷ [])
         (Applet (next_applet m)) x) x
         (run_for_good runs p known budget q.0 offset (Reference (apdu_buffer x) ∷ Short (pos 0) ∷ Short (pos (length parameters)) ∷ [])
-        (Applet (next_applet m)) x (next_runs x full))
+        (Applet (next_applet m)) x (more_living x.heap.now (Reference (apdu_buffer x)) (Short (pos 0) ∷ Short (pos (length parameters)) ∷ []) (inr ((full.behind).environment.now.there 16 (omega arith)))
+        (more_living x.heap.now (Short (pos 0)) (Short (pos (length parameters)) ∷ []) tt (more_living x.heap.now (Short (pos (length parameters))) [] tt (none_living x.heap.now)))) (next_runs x full))
         (λ end y ran. good_bind p _ _ (close y) y (good_more p _ _ (close y) y (closed_good p y ran.behind.sound ran.behind.environment) (λ u2 z shut.
         let t = apply_effect (ClearTransient Deselect) z in
         let third = behind_both p w x z full.behind (behind_both p x y z ran.behind shut.behind) in
@@ -305,20 +332,22 @@ module _ (runs : RunsAreSound) (p : Packages) (known : AreKnown p) where
   -- ---- the applet that is named
 
   installing_good : (budget : ℕ) (e : ℕ × ℕ) (offset : Option ℕ) (parameters : List ℕ) (m : MemoryState) → IsReady p m
-      → is_home m.heap.now (Open (record { 0 = e.0 }) e.1) ≡ true → Good p (creation_by_entry budget p e offset parameters m) m (λ end k. IsReady p k)
-  installing_good budget e None parameters m r home = good_gives p _ _ m r
-  installing_good budget e (Some offset) parameters m r home = installed_good (record { 0 = e.0 }) e.1 m r home budget offset parameters
+      → is_home m.heap.now (Open (record { 0 = e.0 }) e.1) ≡ true → length parameters ≤ buffer_size
+      → Good p (creation_by_entry budget p e offset parameters m) m (λ end k. IsReady p k)
+  installing_good budget e None parameters m r home few = good_gives p _ _ m r
+  installing_good budget e (Some offset) parameters m r home few = installed_good (record { 0 = e.0 }) e.1 m r home budget offset parameters few
 
   created_by_good : (budget : ℕ) (e : Option (ℕ × ℕ)) (parameters : List ℕ) (m : MemoryState) → IsReady p m
-      → ((x : ℕ × ℕ) → e ≡ Some x → (1 ≤ x.0) × (x.0 ≤ length p.loaded)) → Good p (creation_in_registry budget p e parameters m) m (λ end k. IsReady p k)
-  created_by_good budget None parameters m r within = good_gives p _ _ m r
-  created_by_good budget (Some e) parameters m r within =
+      → ((x : ℕ × ℕ) → e ≡ Some x → (1 ≤ x.0) × (x.0 ≤ length p.loaded)) → length parameters ≤ buffer_size
+      → Good p (creation_in_registry budget p e parameters m) m (λ end k. IsReady p k)
+  created_by_good budget None parameters m r within few = good_gives p _ _ m r
+  created_by_good budget (Some e) parameters m r within few =
       let at = within e refl in
       let home : is_home m.heap.now (Open (record { 0 = e.0 }) e.1) ≡ true = and_from (nat_lt 0 e.0) _ (lt-ltb 0 e.0 at.0)
       (le-leb e.0 (length m.heap.now.packages) (let l = r.sound.loaded in let x = at.1 in omega (arith, l, x))) in
       if_good (nat_lt m.heap.now.counts.1 most_applets) (creation_by_entry budget p e
       (option_map (λ a. a.install_offset) (applet_entry p e.0 e.1)) parameters m) RegistryFull m r
-      (installing_good budget e (option_map (λ a. a.install_offset) (applet_entry p e.0 e.1)) parameters m r home)
+      (installing_good budget e (option_map (λ a. a.install_offset) (applet_entry p e.0 e.1)) parameters m r home few)
     where
       if_good : (b : Bool) (d : Program AppletResult) (a : AppletResult) (n : MemoryState) → IsReady p n → Good p d n (λ end k. IsReady p k)
           → Good p (if b then d else Finish a) n (λ end k. IsReady p k)
@@ -334,13 +363,13 @@ module _ (runs : RunsAreSound) (p : Packages) (known : AreKnown p) where
       (let a = range.0 in omega (arith, a, same), let b = range.1 in omega (arith, b, same)))
 
   created_of_good : (budget : ℕ) (c : Option (List ℕ × List ℕ)) (m : MemoryState) → IsReady p m
-      → Good p (creation_by_data budget p c m) m (λ end k. IsReady p k)
-  created_of_good budget None m r = good_gives p _ _ m r
-  created_of_good budget (Some c) m r = created_by_good budget (applet_named p c.0) c.1 m r (named_within c.0)
+      → ((d : List ℕ × List ℕ) → c ≡ Some d → length d.1 ≤ buffer_size) → Good p (creation_by_data budget p c m) m (λ end k. IsReady p k)
+  created_of_good budget None m r few = good_gives p _ _ m r
+  created_of_good budget (Some c) m r few = created_by_good budget (applet_named p c.0) c.1 m r (named_within c.0) (few c refl)
 
   created_good : (budget : ℕ) (bytes : List ℕ) (m : MemoryState) → IsReady p m → Good p (applet_creation budget p bytes m) m (λ end k. IsReady p k)
   unfolding applet_creation
-  created_good budget bytes m r = created_of_good budget (creation_of bytes) m r
+  created_good budget bytes m r = created_of_good budget (creation_of bytes) m r (parameters_fit bytes)
 
   -- ---- code that was lent
 
@@ -354,6 +383,7 @@ module _ (runs : RunsAreSound) (p : Packages) (known : AreKnown p) where
         callers = tt;
         environment = r.environment;
         code = λ home zero. absurd (true≢false home);
+        living = record { current = first_living m.heap.now [] locals limit 0 no_package (none_living m.heap.now); callers = tt };
       } in
       let fits : AllDue (IsFit p) (run_ad_hoc limit locals code budget p m) m = runs budget code p (bare_frames limit locals) m known machine in
       good_bind p _ _ (run_ad_hoc limit locals code budget p m) m (record {

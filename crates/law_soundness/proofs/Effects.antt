@@ -1,15 +1,15 @@
 -- Effects that fit leave a sound memory sound.
-use Rattle.std.proofs.Common.{◌≡◌, ℕ, suc, ◌+◌, ◌<◌, ◌≤◌, ◌==◌, ◌++◌, Bool, true, false, inl, inr, List, [], ◌∷◌, length, get_or, refl, sym, ◌∙◌, ap}
+use Rattle.std.proofs.Common.{◌≡◌, ℕ, suc, ◌+◌, ◌<◌, ◌≤◌, ◌++◌, Bool, true, false, inl, inr, List, [], ◌∷◌, length, get_or, refl, sym, ◌∙◌, ap}
 use Rattle.std.proofs.Common.{subst, arith, None, if◌then◌else◌, nat_le}
 use Rattle.std.proofs.lemmas.List.{length-set}
-use Rattle.std.proofs.lemmas.Bool.{and_parts, cases_Bool, cases_lt, eqb-true, leb-true, or_cases, false≢true}
+use Rattle.std.proofs.lemmas.Bool.{and_parts, cases_Bool, cases_lt, leb-true, false≢true}
 use Rattle.jc_transient.specs.declared.cell.ClearEvent.{ClearEvent}
 use Rattle.jc_heap.specs.declared.object.Facts.{Facts}
 use Rattle.jc_heap.specs.declared.object.Kind.{Kind}
 use Rattle.jc_heap.specs.declared.object.Kind.TheVariants.{ReferenceArray}
 use Rattle.jc_heap.specs.declared.place.Place.{Place}
 use Rattle.jc_heap.specs.declared.place.Place.TheVariants.{Cell, Static, Registry, AppletCount}
-use Rattle.jc_heap.specs.Object.{facts_of, is_object, new_object, object_size, transient_size}
+use Rattle.jc_heap.specs.Object.{facts_of, header_only, is_object, new_object, object_size, transient_size}
 use Rattle.jc_heap.specs.Heap.{HeapState, LacksCells, add_object, add_transient, cells, facts, goes_back, heap_item_at, is_allocated, set_cell, set_cells}
 use Rattle.jc_heap.specs.Keeping.{AreLegalValues, IsLegalValue}
 use Rattle.jc_heap.specs.Moves.{Move, Write, SetPlaces, WriteNonAtomic, SetCells, AddObject, AddTransient, AddPackage, Begin, Commit, Abort, new_move}
@@ -19,17 +19,20 @@ use Rattle.jc_heap.specs.Whole.{IsReference}
 use Rattle.jc_heap.proofs.KeepingMoves.{keeps}
 use Rattle.jc_heap.proofs.KeptWords.{outside_none_goes_back}
 use Rattle.jc_heap.proofs.Laws.{header_only-set_cell, facts-set_cell, heap_item_at-absent, set_cell-absent}
+use Rattle.jc_heap.proofs.RecordWords.{header_only-set_word}
 use Rattle.jc_memory.specs.Cells.{word_at, word_in}
 use Rattle.jc_memory.specs.Owners.{owner_number}
 use Rattle.jc_memory.specs.State.{MemoryState, Effect, HeapMove, SetTransient, SetFlag, ClearTransient, SetRegisters, BeginCommand, SendBytes}
 use Rattle.jc_memory.specs.State.{apply_effect, ram_after_move}
 use Rattle.jc_linker.specs.Values.{Packages}
 use Rattle.jc_pin.specs.PinInit.{first_record}
-use Rattle.jc_card_checks.specs.Objects.{is_bytes, is_instance, is_persistent_instance, is_reference, is_object_address}
+use Rattle.jc_card_checks.specs.Objects.{is_bytes, is_instance, is_persistent_instance}
 use Rattle.law_soundness.specs.State.{IsFitObject, IsSoundMemory, IsSoundUpTo, is_applet, is_open, is_owner_up_to, last_own, most_owner}
 use Rattle.law_soundness.specs.Fit.{AreStatics, FitsChange, FitsMove, FitsNew, FitsPlace, FitsRun, IsFit, IsPinObject, KeepsSound, OfPin, OfRegistry, OfStatics}
 use Rattle.law_soundness.specs.Fit.{OfValue, RegistersApplet, SetsAid, SetsUpPin, UpdatesPin}
-use Rattle.law_soundness.proofs.Frames.{Frames, bytes_held, cell_frames, object_frames, places_frames, run_frames, same_object, statics_held, transient_frames}
+use Rattle.law_soundness.proofs.Frames.{Frames, bytes_held, cell_frames, object_frames, places_frames, places_headers, run_frames, run_headers, same_object, statics_held}
+use Rattle.law_soundness.proofs.Frames.{transient_frames}
+use Rattle.law_soundness.proofs.Transients.{cleared_carried, fill_carried, flags_carried, names_object, object_carried, same_carried, transient_carried}
 use Rattle.law_soundness.proofs.Frames.{word_frames}
 use Rattle.law_soundness.proofs.Kept.{IsSoundBut, owner_same}
 use Rattle.law_soundness.proofs.Lists.{zeros}
@@ -42,12 +45,6 @@ use Rattle.law_soundness.proofs.Statics.{static_kept, words_kept}
 use Rattle.law_soundness.proofs.Values.{aid_run_kept, none_of, of_all, run_kept, value_kept}
 
 -- ---- what the moves need to keep the heap whole
-
-reference_of : (h : HeapState) (v : ℕ) → is_reference h v ≡ true → IsReference h v
-reference_of h v is = elim (or_cases (v == 0) (is_object_address h v) is) [
-  | inl z ↦ inl (eqb-true v 0 z)
-  | inr there ↦ inr there
-]
 
 no_array : (f : Facts) → is_persistent_instance f ≡ true → f.kind ≡ ReferenceArray → ⊥
 no_array f kept e = false≢true (sym (ap is_instance e) ∙ (and_parts (is_instance f.kind) _ kept).0)
@@ -134,6 +131,8 @@ module _ (p : Packages) (m : MemoryState) (s : IsSoundMemory p m) (r v : ℕ) (p
             ∙ there);
         home = home_same m.heap.now (set_cell m.heap.now r 2 v) m.registers.installation f.packages ∙ s.home;
         selected = λ a e. applet_same m.heap.durable left a d.counts ∙ s.selected a e;
+        command = s.command;
+        transients = same_carried m.heap.now (set_cell m.heap.now r 2 v) m.ram (header_only-set_cell m.heap.now r 2 v) s.transients;
       }
 
 -- ---- an applet is registered
@@ -185,6 +184,8 @@ module _ (p : Packages) (m : MemoryState) (s : IsSoundMemory p m) (changes : Lis
         ∙ s.own q low (sym (ap is_object (item_still p m.heap.now (last_own m) f.entry new_entry q)) ∙ there);
     home = s.home;
     selected = λ a e. ap (λ h. is_applet h a) left_is ∙ s.selected a e;
+    command = s.command;
+    transients = same_carried m.heap.now registered m.ram (λ q. ap header_only (item_still p m.heap.now (last_own m) f.entry new_entry q)) s.transients;
   }
 
 -- ---- PINs
@@ -203,6 +204,7 @@ module _ (p : Packages) (m : MemoryState) (s : IsSoundMemory p m) where
       subst (λ cs. IsSoundMemory p (apply_effect (HeapMove (SetPlaces cs)) m)) (sym f.is)
       (kept_changed p m s (set_places m.heap.now (first_record f.pin f.limit f.maximum f.value)) _ 0
       (places_frames (first_record f.pin f.limit f.maximum f.value) m.heap.now tt)
+      (places_headers (first_record f.pin f.limit f.maximum f.value) m.heap.now)
       (keeps (SetPlaces (first_record f.pin f.limit f.maximum f.value)) m.heap (
         no_reference,
         (no_reference, (no_reference, (no_reference, (no_reference, tt)))),
@@ -216,6 +218,7 @@ module _ (p : Packages) (m : MemoryState) (s : IsSoundMemory p m) where
   value_set : (changes : List (Place × ℕ)) → UpdatesPin p m changes → IsSoundMemory p (apply_effect (HeapMove (SetPlaces changes)) m)
   value_set changes f = subst (λ cs. IsSoundMemory p (apply_effect (HeapMove (SetPlaces cs)) m)) (sym is)
       (kept_changed p m s (set_places m.heap.now new) _ 0 (places_frames new m.heap.now (bytes_held f.bytes array 0 rest tt))
+      (places_headers new m.heap.now)
       (keeps (SetPlaces new) m.heap (bytes_suit m.heap.now f.bytes array 0 rest kind
       (λ k. absurd (no_array (facts m.heap.now f.pin) f.object.kept k), (λ k. absurd (no_array (facts m.heap.now f.pin) f.object.kept k), tt))) s.whole)
       (λ most sound. update_kept most (last_own m) p m.heap.now f.pin (word_at m f.pin 0) f.bytes
@@ -248,6 +251,7 @@ module _ (p : Packages) (m : MemoryState) (s : IsSoundMemory p m) where
   changes_kept : (changes : List (Place × ℕ)) → FitsChange p m changes → IsSoundMemory p (apply_effect (HeapMove (SetPlaces changes)) m)
   changes_kept changes (OfStatics fits) =
       kept_changed p m s (set_places m.heap.now changes) _ 0 (places_frames changes m.heap.now (statics_held p m.heap.now changes fits))
+      (places_headers changes m.heap.now)
       (keeps (SetPlaces changes) m.heap (statics_suit p m.heap.now changes fits) s.whole)
       (λ most sound. of_all most (last_own m) p m.heap.now (set_places m.heap.now changes)
       (words_kept (last_own m) most (last_own m) p m.heap.now changes fits) sound)
@@ -257,12 +261,13 @@ module _ (p : Packages) (m : MemoryState) (s : IsSoundMemory p m) where
 
   place_kept : (place : Place) (v : ℕ) → FitsPlace p m.heap.now place v → IsSoundMemory p (apply_effect (HeapMove (Write place v)) m)
   place_kept (Cell r i) v fits =
-      kept_changed p m s (set_cell m.heap.now r i v) _ 0 (cell_frames m.heap.now r i v)
-      (keeps (Write (Cell r i) v) m.heap (λ kind. reference_of m.heap.now v (fits.1 kind)) s.whole)
+      kept_changed p m s (set_cell m.heap.now r i v) _ 0 (cell_frames m.heap.now r i v) (header_only-set_cell m.heap.now r i v)
+      (keeps (Write (Cell r i) v) m.heap (λ kind. names_object m.heap.now v (fits.1.1 kind)) s.whole)
       (λ most sound. of_all most (last_own m) p m.heap.now (set_cell m.heap.now r i v)
-      (value_kept (last_own m) most (last_own m) p m.heap.now r i v fits.0) sound)
+      (value_kept (last_own m) most (last_own m) p m.heap.now r i v fits.1.0) sound)
   place_kept (Static r j) v fits =
-      kept_changed p m s (set_word m.heap.now r j v) _ 0 (word_frames m.heap.now r j v) (keeps (Write (Static r j) v) m.heap tt s.whole)
+      kept_changed p m s (set_word m.heap.now r j v) _ 0 (word_frames m.heap.now r j v) (header_only-set_word m.heap.now r j v)
+      (keeps (Write (Static r j) v) m.heap tt s.whole)
       (λ most sound. of_all most (last_own m) p m.heap.now (set_word m.heap.now r j v)
       (static_kept (last_own m) most (last_own m) p m.heap.now r j v fits) sound)
   place_kept (Registry i) v fits = absurd fits
@@ -270,7 +275,7 @@ module _ (p : Packages) (m : MemoryState) (s : IsSoundMemory p m) where
 
   run_set : (r i : ℕ) (words : List ℕ) → FitsRun p m r i words → IsSoundMemory p (apply_effect (HeapMove (SetCells r i words)) m)
   run_set r i words fits =
-      kept_changed p m s (set_cells m.heap.now r i words) _ 0 (run_frames words m.heap.now r i)
+      kept_changed p m s (set_cells m.heap.now r i words) _ 0 (run_frames words m.heap.now r i) (run_headers words m.heap.now r i)
       (keeps (SetCells r i words) m.heap (λ kind. absurd (fits.1 kind)) s.whole)
       (λ most sound. of_all most (last_own m) p m.heap.now (set_cells m.heap.now r i words)
       (λ but. elim (cases_Bool (is_persistent_instance (facts m.heap.now r))) [
@@ -302,42 +307,45 @@ module _ (p : Packages) (m : MemoryState) (s : IsSoundMemory p m) where
       (keeps (new_move kind class owner long) m.heap (omega arith, (refl, λ array i lt. inl (zeros long i))) s.whole)
       (added (most_owner m) (known_now p m s owner fits.known) s.now) (λ off. added m.heap.now.counts.1 (known_low p m s owner fits.known off)
       (low_now p m s off)) (ram_after_move (new_move kind class owner long) m.heap m.ram)
+      (object_carried m.heap.now m.ram (new_object kind class owner long) (object_size kind long) free refl s.transients)
 
   transient_kept : (kind : Kind) (event : ClearEvent) (class owner long : ℕ) → FitsNew p m kind class owner long → (LacksCells m.heap.now event long → ⊥)
-      → IsSoundMemory p (apply_effect (HeapMove (AddTransient kind event class owner long)) m)
-  transient_kept kind event class owner long fits space =
+      → is_instance kind ≡ false → IsSoundMemory p (apply_effect (HeapMove (AddTransient kind event class owner long)) m)
+  transient_kept kind event class owner long fits space array =
       let added : (most : ℕ) → is_owner_up_to most m.heap.now owner ≡ true → IsSoundUpTo most p m.heap.now (last_own m)
       → IsSoundUpTo most p (add_transient m.heap.now kind event class owner long) (last_own m) =
       λ most known sound. of_all most (last_own m) p m.heap.now (add_transient m.heap.now kind event class owner long)
-      (transient_added (last_own m) most (last_own m) p m.heap.now kind event class owner long free s.whole.now.whole.met fits.there known fits.small) sound in
+      (transient_added (last_own m) most (last_own m) p m.heap.now kind event class owner long free s.whole.now.whole.met fits.there known array) sound in
       change_kept p m s (add_transient m.heap.now kind event class owner long) _ transient_size (transient_frames m.heap.now kind event class owner long)
       (keeps (AddTransient kind event class owner long) m.heap space s.whole)
       (added (most_owner m) (known_now p m s owner fits.known) s.now) (λ off. added m.heap.now.counts.1 (known_low p m s owner fits.known off)
       (low_now p m s off)) (ram_after_move (AddTransient kind event class owner long) m.heap m.ram)
+      (transient_carried m.heap.now s.whole.now m.ram s.transients kind event class owner long space)
 
   move_kept : (move : Move) → FitsMove p move m → IsSoundMemory p (apply_effect (HeapMove move) m)
   move_kept (Write place v) fits = place_kept place v fits
   move_kept (SetPlaces changes) fits = changes_kept changes fits
   move_kept (WriteNonAtomic place v) fits = subst (λ c. IsSoundMemory p (apply_effect (HeapMove (WriteNonAtomic c v)) m)) (sym fits.1)
       (count_kept p m s fits.0 v (pin_at p m fits.0 fits.2))
-  move_kept (SetCells r i words) fits = run_set r i words fits
+  move_kept (SetCells r i words) fits = run_set r i words fits.1
   move_kept (AddObject o size) fits = subst (λ move. IsSoundMemory p (apply_effect (HeapMove move) m)) (sym fits.is)
       (new_kept fits.kind fits.class fits.owner fits.long fits.fits)
-  move_kept (AddTransient kind event class owner long) fits = transient_kept kind event class owner long fits.0 fits.1
+  move_kept (AddTransient kind event class owner long) fits = transient_kept kind event class owner long fits.0 fits.1 fits.2
   move_kept (AddPackage components arrays image) fits = absurd fits
   move_kept Begin fits = begun_kept p m s fits
-  move_kept Commit fits = committed_kept p m s fits
+  move_kept Commit fits = committed_kept p m s fits.1
   move_kept Abort fits = aborted_kept p m s
 
 effect_kept : (p : Packages) (e : Effect) (m : MemoryState) → IsFit p e m → IsSoundMemory p m → IsSoundMemory p (apply_effect e m)
 effect_kept p (HeapMove move) m fits s = move_kept p m s move fits
-effect_kept p (SetTransient r i values) m fits s = again p m _ m.command m.sent s
-effect_kept p (SetFlag r flag) m fits s = again p m _ m.command m.sent s
-effect_kept p (ClearTransient event) m fits s = again p m _ m.command m.sent s
+effect_kept p (SetTransient r i values) m fits s = again p m _ m.command m.sent s.command (fill_carried m s.whole.now.whole s.transients r i values fits) s
+effect_kept p (SetFlag r flag) m fits s = again p m _ m.command m.sent s.command
+    (flags_carried m.heap.now m.ram _ (length-set m.ram.flags r flag) s.transients) s
+effect_kept p (ClearTransient event) m fits s = again p m _ m.command m.sent s.command (cleared_carried m.heap.now m.ram s.transients event) s
 effect_kept p (SetRegisters registers) m fits s = turned_kept p m s registers (record
     { active = fits.active; leaves = fits.leaves; home = fits.home; selected = fits.selected })
-effect_kept p (BeginCommand bytes) m fits s = again p m m.ram bytes [] s
-effect_kept p (SendBytes bytes) m fits s = again p m m.ram m.command (m.sent ++ bytes) s
+effect_kept p (BeginCommand bytes) m fits s = again p m m.ram bytes [] fits s.transients s
+effect_kept p (SendBytes bytes) m fits s = again p m m.ram m.command (m.sent ++ bytes) s.command s.transients s
 
 pub keeps_sound : KeepsSound
 keeps_sound = effect_kept

@@ -1,7 +1,6 @@
 -- Instructions on fields.
 use Rattle.std.proofs.Common.{◌≡◌, ℕ, Bool, true, false, Ok, refl, sym, ◌∙◌, ap, subst}
 use Rattle.jc_transient.specs.declared.cell.CellValue.{CellValue}
-use Rattle.jc_heap.specs.declared.place.Place.TheVariants.{Cell}
 use Rattle.jc_heap.specs.Heap.{facts}
 use Rattle.jc_opcodes.specs.declared.instr.ValueType.{ValueType}
 use Rattle.jc_opcodes.specs.declared.instr.ValueType.TheVariants as types
@@ -18,12 +17,12 @@ use Rattle.law_isolation.proofs.Instructions.{fields_due}
 use Rattle.law_isolation.proofs.Passing.{FieldsPass}
 use Rattle.law_isolation.proofs.Reached.{IsCell, Names}
 use Rattle.law_soundness.specs.Classes.{KnowsClasses}
-use Rattle.law_soundness.specs.Fit.{FitsCell, FitsPlace, IsFit}
+use Rattle.law_soundness.specs.Fit.{FitsCell, FitsValue, IsFit}
 use Rattle.law_soundness.specs.State.{IsSoundMemory}
 use Rattle.law_soundness.specs.Groups.{FieldsFit}
-use Rattle.law_soundness.proofs.RunObjects.{instance_no_array, kept_fits, set_in}
+use Rattle.law_soundness.proofs.RunObjects.{instance_no_array, kept_fits, one_fits, set_in}
 use Rattle.law_soundness.proofs.RunStatics.{static_due, static_is}
-use Rattle.law_soundness.proofs.RunValues.{HasType, has_type, keepable_is}
+use Rattle.law_soundness.proofs.RunValues.{HasType, has_type, keepable_is, keepable_lives}
 
 module _ (p : Packages) (m : MemoryState) (known : KnowsClasses p) (sound : IsSoundMemory p m) where
   -- a value that may be kept, where the field holds references
@@ -51,7 +50,7 @@ module _ (p : Packages) (m : MemoryState) (known : KnowsClasses p) (sound : IsSo
               has.below below;
         }
 
-    fits_place : FitsPlace p m.heap.now (Cell r i) (word_of v)
+    fits_place : FitsValue p m.heap.now r i (word_of v)
     fits_place = (
       λ stays. subst (λ c. FitsCell p m.heap.now r c (word_of v)) has.cell (fits_kept stays),
       λ array. absurd (instance_no_array (facts m.heap.now r).kind (ap is_instance has.kind) array),
@@ -59,8 +58,10 @@ module _ (p : Packages) (m : MemoryState) (known : KnowsClasses p) (sound : IsSo
 
   pub fields_pass : FieldsPass (IsFit p) p m
   fields_pass = record {
-    field = λ of_type number index r i field cells v k taken kept named cell. set_in p m (facts m.heap.now r).event r i k
-        (fits_place number index of_type field r i v.0 k named cell (has_type of_type cells v taken) kept);
+    field = λ of_type number index r i field cells v k taken kept named cell. set_in p m (facts m.heap.now r).event r i k refl
+        (fits_place number index of_type field r i v.0 k named cell (has_type of_type cells v taken) kept)
+        (one_fits m r i k cell.within (keepable_lives p m v.0 k kept)
+        (λ array. absurd (instance_no_array (facts m.heap.now r).kind (ap is_instance cell.kind) array)));
     static = λ of_type number index field cells v k s taken kept named. static_due p m sound of_type field v.0 k s
         (static_is p of_type field number index named) (has_type of_type cells v taken) kept;
   }

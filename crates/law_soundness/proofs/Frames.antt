@@ -7,7 +7,7 @@ use Rattle.jc_heap.specs.declared.place.Place.{Place}
 use Rattle.jc_heap.specs.declared.place.Place.TheVariants.{Cell, Static, Registry, AppletCount}
 use Rattle.jc_heap.specs.Object.{AnObject, APackage, Item, Object, header_only, facts_of, is_object, new_transient}
 use Rattle.jc_heap.specs.Heap.{HeapState, add_object, add_transient, area_end, facts, heap_item_at, set_cell, set_cells, with_area_end}
-use Rattle.jc_heap.specs.Places.{set_places, cell_changes}
+use Rattle.jc_heap.specs.Places.{set_place, set_places, cell_changes}
 use Rattle.jc_heap.specs.Statics.{set_word}
 use Rattle.jc_heap.proofs.Laws.{header_only-set_cell, facts-set_cell, heap_item_at-add_other, same_facts}
 use Rattle.jc_heap.proofs.RecordWords.{header_only-set_word}
@@ -21,6 +21,10 @@ bare_object (APackage ws) = refl
 -- what differs in cells and words alone is an object in both
 pub same_object : (a b : Item) → header_only a ≡ header_only b → is_object a ≡ is_object b
 same_object a b e = sym (bare_object a) ∙ ap is_object e ∙ bare_object b
+
+-- each header is the same
+abbrev pub SameHeaders : HeapState → HeapState → Type 0
+SameHeaders h g = (r : ℕ) → header_only (heap_item_at g r) ≡ header_only (heap_item_at h r)
 
 -- the same packages and the same numbers of them and of applets, as many words of the registry, the same headers of the same objects, and no
 -- less space taken
@@ -122,3 +126,23 @@ statics_held p h ((AppletCount, v) ∷ cs) fits = absurd fits
 pub bytes_held : (bytes : List ℕ) (array i : ℕ) (cs : List (Place × ℕ)) → AreHeld cs → AreHeld (cell_changes array i bytes ++ cs)
 bytes_held [] array i cs held = held
 bytes_held (b ∷ bytes) array i cs held = bytes_held bytes array (suc i) cs held
+
+pub run_headers : (vs : List ℕ) (h : HeapState) (r i : ℕ) → SameHeaders h (set_cells h r i vs)
+run_headers [] h r i q = refl
+run_headers (v ∷ vs) h r i q = run_headers vs (set_cell h r i v) r (suc i) q ∙ header_only-set_cell h r i v q
+
+pub place_headers : (h : HeapState) (place : Place) (v : ℕ) → SameHeaders h (set_place h place v)
+unfolding heap_item_at
+place_headers h (Cell r i) v = header_only-set_cell h r i v
+place_headers h (Static r j) v = header_only-set_word h r j v
+place_headers h (Registry i) v = λ q. refl
+place_headers h AppletCount v = λ q. refl
+
+pub places_headers : (cs : List (Place × ℕ)) (h : HeapState) → SameHeaders h (set_places h cs)
+places_headers [] h q = refl
+places_headers (c ∷ cs) h q = places_headers cs (set_place h c.0 c.1) q ∙ place_headers h c.0 c.1 q
+
+pub end_headers : (h : HeapState) (event : ClearEvent) (n : ℕ) → SameHeaders h (with_area_end h event n)
+unfolding heap_item_at
+end_headers h Reset n = λ q. refl
+end_headers h Deselect n = λ q. refl

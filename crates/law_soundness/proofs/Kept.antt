@@ -29,6 +29,7 @@ pub record IsFitBut (x most : ℕ) (p : Packages) (h : HeapState) (r : ℕ) : Ty
   pub values : is_persistent_instance (facts h r) ≡ true → HoldsBut x p h r
   pub cells : (facts h r).event ≡ None → length (cells h r) ≡ (facts h r).length
   pub small : is_instance (facts h r).kind ≡ true → (facts h r).length < 65536
+  pub persistent : is_instance (facts h r).kind ≡ true → (facts h r).event ≡ None
 
 pub record IsSoundBut (x most : ℕ) (p : Packages) (h : HeapState) (own : ℕ) : Type 0 where
   pub objects : (r : ℕ) → own < r → IsObject h r → IsFitBut x most p h r
@@ -45,6 +46,7 @@ but_one x most p h own s = record {
     values = λ kept. let v : HoldsValues p h r = o.values kept in record { references = v.references; aid = v.aid; pin = λ _. v.pin };
     cells = o.cells;
     small = o.small;
+    persistent = o.persistent;
   };
   statics = s.statics;
   applets = s.applets;
@@ -62,6 +64,7 @@ with_one x most p h own one s = record {
     values = λ kept. let v : HoldsBut x p h r = o.values kept in record { references = v.references; aid = v.aid; pin = pin r above there kept v };
     cells = o.cells;
     small = o.small;
+    persistent = o.persistent;
   };
   statics = s.statics;
   applets = s.applets;
@@ -103,7 +106,14 @@ pub more_owners : (most more : ℕ) (p : Packages) (h : HeapState) (own : ℕ) �
 more_owners most more p h own le s = record {
   objects = λ r above there.
       let o : IsFitObject most p h r = s.objects r above there in
-      record { class = o.class; owner = owner_more most more h (facts h r).owner le o.owner; values = o.values; cells = o.cells; small = o.small };
+      record {
+        class = o.class;
+        owner = owner_more most more h (facts h r).owner le o.owner;
+        values = o.values;
+        cells = o.cells;
+        small = o.small;
+        persistent = o.persistent;
+      };
   statics = s.statics;
   applets = s.applets;
   distinct = s.distinct;
@@ -149,6 +159,7 @@ module _ (p : Packages) (h g : HeapState) (c : Carries h g) where
     values = λ kept. let old : is_persistent_instance (facts h r) ≡ true = ap is_persistent_instance (sym (c.same r there)) ∙ kept in values (o.values old) old;
     cells = λ none. long ∙ o.cells (ap (λ f. f.event) (sym (c.same r there)) ∙ none) ∙ ap (λ f. f.length) (sym (c.same r there));
     small = λ instance. subst (λ f. f.length < 65536) (sym (c.same r there)) (o.small (ap (λ f. is_instance f.kind) (sym (c.same r there)) ∙ instance));
+    persistent = λ instance. ap (λ f. f.event) (c.same r there) ∙ o.persistent (ap (λ f. is_instance f.kind) (sym (c.same r there)) ∙ instance);
   }
 
   -- an object whose cells stay

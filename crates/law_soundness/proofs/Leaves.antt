@@ -1,7 +1,10 @@
 -- Returns and exceptions: code runs again for whom the callers ran.
-use Rattle.std.proofs.Common.{◌≡◌, ℕ, true, List, [], ◌∷◌, Option, Some, None, refl}
-use Rattle.std.specs.Prelude.{ℤ, slice_index}
+use Rattle.std.proofs.Common.{◌≡◌, ℕ, ◌<◌, ◌&&◌, nat_lt, true, List, [], ◌∷◌, Option, Some, None, refl, sym, ◌∙◌, ap, subst}
+use Rattle.std.proofs.lemmas.Bool.{and_parts, ltb-true, true≢false}
+use Rattle.std.specs.Prelude.{ℤ, is_some, slice_index}
 use Rattle.jc_transient.specs.declared.cell.CellValue.TheVariants.{Short}
+use Rattle.jc_heap.specs.declared.object.Facts.{Facts}
+use Rattle.jc_heap.specs.Heap.{facts}
 use Rattle.jc_memory.specs.State.{MemoryState, SetTransient, SetRegisters, apply_effect}
 use Rattle.jc_memory.specs.Cells.{header_at}
 use Rattle.jc_memory.specs.Reading.{AllDue}
@@ -17,20 +20,22 @@ use Rattle.jc_frames.specs.Calls.{frames_after_return}
 use Rattle.jc_frames.specs.Cells.{reference_on}
 use Rattle.jc_frames.specs.Frames.{Caller, Frames, with_stack}
 use Rattle.jc_world.specs.Contexts.{firewall_check}
-use Rattle.jc_world.specs.Objects.{check_or_fault, is_instance_of, object_at}
+use Rattle.jc_world.specs.Objects.{check_or_fault, is_instance, is_instance_of, object_at}
 use Rattle.jc_frames.specs.ReturnOps.{returned_cell}
 use Rattle.jc_interp_calls.specs.Catching.{catch_in_method}
 use Rattle.jc_interp_calls.specs.MethodReturn.{registers_of_caller, return_to_caller, method_return}
 use Rattle.jc_interp_calls.specs.Throwing.{has_reason_cell, number_of, callers_unwind, reason_of, exception_throw, athrow, object_unwind, unwind, with_reason}
 use Rattle.law_isolation.proofs.Due.{due_if, due_ok, due_some}
 use Rattle.law_isolation.proofs.Walk.{caught_due, passed_in}
-use Rattle.law_soundness.specs.Fit.{FitsTurn, IsFit}
+use Rattle.law_soundness.specs.Fit.{FitsFill, FitsTurn, IsFit}
 use Rattle.law_soundness.specs.State.{IsSoundMemory, is_owner_up_to, most_owner}
 use Rattle.law_soundness.proofs.Effects.{keeps_sound}
 use Rattle.law_soundness.specs.Machines.{KnowOwners}
 use Rattle.law_soundness.specs.Methods.{KnowsMethods}
 use Rattle.law_soundness.specs.Steps.{LeavesFit}
 use Rattle.law_soundness.proofs.Owners.{known_again, turn_known}
+use Rattle.law_soundness.proofs.RunObjects.{one_fits}
+use Rattle.law_isolation.proofs.Reaching.{header_is}
 
 module _ (p : Packages) (methods : KnowsMethods p) where
   back_fits : (resume : ReturnPoint) (m : MemoryState) → IsSoundMemory p m → is_owner_up_to (most_owner m) m.heap.now resume.active ≡ true
@@ -86,11 +91,20 @@ module _ (p : Packages) (methods : KnowsMethods p) where
   filled_known r v [] m known = tt
   filled_known r v (c ∷ callers) m known = (known.0, known.1, filled_known r v callers m known.2)
 
+  -- the cell is there, and its object is no array
+  reason_fills : (m : MemoryState) (r : ℕ) (f : Facts) (v : ℤ) → f ≡ facts m.heap.now r → has_reason_cell f ≡ true → FitsFill m r 0 (Short v ∷ [])
+  reason_fills m r f v is on =
+      let both = and_parts (is_instance f.kind && is_some f.event) (nat_lt 0 f.length) on in
+      let instance = (and_parts (is_instance f.kind) (is_some f.event) both.0).0 in
+      one_fits m r 0 (Short v) (subst (λ g. 0 < g.length) is (ltb-true 0 f.length both.1)) tt
+      (λ array. absurd (true≢false (sym instance ∙ ap is_instance (ap (λ g. g.kind) is ∙ array))))
+
   reason_due : (m : MemoryState) (reason : Option ℤ) (r place : ℕ) (s : Frames) → IsSoundMemory p m → KnowOwners s.callers m
       → AllDue (IsFit p) (with_reason reason r place p s m) m
   reason_due m None r place s sound known = unwinding_due r place s m sound known
   reason_due m (Some v) r place s sound known = due_some (IsFit p) m (header_at m r) _ (λ f there. due_if (IsFit p) m (has_reason_cell f) _ _
-      (λ on. (tt, unwinding_due r place s _ (keeps_sound p (SetTransient r 0 (Short v ∷ [])) m tt sound) (filled_known r v s.callers m known))) (λ off. tt))
+      (λ on. let fits = reason_fills m r f v (header_is m r f there).1 on in
+      (fits, unwinding_due r place s _ (keeps_sound p (SetTransient r 0 (Short v ∷ [])) m fits sound) (filled_known r v s.callers m known))) (λ off. tt))
 
   thrown_due : (e : Exception) (place : ℕ) (s : Frames) (m : MemoryState) → IsSoundMemory p m → KnowOwners s.callers m
       → AllDue (IsFit p) (exception_throw e place p s m) m

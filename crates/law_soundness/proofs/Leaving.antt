@@ -10,13 +10,15 @@ use Rattle.jc_memory.specs.Reading.{AllDue, AllResults}
 use Rattle.jc_linker.specs.Values.{Packages}
 use Rattle.jc_world.specs.declared.native_result.NativeResult.{NativeResult}
 use Rattle.jc_world.specs.declared.native_result.NativeResult.TheVariants.{ReturnVoid, ReturnValue, CallServer, Aborted}
-use Rattle.jc_world.specs.NativeCalls.{NativeProgram, if_some, if_ok}
+use Rattle.jc_heap.specs.declared.refusal.HeapRefusal.{HeapRefusal}
+use Rattle.jc_world.specs.NativeCalls.{NativeProgram, if_some, if_ok, unless}
 use Rattle.law_soundness.specs.Fit.{IsFit, KeepsSound}
 use Rattle.law_soundness.specs.State.{IsSoundMemory, IsSteady, is_owner_up_to, most_owner}
 use Rattle.law_soundness.specs.LocalEffects.{LocalEffectsStay}
 use Rattle.law_soundness.specs.Machines.{KnowOwners}
 use Rattle.law_soundness.specs.Calls.{IsCallResult, IsReadyAgain}
-use Rattle.law_soundness.proofs.Still.{AsksNone, IsLike, IsStillCall, still_calm}
+use Rattle.law_soundness.proofs.Living.{cell_kept}
+use Rattle.law_soundness.proofs.Still.{IsLike, IsStillAnswer, IsStillCall, still_calm}
 
 -- owners that were known are known where the packages and the highest number of an owner are the same
 still_known : (most : ℕ) (h k : HeapState) (n : ℕ) → k.packages ≡ h.packages → is_owner_up_to most h n ≡ true → is_owner_up_to most k n ≡ true
@@ -34,34 +36,37 @@ same_owners m n packages most (c ∷ callers) known = (
 
 -- a memory that is left as it was
 pub stays : (m : MemoryState) → IsSteady m → IsReadyAgain m m
-stays m steady = record { steady = steady; owners = λ callers known. known; active = refl }
+stays m steady = record { again = record { steady = steady; owners = λ callers known. known; active = refl }; references = λ r refers. refers }
 
--- a memory that was left so after a call that asks no server
-pub left_so : (m n : MemoryState) (answer : Result NativeResult FrameExit) → AsksNone answer → IsReadyAgain m n → IsCallResult m answer n
-left_so m n (Ok ReturnVoid) none stands = (stands, tt)
-left_so m n (Ok (ReturnValue cell)) none stands = (stands, tt)
-left_so m n (Ok (CallServer asked)) none stands = absurd none
-left_so m n (Ok Aborted) none stands = (stands, tt)
-left_so m n (Err (Throw e)) none stands = stands
-left_so m n (Err (End o)) none stands = tt
+-- a memory that was left so after a call that is still
+pub left_so : (m n : MemoryState) (answer : Result NativeResult FrameExit) → IsStillAnswer m answer → IsReadyAgain m n → IsCallResult m answer n
+left_so m n (Ok ReturnVoid) still stands = stands
+left_so m n (Ok (ReturnValue cell)) still stands = (stands, cell_kept m.heap.now n.heap.now stands.references cell still)
+left_so m n (Ok (CallServer asked)) still stands = absurd still
+left_so m n (Ok Aborted) still stands = absurd still
+left_so m n (Err (Throw e)) still stands = stands
+left_so m n (Err (End o)) still stands = tt
 
 -- calls that are still
 module _ (keeps : KeepsSound) (calm : LocalEffectsStay) (p : Packages) (m : MemoryState) where
-  still_each : (d : NativeProgram) (v : MemoryState) → IsStillCall m.registers d → AllDue (IsFit p) d v → IsSoundMemory p v → IsLike m.registers v
+  still_each : (d : NativeProgram) (v : MemoryState) → IsStillCall m d → AllDue (IsFit p) d v → IsSoundMemory p v → IsLike m v
       → IsReadyAgain m v → AllResults d v (IsCallResult m)
   still_each (Finish answer) v still due sound like stands = left_so m v answer still stands
   still_each (Perform e rest) v still due sound like stands =
-      let now = still_calm m.registers e v still.0 like in
+      let now = still_calm m e v still.0 like in
       still_each rest (apply_effect e v) still.1 due.1 (keeps p e v due.0 sound) now.1
       (record {
-        steady = calm.steady e v now.0 sound.settled stands.steady;
-        owners = λ callers known. calm.owners e v callers now.0 sound.settled (stands.owners callers known);
-        active = now.1.active;
+        again = record {
+          steady = calm.steady e v now.0 sound.settled (stands.again).steady;
+          owners = λ callers known. calm.owners e v callers now.0 sound.settled ((stands.again).owners callers known);
+          active = now.1.active;
+        };
+        references = λ r refers. calm.references e v now.0 sound.whole.now r (stands.references r refers);
       })
   still_each (Choose choose) v still due sound like stands = λ r new. still_each (choose r) v (still r) (due r new) sound like stands
   still_each (Either x y) v still due sound like stands = (still_each x v still.0 due.0 sound like stands, still_each y v still.1 due.1 sound like stands)
 
-  pub still_left : IsSoundMemory p m → IsSteady m → (d : NativeProgram) → IsStillCall m.registers d → AllDue (IsFit p) d m → AllResults d m (IsCallResult m)
+  pub still_left : IsSoundMemory p m → IsSteady m → (d : NativeProgram) → IsStillCall m d → AllDue (IsFit p) d m → AllResults d m (IsCallResult m)
   still_left sound steady d still due = still_each d m still due sound (record { active = refl; installation = refl }) (stays m steady)
 
 -- calls, by what their checks give
@@ -81,3 +86,7 @@ module _ (m : MemoryState) where
   left_ok steady (Ok a) go k = k a refl
   left_ok steady (Err (Throw e)) go k = stays m steady
   left_ok steady (Err (End o)) go k = tt
+
+  pub left_unless : IsSteady m → (o : Option HeapRefusal) (d : NativeProgram) → AllResults d m (IsCallResult m) → AllResults (unless o d) m (IsCallResult m)
+  left_unless steady None d left = left
+  left_unless steady (Some reason) d left = stays m steady

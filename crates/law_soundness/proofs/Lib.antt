@@ -7,6 +7,7 @@ pub mod Objects
 pub mod Pins
 pub mod Registry
 pub mod Frames
+pub mod Transients
 pub mod Memories
 pub mod Effects
 pub mod Losses
@@ -40,12 +41,16 @@ pub mod Aids
 pub mod Apdus
 pub mod CalledPins
 pub mod Leaving
+pub mod Registered
 pub mod System
 pub mod Transactions
 pub mod Register
 pub mod CalledNatives
+pub mod References
+pub mod Living
 pub mod Quiet
 pub mod Plain
+pub mod Loads
 pub mod SteppedFields
 pub mod SteppedObjects
 pub mod Machines

@@ -1,16 +1,20 @@
 -- What calm effects leave as it was.
-use Rattle.std.proofs.Common.{◌≡◌, ℕ, ◌+◌, Bool, true, false, List, [], ◌∷◌, refl, sym, ◌∙◌, ap, subst, if◌then◌else◌}
+use Rattle.std.proofs.Common.{◌≡◌, ℕ, ◌+◌, Bool, true, false, List, [], ◌∷◌, refl, sym, ◌∙◌, ap, subst, arith, if◌then◌else◌}
 use Rattle.jc_transient.specs.State.{RamState}
 use Rattle.jc_heap.specs.declared.place.Place.{Place}
 use Rattle.jc_heap.specs.declared.place.Place.TheVariants.{Cell, Static, Registry, AppletCount}
 use Rattle.jc_heap.specs.Heap.{HeapState, heap_after_change, goes_back}
 use Rattle.jc_heap.specs.Moves.{Write, SetPlaces, WriteNonAtomic, SetCells, AddObject, AddTransient, AddPackage, Begin, Commit, Abort}
+use Rattle.jc_heap.specs.Keeping.{IsConsistentHeap}
 use Rattle.jc_heap.specs.Places.{place_word, set_place, set_places}
+use Rattle.jc_heap.proofs.Keeping.{reference-add}
 use Rattle.jc_memory.specs.State.{MemoryState, Effect, HeapMove, SetTransient, SetFlag, ClearTransient, SetRegisters, BeginCommand, SendBytes}
 use Rattle.jc_memory.specs.State.{apply_effect}
 use Rattle.jc_frames.specs.Frames.{Caller}
 use Rattle.law_soundness.specs.State.{IsSteady, is_open, is_owner_up_to, most_owner}
-use Rattle.law_soundness.proofs.Frames.{cell_frames, object_frames, run_frames, transient_frames, word_frames}
+use Rattle.law_soundness.proofs.Frames.{cell_frames, object_frames, place_headers, places_headers, run_frames, run_headers, transient_frames, word_frames}
+use Rattle.law_soundness.proofs.References.{headers_keep, transient_keeps}
+use Rattle.law_soundness.specs.Living.{KeepsReferences}
 use Rattle.law_soundness.specs.LocalEffects.{AreElsewhere, LocalEffectsStay, IsLocalEffect, IsElsewhere}
 use Rattle.law_soundness.specs.Machines.{KnowOwners}
 
@@ -106,8 +110,28 @@ still_known m v (c ∷ callers) s known = (
   still_known m v callers s known.2,
 )
 
+-- ---- references
+
+place_keeps : (h : HeapState) (place : Place) (v : ℕ) → KeepsReferences h (set_place h place v)
+place_keeps h place v = headers_keep h (set_place h place v) (place_headers h place v)
+
+keeps_calm : (e : Effect) (m : MemoryState) → IsLocalEffect e m → IsConsistentHeap m.heap.now → KeepsReferences m.heap.now (apply_effect e m).heap.now
+keeps_calm (HeapMove (Write place v)) m calm s = place_keeps m.heap.now place v
+keeps_calm (HeapMove (SetPlaces changes)) m calm s = headers_keep m.heap.now _ (places_headers changes m.heap.now)
+keeps_calm (HeapMove (WriteNonAtomic place v)) m calm s = place_keeps m.heap.now place v
+keeps_calm (HeapMove (SetCells r i words)) m calm s = headers_keep m.heap.now _ (run_headers words m.heap.now r i)
+keeps_calm (HeapMove (AddObject o size)) m calm s = reference-add m.heap.now o size (s.end m.heap.now.top (omega arith))
+keeps_calm (HeapMove (AddTransient kind event class owner long)) m calm s = transient_keeps m.heap.now kind event class owner long
+    (s.end m.heap.now.top (omega arith))
+keeps_calm (HeapMove (AddPackage components arrays rest)) m calm s = absurd calm
+keeps_calm (HeapMove Begin) m calm s = absurd calm
+keeps_calm (HeapMove Commit) m calm s = absurd calm
+keeps_calm (HeapMove Abort) m calm s = absurd calm
+keeps_calm _ m calm s = λ r refers. refers
+
 pub calm_stays : LocalEffectsStay
 calm_stays = record {
+  references = keeps_calm;
   steady = λ e m calm settled steady. still_steady m (apply_effect e m) (stays m settled e calm) steady;
   owners = λ e m callers calm settled known. still_known m (apply_effect e m) callers (stays m settled e calm) known;
 }

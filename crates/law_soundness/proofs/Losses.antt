@@ -1,6 +1,7 @@
 -- What a loss of power leaves of a sound memory.
-use Rattle.std.proofs.Common.{◌≡◌, ◌+◌, ◌≤◌, length, get_or, sym, ◌∙◌, ap, subst, arith, if◌then◌else◌}
+use Rattle.std.proofs.Common.{◌≡◌, ◌+◌, ◌≤◌, [], length, get_or, sym, ◌∙◌, ap, subst, arith, if◌then◌else◌}
 use Rattle.std.proofs.lemmas.Option.{none-some}
+use Rattle.jc_transient.specs.State.{IsCleared}
 use Rattle.jc_heap.specs.Heap.{SameShape, facts, heap_item_at}
 use Rattle.jc_heap.specs.Keeping.{AreConsistent, IsConsistentHeap}
 use Rattle.jc_heap.proofs.Changing.{shape-same}
@@ -11,6 +12,7 @@ use Rattle.jc_linker.specs.Values.{Packages}
 use Rattle.jc_card_checks.specs.Objects.{is_persistent_instance, is_object_address}
 use Rattle.jc_card_checks.specs.Sound.{IsSound}
 use Rattle.law_soundness.proofs.Frames.{same_object}
+use Rattle.law_soundness.proofs.Transients.{blank_lives}
 use Rattle.law_soundness.specs.State.{IsFitObject, IsSoundMemory, IsSoundUpTo, OutlastsLosses, is_home, is_open, is_owner_up_to, last_own, most_owner}
 
 found : (p : Packages) (m : MemoryState) → IsSoundMemory p m → IsSound p m.heap.durable (last_own m)
@@ -24,7 +26,7 @@ found p m s = record {
 }
 
 module _ (p : Packages) (m n : MemoryState) (s : IsSoundMemory p m) (now : n.heap.now ≡ m.heap.durable) (durable : n.heap.durable ≡ m.heap.durable)
-    (fixed : n.fixed ≡ m.fixed) (reset : n.registers ≡ at_reset) where
+    (fixed : n.fixed ≡ m.fixed) (reset : n.registers ≡ at_reset) (none : n.command ≡ []) (clear : IsCleared n.ram) where
   most_is : most_owner n ≡ n.heap.now.counts.1
   most_is = ap (λ g. if is_open g.installation then n.heap.durable.counts.1 + 1 else n.heap.now.counts.1) reset
 
@@ -64,6 +66,8 @@ module _ (p : Packages) (m n : MemoryState) (s : IsSoundMemory p m) (now : n.hea
         ∙ s.own r here (same_object (heap_item_at m.heap.now r) (heap_item_at m.heap.durable r) same ∙ ap (λ h. is_object_address h r) (sym now) ∙ there);
     home = ap (λ g. is_home n.heap.now g.installation) reset;
     selected = λ a e. absurd (none-some a (ap (λ g. g.selected) (sym reset) ∙ e));
+    command = let long = ap length none in omega (arith, long);
+    transients = blank_lives n.heap.now n.ram clear;
   }
 
 pub outlast_losses : OutlastsLosses

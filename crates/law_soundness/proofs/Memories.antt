@@ -3,7 +3,7 @@ use Rattle.std.proofs.Common.{◌≡◌, ℕ, ◌+◌, ◌<◌, ◌≤◌, ◌&&
 use Rattle.std.proofs.Common.{nat_lt, nat_le}
 use Rattle.std.proofs.lemmas.Bool.{and_from, and_parts, cases_Bool, le-leb, leb-true}
 use Rattle.jc_words.specs.Layout.{registry_length}
-use Rattle.jc_transient.specs.State.{RamState}
+use Rattle.jc_transient.specs.State.{RamState, buffer_size}
 use Rattle.jc_heap.specs.Heap.{HeapState, heap_after_change, heap_item_at}
 use Rattle.jc_heap.specs.Keeping.{AreConsistent}
 use Rattle.jc_heap.specs.Moves.{Begin, Commit, Abort}
@@ -17,9 +17,10 @@ use Rattle.jc_memory.specs.Owners.{owner_number}
 use Rattle.jc_memory.specs.State.{MemoryState, HeapMove, SetRegisters, apply_effect}
 use Rattle.jc_linker.specs.Values.{Packages}
 use Rattle.jc_card_checks.specs.Objects.{is_persistent_instance}
-use Rattle.law_soundness.specs.State.{IsSoundMemory, IsSoundUpTo, is_applet, is_home, is_open, is_owner_up_to, last_own, most_in, most_new, most_owner}
+use Rattle.law_soundness.specs.State.{IsSoundMemory, IsSoundUpTo, TransientCells, is_applet, is_home, is_open, is_owner_up_to, last_own, most_in, most_new, most_owner}
 use Rattle.law_soundness.proofs.Kept.{more_owners, owner_more, owner_same}
-use Rattle.law_soundness.proofs.Frames.{Frames, same_object}
+use Rattle.law_soundness.proofs.Frames.{Frames, SameHeaders, same_object}
+use Rattle.law_soundness.proofs.Transients.{abort_carried, same_carried}
 
 -- registers that suit a memory; an installation may begin with them
 pub record IsTurned (m : MemoryState) (g : Registers) : Type 0 where
@@ -34,9 +35,9 @@ choose P true x y on off = on refl
 choose P false x y on off = off refl
 
 -- the rest of a memory says nothing of its heap
-pub again : (p : Packages) (m : MemoryState) (ram : RamState) (command sent : List ℕ) → IsSoundMemory p m
-    → IsSoundMemory p (record m { ram = ram; command = command; sent = sent })
-again p m ram command sent s = record {
+pub again : (p : Packages) (m : MemoryState) (ram : RamState) (command sent : List ℕ) → length command ≤ buffer_size → TransientCells m.heap.now ram
+    → IsSoundMemory p m → IsSoundMemory p (record m { ram = ram; command = command; sent = sent })
+again p m ram command sent few lives s = record {
   whole = s.whole;
   registry = s.registry;
   registry_kept = s.registry_kept;
@@ -51,6 +52,8 @@ again p m ram command sent s = record {
   own = s.own;
   home = s.home;
   selected = s.selected;
+  command = few;
+  transients = lives;
 }
 
 -- whether an applet is registered depends on their number
@@ -103,8 +106,8 @@ module _ (p : Packages) (m : MemoryState) (s : IsSoundMemory p m) where
     most_same : (if is_open m.registers.installation then left.counts.1 + 1 else h.counts.1) ≡ most_owner m
     most_same = λ t. if is_open m.registers.installation then (counts_left t).1 + 1 else (f.counts t).1
 
-    pub change_kept : (ram : RamState) → IsSoundMemory p (record m { heap = heap_after_change m.heap h places fresh; ram = ram })
-    change_kept ram = record {
+    pub change_kept : (ram : RamState) → TransientCells h ram → IsSoundMemory p (record m { heap = heap_after_change m.heap h places fresh; ram = ram })
+    change_kept ram lives = record {
       whole = w;
       registry = f.registry ∙ s.registry;
       registry_kept = choose (λ k. length k.applets ≡ registry_length) m.heap.begun durable h (λ on. s.registry_kept) (λ off. f.registry ∙ s.registry);
@@ -123,12 +126,15 @@ module _ (p : Packages) (m : MemoryState) (s : IsSoundMemory p m) where
           ap is_persistent_instance (f.headers r inside) ∙ s.own r low (sym (f.objects r inside) ∙ there);
       home = home_same now h m.registers.installation f.packages ∙ s.home;
       selected = λ a e. applet_same durable left a counts_left ∙ s.selected a e;
+      command = s.command;
+      transients = lives;
     }
 
-  -- a change that keeps what fits, whoever may own objects
-  pub kept_changed : (h : HeapState) (places : List ℕ) (fresh : ℕ) → Frames now h → AreConsistent (heap_after_change m.heap h places fresh)
+  -- a change that keeps what fits, whoever may own objects, and each header
+  pub kept_changed : (h : HeapState) (places : List ℕ) (fresh : ℕ) → Frames now h → SameHeaders now h → AreConsistent (heap_after_change m.heap h places fresh)
       → ((most : ℕ) → IsSoundUpTo most p now own → IsSoundUpTo most p h own) → IsSoundMemory p (record m { heap = heap_after_change m.heap h places fresh })
-  kept_changed h places fresh f w keep = change_kept h places fresh f w (keep (most_owner m) s.now) (λ off. keep now.counts.1 (low_now off)) m.ram
+  kept_changed h places fresh f headers w keep = change_kept h places fresh f w (keep (most_owner m) s.now) (λ off. keep now.counts.1 (low_now off)) m.ram
+      (same_carried now h m.ram headers s.transients)
 
   -- a new object's owner
   new_most : most_new m ≤ most_owner m
@@ -162,6 +168,8 @@ module _ (p : Packages) (m : MemoryState) (s : IsSoundMemory p m) where
         own = s.own;
         home = s.home;
         selected = λ a e. applet_same durable now a (ap (λ h. h.counts) (s.settled off)) ∙ s.selected a e;
+        command = s.command;
+        transients = s.transients;
       }
 
   module _ (ends : is_open m.registers.installation ≡ true → now.counts.1 ≡ durable.counts.1 + 1) where
@@ -195,6 +203,8 @@ module _ (p : Packages) (m : MemoryState) (s : IsSoundMemory p m) where
       own = s.own;
       home = s.home;
       selected = λ a e. applet_more durable now a counts_committed (s.selected a e);
+      command = s.command;
+      transients = s.transients;
     }
 
   aborted_most : most_owner (apply_effect (HeapMove Abort) m) ≡ most_owner m
@@ -227,6 +237,8 @@ module _ (p : Packages) (m : MemoryState) (s : IsSoundMemory p m) where
         ∙ s.own r low (same_object (heap_item_at now r) (heap_item_at durable r) same ∙ there);
     home = home_same now durable m.registers.installation (sym s.packages) ∙ s.home;
     selected = s.selected;
+    command = s.command;
+    transients = abort_carried m.heap s.whole m.ram s.transients;
   }
 
   -- the registers are set
@@ -268,4 +280,6 @@ module _ (p : Packages) (m : MemoryState) (s : IsSoundMemory p m) where
       own = s.own;
       home = fits.home;
       selected = fits.selected;
+      command = s.command;
+      transients = s.transients;
     }

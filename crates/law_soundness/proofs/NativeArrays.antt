@@ -1,5 +1,5 @@
 -- Cells that methods of the platform set: bytes of an array, and those of an AID.
-use Rattle.std.proofs.Common.{◌≡◌, ℕ, Bool, true, false, List, length, Option, Some, None, refl, sym, ◌∙◌, ap}
+use Rattle.std.proofs.Common.{◌≡◌, ℕ, ◌+◌, ◌≤◌, Bool, true, false, List, length, Option, Some, None, refl, sym, ◌∙◌, ap}
 use Rattle.std.proofs.lemmas.Bool.{and_parts, false_from_ne_true, true≢false}
 use Rattle.jc_transient.specs.declared.cell.ClearEvent.{ClearEvent}
 use Rattle.jc_heap.specs.declared.object.Kind.{Kind}
@@ -18,12 +18,13 @@ use Rattle.law_soundness.specs.Fit.{FitsRun, IsFit}
 use Rattle.law_soundness.specs.State.{IsSoundMemory}
 use Rattle.law_soundness.proofs.RunObjects.{instance_no_array, kept_fits}
 use Rattle.law_soundness.proofs.Below.{aid_no_pin}
+use Rattle.law_soundness.proofs.Transients.{numbers_fit}
 
 -- bytes of an array of them may be set
 module _ (p : Packages) (m : MemoryState) (r i : ℕ) (words : List ℕ) where
-  pub run_in : (event : Option ClearEvent) → FitsRun p m r i words → IsFit p (cells_effect_in event r i words) m
-  run_in None fits = fits
-  run_in (Some event) fits = tt
+  pub run_in : (event : Option ClearEvent) → (facts m.heap.now r).event ≡ event → i + length words ≤ (facts m.heap.now r).length → FitsRun p m r i words → IsFit p (cells_effect_in event r i words) m
+  run_in None is within fits = ((is, within), fits)
+  run_in (Some event) is within fits = numbers_fit m r i words within fits.1
 
   bytes_run : (kind : Kind) → (facts m.heap.now r).kind ≡ kind → kind ≡ ByteArray → FitsRun p m r i words
   bytes_run kind is bytes = (
@@ -38,8 +39,8 @@ module _ (p : Packages) (m : MemoryState) (r i : ℕ) (words : List ℕ) where
       not_both : ReferenceArray ≡ ByteArray → ⊥
       not_both e = true≢false (ap has_references e)
 
-  pub bytes_fit : (facts m.heap.now r).kind ≡ ByteArray → IsFit p (cells_effect m r i words) m
-  bytes_fit is = run_in (facts m.heap.now r).event (bytes_run (facts m.heap.now r).kind refl is)
+  pub bytes_fit : (facts m.heap.now r).kind ≡ ByteArray → i + length words ≤ (facts m.heap.now r).length → IsFit p (cells_effect m r i words) m
+  bytes_fit is within = run_in (facts m.heap.now r).event refl within (bytes_run (facts m.heap.now r).kind refl is)
 
 -- the constructor of AID, on an instance that is none of the runtime environment's
 module _ (p : Packages) (m : MemoryState) (known : KnowsClasses p) (sound : IsSoundMemory p m) where

@@ -1,5 +1,5 @@
 -- Methods of the platform fit.
-use Rattle.std.proofs.Common.{◌≡◌, ℕ, true, false, List, Some, refl, sym, ◌∙◌, ap, subst}
+use Rattle.std.proofs.Common.{◌≡◌, ℕ, true, false, List, Some, refl, sym, ◌∙◌, ap, subst, arith}
 use Rattle.jc_transient.specs.declared.cell.CellValue.TheVariants.{Short}
 use Rattle.jc_heap.specs.Heap.{facts}
 use Rattle.jc_frames.specs.declared.cell.Cell.{Cell}
@@ -14,7 +14,7 @@ use Rattle.jc_platform.specs.declared.names.PlatformMethod.TheVariants.{AidInit,
 use Rattle.jc_platform.specs.Distinct.{class_of}
 use Rattle.jc_platform.specs.Hierarchy.{cells_of, holds_reference, is_interface}
 use Rattle.jc_platform.specs.Names.{methods}
-use Rattle.jc_card_checks.specs.Objects.{is_a}
+use Rattle.jc_card_checks.specs.Objects.{is_a, is_instance}
 use Rattle.jc_world.specs.Objects.{reference_argument}
 use Rattle.jc_world.specs.Arrays.{bytes_in}
 use Rattle.jc_api_runtime.specs.AidCells.{cells_of_aid, is_aid_length}
@@ -27,6 +27,7 @@ use Rattle.jc_world.specs.NativeCalls.{return_value}
 use Rattle.law_isolation.specs.Natives.{sets_receiver}
 use Rattle.law_isolation.proofs.Arguments.{length_bytes}
 use Rattle.law_isolation.proofs.Methods.{method_due}
+use Rattle.law_isolation.proofs.Natives.{data_fits, nine}
 use Rattle.law_isolation.proofs.Passing.{IsPinCall, MethodPasses}
 use Rattle.law_soundness.specs.Classes.{HasAids, KnowsClasses}
 use Rattle.law_soundness.specs.Fit.{IsFit, IsPinObject, OfValue}
@@ -36,7 +37,7 @@ use Rattle.law_soundness.specs.Natives.{IsReceiver, NativesFit, minds_receiver}
 use Rattle.law_soundness.proofs.Applets.{bytes_small, entry_named, registered_due}
 use Rattle.law_soundness.proofs.Below.{HasReason, has_reason}
 use Rattle.law_soundness.proofs.NativeArrays.{aid_fits, bytes_fit, run_in}
-use Rattle.law_soundness.proofs.RunObjects.{set_in}
+use Rattle.law_soundness.proofs.RunObjects.{instance_no_array, one_fits, set_in}
 use Rattle.law_soundness.proofs.RunPins.{after_count, after_flag, pin_object, starts}
 use Rattle.law_soundness.proofs.Small.{reason_fits, transient_fits}
 use Rattle.law_soundness.proofs.Turning.{bears}
@@ -102,12 +103,16 @@ module _ (method : PlatformMethod) (args : List Cell) (p : Packages) (m : Memory
 
   passes : MethodPasses (IsFit p) method args p m
   passes = record {
-    reason = λ part sets own v is there. set_in p m (facts m.heap.now own).event own 0 (Short v)
-        (reason_fits p m known sound (class_of method) (reasoned method part) own _ (called_on (class_of method) (minds method sets) refl own is) there);
-    stretch = λ r count e words is long. subst (λ a. IsFit p (cells_effect m a e.start words) m) (sym is.array) (bytes_fit p m r e.start words is.kind);
-    aid = λ init own bytes is there long. run_in p m own 0 (cells_of_aid bytes) (facts m.heap.now own).event
+    reason = λ part sets own v is there. set_in p m (facts m.heap.now own).event own 0 (Short v) refl
+        (reason_fits p m known sound (class_of method) (reasoned method part) own _ (called_on (class_of method) (minds method sets) refl own is) there)
+        (one_fits m own 0 (Short v) there.cells tt (λ array. absurd (instance_no_array (facts m.heap.now own).kind (ap is_instance there.instance) array)));
+    stretch = λ r count e words is long. subst (λ a. IsFit p (cells_effect m a e.start words) m) (sym is.array)
+        (bytes_fit p m r e.start words is.kind (let w = is.within in omega (arith, w, long)));
+    aid = λ init own bytes is there long. run_in p m own 0 (cells_of_aid bytes) (facts m.heap.now own).event refl
+        (let l = there.cells in let n = nine bytes in omega (arith, l, n))
         (aid_fits p m known sound own bytes (called_on Aid (minds_init method init) (class_init method init) own is) (receiver.owned init own is) there long);
-    buffer = λ r is. bytes_fit p m r 5 (data_of m.command) is.kind;
+    buffer = λ r is. bytes_fit p m r 5 (data_of m.command) is.kind
+        (let d = data_fits m.command sound.command in let l = is.long in omega (arith, d, l));
     transient = λ kind count event o none fine room. transient_fits p m known sound steady kind count event o
         (λ r. return_value (ReturnValue (Reference r))) none fine room (λ r v. tt);
     starts = λ pin is limit maximum. starts p m sound steady pin limit maximum (object_of pin is);

@@ -3,7 +3,7 @@ use Rattle.std.proofs.Common.{◌≡◌, ℕ, ◌+◌, ◌<◌, ◌==◌, true, 
 use Rattle.std.specs.Prelude.{not}
 use Rattle.std.proofs.lemmas.List.{length-replicate}
 use Rattle.std.proofs.lemmas.Option.{none-some}
-use Rattle.std.proofs.lemmas.Bool.{and_parts, cases_eq, true≢false, or_left, or_right}
+use Rattle.std.proofs.lemmas.Bool.{and_parts, both_ways, cases_eq, true≢false, or_left, or_right}
 use Rattle.jc_transient.specs.declared.cell.ClearEvent.{ClearEvent}
 use Rattle.jc_transient.specs.declared.cell.ClearEvent.TheVariants.{Reset, Deselect}
 use Rattle.jc_platform.specs.declared.names.PlatformClass.TheVariants.{Aid, OwnerPin}
@@ -35,6 +35,7 @@ pub record IsFitNew (most : ℕ) (p : Packages) (h : HeapState) (o : Object) : T
   pub zeroed : (k : ℕ) → get_or o.cells k 0 ≡ 0
   pub long : o.facts.event ≡ None → length o.cells ≡ o.facts.length
   pub small : is_instance o.facts.kind ≡ true → o.facts.length < 65536
+  pub persistent : is_instance o.facts.kind ≡ true → o.facts.event ≡ None
 
 module _ (p : Packages) (h : HeapState) (o : Object) (n : ℕ) (free : is_allocated h h.top ≡ false) where
   abbrev g : HeapState
@@ -73,6 +74,7 @@ module _ (p : Packages) (h : HeapState) (o : Object) (n : ℕ) (free : is_alloca
         values = λ kept. held x (o.facts.class) (ap (λ f. f.class) header) same fits.zeroed;
         cells = λ none. ap length same ∙ fits.long (ap (λ f. f.event) (sym header) ∙ none) ∙ ap (λ f. f.length) (sym header);
         small = λ instance. subst (λ f. f.length < 65536) (sym header) (fits.small (ap (λ f. is_instance f.kind) (sym header) ∙ instance));
+        persistent = λ instance. ap (λ f. f.event) header ∙ fits.persistent (ap (λ f. is_instance f.kind) (sym header) ∙ instance);
       }
 
   pub added_kept : (x most own : ℕ) → AreAllocated h h.packages → IsFitNew most p h o → IsSoundBut x most p h own → IsSoundBut x most p (add_object h o n) own
@@ -101,6 +103,7 @@ ended_kept x most own p h Reset end s = record {
         values = λ kept. let v = o.values kept in record { references = v.references; aid = v.aid; pin = v.pin };
         cells = o.cells;
         small = o.small;
+        persistent = o.persistent;
       };
   statics = λ k lt. let old = s.statics k lt in record { begin = old.begin; image = old.image; end = old.end; references = old.references };
   applets = λ a lt. let old = s.applets a lt in record { aid = old.aid; number = old.number; instance = old.instance };
@@ -116,6 +119,7 @@ ended_kept x most own p h Deselect end s = record {
         values = λ kept. let v = o.values kept in record { references = v.references; aid = v.aid; pin = v.pin };
         cells = o.cells;
         small = o.small;
+        persistent = o.persistent;
       };
   statics = λ k lt. let old = s.statics k lt in record { begin = old.begin; image = old.image; end = old.end; references = old.references };
   applets = λ a lt. let old = s.applets a lt in record { aid = old.aid; number = old.number; instance = old.instance };
@@ -128,13 +132,20 @@ pub object_added : (x most own : ℕ) (p : Packages) (h : HeapState) (kind : Kin
     IsSoundBut x most p h own → IsSoundBut x most p (add_object h (new_object kind class owner long) size) own
 object_added x most own p h kind class owner long size free met there known small s =
     added_kept p h (new_object kind class owner long) size free x most own met (record
-    { class = there; owner = known; zeroed = zeros long; long = λ none. length-replicate long 0; small = small }) s
+    { class = there; owner = known; zeroed = zeros long; long = λ none. length-replicate long 0; small = small; persistent = λ instance. refl }) s
 
 pub transient_added : (x most own : ℕ) (p : Packages) (h : HeapState) (kind : Kind) (event : ClearEvent) (class owner long : ℕ) → is_allocated h h.top ≡ false
-    → AreAllocated h h.packages → fits_class p kind class long ≡ true → is_owner_up_to most h owner ≡ true → (is_instance kind ≡ true → long < 65536) →
+    → AreAllocated h h.packages → fits_class p kind class long ≡ true → is_owner_up_to most h owner ≡ true → is_instance kind ≡ false →
     IsSoundBut x most p h own → IsSoundBut x most p (add_transient h kind event class owner long) own
 unfolding add_transient
-transient_added x most own p h kind event class owner long free met there known small s =
+transient_added x most own p h kind event class owner long free met there known array s =
     ended_kept x most own p (add_object h (new_transient kind event class owner long (area_end h event)) 5) event (area_end h event + long)
     (added_kept p h (new_transient kind event class owner long (area_end h event)) 5 free x most own met
-    (record { class = there; owner = known; zeroed = λ k. refl; long = λ none. absurd (none-some event (sym none)); small = small }) s)
+    (record {
+      class = there;
+      owner = known;
+      zeroed = λ k. refl;
+      long = λ none. absurd (none-some event (sym none));
+      small = λ instance. absurd (both_ways (is_instance kind) array instance);
+      persistent = λ instance. absurd (both_ways (is_instance kind) array instance);
+    }) s)

@@ -1,11 +1,15 @@
 -- What the runtime environment does with an applet leaves a memory sound.
-use Rattle.std.proofs.Common.{◌≡◌, ℕ, ◌⊎◌, ◌&&◌, Bool, true, false, inl, inr, List, [], Option, Some, None, refl, sym, ap, subst, if◌then◌else◌}
-use Rattle.std.specs.Prelude.{is_some}
-use Rattle.std.proofs.lemmas.Bool.{and_parts, both_ways, false≢true}
+use Rattle.std.proofs.Common.{◌≡◌, ℕ, ◌+◌, ◌-◌, ◌≤◌, ◌⊎◌, ◌&&◌, Bool, true, false, inl, inr, List, [], length, map, Option, Some, None, refl, sym, ◌∙◌, ap, subst, arith}
+use Rattle.std.proofs.Common.{if◌then◌else◌}
+use Rattle.std.specs.Prelude.{is_some, replicate}
+use Rattle.std.proofs.lemmas.Bool.{and_parts, both_ways, false≢true, leb-true, true≢false}
+use Rattle.std.proofs.lemmas.List.{length-append, length-replicate}
 use Rattle.std.proofs.lemmas.Option.{cond_some, option_and_then_some}
 use Rattle.jc_transient.specs.declared.cell.ClearEvent.{ClearEvent}
+use Rattle.jc_transient.specs.Cells.{number_of}
+use Rattle.jc_transient.specs.State.{buffer_size}
 use Rattle.jc_heap.specs.declared.object.Facts.{Facts}
-use Rattle.jc_heap.specs.Heap.{facts}
+use Rattle.jc_heap.specs.Heap.{HeapState, facts}
 use Rattle.jc_heap.specs.Moves.{Abort}
 use Rattle.jc_frames.specs.declared.cell.Cell.{Cell}
 use Rattle.jc_frames.specs.declared.method.Origin.{Origin}
@@ -25,17 +29,20 @@ use Rattle.jc_linker.specs.Values.{Packages}
 use Rattle.jc_platform.specs.declared.names.PlatformMethod.{PlatformMethod}
 use Rattle.jc_interp_calls.specs.Entering.{first_frames_of, first_frames_with, first_frames}
 use Rattle.jc_interp.specs.Running.{run_methods}
-use Rattle.jc_dispatch.specs.Buffer.{apdu_buffer, buffer_fill, buffer_fill_in, is_buffer, is_of_bytes, padded_bytes}
+use Rattle.jc_dispatch.specs.Buffer.{apdu_buffer, buffer_fill, buffer_fill_in, buffer_length, is_buffer, is_of_bytes, padded_bytes}
 use Rattle.jc_dispatch.specs.Phases.{then_with, applet_method_call, close, abort_if_open, method_named, registers_idle, method_run, method_run_from, run_method}
 use Rattle.jc_dispatch.specs.Phases.{registers_for, registers_released}
 use Rattle.law_isolation.proofs.Reaching.{header_is}
 use Rattle.law_soundness.specs.Environment.{HasEnvironment}
-use Rattle.law_soundness.specs.Fit.{FitsTurn, IsFit}
+use Rattle.law_soundness.specs.Fit.{FitsFill, FitsTurn, IsFit}
 use Rattle.law_soundness.specs.State.{IsSoundMemory, IsSteady, is_open, is_owner_up_to, most_owner}
+use Rattle.law_soundness.specs.Living.{AreLivingCallers, AreLivingCells, IsLivingFrame}
 use Rattle.law_soundness.specs.Machines.{IsSoundMachine, KnowOwners}
+use Rattle.law_soundness.proofs.Living.{first_living}
 use Rattle.law_soundness.specs.Soundness.{AreKnown, RunsAreSound}
 use Rattle.law_soundness.specs.Commands.{IsServed}
 use Rattle.law_soundness.proofs.Serving.{StandsBehind, all_served, behind_both, behind_each, behind_itself, behind_one, same_fits}
+use Rattle.law_soundness.proofs.Transients.{numbers_fit}
 
 -- all of it is served, and however it ends this is so
 pub record Good (p : Packages) {A : Type 0} (d : Program A) (m : MemoryState) (Q : A → MemoryState → Type 0) : Type 0 where
@@ -78,14 +85,20 @@ pub record HasRun (p : Packages) (m n : MemoryState) : Type 0 where
 ran_itself : (p : Packages) (m : MemoryState) (owner : Owner) → MayRun p m owner → HasRun p m m
 ran_itself p m owner may = record { behind = behind_itself p m may.sound may.environment; active = inr refl }
 
-begun_bare : (h : Header) (arguments : List Cell) (origin : Origin) (s : Frames) → first_frames_with h arguments origin ≡ Some s → s.callers ≡ []
-begun_bare h arguments origin s is = ap (λ f. f.callers) (sym (cond_some _ (first_frames h arguments origin) s is).1)
+-- the frames of a method that nothing called, with arguments that are null or name an object
+abbrev Begins : HeapState → Frames → Type 0
+Begins g s = (s.callers ≡ []) × IsLivingFrame g s.current
 
-no_callers : (p : Packages) (number offset : ℕ) (arguments : List Cell) (owner : ℕ) (s : Frames) → first_frames_of p number offset arguments owner ≡ Some s
-    → s.callers ≡ []
+begun_bare : (g : HeapState) (h : Header) (arguments : List Cell) (origin : Origin) (s : Frames) → AreLivingCells g arguments
+    → first_frames_with h arguments origin ≡ Some s → Begins g s
+begun_bare g h arguments origin s all is = subst (Begins g) (cond_some _ (first_frames h arguments origin) s is).1
+    (refl, first_living g arguments h.locals h.limit h.place origin all)
+
+begins_bare : (g : HeapState) (p : Packages) (number offset : ℕ) (arguments : List Cell) (owner : ℕ) (s : Frames) → AreLivingCells g arguments
+    → first_frames_of p number offset arguments owner ≡ Some s → Begins g s
 unfolding first_frames_of
-no_callers p number offset arguments owner s is = option_and_then_some (λ h. first_frames_with h arguments
-    (record { package_number = number; method = offset; owner = owner })) _ s is (λ h there made. begun_bare h arguments _ s made)
+begins_bare g p number offset arguments owner s all is = option_and_then_some (λ h. first_frames_with h arguments
+    (record { package_number = number; method = offset; owner = owner })) _ s is (λ h there made. begun_bare g h arguments _ s all made)
 
 module _ (runs : RunsAreSound) (p : Packages) (known : AreKnown p) where
   turn_on : (m : MemoryState) (owner : Owner) → MayRun p m owner → FitsTurn m (registers_for owner m.registers)
@@ -106,10 +119,10 @@ module _ (runs : RunsAreSound) (p : Packages) (known : AreKnown p) where
     opens = λ opened. opened;
   }
 
-  from_good : (budget : ℕ) (start : Option Frames) (owner : Owner) (m : MemoryState) → ((s : Frames) → start ≡ Some s → s.callers ≡ []) → MayRun p m owner
+  from_good : (budget : ℕ) (start : Option Frames) (owner : Owner) (m : MemoryState) → ((s : Frames) → start ≡ Some s → Begins m.heap.now s) → MayRun p m owner
       → Good p (method_run_from budget p start owner m) m (λ end n. HasRun p m n)
-  from_good budget None owner m none may = good_gives p _ _ m (ran_itself p m owner may)
-  from_good budget (Some s) owner m none may = good_then p _ (SetRegisters (registers_for owner m.registers)) _ m (inl (turn_on m owner may))
+  from_good budget None owner m begins may = good_gives p _ _ m (ran_itself p m owner may)
+  from_good budget (Some s) owner m begins may = good_then p _ (SetRegisters (registers_for owner m.registers)) _ m (inl (turn_on m owner may))
       (good_bind p _ _ (run_methods budget p s v) v (record {
         due = all_served p (run_methods budget p s v) v fits;
         each = each_more (λ end w. StandsBehind p m w) _ (λ end w b. good_then p _ (SetRegisters (registers_idle w.registers)) _ w (inl (turn_off w b.sound))
@@ -129,30 +142,31 @@ module _ (runs : RunsAreSound) (p : Packages) (known : AreKnown p) where
       machine = record {
         sound = first.sound;
         steady = record { counts = may.steady.counts; begun = may.steady.begun };
-        callers = subst (λ c. KnowOwners c v) (sym (none s refl)) tt;
+        callers = subst (λ c. KnowOwners c v) (sym (begins s refl).0) tt;
         environment = first.environment;
         code = λ home zero. may.other zero;
+        living = record { current = (begins s refl).1; callers = subst (AreLivingCallers m.heap.now) (sym (begins s refl).0) tt };
       }
 
       fits : AllDue (IsFit p) (run_methods budget p s v) v
       fits = runs budget [] p s v known machine
 
-  pub run_for_good : (budget number offset : ℕ) (arguments : List Cell) (owner : Owner) (m : MemoryState) → MayRun p m owner
+  pub run_for_good : (budget number offset : ℕ) (arguments : List Cell) (owner : Owner) (m : MemoryState) → AreLivingCells m.heap.now arguments → MayRun p m owner
       → Good p (method_run budget p number offset arguments owner m) m (λ end n. HasRun p m n)
   unfolding method_run
-  run_for_good budget number offset arguments owner m may = from_good budget (first_frames_of p number offset arguments (owner_number owner)) owner m
-      (no_callers p number offset arguments (owner_number owner)) may
+  run_for_good budget number offset arguments owner m all may = from_good budget (first_frames_of p number offset arguments (owner_number owner)) owner m
+      (λ s is. begins_bare m.heap.now p number offset arguments (owner_number owner) s all is) may
 
-  method_good : (budget : ℕ) (method : Option Method) (arguments : List Cell) (owner : Owner) (m : MemoryState) → MayRun p m owner
+  method_good : (budget : ℕ) (method : Option Method) (arguments : List Cell) (owner : Owner) (m : MemoryState) → AreLivingCells m.heap.now arguments → MayRun p m owner
       → Good p (run_method budget p method arguments owner m) m (λ end n. HasRun p m n)
-  method_good budget None arguments owner m may = good_gives p _ _ m (ran_itself p m owner may)
-  method_good budget (Some (Native name)) arguments owner m may = good_gives p _ _ m (ran_itself p m owner may)
-  method_good budget (Some (Code number offset)) arguments owner m may = run_for_good budget number offset arguments owner m may
+  method_good budget None arguments owner m all may = good_gives p _ _ m (ran_itself p m owner may)
+  method_good budget (Some (Native name)) arguments owner m all may = good_gives p _ _ m (ran_itself p m owner may)
+  method_good budget (Some (Code number offset)) arguments owner m all may = run_for_good budget number offset arguments owner m all may
 
-  pub called_good : (budget : ℕ) (name : PlatformMethod) (applet : ℕ) (arguments : List Cell) (owner : Owner) (m : MemoryState) → MayRun p m owner
+  pub called_good : (budget : ℕ) (name : PlatformMethod) (applet : ℕ) (arguments : List Cell) (owner : Owner) (m : MemoryState) → AreLivingCells m.heap.now arguments → MayRun p m owner
       → Good p (applet_method_call budget p name applet arguments owner m) m (λ end n. HasRun p m n)
   unfolding applet_method_call
-  called_good budget name applet arguments owner m may = method_good budget (method_named p m applet name) arguments owner m may
+  called_good budget name applet arguments owner m all may = method_good budget (method_named p m applet name) arguments owner m all may
 
 -- ---- what is open ends
 
@@ -175,8 +189,8 @@ module _ (p : Packages) where
   }))
   closing_good true m is s h =
       let v = apply_effect (HeapMove Abort) m in
-      let first = behind_one p m (HeapMove Abort) tt s h in
-      good_then p _ (HeapMove Abort) _ m tt (good_then p _ (SetRegisters (registers_released v.registers)) _ v
+      let first = behind_one p m (HeapMove Abort) is s h in
+      good_then p _ (HeapMove Abort) _ m is (good_then p _ (SetRegisters (registers_released v.registers)) _ v
       (inl (outside v first.sound)) (good_gives p _ _ _ (record {
         behind = behind_both p m v _ first (behind_one p v (SetRegisters (registers_released v.registers))
             (outside v first.sound) first.sound first.environment);
@@ -190,6 +204,13 @@ module _ (p : Packages) where
 
 -- ---- the APDU buffer is filled
 
+-- the buffer has room for what it is filled with
+padded_fits : (bytes : List ℕ) → length bytes ≤ buffer_size → length (padded_bytes bytes) ≤ buffer_size
+padded_fits bytes few =
+    let whole = length-append bytes (replicate (buffer_length - length bytes) 0) in
+    let behind = length-replicate {A = ℕ} (buffer_length - length bytes) 0 in
+    omega (arith, whole, behind, few)
+
 -- nothing but the contents of transient objects changed
 pub record IsFilled (p : Packages) (m n : MemoryState) : Type 0 where
   pub behind : StandsBehind p m n
@@ -197,11 +218,11 @@ pub record IsFilled (p : Packages) (m n : MemoryState) : Type 0 where
   pub registers : n.registers ≡ m.registers
 
 module _ (p : Packages) (m : MemoryState) (s : IsSoundMemory p m) (h : HasEnvironment p m) where
-  run_good : (event : Option ClearEvent) (r : ℕ) (bytes : List ℕ) → is_some event ≡ true
+  run_good : (event : Option ClearEvent) (r : ℕ) (bytes : List ℕ) → is_some event ≡ true → FitsFill m r 0 (map number_of bytes)
       → Good p (Perform (cells_effect_in event r 0 bytes) (Finish (tt {0}))) m (λ u n. IsFilled p m n)
-  run_good None r bytes is = absurd (false≢true is)
-  run_good (Some event) r bytes is = good_then p _ (cells_effect_in (Some event) r 0 bytes) (Finish (tt {0})) m tt (good_gives p _ (tt {0}) _ (record {
-    behind = behind_one p m (cells_effect_in (Some event) r 0 bytes) tt s h;
+  run_good None r bytes is fits = absurd (false≢true is)
+  run_good (Some event) r bytes is fits = good_then p _ (cells_effect_in (Some event) r 0 bytes) (Finish (tt {0})) m fits (good_gives p _ (tt {0}) _ (record {
+    behind = behind_one p m (cells_effect_in (Some event) r 0 bytes) fits s h;
     heap = refl;
     registers = refl;
   }))
@@ -209,16 +230,26 @@ module _ (p : Packages) (m : MemoryState) (s : IsSoundMemory p m) (h : HasEnviro
   itself : IsFilled p m m
   itself = record { behind = behind_itself p m s h; heap = refl; registers = refl }
 
-  buffer_good : (b : Bool) (f : Facts) (bytes : List ℕ) → f ≡ facts m.heap.now (apdu_buffer m) → is_buffer f ≡ b
+  is_buffer_filled : (f : Facts) (bytes : List ℕ) → f ≡ facts m.heap.now (apdu_buffer m) → is_buffer f ≡ true → length bytes ≤ buffer_size
+      → FitsFill m (apdu_buffer m) 0 (map number_of bytes)
+  is_buffer_filled f bytes same is few =
+      let long = leb-true buffer_size f.length (and_parts (is_of_bytes f.kind && is_some f.event) _ is).1 in
+      numbers_fit m (apdu_buffer m) 0 bytes (subst (λ g. 0 + length bytes ≤ g.length) same (omega (arith, long, few)))
+      (λ array. true≢false (sym (and_parts (is_of_bytes f.kind) _ (and_parts (is_of_bytes f.kind && is_some f.event) _ is).0).0
+      ∙ ap is_of_bytes (ap (λ g. g.kind) same ∙ array)))
+
+  buffer_good : (b : Bool) (f : Facts) (bytes : List ℕ) → f ≡ facts m.heap.now (apdu_buffer m) → is_buffer f ≡ b → length bytes ≤ buffer_size
       → Good p (if b then Perform (cells_effect m (apdu_buffer m) 0 bytes) (Finish (tt {0})) else Finish tt) m (λ u n. IsFilled p m n)
-  buffer_good false f bytes same is = good_gives p _ _ m itself
-  buffer_good true f bytes same is = run_good (facts m.heap.now (apdu_buffer m)).event (apdu_buffer m) bytes
+  buffer_good false f bytes same is few = good_gives p _ _ m itself
+  buffer_good true f bytes same is few = run_good (facts m.heap.now (apdu_buffer m)).event (apdu_buffer m) bytes
       (subst (λ g. is_some g.event ≡ true) same (and_parts (is_of_bytes f.kind) _ (and_parts (is_of_bytes f.kind && is_some f.event) _ is).0).1)
+      (is_buffer_filled f bytes same is few)
 
-  fills_good : (o : Option Facts) (bytes : List ℕ) → header_at m (apdu_buffer m) ≡ o → Good p (buffer_fill_in m o bytes) m (λ u n. IsFilled p m n)
-  fills_good None bytes is = good_gives p _ _ m itself
-  fills_good (Some f) bytes is = buffer_good (is_buffer f) f bytes (header_is m (apdu_buffer m) f is).1 refl
+  fills_good : (o : Option Facts) (bytes : List ℕ) → header_at m (apdu_buffer m) ≡ o → length bytes ≤ buffer_size
+      → Good p (buffer_fill_in m o bytes) m (λ u n. IsFilled p m n)
+  fills_good None bytes is few = good_gives p _ _ m itself
+  fills_good (Some f) bytes is few = buffer_good (is_buffer f) f bytes (header_is m (apdu_buffer m) f is).1 refl few
 
-  pub filled_good : (bytes : List ℕ) → Good p (buffer_fill m bytes) m (λ u n. IsFilled p m n)
+  pub filled_good : (bytes : List ℕ) → length bytes ≤ buffer_size → Good p (buffer_fill m bytes) m (λ u n. IsFilled p m n)
   unfolding buffer_fill
-  filled_good bytes = fills_good (header_at m (apdu_buffer m)) (padded_bytes bytes) refl
+  filled_good bytes few = fills_good (header_at m (apdu_buffer m)) (padded_bytes bytes) refl (padded_fits bytes few)

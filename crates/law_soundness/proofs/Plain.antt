@@ -1,11 +1,14 @@
--- Constants, locals, the stack's order, arithmetic and branches: the method stays.
-use Rattle.std.proofs.Common.{ℕ, Bool, true, false, List, length, Option, Some, None, refl, if◌then◌else◌}
+-- Constants, locals, the stack's order, arithmetic and branches: the method stays, and what its frame refers to is there.
+use Rattle.std.proofs.Common.{◌≡◌, ℕ, ◌++◌, Bool, true, false, inl, List, length, take, drop, Option, Some, None, refl, if◌then◌else◌}
+use Rattle.std.proofs.lemmas.List.Elements.{All-append, All-drop, All-set, All-take}
 use Rattle.std.specs.Option.{option_and_then}
 use Rattle.std.specs.Prelude.{ℤ, pos, ◌+◌, ◌+ℤ◌, ◌&&◌, nat_le, nat_lt, slice_get}
 use Rattle.jc_opcodes.specs.declared.instr.ArithmeticOp.{ArithmeticOp}
 use Rattle.jc_opcodes.specs.declared.instr.ArithmeticOp.TheVariants.{Two, Negate, S2b}
 use Rattle.jc_opcodes.specs.declared.instr.BranchOp.{BranchOp}
 use Rattle.jc_opcodes.specs.declared.instr.BranchOp.TheVariants.{If, Goto, Jsr, Ret, Table, Lookup}
+use Rattle.jc_opcodes.specs.declared.instr.Condition.{Condition}
+use Rattle.jc_opcodes.specs.declared.instr.Condition.TheVariants.{Zero, IsNull, NotNull, SameReference, OtherReference, Shorts}
 use Rattle.jc_opcodes.specs.declared.instr.ConstantOp.{ConstantOp}
 use Rattle.jc_opcodes.specs.declared.instr.ConstantOp.TheVariants.{Null, Number}
 use Rattle.jc_opcodes.specs.declared.instr.LocalOp.{LocalOp}
@@ -16,84 +19,130 @@ use Rattle.jc_opcodes.specs.Short.{answer_of, wrap}
 use Rattle.jc_frames.specs.declared.cell.Cell.{Cell}
 use Rattle.jc_frames.specs.declared.cell.Cell.TheVariants.{Short, Reference, ReturnAddress}
 use Rattle.jc_frames.specs.declared.method.Origin.{Origin}
-use Rattle.jc_frames.specs.Cells.{as_address, as_reference, as_short, cell_on, short_on, storable_on, two_shorts_on}
+use Rattle.jc_frames.specs.Cells.{as_address, as_reference, as_short, cell_on, reference_on, short_on, storable_on, two_references_on, two_shorts_on}
 use Rattle.jc_frames.specs.Frames.{Frame, Next, GoesOn, Throws, Ends, copy_below, exchange_cells, if_some, push, store_local}
 use Rattle.jc_frames.specs.ArithmeticOps.{with_quotient, arithmetic_instruction}
 use Rattle.jc_frames.specs.BranchOps.{branch_instruction, pair_offset, table_offset, jump_to, branch_target, place_in, condition_on, at_target}
 use Rattle.jc_frames.specs.ConstantOps.{constant_instruction}
 use Rattle.jc_frames.specs.LocalOps.{local_instruction}
 use Rattle.jc_frames.specs.StackOps.{stack_instruction}
-use Rattle.law_soundness.proofs.Quiet.{Keeps}
+use Rattle.jc_heap.specs.Heap.{HeapState}
+use Rattle.law_soundness.specs.Living.{AreLivingCells, IsLivingCell, IsLivingFrame}
+use Rattle.law_soundness.proofs.Living.{cell_taken, mapped_some, more_living, reference_living, reference_taken, short_taken, storable_taken}
+use Rattle.law_soundness.proofs.Living.{two_references_taken, two_shorts_taken}
+use Rattle.law_soundness.proofs.Quiet.{Keeps, with_cells, without_cells}
 
-keeps_if : (origin : Origin) (b : Bool) (x y : Next Frame) → Keeps origin x → Keeps origin y → Keeps origin (if b then x else y)
-keeps_if origin true x y first second = first
-keeps_if origin false x y first second = second
+module _ (h : HeapState) where
+  keeps_if : (origin : Origin) (b : Bool) (x y : Next Frame) → Keeps h origin x → Keeps h origin y → Keeps h origin (if b then x else y)
+  keeps_if origin true x y first second = first
+  keeps_if origin false x y first second = second
 
-keeps_some : {A : Type 0} (origin : Origin) (o : Option A) (go : A → Next Frame) → ((a : A) → Keeps origin (go a)) → Keeps origin (if_some o go)
-keeps_some origin None go keeps = tt
-keeps_some origin (Some a) go keeps = keeps a
+  keeps_some : {A : Type 0} (origin : Origin) (o : Option A) (go : A → Next Frame) → ((a : A) → o ≡ Some a → Keeps h origin (go a))
+      → Keeps h origin (if_some o go)
+  keeps_some origin None go keeps = tt
+  keeps_some origin (Some a) go keeps = keeps a refl
 
-pub keeps_pushed : (cell : Cell) (s : Frame) → Keeps s.origin (push cell s)
-keeps_pushed cell s = keeps_if s.origin (nat_lt (length s.stack) s.limit) _ _ refl tt
+  module _ (s : Frame) (living : IsLivingFrame h s) where
+    -- with other cells on the stack
+    stacked : (cells : List Cell) → AreLivingCells h cells → Keeps h s.origin (GoesOn (record s { stack = cells }))
+    stacked cells all = (refl, with_cells h s cells living all)
 
-pub keeps_stored : (n : ℕ) (cell : Cell) (s : Frame) → Keeps s.origin (store_local n cell s)
-keeps_stored n cell s = keeps_if s.origin (nat_lt n (length s.locals)) _ _ refl tt
+    pub keeps_pushed : (cell : Cell) → IsLivingCell h cell → Keeps h s.origin (push cell s)
+    keeps_pushed cell one = keeps_if s.origin (nat_lt (length s.stack) s.limit) _ _ (stacked _ (more_living h cell s.stack one living.stack)) tt
 
-pub keeps_put : (constant : ConstantOp) (s : Frame) → Keeps s.origin (constant_instruction constant s)
-keeps_put Null s = keeps_pushed (Reference 0) s
-keeps_put (Number v) s = keeps_pushed (Short v) s
+    pub keeps_stored : (n : ℕ) (cell : Cell) → IsLivingCell h cell → Keeps h s.origin (store_local n cell s)
+    keeps_stored n cell one = keeps_if s.origin (nat_lt n (length s.locals)) _ _
+        (refl, record { locals = All-set (IsLivingCell h) s.locals n cell one living.locals; stack = living.stack }) tt
 
-pub keeps_accessed : (local : LocalOp) (s : Frame) → Keeps s.origin (local_instruction local s)
-keeps_accessed (Aload n) s = keeps_some s.origin (option_and_then as_reference (slice_get s.locals n)) _ (λ r. keeps_pushed (Reference r) s)
-keeps_accessed (Sload n) s = keeps_some s.origin (option_and_then as_short (slice_get s.locals n)) _ (λ x. keeps_pushed (Short x) s)
-keeps_accessed (Astore n) s = keeps_some s.origin (storable_on s.stack) _ (λ q. keeps_stored n q.0 (record s { stack = q.1 }))
-keeps_accessed (Sstore n) s = keeps_some s.origin (short_on s.stack) _ (λ q. keeps_stored n (Short q.0) (record s { stack = q.1 }))
-keeps_accessed (Sinc n v) s = keeps_some s.origin (option_and_then as_short (slice_get s.locals n)) _ (λ x. keeps_stored n (Short (wrap (x +ℤ v))) s)
+    pub keeps_put : (constant : ConstantOp) → Keeps h s.origin (constant_instruction constant s)
+    keeps_put Null = keeps_pushed (Reference 0) (inl refl)
+    keeps_put (Number v) = keeps_pushed (Short v) tt
 
-keeps_copied : (m n : ℕ) (s : Frame) → Keeps s.origin (copy_below m n s)
-keeps_copied m n s = keeps_if s.origin (nat_le m (length s.stack) && nat_le n (length s.stack) && nat_le (length s.stack + m) s.limit) _ _ refl tt
+    keeps_copied : (m n : ℕ) → Keeps h s.origin (copy_below m n s)
+    keeps_copied m n = keeps_if s.origin (nat_le m (length s.stack) && nat_le n (length s.stack) && nat_le (length s.stack + m) s.limit) _ _
+        (stacked _ (All-append (IsLivingCell h) (take n s.stack) (take m s.stack ++ drop n s.stack) (All-take (IsLivingCell h) n s.stack living.stack)
+        (All-append (IsLivingCell h) (take m s.stack) (drop n s.stack) (All-take (IsLivingCell h) m s.stack living.stack)
+        (All-drop (IsLivingCell h) n s.stack living.stack)))) tt
 
-keeps_exchanged : (m n : ℕ) (s : Frame) → Keeps s.origin (exchange_cells m n s)
-keeps_exchanged m n s = keeps_if s.origin (nat_le (m + n) (length s.stack)) _ _ refl tt
+    keeps_exchanged : (m n : ℕ) → Keeps h s.origin (exchange_cells m n s)
+    keeps_exchanged m n = keeps_if s.origin (nat_le (m + n) (length s.stack)) _ _
+        (stacked _ (All-append (IsLivingCell h) (take n (drop m s.stack)) (take m s.stack ++ drop (m + n) s.stack)
+        (All-take (IsLivingCell h) n (drop m s.stack) (All-drop (IsLivingCell h) m s.stack living.stack))
+        (All-append (IsLivingCell h) (take m s.stack) (drop (m + n) s.stack) (All-take (IsLivingCell h) m s.stack living.stack)
+        (All-drop (IsLivingCell h) (m + n) s.stack living.stack)))) tt
 
-pub keeps_arranged : (stack : StackOp) (s : Frame) → Keeps s.origin (stack_instruction stack s)
-keeps_arranged Pop s = keeps_some s.origin (cell_on s.stack) _ (λ q. refl)
-keeps_arranged Pop2 s = keeps_some s.origin (cell_on s.stack) _ (λ q. keeps_some s.origin (cell_on q.1) _ (λ r. refl))
-keeps_arranged Dup s = keeps_copied 1 0 s
-keeps_arranged Dup2 s = keeps_copied 2 0 s
-keeps_arranged (DupX m n) s = keeps_copied m n s
-keeps_arranged (SwapX m n) s = keeps_exchanged m n s
+    pub keeps_arranged : (stack : StackOp) → Keeps h s.origin (stack_instruction stack s)
+    keeps_arranged Pop = keeps_some s.origin (cell_on s.stack) _ (λ q on. stacked q.1 (cell_taken h s.stack q living.stack on).1)
+    keeps_arranged Pop2 = keeps_some s.origin (cell_on s.stack) _ (λ q on. keeps_some s.origin (cell_on q.1) _
+        (λ r under. stacked r.1 (cell_taken h q.1 r (cell_taken h s.stack q living.stack on).1 under).1))
+    keeps_arranged Dup = keeps_copied 1 0
+    keeps_arranged Dup2 = keeps_copied 2 0
+    keeps_arranged (DupX m n) = keeps_copied m n
+    keeps_arranged (SwapX m n) = keeps_exchanged m n
 
-keeps_answered : (o : Option ℤ) (rest : List Cell) (s : Frame) → Keeps s.origin (with_quotient o rest s)
-keeps_answered None rest s = refl
-keeps_answered (Some r) rest s = refl
+    keeps_answered : (o : Option ℤ) (rest : List Cell) → AreLivingCells h rest → Keeps h s.origin (with_quotient o rest s)
+    keeps_answered None rest all = (refl, without_cells h s living)
+    keeps_answered (Some r) rest all = stacked _ (more_living h (Short r) rest tt all)
 
-pub keeps_computed : (arithmetic : ArithmeticOp) (s : Frame) → Keeps s.origin (arithmetic_instruction arithmetic s)
-keeps_computed (Two operation) s = keeps_some s.origin (two_shorts_on s.stack) _ (λ q. keeps_answered (answer_of operation q.0 q.1) q.2 s)
-keeps_computed Negate s = keeps_some s.origin (short_on s.stack) _ (λ q. refl)
-keeps_computed S2b s = keeps_some s.origin (short_on s.stack) _ (λ q. refl)
+    pub keeps_computed : (arithmetic : ArithmeticOp) → Keeps h s.origin (arithmetic_instruction arithmetic s)
+    keeps_computed (Two operation) = keeps_some s.origin (two_shorts_on s.stack) _
+        (λ q on. keeps_answered (answer_of operation q.0 q.1) q.2 (two_shorts_taken h s.stack q living.stack on))
+    keeps_computed Negate = keeps_some s.origin (short_on s.stack) _
+        (λ q on. stacked _ (more_living h (Short _) q.1 tt (short_taken h s.stack q living.stack on)))
+    keeps_computed S2b = keeps_some s.origin (short_on s.stack) _
+        (λ q on. stacked _ (more_living h (Short _) q.1 tt (short_taken h s.stack q living.stack on)))
 
-keeps_place : (o : Option ℕ) (s : Frame) → Keeps s.origin (at_target o s)
-keeps_place None s = tt
-keeps_place (Some target) s = refl
+    pub keeps_place : (o : Option ℕ) → Keeps h s.origin (at_target o s)
+    keeps_place None = tt
+    keeps_place (Some target) = (refl, record { locals = living.locals; stack = living.stack })
 
-keeps_jumped : (origin : Origin) (next : Next Frame) (o : Option ℕ) → Keeps origin next → Keeps origin (jump_to next o)
-keeps_jumped origin (GoesOn s) None kept = tt
-keeps_jumped origin (GoesOn s) (Some target) kept = kept
-keeps_jumped origin (Throws e s) o kept = kept
-keeps_jumped origin (Ends e) o kept = tt
+    condition_taken : (condition : Condition) (q : Bool × List Cell) → condition_on condition s.stack ≡ Some q → AreLivingCells h q.1
+    condition_taken (Zero comparison) q on = mapped_some _ (short_on s.stack) q (λ x. AreLivingCells h x.1) on
+        (λ a is. short_taken h s.stack a living.stack is)
+    condition_taken IsNull q on = mapped_some _ (reference_on s.stack) q (λ x. AreLivingCells h x.1) on
+        (λ a is. (reference_taken h s.stack a living.stack is).1)
+    condition_taken NotNull q on = mapped_some _ (reference_on s.stack) q (λ x. AreLivingCells h x.1) on
+        (λ a is. (reference_taken h s.stack a living.stack is).1)
+    condition_taken SameReference q on = mapped_some _ (two_references_on s.stack) q (λ x. AreLivingCells h x.1) on
+        (λ a is. two_references_taken h s.stack a living.stack is)
+    condition_taken OtherReference q on = mapped_some _ (two_references_on s.stack) q (λ x. AreLivingCells h x.1) on
+        (λ a is. two_references_taken h s.stack a living.stack is)
+    condition_taken (Shorts comparison) q on = mapped_some _ (two_shorts_on s.stack) q (λ x. AreLivingCells h x.1) on
+        (λ a is. two_shorts_taken h s.stack a living.stack is)
 
-pub keeps_branched : (code : List ℕ) (pc : ℕ) (branch : BranchOp) (s : Frame) → Keeps s.origin (branch_instruction code pc branch s)
-keeps_branched code pc (If condition offset) s =
-    keeps_some s.origin (condition_on condition s.stack) _ (λ q. keeps_if s.origin q.0 _ _
-    (keeps_place (branch_target s.origin.method code pc offset) (record s { stack = q.1 })) refl)
-keeps_branched code pc (Goto offset) s = keeps_place (branch_target s.origin.method code pc offset) s
-keeps_branched code pc (Jsr offset) s = keeps_jumped s.origin _ (branch_target s.origin.method code pc offset) (keeps_pushed (ReturnAddress s.place) s)
-keeps_branched code pc (Ret n) s = keeps_some s.origin (option_and_then as_address (slice_get s.locals n)) _
-    (λ a. keeps_place (place_in s.origin.method code (pos a)) s)
-keeps_branched code pc (Table otherwise low high) s =
-    keeps_some s.origin (short_on s.stack) _ (λ q. keeps_some s.origin (table_offset code otherwise low high (pc + 7) q.0) _
-    (λ offset. keeps_place (branch_target s.origin.method code pc offset) (record s { stack = q.1 })))
-keeps_branched code pc (Lookup otherwise count) s =
-    keeps_some s.origin (short_on s.stack) _ (λ q. keeps_some s.origin (pair_offset code otherwise count (pc + 5) q.0) _
-    (λ offset. keeps_place (branch_target s.origin.method code pc offset) (record s { stack = q.1 })))
+  pub keeps_accessed : (local : LocalOp) (s : Frame) → IsLivingFrame h s → Keeps h s.origin (local_instruction local s)
+  keeps_accessed (Aload n) s living = keeps_some s.origin (option_and_then as_reference (slice_get s.locals n)) _
+      (λ r there. keeps_pushed s living (Reference r) (reference_living h s.locals n r living.locals there))
+  keeps_accessed (Sload n) s living = keeps_some s.origin (option_and_then as_short (slice_get s.locals n)) _ (λ x there. keeps_pushed s living (Short x) tt)
+  keeps_accessed (Astore n) s living = keeps_some s.origin (storable_on s.stack) _ (λ q on. (let taken = storable_taken h s.stack q living.stack on in
+      keeps_stored (record s { stack = q.1 }) (with_cells h s q.1 living taken.1) n q.0 taken.0))
+  keeps_accessed (Sstore n) s living = keeps_some s.origin (short_on s.stack) _
+      (λ q on. keeps_stored (record s { stack = q.1 }) (with_cells h s q.1 living (short_taken h s.stack q living.stack on)) n (Short q.0) tt)
+  keeps_accessed (Sinc n v) s living = keeps_some s.origin (option_and_then as_short (slice_get s.locals n)) _
+      (λ x there. keeps_stored s living n (Short (wrap (x +ℤ v))) tt)
+
+  keeps_jumped : (origin : Origin) (next : Next Frame) (o : Option ℕ) → Keeps h origin next → Keeps h origin (jump_to next o)
+  keeps_jumped origin (GoesOn s) None kept = tt
+  keeps_jumped origin (GoesOn s) (Some target) kept = (kept.0, (keeps_place s kept.1 (Some target)).1)
+  keeps_jumped origin (Throws e s) o kept = kept
+  keeps_jumped origin (Ends e) o kept = tt
+
+  pub keeps_branched : (code : List ℕ) (pc : ℕ) (branch : BranchOp) (s : Frame) → IsLivingFrame h s → Keeps h s.origin (branch_instruction code pc branch s)
+  keeps_branched code pc (If condition offset) s living =
+      keeps_some s.origin (condition_on condition s.stack) _ (λ q on.
+      let all = condition_taken s living condition q on in
+      keeps_if s.origin q.0 _ _ (keeps_place (record s { stack = q.1 }) (with_cells h s q.1 living all) (branch_target s.origin.method code pc offset))
+      (stacked s living q.1 all))
+  keeps_branched code pc (Goto offset) s living = keeps_place s living (branch_target s.origin.method code pc offset)
+  keeps_branched code pc (Jsr offset) s living = keeps_jumped s.origin _ (branch_target s.origin.method code pc offset)
+      (keeps_pushed s living (ReturnAddress s.place) tt)
+  keeps_branched code pc (Ret n) s living = keeps_some s.origin (option_and_then as_address (slice_get s.locals n)) _
+      (λ a there. keeps_place s living (place_in s.origin.method code (pos a)))
+  keeps_branched code pc (Table otherwise low high) s living =
+      keeps_some s.origin (short_on s.stack) _ (λ q on. keeps_some s.origin (table_offset code otherwise low high (pc + 7) q.0) _
+      (λ offset there. keeps_place (record s { stack = q.1 }) (with_cells h s q.1 living (short_taken h s.stack q living.stack on))
+      (branch_target s.origin.method code pc offset)))
+  keeps_branched code pc (Lookup otherwise count) s living =
+      keeps_some s.origin (short_on s.stack) _ (λ q on. keeps_some s.origin (pair_offset code otherwise count (pc + 5) q.0) _
+      (λ offset there. keeps_place (record s { stack = q.1 }) (with_cells h s q.1 living (short_taken h s.stack q living.stack on))
+      (branch_target s.origin.method code pc offset)))

@@ -1,5 +1,5 @@
 -- Applet: an instance is registered, and the transaction of its installation ends.
-use Rattle.std.proofs.Common.{◌≡◌, ℕ, ◌+◌, Bool, true, false, List, length, Option, Some, None, Result, Ok, Err, refl, sym, ◌∙◌, ap, subst, if◌then◌else◌}
+use Rattle.std.proofs.Common.{◌≡◌, ℕ, ◌+◌, Bool, true, false, List, length, Option, Some, None, Result, Ok, Err, refl, sym, ◌∙◌, ap, subst, arith, if◌then◌else◌}
 use Rattle.std.proofs.lemmas.Bool.{cond-true}
 use Rattle.std.specs.Prelude.{nat_le}
 use Rattle.jc_heap.specs.declared.object.Kind.TheVariants.{Instance}
@@ -24,8 +24,11 @@ use Rattle.jc_api_runtime.specs.AidCells.{cells_of_aid, is_aid_length}
 use Rattle.jc_api_runtime.specs.Applet.{applet_register_bytes, install_aid, applet_register, register_with}
 use Rattle.jc_api_runtime.specs.Register.{aid_object_creation, registry_entry, open_installation, registration, registration_package, registration_package_in}
 use Rattle.jc_api_runtime.specs.Register.{with_installation}
-use Rattle.law_soundness.specs.State.{IsSteady, is_open, most_owner}
-use Rattle.law_soundness.proofs.Frames.{object_frames, run_frames}
+use Rattle.jc_heap.proofs.Keeping.{reference-add}
+use Rattle.law_soundness.specs.Living.{KeepsReferences}
+use Rattle.law_soundness.specs.State.{IsSoundMemory, IsSteady, is_open, most_owner}
+use Rattle.law_soundness.proofs.Frames.{object_frames, places_headers, run_frames, run_headers}
+use Rattle.law_soundness.proofs.References.{headers_keep}
 use Rattle.law_soundness.specs.Calls.{IsCallResult, IsReadyAgain}
 use Rattle.law_soundness.proofs.Leaving.{left_if, left_ok, left_some, same_owners, stays}
 
@@ -46,7 +49,7 @@ while_open : (m : MemoryState) (aid : List ℕ) (instance : ℕ) (k : PackageNum
 unfolding registration_package
 while_open m aid instance k may = open_in m aid instance m.heap.begun m.registers.installation (subst IsGiven (sym may) tt)
 
-module _ (p : Packages) (m : MemoryState) (steady : IsSteady m) where
+module _ (p : Packages) (m : MemoryState) (sound : IsSoundMemory p m) (steady : IsSteady m) where
   module _ (aid : List ℕ) (instance : ℕ) (k : PackageNumber) (r : ℕ) where
     -- the AID object of the applet, with its cells
     abbrev aid_new : Object
@@ -80,17 +83,26 @@ module _ (p : Packages) (m : MemoryState) (steady : IsSteady m) where
         ap (λ c. c.1 + 1) (counts_after_cells ∙ steady.counts) ∙ sym (cond-true (is_open m.registers.installation)
         (m.heap.durable.counts.1 + 1) m.heap.now.counts.1 on)
 
+    references_stay : KeepsReferences m.heap.now after_entry.heap.now
+    references_stay q refers = headers_keep after_cells.heap.now after_entry.heap.now
+        (places_headers (applet_changes after_cells.heap.now entry) after_cells.heap.now) q
+        (headers_keep with_object after_cells.heap.now (run_headers (cells_of_aid aid) with_object r 0) q
+        (reference-add m.heap.now aid_new (object_size Instance 9) (sound.whole.now.end m.heap.now.top (omega arith)) q refers))
+
     registered_again : is_open m.registers.installation ≡ true → IsReadyAgain m after_registering
     registered_again on = record {
-      steady = record { counts = refl; begun = λ e. absurd cc };
-      owners = same_owners m after_registering packages_after_cells (one_more on);
-      active = refl;
+      again = record {
+        steady = record { counts = refl; begun = λ e. absurd cc };
+        owners = same_owners m after_registering packages_after_cells (one_more on);
+        active = refl;
+      };
+      references = references_stay;
     }
 
   registered_left : (aid : List ℕ) (instance : ℕ) → AllResults (registration aid instance p m) m (IsCallResult m)
   unfolding registration aid_object_creation registry_entry
   registered_left aid instance = left_ok m steady (registration_package m aid instance) _
-      (λ k may. λ r new. (registered_again aid instance k r (while_open m aid instance k may), tt))
+      (λ k may. λ r new. registered_again aid instance k r (while_open m aid instance k may))
 
   as_left : (instance : ℕ) (aid : Option (List ℕ)) → AllResults (register_with instance p m aid) m (IsCallResult m)
   as_left instance None = stays m steady

@@ -9,18 +9,13 @@ use Rattle.std.specs.List.{range_with_len}
 use Rattle.std.specs.Prelude.{◌==◌, nat_le, slice_index}
 use Rattle.jc_heap.specs.Heap.{HeapState, cells, heap_item_at, set_cell, set_cells}
 use Rattle.jc_heap.specs.Packed.{packed_byte, bytes_of_packed}
-use Rattle.jc_heap.specs.Object.{header_only}
-use Rattle.jc_heap.proofs.Laws.{header_only-set_cell, cells-set_cell, heap_item_at-set_other, length-cells-set_cell}
+use Rattle.jc_heap.proofs.Laws.{cells-set_cell, heap_item_at-set_other, length-cells-set_cell}
 use Rattle.jc_card_checks.specs.Sound.{aid_in}
 use Rattle.jc_registry.specs.Aids.{aid_byte, aid_of_cells}
 use Rattle.jc_api_runtime.specs.AidCells.{aid_cell, cells_of_aid}
 use Rattle.jc_api_runtime.proofs.ReadBack.{read_back}
 
 -- ---- a run of cells that is set
-
-pub header_only-set_cells : (vs : List ℕ) (h : HeapState) (r i q : ℕ) → header_only (heap_item_at (set_cells h r i vs) q) ≡ header_only (heap_item_at h q)
-header_only-set_cells [] h r i q = refl
-header_only-set_cells (v ∷ vs) h r i q = header_only-set_cells vs (set_cell h r i v) r (suc i) q ∙ header_only-set_cell h r i v q
 
 pub item-set_cells : (vs : List ℕ) (h : HeapState) (r i q : ℕ) → (r ≡ q → ⊥) → heap_item_at (set_cells h r i vs) q ≡ heap_item_at h q
 item-set_cells [] h r i q ne = refl

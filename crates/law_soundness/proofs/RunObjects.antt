@@ -1,13 +1,13 @@
 -- Instances in a sound memory, and new objects.
-use Rattle.std.proofs.Common.{◌≡◌, ℕ, ◌+◌, ◌<◌, Bool, true, false, inl, inr, Option, Some, None, refl, sym, ◌∙◌, ap, subst, if◌then◌else◌}
+use Rattle.std.proofs.Common.{◌≡◌, ℕ, zero, suc, ◌+◌, ◌<◌, Bool, true, false, inl, inr, [], ◌∷◌, get_or, Option, Some, None, refl, sym, ◌∙◌, ap, subst, arith, if◌then◌else◌}
 use Rattle.std.proofs.lemmas.Bool.{and_from, and_parts, both_ways, cases_lt, eqb-true, lt-ltb, true≢false}
 use Rattle.std.proofs.lemmas.Option.{same_Some}
-use Rattle.std.specs.Prelude.{◌==◌, not, is_none}
+use Rattle.std.specs.Prelude.{◌==◌, not, is_none, pos}
 use Rattle.jc_transient.specs.declared.cell.CellValue.{CellValue}
+use Rattle.jc_transient.specs.declared.cell.CellValue.TheVariants.{Short}
 use Rattle.jc_transient.specs.declared.cell.ClearEvent.{ClearEvent}
 use Rattle.jc_heap.specs.declared.object.Kind.{Kind}
 use Rattle.jc_heap.specs.declared.object.Kind.TheVariants.{Instance, ReferenceArray}
-use Rattle.jc_heap.specs.declared.place.Place.TheVariants.{Cell}
 use Rattle.jc_heap.specs.Heap.{IsObject, LacksCells, facts}
 use Rattle.jc_heap.specs.Moves.{new_move}
 use Rattle.jc_memory.specs.declared.making.NewObject.{NewObject}
@@ -22,8 +22,8 @@ use Rattle.jc_linker.specs.Resolves.{names_interface}
 use Rattle.jc_linker.specs.Values.{Packages}
 use Rattle.jc_card_checks.specs.Objects.{fits_class, is_instance, is_persistent_instance}
 use Rattle.law_soundness.specs.Classes.{has_instances}
-use Rattle.law_soundness.specs.Fit.{FitsNew, FitsPlace, IsFit}
-use Rattle.law_soundness.specs.State.{IsSoundMemory, IsSteady, is_open, is_owner_up_to, last_own, most_new, most_owner}
+use Rattle.law_soundness.specs.Fit.{FitsFill, FitsNew, FitsValue, IsFit}
+use Rattle.law_soundness.specs.State.{IsLivingElement, IsLivingValue, IsSoundMemory, IsSteady, is_open, is_owner_up_to, last_own, most_new, most_owner}
 
 pub instance_kind : (kind : Kind) → is_instance kind ≡ true → kind ≡ Instance
 instance_kind Instance e = refl
@@ -75,10 +75,23 @@ module _ (p : Packages) (m : MemoryState) (sound : IsSoundMemory p m) where
       by_transaction false rests = settled (is_open m.registers.installation) refl rests sound.active
 
 -- a cell that is set, wherever it is kept
-pub set_in : (p : Packages) (m : MemoryState) (event : Option ClearEvent) (r i : ℕ) (v : CellValue) → FitsPlace p m.heap.now (Cell r i) (word_of v)
-    → IsFit p (cell_effect_in event r i v) m
-set_in p m None r i v fits = fits
-set_in p m (Some event) r i v fits = tt
+pub set_in : (p : Packages) (m : MemoryState) (event : Option ClearEvent) (r i : ℕ) (v : CellValue) → (facts m.heap.now r).event ≡ event
+    → FitsValue p m.heap.now r i (word_of v) → FitsFill m r i (v ∷ []) → IsFit p (cell_effect_in event r i v) m
+set_in p m None r i v is fits fill = ((is, fill.within), fits)
+set_in p m (Some event) r i v is fits fill = fill
+
+-- one value fits
+pub one_fits : (m : MemoryState) (r i : ℕ) (v : CellValue) → i < (facts m.heap.now r).length → IsLivingValue m.heap.now v
+    → ((facts m.heap.now r).kind ≡ ReferenceArray → IsLivingElement m.heap.now v) → FitsFill m r i (v ∷ [])
+one_fits m r i v within value element = record { within = omega (arith, within); living = first_lives; elements = first_element }
+  where
+    first_lives : (k : ℕ) → k < 1 → IsLivingValue m.heap.now (get_or (v ∷ []) k (Short (pos 0)))
+    first_lives zero lt = value
+    first_lives (suc k) lt = absurd (omega (arith, lt))
+
+    first_element : (facts m.heap.now r).kind ≡ ReferenceArray → (k : ℕ) → k < 1 → IsLivingElement m.heap.now (get_or (v ∷ []) k (Short (pos 0)))
+    first_element array zero lt = element array
+    first_element array (suc k) lt = absurd (omega (arith, lt))
 
 -- a new object, in the memory that it leaves
 module _ {A : Type 0} (p : Packages) (o : NewObject) (rest : ℕ → Program A) (m : MemoryState)
@@ -94,15 +107,16 @@ module _ {A : Type 0} (p : Packages) (o : NewObject) (rest : ℕ → Program A) 
   pub new_kept : o.event ≡ None → ((r : ℕ) → IsNew m.heap.now r → AllDue (IsFit p) (rest r) with_new) → AllDue (IsFit p) (object_creation o rest) m
   new_kept is due = λ r new. kept_in o.event is r (due r new)
 
-  transient_in : (event : ClearEvent) (kept : Option ClearEvent) → kept ≡ Some event → (LacksCells m.heap.now event o.length → ⊥) → (r : ℕ)
+  transient_in : (event : ClearEvent) (kept : Option ClearEvent) → kept ≡ Some event → (LacksCells m.heap.now event o.length → ⊥)
+      → is_instance o.kind ≡ false → (r : ℕ)
       → ((v : MemoryState) → AllDue (IsFit p) (rest r) v) →
       AllDue (IsFit p) (Perform (HeapMove (creation_move kept o)) (rest r)) m
-  transient_in event None is room r due = absurd cc
-  transient_in event (Some e) is room r due = (
-    (fits, (λ lacks. room (subst (λ x. LacksCells m.heap.now x o.length) (same_Some e event is) lacks))),
+  transient_in event None is room array r due = absurd cc
+  transient_in event (Some e) is room array r due = (
+    (fits, (λ lacks. room (subst (λ x. LacksCells m.heap.now x o.length) (same_Some e event is) lacks)), array),
     due _,
   )
 
-  pub new_transient : (event : ClearEvent) → o.event ≡ Some event → (LacksCells m.heap.now event o.length → ⊥)
+  pub new_transient : (event : ClearEvent) → o.event ≡ Some event → (LacksCells m.heap.now event o.length → ⊥) → is_instance o.kind ≡ false
       → ((r : ℕ) (v : MemoryState) → AllDue (IsFit p) (rest r) v) → AllDue (IsFit p) (object_creation o rest) m
-  new_transient event is room due = λ r new. transient_in event o.event is room r (due r)
+  new_transient event is room array due = λ r new. transient_in event o.event is room array r (due r)

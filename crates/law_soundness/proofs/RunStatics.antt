@@ -51,13 +51,13 @@ module _ (p : Packages) (of_type : ValueType) (field : FieldOfImage) where
   static_is number index e = static_in (target_at p number index) e
 
 -- a word of a package's image, with this number
-record IsWord (h : HeapState) (number k : ℕ) (w : ImageWord) : Type 0 where
-  begin : ℕ
-  some : (number == 0) ≡ false
-  record_is : slice_get h.packages (number - 1) ≡ Some w.owner
-  image : statics_of (record_of h w.owner) ≡ Some begin
-  offset : w.offset ≡ begin + k
-  within : w.offset < length (record_of h w.owner)
+pub record IsWord (h : HeapState) (number k : ℕ) (w : ImageWord) : Type 0 where
+  pub begin : ℕ
+  pub some : (number == 0) ≡ false
+  pub record_is : slice_get h.packages (number - 1) ≡ Some w.owner
+  pub image : statics_of (record_of h w.owner) ≡ Some begin
+  pub offset : w.offset ≡ begin + k
+  pub within : w.offset < length (record_of h w.owner)
 
 module _ (h : HeapState) (number k : ℕ) where
   record_found : (b : Bool) → (number == 0) ≡ b → (r : ℕ) → (if b then None else option_and_then (package_record_or_none h) (slice_get h.packages (number - 1)))
@@ -70,7 +70,7 @@ module _ (h : HeapState) (number k : ℕ) where
   unfolding record_at
   record_is_at r e = record_found (number == 0) refl r e
 
-  word_is : (w : ImageWord) → image_word h number k ≡ Some w → IsWord h number k w
+  pub word_is : (w : ImageWord) → image_word h number k ≡ Some w → IsWord h number k w
   unfolding image_word
   word_is w e = option_and_then_some (word_in h k) (record_at h number) w e (λ r there in_record. option_and_then_some (word_behind h r k)
       (statics_of (record_of h r)) w in_record (λ begin image behind.

@@ -1,5 +1,5 @@
 -- Values that instructions may keep: references are null or to an object.
-use Rattle.std.proofs.Common.{◌≡◌, ℕ, Bool, true, false, List, Option, Some, None, Result, Ok, Err, refl, subst, if◌then◌else◌}
+use Rattle.std.proofs.Common.{◌≡◌, ℕ, Bool, true, false, List, Option, Some, None, Result, Ok, Err, refl, sym, subst, if◌then◌else◌}
 use Rattle.std.proofs.lemmas.Option.{none-some, same_Some}
 use Rattle.std.specs.Option.{option_map}
 use Rattle.std.specs.Prelude.{◌==◌, ◌||◌}
@@ -7,7 +7,7 @@ use Rattle.jc_transient.specs.declared.cell.CellValue.{CellValue}
 use Rattle.jc_transient.specs.declared.cell.CellValue.TheVariants as kept
 use Rattle.jc_heap.specs.declared.object.Facts.{Facts}
 use Rattle.jc_heap.specs.Object.{is_object}
-use Rattle.jc_heap.specs.Heap.{facts, heap_item_at}
+use Rattle.jc_heap.specs.Heap.{HeapState, facts, heap_item_at}
 use Rattle.jc_opcodes.specs.declared.instr.ValueType.{ValueType}
 use Rattle.jc_opcodes.specs.declared.instr.ValueType.TheVariants as types
 use Rattle.jc_frames.specs.declared.cell.Cell.{Cell}
@@ -20,6 +20,8 @@ use Rattle.jc_card_checks.specs.Objects.{is_reference}
 use Rattle.jc_world.specs.Objects.{storable_in, storable_of}
 use Rattle.jc_world.specs.Values.{keepable, value_if_allowed, value_on}
 use Rattle.law_isolation.proofs.Reaching.{err_not_ok, same_Ok}
+use Rattle.law_soundness.specs.State.{IsLivingElement, IsLivingValue}
+use Rattle.law_soundness.proofs.Transients.{names_object}
 
 -- a value that is a reference
 abbrev pub IsRef : CellValue → Type 0
@@ -60,3 +62,25 @@ module _ (p : Packages) (m : MemoryState) where
   pub keepable_is : (value v : CellValue) → IsRef value → keepable p m value ≡ Ok v → is_reference m.heap.now (word_of v) ≡ true
   keepable_is (kept.Short x) v is e = absurd is
   keepable_is (kept.Reference r) v is e = kept_in r v (storable_of p m r) refl e
+
+  same_in : (r : ℕ) (v : CellValue) (o : Result (Unit {0}) FrameExit) → value_if_allowed (kept.Reference r) o ≡ Ok v → kept.Reference r ≡ v
+  same_in r v (Err x) e = absurd (err_not_ok e)
+  same_in r v (Ok u) e = same_Ok (kept.Reference r) v e
+
+  -- it is the value itself
+  pub keepable_same : (value v : CellValue) → keepable p m value ≡ Ok v → value ≡ v
+  keepable_same (kept.Short x) v e = same_Ok (kept.Short x) v e
+  keepable_same (kept.Reference r) v e = same_in r v (storable_of p m r) e
+
+  lives_if : (v : CellValue) → (IsRef v → is_reference m.heap.now (word_of v) ≡ true) → IsLivingValue m.heap.now v
+  lives_if (kept.Short x) is = tt
+  lives_if (kept.Reference r) is = names_object m.heap.now r (is tt)
+
+  -- and lives
+  pub keepable_lives : (value v : CellValue) → keepable p m value ≡ Ok v → IsLivingValue m.heap.now v
+  keepable_lives value v e = lives_if v (λ is. keepable_is value v (subst IsRef (sym (keepable_same value v e)) is) e)
+
+-- a reference that lives is a living element
+pub element_of : (h : HeapState) (v : CellValue) → IsRef v → IsLivingValue h v → IsLivingElement h v
+element_of h (kept.Short x) is lives = absurd is
+element_of h (kept.Reference r) is lives = lives

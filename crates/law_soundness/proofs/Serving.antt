@@ -144,7 +144,7 @@ module _ (p : Packages) (m : MemoryState) (s : IsSoundMemory p m) where
   move_more (AddTransient kind event class owner long) fits = left_more _ (transient_frames m.heap.now kind event class owner long).counts
   move_more (AddPackage components arrays image) fits = absurd fits
   move_more Begin fits = let e : m.heap.now.counts.1 ≡ durable.counts.1 = ap (λ k. k.counts.1) (s.settled fits) in omega (arith, e)
-  move_more Commit fits = commit_more fits
+  move_more Commit fits = commit_more fits.1
   move_more Abort fits = omega arith
 
   counts_grow : (e : Effect) → IsFit p e m → durable.counts.1 ≤ (apply_effect e m).heap.durable.counts.1

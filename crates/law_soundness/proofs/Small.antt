@@ -1,13 +1,12 @@
 -- Reasons of exceptions, and transient arrays.
 use Rattle.std.proofs.Common.{◌≡◌, ℕ, ◌+◌, Bool, true, false, Option, Some, None, Ok, refl, sym, ◌∙◌, ap, subst, arith, if◌then◌else◌}
-use Rattle.std.proofs.lemmas.Bool.{and_parts, both_ways, ltb-false}
+use Rattle.std.proofs.lemmas.Bool.{and_parts, both_ways, false_from_ne_true, ltb-false}
 use Rattle.std.proofs.lemmas.Option.{none-some}
 use Rattle.std.specs.Prelude.{ℤ, nat_lt}
 use Rattle.jc_transient.specs.declared.cell.ClearEvent.{ClearEvent}
 use Rattle.jc_transient.specs.State.{area_size}
 use Rattle.jc_heap.specs.declared.object.Kind.{Kind}
 use Rattle.jc_heap.specs.declared.object.Kind.TheVariants.{Instance, BooleanArray, ByteArray, ShortArray, ReferenceArray}
-use Rattle.jc_heap.specs.declared.place.Place.TheVariants.{Cell}
 use Rattle.jc_heap.specs.declared.refusal.HeapRefusal.{HeapRefusal}
 use Rattle.jc_heap.specs.declared.refusal.HeapRefusal.TheVariants.{NoTransientSpace}
 use Rattle.jc_heap.specs.Heap.{LacksCells, area_end, facts}
@@ -28,7 +27,7 @@ use Rattle.jc_world.specs.Instances.{IsInstanceWith}
 use Rattle.jc_world.specs.Numbers.{not_negative}
 use Rattle.jc_api_runtime.specs.SystemTransient.{class_for, event_named, length_in, allowed_event, requested_array}
 use Rattle.law_soundness.specs.Classes.{KnowsClasses}
-use Rattle.law_soundness.specs.Fit.{FitsNew, FitsPlace, IsFit}
+use Rattle.law_soundness.specs.Fit.{FitsNew, FitsValue, IsFit}
 use Rattle.law_soundness.specs.State.{IsSoundMemory, IsSteady, is_owner_up_to, most_new}
 use Rattle.law_isolation.proofs.Reaching.{same_Ok}
 use Rattle.law_isolation.proofs.Arguments.{both_ok}
@@ -38,7 +37,7 @@ use Rattle.law_soundness.proofs.Below.{HasReason, reason_no_aid, reason_no_pin}
 -- the reason of an exception
 module _ (p : Packages) (m : MemoryState) (known : KnowsClasses p) (sound : IsSoundMemory p m) where
   pub reason_fits : (of : PlatformClass) → HasReason of → (own w : ℕ) → is_a p (facts m.heap.now own).class of ≡ true → IsInstanceWith m own 1
-      → FitsPlace p m.heap.now (Cell own 0) w
+      → FitsValue p m.heap.now own 0 w
   reason_fits of has own w is there = (
     λ stays. (let instances = kept_fits p m sound own there.there stays in record {
       reference = λ holds. absurd (both_ways (reference_cell p (facts m.heap.now own).class 0)
@@ -99,4 +98,5 @@ module _ (p : Packages) (m : MemoryState) (known : KnowsClasses p) (sound : IsSo
       → AllDue (IsFit p) (object_creation o rest) m
   transient_fits kind count event o rest none fine room due =
       let asked = wanted_is kind count event p m o fine in
-      new_transient p o rest m (wanted_fits kind o none asked) asked.event asked.kept (has_space o asked.event asked.kept room) due
+      new_transient p o rest m (wanted_fits kind o none asked) asked.event asked.kept (has_space o asked.event asked.kept room)
+      (false_from_ne_true (is_instance o.kind) (λ instance. none (sym asked.kind_is ∙ instance_kind o.kind instance))) due

@@ -14,7 +14,6 @@ use Rattle.jc_opcodes.specs.declared.instr.ObjectOp.TheVariants.{New, Athrow, Ch
 use Rattle.jc_opcodes.specs.Table.{decode}
 use Rattle.jc_frames.specs.declared.outcome.Outcome.{Outcome}
 use Rattle.jc_frames.specs.Frames.{Frame, Frames, Next, GoesOn, Throws, Ends, in_frame}
-use Rattle.jc_interp_objects.specs.ArrayOps.{array_instruction}
 use Rattle.jc_interp_objects.specs.FieldOps.{field_instruction}
 use Rattle.jc_interp.specs.Running.{or_end, run_of}
 use Rattle.jc_interp.specs.Stepping.{at_place, throw_from, code_of, instruction_at, fetch, instruction_step, is_plain, object_instruction, machine_step}
@@ -26,10 +25,10 @@ use Rattle.law_soundness.specs.Soundness.{AreKnown, IsSoundNext, RunsAreSound, S
 use Rattle.law_soundness.proofs.SteppedCalls.{invoked_due, invoked_led}
 use Rattle.law_soundness.proofs.SteppedFields.{fielded_stays}
 use Rattle.law_soundness.proofs.SteppedLeaves.{returning_led, throwing_led, thrown_led}
-use Rattle.law_soundness.proofs.Machines.{Given, IsLed, led_if, machine_like, sound_callers, stays_next, under_of, within_next}
-use Rattle.law_soundness.proofs.SteppedObjects.{checked_stays, examined_stays, indexed_stays, made_stays}
+use Rattle.law_soundness.proofs.Machines.{Given, IsLed, led_if, machine_like, sound_callers, stayed_led, under_of, within_next}
+use Rattle.law_soundness.proofs.SteppedObjects.{checked_stays, examined_stays, indexed_led, made_led}
 use Rattle.law_soundness.proofs.Plain.{keeps_accessed, keeps_arranged, keeps_branched, keeps_computed, keeps_put}
-use Rattle.law_soundness.proofs.Quiet.{Keeps, Stays, within_frame}
+use Rattle.law_soundness.proofs.Quiet.{Keeps, within_frame}
 
 -- an instruction that code which was lent may have is none on fields, arrays, objects and methods
 home_of : (plain lent : Bool) → plain || not lent ≡ true → plain ≡ false → lent ≡ false
@@ -41,17 +40,15 @@ module _ (g : Given) (p : Packages) (known : AreKnown p) where
   module _ (s : Frames) (m : MemoryState) (machine : IsSoundMachine p s m) where
     -- ---- instructions
 
-    framed : (next : Next Frame) → Keeps s.current.origin next → IsSoundNext p (in_frame s next) m
-    framed next keeps = within_next p s.callers s.current.origin (in_frame s next) m (within_frame s next keeps) (under_of p s m machine) machine.code
-
-    stayed : (d : Program (Next Frames)) → Stays s.callers s.current.origin d → IsLed p d m
-    stayed d stays due = stays_next g p s.callers s.current.origin d m stays due (under_of p s m machine) machine.code
+    framed : (next : Next Frame) → Keeps m.heap.now s.current.origin next → IsSoundNext p (in_frame s next) m
+    framed next keeps = within_next p s.callers s.current.origin (in_frame s next) m (within_frame m.heap.now s next keeps) (under_of p s m machine)
+        machine.code
 
     operated_led : (o : ObjectOp) (place : ℕ) → IsLed p (object_instruction o place p s m) m
-    operated_led (New index) place = stayed _ (made_stays index p s m)
-    operated_led Athrow place = throwing_led g p place s m (under_of p s m machine) machine.code
-    operated_led (CheckCast type) place = stayed _ (checked_stays type p s m)
-    operated_led (InstanceOf type) place = stayed _ (examined_stays type p s m)
+    operated_led (New index) place = made_led g p m known.classes s machine index
+    operated_led Athrow place = throwing_led g p place s m (under_of p s m machine) machine.code machine.living.current
+    operated_led (CheckCast type) place = stayed_led g p s m machine _ (checked_stays p m machine.sound type s machine.living.current)
+    operated_led (InstanceOf type) place = stayed_led g p s m machine _ (examined_stays p m machine.sound type s machine.living.current)
 
     -- one that calls no method
     alone_due : (i : Instr) (code : List ℕ) (place : ℕ) → (is_plain i ≡ false → s.current.origin.package_number == 0 ≡ false) → calls i ≡ false
@@ -71,20 +68,22 @@ module _ (g : Given) (p : Packages) (known : AreKnown p) where
         → IsLed p (instruction_at i code place p s m) m
     unfolding instruction_at
     executed_led Nop code place home due = machine
-    executed_led (Constant constant) code place home due = framed _ (keeps_put constant s.current)
-    executed_led (Local local) code place home due = framed _ (keeps_accessed local s.current)
-    executed_led (Stack stack) code place home due = framed _ (keeps_arranged stack s.current)
-    executed_led (Arithmetic arithmetic) code place home due = framed _ (keeps_computed arithmetic s.current)
-    executed_led (Branch branch) code place home due = framed _ (keeps_branched code place branch s.current)
-    executed_led (Return how) code place home due = returning_led g p how s m (under_of p s m machine) due
-    executed_led (Field field) code place home due = stayed (field_instruction field p s m) (fielded_stays field p s m) due
-    executed_led (Array operation) code place home due = stayed (array_instruction operation p s m) (indexed_stays operation p s m) due
+    executed_led (Constant constant) code place home due = framed _ (keeps_put m.heap.now s.current machine.living.current constant)
+    executed_led (Local local) code place home due = framed _ (keeps_accessed m.heap.now local s.current machine.living.current)
+    executed_led (Stack stack) code place home due = framed _ (keeps_arranged m.heap.now s.current machine.living.current stack)
+    executed_led (Arithmetic arithmetic) code place home due = framed _ (keeps_computed m.heap.now s.current machine.living.current arithmetic)
+    executed_led (Branch branch) code place home due = framed _ (keeps_branched m.heap.now code place branch s.current machine.living.current)
+    executed_led (Return how) code place home due = returning_led g p how s m (under_of p s m machine) machine.living.current due
+    executed_led (Field field) code place home due = stayed_led g p s m machine (field_instruction field p s m)
+        (fielded_stays p m known.classes machine.sound machine.environment field s machine.living.current) due
+    executed_led (Array operation) code place home due = indexed_led g p m known.classes s machine operation due
     executed_led (Object operation) code place home due = operated_led operation place due
     executed_led (Invoke method) code place home due = invoked_led g p known method place s m machine (home refl) due
 
   -- the next instruction is at another place
   placed : (s : Frames) (m : MemoryState) (place : ℕ) → IsSoundMachine p s m → IsSoundMachine p (at_place s place) m
   placed s m place machine = machine_like p s.callers s.current.origin (at_place s place) m refl refl (under_of p s m machine) machine.code
+      (record { locals = machine.living.current.locals; stack = machine.living.current.stack })
 
   fetched_due : (o : Option (Instr × ℕ)) (code : List ℕ) (s : Frames) (m : MemoryState) → IsSoundMachine p s m → AllDue (IsFit p) (fetch o code p s m) m
   fetched_due None code s m machine = tt
@@ -115,7 +114,8 @@ module _ (g : Given) (p : Packages) (known : AreKnown p) where
 
   caught_next : (place : ℕ) (next : Next Frames) (m : MemoryState) → IsSoundNext p next m → AllResults (throw_from place p next m) m (IsSoundNext p)
   caught_next place (GoesOn s) m machine = machine
-  caught_next place (Throws e s) m machine = thrown_led g p e place s m (under_of p s m machine) machine.code (caught_due place (Throws e s) m machine)
+  caught_next place (Throws e s) m machine = thrown_led g p e place s m (under_of p s m machine) machine.code machine.living.current
+      (caught_due place (Throws e s) m machine)
   caught_next place (Ends o) m machine = tt
 
   step_due : (lent : List ℕ) (s : Frames) (m : MemoryState) → IsSoundMachine p s m → AllDue (IsFit p) (machine_step lent p s m) m

@@ -1,5 +1,5 @@
 -- What is done without a change of the registry, the transaction, the installation or the owner for whom code runs.
-use Rattle.std.proofs.Common.{◌≡◌, ◌∙◌, sym, Bool, true, false, Option, Some, None, Result, Ok, Err, if◌then◌else◌}
+use Rattle.std.proofs.Common.{◌≡◌, ◌∙◌, refl, sym, Bool, true, false, Option, Some, None, Result, Ok, Err, if◌then◌else◌}
 use Rattle.std.specs.Prelude.{ℕ, List}
 use Rattle.jc_transient.specs.declared.cell.CellValue.{CellValue}
 use Rattle.jc_transient.specs.declared.cell.ClearEvent.{ClearEvent}
@@ -15,8 +15,9 @@ use Rattle.jc_memory.specs.Programs.{Program, Finish, Perform, Choose, Either, b
 use Rattle.jc_memory.specs.Cells.{cell_effect, cell_effect_in, cells_effect, cells_effect_in}
 use Rattle.jc_memory.specs.Making.{object_creation, creation_move}
 use Rattle.jc_world.specs.declared.native_result.NativeResult.{NativeResult}
-use Rattle.jc_world.specs.declared.native_result.NativeResult.TheVariants.{CallServer}
+use Rattle.jc_world.specs.declared.native_result.NativeResult.TheVariants.{ReturnVoid, ReturnValue, CallServer, Aborted}
 use Rattle.jc_world.specs.NativeCalls.{NativeProgram, if_some, if_ok, unless}
+use Rattle.law_soundness.specs.Living.{IsLivingCell}
 use Rattle.law_soundness.specs.LocalEffects.{AreElsewhere, IsLocalEffect, IsElsewhere}
 
 -- an effect is calm, and registers that are set tell of the same owner and the same installation as these
@@ -32,32 +33,35 @@ IsStill g (SetRegisters registers) = (registers.active ≡ g.active) × (registe
 IsStill g e = Unit {0}
 
 -- whatever is chosen, all effects are still, and the answer is so
-abbrev pub AllStill : {A : Type 0} → Registers → (A → Type 0) → Program A → Type 0
+abbrev pub AllStill : {A : Type 0} → MemoryState → (A → Type 0) → Program A → Type 0
 AllStill g Q (Finish a) = Q a
-AllStill g Q (Perform e rest) = IsStill g e × AllStill g Q rest
+AllStill g Q (Perform e rest) = IsStill g.registers e × AllStill g Q rest
 AllStill g Q (Choose choose) = (r : ℕ) → AllStill g Q (choose r)
 AllStill g Q (Either x y) = AllStill g Q x × AllStill g Q y
 
--- any answer; an answer that asks no server
+-- any answer; one that asks no server, with a reference that is null or names an object of this memory, if with one
 abbrev pub Any : {A : Type 0} → A → Type 0
 Any a = Unit {0}
 
-abbrev pub AsksNone : Result NativeResult FrameExit → Type 0
-AsksNone (Ok (CallServer asked)) = ⊥
-AsksNone answer = Unit {0}
+abbrev pub IsStillAnswer : MemoryState → Result NativeResult FrameExit → Type 0
+IsStillAnswer g (Ok ReturnVoid) = Unit {0}
+IsStillAnswer g (Ok (ReturnValue cell)) = IsLivingCell g.heap.now cell
+IsStillAnswer g (Ok (CallServer asked)) = ⊥
+IsStillAnswer g (Ok Aborted) = ⊥
+IsStillAnswer g (Err e) = Unit {0}
 
--- a call that is still
-abbrev pub IsStillCall : Registers → NativeProgram → Type 0
-IsStillCall g d = AllStill g AsksNone d
+-- a call that is still, behind this memory
+abbrev pub IsStillCall : MemoryState → NativeProgram → Type 0
+IsStillCall g d = AllStill g (IsStillAnswer g) d
 
 -- a memory with such registers
-pub record IsLike (g : Registers) (m : MemoryState) : Type 0 where
-  pub active : m.registers.active ≡ g.active
-  pub installation : m.registers.installation ≡ g.installation
+pub record IsLike (g m : MemoryState) : Type 0 where
+  pub active : m.registers.active ≡ g.registers.active
+  pub installation : m.registers.installation ≡ g.registers.installation
 
-module _ (g : Registers) where
+module _ (g : MemoryState) where
   -- a still effect is calm, and leaves such registers
-  pub still_calm : (e : Effect) (m : MemoryState) → IsStill g e → IsLike g m → IsLocalEffect e m × IsLike g (apply_effect e m)
+  pub still_calm : (e : Effect) (m : MemoryState) → IsStill g.registers e → IsLike g m → IsLocalEffect e m × IsLike g (apply_effect e m)
   still_calm (HeapMove (Write place v)) m still like = (still, record { active = like.active; installation = like.installation })
   still_calm (HeapMove (SetPlaces changes)) m still like = (still, record { active = like.active; installation = like.installation })
   still_calm (HeapMove (WriteNonAtomic place v)) m still like = (still, record { active = like.active; installation = like.installation })
@@ -94,6 +98,11 @@ module _ (g : Registers) where
   still_some None go still = tt
   still_some (Some a) go still = still a
 
+  -- with what is known of it
+  pub still_there : {A : Type 0} (o : Option A) (go : A → NativeProgram) → ((a : A) → o ≡ Some a → IsStillCall g (go a)) → IsStillCall g (if_some o go)
+  still_there None go still = tt
+  still_there (Some a) go still = still a refl
+
   pub still_ok : {A : Type 0} (x : Result A FrameExit) (go : A → NativeProgram) → ((a : A) → IsStillCall g (go a)) → IsStillCall g (if_ok x go)
   still_ok (Ok a) go still = still a
   still_ok (Err e) go still = tt
@@ -103,18 +112,18 @@ module _ (g : Registers) where
   still_unless (Some reason) d still = tt
 
   -- cells are set
-  sets_still : (event : Option ClearEvent) (r i : ℕ) (v : CellValue) → IsStill g (cell_effect_in event r i v)
+  sets_still : (event : Option ClearEvent) (r i : ℕ) (v : CellValue) → IsStill g.registers (cell_effect_in event r i v)
   sets_still None r i v = tt
   sets_still (Some event) r i v = tt
 
-  pub still_sets : (s : MemoryState) (r i : ℕ) (v : CellValue) → IsStill g (cell_effect s r i v)
+  pub still_sets : (s : MemoryState) (r i : ℕ) (v : CellValue) → IsStill g.registers (cell_effect s r i v)
   still_sets s r i v = sets_still (facts s.heap.now r).event r i v
 
-  run_still : (event : Option ClearEvent) (r i : ℕ) (words : List ℕ) → IsStill g (cells_effect_in event r i words)
+  run_still : (event : Option ClearEvent) (r i : ℕ) (words : List ℕ) → IsStill g.registers (cells_effect_in event r i words)
   run_still None r i words = tt
   run_still (Some event) r i words = tt
 
-  pub still_sets_run : (s : MemoryState) (r i : ℕ) (words : List ℕ) → IsStill g (cells_effect s r i words)
+  pub still_sets_run : (s : MemoryState) (r i : ℕ) (words : List ℕ) → IsStill g.registers (cells_effect s r i words)
   still_sets_run s r i words = run_still (facts s.heap.now r).event r i words
 
   -- an object is made

@@ -1,5 +1,5 @@
 -- Calls of JCSystem: what is still, and who is asked.
-use Rattle.std.proofs.Common.{◌≡◌, ℕ, ◌+◌, ◌≤◌, Bool, true, false, List, Option, Some, None, refl, ap, arith, if◌then◌else◌}
+use Rattle.std.proofs.Common.{◌≡◌, ℕ, ◌+◌, ◌≤◌, Bool, true, false, inl, inr, List, Option, Some, None, refl, ap, arith, if◌then◌else◌}
 use Rattle.std.proofs.lemmas.Bool.{and_parts, le-leb, leb-true, ltb-true, or_left, or_right}
 use Rattle.std.proofs.lemmas.Option.{none-some}
 use Rattle.std.specs.Option.{option_and_then, option_map}
@@ -9,10 +9,11 @@ use Rattle.jc_heap.specs.declared.object.Kind.{Kind}
 use Rattle.jc_heap.specs.declared.place.AppletEntry.{AppletEntry}
 use Rattle.jc_frames.specs.declared.cell.Cell.{Cell}
 use Rattle.jc_memory.specs.declared.registers.AppletNumber.{AppletNumber}
-use Rattle.jc_memory.specs.declared.registers.Registers.{Registers}
-use Rattle.jc_memory.specs.State.{MemoryState}
+use Rattle.jc_memory.specs.declared.making.NewObject.{NewObject}
+use Rattle.jc_heap.specs.Whole.{IsReference}
+use Rattle.jc_memory.specs.State.{MemoryState, HeapMove}
 use Rattle.jc_memory.specs.Cells.{header_at}
-use Rattle.jc_memory.specs.Making.{creation_refusal}
+use Rattle.jc_memory.specs.Making.{creation_move, creation_refusal, object_creation}
 use Rattle.jc_memory.specs.Reading.{AllResults}
 use Rattle.jc_linker.specs.Values.{Packages}
 use Rattle.jc_platform.specs.declared.names.PlatformClass.TheVariants.{Aid}
@@ -20,41 +21,66 @@ use Rattle.jc_platform.specs.Distinct.{class_word}
 use Rattle.jc_registry.specs.Aids.{aid_at}
 use Rattle.jc_registry.specs.Registry.{applet_count, applet_entry, applet_with_aid, instance_of_applet, is_applet}
 use Rattle.jc_world.specs.Objects.{is_instance_of, reference_argument, short_argument}
-use Rattle.jc_world.specs.Arrays.{bytes_argument, elements_of}
-use Rattle.jc_api_runtime.specs.SystemSharing.{jc_system_lookup_aid, server_call_result, server_call_by_aid, server_call_if_known}
+use Rattle.jc_world.specs.Arrays.{bytes_argument, bytes_in, elements_of}
+use Rattle.jc_api_runtime.specs.AidCells.{is_aid_length}
+use Rattle.jc_api_runtime.specs.SystemSharing.{aid_or_null, applet_of, jc_system_lookup_aid, server_call_result, server_call_by_aid, server_call_if_known}
 use Rattle.jc_api_runtime.specs.SystemSharing.{jc_system_get_applet_shareable_interface_object}
 use Rattle.jc_api_runtime.specs.SystemTransient.{jc_system_make_transient_array, jc_system_is_transient, requested_array}
 use Rattle.jc_frames.specs.declared.cell.Cell.TheVariants.{Reference}
 use Rattle.jc_world.specs.declared.native_result.NativeResult.TheVariants.{ReturnValue}
 use Rattle.jc_world.specs.NativeCalls.{return_value}
-use Rattle.law_soundness.specs.State.{IsSteady, is_open, is_owner_up_to, most_owner}
+use Rattle.law_soundness.specs.State.{IsSoundMemory, IsSteady, is_open, is_owner_up_to, most_owner}
 use Rattle.law_soundness.specs.Calls.{IsCallResult}
-use Rattle.law_soundness.proofs.Leaving.{left_if, left_some, stays}
-use Rattle.law_soundness.proofs.Still.{AsksNone, IsStillCall, still_if, still_makes_new, still_ok, still_some, still_unless}
+use Rattle.law_soundness.specs.LocalEffects.{LocalEffectsStay}
+use Rattle.law_soundness.proofs.Leaving.{left_if, left_ok, left_some, left_unless, stays}
+use Rattle.law_soundness.proofs.Registered.{or_null_refers, server_refers}
+use Rattle.law_soundness.proofs.Still.{IsStillAnswer, IsStillCall, still_if, still_ok, still_some}
+use Rattle.law_soundness.proofs.SteppedObjects.{creation_local, new_there}
 
-module _ (g : Registers) (args : List Cell) (p : Packages) (m : MemoryState) where
-  pub array_still : (kind : Kind) → IsStillCall g (jc_system_make_transient_array kind args p m)
-  unfolding jc_system_make_transient_array
-  array_still kind = still_some g (short_argument args 0) _ (λ count. still_some g (short_argument args 1) _
-      (λ event. still_ok g (requested_array kind count event p m) _ (λ o.
-      still_unless g (creation_refusal m o) _ (still_makes_new g AsksNone o (λ r. return_value (ReturnValue (Reference r))) (λ r. tt)))))
-
-  pub event_still : IsStillCall g (jc_system_is_transient args m)
+module _ (args : List Cell) (p : Packages) (m : MemoryState) (sound : IsSoundMemory p m) where
+  pub event_still : IsStillCall m (jc_system_is_transient args m)
   unfolding jc_system_is_transient
-  event_still = still_some g (reference_argument args 0) _ (λ r. still_if g AsksNone (r == 0) _ _ tt (still_some g (header_at m r) _ (λ f. tt)))
+  event_still = still_some m (reference_argument args 0) _ (λ r. still_if m (IsStillAnswer m) (r == 0) _ _ tt (still_some m (header_at m r) _ (λ f. tt)))
 
-  pub looked_up_still : IsStillCall g (jc_system_lookup_aid args p m)
+  found_refers : (b : Bool) (o : Option AppletNumber) → IsReference m.heap.now (if b then aid_or_null m.heap.now o else 0)
+  found_refers true o = or_null_refers p m sound o
+  found_refers false o = inl refl
+
+  pub looked_up_still : IsStillCall m (jc_system_lookup_aid args p m)
   unfolding jc_system_lookup_aid
-  looked_up_still = still_some g (reference_argument args 0) _ (λ array. still_some g (short_argument args 1) _
-      (λ start. still_some g (short_argument args 2) _ (λ count.
-      still_ok g (bytes_argument m array) _ (λ argument. still_ok g (elements_of p m array argument start count) _ (λ e. tt)))))
+  looked_up_still = still_some m (reference_argument args 0) _ (λ array. still_some m (short_argument args 1) _
+      (λ start. still_some m (short_argument args 2) _ (λ count.
+      still_ok m (bytes_argument m array) _ (λ argument. still_ok m (elements_of p m array argument start count) _
+      (λ e. found_refers (is_aid_length e.count) (applet_with_aid m (bytes_in m e)))))))
+
+  -- a new array is there
+  module _ (calm : LocalEffectsStay) (steady : IsSteady m) where
+    made_left : (o : NewObject) → AllResults (object_creation o (λ r. return_value (ReturnValue (Reference r)))) m (IsCallResult m)
+    made_left o r new =
+        let e = HeapMove (creation_move o.event o) in
+        let local = creation_local o.event o m in (
+          record {
+            again = record {
+              steady = calm.steady e m local sound.settled steady;
+              owners = λ callers known. calm.owners e m callers local sound.settled known;
+              active = refl;
+            };
+            references = calm.references e m local sound.whole.now;
+          },
+          inr (new_there o.event o m r new),
+        )
+
+    pub array_left : (kind : Kind) → AllResults (jc_system_make_transient_array kind args p m) m (IsCallResult m)
+    unfolding jc_system_make_transient_array
+    array_left kind = left_some m (short_argument args 0) _ (λ count there. left_some m (short_argument args 1) _ (λ event is.
+        left_ok m steady (requested_array kind count event p m) _ (λ o asked. left_unless m steady (creation_refusal m o) _ (made_left o))))
 
 -- an applet of which there is an instance is there
 entered_in : (b : Bool) (n server : ℕ) (e : AppletEntry) → option_map (λ x. x.instance) (if b then Some e else None) ≡ Some server → b ≡ true
 entered_in true n server e is = refl
 entered_in false n server e is = absurd (none-some server is)
 
-module _ (m : MemoryState) (steady : IsSteady m) where
+module _ (p : Packages) (m : MemoryState) (sound : IsSoundMemory p m) (steady : IsSteady m) where
   most_in : (b : Bool) (counts durable : ℕ) → counts ≡ durable → counts ≤ (if b then durable + 1 else counts)
   most_in true counts durable same = omega (arith, same)
   most_in false counts durable same = omega arith
@@ -72,20 +98,22 @@ module _ (m : MemoryState) (steady : IsSteady m) where
 
   asked_left : (parameter : ℤ) (n : AppletNumber) (server : Option ℕ) → instance_of_applet m.heap.now n.0 ≡ server
       → AllResults (server_call_result m parameter n server) m (IsCallResult m)
-  asked_left parameter n None is = (stays m steady, tt)
-  asked_left parameter n (Some server) is = (stays m steady, server_known n.0 server is)
+  asked_left parameter n None is = (stays m steady, inl refl)
+  asked_left parameter n (Some server) is =
+      let known = server_known n.0 server is in
+      (stays m steady, known.0, known.1, server_refers p m sound n.0 server is, or_null_refers p m sound (applet_of m.registers.active))
 
   known_left : (parameter : ℤ) (n : Option AppletNumber) → AllResults (server_call_if_known m parameter n) m (IsCallResult m)
-  known_left parameter None = (stays m steady, tt)
+  known_left parameter None = (stays m steady, inl refl)
   known_left parameter (Some n) = asked_left parameter n (instance_of_applet m.heap.now n.0) refl
 
-  asked_by_left : (p : Packages) (aid : ℕ) (parameter : ℤ) (f : Facts) → AllResults (server_call_by_aid p m aid parameter f) m (IsCallResult m)
-  asked_by_left p aid parameter f =
+  asked_by_left : (aid : ℕ) (parameter : ℤ) (f : Facts) → AllResults (server_call_by_aid p m aid parameter f) m (IsCallResult m)
+  asked_by_left aid parameter f =
       left_if m (is_instance_of p f (class_word p.platform Aid)) _ _ (λ on. known_left parameter
       (option_and_then (λ bytes. applet_with_aid m bytes) (aid_at m aid))) (λ off. tt)
 
-  pub server_left : (args : List Cell) (p : Packages) → AllResults (jc_system_get_applet_shareable_interface_object args p m) m (IsCallResult m)
+  pub server_left : (args : List Cell) → AllResults (jc_system_get_applet_shareable_interface_object args p m) m (IsCallResult m)
   unfolding jc_system_get_applet_shareable_interface_object
-  server_left args p = left_some m (reference_argument args 0) _ (λ aid is. left_some m (short_argument args 1) _ (λ parameter there.
-      left_if m (aid == 0) _ _ (λ on. (stays m steady, tt)) (λ off. left_some m (header_at m aid) (server_call_by_aid p m aid parameter)
-      (λ f found. asked_by_left p aid parameter f))))
+  server_left args = left_some m (reference_argument args 0) _ (λ aid is. left_some m (short_argument args 1) _ (λ parameter there.
+      left_if m (aid == 0) _ _ (λ on. (stays m steady, inl refl)) (λ off. left_some m (header_at m aid) (server_call_by_aid p m aid parameter)
+      (λ f found. asked_by_left aid parameter f))))

@@ -1,7 +1,9 @@
 -- Transactions of JCSystem: one that begins or ends, which that of an installation never does.
-use Rattle.std.proofs.Common.{◌≡◌, ℕ, ◌+◌, false, refl, sym, ◌∙◌, ap, if◌then◌else◌}
+use Rattle.std.proofs.Common.{◌≡◌, ℕ, ◌+◌, false, inl, refl, sym, ◌∙◌, ap, if◌then◌else◌}
 use Rattle.std.proofs.lemmas.Bool.{both_ways, cond-false}
+use Rattle.std.specs.Prelude.{nat_lt}
 use Rattle.jc_heap.specs.Moves.{Begin, Commit, Abort}
+use Rattle.jc_heap.specs.Whole.{IsReference}
 use Rattle.jc_memory.specs.declared.registers.Depth.{Depth}
 use Rattle.jc_memory.specs.declared.registers.Depth.TheVariants.{Outside, Inside}
 use Rattle.jc_memory.specs.declared.registers.Installation.{Installation}
@@ -12,13 +14,27 @@ use Rattle.jc_linker.specs.Values.{Packages}
 use Rattle.jc_api_runtime.specs.SystemTransactions.{jc_system_abort_transaction, after_abort, jc_system_begin_transaction, jc_system_commit_transaction}
 use Rattle.jc_api_runtime.specs.SystemTransactions.{commit_of_applet, set_level}
 use Rattle.law_soundness.specs.State.{IsSoundMemory, IsSteady, is_open}
-use Rattle.law_soundness.specs.Calls.{IsCallResult, IsReadyAgain}
+use Rattle.law_soundness.specs.Calls.{IsCallResult, IsReadyAgain, IsSteadyAgain}
+use Rattle.law_soundness.specs.Living.{KeepsReferencesBelow}
+use Rattle.law_soundness.proofs.Memories.{choose}
+use Rattle.law_soundness.proofs.Transients.{left}
 use Rattle.law_soundness.proofs.Leaving.{left_if, same_owners, stays}
 
 module _ (p : Packages) (m : MemoryState) (sound : IsSoundMemory p m) (steady : IsSteady m) where
+  -- a memory that is left so after an abort
+  abbrev IsAbortedTo : MemoryState → Type 0
+  IsAbortedTo n = IsSteadyAgain m n × KeepsReferencesBelow m.heap.now n.heap.now
+
+  -- with nothing taken back
+  not_nulled : KeepsReferencesBelow m.heap.now m.heap.now
+  not_nulled r refers = choose (IsReference m.heap.now) (nat_lt r m.heap.now.top) r 0 (λ low. refers) (λ high. inl refl)
+
   -- the level alone is set
   level_set : (depth : Depth) → IsReadyAgain m (apply_effect (set_level m depth) m)
-  level_set depth = record { steady = record { counts = steady.counts; begun = steady.begun }; owners = same_owners m _ refl refl; active = refl }
+  level_set depth = record {
+    again = record { steady = record { counts = steady.counts; begun = steady.begun }; owners = same_owners m _ refl refl; active = refl };
+    references = λ r refers. refers;
+  }
 
   -- a transaction begins
   abbrev begun_now : MemoryState
@@ -26,14 +42,17 @@ module _ (p : Packages) (m : MemoryState) (sound : IsSoundMemory p m) (steady : 
 
   begun_again : IsReadyAgain m begun_now
   begun_again = record {
-    steady = record { counts = refl; begun = λ on. refl };
-    owners = same_owners m begun_now refl (ap (λ c. if is_open m.registers.installation then c.1 + 1 else m.heap.now.counts.1) steady.counts);
-    active = refl;
+    again = record {
+      steady = record { counts = refl; begun = λ on. refl };
+      owners = same_owners m begun_now refl (ap (λ c. if is_open m.registers.installation then c.1 + 1 else m.heap.now.counts.1) steady.counts);
+      active = refl;
+    };
+    references = λ r refers. refers;
   }
 
   pub begun_left : (depth : Depth) → AllResults (jc_system_begin_transaction depth m) m (IsCallResult m)
   begun_left Inside = stays m steady
-  begun_left Outside = left_if m m.heap.begun _ _ (λ on. (level_set Inside, tt)) (λ off. (begun_again, tt))
+  begun_left Outside = left_if m m.heap.begun _ _ (λ on. level_set Inside) (λ off. begun_again)
 
   -- one ends, outside an installation
   module _ (closed : is_open m.registers.installation ≡ false) where
@@ -47,25 +66,31 @@ module _ (p : Packages) (m : MemoryState) (sound : IsSoundMemory p m) (steady : 
 
     committed_again : IsReadyAgain m committed_now
     committed_again = record {
-      steady = record { counts = refl; begun = λ on. absurd (both_ways (is_open m.registers.installation) closed on) };
-      owners = same_owners m committed_now refl (same_most _ m.heap.now.counts.1 _ refl);
-      active = refl;
+      again = record {
+        steady = record { counts = refl; begun = λ on. absurd (both_ways (is_open m.registers.installation) closed on) };
+        owners = same_owners m committed_now refl (same_most _ m.heap.now.counts.1 _ refl);
+        active = refl;
+      };
+      references = λ r refers. refers;
     }
 
     abbrev aborted_now : MemoryState
     aborted_now = apply_effect (set_level m Outside) (apply_effect (HeapMove Abort) m)
 
-    aborted_again : IsReadyAgain m aborted_now
-    aborted_again = record {
-      steady = record { counts = refl; begun = λ on. absurd (both_ways (is_open m.registers.installation) closed on) };
-      owners = same_owners m aborted_now (sym sound.packages) (same_most _ m.heap.now.counts.1 _ (ap (λ c. c.1) (sym steady.counts)));
-      active = refl;
-    }
+    aborted_again : IsAbortedTo aborted_now
+    aborted_again = (
+      record {
+        steady = record { counts = refl; begun = λ on. absurd (both_ways (is_open m.registers.installation) closed on) };
+        owners = same_owners m aborted_now (sym sound.packages) (same_most _ m.heap.now.counts.1 _ (ap (λ c. c.1) (sym steady.counts)));
+        active = refl;
+      },
+      λ r refers. left m.heap sound.whole m.ram sound.transients r (nat_lt r m.heap.durable.top) refl refers,
+    )
 
   committed_in_left : (installation : Installation) → m.registers.installation ≡ installation → AllResults (commit_of_applet installation m) m (IsCallResult m)
-  committed_in_left (Open home entry) is = (level_set Outside, tt)
-  committed_in_left Idle is = left_if m m.heap.begun _ _ (λ on. (committed_again (ap is_open is), tt)) (λ off. (level_set Outside, tt))
-  committed_in_left (Registered home) is = left_if m m.heap.begun _ _ (λ on. (committed_again (ap is_open is), tt)) (λ off. (level_set Outside, tt))
+  committed_in_left (Open home entry) is = level_set Outside
+  committed_in_left Idle is = left_if m m.heap.begun _ _ (λ on. committed_again (ap is_open is)) (λ off. level_set Outside)
+  committed_in_left (Registered home) is = left_if m m.heap.begun _ _ (λ on. committed_again (ap is_open is)) (λ off. level_set Outside)
 
   pub committed_left : (depth : Depth) → AllResults (jc_system_commit_transaction depth m) m (IsCallResult m)
   committed_left Outside = stays m steady
@@ -73,12 +98,12 @@ module _ (p : Packages) (m : MemoryState) (sound : IsSoundMemory p m) (steady : 
 
   -- in an installation the run ends
   after_left : (installation : Installation) → m.registers.installation ≡ installation → (v : MemoryState)
-      → (is_open m.registers.installation ≡ false → IsReadyAgain m v) → AllResults (after_abort installation) v (IsCallResult m)
-  after_left Idle is v stands = (stands (ap is_open is), tt)
+      → (is_open m.registers.installation ≡ false → IsAbortedTo v) → AllResults (after_abort installation) v (IsCallResult m)
+  after_left Idle is v stands = stands (ap is_open is)
   after_left (Open home entry) is v stands = tt
-  after_left (Registered home) is v stands = (stands (ap is_open is), tt)
+  after_left (Registered home) is v stands = stands (ap is_open is)
 
   pub aborted_left : (depth : Depth) → AllResults (jc_system_abort_transaction depth m) m (IsCallResult m)
   aborted_left Outside = stays m steady
   aborted_left Inside = left_if m m.heap.begun _ _ (λ on. after_left m.registers.installation refl _ aborted_again)
-      (λ off. after_left m.registers.installation refl _ (λ closed. level_set Outside))
+      (λ off. after_left m.registers.installation refl _ (λ closed. ((level_set Outside).again, not_nulled)))

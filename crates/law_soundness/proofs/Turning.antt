@@ -44,7 +44,7 @@ bears p = record {
   keeps = keeps_sound p;
   turns = λ g m sound active installation selected. turn_fits p m sound g active installation selected;
   begins = λ m sound off. off;
-  commits = λ m sound begun none on. absurd (not_opened m.registers.installation none on);
-  aborts = λ m on. tt;
+  commits = λ m sound begun none. (begun, λ on. absurd (not_opened m.registers.installation none on));
+  aborts = λ m on. on;
   sends = λ bytes m. tt;
 }

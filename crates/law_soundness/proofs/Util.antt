@@ -21,10 +21,9 @@ use Rattle.jc_api_data.specs.Objects.{object_equals, object_call}
 use Rattle.jc_api_data.specs.Exceptions.{exception_set_reason, exception_get_reason, exception_throw_it, exception_call}
 use Rattle.jc_api_data.specs.UtilArguments.{pair_arguments, pair_of, two_of}
 use Rattle.jc_api_data.specs.Util.{util_array_copy, util_array_compare, bytes_of_short, util_get_short, util_set_short, util_make_short, util_call}
-use Rattle.jc_memory.specs.declared.registers.Registers.{Registers}
 use Rattle.law_soundness.proofs.Still.{IsStillCall, still_ok, still_sets, still_sets_run, still_some, still_unless}
 
-module _ (g : Registers) where
+module _ (g : MemoryState) where
   same_still : (args : List Cell) → IsStillCall g (object_equals args)
   unfolding object_equals
   same_still args = still_some g (reference_argument args 0) _ (λ own. still_some g (reference_argument args 1) _ (λ other. tt))

@@ -11,26 +11,34 @@ use Rattle.jc_linker.specs.Values.{Packages}
 use Rattle.jc_world.specs.declared.native_result.NativeResult.{NativeResult}
 use Rattle.jc_world.specs.declared.native_result.NativeResult.TheVariants.{ReturnVoid, ReturnValue, CallServer, Aborted}
 use Rattle.jc_interp.specs.Natives.{native_call}
+use Rattle.jc_heap.specs.Whole.{IsReference}
+use Rattle.law_soundness.specs.Living.{IsLivingCell, KeepsReferences, KeepsReferencesBelow}
 use Rattle.law_soundness.specs.State.{IsSteady, is_owner_up_to, most_owner}
 use Rattle.law_soundness.specs.Natives.{IsSoundCall}
 use Rattle.law_soundness.specs.Machines.{KnowOwners}
 
 -- the new memory stands as between two instructions; for whom callers ran is there, where it was before; code runs for the same owner
-pub record IsReadyAgain (m n : MemoryState) : Type 0 where
+pub record IsSteadyAgain (m n : MemoryState) : Type 0 where
   pub steady : IsSteady n
   pub owners : (callers : List Caller) → KnowOwners callers m → KnowOwners callers n
   pub active : n.registers.active ≡ m.registers.active
 
--- and a server that is to be asked is an applet that is there
-abbrev pub AnswersWell : NativeResult → MemoryState → Type 0
-AnswersWell ReturnVoid n = Unit {0}
-AnswersWell (ReturnValue cell) n = Unit {0}
-AnswersWell (CallServer asked) n = (is_owner_up_to (most_owner n) n.heap.now asked.owner.0 ≡ true) × (asked.owner.0 ≡ 0 → ⊥)
-AnswersWell Aborted n = Unit {0}
+-- and what referred refers
+pub record IsReadyAgain (m n : MemoryState) : Type 0 where
+  pub again : IsSteadyAgain m n
+  pub references : KeepsReferences m.heap.now n.heap.now
+
+-- a reference that is handed over is null or names an object; a server that is to be asked is an applet that is there
+abbrev pub AnswersWell : NativeResult → MemoryState → MemoryState → Type 0
+AnswersWell ReturnVoid m n = IsReadyAgain m n
+AnswersWell (ReturnValue cell) m n = IsReadyAgain m n × IsLivingCell n.heap.now cell
+AnswersWell (CallServer asked) m n = IsReadyAgain m n × (is_owner_up_to (most_owner n) n.heap.now asked.owner.0 ≡ true) × (asked.owner.0 ≡ 0 → ⊥)
+    × IsReference n.heap.now asked.server × IsReference n.heap.now asked.client
+AnswersWell Aborted m n = IsSteadyAgain m n × KeepsReferencesBelow m.heap.now n.heap.now
 
 -- how a call leaves the memory, unless it ends the run
 abbrev pub IsCallResult : MemoryState → Result NativeResult FrameExit → MemoryState → Type 0
-IsCallResult m (Ok answer) n = IsReadyAgain m n × AnswersWell answer n
+IsCallResult m (Ok answer) n = AnswersWell answer m n
 IsCallResult m (Err (Throw e)) n = IsReadyAgain m n
 IsCallResult m (Err (End o)) n = Unit {0}
 

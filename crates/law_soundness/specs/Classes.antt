@@ -43,6 +43,9 @@ pub record HasPlatformCells (p : Packages) : Type 0 where
 pub record HasFieldCells (p : Packages) : Type 0 where
   pub kinds : (number index of cell class : ℕ) (reference : Bool) → target_at p number index ≡ Some (InstanceField of cell reference)
       → has_instances p class ≡ true → is_below p class of ≡ true → reference_cell p class cell ≡ reference
+  -- and instances of the platform's own classes have none that an entry names
+  pub hidden : (number index class cell : ℕ) (reference : Bool) → target_at p number index ≡ Some (InstanceField class cell reference)
+      → (of : PlatformClass) → is_below p (class_word p.platform of) class ≡ true → ⊥
   pub behind : (number index of cell class : ℕ) (reference : Bool) (platform : PlatformClass)
       → target_at p number index ≡ Some (InstanceField of cell reference) → has_instances p class ≡ true → is_interface platform ≡ false →
       is_below p class of ≡ true → is_a p class platform ≡ true → cells_of platform ≤ cell

@@ -1,21 +1,23 @@
 -- The runtime environment's own objects.
-use Rattle.std.specs.Prelude.{ℕ, ◌≡◌, ◌≤◌, true}
-use Rattle.jc_heap.specs.Heap.{HeapState, facts}
+use Rattle.std.specs.Prelude.{ℕ, ◌≡◌, ◌≤◌, ◌<◌, true, List, slice_index}
+use Rattle.jc_heap.specs.Heap.{HeapState, IsObject, facts}
 use Rattle.jc_memory.specs.State.{MemoryState, Effect, apply_effect}
 use Rattle.jc_linker.specs.Values.{Packages}
 use Rattle.jc_card_checks.specs.Objects.{is_instance, is_object_address}
 use Rattle.law_soundness.specs.Fit.{IsFit, IsPlatformClass}
-use Rattle.law_soundness.specs.State.{IsSoundMemory, last_own}
+use Rattle.law_soundness.specs.State.{IsSoundMemory}
 
--- the objects with which a heap begins are the runtime environment's own, and its instances are of classes of the platform
-pub record AreEnvironmentObjects (p : Packages) (h : HeapState) (own : ℕ) : Type 0 where
-  pub first : (r : ℕ) → r ≤ own → (facts h r).owner ≡ 0
+-- the objects with which a heap begins, at these addresses, are there, and the runtime environment's own; and its instances are of classes of
+-- the platform
+pub record AreEnvironmentObjects (p : Packages) (h : HeapState) (fixed : List ℕ) : Type 0 where
+  pub there : (k : ℕ) → k < 17 → IsObject h (slice_index fixed k)
+  pub first : (r : ℕ) → r ≤ slice_index fixed 16 → (facts h r).owner ≡ 0
   pub classes : (r : ℕ) → is_object_address h r ≡ true → is_instance (facts h r).kind ≡ true → (facts h r).owner ≡ 0 → IsPlatformClass p (facts h r).class
 
 -- so it is in the heap as it is and in the one that a loss of power leaves
 pub record HasEnvironment (p : Packages) (m : MemoryState) : Type 0 where
-  pub now : AreEnvironmentObjects p m.heap.now (last_own m)
-  pub durable : AreEnvironmentObjects p m.heap.durable (last_own m)
+  pub now : AreEnvironmentObjects p m.heap.now m.fixed
+  pub durable : AreEnvironmentObjects p m.heap.durable m.fixed
 
 -- an effect that fits leaves it so
 abbrev pub KeepsEnvironment : Type 0

@@ -1,5 +1,8 @@
 -- Effects that leave a memory sound.
-use Rattle.std.specs.Prelude.{ℕ, ◌≡◌, ◌<◌, ◌≤◌, ◌+◌, true, false, List, [], ◌∷◌, length, slice_index, Some}
+use Rattle.std.specs.Prelude.{ℕ, ◌≡◌, ◌<◌, ◌≤◌, ◌+◌, true, false, List, [], ◌∷◌, length, slice_index, slice_index_or, pos, Some, None}
+use Rattle.jc_transient.specs.declared.cell.CellValue.{CellValue}
+use Rattle.jc_transient.specs.declared.cell.CellValue.TheVariants.{Short}
+use Rattle.jc_transient.specs.State.{buffer_size}
 use Rattle.jc_words.specs.Layout.{most_applets}
 use Rattle.jc_platform.specs.declared.names.PlatformClass.{PlatformClass}
 use Rattle.jc_platform.specs.declared.names.PlatformClass.TheVariants.{Aid, Applet, OwnerPin}
@@ -29,7 +32,7 @@ use Rattle.jc_pin.specs.Updating.{changes_of_update}
 use Rattle.jc_card_checks.specs.Objects.{fits_class, is_a, is_byte_array, is_instance, is_persistent_instance, is_reference, is_object_address}
 use Rattle.jc_card_checks.specs.Sound.{aid_in, aid_of_entry, entry_word, holds_aid}
 use Rattle.jc_api_runtime.specs.AidCells.{cells_of_aid, is_aid_length}
-use Rattle.law_soundness.specs.State.{IsSoundMemory, is_applet, is_home, is_open, is_owner_up_to, last_own, most_in, most_new}
+use Rattle.law_soundness.specs.State.{IsLivingElement, IsLivingValue, IsSoundMemory, is_applet, is_home, is_open, is_owner_up_to, last_own, most_in, most_new}
 
 -- a value fits a cell of a persistent instance that is none of an AID and none of a PIN: a reference where one is kept
 pub record FitsCell (p : Packages) (h : HeapState) (r i v : ℕ) : Type 0 where
@@ -43,9 +46,17 @@ pub record FitsStatic (p : Packages) (h : HeapState) (r j v : ℕ) : Type 0 wher
   pub reference : (k begin : ℕ) → k < length h.packages → slice_index h.packages k ≡ r → statics_of (record_of h r) ≡ Some begin
       → j < begin + (statics_at p (k + 1)).1 → is_reference h v ≡ true
 
--- a value fits a place, other than those of the registry
+-- a value fits a cell of an object: a reference into an array of references
+abbrev pub FitsValue : Packages → HeapState → ℕ → ℕ → ℕ → Type 0
+FitsValue p h r i v = (is_persistent_instance (facts h r) ≡ true → FitsCell p h r i v) × ((facts h r).kind ≡ ReferenceArray → is_reference h v ≡ true)
+
+-- the cells up to an end are those of a persistent object
+abbrev pub AreCellsOf : HeapState → ℕ → ℕ → Type 0
+AreCellsOf h r end = ((facts h r).event ≡ None) × (end ≤ (facts h r).length)
+
+-- a value fits a place that is there, other than those of the registry
 abbrev pub FitsPlace : Packages → HeapState → Place → ℕ → Type 0
-FitsPlace p h (Cell r i) v = (is_persistent_instance (facts h r) ≡ true → FitsCell p h r i v) × ((facts h r).kind ≡ ReferenceArray → is_reference h v ≡ true)
+FitsPlace p h (Cell r i) v = AreCellsOf h r (i + 1) × FitsValue p h r i v
 FitsPlace p h (Static r j) v = FitsStatic p h r j v
 FitsPlace p h (Registry i) v = ⊥
 FitsPlace p h AppletCount v = ⊥
@@ -127,6 +138,13 @@ pub record SetsAid (p : Packages) (m : MemoryState) (r i : ℕ) (words : List �
 abbrev pub FitsRun : Packages → MemoryState → ℕ → ℕ → List ℕ → Type 0
 FitsRun p m r i words = ((is_persistent_instance (facts m.heap.now r) ≡ true) → SetsAid p m r i words) × ((facts m.heap.now r).kind ≡ ReferenceArray → ⊥)
 
+-- values fit the cells of a transient object from an index on: they lie within it, and keep it one without references to what is gone
+pub record FitsFill (m : MemoryState) (r i : ℕ) (values : List CellValue) : Type 0 where
+  pub within : i + length values ≤ (facts m.heap.now r).length
+  pub living : (k : ℕ) → k < length values → IsLivingValue m.heap.now (slice_index_or values k (Short (pos 0)))
+  pub elements : (facts m.heap.now r).kind ≡ ReferenceArray → (k : ℕ) → k < length values
+      → IsLivingElement m.heap.now (slice_index_or values k (Short (pos 0)))
+
 -- a class of the platform, no interface
 abbrev pub IsPlatformClass : Packages → ℕ → Type 0
 IsPlatformClass p class = (of : PlatformClass) × (is_interface of ≡ false) × (class ≡ class_word p.platform of)
@@ -147,19 +165,19 @@ pub record FitsObject (p : Packages) (m : MemoryState) (move : Move) : Type 0 wh
   pub is : move ≡ new_move kind class owner long
   pub fits : FitsNew p m kind class owner long
 
--- a move of the heap leaves it sound: a transaction begins where none is open, and ends during an installation only as the instance has
--- been registered
+-- a move of the heap leaves it sound: a transaction begins where none is open, and ends where one is; during an installation it is
+-- committed only as the instance has been registered
 abbrev pub FitsMove : Packages → Move → MemoryState → Type 0
 FitsMove p (Write place v) m = FitsPlace p m.heap.now place v
 FitsMove p (SetPlaces changes) m = FitsChange p m changes
 FitsMove p (WriteNonAtomic place v) m = (r : ℕ) × (place ≡ counter r) × IsPinObject p m r
-FitsMove p (SetCells r i words) m = FitsRun p m r i words
+FitsMove p (SetCells r i words) m = AreCellsOf m.heap.now r (i + length words) × FitsRun p m r i words
 FitsMove p (AddObject o size) m = FitsObject p m (AddObject o size)
-FitsMove p (AddTransient kind event class owner long) m = FitsNew p m kind class owner long × (LacksCells m.heap.now event long → ⊥)
+FitsMove p (AddTransient kind event class owner long) m = FitsNew p m kind class owner long × (LacksCells m.heap.now event long → ⊥) × (is_instance kind ≡ false)
 FitsMove p (AddPackage components arrays image) m = ⊥
 FitsMove p Begin m = m.heap.begun ≡ false
-FitsMove p Commit m = is_open m.registers.installation ≡ true → m.heap.now.counts.1 ≡ m.heap.durable.counts.1 + 1
-FitsMove p Abort m = Unit {0}
+FitsMove p Commit m = (m.heap.begun ≡ true) × (is_open m.registers.installation ≡ true → m.heap.now.counts.1 ≡ m.heap.durable.counts.1 + 1)
+FitsMove p Abort m = m.heap.begun ≡ true
 
 -- the registers are set: code runs for an owner that is there, an applet that is selected is there, and an installation, which is of a
 -- package that is there, is left only with no transaction open; none begins
@@ -173,11 +191,11 @@ pub record FitsTurn (m : MemoryState) (g : Registers) : Type 0 where
 -- an effect leaves a memory sound: what it sets fits
 abbrev pub IsFit : Packages → Effect → MemoryState → Type 0
 IsFit p (HeapMove move) m = FitsMove p move m
-IsFit p (SetTransient r i values) m = Unit {0}
+IsFit p (SetTransient r i values) m = FitsFill m r i values
 IsFit p (SetFlag r flag) m = Unit {0}
 IsFit p (ClearTransient event) m = Unit {0}
 IsFit p (SetRegisters registers) m = FitsTurn m registers
-IsFit p (BeginCommand bytes) m = Unit {0}
+IsFit p (BeginCommand bytes) m = length bytes ≤ buffer_size
 IsFit p (SendBytes bytes) m = Unit {0}
 
 -- an effect that fits leaves a sound memory sound

@@ -1,5 +1,6 @@
 pub mod State
 pub mod Fit
+pub mod Living
 pub mod Classes
 pub mod Environment
 pub mod Methods

@@ -5,6 +5,8 @@ use Rattle.jc_heap.specs.declared.place.Place.TheVariants.{Cell, Static, Registr
 use Rattle.jc_heap.specs.Moves.{Write, SetPlaces, WriteNonAtomic, AddPackage, Begin, Commit, Abort}
 use Rattle.jc_memory.specs.State.{MemoryState, Effect, HeapMove, SetRegisters, apply_effect}
 use Rattle.jc_frames.specs.Frames.{Caller}
+use Rattle.jc_heap.specs.Keeping.{IsConsistentHeap}
+use Rattle.law_soundness.specs.Living.{KeepsReferences}
 use Rattle.law_soundness.specs.State.{IsSteady}
 use Rattle.law_soundness.specs.Machines.{KnowOwners}
 
@@ -31,9 +33,12 @@ IsLocalEffect (HeapMove Abort) m = ⊥
 IsLocalEffect (SetRegisters registers) m = registers.installation ≡ m.registers.installation
 IsLocalEffect e m = Unit {0}
 
--- behind such an effect the memory stands as between two instructions, where it stood so, and owners that were known are known
+-- behind such an effect the memory stands as between two instructions, where it stood so, owners that were known are known, and what
+-- referred refers
 pub record LocalEffectsStay : Type 0 where
   pub steady : (e : Effect) (m : MemoryState) → IsLocalEffect e m → (m.heap.begun ≡ false → m.heap.now ≡ m.heap.durable) → IsSteady m
       → IsSteady (apply_effect e m)
   pub owners : (e : Effect) (m : MemoryState) (callers : List Caller) → IsLocalEffect e m → (m.heap.begun ≡ false → m.heap.now ≡ m.heap.durable)
       → KnowOwners callers m → KnowOwners callers (apply_effect e m)
+  pub references : (e : Effect) (m : MemoryState) → IsLocalEffect e m → IsConsistentHeap m.heap.now
+      → KeepsReferences m.heap.now (apply_effect e m).heap.now

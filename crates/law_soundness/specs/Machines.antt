@@ -5,6 +5,7 @@ use Rattle.jc_memory.specs.State.{MemoryState}
 use Rattle.jc_linker.specs.Values.{Packages}
 use Rattle.jc_frames.specs.Frames.{Caller, Frames}
 use Rattle.law_soundness.specs.Environment.{HasEnvironment}
+use Rattle.law_soundness.specs.Living.{AreLivingFrames}
 use Rattle.law_soundness.specs.State.{IsSoundMemory, IsSteady, is_owner_up_to, most_owner}
 
 -- for whom each caller ran is there, and was not the runtime environment
@@ -13,10 +14,11 @@ KnowOwners [] m = Unit {0}
 KnowOwners (c ∷ callers) m = (is_owner_up_to (most_owner m) m.heap.now c.resume.active ≡ true) × (c.resume.active ≡ 0 → ⊥) × KnowOwners callers m
 
 -- the memory is sound, between two instructions; for whom each caller ran is there; the runtime environment's own objects are of the
--- platform's classes; and methods of packages don't run for it
+-- platform's classes; methods of packages don't run for it; and each reference in frames is null or names an object
 pub record IsSoundMachine (p : Packages) (s : Frames) (m : MemoryState) : Type 0 where
   pub sound : IsSoundMemory p m
   pub steady : IsSteady m
   pub callers : KnowOwners s.callers m
   pub environment : HasEnvironment p m
   pub code : s.current.origin.package_number == 0 ≡ false → owner_number m.registers.active ≡ 0 → ⊥
+  pub living : AreLivingFrames m.heap.now s

@@ -13,7 +13,9 @@ use Rattle.jc_world.specs.Objects.{reference_argument}
 use Rattle.jc_interp.specs.Natives.{native_call}
 use Rattle.law_isolation.specs.Natives.{sets_receiver}
 use Rattle.law_soundness.specs.Classes.{HasAids, KnowsClasses}
+use Rattle.law_soundness.specs.Environment.{HasEnvironment}
 use Rattle.law_soundness.specs.Fit.{IsFit}
+use Rattle.law_soundness.specs.Living.{AreLivingCells}
 use Rattle.law_soundness.specs.State.{IsSoundMemory, IsSteady}
 
 -- the methods that set cells of the object that they are called on, and those that register it as an applet
@@ -28,13 +30,15 @@ pub record IsReceiver (p : Packages) (m : MemoryState) (method : PlatformMethod)
   pub class : minds_receiver method ≡ true → (r : ℕ) → reference_argument args 0 ≡ Some r → is_a p (facts m.heap.now r).class (class_of method) ≡ true
   pub owned : method ≡ AidInit → (r : ℕ) → reference_argument args 0 ≡ Some r → (facts m.heap.now r).owner ≡ 0 → ⊥
 
--- it is called so over packages that were linked, in a sound memory between two instructions
+-- it is called so over packages that were linked, in a sound memory between two instructions, with references that are null or name an object
 pub record IsSoundCall (method : PlatformMethod) (args : List Cell) (p : Packages) (m : MemoryState) : Type 0 where
   pub classes : KnowsClasses p
   pub aids : HasAids p
   pub sound : IsSoundMemory p m
   pub steady : IsSteady m
+  pub environment : HasEnvironment p m
   pub receiver : IsReceiver p m method args
+  pub living : AreLivingCells m.heap.now args
 
 -- each effect of such a call fits
 abbrev pub NativesFit : Type 0

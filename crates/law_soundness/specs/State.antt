@@ -1,8 +1,15 @@
 -- A memory whose heaps fit the packages that are linked, also while an applet is being installed.
-use Rattle.std.specs.Prelude.{ℕ, ◌≡◌, ◌<◌, ◌≤◌, ◌+◌, ◌-◌, ◌==◌, ◌&&◌, ◌||◌, nat_lt, nat_le, Bool, true, false, length, slice_index, if◌then◌else◌, Some, None}
+use Rattle.std.specs.Prelude.{ℕ, ◌≡◌, ◌<◌, ◌≤◌, ◌+◌, ◌-◌, ◌==◌, ◌&&◌, ◌||◌, nat_lt, nat_le, Bool, true, false, length, slice_index, if◌then◌else◌, Some, None, pos, []}
 use Rattle.jc_words.specs.Layout.{registry_length}
+use Rattle.jc_transient.specs.declared.cell.CellValue.{CellValue}
+use Rattle.jc_transient.specs.declared.cell.CellValue.TheVariants.{Short, Reference}
+use Rattle.jc_transient.specs.declared.cell.ClearEvent.{ClearEvent}
+use Rattle.jc_transient.specs.State.{HasSizes, IsCleared, RamState, buffer_size, cell_at}
+use Rattle.jc_heap.specs.declared.object.Facts.{Facts}
+use Rattle.jc_heap.specs.declared.object.Kind.TheVariants.{ReferenceArray}
 use Rattle.jc_heap.specs.Heap.{HeapState, IsObject, cells, facts}
 use Rattle.jc_heap.specs.Keeping.{AreConsistent}
+use Rattle.jc_heap.specs.Whole.{IsReference}
 use Rattle.jc_memory.specs.declared.registers.AppletNumber.{AppletNumber}
 use Rattle.jc_memory.specs.declared.registers.Installation.{Installation}
 use Rattle.jc_memory.specs.declared.registers.Installation.TheVariants.{Idle, Open, Registered}
@@ -18,13 +25,14 @@ use Rattle.jc_card_checks.specs.Sound.{HasOwnAid, HoldsStatics, IsRegistered, Is
 abbrev pub is_owner_up_to : ℕ → HeapState → ℕ → Bool
 is_owner_up_to most h n = n == 0 || (nat_le n most || (nat_lt 256 n && nat_le (n - 256) (length h.packages)))
 
--- an object's class, its owner and what it holds are there; a persistent one has as many cells as it says
+-- an object's class, its owner and what it holds are there; a persistent one has as many cells as it says, and an instance is persistent
 pub record IsFitObject (most : ℕ) (p : Packages) (h : HeapState) (r : ℕ) : Type 0 where
   pub class : fits_class p (facts h r).kind (facts h r).class (facts h r).length ≡ true
   pub owner : is_owner_up_to most h (facts h r).owner ≡ true
   pub values : is_persistent_instance (facts h r) ≡ true → HoldsValues p h r
   pub cells : (facts h r).event ≡ None → length (cells h r) ≡ (facts h r).length
   pub small : is_instance (facts h r).kind ≡ true → (facts h r).length < 65536
+  pub persistent : is_instance (facts h r).kind ≡ true → (facts h r).event ≡ None
 
 -- the AID object of an applet is the runtime environment's, and none of the first ones
 pub record IsOwnAid (h : HeapState) (own a : ℕ) : Type 0 where
@@ -71,10 +79,31 @@ is_home h (Registered home) = true
 abbrev pub is_applet : HeapState → AppletNumber → Bool
 is_applet h a = nat_lt 0 a.0 && nat_le a.0 h.counts.1
 
+-- a reference among the values of transient cells is null or names an object
+abbrev pub IsLivingValue : HeapState → CellValue → Type 0
+IsLivingValue h (Short v) = Unit {0}
+IsLivingValue h (Reference r) = IsReference h r
+
+-- and so is an element of a transient array of references, or it is the zero that a reset leaves
+abbrev pub IsLivingElement : HeapState → CellValue → Type 0
+IsLivingElement h (Short v) = v ≡ pos 0
+IsLivingElement h (Reference r) = IsReference h r
+
+-- those of the array with these facts are so, in a heap with these transient contents
+abbrev pub HasLivingElements : HeapState → RamState → Facts → Type 0
+HasLivingElements h ram f = (event : ClearEvent) (i : ℕ) → f.kind ≡ ReferenceArray → f.event ≡ Some event → i < f.length
+    → IsLivingElement h (cell_at ram event (f.place + i))
+
+-- transient contents, which have their sizes, keep no reference to what is gone, neither in any cell nor in an array of references
+pub record TransientCells (h : HeapState) (ram : RamState) : Type 0 where
+  pub sizes : HasSizes ram
+  pub values : (event : ClearEvent) (place : ℕ) → IsLivingValue h (cell_at ram event place)
+  pub elements : (r : ℕ) → HasLivingElements h ram (facts h r)
+
 -- the heap as it is and the one that a loss of power leaves fit the packages; outside a transaction they are one; none but an
 -- installation adds an applet, of a package that is there; for whom code runs is there, and the applet that is selected; and among the runtime environment's
--- own
--- objects, with which the heap begins, is no persistent instance
+-- own objects, with which the heap begins, is no persistent instance; the command fits the APDU buffer; and transient cells keep no reference
+-- to what is gone
 pub record IsSoundMemory (p : Packages) (m : MemoryState) : Type 0 where
   pub whole : AreConsistent m.heap
   pub registry : length m.heap.now.applets ≡ registry_length
@@ -90,6 +119,8 @@ pub record IsSoundMemory (p : Packages) (m : MemoryState) : Type 0 where
   pub own : (r : ℕ) → r ≤ last_own m → is_object_address m.heap.now r ≡ true → is_persistent_instance (facts m.heap.now r) ≡ false
   pub home : is_home m.heap.now m.registers.installation ≡ true
   pub selected : (a : AppletNumber) → m.registers.selected ≡ Some a → is_applet m.heap.durable a ≡ true
+  pub command : length m.command ≤ buffer_size
+  pub transients : TransientCells m.heap.now m.ram
 
 -- between two instructions no applet has been registered but not committed, and while one is being installed, its transaction is open
 pub record IsSteady (m : MemoryState) : Type 0 where
@@ -101,4 +132,4 @@ pub record IsSteady (m : MemoryState) : Type 0 where
 pub record OutlastsLosses : Type 0 where
   pub left : (p : Packages) (m : MemoryState) → IsSoundMemory p m → IsSound p m.heap.durable (last_own m)
   pub again : (p : Packages) (m n : MemoryState) → IsSoundMemory p m → n.heap.now ≡ m.heap.durable → n.heap.durable ≡ m.heap.durable → n.fixed ≡ m.fixed
-      → n.registers ≡ at_reset → IsSoundMemory p n
+      → n.registers ≡ at_reset → n.command ≡ [] → IsCleared n.ram → IsSoundMemory p n

@@ -50,18 +50,20 @@ pub fn effects_of_instructions_fit_packages()
 {}
 
 /// An effect that registers nothing, neither begins nor ends a transaction and leaves the installation leaves a
-/// memory as it is between two instructions, and owners known.
+/// memory as it is between two instructions, owners known, and each object that was there.
 pub fn local_effects_keep_machines_between_instructions()
     ensures { LocalEffectsStay }
 {}
 
 /// Whatever a method of the platform does in a sound memory, unless it ends the run the memory then stands as
-/// between two instructions, with the same owner active, and a server that is to be asked is there.
+/// between two instructions, with the same owner active, and what is handed over or asked is there: but for an abort,
+/// behind which references to what it took away are to become null, each object that was there still is.
 pub fn platform_methods_end_between_instructions()
     ensures { NativesLeave }
 {}
 
-/// Whatever a step of a sound machine does fits the packages that are linked, and leaves a sound machine.
+/// Whatever a step of a sound machine does fits the packages that are linked, and leaves a sound machine: so no local
+/// and no stack ever has a reference that names nothing.
 pub fn steps_keep_machines_sound()
     ensures { StepsAreSound }
 {}

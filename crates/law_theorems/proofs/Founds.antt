@@ -22,17 +22,14 @@ use Rattle.law_theorems.proofs.Pins.{pin_left}
 use Rattle.law_theorems.proofs.Prefixes.{behind_both, due_after, due_all, due_begun}
 use Rattle.law_theorems.proofs.Served.{AddsPackage, IsFine, commands_fine, known_of}
 use Rattle.jc_heap.specs.Heap.{HeapView}
-use Rattle.jc_session.specs.Power.{Up, Off}
+use Rattle.jc_session.specs.Power.{Up}
 use Rattle.law_theorems.specs.Comes.{ComesTo}
 use Rattle.law_theorems.specs.Tries.{tries_in}
 use Rattle.law_theorems.proofs.Coming.{comes_rests}
-use Rattle.law_theorems.proofs.Commands.{commands_due}
 use Rattle.law_theorems.proofs.OwnerPins.{pin_in, pin_stands}
 use Rattle.law_theorems.proofs.Pins.{tries_left}
 use Rattle.law_theorems.proofs.Prefixes.{due_all}
-use Rattle.law_theorems.proofs.Sized.{IsReadyAt, run_sized}
 use Rattle.law_theorems.proofs.Staying.{IsLaidOutAt, away_at_begin, laid_behind, stay}
-use Rattle.law_theorems.proofs.Within.{IsWithin, within as fitting}
 
 module _ (t : Tokens) (card : CardState) (own : IsOwnCard t card) (bytes : List ℕ) (earlier during : List Effect) where
   abbrev all : List Effect
@@ -45,7 +42,7 @@ module _ (t : Tokens) (card : CardState) (own : IsOwnCard t card) (bytes : List 
   begun = apply_effect (HeapMove Begin) found
 
   module _ (due : AllEffectsDue (IsServed card.packages) all card.memory) (orders : AllEffectsDue KeepsTransactionOrder all card.memory)
-      (fits : AllEffectsDue IsWithin all card.memory) (ready : IsReadyAt card.packages card.memory) (clean : IsEmpty card.memory)
+      (clean : IsEmpty card.memory)
       (inside : IsInside (moves_of during)) where
     orderly : AllEffectsDue KeepsTransactionOrder during begun
     orderly = (due_after KeepsTransactionOrder earlier (HeapMove Begin ∷ during) card.memory orders).1
@@ -53,18 +50,15 @@ module _ (t : Tokens) (card : CardState) (own : IsOwnCard t card) (bytes : List 
     served : AllEffectsDue (IsServed card.packages) (HeapMove Begin ∷ during) found
     served = due_after (IsServed card.packages) earlier (HeapMove Begin ∷ during) card.memory due
 
-    within : AllEffectsDue IsWithin (HeapMove Begin ∷ during) found
-    within = due_after IsWithin earlier (HeapMove Begin ∷ during) card.memory fits
-
     laid : IsLaidOutAt card.packages found
     laid = laid_behind card.packages earlier card.memory (due_before (IsServed card.packages) earlier (HeapMove Begin ∷ during) card.memory due)
-        (due_before IsWithin earlier (HeapMove Begin ∷ during) card.memory fits) (ready, own.layout)
+        (own.ready.sound, own.layout)
 
     sound : IsSoundMemory card.packages found
-    sound = laid.0.0
+    sound = laid.0
 
     laid_begun : IsLaidOutAt card.packages begun
-    laid_begun = laid_behind card.packages (HeapMove Begin ∷ []) found (served.0, tt) (within.0, tt) laid
+    laid_begun = laid_behind card.packages (HeapMove Begin ∷ []) found (served.0, tt) laid
 
     untouched : found.heap.touched ≡ []
     untouched = due_all (IsServed card.packages) IsEmpty (λ e m d c. empty_effect e m c) earlier card.memory
@@ -77,11 +71,11 @@ module _ (t : Tokens) (card : CardState) (own : IsOwnCard t card) (bytes : List 
         record {
           rest = same.rest;
           stands = same.stands;
-          others = λ r none. others card.packages r during begun served.1 laid_begun.0.0 refl inside none;
+          others = λ r none. others card.packages r during begun served.1 laid_begun.0 refl inside none;
           pins = λ r is.
               let known = known_of card.packages own.linked in (
                 tries_left r during begun (tries_in found.heap.now r),
-                stay card.packages known r during begun (tries_in found.heap.now r) served.1 within.1 laid_begun refl inside is
+                stay card.packages known r during begun (tries_in found.heap.now r) served.1 laid_begun refl inside is
                     (away_at_begin card.packages found sound laid.1.now.apart r (pin_stands card.packages known found sound r is) untouched),
                 pin_left r during begun begun.heap.durable (apply_effects during begun).heap.durable saved (pin_in card.packages known found sound r is),
               );
@@ -99,14 +93,12 @@ module _ (t : Tokens) (card : CardState) (own : IsOwnCard t card) (bytes : List 
     c = within.comes
 
     orders : AllEffectsDue KeepsTransactionOrder effects card.memory
-    orders = due_begun KeepsTransactionOrder (exchange bytes card) card.memory effects (commands_orderly bytes card within.are own.ready.closed) within.begins
+    orders = commands_orderly t card own bytes effects within.are within.begins
 
     by : IsFine card.packages (exchange bytes card) card.memory
         → IsAsFound card.packages during opened (memory_at card earlier).heap.now (apply_effects during opened).heap.durable
     by (inl due) = as_found t card own bytes earlier during
         (due_begun (IsServed card.packages) (exchange bytes card) card.memory effects due within.begins) orders
-        (due_begun IsWithin (exchange bytes card) card.memory effects (commands_due IsWithin fitting bytes card within.are own.ready.closed) within.begins)
-        (own.ready.sound, run_sized t c.events c.answers (Off c.first) (Up card) c.bytes c.own tt c.run)
         (λ shut. ap (λ (v : HeapView). v.touched) (comes_rests t (Up card) c)) inside
     by (inr adds) = absurd (due_after AddsPackage earlier (HeapMove Begin ∷ during) card.memory
         (due_begun AddsPackage (exchange bytes card) card.memory effects adds within.begins)).0
@@ -114,4 +106,4 @@ module _ (t : Tokens) (card : CardState) (own : IsOwnCard t card) (bytes : List 
     -- behind the beginning of a transaction of a command, and effects within it, the durable heap is the one found, but for tries
     pub is_found : IsAsFound card.packages during opened (memory_at card earlier).heap.now (memory_at card effects).heap.durable
     is_found = subst (λ (m : MemoryState). IsAsFound card.packages during opened (memory_at card earlier).heap.now m.heap.durable)
-        (sym (behind_both earlier (HeapMove Begin ∷ during) card.memory)) (by (commands_fine t card own bytes))
+        (sym (behind_both earlier (HeapMove Begin ∷ during) card.memory)) (by (commands_fine t card own bytes within.are))

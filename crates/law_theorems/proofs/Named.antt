@@ -26,13 +26,11 @@ use Rattle.jc_pin.specs.PinInit.{first_record}
 use Rattle.jc_pin.specs.Updating.{changes_of_update}
 use Rattle.jc_platform.specs.declared.names.PlatformClass.TheVariants.{OwnerPin}
 use Rattle.jc_card_checks.specs.Objects.{is_a, is_byte_array, is_bytes, is_instance, is_object_address, is_persistent_instance}
-use Rattle.law_isolation.proofs.Natives.{nine}
 use Rattle.law_soundness.specs.Commands.{IsServed}
-use Rattle.law_soundness.specs.Fit.{AreStatics, FitsChange, FitsPlace, FitsRun, IsPinObject, OfPin, OfRegistry, OfStatics, OfValue, RegistersApplet, UpdatesPin, SetsUpPin}
+use Rattle.law_soundness.specs.Fit.{AreCellsOf, AreStatics, FitsChange, FitsPlace, FitsRun, IsPinObject, OfPin, OfRegistry, OfStatics, OfValue, RegistersApplet, SetsUpPin, UpdatesPin}
 use Rattle.law_soundness.specs.State.{IsSoundMemory}
 use Rattle.law_images.specs.Apart.{StandApart, item_size}
 use Rattle.law_theorems.specs.Tries.{SetsAnew}
-use Rattle.law_theorems.proofs.Within.{AreCellsOf, IsWithin}
 
 -- the words that an effect names, of those whose old values an abort needs
 abbrev pub words_by : Effect → MemoryState → List ℕ
@@ -115,7 +113,7 @@ plain_kind ByteArray e = absurd (false≢true e)
 plain_kind ShortArray e = absurd (false≢true e)
 plain_kind ReferenceArray e = absurd (false≢true e)
 
-when_not : (a b : Bool) → (not a || b) ≡ true → a ≡ true → b ≡ true
+pub when_not : (a b : Bool) → (not a || b) ≡ true → a ≡ true → b ≡ true
 when_not true b e is = e
 when_not false b e is = absurd (false≢true is)
 
@@ -144,7 +142,7 @@ plain_pin p m r pin = ap (λ b. b && (facts m.heap.now r).packed)
     (plain_kind (facts m.heap.now r).kind (and_parts (is_instance (facts m.heap.now r).kind) _ pin.kept).0)
 
 module _ (p : Packages) (m : MemoryState) (s : IsSoundMemory p m) where
-  word_is : (q i : ℕ) → is_persistent_instance (facts m.heap.now q) ≡ true → word_at m q i ≡ slice_index (cells m.heap.now q) i
+  pub word_is : (q i : ℕ) → is_persistent_instance (facts m.heap.now q) ≡ true → word_at m q i ≡ slice_index (cells m.heap.now q) i
   word_is q i kept = ap (λ event. word_in event m q i) (kept_none (facts m.heap.now q) kept)
 
   -- a PIN with a maximum has an array of so many bytes
@@ -175,7 +173,7 @@ module _ (p : Packages) (m : MemoryState) (s : IsSoundMemory p m) (apart : Stand
   pin_there = object_named h r pin.there
 
   -- where the word of a cell lies
-  cell_in : (q i : ℕ) → AreCellsOf m q (i + 1) → (q < place_at h (Cell q i)) × (place_at h (Cell q i) < q + size q)
+  cell_in : (q i : ℕ) → AreCellsOf h q (i + 1) → (q < place_at h (Cell q i)) × (place_at h (Cell q i) < q + size q)
   unfolding cell_address
   cell_in q i of =
       let i_in = of.1 in
@@ -202,7 +200,7 @@ module _ (p : Packages) (m : MemoryState) (s : IsSoundMemory p m) (apart : Stand
   below : (x : ℕ) → x < text_start → x ≡ w → ⊥
   below x lt is = let own = word_in_pin in let low = own.0 in let first = apart.first r pin_there in omega (arith, lt, is, low, first)
 
-  other_object : (q i : ℕ) → AreCellsOf m q (i + 1) → (q ≡ r → ⊥) → place_at h (Cell q i) ≡ w → ⊥
+  other_object : (q i : ℕ) → AreCellsOf h q (i + 1) → (q ≡ r → ⊥) → place_at h (Cell q i) ≡ w → ⊥
   other_object q i of other is =
       let c = cell_in q i of in
       let low = c.0 in
@@ -215,7 +213,7 @@ module _ (p : Packages) (m : MemoryState) (s : IsSoundMemory p m) (apart : Stand
   other_cell i other = subst (λ (b : Bool). r + (header_size + (if b then i / 2 else i)) ≡ r + (header_size + (if b then 2 / 2 else 2)) → ⊥)
       (sym (plain_pin p m r pin)) (λ is. omega (arith, is, other))
 
-  cell_away : (q i : ℕ) → AreCellsOf m q (i + 1) → (q ≡ r → i ≡ 2 → ⊥) → place_at h (Cell q i) ≡ w → ⊥
+  cell_away : (q i : ℕ) → AreCellsOf h q (i + 1) → (q ≡ r → i ≡ 2 → ⊥) → place_at h (Cell q i) ≡ w → ⊥
   cell_away q i of other is = elim (cases_eq q r) [
     | inl same ↦ other_cell i (other same) (subst (λ x. place_at h (Cell x i) ≡ w) same is)
     | inr differs ↦ other_object q i of differs is
@@ -235,7 +233,7 @@ module _ (p : Packages) (m : MemoryState) (s : IsSoundMemory p m) (apart : Stand
       ]
 
   -- cells of another object
-  run_away : (q n i : ℕ) → AreCellsOf m q (i + n) → (q ≡ r → ⊥) → NonePlaced h w (cells_from q i n)
+  run_away : (q n i : ℕ) → AreCellsOf h q (i + n) → (q ≡ r → ⊥) → NonePlaced h w (cells_from q i n)
   run_away q zero i of other = tt
   run_away q (suc n) i of other =
       let end = of.1 in
@@ -244,7 +242,7 @@ module _ (p : Packages) (m : MemoryState) (s : IsSoundMemory p m) (apart : Stand
         subst (λ k. NonePlaced h w (cells_from q k n)) next (run_away q n (suc i) (of.0, omega (arith, end)) other),
       )
 
-  changes_away : (q i : ℕ) (values : List ℕ) → (0 < length values → AreCellsOf m q (i + length values)) → (0 < length values → q ≡ r → ⊥)
+  changes_away : (q i : ℕ) (values : List ℕ) → (0 < length values → AreCellsOf h q (i + length values)) → (0 < length values → q ≡ r → ⊥)
       → NonePlaced h w (places_of (cell_changes q i values))
   changes_away q i [] of other = tt
   changes_away q i (v ∷ values) of other =
@@ -288,7 +286,7 @@ module _ (p : Packages) (m : MemoryState) (s : IsSoundMemory p m) (apart : Stand
       let b = and_parts (is_bytes (facts h (pin_of m q).value).kind) _ (is_value p m s q object (omega (arith, some, short))) in
       no_instance (facts h r).kind (subst (λ x. is_bytes (facts h x).kind ≡ true) same b.0) (and_parts (is_instance (facts h r).kind) _ pin.kept).0)
 
-  own_cells : (q i : ℕ) → IsPinObject p m q → i < 5 → AreCellsOf m q (i + 1)
+  own_cells : (q i : ℕ) → IsPinObject p m q → i < 5 → AreCellsOf h q (i + 1)
   own_cells q i object lt = let long = object.long in (kept_none (facts h q) object.kept, omega (arith, lt, long))
 
   -- ---- all effects
@@ -343,16 +341,16 @@ module _ (p : Packages) (m : MemoryState) (s : IsSoundMemory p m) (apart : Stand
   changed changes (OfValue f) = updated changes f
   changed changes (OfRegistry f) = inr (none_placed h w (places_of changes) (registered_away changes f))
 
-  place_away : (place : Place) (v : ℕ) → FitsPlace p h place v → IsWithin (HeapMove (Write place v)) m → place_at h place ≡ w → ⊥
-  place_away (Cell q i) v fits of is = cell_away q i of (λ same two.
+  place_away : (place : Place) (v : ℕ) → FitsPlace p h place v → place_at h place ≡ w → ⊥
+  place_away (Cell q i) v fits is = cell_away q i fits.0 (λ same two.
       let kept = subst (λ x. is_persistent_instance (facts h x) ≡ true) (sym same) pin.kept in
-      let low = (fits.0 kept).pin (subst (λ x. is_a p (facts h x).class OwnerPin ≡ true) (sym same) pin.pin) in
+      let low = (fits.1.0 kept).pin (subst (λ x. is_a p (facts h x).class OwnerPin ≡ true) (sym same) pin.pin) in
       omega (arith, low, two)) is
-  place_away (Static q j) v fits of is = static_away q j fits.there is
-  place_away (Registry j) v fits of is = absurd fits
-  place_away AppletCount v fits of is = absurd fits
+  place_away (Static q j) v fits is = static_away q j fits.there is
+  place_away (Registry j) v fits is = absurd fits
+  place_away AppletCount v fits is = absurd fits
 
-  cells_away : (q i : ℕ) (words : List ℕ) → FitsRun p m q i words → AreCellsOf m q (i + length words) → IsNone w (words_at h (cells_from q i (length words)))
+  cells_away : (q i : ℕ) (words : List ℕ) → FitsRun p m q i words → AreCellsOf h q (i + length words) → IsNone w (words_at h (cells_from q i (length words)))
   cells_away q i words fits of = none_placed h w (cells_from q i (length words)) (run_away q (length words) i of (λ same.
       let kept = subst (λ x. is_persistent_instance (facts h x) ≡ true) (sym same) pin.kept in
       true≢false (sym (subst (λ x. is_a p (facts h x).class OwnerPin ≡ true) (sym same) pin.pin) ∙ (fits.0 kept).pin)))
@@ -366,21 +364,20 @@ module _ (p : Packages) (m : MemoryState) (s : IsSoundMemory p m) (apart : Stand
   end_away is = below _ (omega arith) is
 
   -- an effect sets the PIN anew, or it names other words than that of its counter
-  pub decides : (e : Effect) → IsServed p e m → IsWithin e m → length m.command ≤ 261 → Decides e
-  decides (HeapMove (Write place v)) fits of few = inr (place_away place v fits of, tt)
-  decides (HeapMove (SetPlaces changes)) fits of few = changed changes fits
-  decides (HeapMove (WriteNonAtomic place v)) fits of few = inr tt
-  decides (HeapMove (SetCells q i words)) fits of few = inr (cells_away q i words fits
-      (of few (λ kept. let sets = fits.0 kept in let l = ap length sets.is in let n = nine sets.bytes in omega (arith, l, n))))
-  decides (HeapMove (AddObject o size)) fits of few = inr (end_away, tt)
-  decides (HeapMove (AddTransient kind event class owner long)) fits of few = inr (end_away, (area_away event, tt))
-  decides (HeapMove (AddPackage components arrays image)) fits of few = inr tt
-  decides (HeapMove Begin) fits of few = inr tt
-  decides (HeapMove Commit) fits of few = inr tt
-  decides (HeapMove Abort) fits of few = inr tt
-  decides (SetTransient q i values) fits of few = inr tt
-  decides (SetFlag q flag) fits of few = inr tt
-  decides (ClearTransient event) fits of few = inr tt
-  decides (SetRegisters g) fits of few = inr tt
-  decides (BeginCommand bytes) fits of few = inr tt
-  decides (SendBytes bytes) fits of few = inr tt
+  pub decides : (e : Effect) → IsServed p e m → Decides e
+  decides (HeapMove (Write place v)) fits = inr (place_away place v fits, tt)
+  decides (HeapMove (SetPlaces changes)) fits = changed changes fits
+  decides (HeapMove (WriteNonAtomic place v)) fits = inr tt
+  decides (HeapMove (SetCells q i words)) fits = inr (cells_away q i words fits.1 fits.0)
+  decides (HeapMove (AddObject o size)) fits = inr (end_away, tt)
+  decides (HeapMove (AddTransient kind event class owner long)) fits = inr (end_away, (area_away event, tt))
+  decides (HeapMove (AddPackage components arrays image)) fits = inr tt
+  decides (HeapMove Begin) fits = inr tt
+  decides (HeapMove Commit) fits = inr tt
+  decides (HeapMove Abort) fits = inr tt
+  decides (SetTransient q i values) fits = inr tt
+  decides (SetFlag q flag) fits = inr tt
+  decides (ClearTransient event) fits = inr tt
+  decides (SetRegisters g) fits = inr tt
+  decides (BeginCommand bytes) fits = inr tt
+  decides (SendBytes bytes) fits = inr tt

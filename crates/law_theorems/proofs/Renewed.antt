@@ -30,7 +30,6 @@ use Rattle.law_isolation.proofs.OnHeap.{StandsBeside, cells_set, count_set, not_
 use Rattle.law_soundness.specs.Commands.{IsServed}
 use Rattle.law_soundness.specs.Fit.{AreStatics, FitsChange, FitsPlace, IsPinObject, OfPin, OfRegistry, OfStatics, OfValue}
 use Rattle.law_soundness.specs.State.{IsSoundMemory}
-use Rattle.law_soundness.proofs.Serving.{serving_keeps}
 use Rattle.law_images.specs.Cards.{IsOwnCard}
 use Rattle.law_images.proofs.Apart.{record_some}
 use Rattle.law_images.proofs.Arrays.{below_end, item_behind}
@@ -41,7 +40,7 @@ use Rattle.law_theorems.proofs.Coming.{comes_own}
 use Rattle.law_theorems.proofs.Named.{PinStands, is_value, kept_none, no_instance}
 use Rattle.law_theorems.proofs.OwnerPins.{an_object, pin_stands}
 use Rattle.law_theorems.proofs.Prefixes.{behind_both, due_after, due_all, due_begun}
-use Rattle.law_theorems.proofs.Served.{AddsPackage, IsFine, commands_fine, known_of}
+use Rattle.law_theorems.proofs.Served.{AddsPackage, IsFine, commands_fine, known_of, sound_behind}
 
 -- the place is not the counter of this PIN
 abbrev IsBeside : ℕ → Place → Type 0
@@ -139,7 +138,7 @@ module _ (p : Packages) (m : MemoryState) (s : IsSoundMemory p m) (q : ℕ) (pin
   place_beside (Cell r i) v fits = λ e.
       let same : r ≡ q = ap object_of e in
       let two : i ≡ 2 = ap index_of e in
-      let low = (fits.0 (kept_of r same)).pin (class_of r same) in omega (arith, low, two)
+      let low = (fits.1.0 (kept_of r same)).pin (class_of r same) in omega (arith, low, two)
   place_beside (Static r j) v fits = no_cell q (Static r j) (λ x. x)
   place_beside (Registry j) v fits = absurd fits
   place_beside AppletCount v fits = absurd fits
@@ -186,7 +185,7 @@ module _ (p : Packages) (m : MemoryState) (s : IsSoundMemory p m) (q : ℕ) (pin
     held_behind (HeapMove (SetPlaces cs)) fits none = held_changes cs (changes_beside cs fits) none
     held_behind (HeapMove (WriteNonAtomic place v)) fits none = held_place q n m.heap.now place v none held
     held_behind (HeapMove (SetCells r i vs)) fits none = as_it_stands q n m.heap.now (set_cells m.heap.now r i vs) held
-        (cells_set q held.object vs m.heap.now r i (λ same. true≢false (sym (class_of r same) ∙ (fits.0 (kept_of r same)).pin)) (beside q n m.heap.now held)).item
+        (cells_set q held.object vs m.heap.now r i (λ same. true≢false (sym (class_of r same) ∙ (fits.1.0 (kept_of r same)).pin)) (beside q n m.heap.now held)).item
     held_behind (HeapMove (AddObject o size)) fits none = as_it_stands q n m.heap.now (add_object m.heap.now o size) held
         (heap_item_at-add_other m.heap.now o size q (not_top q held.object m.heap.now free held.item) ∙ held.item)
     held_behind (HeapMove (AddTransient kind event class owner long)) fits none =
@@ -224,7 +223,7 @@ arrays_end : (h : HeapState) (owner : ℕ) (xs : List (Kind × List ℕ)) → Ha
 arrays_end h owner [] end = end
 arrays_end h owner (a ∷ xs) end = arrays_end (add_object h (array_object owner a) (array_size a)) owner xs (end-add h (array_object owner a) (array_size a) (omega arith) end)
 
-added_end : (e : Effect) (m : MemoryState) → AddsPackage e m → HasEnd m.heap.now → HasEnd (apply_effect e m).heap.now
+pub added_end : (e : Effect) (m : MemoryState) → AddsPackage e m → HasEnd m.heap.now → HasEnd (apply_effect e m).heap.now
 added_end (HeapMove (AddPackage cs xs rest)) m adds end =
     let words = package_record m.heap.now.top cs xs rest in
     arrays_end (push_package m.heap.now words) (package_owner (m.heap.now.counts.0 + 1)) xs
@@ -245,7 +244,7 @@ added_item e m q adds low = absurd adds
 pub tries_change : TriesChangeByPinCalls
 tries_change t card bytes es e q comes is none =
     let own : IsOwnCard t card = comes_own t _ comes.comes in
-    ap (λ (m : MemoryState). get_or (cells_of (heap_item_at m.heap.now q)) 2 0) (behind_both es (e ∷ []) card.memory) ∙ by own (commands_fine t card own bytes)
+    ap (λ (m : MemoryState). get_or (cells_of (heap_item_at m.heap.now q)) 2 0) (behind_both es (e ∷ []) card.memory) ∙ by own (commands_fine t card own bytes comes.are)
   where
     due : (P : Effect → MemoryState → Type 0) → AllDue P (exchange bytes card) card.memory → AllEffectsDue P (es ++ (e ∷ [])) card.memory
     due P all = due_begun P (exchange bytes card) card.memory (es ++ (e ∷ [])) all comes.begins
@@ -254,8 +253,7 @@ tries_change t card bytes es e q comes is none =
         → get_or (cells_of (heap_item_at (apply_effect e (memory_at card es)).heap.now q)) 2 0 ≡ get_or (cells_of (heap_item_at (memory_at card es).heap.now q)) 2 0
     by own (inl served) =
         let all = due (IsServed card.packages) served in
-        let sound : IsSoundMemory card.packages (memory_at card es) = due_all (IsServed card.packages) (IsSoundMemory card.packages)
-        (λ x m d s. serving_keeps.sound card.packages x m d s) es card.memory (due_before (IsServed card.packages) es (e ∷ []) card.memory all) own.ready.sound in
+        let sound : IsSoundMemory card.packages (memory_at card es) = sound_behind card.packages es card.memory (due_before (IsServed card.packages) es (e ∷ []) card.memory all) own.ready.sound in
         served_tries card.packages e (memory_at card es) q sound (pin_stands card.packages (known_of card.packages own.linked) (memory_at card es) sound q is)
         (due_after (IsServed card.packages) es (e ∷ []) card.memory all).0 none
     by own (inr adds) =

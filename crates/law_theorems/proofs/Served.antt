@@ -2,9 +2,9 @@
 use Rattle.std.proofs.Common.{List, inl, inr}
 use Rattle.std.specs.Prelude.{ℕ, ◌⊎◌}
 use Rattle.jc_heap.specs.Moves.{AddPackage}
-use Rattle.jc_memory.specs.State.{MemoryState, Effect, HeapMove}
+use Rattle.jc_memory.specs.State.{MemoryState, Effect, HeapMove, apply_effects}
 use Rattle.jc_memory.specs.Programs.{Program}
-use Rattle.jc_memory.specs.Reading.{AllDue}
+use Rattle.jc_memory.specs.Reading.{AllDue, AllEffectsDue}
 use Rattle.jc_linker.specs.Values.{Packages}
 use Rattle.jc_platform.specs.Tokens.{Tokens}
 use Rattle.jc_card.specs.Answers.{exchange}
@@ -13,11 +13,15 @@ use Rattle.law_linking.proofs.Aids.{have_aids}
 use Rattle.law_linking.proofs.ClassLaws.{have_classes}
 use Rattle.law_linking.proofs.MethodLaws.{have_methods, have_no_code}
 use Rattle.law_images.specs.Cards.{AreLinkedWell, IsOwnCard}
-use Rattle.law_images.proofs.Commands.{creates_good, dispatched_good, runs_good}
+use Rattle.law_images.specs.Loaded.{AreBytes}
+use Rattle.law_images.proofs.Commands.{command_fits, creates_good, dispatched_good, runs_good}
 use Rattle.law_soundness.specs.Commands.{IsServed}
 use Rattle.law_soundness.specs.Soundness.{AreKnown}
+use Rattle.law_soundness.specs.State.{IsSoundMemory}
 use Rattle.law_soundness.proofs.CommandLaws.{commands_are_sound}
+use Rattle.law_soundness.proofs.Serving.{serving_keeps}
 use Rattle.law_theorems.proofs.Exchanged.{exchanged, load_ended}
+use Rattle.law_theorems.proofs.Prefixes.{due_all}
 
 pub known_of : (p : Packages) → AreLinkedWell p → AreKnown p
 known_of p l = record {
@@ -35,11 +39,17 @@ AddsPackage e m = ⊥
 abbrev pub IsFine : {A : Type 0} → Packages → Program A → MemoryState → Type 0
 IsFine p d m = AllDue (IsServed p) d m ⊎ AllDue AddsPackage d m
 
-pub commands_fine : (t : Tokens) (card : CardState) → IsOwnCard t card → (bytes : List ℕ) → IsFine card.packages (exchange bytes card) card.memory
-commands_fine t card own bytes =
+pub commands_fine : (t : Tokens) (card : CardState) → IsOwnCard t card → (bytes : List ℕ) → AreBytes bytes
+    → IsFine card.packages (exchange bytes card) card.memory
+commands_fine t card own bytes are =
     let known = known_of card.packages own.linked in
     exchanged (λ d. IsFine card.packages d card.memory) card (λ a. inl tt) (λ a b. inl (tt, tt))
     (inr (load_ended AddsPackage (λ components arrays image m. tt) card))
     (λ limit locals code. inl (runs_good commands_are_sound t card own known limit locals code).due)
     (λ content. inl (creates_good commands_are_sound t card own known content).due) bytes
-    (λ c is. inl (dispatched_good commands_are_sound t card own known bytes c).due)
+    (λ c is. inl (dispatched_good commands_are_sound t card own known bytes c (command_fits bytes are c is)).due)
+
+-- behind effects that are served the memory is sound
+pub sound_behind : (p : Packages) (es : List Effect) (m : MemoryState) → AllEffectsDue (IsServed p) es m → IsSoundMemory p m
+    → IsSoundMemory p (apply_effects es m)
+sound_behind p es m served sound = due_all (IsServed p) (IsSoundMemory p) (λ e v due s. serving_keeps.sound p e v due s) es m served sound

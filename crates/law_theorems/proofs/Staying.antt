@@ -30,6 +30,7 @@ use Rattle.law_atomicity.proofs.Torn.{begun_inside}
 use Rattle.law_soundness.specs.Commands.{IsServed}
 use Rattle.law_soundness.specs.Soundness.{AreKnown}
 use Rattle.law_soundness.specs.State.{IsSoundMemory}
+use Rattle.law_soundness.proofs.Serving.{serving_keeps}
 use Rattle.law_soundness.proofs.Frames.{same_object}
 use Rattle.law_images.specs.Apart.{StandApart}
 use Rattle.law_images.specs.Loads.{AreLaidOut}
@@ -41,8 +42,6 @@ use Rattle.law_theorems.proofs.Others.{stands_if}
 use Rattle.law_theorems.proofs.OwnerPins.{pin_stands}
 use Rattle.law_theorems.proofs.Pins.{tries_behind, tries_left}
 use Rattle.law_theorems.proofs.Prefixes.{due_all}
-use Rattle.law_theorems.proofs.Sized.{IsReadyAt, both_due, ready_behind}
-use Rattle.law_theorems.proofs.Within.{IsWithin}
 
 -- ---- words that an abort takes back
 
@@ -185,12 +184,11 @@ anew_counts r e m tries sets = absurd sets
 -- ---- the memory along the way
 
 abbrev pub IsLaidOutAt : Packages → MemoryState → Type 0
-IsLaidOutAt p m = IsReadyAt p m × AreLaidOut m
+IsLaidOutAt p m = IsSoundMemory p m × AreLaidOut m
 
-pub laid_behind : (p : Packages) (es : List Effect) (m : MemoryState) → AllEffectsDue (IsServed p) es m → AllEffectsDue IsWithin es m → IsLaidOutAt p m
-    → IsLaidOutAt p (apply_effects es m)
-laid_behind p es m served fits at = due_all (λ e v. IsServed p e v × IsWithin e v) (IsLaidOutAt p) (λ e v due so.
-    (ready_behind p (e ∷ []) v (due.0, tt) (due.1, tt) so.0, effects_keep_layout p e v due.0 so.0.0 so.1)) es m (both_due (IsServed p) IsWithin es m served fits) at
+pub laid_behind : (p : Packages) (es : List Effect) (m : MemoryState) → AllEffectsDue (IsServed p) es m → IsLaidOutAt p m → IsLaidOutAt p (apply_effects es m)
+laid_behind p es m served at = due_all (IsServed p) (IsLaidOutAt p)
+    (λ e v due so. (serving_keeps.sound p e v due so.0, effects_keep_layout p e v due so.0 so.1)) es m served at
 
 -- ---- the tries that stay
 
@@ -269,30 +267,30 @@ module _ (p : Packages) (known : AreKnown p) (r : ℕ) where
     still_pin (BeginCommand bytes) fits inside = is
     still_pin (SendBytes bytes) fits inside = is
 
-  pub stay : (es : List Effect) (m : MemoryState) (tries : ℕ) → AllEffectsDue (IsServed p) es m → AllEffectsDue IsWithin es m → IsLaidOutAt p m
+  pub stay : (es : List Effect) (m : MemoryState) (tries : ℕ) → AllEffectsDue (IsServed p) es m → IsLaidOutAt p m
       → m.heap.begun ≡ true → IsInside (moves_of es) → is_owner_pin p m.heap.durable r ≡ true → goes_back m.heap w ≡ false
       → TriesStay r es m tries (tries_left r es m tries)
-  stay [] m tries served fits at begun inside is before = refl
-  stay (e ∷ es) m tries served fits at begun inside is before =
+  stay [] m tries served at begun inside is before = refl
+  stay (e ∷ es) m tries served at begun inside is before =
       let both = parted e es inside in
       let next : MemoryState = apply_effect e m in
       let pin = pin_stays_now in
       let plain = plain_pin p m r pin in
       let same = word_is p m r pin in
-      elim (decides p m at.0.0 at.1.now.apart r pin e served.0 fits.0 at.0.1.command) [
+      elim (decides p m at.0 at.1.now.apart r pin e served.0) [
         | inl anew ↦ inl (anew, changed_stay es next (tries_behind r e m tries) served.1 both.1 (anew_changes r e m begun plain anew) ∙ anew_counts r e m tries anew)
         | inr none ↦
             let none_word = subst (λ x. IsNone x (words_by e m)) same none in
             inr (
               λ anew. none_of w (words_by e m) none_word (anew_named r e m plain anew),
               subst (λ n. TriesStay r es next n (tries_left r es next (tries_behind r e m tries))) (away_step e m tries served.0 before)
-                  (stay es next (tries_behind r e m tries) served.1 fits.1 (laid_behind p (e ∷ []) m (served.0, tt) (fits.0, tt) at) (open_still e begun both.0)
+                  (stay es next (tries_behind r e m tries) served.1 (laid_behind p (e ∷ []) m (served.0, tt) at) (open_still e begun both.0)
                   both.1 (still_pin m begun is e served.0 both.0) (away p m w begun before e served.0 both.0 none_word)),
             )
       ]
     where
       pin_stays_now : PinStands p m r
-      pin_stays_now = pin_stands p known m at.0.0 r (pin_now p m r at.0.0 is)
+      pin_stays_now = pin_stands p known m at.0 r (pin_now p m r at.0 is)
 
       open_still : (x : Effect) → m.heap.begun ≡ true → IsInside (moves_of (x ∷ [])) → (apply_effect x m).heap.begun ≡ true
       open_still x on within = begun_inside (x ∷ []) m within ∙ on

@@ -29,7 +29,7 @@ use Rattle.law_theorems.specs.TakenBack.{IsLeft, IsLeftBy, IsTakenBack, IsWhatWa
 use Rattle.law_theorems.specs.Tries.{IsAsFound}
 use Rattle.law_theorems.proofs.Founds.{is_found}
 use Rattle.law_theorems.proofs.Orders.{commands_orderly}
-use Rattle.law_theorems.proofs.Prefixes.{behind_both, due_after, due_begun, front, lost_at}
+use Rattle.law_theorems.proofs.Prefixes.{behind_both, due_after, front, lost_at}
 use Rattle.law_theorems.proofs.Coming.{comes_own, comes_rests}
 
 -- ---- while all is answered down
@@ -74,7 +74,7 @@ module _ (t : Tokens) (card : CardState) (comes : ComesTo t (Up card)) where
 
   orderly : (bytes : List ℕ) (es : List Effect) → AreBytes bytes → HasTracePrefix (exchange bytes card) card.memory es
       → AllEffectsDue KeepsTransactionOrder es card.memory
-  orderly bytes es are begins = due_begun KeepsTransactionOrder (exchange bytes card) card.memory es (commands_orderly bytes card are shut) begins
+  orderly bytes es are begins = commands_orderly t card own bytes es are begins
 
   -- what stands durable behind effects of a command
   left_of : (bytes : List ℕ) (es : List Effect) (left : HeapState) → AreBytes bytes → HasTracePrefix (exchange bytes card) card.memory es

@@ -1,6 +1,7 @@
 -- A new image, its first reset, and a command.
 use Rattle.std.proofs.Common.{◌≡◌, ℕ, zero, suc, ◌+◌, ◌≤◌, Bool, true, false, List, [], ◌∷◌, get_or, refl, ◌∙◌, ap, Some, None}
 use Rattle.std.specs.Prelude.{pos, replicate, Ok}
+use Rattle.std.proofs.lemmas.Bool.{false≢true, true≢false}
 use Rattle.std.proofs.lemmas.List.{length-replicate}
 use Rattle.std.proofs.lemmas.Option.{none-some}
 use Rattle.jc_words.specs.Layout.{least_size}
@@ -34,6 +35,8 @@ use Rattle.jc_session.specs.declared.event.Answer.TheVariants.{Ready, Down}
 use Rattle.jc_session.specs.Power.{Up, Off}
 use Rattle.jc_session.specs.Starting.{IsPoweredUp}
 use Rattle.law_images.specs.Cards.{IsOwnKept}
+use Rattle.jc_interp.specs.Running.{no_package}
+use Rattle.law_soundness.proofs.Living.{first_living, none_living}
 use Rattle.law_theorems.specs.Comes.{ComesTo}
 use Rattle.jcard_script.specs.Script.{down_text}
 use Rattle.law_theorems.specs.Witness.{HaveWitnesses, new_blown, new_kept}
@@ -172,6 +175,12 @@ witnesses n text t enough reads =
       card = first;
       reset = powered n text t enough reads no_refusals false;
       up = comes_up n text t enough reads;
+      begins = record {
+        first = refl;
+        living = first_living first.memory.heap.now [] 0 0 0 no_package (none_living first.memory.heap.now);
+        steady = record { counts = refl; begun = λ on. absurd (false≢true on) };
+        owner = λ home zero. true≢false home;
+      };
       cut = refl;
       other = card n text t enough reads refused;
       again = powered n text t enough reads refused true;

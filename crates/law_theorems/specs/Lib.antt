@@ -8,3 +8,4 @@ pub mod TakenBack
 pub mod Isolation
 pub mod Fuse
 pub mod Witness
+pub mod References

@@ -11,7 +11,9 @@ use Rattle.jc_session.specs.Power.{PowerState, Up, Off, KeptState, durable_state
 use Rattle.jc_session.specs.Serving.{AnswersCommand, AnswersReset}
 use Rattle.jcard_script.specs.Script.{down_text}
 use Rattle.law_images.specs.Scripts.{ServeLines, armed}
+use Rattle.jc_interp.specs.Running.{bare_frames}
 use Rattle.law_theorems.specs.Comes.{ComesTo}
+use Rattle.law_theorems.specs.References.{MayBegin}
 
 -- what is kept of a new image
 abbrev pub new_kept : ℕ → List ℕ → Tokens → KeptState
@@ -25,13 +27,14 @@ new_armed n text t = armed 0 (Off (new_kept n text t))
 abbrev pub new_blown : ℕ → List ℕ → Tokens → KeptState
 new_blown n text t = with_refusal 0 (durable_state (new_armed n text t))
 
--- With any table that reads sessions come to a new image without power, and to a card behind its first reset. A reset of it may be cut, and
+-- With any table that reads sessions come to a new image without power, and to a card behind its first reset, on which lent code may run. A reset of it may be cut, and
 -- the next one completes; a command may be answered, as one that begins a load; and a script's line may be cut by the fuse
 pub record HaveWitness (n : ℕ) (text : List ℕ) (t : Tokens) : Type 0 where
   pub off : ComesTo t (Off (new_kept n text t))
   pub card : CardState
   pub reset : AnswersReset (Off (new_kept n text t)) Ready (Up card)
   pub up : ComesTo t (Up card)
+  pub begins : MayBegin (bare_frames 0 0) card.memory
   pub cut : AnswersReset (Up card) Down (Off (with_refusal 0 (durable_state (Up card))))
   pub other : CardState
   pub again : AnswersReset (Off (with_refusal 0 (durable_state (Up card)))) Ready (Up other)

@@ -3,6 +3,7 @@ ghost use Rattle.law_theorems.specs.Comes.{StoresCome};
 ghost use Rattle.law_theorems.specs.Fuse.{FusesCut};
 ghost use Rattle.law_theorems.specs.Images.{PowerUpAgain};
 ghost use Rattle.law_theorems.specs.Isolation.{StayApart};
+ghost use Rattle.law_theorems.specs.References.{ReferencesNameObjects};
 ghost use Rattle.law_theorems.specs.Refusals.{DownTells};
 ghost use Rattle.law_theorems.specs.TakenBack.{IsTakenBack};
 ghost use Rattle.law_theorems.specs.TryChanges.{TriesChangeByPinCalls};
@@ -47,6 +48,13 @@ pub fn fuses_cut_where_they_were_set()
 /// arrays are cleared.
 pub fn sessions_keep_contexts_apart()
     ensures { StayApart }
+{}
+
+/// At whatever moment of whatever command of a session, each reference in arrays, transient ones too, in fields and in
+/// static fields is null or names an object that is there; and so is each in locals and on stacks, however many steps
+/// code takes, whatever it is. So code faults on no reference that names nothing.
+pub fn references_name_what_is_there()
+    ensures { ReferencesNameObjects }
 {}
 
 /// A new image powers up, and so does each that sessions leave of one, however they end and wherever the power

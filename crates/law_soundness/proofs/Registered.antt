@@ -1,0 +1,53 @@
+-- What the registry keeps of an applet is there.
+use Rattle.std.proofs.Common.{◌≡◌, ℕ, ◌-◌, inl, inr, Option, Some, None, refl, subst, arith}
+use Rattle.std.proofs.lemmas.Bool.{and_parts, leb-true, ltb-true}
+use Rattle.std.proofs.lemmas.Option.{cond_some}
+use Rattle.std.specs.Option.{option_map}
+use Rattle.std.specs.Prelude.{nat_le, nat_lt, unwrap_or}
+use Rattle.jc_heap.specs.declared.place.AppletEntry.{AppletEntry}
+use Rattle.jc_heap.specs.Whole.{IsReference}
+use Rattle.jc_memory.specs.declared.registers.AppletNumber.{AppletNumber}
+use Rattle.jc_memory.specs.State.{MemoryState}
+use Rattle.jc_linker.specs.Values.{Packages}
+use Rattle.jc_registry.specs.Registry.{aid_of_applet, applet_count, applet_entry, instance_of_applet, is_applet}
+use Rattle.jc_card_checks.specs.Objects.{is_object_address}
+use Rattle.jc_card_checks.specs.Sound.{entry_word}
+use Rattle.jc_api_runtime.specs.SystemSharing.{aid_or_null}
+use Rattle.law_soundness.specs.State.{IsSoundMemory}
+use Rattle.law_soundness.proofs.Living.{mapped_some}
+
+module _ (p : Packages) (m : MemoryState) (sound : IsSoundMemory p m) where
+  entry_refers : (n : ℕ) (e : AppletEntry) → applet_entry m.heap.now n ≡ Some e → IsReference m.heap.now e.aid × IsReference m.heap.now e.instance
+  unfolding applet_entry
+  entry_refers n e is =
+      let so = cond_some (is_applet m.heap.now n) _ e is in
+      let parts = and_parts (nat_lt 0 n) (nat_le n (applet_count m.heap.now)) so.0 in
+      let some = ltb-true 0 n parts.0 in
+      let few = leb-true n (applet_count m.heap.now) parts.1 in
+      let kept = sound.now.applets (n - 1) (omega (arith, some, few)) in
+      subst (λ (x : AppletEntry). IsReference m.heap.now x.aid × IsReference m.heap.now x.instance) so.1 (
+        inr (and_parts (is_object_address m.heap.now (entry_word m.heap.now (n - 1) 0)) _ kept.aid).0,
+        inr (and_parts (is_object_address m.heap.now (entry_word m.heap.now (n - 1) 2)) _ kept.instance).0,
+      )
+
+  -- its AID object, its instance, or null where there is none
+  pub aid_refers : (n : ℕ) → IsReference m.heap.now (unwrap_or (aid_of_applet m.heap.now n) 0)
+  aid_refers n = by_entry (applet_entry m.heap.now n) refl
+    where
+      by_entry : (o : Option AppletEntry) → applet_entry m.heap.now n ≡ o → IsReference m.heap.now (unwrap_or (option_map (λ e. e.aid) o) 0)
+      by_entry None is = inl refl
+      by_entry (Some e) is = (entry_refers n e is).0
+
+  pub instance_refers : (n : ℕ) → IsReference m.heap.now (unwrap_or (instance_of_applet m.heap.now n) 0)
+  instance_refers n = by_entry (applet_entry m.heap.now n) refl
+    where
+      by_entry : (o : Option AppletEntry) → applet_entry m.heap.now n ≡ o → IsReference m.heap.now (unwrap_or (option_map (λ e. e.instance) o) 0)
+      by_entry None is = inl refl
+      by_entry (Some e) is = (entry_refers n e is).1
+
+  pub or_null_refers : (o : Option AppletNumber) → IsReference m.heap.now (aid_or_null m.heap.now o)
+  or_null_refers None = inl refl
+  or_null_refers (Some n) = aid_refers n.0
+
+  pub server_refers : (n server : ℕ) → instance_of_applet m.heap.now n ≡ Some server → IsReference m.heap.now server
+  server_refers n server is = mapped_some (λ e. e.instance) (applet_entry m.heap.now n) server (IsReference m.heap.now) is (λ e there. (entry_refers n e there).1)

@@ -1,0 +1,41 @@
+-- References in frames: null, or an object that is there.
+use Rattle.std.specs.Prelude.{ℕ, List, [], ◌∷◌, nat_lt, if◌then◌else◌}
+use Rattle.std.specs.List.{All}
+use Rattle.jc_heap.specs.Heap.{HeapState}
+use Rattle.jc_heap.specs.Whole.{IsReference}
+use Rattle.jc_frames.specs.declared.cell.Cell.{Cell}
+use Rattle.jc_frames.specs.declared.cell.Cell.TheVariants.{Short, Reference, ReturnAddress}
+use Rattle.jc_frames.specs.Frames.{Caller, Frame, Frames}
+
+-- a reference in a cell is null or names an object
+abbrev pub IsLivingCell : HeapState → Cell → Type 0
+IsLivingCell h (Short v) = Unit {0}
+IsLivingCell h (Reference r) = IsReference h r
+IsLivingCell h (ReturnAddress a) = Unit {0}
+
+-- and so is each in these cells
+abbrev pub AreLivingCells : HeapState → List Cell → Type 0
+AreLivingCells h cells = All (IsLivingCell h) cells
+
+-- in the locals of a frame, and on its stack
+pub record IsLivingFrame (h : HeapState) (f : Frame) : Type 0 where
+  pub locals : AreLivingCells h f.locals
+  pub stack : AreLivingCells h f.stack
+
+-- in the frames of callers
+abbrev pub AreLivingCallers : HeapState → List Caller → Type 0
+AreLivingCallers h [] = Unit {0}
+AreLivingCallers h (c ∷ callers) = IsLivingFrame h c.frame × AreLivingCallers h callers
+
+-- in the frame that runs, and in those of its callers
+pub record AreLivingFrames (h : HeapState) (s : Frames) : Type 0 where
+  pub current : IsLivingFrame h s.current
+  pub callers : AreLivingCallers h s.callers
+
+-- what refers in one heap refers in another
+abbrev pub KeepsReferences : HeapState → HeapState → Type 0
+KeepsReferences old new = (r : ℕ) → IsReference old r → IsReference new r
+
+-- what refers in one heap, and does not lie at or above the other's top, refers there
+abbrev pub KeepsReferencesBelow : HeapState → HeapState → Type 0
+KeepsReferencesBelow old new = (r : ℕ) → IsReference old r → IsReference new (if nat_lt r new.top then r else 0)
