@@ -1,6 +1,6 @@
 -- Offsets that fit name records and methods.
 use Rattle.std.proofs.Common.{◌≡◌, ℕ, zero, suc, ◌<◌, Bool, true, false, ◌&&◌, ◌||◌, eqb, List, [], ◌∷◌, length, slice_index_or, Option, Some, None, Result, Ok}
-use Rattle.std.proofs.Common.{Err, refl, subst, arith, inl, inr, ◌⊎◌}
+use Rattle.std.proofs.Common.{Err, refl, sym, ◌∙◌, subst, arith, inl, inr, ◌⊎◌}
 use Rattle.std.specs.Prelude.{IfOk, is_some}
 use Rattle.std.proofs.lemmas.Bool.{eqb-true}
 use Rattle.jc_cap_linkage.specs.declared.fault.CapFault.{CapFault}
@@ -38,7 +38,7 @@ use Rattle.jc_cap.specs.Reading as reading
 use Rattle.jc_cap.specs.ComponentReading.{header_in, directory_in, applets_in, imports_in, pool_in, classes_in, methods_in, statics_in, exports_in}
 use Rattle.jc_cap.specs.Sizes.{sizes_agree}
 use Rattle.jc_cap.specs.Fitting.{class_fits, method_fits, entry_fits, applet_fits, export_fits, all_if_present, offsets_fit}
-use Rattle.jc_cap.specs.Assembling.{package_of, required_components, checked_package, assembly_of}
+use Rattle.jc_cap.specs.Assembling.{required_components, checked_package, assembly_of}
 use Rattle.jc_cap.specs.Packages.{NamesMethod, ClassNamed, MethodNamed, EntryNamed, PublicNamed, RecordNamed, AppletNames, ExportNames, AllIfPresent, IsPackage}
 
 both : (a b : Bool) → a && b ≡ true → (a ≡ true) × (b ≡ true)
@@ -173,17 +173,21 @@ is_package t e =
 checked_unit : (t : PackageBytes) (u : Unit {0}) → checked_package t ≡ Ok u → checked_package t ≡ Ok tt
 checked_unit t u e = e
 
-is_read : (texts t : PackageBytes) → package_of texts ≡ Ok t → IsPackage t
-is_read texts t e =
-    let good = bind_ok (checked_package texts) _ t e in
-    subst IsPackage (ok_is texts t good.2) (is_package texts (checked_unit texts good.0 good.1))
-
 pub is_assembled : (load : LoadedComponents) (t : PackageBytes) → assembly_of load ≡ Ok t → IsPackage t
 unfolding assembly_of
 is_assembled load t e =
     let texts = bind_ok (required_components load) _ t e in
-    is_read texts.0 t texts.2
+    let good = bind_ok (checked_package texts.0) _ t texts.2 in
+    subst IsPackage (ok_is texts.0 t good.2) (is_package texts.0 (checked_unit texts.0 good.0 good.1))
 
-pub found : (texts : PackageBytes) (r : Result PackageBytes CapFault) → ParsesAs (λ x. x) r (package_of texts) → IfOk r (λ p. IsPackage p)
-found texts (Ok t) given = is_read texts t given
-found texts (Err f) given = tt
+pub found : (load : LoadedComponents) (r : Result PackageBytes CapFault) → ParsesAs (λ x. x) r (assembly_of load) → IfOk r (λ p. IsPackage p)
+found load (Ok t) given = is_assembled load t given
+found load (Err f) given = tt
+
+-- a package can be read
+pub never_unread : (t : PackageBytes) (fault : CapFault) → checked_package t ≡ Ok tt → reading.contents_of t ≡ Err fault → ⊥
+unfolding checked_package
+never_unread t fault e is =
+    let c = bind_ok (reading.contents_of t) _ tt e in
+    let wrong = sym c.1 ∙ is in
+    absurd cc

@@ -69,7 +69,7 @@ exports_are format bytes = wrapped contents.exports (info_at 10 bytes) (λ info.
 abbrev pub IsOther : ℕ → Type 0
 IsOther tag = (tag ≢ 1) × (tag ≢ 2) × (tag ≢ 3) × (tag ≢ 4) × (tag ≢ 5) × (tag ≢ 6) × (tag ≢ 7) × (tag ≢ 8) × (tag ≢ 10)
 
-unused_says : (format : Format) (tag : ℕ) (info : List ℕ) → IsOther tag → content_at format tag info ≡ Ok contents.unused
+pub unused_says : (format : Format) (tag : ℕ) (info : List ℕ) → IsOther tag → content_at format tag info ≡ Ok contents.unused
 unfolding content_at
 unused_says format tag info n = rw (
   ne_eqb tag 1 n.0,

@@ -147,7 +147,7 @@ content_again format tag contents.unused info is = rw (
 
 -- ---- whole components
 
-component_takes : (format : Format) (tag : ℕ) (bytes : List ℕ) (x : Content) → component_at format tag bytes ≡ Ok x → IsComponent format tag x bytes
+pub component_takes : (format : Format) (tag : ℕ) (bytes : List ℕ) (x : Content) → component_at format tag bytes ≡ Ok x → IsComponent format tag x bytes
 unfolding component_at
 component_takes format tag bytes x e =
     let info = bind_ok (info_at tag bytes) _ x e in

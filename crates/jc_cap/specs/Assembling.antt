@@ -60,12 +60,6 @@ checked_package texts = do
   contents ← reading.contents_of texts
   if sizes_agree texts contents then (if offsets_fit contents then Ok tt else Err BadOffset) else Err SizesDisagree
 
--- the package of these components
-abbrev pub package_of : PackageBytes → Result PackageBytes CapFault
-package_of texts = do
-  good ← checked_package texts
-  Ok texts
-
 -- before all what is missing
 unfoldable pub assembly_of : LoadedComponents → Result PackageBytes CapFault
 assembly_of load = do

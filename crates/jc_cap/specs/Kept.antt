@@ -14,6 +14,11 @@ abbrev pub Keeps : {A : Type 0} → List ℕ → Result A CapFault → Result (L
 Keeps bytes read (Ok kept) = (kept ≡ bytes) × IsReadable read
 Keeps bytes read (Err fault) = read ≡ Err fault
 
+-- reading found no fault, or this one
+abbrev pub IsReadAs : {A B : Type 0} → Result A CapFault → Result B CapFault → Type 0
+IsReadAs (Ok x) read = IsReadable read
+IsReadAs (Err fault) read = read ≡ Err fault
+
 -- what an Applet component says
 abbrev pub applets_told : List ℕ → Result (List AppletNamed) CapFault
 applets_told text = info_at applet_tag text >>= λ info. value_of_whole (applets_at info)

@@ -1,15 +1,14 @@
 //! A package is put together of the components that came.
 ghost use Rattle.std.specs.Prelude.{◌≡◌, Ok, IfOk};
 ghost use Rattle.jc_cap_linkage.specs.Reading.{ParsesAs};
-ghost use Rattle.jc_cap.specs.Assembling.{required_component, flagged_component, flags_in, required_components, package_of};
-ghost use Rattle.jc_cap.specs.Views.{TellsContents};
+ghost use Rattle.jc_cap.specs.Assembling.{required_component, flagged_component, flags_in, required_components, checked_package, assembly_of};
 ghost use Rattle.jc_cap.specs.Packages.{IsPackage};
 ghost use Rattle.jc_cap.specs.Reading.{contents_of};
 ghost use Rattle.jc_cap.specs.Views.{package_contents};
 
+use crate::component::HeaderComponent;
 use crate::contents::{Contents, contents_of};
 use crate::fitting::offsets_fit;
-use crate::linkage_components::HeaderComponent;
 use crate::sizes::sizes_agree;
 use crate::texts::{LoadedComponents, PackageBytes};
 use jc_cap_linkage::fault::CapFault;
@@ -47,12 +46,9 @@ fn flags_in(header: &HeaderComponent) -> (bool, bool)
     (header.exports, header.has_applets)
 }
 
-/// All components that a package needs, of those that came. They are moved, and no memory is taken.
-///
-/// Missing with the lowest tag of a component that every package needs, or that the header's flags ask for, and that did not
-/// come.
+/// All components that a package needs, of those that came: Missing with the lowest tag of one that did not come.
 #[tactic(auto, unfolding(crate::specs::Assembling::required_components))]
-pub fn required_components(load: LoadedComponents) -> Result<PackageBytes, CapFault>
+fn required_components(load: LoadedComponents) -> Result<PackageBytes, CapFault>
     ensures { ParsesAs (λ x. x) result (required_components load) }
 {
     let header = required_component(tags::HEADER, load.header)?;
@@ -80,10 +76,10 @@ pub fn required_components(load: LoadedComponents) -> Result<PackageBytes, CapFa
     })
 }
 
-/// What the components of a package say, which agree with each other.
+/// Whether the components of a package can be read in the header's format, and agree with each other.
 #[tactic(auto, unfolding(crate::specs::Assembling::checked_package))]
-fn check(texts: &PackageBytes) -> Result<Contents<'_>, CapFault>
-    ensures { TellsContents texts.now result }
+fn check(texts: &PackageBytes) -> Result<(), CapFault>
+    ensures { ParsesAs (λ x. x) result (checked_package texts.now) }
 {
     let contents = contents_of(texts)?;
     if !sizes_agree(texts, &contents) {
@@ -92,64 +88,66 @@ fn check(texts: &PackageBytes) -> Result<Contents<'_>, CapFault>
     if !offsets_fit(&contents) {
         return Err(CapFault::BadOffset);
     }
-    Ok(contents)
+    Ok(())
 }
 
-/// A package: the bytes of components that agree with each other, and what was read of them. It is lent from the bytes.
+/// A package: components that agree with each other. Each was read as it came, and what it says is found again in its bytes.
 #[derive(Drop)]
-pub struct Package<'a> {
-    texts: &'a PackageBytes,
-    contents: Contents<'a>,
+pub struct Package {
+    texts: PackageBytes,
 }
 
-impl<'a> Model for Package<'a> {
+impl Model for Package {
     ghost use Rattle.std.specs.Prelude.{◌≡◌, Ok};
     ghost use Rattle.jc_cap.specs.declared.texts.PackageBytes.{PackageBytes};
     ghost use Rattle.jc_cap.specs.Assembling.{checked_package};
-    ghost use Rattle.jc_cap.specs.Reading.{contents_of};
-    ghost use Rattle.jc_cap.specs.Views.{package_contents};
 
     ghost Value = { PackageBytes };
 
-    ghost view = { λ a. a.texts.now };
+    ghost view = { λ a. a.texts };
 
-    ghost invariant = { λ a. (checked_package a.texts.now ≡ Ok tt)
-        × (contents_of a.texts.now ≡ Ok (package_contents a.contents)) };
+    ghost invariant = { λ a. checked_package a.texts ≡ Ok tt };
 }
 
-fn package_of(texts: &PackageBytes) -> Result<Package<'_>, CapFault>
-    ensures { ParsesAs (λ x. x) result (package_of texts.now) }
+#[tactic(auto, unfolding(crate::specs::Assembling::assembly_of))]
+fn assembled(load: LoadedComponents) -> Result<Package, CapFault>
+    ensures { ParsesAs (λ x. x) result (assembly_of load) }
 {
-    let contents = check(texts)?;
-    Ok(Package { texts, contents })
+    let texts = required_components(load)?;
+    check(&texts)?;
+    Ok(Package { texts })
 }
 
-impl<'a> Package<'a> {
-    /// The package of these components, which were read. No memory is taken.
+impl Package {
+    /// The package of the components that came. They are moved, and no memory is taken.
     ///
-    /// The first of these is answered: the fault of a component that cannot be read in the header's format; SizesDisagree
-    /// where the directory does not agree with them; BadOffset where an offset names no record or no method.
-    pub fn of(texts: &'a PackageBytes) -> Result<Package<'a>, CapFault>
-        // What is read is a package.
+    /// The first of these is answered: Missing with the lowest tag of a component that every package needs, or that the
+    /// header's flags ask for, and that did not come; the fault of a component that cannot be read in the header's format;
+    /// SizesDisagree where the directory does not agree with them; BadOffset where an offset names no record or no method.
+    pub fn of(load: LoadedComponents) -> Result<Package, CapFault>
+        // What is put together is a package.
         ensures found { IfOk result (λ p. IsPackage p) }
-        // It is one of these components; otherwise the fault is the first one, in the order above.
-        ensures exact { ParsesAs (λ x. x) result (package_of texts.now) }
+        // It is the one of these components; otherwise the fault is the first one, in the order above.
+        ensures exact { ParsesAs (λ x. x) result (assembly_of load) }
     {
-        package_of(texts)
+        assembled(load)
     }
 
     /// The components' bytes.
-    pub fn texts(&self) -> &'a PackageBytes
+    pub fn texts(&self) -> &PackageBytes
         ensures { result.now ≡ self.now }
     {
-        self.texts
+        &self.texts
     }
 
-    /// What the components say.
-    pub fn into_contents(self) -> Contents<'a>
-        ensures read { contents_of self.entry ≡ Ok (package_contents result) }
-        ensures sound { IsPackage self.entry }
+    /// What the components say. It is found again in their bytes, without a fault.
+    pub fn contents(&self) -> Contents<'_>
+        ensures read { contents_of self.now ≡ Ok (package_contents result) }
+        ensures sound { IsPackage self.now }
     {
-        self.contents
+        match contents_of(&self.texts) {
+            Ok(contents) => contents,
+            Err(_) => unreachable!(),
+        }
     }
 }

@@ -6,7 +6,7 @@ ghost use Rattle.jc_cap.specs.ComponentReading.{applets_in, exports_in};
 ghost use Rattle.jc_cap.specs.Reading.{contents_of};
 ghost use Rattle.jc_cap.specs.Views.{package_contents};
 
-use crate::linkage_components::{AppletComponent, ExportComponent};
+use crate::component::{AppletComponent, ExportComponent};
 use crate::texts::PackageBytes;
 use jc_cap_code::classes::Classes;
 use jc_cap_code::methods::Methods;
@@ -54,7 +54,7 @@ fn exports_in(component: &Option<ExportComponent>) -> Option<Exports<'_>>
 /// What the components say. They are found again in the bytes. A fault is only where the Directory or the Class component was
 /// read in another format than the header's, in which it cannot be read.
 #[tactic(auto, unfolding(crate::specs::Reading::contents_of))]
-pub fn contents_of(texts: &PackageBytes) -> Result<Contents<'_>, CapFault>
+pub(crate) fn contents_of(texts: &PackageBytes) -> Result<Contents<'_>, CapFault>
     ensures { ParsesAs package_contents result (contents_of texts.now) }
 {
     let header = texts.header.header();

@@ -2,9 +2,9 @@
 #![tactic(auto)]
 
 pub mod assembling;
-pub mod code_components;
+pub mod class_component;
+pub mod component;
 pub mod contents;
 mod fitting;
-pub mod linkage_components;
 mod sizes;
 pub mod texts;

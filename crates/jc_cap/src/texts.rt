@@ -4,16 +4,15 @@ ghost use Rattle.jc_cap.specs.Texts.{no_components};
 ghost use Rattle.jc_cap.specs.Contents.{Content};
 ghost use Rattle.jc_cap.specs.Contents as contents;
 ghost use Rattle.jc_cap.specs.Components.{component_at, content_result, IsComponent};
-ghost use Rattle.jc_cap.specs.ComponentReading.{header_in, directory_in, imports_in, pool_in, classes_in, methods_in, statics_in};
-ghost use Rattle.jc_cap.specs.Kept.{applets_told, exports_told};
+ghost use Rattle.jc_cap.specs.ComponentReading.{classes_in};
 ghost use Rattle.jc_cap.specs.Taking.{taken, taken_with, unused_taken};
 ghost use Rattle.jc_cap_linkage.specs.Envelope.{info_at};
-ghost use Rattle.jc_cap_linkage.specs.Tags.{header_tag, directory_tag, applet_tag, import_tag, constant_pool_tag, class_tag, method_tag, static_field_tag, export_tag};
+ghost use Rattle.jc_cap_linkage.specs.Tags.{header_tag, class_tag};
 
-use crate::code_components::{ClassComponent, MethodComponent, StaticFieldComponent};
-use crate::linkage_components::{
-    AppletComponent, ConstantPoolComponent, DirectoryComponent, ExportComponent, HeaderComponent,
-    ImportComponent,
+use crate::class_component::ClassComponent;
+use crate::component::{
+    AppletComponent, Component, ConstantPoolComponent, DirectoryComponent, ExportComponent,
+    HeaderComponent, ImportComponent, MethodComponent, StaticFieldComponent,
 };
 use jc_cap_linkage::envelope::info_of;
 use jc_cap_linkage::fault::CapFault;
@@ -82,6 +81,7 @@ impl LoadedComponents {
         self.take_by_tag(format, tag, bytes)
     }
 
+    #[tactic(auto, unfolding(crate::specs::Texts::with_component))]
     fn take_by_tag(
         &mut self,
         format: Format,
@@ -93,99 +93,39 @@ impl LoadedComponents {
             (component_at format tag bytes.items) }
     {
         match tag {
-            tags::HEADER => self.take_header(bytes),
-            tags::DIRECTORY => self.take_directory(format, bytes),
-            tags::APPLET => self.take_applets(bytes),
-            tags::IMPORT => self.take_imports(bytes),
-            tags::CONSTANT_POOL => self.take_pool(bytes),
-            tags::CLASS => self.take_classes(format, bytes),
-            tags::METHOD => self.take_methods(bytes),
-            tags::STATIC_FIELD => self.take_statics(bytes),
-            tags::EXPORT => self.take_exports(bytes),
-            _ => self.take_unused(tag, bytes),
+            tags::HEADER => return self.take_header(format, bytes),
+            tags::DIRECTORY => self.directory = Some(Component::read(format, bytes)?),
+            tags::APPLET => self.applets = Some(Component::read(format, bytes)?),
+            tags::IMPORT => self.imports = Some(Component::read(format, bytes)?),
+            tags::CONSTANT_POOL => self.pool = Some(Component::read(format, bytes)?),
+            tags::CLASS => return self.take_classes(format, bytes),
+            tags::METHOD => self.methods = Some(Component::read(format, bytes)?),
+            tags::STATIC_FIELD => self.statics = Some(Component::read(format, bytes)?),
+            tags::EXPORT => self.exports = Some(Component::read(format, bytes)?),
+            _ => return self.take_unused(tag, bytes),
         }
+        Ok(None)
     }
 
+    // A Header component, which tells its format.
     #[tactic(auto, unfolding(crate::specs::Texts::with_component))]
-    fn take_header(&mut self, bytes: Vec<u8>) -> Result<Option<Format>, CapFault>
+    fn take_header(&mut self, format: Format, bytes: Vec<u8>) -> Result<Option<Format>, CapFault>
         ensures { taken result self.new ≡ taken_with self.old header_tag bytes.items
-            (content_result contents.header (header_in bytes.items)) }
+            (component_at format header_tag bytes.items) }
     {
-        let component = HeaderComponent::read(bytes)?;
+        let component = HeaderComponent::read(format, bytes)?;
         let format = component.header().format;
         self.header = Some(component);
         Ok(Some(format))
     }
 
-    #[tactic(auto, unfolding(crate::specs::Texts::with_component))]
-    fn take_directory(&mut self, format: Format, bytes: Vec<u8>) -> Result<Option<Format>, CapFault>
-        ensures { taken result self.new ≡ taken_with self.old directory_tag bytes.items
-            (content_result contents.directory (directory_in format bytes.items)) }
-    {
-        self.directory = Some(DirectoryComponent::read(format, bytes)?);
-        Ok(None)
-    }
-
-    #[tactic(auto, unfolding(crate::specs::Texts::with_component))]
-    fn take_applets(&mut self, bytes: Vec<u8>) -> Result<Option<Format>, CapFault>
-        ensures { taken result self.new ≡ taken_with self.old applet_tag bytes.items
-            (content_result contents.applets (applets_told bytes.items)) }
-    {
-        self.applets = Some(AppletComponent::read(bytes)?);
-        Ok(None)
-    }
-
-    #[tactic(auto, unfolding(crate::specs::Texts::with_component))]
-    fn take_imports(&mut self, bytes: Vec<u8>) -> Result<Option<Format>, CapFault>
-        ensures { taken result self.new ≡ taken_with self.old import_tag bytes.items
-            (content_result contents.imports (imports_in bytes.items)) }
-    {
-        self.imports = Some(ImportComponent::read(bytes)?);
-        Ok(None)
-    }
-
-    #[tactic(auto, unfolding(crate::specs::Texts::with_component))]
-    fn take_pool(&mut self, bytes: Vec<u8>) -> Result<Option<Format>, CapFault>
-        ensures { taken result self.new ≡ taken_with self.old constant_pool_tag bytes.items
-            (content_result contents.pool (pool_in bytes.items)) }
-    {
-        self.pool = Some(ConstantPoolComponent::read(bytes)?);
-        Ok(None)
-    }
-
+    // A Class component, whose records' places are kept with it.
     #[tactic(auto, unfolding(crate::specs::Texts::with_component))]
     fn take_classes(&mut self, format: Format, bytes: Vec<u8>) -> Result<Option<Format>, CapFault>
         ensures { taken result self.new ≡ taken_with self.old class_tag bytes.items
             (content_result contents.classes (classes_in format bytes.items)) }
     {
         self.classes = Some(ClassComponent::read(format, bytes)?);
-        Ok(None)
-    }
-
-    #[tactic(auto, unfolding(crate::specs::Texts::with_component))]
-    fn take_methods(&mut self, bytes: Vec<u8>) -> Result<Option<Format>, CapFault>
-        ensures { taken result self.new ≡ taken_with self.old method_tag bytes.items
-            (content_result contents.methods (methods_in bytes.items)) }
-    {
-        self.methods = Some(MethodComponent::read(bytes)?);
-        Ok(None)
-    }
-
-    #[tactic(auto, unfolding(crate::specs::Texts::with_component))]
-    fn take_statics(&mut self, bytes: Vec<u8>) -> Result<Option<Format>, CapFault>
-        ensures { taken result self.new ≡ taken_with self.old static_field_tag bytes.items
-            (content_result contents.statics (statics_in bytes.items)) }
-    {
-        self.statics = Some(StaticFieldComponent::read(bytes)?);
-        Ok(None)
-    }
-
-    #[tactic(auto, unfolding(crate::specs::Texts::with_component))]
-    fn take_exports(&mut self, bytes: Vec<u8>) -> Result<Option<Format>, CapFault>
-        ensures { taken result self.new ≡ taken_with self.old export_tag bytes.items
-            (content_result contents.exports (exports_told bytes.items)) }
-    {
-        self.exports = Some(ExportComponent::read(bytes)?);
         Ok(None)
     }
 

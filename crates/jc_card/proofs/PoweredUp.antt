@@ -1,12 +1,12 @@
 -- What power up finds.
-use Rattle.std.proofs.Common.{◌≡◌, ℕ, ◌+◌, ◌/◌, ◌≤◌, ◌<◌, ◌⊎◌, inl, inr, List, [], ◌∷◌, take, length, get_or, lit<, refl, sym, ◌∙◌, ap, subst, arith, Ok, Err}
-use Rattle.std.specs.Prelude.{Result, ◌↔◌, IsOk, IfOk, IfErr, OnOk, Some}
+use Rattle.std.proofs.Common.{◌≡◌, ℕ, ◌+◌, ◌/◌, ◌≤◌, ◌<◌, ◌⊎◌, inl, inr, List, length, get_or, refl, sym, ◌∙◌, ap, subst, arith, Ok, Err}
+use Rattle.std.specs.Prelude.{Result, ◌↔◌, IsOk, IfOk, IfErr, OnOk, MatchResult, None, Some}
 use Rattle.std.proofs.lemmas.Bool.{false≢true}
 use Rattle.jc_words.specs.Image.{HasSize}
 use Rattle.jc_words.specs.declared.image.ImageFault.{ImageFault}
-use Rattle.jc_words.specs.Layout.{magic_address, version_address, size_address, text_length_address, text_start, magic, version}
+use Rattle.jc_words.specs.Layout.{magic_address, version_address, text_length_address, text_start, magic, version}
 use Rattle.jc_commit.specs.Image.{IsGoodLog, recovered_of}
-use Rattle.jc_heap.specs.Image.{IsWellFormed, base, image}
+use Rattle.jc_heap.specs.Image.{IsWellFormed, base, image, table_text}
 use Rattle.jc_heap.specs.Heap.{HeapState, head_of, heap_of}
 use Rattle.jc_card_checks.specs.Sound.{IsSound}
 use Rattle.jc_card_load.specs.Reading.{packages_of}
@@ -17,9 +17,11 @@ use Rattle.jc_linker.specs.Values.{Packages}
 use Rattle.jc_platform.specs.Tokens.{Tokens}
 use Rattle.jc_platform.specs.Table.{Reads}
 use Rattle.jc_platform.proofs.OneAnswer.{one_table}
+use Rattle.jc_memory.specs.State.{MemoryState}
+use Rattle.jc_card.specs.CardState.{CardState}
 use Rattle.jc_card.specs.Fixed.{last_fixed}
 use Rattle.jc_card.specs.Made.{IsMade}
-use Rattle.jc_card.specs.PowerUp.{HasHead, HasTable, HasHeap, PowerUpRefuses, RecoveredWordsFail, HasPackages}
+use Rattle.jc_card.specs.PowerUp.{HasHead, HasTable, HasHeap, PowerUpRefuses, RecoveredWordsFail, FailsToLink, HasPackages}
 use Rattle.jc_card.specs.declared.power_up.PowerFault.{PowerFault}
 use Rattle.jc_card.specs.declared.power_up.PowerFault.TheVariants.{BadMagic, BadVersion, BadSize, BadLog, BadTable, BadPackage, NoMemory, StoreDown}
 
@@ -132,3 +134,29 @@ none_fit t h p linked misfit has =
     let both : Some has.0 ≡ Some p = sym has.1 ∙ linked in
     let same : has.0 ≡ p = cc in
     misfit (subst (λ q. IsSound q h (last_fixed h)) same has.2)
+
+-- the card of packages that a heap fits
+pub fits_linked : {E : Type 0} (r : Result CardState E) (m : MemoryState) (p : Packages) (t : Tokens) (h : HeapState) (own : ℕ)
+    → IfOk r (λ card. card ≡ record { memory = m; packages = p; load = None }) → OnOk r (IsSound p m.heap.now own) → m.heap.now ≡ h → own ≡ last_fixed h
+    → packages_of t h ≡ Some p → IfOk r (λ card. (packages_of t h ≡ Some card.packages) × IsSound card.packages h (last_fixed h))
+fits_linked (Err e) m p t h own is sound same at linked = tt
+fits_linked (Ok card) m p t h own is sound same at linked =
+    let packages : p ≡ card.packages = ap (λ (c : CardState). c.packages) (sym is) in
+    let here : IsSound p h (last_fixed h) = subst (λ (o : ℕ). IsSound p h o) at (subst (λ (x : HeapState). IsSound p x own) same sound) in
+    (linked ∙ ap Some packages, subst (λ (q : Packages). IsSound q h (last_fixed h)) packages here)
+
+-- it does not fit them
+pub unfit : {A S : Type 0} (r : Result A (PowerFault × S)) (m : MemoryState) (p : Packages) (t : Tokens) (h : HeapState) (own : ℕ)
+    → IfErr r (λ e. (e.0 ≡ BadPackage) × (IsSound p m.heap.now own → ⊥)) → m.heap.now ≡ h → own ≡ last_fixed h → packages_of t h ≡ Some p
+    → IfErr r (λ e. FailsToLink e.0 t h)
+unfit (Ok card) m p t h own cause same at linked = tt
+unfit (Err e) m p t h own cause same at linked = subst (λ (f : PowerFault). FailsToLink f t h) (sym cause.0) (none_fit t h p linked
+    (λ (fit : IsSound p h (last_fixed h)). cause.1 (subst (λ (x : HeapState). IsSound p x own) (sym same) (subst (λ (o : ℕ). IsSound p h o) (sym at) fit))))
+
+-- the text of a table, or of none
+pub table_told : (r : Result Tokens PowerFault) (w text : List ℕ) → text_start + (get_or w text_length_address 0 + 1) / 2 ≤ length w → text ≡ table_text w
+    → MatchResult r (λ t. Reads text (Ok t)) (λ fault. (fault ≡ BadTable) × ((t : Tokens) → Reads text (Ok t) → ⊥))
+    → MatchResult r (λ t. HasTable w t) (λ fault. RecoveredWordsFail fault w)
+table_told (Ok t) w text fits same told = (fits, subst (λ (l : List ℕ). Reads l (Ok t)) same told)
+table_told (Err fault) w text fits same told = subst (λ (f : PowerFault). RecoveredWordsFail f w) (sym told.0)
+    (λ t table. told.1 t (subst (λ (l : List ℕ). Reads l (Ok t)) (sym same) table.1))

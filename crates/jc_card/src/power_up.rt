@@ -1,23 +1,26 @@
 //! Powering a card up over the words of its image.
-ghost use Rattle.std.specs.Prelude.{ℕ, List, ◌≡◌, ◌⊎◌, ◌+◌, ◌/◌, ◌≤◌, [], length, slice_index, None, Some, IfOk, IfErr, OnOk, false, true, MatchResult};
+ghost use Rattle.std.specs.Prelude.{ℕ, List, ◌≡◌, ◌⊎◌, ◌+◌, ◌/◌, ◌≤◌, ◌↔◌, [], length, slice_index, None, Some, Ok, IsOk, IfOk, IfErr, OnOk, false, true, MatchResult};
 ghost use Rattle.jc_words.specs.Refusals.{refused_once};
 ghost use Rattle.jc_words.specs.Layout.{text_length_address, text_start, magic, version};
 ghost use Rattle.jc_commit.specs.Replay.{IsPartOfReplay};
 ghost use Rattle.jc_commit.specs.State.{recovered_journal};
 ghost use Rattle.jc_heap.specs.Heap.{heap_view};
-ghost use Rattle.jc_heap.specs.Image.{table_text};
+ghost use Rattle.jc_heap.specs.Image.{IsWellFormed, table_text};
+ghost use Rattle.jc_image.specs.Beginning.{HeapBeginsWith};
+ghost use Rattle.jc_image.specs.Opening.{HoldsImage};
 ghost use Rattle.jc_transient.specs.State.{IsCleared};
+ghost use Rattle.jc_platform.specs.Table.{Reads};
 ghost use Rattle.jc_platform.specs.Tokens.{Tokens};
 ghost use Rattle.jc_card.specs.Made.{IsMade};
 ghost use Rattle.jc_heap.specs.Whole.{IsConsistent};
-ghost use Rattle.jc_heap.specs.Heap.{heap_of};
+ghost use Rattle.jc_heap.specs.Heap.{IsObject, heap_of};
 ghost use Rattle.jc_heap.specs.Stored.{HoldsHeap};
 ghost use Rattle.jc_commit.specs.Image.{IsGoodLog, recovered_of};
 ghost use Rattle.jc_transient.specs.State.{HasSizes};
 ghost use Rattle.jc_memory.specs.Owners.{at_reset};
 ghost use Rattle.jc_card_load.specs.Reading.{packages_of};
 ghost use Rattle.jc_card_checks.specs.Sound.{IsSound};
-ghost use Rattle.jc_card.specs.Fixed.{fixed_of, last_fixed};
+ghost use Rattle.jc_card.specs.Fixed.{fixed_facts, fixed_objects, fixed_of, last_fixed};
 ghost use Rattle.jc_card.specs.Reset.{IsAtReset};
 ghost use Rattle.jc_card.specs.PowerUp.{PowerUpRefuses, RecoveredWordsFail, FailsToLink, RefusalLeaves, LateFaultLeaves, IsFoundFirst, IsFoundAfter, HasTable};
 ghost use Rattle.jc_card.specs.PowerUp.{HasHeap, fault_of};
@@ -29,11 +32,12 @@ use jc_card_load::reading::{RecordFault, read_packages};
 use jc_commit::OpenRefusal;
 use jc_heap::Heap;
 use jc_image::OpenImage;
+use jc_linker::linked::Linked;
 use jc_memory::{Marks, Memory};
 use jc_platform::platform::Platform;
 use jc_platform::read::{LARGEST_TEXT, read_table};
 use jc_platform::table::Table;
-use jc_transient::Ram;
+use jc_transient::{Ram, Ref};
 use jc_words::{ImageFault, WordStore, check_image};
 use std::alloc::{AllocError, Global};
 use thiserror::Error;
@@ -143,14 +147,31 @@ fn start<S: WordStore>(alloc: Global, image: OpenImage<S>) -> Result<Card<S>, (P
     let Ok(ram) = Ram::new(alloc) else {
         return Err((PowerFault::NoMemory, image.into_store()));
     };
-    match image.check(&fixed_headers(&table)) {
+    match whole_heap(image, &table) {
         Ok(heap) => link_packages(alloc, table.platform(), heap, ram),
+        Err(refused) => Err(refused),
+    }
+}
+
+// The heap of a recovered image, where it is whole and begins with the objects of the runtime environment. No memory is
+// asked for.
+fn whole_heap<S: WordStore>(image: OpenImage<S>, table: &Table) -> Result<Heap<S>, (PowerFault, S)>
+    requires { image.down ≡ false }
+    ensures exact { IsOk result ↔ (IsWellFormed image.plain × IsConsistent (heap_of image.plain)
+        × HeapBeginsWith (heap_of image.plain) (fixed_facts table.now 0 fixed_objects)) }
+    ensures whole { IfOk result (λ heap. IsConsistent heap.now) }
+    ensures heap { IfOk result (λ heap. heap ≡ heap_view image (length image.plain)) }
+    ensures fault { IfErr result (λ e. e.0 ≡ PowerFault.BadPackage) }
+    ensures store { IfErr result (λ e. HoldsImage (S.words e.1) (S.down e.1) (S.passed e.1)
+        (S.refusals e.1) image) }
+{
+    match image.check(&fixed_headers(table)) {
+        Ok(heap) => Ok(heap),
         Err(store) => Err((PowerFault::BadPackage, store)),
     }
 }
 
 // The card of a whole heap, whose packages are read and linked, and which has to fit them.
-#[tactic(auto, using(crate::proofs::PoweredUp::none_fit))]
 fn link_packages<S: WordStore>(
     alloc: Global,
     platform: Platform,
@@ -185,19 +206,44 @@ fn link_packages<S: WordStore>(
         Ok(linked) => {
             let fixed = fixed_of(&heap);
             let memory = Memory::new(heap, ram, fixed, marks);
-            if !is_sound(&memory, &linked, fixed[LAST_FIXED]) {
-                let (heap, _) = memory.into_parts();
-                return Err((PowerFault::BadPackage, heap.into_store()));
-            }
-            Ok(Card {
-                alloc,
-                memory,
-                linked,
-                load: None,
-            })
+            card_of(alloc, memory, linked, fixed[LAST_FIXED])
         }
         Err(fault) => Err((fault_of(fault), heap.into_store())),
     }
+}
+
+// The card of this memory and these packages, where what stands behind the last object of the runtime environment fits
+// them. No memory is asked for.
+fn card_of<S: WordStore>(
+    alloc: Global,
+    memory: Memory<S>,
+    linked: Linked,
+    own: Ref,
+) -> Result<Card<S>, (PowerFault, S)>
+    requires up { memory.heap.down ≡ false }
+    requires rests { memory.heap.begun ≡ false }
+    requires whole { IsConsistent memory.heap.now }
+    requires words { (w : List ℕ) × (memory.heap.now ≡ heap_of w) }
+    requires linked { length linked.loaded ≡ length memory.heap.now.packages }
+    requires own { (own ≡ 0 → ⊥) → IsObject memory.heap.now own }
+    ensures card { IfOk result (λ card. card
+        ≡ record { memory = memory; packages = linked; load = None }) }
+    ensures sound { OnOk result (IsSound linked memory.heap.now own) }
+    ensures cause { IfErr result (λ e. (e.0 ≡ PowerFault.BadPackage)
+        × (IsSound linked memory.heap.now own → ⊥)) }
+    ensures store { IfErr result (λ e. HoldsHeap (S.words e.1) (S.down e.1) (S.passed e.1)
+        (S.refusals e.1) memory.heap) }
+{
+    if !is_sound(&memory, &linked, own) {
+        let (heap, _) = memory.into_parts();
+        return Err((PowerFault::BadPackage, heap.into_store()));
+    }
+    Ok(Card {
+        alloc,
+        memory,
+        linked,
+        load: None,
+    })
 }
 
 // The fault of packages that are not read.
@@ -224,13 +270,21 @@ fn platform_of<S: WordStore>(alloc: Global, image: &OpenImage<S>) -> Result<Tabl
     if !image.has_text() {
         return Err(PowerFault::BadTable);
     }
-    let Ok(text) = text_of(alloc, image) else {
-        return Err(PowerFault::NoMemory);
-    };
-    let Ok(table) = read_table(text.as_slice()) else {
-        return Err(PowerFault::BadTable);
-    };
-    Ok(table)
+    match text_of(alloc, image) {
+        Ok(text) => table_in(text.as_slice()),
+        Err(AllocError) => Err(PowerFault::NoMemory),
+    }
+}
+
+// The platform that a text tells. No memory is asked for.
+fn table_in(text: &[u8]) -> Result<Table, PowerFault>
+    ensures { MatchResult result (λ t. Reads text.now (Ok t))
+        (λ fault. (fault ≡ PowerFault.BadTable) × ((t : Tokens) → Reads text.now (Ok t) → ⊥)) }
+{
+    match read_table(text) {
+        Ok(table) => Ok(table),
+        Err(_) => Err(PowerFault::BadTable),
+    }
 }
 
 // The table text of an image that has its words.

@@ -1,11 +1,12 @@
 -- The end of a load: the package comes in, or it is refused.
-use Rattle.std.specs.Prelude.{ℕ, nat_le, length, Option, Some, None, Result, Ok, Err, if◌then◌else◌, is_none}
+use Rattle.std.specs.Prelude.{ℕ, nat_le, length, List, Option, Some, None, Result, Ok, Err, if◌then◌else◌, is_none}
 use Rattle.jc_words.specs.Layout.{most_packages}
 use Rattle.jc_words.specs.declared.store.StoreDown.{StoreDown}
 use Rattle.jc_cap.specs.declared.texts.LoadedComponents.{LoadedComponents}
 use Rattle.jc_cap.specs.declared.texts.PackageBytes.{PackageBytes}
+use Rattle.jc_heap.specs.declared.object.Kind.{Kind}
 use Rattle.jc_heap.specs.Completions.{Attempt, Done, Refused, Completion, Completed, Torn}
-use Rattle.jc_linker.specs.Values.{Packages}
+use Rattle.jc_linker.specs.Values.{Packages, PackageValue}
 use Rattle.jc_linker.specs.declared.fault.LinkFault.TheVariants as link
 use Rattle.jc_linker.specs.Linking.{with_package}
 use Rattle.jc_memory.specs.State.{MemoryState}
@@ -29,15 +30,22 @@ abbrev pub with_dropped_load : Packages → LoadRefusal → Program LoadResult
 with_dropped_load p refusal = Finish (record { ended = Err refusal; packages = p; load = None })
 
 -- the package is there from then on, if the heap had space for it
+abbrev pub after_record : Packages → PackageValue → Attempt ℕ → Program LoadResult
+after_record p linked (Done r) = Finish (record { ended = Ok tt; packages = with_package p linked; load = None })
+after_record p linked (Refused reason) = with_dropped_load p HeapFull
+
+-- the package is written as a record of these components, arrays and bytes: no memory is asked for
+abbrev pub record_entry : Packages → PackageValue → List (ℕ × List ℕ) → List (Kind × List ℕ) → List ℕ → MemoryState → Program LoadResult
+record_entry p linked components arrays image s = bind (package_addition s components arrays image) s (λ answer after. after_record p linked answer)
+
 abbrev pub after_addition : Packages → PendingPackageValue → Attempt ℕ → Program LoadResult
-after_addition p q (Done r) = Finish (record { ended = Ok tt; packages = with_package p q.linked; load = None })
-after_addition p q (Refused reason) = with_dropped_load p HeapFull
+after_addition p q answer = after_record p q.linked answer
 
 -- its record is written, if there is a place for its address
 abbrev pub package_entry : Packages → PendingPackageValue → MemoryState → Program LoadResult
 package_entry p q s =
     if nat_le most_packages (length s.heap.now.packages) then with_dropped_load p Full else
-    bind (package_addition s (parts_of q.texts) (arrays_of (statics_of q.texts)) (image_of (statics_of q.texts))) s (λ answer after. after_addition p q answer)
+    record_entry p q.linked (parts_of q.texts) (arrays_of (statics_of q.texts)) (image_of (statics_of q.texts)) s
 
 abbrev pub after_preparation : Packages → MemoryState → Result PendingPackageValue LoadRefusal → Program LoadResult
 after_preparation p s (Err refusal) = with_dropped_load p refusal

@@ -5,7 +5,7 @@ use Rattle.jc_cap_linkage.specs.declared.fault.CapFault.{CapFault}
 use Rattle.jc_cap.specs.declared.texts.LoadedComponents.{LoadedComponents}
 use Rattle.jc_cap.specs.declared.texts.PackageBytes.{PackageBytes}
 use Rattle.jc_cap.specs.Contents.{PackageContents}
-use Rattle.jc_cap.specs.Assembling.{assembly_of, checked_package}
+use Rattle.jc_cap.specs.Assembling.{assembly_of}
 use Rattle.jc_cap.specs.Reading.{contents_of}
 use Rattle.jc_linker.specs.Values.{PackageValue, Packages}
 use Rattle.jc_linker.specs.Lookups.{package_with_aid}
@@ -21,6 +21,10 @@ pub record PendingPackageValue : Type 0 where
   pub texts : PackageBytes
   pub linked : PackageValue
 
+-- this was linked of these components
+abbrev pub linked_as : PackageBytes → PackageValue → PendingPackageValue
+linked_as t q = record { texts = t; linked = q }
+
 -- first the one, and if its components are right the other
 abbrev pub if_read : {A B : Type 0} → Result A CapFault → (A → Result B LoadRefusal) → Result B LoadRefusal
 if_read (Ok x) f = f x
@@ -35,15 +39,15 @@ unfoldable pub linked_package : Packages → PackageBytes → PackageContents �
 linked_package p t c =
     if is_some (package_with_aid p c.header.this_package.aid) then Err AidTaken else
     if nat_le most_packages (length p.loaded) then Err Full else
-    if_linked (link_result p (linker_view t c)) (λ q. Ok (record { texts = t; linked = q }))
+    if_linked (link_result p (linker_view t c)) (λ q. Ok (linked_as t q))
 
--- read of these components, and linked
+-- the package that these components are, linked
 abbrev pub linked_texts : Packages → PackageBytes → Result PendingPackageValue LoadRefusal
-linked_texts p t = if_read (checked_package t) (λ good. if_read (contents_of t) (λ c. linked_package p t c))
+linked_texts p t = if_read (contents_of t) (λ c. linked_package p t c)
 
 -- put together of the components that came, and linked
 unfoldable pub linked_components : Packages → LoadedComponents → Result PendingPackageValue LoadRefusal
-linked_components p load = if_read (assembly_of load) (λ t. if_read (contents_of t) (λ c. linked_package p t c))
+linked_components p load = if_read (assembly_of load) (λ t. linked_texts p t)
 
 -- the refusal is this, if it is not that memory was refused
 abbrev pub IsUnlinked : {Y : Type 0} → LinkFault → Result Y LoadRefusal → Type 0

@@ -5,10 +5,10 @@
 
 mod incoming;
 mod linker_view;
+mod linking;
 mod load;
 mod load_end;
 mod load_refusal;
-pub mod pending_package;
 pub mod reading;
 pub mod record_contents;
 

@@ -1,12 +1,10 @@
 //! What the linker is told of a package.
 ghost use Rattle.std.specs.Prelude.{◌≡◌};
 ghost use Rattle.jc_cap.specs.Views.{package_contents};
-ghost use Rattle.jc_cap_code.specs.StaticViews.{static_parts};
 ghost use Rattle.jc_card_load.specs.LinkerView.{info_of_component, package_view, linker_view};
 
 use jc_cap::contents::Contents;
 use jc_cap::texts::PackageBytes;
-use jc_cap_code::statics::StaticFields;
 use jc_cap_linkage::envelope::info_of;
 use jc_cap_linkage::tags;
 use jc_linker::components::LinkerComponents;
@@ -21,16 +19,14 @@ pub(crate) fn info_in(tag: u8, text: &[u8]) -> &[u8]
     }
 }
 
-/// What the linker is told of a package that is put together of these components, which say this, and its static fields.
+/// What the linker is told of a package that is put together of these components, which say this.
 pub(crate) fn linker_components_of<'a>(
     texts: &'a PackageBytes,
     contents: Contents<'a>,
-) -> (LinkerComponents<'a>, StaticFields<'a>)
-    ensures told { package_view result.0 ≡ linker_view texts.entry.now
-        (package_contents contents.entry) }
-    ensures statics { static_parts result.1 ≡ (package_contents contents.entry).statics }
+) -> LinkerComponents<'a>
+    ensures { package_view result ≡ linker_view texts.entry.now (package_contents contents.entry) }
 {
-    let components = LinkerComponents {
+    LinkerComponents {
         name: contents.header.this_package,
         imports: contents.imports,
         pool: contents.pool,
@@ -40,6 +36,5 @@ pub(crate) fn linker_components_of<'a>(
         image_references: contents.statics.reference_count,
         exports: contents.exports,
         applets: contents.applets,
-    };
-    (components, contents.statics)
+    }
 }

@@ -3,21 +3,24 @@ ghost use Rattle.std.specs.Prelude.{◌≡◌, ◌<◌, false, length, None};
 ghost use Rattle.jc_memory.specs.Programs.{Executes, Either};
 ghost use Rattle.jc_linker.specs.declared.fault.LinkFault.TheVariants.{NoMemory};
 ghost use Rattle.jc_card_load.specs.declared.load_refusal.LoadRefusal.TheVariants.{LinkFailed};
-ghost use Rattle.jc_card_load.specs.Ending.{package_entry, after_end, assembly_result, texts_result, with_dropped_load, end_of_load};
+ghost use Rattle.jc_words.specs.Layout.{most_packages};
+ghost use Rattle.jc_heap.specs.Packages.{AreArrays, AreComponents, array_inits, image_size, parts};
+ghost use Rattle.jc_card_load.specs.PendingPackages.{linked_as};
+ghost use Rattle.jc_card_load.specs.Ending.{package_entry, record_entry, after_end, assembly_result, texts_result, with_dropped_load, end_of_load};
 
+use crate::linking::link_package;
 use crate::load::OpenLoad;
 use crate::load_refusal::LoadRefusal;
-use crate::pending_package::{PendingPackage, read_and_link};
-use crate::record_contents::record_contents_of;
-use jc_cap::assembling::required_components;
-use jc_cap::texts::{LoadedComponents, PackageBytes};
+use crate::record_contents::{RecordContents, record_contents_of};
+use jc_cap::assembling::Package;
+use jc_cap::texts::LoadedComponents;
 use jc_heap::HeapRefusal;
 use jc_linker::fault::LinkFault;
-use jc_linker::linked::Linked;
+use jc_linker::linked::{Addition, Linked};
 use jc_memory::Memory;
 use jc_words::layout::MOST_PACKAGES;
 use jc_words::{StoreDown, WordStore};
-use std::alloc::Global;
+use std::alloc::{AllocError, Global};
 
 /// Ends a load: its components are put together and linked, and the package is written. A refusal drops the load,
 /// but where no load is open or a component still is. The error is a write that the store refused.
@@ -55,54 +58,73 @@ fn assemble_and_add<S: WordStore>(
     ensures { Executes (assembly_result linked.old memory.old load) memory.old
         (after_end result linked.new None memory.new) }
 {
-    match required_components(load) {
-        Ok(texts) => link_and_add(alloc, memory, linked, &texts),
+    match Package::of(load) {
+        Ok(whole) => link_and_add(alloc, memory, linked, &whole),
         Err(fault) => Ok(Err(LoadRefusal::BadComponents(fault))),
     }
 }
 
-// Brings the package of these components in.
+// Brings a package in.
 fn link_and_add<S: WordStore>(
     alloc: Global,
     memory: &mut Memory<S>,
     linked: &mut Linked,
-    texts: &PackageBytes,
+    whole: &Package,
 ) -> Result<Result<(), LoadRefusal>, StoreDown>
     requires up { memory.old.heap.down ≡ false }
-    ensures { Executes (texts_result linked.old memory.old texts.now) memory.old
+    ensures { Executes (texts_result linked.old memory.old whole.now) memory.old
         (after_end result linked.new None memory.new) }
 {
-    match read_and_link(alloc, linked, texts) {
-        Ok(prepared) => add(alloc, memory, linked, prepared),
+    match link_package(alloc, linked, whole) {
+        Ok(addition) => add(alloc, memory, linked, whole, addition),
         Err(refusal) => Ok(Err(refusal)),
     }
 }
 
-// Writes a package that is prepared, and adds it to those that are linked.
+// Writes a package that is linked, and adds it to the others.
 fn add<S: WordStore>(
     alloc: Global,
     memory: &mut Memory<S>,
     linked: &mut Linked,
-    prepared: PendingPackage<'_>,
+    whole: &Package,
+    addition: Addition,
 ) -> Result<Result<(), LoadRefusal>, StoreDown>
     requires up { memory.old.heap.down ≡ false }
     requires room { length linked.old.loaded < 32 }
-    ensures { Executes (Either (package_entry linked.old prepared.entry memory.old)
+    ensures { Executes (Either (package_entry linked.old (linked_as whole.now addition)
+        memory.old)
         (with_dropped_load linked.old (LinkFailed NoMemory))) memory.old
         (after_end result linked.new None memory.new) }
 {
     if memory.heap().packages() >= MOST_PACKAGES {
         return Ok(Err(LoadRefusal::Full));
     }
-    let PendingPackage {
-        texts,
-        statics,
-        addition,
-    } = prepared;
-    let Ok(material) = record_contents_of(alloc, texts, statics) else {
-        return Ok(Err(LoadRefusal::LinkFailed(LinkFault::NoMemory)));
-    };
-    match memory.add_package(&material.components, &material.arrays, &material.image) {
+    match record_contents_of(alloc, whole) {
+        Ok(contents) => write_record(memory, linked, &contents, addition),
+        Err(AllocError) => Ok(Err(LoadRefusal::LinkFailed(LinkFault::NoMemory))),
+    }
+}
+
+// Writes a package's record of these contents, and adds the package to those that are linked. No memory is asked for.
+fn write_record<S: WordStore>(
+    memory: &mut Memory<S>,
+    linked: &mut Linked,
+    contents: &RecordContents,
+    addition: Addition,
+) -> Result<Result<(), LoadRefusal>, StoreDown>
+    requires up { memory.old.heap.down ≡ false }
+    requires few { memory.old.heap.now.counts.0 < most_packages }
+    requires room { length linked.old.loaded < 32 }
+    requires components { AreComponents (parts contents.now.components.items) }
+    requires arrays { AreArrays (array_inits contents.now.arrays.items) }
+    requires small { image_size (array_inits contents.now.arrays.items) contents.now.image.items
+        < 65536 }
+    ensures { Executes (record_entry linked.old addition
+        (parts contents.now.components.items) (array_inits contents.now.arrays.items)
+        contents.now.image.items memory.old) memory.old
+        (after_end result linked.new None memory.new) }
+{
+    match memory.add_package(&contents.components, &contents.arrays, &contents.image) {
         Ok(_) => {
             linked.add(addition);
             Ok(Ok(()))

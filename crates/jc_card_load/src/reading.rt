@@ -8,11 +8,11 @@ ghost use Rattle.jc_card_load.specs.Reading.{CannotBeTaken, IsNoPackage, fault_o
 ghost use Rattle.jc_card_load.specs.Reading.{with_prepared};
 ghost use Rattle.jc_card_load.specs.PendingPackages.{linked_components, linked_texts};
 
+use crate::linking::link_package;
 use crate::load::take_in;
 use crate::load_refusal::LoadRefusal;
-use crate::pending_package::read_and_link;
-use jc_cap::assembling::required_components;
-use jc_cap::texts::{LoadedComponents, PackageBytes};
+use jc_cap::assembling::Package;
+use jc_cap::texts::LoadedComponents;
 use jc_cap_linkage::formats::Format;
 use jc_cap_linkage::tags;
 use jc_heap::{Heap, Span};
@@ -153,16 +153,16 @@ fn fault_of(refusal: LoadRefusal) -> RecordFault
     }
 }
 
-// Links the package of these components, and adds it.
-fn link_and_add(alloc: Global, linked: &mut Linked, texts: &PackageBytes) -> Result<(), RecordFault>
+// Links a package, and adds it.
+fn link_and_add(alloc: Global, linked: &mut Linked, whole: &Package) -> Result<(), RecordFault>
     ensures added { OnOk result (with_prepared linked.old
-        (linked_texts linked.old texts.now) ≡ Some linked.new) }
+        (linked_texts linked.old whole.now) ≡ Some linked.new) }
     ensures damaged { result ≡ Err RecordFault.Damaged
-        → with_prepared linked.old (linked_texts linked.old texts.now) ≡ None }
+        → with_prepared linked.old (linked_texts linked.old whole.now) ≡ None }
 {
-    match read_and_link(alloc, linked, texts) {
-        Ok(prepared) => {
-            linked.add(prepared.addition);
+    match link_package(alloc, linked, whole) {
+        Ok(addition) => {
+            linked.add(addition);
             Ok(())
         }
         Err(refusal) => Err(fault_of(refusal)),
@@ -185,8 +185,8 @@ fn add_record<S: WordStore>(
         (load_of (record_of heap.now.now at))) ≡ None }
 {
     let load = load_of(alloc, heap, at)?;
-    match required_components(load) {
-        Ok(texts) => link_and_add(alloc, linked, &texts),
+    match Package::of(load) {
+        Ok(whole) => link_and_add(alloc, linked, &whole),
         Err(_) => Err(RecordFault::Damaged),
     }
 }

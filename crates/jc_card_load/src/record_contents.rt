@@ -7,6 +7,7 @@ ghost use Rattle.jc_heap.specs.Packages.{part as component_part};
 ghost use Rattle.jc_card_load.specs.RecordContents.{AreRecordContents, array_of, kind_of, part, parts_of, statics_of, zeros_of};
 
 use crate::linker_view::info_in;
+use jc_cap::assembling::Package;
 use jc_cap::texts::PackageBytes;
 use jc_cap_code::static_arrays::{ArrayInit, ArrayInits, ElementType};
 use jc_cap_code::statics::StaticFields;
@@ -128,9 +129,8 @@ fn size_of_image(statics: &StaticFields<'_>) -> u16
     statics.image_size
 }
 
-/// What the record of a package is made of, if memory is there: its components' bytes, and its static fields as they
-/// were read.
-pub fn record_contents_of<'a>(
+// What the record of a package is made of: its components' bytes, and its static fields as they were read.
+fn contents_with<'a>(
     alloc: Global,
     texts: &'a PackageBytes,
     statics: StaticFields<'a>,
@@ -149,4 +149,12 @@ pub fn record_contents_of<'a>(
         arrays,
         image,
     })
+}
+
+/// What the record of a package is made of, if memory is there.
+pub fn record_contents_of(alloc: Global, whole: &Package) -> Result<RecordContents<'_>, AllocError>
+    ensures { IfOk result (λ made. AreRecordContents whole.entry.now made) }
+{
+    let contents = whole.contents();
+    contents_with(alloc, whole.texts(), contents.statics)
 }

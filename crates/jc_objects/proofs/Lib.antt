@@ -1,1 +1,3 @@
+mod CellWalk
+mod CellWords
 mod Walked

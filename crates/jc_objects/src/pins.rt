@@ -6,15 +6,13 @@ ghost use Rattle.jc_heap.specs.Image.{table_text};
 ghost use Rattle.jc_platform.specs.Table.{Reads};
 ghost use Rattle.jc_objects.specs.Pins.{AreTriesIn, AreTriesOf, AreTryWords, is_pin, noted};
 ghost use Rattle.jc_card_checks.specs.Objects.{is_persistent_instance};
-ghost use Rattle.jc_objects.specs.declared.pins.ImageFault.TheVariants.{NoMemory};
 
+use crate::image_objects::{ImageFault, platform_of};
 use jc_card_load::reading::{RecordFault, read_packages};
 use jc_heap::{Facts, Heap, Kind};
 use jc_image::OpenImage;
 use jc_linker::linked::Linked;
 use jc_platform::names::PlatformClass;
-use jc_platform::platform::Platform;
-use jc_platform::read::{LARGEST_TEXT, read_table};
 use jc_transient::Ref;
 use jc_words::layout::TEXT_START;
 use jc_words::{MemStore, WordStore};
@@ -22,22 +20,6 @@ use std::alloc::{AllocError, Global};
 
 /// Where an OwnerPIN has the word with the tries that are left: behind a header of four words the third cell.
 const TRIES: u32 = 6;
-
-/// Why nothing is told of an image.
-#[derive(Clone, Copy, Debug, PartialEq, Eq, Drop)]
-pub enum ImageFault {
-    NoMemory,
-    /// The words are no image, or its heap or its packages are damaged.
-    Damaged,
-}
-
-impl From<AllocError> for ImageFault {
-    ghost from_gives = { λ _ fault. fault ≡ NoMemory };
-
-    fn from(_: AllocError) -> Self {
-        ImageFault::NoMemory
-    }
-}
 
 /// The addresses of the words with the tries that are left of the OwnerPINs which stand in an image, once it is recovered.
 pub fn try_words(alloc: Global, words: Vec<u16>) -> Result<Vec<u16>, ImageFault>
@@ -139,38 +121,4 @@ fn is_persistent_instance(facts: Facts) -> bool
     ensures { result ≡ is_persistent_instance facts }
 {
     matches!(facts.kind, Kind::Instance) && facts.event.is_none()
-}
-
-// The platform that the table text of an image tells.
-fn platform_of<S: WordStore>(alloc: Global, image: &OpenImage<S>) -> Result<Platform, ImageFault>
-    ensures { IfOk result (λ t. Reads (table_text image.now.plain) (Ok t)) }
-{
-    let long = usize::from(image.text_length());
-    if long > LARGEST_TEXT || !image.has_text() {
-        return Err(ImageFault::Damaged);
-    }
-    let text = text_of(alloc, image)?;
-    match read_table(text.as_slice()) {
-        Ok(table) => Ok(table.platform()),
-        Err(_) => Err(ImageFault::Damaged),
-    }
-}
-
-// The table text of an image that has its words.
-fn text_of<S: WordStore>(alloc: Global, image: &OpenImage<S>) -> Result<Vec<u8>, AllocError>
-    requires { text_start + (slice_index image.now.plain text_length_address + 1) / 2
-        ≤ length image.now.plain }
-    ensures { IfOk result (λ text. text.items ≡ table_text image.now.plain) }
-{
-    let mut text = zeros(alloc, usize::from(image.text_length()))?;
-    image.read_text(text.as_mut_slice());
-    Ok(text)
-}
-
-// So many zero bytes.
-fn zeros(alloc: Global, count: usize) -> Result<Vec<u8>, AllocError>
-    ensures { IfOk result (λ bytes. length bytes.items ≡ count) }
-{
-    let bytes = vec![in alloc; 0u8; count]?;
-    Ok(bytes)
 }

@@ -69,21 +69,23 @@ pub dump_read : (found : Found) (image : Option Text) → image ≡ first_value 
 dump_read found image i = ap (option_map ToTell) (i ∙ first_value-rows found (codes "image"))
 
 -- those of `tear`
-pub tear_read : (found : Found) (image script probe line each recovery part : Option Text) → image ≡ first_value found (codes "image")
+pub tear_read : (found : Found) (image script probe line each recovery objects part : Option Text) → image ≡ first_value found (codes "image")
     → script ≡ first_value found (codes "script") → probe ≡ first_value found (codes "probe") → line ≡ first_value found (codes "line")
-    → each ≡ first_value found (codes "each") → recovery ≡ first_value found (codes "recovery") → part ≡ first_value found (codes "part")
-    → tear_by image script probe line (is_given each) (depth_of recovery) part ≡ tear_of (rows_of found)
-tear_read found image script probe line each recovery part i s p l e r q =
-    ap₂ (λ (o r : Option Text). tear_by o r probe line (is_given each) (depth_of recovery) part) (i ∙ first_value-rows found (codes "image"))
+    → each ≡ first_value found (codes "each") → recovery ≡ first_value found (codes "recovery") → objects ≡ first_value found (codes "objects")
+    → part ≡ first_value found (codes "part")
+    → tear_by image script probe line (is_given each) (depth_of recovery) (is_given objects) part ≡ tear_of (rows_of found)
+tear_read found image script probe line each recovery objects part i s p l e r b q =
+    ap₂ (λ (o r : Option Text). tear_by o r probe line (is_given each) (depth_of recovery) (is_given objects) part) (i ∙ first_value-rows found (codes "image"))
     (s ∙ first_value-rows found (codes "script"))
     ∙ ap₂ (λ (o r : Option Text). tear_by (first_of (codes "image") (rows_of found)) (first_of (codes "script") (rows_of found)) o r (is_given each)
-    (depth_of recovery) part) (p ∙ first_value-rows found (codes "probe")) (l ∙ first_value-rows found (codes "line"))
+    (depth_of recovery) (is_given objects) part) (p ∙ first_value-rows found (codes "probe")) (l ∙ first_value-rows found (codes "line"))
     ∙ ap₂ (λ (o r : Option Text). tear_by (first_of (codes "image") (rows_of found)) (first_of (codes "script") (rows_of found))
-    (first_of (codes "probe") (rows_of found)) (first_of (codes "line") (rows_of found)) (is_given o) (depth_of r) part)
+    (first_of (codes "probe") (rows_of found)) (first_of (codes "line") (rows_of found)) (is_given o) (depth_of r) (is_given objects) part)
     (e ∙ first_value-rows found (codes "each")) (r ∙ first_value-rows found (codes "recovery"))
-    ∙ ap (λ (o : Option Text). tear_by (first_of (codes "image") (rows_of found)) (first_of (codes "script") (rows_of found))
+    ∙ ap₂ (λ (o r : Option Text). tear_by (first_of (codes "image") (rows_of found)) (first_of (codes "script") (rows_of found))
     (first_of (codes "probe") (rows_of found)) (first_of (codes "line") (rows_of found)) (is_given (first_of (codes "each") (rows_of found)))
-    (depth_of (first_of (codes "recovery") (rows_of found))) o) (q ∙ first_value-rows found (codes "part"))
+    (depth_of (first_of (codes "recovery") (rows_of found))) (is_given o) r) (b ∙ first_value-rows found (codes "objects"))
+    (q ∙ first_value-rows found (codes "part"))
 
 -- those of `try`
 pub try_read : (found : Found) (script table words : Option Text) → script ≡ first_value found (codes "script") → table ≡ first_value found (codes "table")

@@ -1,4 +1,4 @@
--- Plain lines of the command `tear`, which takes two operands, the options `--probe`, `--line`, `--recovery` and `--part`, and the flag `--each`.
+-- Plain lines of the command `tear`, which takes two operands, the options `--probe`, `--line`, `--recovery` and `--part`, and the flags `--each` and `--objects`.
 use Rattle.std.proofs.Common.{◌≡◌, ◌∙◌, ℕ, false, true, List, [], ◌∷◌, Option, Some, None, ap, refl, codes}
 use Rattle.std.specs.Prelude.{fold}
 use Rattle.clap.specs.Words.{Row, Text}
@@ -109,21 +109,21 @@ unfolding clap_on_literals
 line_second image script probe = record { fault = refl; walk = refl }
 
 -- the last word
-operands_last : (image script : Text) → after (at_options image script) [] ≡ Some (ToTear image script None None false Zero None)
+operands_last : (image script : Text) → after (at_options image script) [] ≡ Some (ToTear image script None None false Zero false None)
 unfolding request_after clap_on_literals
 operands_last image script = refl
 
 probe_last : (image script probe : Text)
-    → after (given (operands_read image script) (codes "probe") probe) [] ≡ Some (ToTear image script (Some probe) None false Zero None)
+    → after (given (operands_read image script) (codes "probe") probe) [] ≡ Some (ToTear image script (Some probe) None false Zero false None)
 unfolding request_after clap_on_literals
 probe_last image script probe = refl
 
-line_last : (image script line : Text) → after (given (operands_read image script) (codes "line") line) [] ≡ Some (ToTear image script None (Some line) false Zero None)
+line_last : (image script line : Text) → after (given (operands_read image script) (codes "line") line) [] ≡ Some (ToTear image script None (Some line) false Zero false None)
 unfolding request_after clap_on_literals
 line_last image script line = refl
 
 both_last : (image script probe line : Text) → after (given (read (operands_read image script) (codes "probe") probe) (codes "line") line) []
-    ≡ Some (ToTear image script (Some probe) (Some line) false Zero None)
+    ≡ Some (ToTear image script (Some probe) (Some line) false Zero false None)
 unfolding request_after clap_on_literals
 both_last image script probe line = refl
 
@@ -138,7 +138,7 @@ at_recovery rows [] h = record { fault = refl; walk = refl }
 at_recovery rows (x ∷ xs) h = record { fault = simp (no_hyphen x xs h); walk = simp (no_hyphen x xs h) }
 
 recovery_last : (image script recovery : Text) → after (given (operands_read image script) (codes "recovery") recovery) []
-    ≡ tear_by (Some image) (Some script) None None false (depth_of (Some recovery)) None
+    ≡ tear_by (Some image) (Some script) None None false (depth_of (Some recovery)) false None
 unfolding request_after clap_on_literals
 recovery_last image script recovery = refl
 
@@ -155,12 +155,12 @@ each_second : (image script probe : Text) → Goes (given (operands_read image s
 unfolding clap_on_literals with_each
 each_second image script probe = record { fault = refl; walk = refl }
 
-each_last : (image script : Text) → after (with_each (at_options image script)) [] ≡ Some (ToTear image script None None true Zero None)
+each_last : (image script : Text) → after (with_each (at_options image script)) [] ≡ Some (ToTear image script None None true Zero false None)
 unfolding request_after clap_on_literals with_each
 each_last image script = refl
 
 each_behind_probe : (image script probe : Text)
-    → after (with_each (given (operands_read image script) (codes "probe") probe)) [] ≡ Some (ToTear image script (Some probe) None true Zero None)
+    → after (with_each (given (operands_read image script) (codes "probe") probe)) [] ≡ Some (ToTear image script (Some probe) None true Zero false None)
 unfolding request_after clap_on_literals with_each
 each_behind_probe image script probe = refl
 
@@ -175,9 +175,31 @@ unfolding clap_on_literals
 part_first image script = record { fault = refl; walk = refl }
 
 part_last : (image script part : Text)
-    → after (given (operands_read image script) (codes "part") part) [] ≡ Some (ToTear image script None None false Zero (Some part))
+    → after (given (operands_read image script) (codes "part") part) [] ≡ Some (ToTear image script None None false Zero false (Some part))
 unfolding request_after clap_on_literals
 part_last image script part = refl
+
+-- the flag of objects, after the operands, and after the probe
+with_objects : Walk → Walk
+with_objects w = walked shape.rules [] w (codes "--objects")
+
+objects_first : (image script : Text) → Goes (at_options image script) (codes "--objects") (with_objects (at_options image script))
+unfolding clap_on_literals with_objects
+objects_first image script = record { fault = refl; walk = refl }
+
+objects_second : (image script probe : Text) → Goes (given (operands_read image script) (codes "probe") probe) (codes "--objects")
+    (with_objects (given (operands_read image script) (codes "probe") probe))
+unfolding clap_on_literals with_objects
+objects_second image script probe = record { fault = refl; walk = refl }
+
+objects_last : (image script : Text) → after (with_objects (at_options image script)) [] ≡ Some (ToTear image script None None false Zero true None)
+unfolding request_after clap_on_literals with_objects
+objects_last image script = refl
+
+objects_behind_probe : (image script probe : Text) → after (with_objects (given (operands_read image script) (codes "probe") probe)) []
+    ≡ Some (ToTear image script (Some probe) None false Zero true None)
+unfolding request_after clap_on_literals with_objects
+objects_behind_probe image script probe = refl
 
 -- ---- the lines
 
@@ -215,9 +237,17 @@ tears name image script probe line recovery hi hs hp hl hr = (
       ∙ (step (recovery_first image script) (recovery ∷ [])
       ∙ (step (at_recovery (operands_read image script) recovery hr) []
       ∙ (recovery_last image script recovery
-      ∙ ap (λ d. tear_by (Some image) (Some script) None None false d None) is))),
+      ∙ ap (λ d. tear_by (Some image) (Some script) None None false d false None) is))),
   at_operands name image script (codes "--part" ∷ line ∷ []) hi hs
       ∙ (step (part_first image script) (line ∷ [])
       ∙ (step (at_part (operands_read image script) line hl) []
       ∙ part_last image script line)),
+  at_operands name image script (codes "--objects" ∷ []) hi hs
+      ∙ (step (objects_first image script) []
+      ∙ objects_last image script),
+  at_operands name image script (codes "--probe" ∷ probe ∷ codes "--objects" ∷ []) hi hs
+      ∙ (step (probe_first image script) (probe ∷ codes "--objects" ∷ [])
+      ∙ (step (at_probe (operands_read image script) probe hp) (codes "--objects" ∷ [])
+      ∙ (step (objects_second image script probe) []
+      ∙ objects_behind_probe image script probe))),
 )

@@ -23,9 +23,9 @@ pub data CommandLineRequest : Type 0 where
   -- the script of this name is carried out, on a new card in memory of so many words, with the platform table of this name
   ToTry : Text → Text → Text → CommandLineRequest
   -- a command of the script of the second name is cut, over the words of the image of the first: the last one, or that in the line
-  -- of this number, or each; behind each cut the lines of the probe of this name, if there is one, and so many recoveries that are cut; or
-  -- only the cuts of a part, with no recovery
-  ToTear : Text → Text → Option Text → Option Text → Bool → Depth → Option Text → CommandLineRequest
+  -- of this number, or each; behind each cut the lines of the probe of this name, if there is one, and so many recoveries that are cut, and
+  -- the cells that changed are told or not; or only the cuts of a part, with no recovery
+  ToTear : Text → Text → Option Text → Option Text → Bool → Depth → Bool → Option Text → CommandLineRequest
   -- the rows of the files of these names are answered by new cards in memory, and the report for build servers is written to the file of
   -- this name, if there is one
   ToTest : List Text → Option Text → CommandLineRequest
@@ -68,13 +68,13 @@ dump_grammar = with_rule (new_app (codes "dump")) (operand (codes "image"))
 abbrev pub try_grammar : App
 try_grammar = with_rule (with_rule (with_rule (new_app (codes "try")) (operand (codes "script"))) (given_option (codes "table"))) (free_option (codes "words"))
 
--- `tear IMAGE SCRIPT [--probe FILE] [--line N | --each] [--recovery D | --part I/N]`
+-- `tear IMAGE SCRIPT [--probe FILE] [--line N | --each] [--recovery D | --part I/N] [--objects]`
 abbrev pub tear_choices : App
 tear_choices = with_rule (with_rule (with_rule (with_rule (with_rule (new_app (codes "tear")) (operand (codes "image"))) (operand (codes "script")))
     (free_option (codes "probe"))) (free_option (codes "line"))) (flag (codes "each"))
 
 abbrev pub tear_grammar : App
-tear_grammar = with_rule (with_rule tear_choices (free_option (codes "recovery"))) (free_option (codes "part"))
+tear_grammar = with_rule (with_rule (with_rule tear_choices (free_option (codes "recovery"))) (free_option (codes "part"))) (flag (codes "objects"))
 
 -- `test FILE.. [--junit FILE]`
 abbrev pub test_grammar : App
@@ -126,20 +126,21 @@ depth_of (Some text) = if bytes_eq text (codes "0") then Some Zero
     else (if bytes_eq text (codes "3") then Some Three else None)))
 
 -- what `tear` asks for a part of a command's cuts, or for all: a part has no recoveries
-abbrev pub cuts_by : Text → Text → Option Text → Option Text → Depth → Option Text → Option CommandLineRequest
-cuts_by image script probe line depth None = Some (ToTear image script probe line false depth None)
-cuts_by image script probe line Zero (Some part) = Some (ToTear image script probe line false Zero (Some part))
-cuts_by image script probe line One (Some part) = None
-cuts_by image script probe line Two (Some part) = None
-cuts_by image script probe line Three (Some part) = None
+abbrev pub cuts_by : Text → Text → Option Text → Option Text → Depth → Bool → Option Text → Option CommandLineRequest
+cuts_by image script probe line depth objects None = Some (ToTear image script probe line false depth objects None)
+cuts_by image script probe line Zero objects (Some part) = Some (ToTear image script probe line false Zero objects (Some part))
+cuts_by image script probe line One objects (Some part) = None
+cuts_by image script probe line Two objects (Some part) = None
+cuts_by image script probe line Three objects (Some part) = None
 
--- what it asks for, with these operands and options; a line or a part and each command together are nothing
-abbrev pub tear_by : Option Text → Option Text → Option Text → Option Text → Bool → Option Depth → Option Text → Option CommandLineRequest
-tear_by (Some image) (Some script) probe line false (Some depth) part = cuts_by image script probe line depth part
-tear_by (Some image) (Some script) probe None true (Some depth) None = Some (ToTear image script probe None true depth None)
-tear_by (Some image) (Some script) probe None true (Some depth) (Some part) = None
-tear_by (Some image) (Some script) probe (Some line) true (Some depth) part = None
-tear_by image script probe line each depth part = None
+-- what it asks for, with these operands and options; a line, objects or a part and each command together are nothing
+abbrev pub tear_by : Option Text → Option Text → Option Text → Option Text → Bool → Option Depth → Bool → Option Text → Option CommandLineRequest
+tear_by (Some image) (Some script) probe line false (Some depth) objects part = cuts_by image script probe line depth objects part
+tear_by (Some image) (Some script) probe None true (Some depth) false None = Some (ToTear image script probe None true depth false None)
+tear_by (Some image) (Some script) probe None true (Some depth) true None = None
+tear_by (Some image) (Some script) probe None true (Some depth) objects (Some part) = None
+tear_by (Some image) (Some script) probe (Some line) true (Some depth) objects part = None
+tear_by image script probe line each depth objects part = None
 
 -- the same, with these values of all operands and options
 abbrev pub new_of : List Row → Option CommandLineRequest
@@ -153,7 +154,8 @@ try_of rows = try_by (first_of (codes "script") rows) (first_of (codes "table") 
 
 abbrev pub tear_of : List Row → Option CommandLineRequest
 tear_of rows = tear_by (first_of (codes "image") rows) (first_of (codes "script") rows) (first_of (codes "probe") rows) (first_of (codes "line") rows)
-    (is_given (first_of (codes "each") rows)) (depth_of (first_of (codes "recovery") rows)) (first_of (codes "part") rows)
+    (is_given (first_of (codes "each") rows)) (depth_of (first_of (codes "recovery") rows)) (is_given (first_of (codes "objects") rows))
+    (first_of (codes "part") rows)
 
 abbrev pub test_of : List Row → Option CommandLineRequest
 test_of rows = test_by (all_of (codes "file") rows) (first_of (codes "junit") rows)
@@ -210,20 +212,24 @@ TakesTries = (name script words table : Text) → IsNoFlag script → IsNoFlag w
 
 -- `NAME tear IMAGE SCRIPT` asks to cut the last command of exactly this script over this image; with `--probe FILE`, `--line N` or both,
 -- in this order, with this probe, and the command in this line; with `--each`, behind a probe or without one, each command; with
--- `--recovery D`, where D is a number from 0 to 3, with so many recoveries cut; with `--part I/N`, in this part
+-- `--recovery D`, where D is a number from 0 to 3, with so many recoveries cut; with `--part I/N`, in this part; with `--objects`, behind a
+-- probe or without one, telling the cells that changed
 abbrev pub TakesTears : Type 0
 TakesTears = (name image script probe line recovery : Text) → IsNoFlag image → IsNoFlag script → IsNoFlag probe → IsNoFlag line → IsNoFlag recovery
-    → (request_of_words (name ∷ codes "tear" ∷ image ∷ script ∷ []) ≡ Some (ToTear image script None None false Zero None))
-    × (request_of_words (name ∷ codes "tear" ∷ image ∷ script ∷ codes "--probe" ∷ probe ∷ []) ≡ Some (ToTear image script (Some probe) None false Zero None))
-    × (request_of_words (name ∷ codes "tear" ∷ image ∷ script ∷ codes "--line" ∷ line ∷ []) ≡ Some (ToTear image script None (Some line) false Zero None))
+    → (request_of_words (name ∷ codes "tear" ∷ image ∷ script ∷ []) ≡ Some (ToTear image script None None false Zero false None))
+    × (request_of_words (name ∷ codes "tear" ∷ image ∷ script ∷ codes "--probe" ∷ probe ∷ []) ≡ Some (ToTear image script (Some probe) None false Zero false None))
+    × (request_of_words (name ∷ codes "tear" ∷ image ∷ script ∷ codes "--line" ∷ line ∷ []) ≡ Some (ToTear image script None (Some line) false Zero false None))
     × (request_of_words (name ∷ codes "tear" ∷ image ∷ script ∷ codes "--probe" ∷ probe ∷ codes "--line" ∷ line ∷ [])
-    ≡ Some (ToTear image script (Some probe) (Some line) false Zero None))
-    × (request_of_words (name ∷ codes "tear" ∷ image ∷ script ∷ codes "--each" ∷ []) ≡ Some (ToTear image script None None true Zero None))
+    ≡ Some (ToTear image script (Some probe) (Some line) false Zero false None))
+    × (request_of_words (name ∷ codes "tear" ∷ image ∷ script ∷ codes "--each" ∷ []) ≡ Some (ToTear image script None None true Zero false None))
     × (request_of_words (name ∷ codes "tear" ∷ image ∷ script ∷ codes "--probe" ∷ probe ∷ codes "--each" ∷ [])
-    ≡ Some (ToTear image script (Some probe) None true Zero None))
+    ≡ Some (ToTear image script (Some probe) None true Zero false None))
     × ((depth : Depth) → depth_of (Some recovery) ≡ Some depth
-    → request_of_words (name ∷ codes "tear" ∷ image ∷ script ∷ codes "--recovery" ∷ recovery ∷ []) ≡ Some (ToTear image script None None false depth None))
-    × (request_of_words (name ∷ codes "tear" ∷ image ∷ script ∷ codes "--part" ∷ line ∷ []) ≡ Some (ToTear image script None None false Zero (Some line)))
+    → request_of_words (name ∷ codes "tear" ∷ image ∷ script ∷ codes "--recovery" ∷ recovery ∷ []) ≡ Some (ToTear image script None None false depth false None))
+    × (request_of_words (name ∷ codes "tear" ∷ image ∷ script ∷ codes "--part" ∷ line ∷ []) ≡ Some (ToTear image script None None false Zero false (Some line)))
+    × (request_of_words (name ∷ codes "tear" ∷ image ∷ script ∷ codes "--objects" ∷ []) ≡ Some (ToTear image script None None false Zero true None))
+    × (request_of_words (name ∷ codes "tear" ∷ image ∷ script ∷ codes "--probe" ∷ probe ∷ codes "--objects" ∷ [])
+    ≡ Some (ToTear image script (Some probe) None false Zero true None))
 
 -- `NAME test FILE..` asks to answer the rows of exactly these files, in this order; with `--junit REPORT` behind them, with a report of
 -- this name
@@ -265,8 +271,8 @@ request_by (New image words table) = ToMake image.now words.now table.now
 request_by (Run image script) = ToRun image.now script.now
 request_by (Dump image) = ToTell image.now
 request_by (Try script words table) = ToTry script.now words.now table.now
-request_by (Tear image script probe line each depth part) = ToTear image.now script.now (option_map (λ (t : Bor Text). t.now) probe)
-    (option_map (λ (t : Bor Text). t.now) line) each depth (option_map (λ (t : Bor Text). t.now) part)
+request_by (Tear image script probe line each depth objects part) = ToTear image.now script.now (option_map (λ (t : Bor Text). t.now) probe)
+    (option_map (λ (t : Bor Text). t.now) line) each depth objects (option_map (λ (t : Bor Text). t.now) part)
 request_by (Test files junit) = ToTest (map (λ (t : Bor Text). t.now) files.items) (option_map (λ (t : Bor Text). t.now) junit)
 
 -- the action is the one that is asked for; the command line is bad only where nothing is; else memory was refused

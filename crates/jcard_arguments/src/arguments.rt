@@ -42,7 +42,8 @@ pub enum Action<'a> {
     },
     /// A command of the script is cut after each number of its writes, over copies of the words of the image: the last one, or that in
     /// the line of this number, or each. Behind each cut come the lines of the probe of this name, if there is one, and
-    /// so many recoveries that are cut. With a part, only the cuts of that part are done, and no recovery is cut.
+    /// so many recoveries that are cut; with objects, the cells that changed are told. With a part, only the cuts of that part are
+    /// done, and no recovery is cut.
     Tear {
         image: &'a str,
         script: &'a str,
@@ -50,6 +51,7 @@ pub enum Action<'a> {
         line: Option<&'a str>,
         each: bool,
         depth: Depth,
+        objects: bool,
         part: Option<&'a str>,
     },
     /// The rows of the files of these names are answered by new cards in memory. The report for build servers is written to the file of
@@ -167,13 +169,14 @@ fn try_command<'a>(alloc: Global) -> Result<Command<'a>, AllocError>
         .arg(free_option(alloc, "words"))
 }
 
-// `tear IMAGE SCRIPT [--probe FILE] [--line N | --each] [--recovery D | --part I/N]`.
+// `tear IMAGE SCRIPT [--probe FILE] [--line N | --each] [--recovery D | --part I/N] [--objects]`.
 fn tear_command<'a>(alloc: Global) -> Result<Command<'a>, AllocError>
     ensures { IfOk result (λ c. app_of c ≡ tear_grammar) }
 {
     tear_choices(alloc)?
         .arg(free_option(alloc, "recovery"))?
-        .arg(free_option(alloc, "part"))
+        .arg(free_option(alloc, "part"))?
+        .arg(flag(alloc, "objects"))
 }
 
 // Its operands, what is asked behind a cut, and which commands are cut.
@@ -329,11 +332,14 @@ fn tear_asked<'a>(operands: &ArgMatches<'a>) -> Option<Action<'a>>
     let each = is_given(given);
     let recovery = operands.get_str("recovery");
     let depth = depth_of(recovery);
+    let told = operands.get_str("objects");
+    let objects = is_given(told);
     let part = operands.get_str("part");
-    tear_action(image, script, probe, line, each, depth, part)
+    tear_action(image, script, probe, line, each, depth, objects, part)
 }
 
-// A command is cut, or each: not both. Behind it not more than three recoveries are, and none in a part.
+// A command is cut, or each: not both, and of each no objects are told. Behind it not more than three recoveries are, and none in
+// a part.
 fn tear_action<'a>(
     image: &'a str,
     script: &'a str,
@@ -341,15 +347,16 @@ fn tear_action<'a>(
     line: Option<&'a str>,
     each: bool,
     depth: Option<Depth>,
+    objects: bool,
     part: Option<&'a str>,
 ) -> Option<Action<'a>>
     ensures { option_map request_by result ≡ tear_by (Some image.now) (Some script.now)
         (option_map (λ (text : Bor (List ℕ)). text.now) probe.entry)
-        (option_map (λ (text : Bor (List ℕ)). text.now) line.entry) each depth
+        (option_map (λ (text : Bor (List ℕ)). text.now) line.entry) each depth objects
         (option_map (λ (text : Bor (List ℕ)). text.now) part.entry) }
 {
     let depth = depth?;
-    if each && line.is_some() {
+    if each && (line.is_some() || objects) {
         return None;
     }
     if part.is_some() && (each || depth != Depth::Zero) {
@@ -362,6 +369,7 @@ fn tear_action<'a>(
         line,
         each,
         depth,
+        objects,
         part,
     })
 }

@@ -21,7 +21,8 @@ IsDone (Some (ToMake image words table)) ended text deeds = IsNew image words ta
 IsDone (Some (ToRun image script)) ended text deeds = IsRun image script ended text deeds
 IsDone (Some (ToTell image)) ended text deeds = IsDump image ended text deeds
 IsDone (Some (ToTry script words table)) ended text deeds = IsTrial script words table ended text deeds
-IsDone (Some (ToTear image script probe line each depth part)) ended text deeds = IsTear image script line each depth part probe ended text deeds
+IsDone (Some (ToTear image script probe line each depth objects part)) ended text deeds = IsTear image script line each
+    (record { depth = depth; objects = objects }) part probe ended text deeds
 IsDone (Some (ToTest names junit)) ended text deeds = IsTest names junit ended text deeds
 
 -- memory was refused before anything was done, or what the words are taken for was done

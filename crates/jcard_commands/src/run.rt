@@ -25,6 +25,7 @@ use jcard_script::std_text::StdText;
 use jcard_script::streams::{TextIn, TextOut};
 use jcard_sweeps::joining::join_files;
 use jcard_sweeps::tearing::{Asked, tear_image};
+use jcard_tear::cuts::Behind;
 use jcard_tests::testing::test_files;
 use std::alloc::Global;
 
@@ -112,6 +113,7 @@ fn act<'n, D: Disk, W: TextOut>(
             line,
             each,
             depth,
+            objects,
             part,
         } => tear_image(
             disk,
@@ -121,7 +123,7 @@ fn act<'n, D: Disk, W: TextOut>(
                 probe,
                 line,
                 each,
-                depth,
+                behind: Behind { depth, objects },
                 part,
             },
             out,

@@ -9,7 +9,7 @@ use Rattle.jcard_faults.specs.declared.fault.Fault.{Fault}
 use Rattle.jcard_faults.specs.declared.fault.Fault.TheVariants.{BadCommandLine, NoMemory, BadWords, BadTable, ImageTooSmall, CannotRead, CannotOpenToWrite}
 use Rattle.jcard_faults.specs.declared.fault.Fault.TheVariants.{CannotWrite, ImageInUse, BadImage, BadCommand, ScriptTooLong, WriteFailed}
 use Rattle.jcard_faults.specs.declared.fault.Fault.TheVariants.{Down, NoCommand, TooManyCuts, NotAllOrNothing, CannotInclude, RowsFailed}
-use Rattle.jcard_faults.specs.declared.fault.Fault.TheVariants.{BadCut, BadPart, CutMissing, CutTwice, OtherSweep}
+use Rattle.jcard_faults.specs.declared.fault.Fault.TheVariants.{BadCut, BadPart, CutMissing, CutTwice, OtherPart, OtherSweep}
 
 -- the exit status
 abbrev pub status_of : Result Unit Fault → ℕ
@@ -38,6 +38,7 @@ status_of (Err (CutMissing k)) = 1
 status_of (Err (CutTwice k)) = 1
 status_of (Err (BadCut k)) = 1
 status_of (Err (OtherSweep k)) = 1
+status_of (Err (OtherPart path)) = 1
 
 -- the number of the check that finds a damage
 abbrev pub check_of : Damage → ℕ
@@ -47,6 +48,10 @@ check_of Size = 3
 check_of Log = 4
 check_of Table = 5
 check_of Package = 6
+
+-- the line that tells that the file of this name cannot be read
+abbrev pub unread_text : List ℕ → List ℕ
+unread_text path = codes "jcard: cannot read " ++ path ++ codes "\n"
 
 -- the line that tells that a file cannot be read that this line of a file includes
 abbrev pub unincluded_text : List ℕ → ℕ → List ℕ
@@ -63,8 +68,8 @@ line_of NoMemory = codes "jcard: no memory\n"
 line_of BadWords = codes "jcard: words must be 4096 to 65535\n"
 line_of (BadTable line) = codes "jcard: bad table line " ++ decimal line ++ codes "\n"
 line_of ImageTooSmall = codes "jcard: image too small\n"
-line_of (CannotRead path) = codes "jcard: cannot read " ++ path.now ++ codes "\n"
-line_of (CannotOpenToWrite path) = codes "jcard: cannot read " ++ path.now ++ codes "\n"
+line_of (CannotRead path) = unread_text path.now
+line_of (CannotOpenToWrite path) = unread_text path.now
 line_of (CannotWrite path) = codes "jcard: cannot write " ++ path.now ++ codes "\n"
 line_of ImageInUse = codes "jcard: image in use\n"
 line_of (BadImage damage) = codes "jcard: bad image " ++ decimal (check_of damage) ++ codes "\n"
@@ -82,6 +87,7 @@ line_of (CutMissing k) = cut_line k (codes " is missing\n")
 line_of (CutTwice k) = cut_line k (codes " stands twice\n")
 line_of (BadCut k) = cut_line k (codes " is told in no known form\n")
 line_of (OtherSweep k) = cut_line k (codes " is of another sweep\n")
+line_of (OtherPart path) = codes "jcard: " ++ path.now ++ codes " is of another sweep\n"
 
 -- whether a write of what was asked for failed
 abbrev pub is_unwritten : Result Unit Fault → Bool

@@ -3,7 +3,7 @@ ghost use Rattle.std.specs.Prelude.{◌≡◌, ℕ, List, Bool, is_err, MatchRes
 ghost use Rattle.std.specs.Io.KnownBytes.{Appends};
 ghost use Rattle.jcard_script.specs.Texts.{AppendsCut};
 ghost use Rattle.jc_words.specs.Count.{failures_after};
-ghost use Rattle.jcard_faults.specs.Faults.{check_of, cut_line, status_of, line_of, unincluded_text, IsLastLine};
+ghost use Rattle.jcard_faults.specs.Faults.{check_of, cut_line, status_of, line_of, unincluded_text, unread_text, IsLastLine};
 
 use itoa::Buffer;
 use jcard_script::streams::{TextOut, WriteFailed, write_all, write_parts};
@@ -76,6 +76,8 @@ pub enum Fault<'a> {
     BadCut(usize),
     /// A part tells of this cut in another sweep.
     OtherSweep(usize),
+    /// The text of this file is no part of the sweep of which the first file is one.
+    OtherPart(&'a str),
 }
 
 /// Writes the last line, if there is a fault that has one, and answers the exit status: 0, 2 for
@@ -117,9 +119,8 @@ fn write_line<W: TextOut>(fault: Fault, out: &mut W) -> Result<(), WriteFailed>
             b"\n",
         ),
         Fault::ImageTooSmall => write_all(out, b"jcard: image too small\n"),
-        Fault::CannotRead(path) | Fault::CannotOpenToWrite(path) => {
-            write_parts(out, b"jcard: cannot read ", path.as_bytes(), b"\n")
-        }
+        Fault::CannotRead(path) => write_unread(path, out),
+        Fault::CannotOpenToWrite(path) => write_unread(path, out),
         Fault::CannotWrite(path) => {
             write_parts(out, b"jcard: cannot write ", path.as_bytes(), b"\n")
         }
@@ -146,8 +147,24 @@ fn write_line<W: TextOut>(fault: Fault, out: &mut W) -> Result<(), WriteFailed>
         Fault::CutTwice(k) => write_cut(out, k, b" stands twice\n"),
         Fault::BadCut(k) => write_cut(out, k, b" is told in no known form\n"),
         Fault::OtherSweep(k) => write_cut(out, k, b" is of another sweep\n"),
+        Fault::OtherPart(path) => write_parts(
+            out,
+            b"jcard: ",
+            path.as_bytes(),
+            b" is of another sweep\n",
+        ),
         Fault::WriteFailed | Fault::NotAllOrNothing | Fault::RowsFailed => Ok(()),
     }
+}
+
+// Writes that the file of this name cannot be read.
+fn write_unread<W: TextOut>(path: &str, out: &mut W) -> Result<(), WriteFailed>
+    ensures text { MatchResult result
+        (λ _. Appends (W.contents out.old) (W.contents out.new) (unread_text path.now))
+        (λ _. AppendsCut (W.contents out.old) (W.contents out.new) (unread_text path.now)) }
+    ensures count { W.failures out.new ≡ failures_after (W.failures out.old) (is_err result) }
+{
+    write_parts(out, b"jcard: cannot read ", path.as_bytes(), b"\n")
 }
 
 // Writes that a file cannot be read that the line of this number in the file of this name includes.

@@ -4,7 +4,7 @@ use Rattle.std.specs.Prelude.{map, is_none, IfOk, MatchResult}
 use Rattle.std.specs.List.{All}
 use Rattle.std.proofs.lemmas.List.{length-append, length-map}
 use Rattle.std.proofs.lemmas.List.Elements.{All-append, All-cons, All-head, All-nil, All-replicate, All-tail}
-use Rattle.jcard_outcomes.specs.Joins.{AreJoined, AreOrdered, ArePartsOf, AreTold, IsJoinOf, IsJoinOfCuts, IsTellable, TellCuts, joined_text}
+use Rattle.jcard_outcomes.specs.Joins.{AreJoined, AreOrdered, AreBodiesOf, AreTold, IsJoinOf, IsJoinOfCuts, IsTellable, TellCuts, joined_text}
 use Rattle.jcard_outcomes.specs.Parts.{AreDealt, IsOfWords, has, told_cut, told_sweep, told_uncut}
 use Rattle.jcard_outcomes.specs.Reports.{first_broken, in_line, report_text}
 use Rattle.jcard_outcomes.specs.declared.join.JoinFault.{JoinFault}
@@ -84,7 +84,7 @@ plain_uncut answer answers h =
     lacks_both 10 (answer ++ codes ": " ++ in_line answers) (codes "as after")
     (lacks_both 10 (answer ++ codes ": ") (in_line answers) (lacks_both 10 answer (codes ": ") h refl) (in_line_has_none answers)) refl
 
-pub parts_ordered : (s : Sweep) (texts : List (List ℕ)) → 0 < length texts → IsTellable s → ArePartsOf s texts
+pub parts_ordered : (s : Sweep) (texts : List (List ℕ)) → 0 < length texts → IsTellable s → AreBodiesOf s texts
     → AreOrdered texts (told_sweep (length texts) s.cuts.items (told_uncut s.answer.items s.after.answers.items))
 parts_ordered s texts some tellable parts =
     let u = told_uncut s.answer.items s.after.answers.items in (
@@ -106,7 +106,7 @@ of_lines n texts lines (Ok j) e o h = (
 of_lines n texts lines (Err f) e o h = tt
 
 pub of_parts : (n : ℕ) (texts lines : List (List ℕ)) (r : Result Joined JoinFault) → n ≡ length texts → 0 < length texts
-    → ((all : List (List ℕ)) → AreOrdered texts all → lines ≡ all) → IsJoinOf n lines r → (s : Sweep) → IsTellable s → ArePartsOf s texts
+    → ((all : List (List ℕ)) → AreOrdered texts all → lines ≡ all) → IsJoinOf n lines r → (s : Sweep) → IsTellable s → AreBodiesOf s texts
     → MatchResult r (λ j. (j.text.items ≡ report_text s) × (j.is_all_or_nothing ≡ is_none (first_broken 0 s.cuts.items))) (λ f. f ≡ NoMemory)
 of_parts n texts lines r e some same h s tellable parts =
     h.whole s tellable (same _ (parts_ordered s texts some tellable parts)

@@ -16,3 +16,4 @@ pub mod CutLines
 pub mod LineReads
 pub mod Shares
 pub mod JoinEnds
+pub mod PartHeads

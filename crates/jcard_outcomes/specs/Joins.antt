@@ -2,7 +2,7 @@
 use Rattle.std.specs.Prelude.{ℕ, ◌≡◌, ◌+◌, ◌*◌, ◌%◌, ◌<◌, false, List, [], ◌∷◌, ◌++◌, All, map, length, codes, is_none, Option, Some, None, Result, Ok, Err, slice_get, slice_set, IfOk, MatchResult}
 use Rattle.std.specs.List.{slice_index_or}
 use Rattle.std.specs.Borrow.{Bor}
-use Rattle.jcard_outcomes.specs.Parts.{AreDealt, IsOfWords, has, line_text, part_text, told_cut, told_sweep, told_uncut}
+use Rattle.jcard_outcomes.specs.Parts.{AreDealt, IsOfWords, body_text, has, line_text, part_text, told_cut, told_sweep, told_uncut}
 use Rattle.jcard_outcomes.specs.Reports.{first_broken, report_text, rows_text, standing_text, verdict_text}
 use Rattle.jcard_outcomes.specs.declared.join.JoinFault.{JoinFault}
 use Rattle.jcard_outcomes.specs.declared.join.JoinFault.TheVariants.{Missing, NoMemory, Twice}
@@ -57,7 +57,7 @@ AreTold cuts uncut n lines = (0 < n) × (lines ≡ told_sweep n cuts uncut) × I
 abbrev pub joined_text : List Cut → List ℕ → List ℕ
 joined_text cuts uncut = rows_text cuts ++ uncut ++ codes "\n" ++ verdict_text cuts
 
--- the texts tell a sweep, in parts, and this is its report
+-- these texts, which have no heads, tell a sweep in parts, and this is its report
 abbrev pub AreJoined : List (List ℕ) → Joined → Type 0
 AreJoined texts joined = (cuts : List Cut) × (uncut : List ℕ) × AreDealt texts (told_sweep (length texts) cuts uncut) × IsUncutTold uncut
     × (joined.text.items ≡ joined_text cuts uncut) × (joined.is_all_or_nothing ≡ is_none (first_broken 0 cuts))
@@ -94,6 +94,11 @@ pub record IsPartOf (s : Sweep) (n first : ℕ) (p : Part) : Type 0 where
   pub answers : p.sweep.after.answers.items ≡ s.after.answers.items
   pub cuts : IsEvery first n s.cuts.items p.sweep.cuts.items
 
--- the texts are those of all parts of a sweep, from the first on
-abbrev pub ArePartsOf : Sweep → List (List ℕ) → Type 0
-ArePartsOf s texts = (j : ℕ) → j < length texts → (p : Part) × IsPartOf s (length texts) j p × (slice_index_or texts j [] ≡ part_text p)
+-- the texts are those of all parts of a sweep without their heads, from the first on
+abbrev pub AreBodiesOf : Sweep → List (List ℕ) → Type 0
+AreBodiesOf s texts = (j : ℕ) → j < length texts → (p : Part) × IsPartOf s (length texts) j p × (slice_index_or texts j [] ≡ body_text p)
+
+-- the texts are those of all parts of a sweep with this name, from the first on
+abbrev pub ArePartsOf : Sweep → List ℕ → List (List ℕ) → Type 0
+ArePartsOf s name texts = (j : ℕ) → j < length texts
+    → (p : Part) × IsPartOf s (length texts) j p × (p.name.items ≡ name) × (slice_index_or texts j [] ≡ part_text p)

@@ -4,3 +4,4 @@ pub mod Recoveries
 pub mod Reports
 pub mod Parts
 pub mod Joins
+pub mod SweepHeads

@@ -36,9 +36,17 @@ unfoldable pub lines_text : ℕ → ℕ → List Cut → List ℕ → List ℕ
 lines_text k n [] uncut = line_text k uncut
 lines_text k n (c ∷ cuts) uncut = line_text k (told_cut c) ++ lines_text (k + n) n cuts uncut
 
--- what a part tells
-abbrev pub part_text : Part → List ℕ
-part_text p = lines_text p.first p.step p.sweep.cuts.items (told_uncut p.sweep.answer.items p.sweep.after.answers.items)
+-- the head of a part's text, which names its sweep
+abbrev pub head_text : List ℕ → List ℕ
+head_text name = codes "sweep " ++ (name ++ codes "\n")
+
+-- what a part tells behind its head
+abbrev pub body_text : Part → List ℕ
+body_text p = lines_text p.first p.step p.sweep.cuts.items (told_uncut p.sweep.answer.items p.sweep.after.answers.items)
+
+-- what a part tells: of which sweep it is, and its lines
+unfoldable pub part_text : Part → List ℕ
+part_text p = head_text p.name.items ++ body_text p
 
 -- ---- all parts
 

@@ -2,7 +2,7 @@
 ghost use Rattle.std.specs.Prelude.{◌≡◌, ◌++◌, ◌∷◌, ◌<◌, ◌≤◌, ◌↔◌, [], ℕ, List, All, map, drop, replicate, false, length, slice_index_or, is_none, IsTrue, IfOk, IfErr, OnOk, MatchOption, MatchResult};
 ghost use Rattle.std.specs.Bool.{MatchBool};
 ghost use Rattle.std.specs.Borrow.{Bor};
-ghost use Rattle.jcard_outcomes.specs.Joins.{AreJoined, AreOrdered, ArePartsOf, AreTold, IsHeadFault, IsJoinOf, IsJoinOfCuts, IsNextLine, IsTellable, IsUncutTold, TellCuts, joined_text};
+ghost use Rattle.jcard_outcomes.specs.Joins.{AreJoined, AreOrdered, AreBodiesOf, AreTold, IsHeadFault, IsJoinOf, IsJoinOfCuts, IsNextLine, IsTellable, IsUncutTold, TellCuts, joined_text};
 ghost use Rattle.jcard_outcomes.specs.Parts.{has, line_start, told_cut};
 ghost use Rattle.jcard_outcomes.specs.Reports.{first_broken, report_text};
 ghost use Rattle.jcard_outcomes.specs.declared.join.JoinFault.TheVariants.{NoMemory};
@@ -37,12 +37,13 @@ pub enum JoinFault {
     OtherSweep(usize),
 }
 
-/// Joins the texts of all parts of a sweep, from the first part on, to what one run tells of it.
-pub fn join(alloc: Global, texts: &[Vec<u8>]) -> Result<Joined, JoinFault>
+/// Joins what the texts of all parts of a sweep tell behind their heads, from the first part on, to what one run tells of it.
+pub fn join(alloc: Global, texts: &[&[u8]]) -> Result<Joined, JoinFault>
     requires { 0 < length texts.now }
-    ensures joined { IfOk result (λ joined. AreJoined (map (λ t. t.items) texts.now) joined) }
+    ensures joined { IfOk result (λ joined. AreJoined
+        (map (λ (t : Bor (List ℕ)). t.now) texts.now) joined) }
     ensures parts { (sweep : ASweep) → IsTellable sweep
-        → ArePartsOf sweep (map (λ t. t.items) texts.now) → MatchResult result (λ joined. (joined.text.items ≡ report_text sweep)
+        → AreBodiesOf sweep (map (λ (t : Bor (List ℕ)). t.now) texts.now) → MatchResult result (λ joined. (joined.text.items ≡ report_text sweep)
         × (joined.is_all_or_nothing ≡ is_none (first_broken 0 sweep.cuts.items)))
         (λ fault. fault ≡ JoinFault.NoMemory) }
 {
@@ -95,15 +96,15 @@ fn joined_report(alloc: Global, cuts: &[Cut], uncut: &[u8]) -> Result<Joined, Jo
 }
 
 // What the lines of all parts tell, in the order of their numbers.
-fn ordered<'a>(alloc: Global, texts: &'a [Vec<u8>]) -> Result<Vec<&'a [u8]>, JoinFault>
+fn ordered<'a>(alloc: Global, texts: &[&'a [u8]]) -> Result<Vec<&'a [u8]>, JoinFault>
     requires { 0 < length texts.now }
-    ensures read { IfOk result (λ lines. AreOrdered (map (λ t. t.items) texts.now)
+    ensures read { IfOk result (λ lines. AreOrdered (map (λ (t : Bor (List ℕ)). t.now) texts.now)
         (map (λ (t : Bor (List ℕ)). t.now) lines.items)) }
-    ensures whole { (lines : List (List ℕ)) → AreOrdered (map (λ t. t.items) texts.now) lines
+    ensures whole { (lines : List (List ℕ)) → AreOrdered (map (λ (t : Bor (List ℕ)). t.now) texts.now) lines
         → MatchResult result (λ r. map (λ (t : Bor (List ℕ)). t.now) r.items ≡ lines)
         (λ fault. fault ≡ JoinFault.NoMemory) }
 {
-    let mut rests = lent(alloc, texts)?;
+    let mut rests = Vec::from_slice(alloc, texts)?;
     let mut lines = Vec::new(alloc);
     for number in 0..usize::MAX {
         match next_line(alloc, &mut rests, number) {
@@ -130,19 +131,6 @@ fn ended<'a>(
         return Ok(lines);
     }
     Err(JoinFault::Missing(number))
-}
-
-// The texts, lent.
-fn lent<'a>(alloc: Global, texts: &'a [Vec<u8>]) -> Result<Vec<&'a [u8]>, JoinFault>
-    ensures lent { IfOk result (λ rests. map (λ (t : Bor (List ℕ)). t.now) rests.items
-        ≡ map (λ t. t.items) texts.now) }
-    ensures refused { IfErr result (λ fault. fault ≡ JoinFault.NoMemory) }
-{
-    let mut rests = Vec::new(alloc);
-    for text in texts {
-        push_told(&mut rests, text.as_slice())?;
-    }
-    Ok(rests)
 }
 
 fn push_told<'a>(lines: &mut Vec<&'a [u8]>, told: &'a [u8]) -> Result<(), JoinFault>

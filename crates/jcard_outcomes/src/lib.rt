@@ -11,4 +11,5 @@ pub mod recoveries;
 pub mod report;
 pub mod rows;
 pub mod standing;
+pub mod sweep_head;
 pub mod verdict;

@@ -1,6 +1,6 @@
 //! The text of a part of a sweep, with a line for each of its cuts.
 ghost use Rattle.std.specs.Prelude.{◌≡◌, ◌++◌, ◌+◌, ◌*◌, ◌<◌, ◌^◌, codes, length, IfOk, MatchOption, OnOk};
-ghost use Rattle.jcard_outcomes.specs.Parts.{IsShareText, line_start, line_text, lines_text, part_text, told_cut, told_uncut};
+ghost use Rattle.jcard_outcomes.specs.Parts.{IsShareText, head_text, line_start, line_text, lines_text, part_text, told_cut, told_uncut};
 ghost use Rattle.jcard_outcomes.specs.declared.part.Share.{Share as AShare};
 
 use crate::line::{cut_once, word_of};
@@ -15,6 +15,8 @@ use std::alloc::{AllocError, Global};
 pub struct Part {
     pub first: usize,
     pub step: usize,
+    /// The name of the sweep, without a line feed.
+    pub name: Vec<u8>,
     pub sweep: Sweep,
 }
 
@@ -51,16 +53,27 @@ pub fn share_of(text: &[u8]) -> Option<Share>
     })
 }
 
-/// The lines that tell what the cuts of a part left, and where they end.
+/// The lines that tell of which sweep a part is, what its cuts left, and where they end.
+#[tactic(auto, unfolding(crate::specs::Parts::part_text))]
 pub fn part_lines(alloc: Global, part: &Part) -> Result<Vec<u8>, AllocError>
     requires { part.now.first + part.now.step * length part.now.sweep.cuts.items < 2 ^ 64 }
     ensures { IfOk result (λ text. text.items ≡ part_text part.now) }
 {
     let sweep = &part.sweep;
     let mut text = Vec::new(alloc);
+    push_head(&mut text, &part.name)?;
     let uncut = uncut_told(alloc, &sweep.answer, &sweep.after.answers)?;
     push_lines(alloc, &mut text, part.first, part.step, &sweep.cuts, &uncut)?;
     Ok(text)
+}
+
+// Writes the head of the text of a part.
+fn push_head(text: &mut Vec<u8>, name: &[u8]) -> Result<(), AllocError>
+    ensures { OnOk result (text.new.items ≡ text.old.items ++ head_text name.now) }
+{
+    text.extend_from_slice(b"sweep ")?;
+    text.extend_from_slice(name)?;
+    text.extend_from_slice(b"\n")
 }
 
 // Writes the lines of these cuts, and of the number that does not cut.

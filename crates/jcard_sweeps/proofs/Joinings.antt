@@ -4,16 +4,20 @@ use Rattle.std.specs.Option.{is_none}
 use Rattle.std.specs.Prelude.{if◌then◌else◌, is_err, is_ok}
 use Rattle.std.proofs.lemmas.Bool.{true≢false}
 use Rattle.std.proofs.lemmas.List.{map-append, take-append-drop, take_more}
-use Rattle.jcard_outcomes.specs.Joins.{AreJoined, ArePartsOf, IsTellable}
+use Rattle.jcard_outcomes.specs.Joins.{AreBodiesOf, AreJoined, ArePartsOf, IsTellable}
 use Rattle.jcard_outcomes.specs.Recoveries.{first_difference}
 use Rattle.jcard_outcomes.specs.Reports.{first_broken, report_text}
 use Rattle.jcard_outcomes.specs.declared.join.JoinFault.{JoinFault}
 use Rattle.jcard_outcomes.specs.declared.join.JoinFault.TheVariants as joining
 use Rattle.jcard_outcomes.specs.declared.join.Joined.{Joined}
 use Rattle.jcard_outcomes.specs.declared.report.Sweep.{Sweep}
+use Rattle.jcard_outcomes.specs.SweepHeads.{AreBehindHeads, AreOfOthers}
+use Rattle.jcard_outcomes.specs.declared.sweep_head.HeadFault.{HeadFault}
+use Rattle.jcard_outcomes.specs.declared.sweep_head.HeadFault.TheVariants as heading
+use Rattle.jcard_outcomes.proofs.PartHeads.{bodies_of_parts, parts_of_one}
 use Rattle.jcard_script.specs.Texts.{IsCutOf}
 use Rattle.jcard_files.specs.FileDeeds.{FileDeed}
-use Rattle.jcard_sweeps.specs.Joinings.{AreFirstRead, AreRead, AreUnread, IsJoinTold, IsJoinedTo, IsJoining, told_join_fault}
+use Rattle.jcard_sweeps.specs.Joinings.{AreBodiesJoinedTo, AreFirstRead, AreRead, AreUnread, IsJoinTold, IsJoinedTo, IsJoining, IsOtherTold, told_join_fault}
 use Rattle.jcard_files.specs.Readings.{IsUnread, IsScriptRead}
 use Rattle.jcard_sweeps.specs.Tears.{IsReported}
 use Rattle.jcard_faults.specs.declared.fault.Fault.{Fault}
@@ -52,8 +56,8 @@ reported s j (Err other) text e f none h = absurd h
 
 -- the report was told
 pub joined_told : (texts : List (List ℕ)) (j : Joined) (ended : Result (Unit {0}) Fault) (text : List ℕ) → AreJoined texts j
-    → ((s : Sweep) → IsTellable s → ArePartsOf s texts
-    → (j.text.items ≡ report_text s) × (j.is_all_or_nothing ≡ is_none (first_broken 0 s.cuts.items))) → IsJoinTold j ended text → IsJoinedTo texts ended text
+    → ((s : Sweep) → IsTellable s → AreBodiesOf s texts
+    → (j.text.items ≡ report_text s) × (j.is_all_or_nothing ≡ is_none (first_broken 0 s.cuts.items))) → IsJoinTold j ended text → AreBodiesJoinedTo texts ended text
 joined_told texts j ended text joined parts told = record {
   joined = inl (j, joined, told);
   whole = λ s tellable h. let of = parts s tellable h in inl (reported s j ended text of.0 of.1 tellable.3 told);
@@ -61,11 +65,30 @@ joined_told texts j ended text joined parts told = record {
 
 -- the texts were not joined
 pub unjoined : (texts : List (List ℕ)) (cause : JoinFault) (fault : Fault) → fault ≡ told_join_fault cause
-    → ((s : Sweep) → IsTellable s → ArePartsOf s texts → cause ≡ joining.NoMemory) → IsJoinedTo texts (Err fault) []
+    → ((s : Sweep) → IsTellable s → AreBodiesOf s texts → cause ≡ joining.NoMemory) → AreBodiesJoinedTo texts (Err fault) []
 unjoined texts cause fault e none = record {
   joined = inr (cause, ap Err e, refl);
   whole = λ s tellable h. inr (ap Err (e ∙ ap told_join_fault (none s tellable h)), refl);
 }
+
+-- the bodies were joined
+pub heads_joined : (names texts bodies : List (List ℕ)) (name : List ℕ) (ended : Result (Unit {0}) Fault) (text : List ℕ) → AreBehindHeads name texts bodies
+    → AreBodiesJoinedTo bodies ended text → IsJoinedTo names texts ended text
+heads_joined names texts bodies name ended text behind told = record {
+  joined = inl (name, bodies, behind, told);
+  whole = λ s own plain tellable parts. told.whole s tellable (bodies_of_parts s own name texts bodies plain parts behind);
+}
+
+-- the texts are not of one sweep
+pub others_told : (names texts : List (List ℕ)) (cause : HeadFault) (fault : Fault) → 0 < length texts → AreOfOthers texts cause → IsOtherTold names cause fault
+    → IsJoinedTo names texts (Err fault) []
+others_told names texts cause fault some others told = record {
+  joined = inr (cause, fault, others, told, refl, refl);
+  whole = λ s own plain tellable parts. inr (ap Err (refused cause fault (parts_of_one s own texts cause some plain parts others) told), refl);
+}
+  where
+    refused : (cause : HeadFault) (fault : Fault) → cause ≡ heading.NoMemory → IsOtherTold names cause fault → fault ≡ NoMemory
+    refused cause fault e told = subst (λ c. IsOtherTold names c fault) e told
 
 -- as many texts were read as there are names
 pub read_lengths : (names texts : List (List ℕ)) (deeds : List FileDeed) → AreRead names texts deeds → length names ≡ length texts

@@ -1,6 +1,12 @@
 -- `jcard tear --join`: what is read, and what is told.
 use Rattle.std.specs.Prelude.{ℕ, ◌≡◌, ◌⊎◌, true, false, List, [], ◌∷◌, ◌++◌, Result, Ok, Err}
-use Rattle.jcard_outcomes.specs.Joins.{AreJoined, ArePartsOf, IsTellable}
+use Rattle.std.specs.Borrow.{Bor}
+use Rattle.std.specs.List.{slice_index_or}
+use Rattle.jcard_outcomes.specs.Joins.{AreBodiesOf, AreJoined, ArePartsOf, IsTellable}
+use Rattle.jcard_outcomes.specs.Parts.{has}
+use Rattle.jcard_outcomes.specs.SweepHeads.{AreBehindHeads, AreOfOthers}
+use Rattle.jcard_outcomes.specs.declared.sweep_head.HeadFault.{HeadFault}
+use Rattle.jcard_outcomes.specs.declared.sweep_head.HeadFault.TheVariants as heading
 use Rattle.jcard_outcomes.specs.declared.join.JoinFault.{JoinFault}
 use Rattle.jcard_outcomes.specs.declared.join.JoinFault.TheVariants as joining
 use Rattle.jcard_outcomes.specs.declared.join.Joined.{Joined}
@@ -10,7 +16,7 @@ use Rattle.jcard_files.specs.FileDeeds.{FileDeed}
 use Rattle.jcard_files.specs.Readings.{IsUnread, IsScriptRead}
 use Rattle.jcard_sweeps.specs.Tears.{IsReported}
 use Rattle.jcard_faults.specs.declared.fault.Fault.{Fault}
-use Rattle.jcard_faults.specs.declared.fault.Fault.TheVariants.{BadCut, CutMissing, CutTwice, NoMemory, NotAllOrNothing, OtherSweep, WriteFailed}
+use Rattle.jcard_faults.specs.declared.fault.Fault.TheVariants.{BadCut, CutMissing, CutTwice, NoMemory, NotAllOrNothing, OtherPart, OtherSweep, WriteFailed}
 
 -- these texts were read from the files of these names, in their order
 abbrev pub AreRead : List (List ℕ) → List (List ℕ) → List FileDeed → Type 0
@@ -43,14 +49,27 @@ IsJoinTold j (Err NotAllOrNothing) text = (text ≡ j.text.items) × (j.is_all_o
 IsJoinTold j (Err WriteFailed) text = IsCutOf j.text.items text
 IsJoinTold j (Err other) text = ⊥
 
--- the texts were joined to a report; or they are not the parts of a sweep, or memory was refused. The parts of a sweep are joined to
+-- texts without heads were joined to a report; or they are not the parts of a sweep, or memory was refused. The parts of a sweep are joined to
 -- what is told of it, or memory was refused
-pub record IsJoinedTo (texts : List (List ℕ)) (ended : Result Unit Fault) (text : List ℕ) : Type 0 where
+pub record AreBodiesJoinedTo (texts : List (List ℕ)) (ended : Result Unit Fault) (text : List ℕ) : Type 0 where
   pub joined : ((j : Joined) × AreJoined texts j × IsJoinTold j ended text) ⊎ ((cause : JoinFault) × (ended ≡ Err (told_join_fault cause)) × (text ≡ []))
-  pub whole : (s : Sweep) → IsTellable s → ArePartsOf s texts → IsReported s ended text ⊎ ((ended ≡ Err NoMemory) × (text ≡ []))
+  pub whole : (s : Sweep) → IsTellable s → AreBodiesOf s texts → IsReported s ended text ⊎ ((ended ≡ Err NoMemory) × (text ≡ []))
+
+-- the text of one of the files of these names is of another sweep than that of the first: the file is told; or memory was refused
+abbrev pub IsOtherTold : List (List ℕ) → HeadFault → Fault → Type 0
+IsOtherTold names heading.NoMemory fault = fault ≡ NoMemory
+IsOtherTold names (heading.OtherSweep j) fault = (path : Bor (List ℕ)) × (fault ≡ OtherPart path) × (path.now ≡ slice_index_or names j [])
+
+-- what the texts of the files of these names tell behind their heads was joined; or they are not of one sweep. The parts of a sweep are joined
+-- to what is told of it, or memory was refused
+pub record IsJoinedTo (names texts : List (List ℕ)) (ended : Result Unit Fault) (text : List ℕ) : Type 0 where
+  pub joined : ((name : List ℕ) × (bodies : List (List ℕ)) × AreBehindHeads name texts bodies × AreBodiesJoinedTo bodies ended text)
+      ⊎ ((cause : HeadFault) × (fault : Fault) × AreOfOthers texts cause × IsOtherTold names cause fault × (ended ≡ Err fault) × (text ≡ []))
+  pub whole : (s : Sweep) (name : List ℕ) → has 10 name ≡ false → IsTellable s → ArePartsOf s name texts
+      → IsReported s ended text ⊎ ((ended ≡ Err NoMemory) × (text ≡ []))
 
 -- the files were read, and joined; or they were read up to one that could not be, or up to one for whose text memory was refused
 abbrev pub IsJoining : List (List ℕ) → Result Unit Fault → List ℕ → List FileDeed → Type 0
 IsJoining names ended text deeds = ((fault : Fault) × (ended ≡ Err fault) × (text ≡ []) × AreUnread names fault deeds)
     ⊎ ((ended ≡ Err NoMemory) × (text ≡ []) × AreFirstRead names deeds)
-    ⊎ ((texts : List (List ℕ)) × AreRead names texts deeds × IsJoinedTo texts ended text)
+    ⊎ ((texts : List (List ℕ)) × AreRead names texts deeds × IsJoinedTo names texts ended text)

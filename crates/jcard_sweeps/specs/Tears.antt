@@ -2,7 +2,6 @@
 use Rattle.std.specs.Prelude.{ℕ, ◌≡◌, ◌⊎◌, ◌<◌, Bool, false, true, All, map, List, [], ◌∷◌, ◌++◌, Option, Some, None, Result, Ok, Err}
 use Rattle.jcard_outcomes.specs.Reports.{are_whole, report_text, verdicts_text}
 use Rattle.jcard_outcomes.specs.Parts.{IsShareText, part_text}
-use Rattle.jcard_outcomes.specs.declared.recoveries.Depth.{Depth}
 use Rattle.jcard_outcomes.specs.declared.each.LineSweep.{LineSweep}
 use Rattle.jcard_outcomes.specs.declared.part.Part.{Part}
 use Rattle.jcard_outcomes.specs.declared.part.Share.{Share}
@@ -12,6 +11,7 @@ use Rattle.jcard_tear.specs.Parts.{IsLinePart}
 use Rattle.std.specs.Str.Parse.{IsNumeral, digits_value}
 use Rattle.jcard_tear.specs.ScriptLines.{Line, chosen, commands_of, line_of}
 use Rattle.jcard_tear.specs.Sweeps.{AreSwept, IsLineSwept}
+use Rattle.jcard_tear.specs.declared.cuts.Behind.{Behind}
 use Rattle.jcard_tear.specs.declared.script_lines.ScriptLine.{ScriptLine}
 use Rattle.jcard_files.specs.Readings.{IsScriptRead, IsUnread}
 use Rattle.jcard_files.specs.FileDeeds.{FileDeed, ClosesImage, ReadsImage, untouched}
@@ -65,13 +65,13 @@ abbrev pub EndsUncut : Result Unit Fault → List ℕ → Type 0
 EndsUncut ended text = (fault : Fault) × (ended ≡ Err fault) × IsUncut fault × (text ≡ [])
 
 -- the command in this line was cut after each number of its writes, on cards of copies of these words, with these lines of a probe, if
--- any, and so many recoveries cut behind each, and that was told; or it could not be
-abbrev pub IsTornOne : List ℕ → Line → Depth → Option (List ℕ) → Result Unit Fault → List ℕ → Type 0
-IsTornOne w l depth given ended text = ((s : Sweep) × IsLineSwept w given depth l s × IsReported s ended text) ⊎ EndsUncut ended text
+-- any, and this behind each, and that was told; or it could not be
+abbrev pub IsTornOne : List ℕ → Line → Behind → Option (List ℕ) → Result Unit Fault → List ℕ → Type 0
+IsTornOne w l behind given ended text = ((s : Sweep) × IsLineSwept w given behind l s × IsReported s ended text) ⊎ EndsUncut ended text
 
 -- each command in these lines was cut so, and the verdicts were told; or one could not be
-abbrev pub IsTornEach : List ℕ → List Line → Depth → Option (List ℕ) → Result Unit Fault → List ℕ → Type 0
-IsTornEach w lines depth given ended text = ((sweeps : List LineSweep) × AreSwept w given depth lines sweeps × AreReported sweeps ended text) ⊎ EndsUncut ended text
+abbrev pub IsTornEach : List ℕ → List Line → Behind → Option (List ℕ) → Result Unit Fault → List ℕ → Type 0
+IsTornEach w lines behind given ended text = ((sweeps : List LineSweep) × AreSwept w given behind lines sweeps × AreReported sweeps ended text) ⊎ EndsUncut ended text
 
 -- ---- the probe
 
@@ -100,20 +100,20 @@ IsPartTold p (Err other) text = ⊥
 
 -- the command in this line was cut in this part, on cards of copies of these words, with these lines of a probe, if any, and that was
 -- told; or it could not be
-abbrev pub IsTornShare : List ℕ → Line → Share → Option (List ℕ) → Result Unit Fault → List ℕ → Type 0
-IsTornShare w l share given ended text = ((p : Part) × IsLinePart w given l share.first share.step p × IsPartTold p ended text) ⊎ EndsUncut ended text
+abbrev pub IsTornShare : List ℕ → Line → Bool → Share → Option (List ℕ) → Result Unit Fault → List ℕ → Type 0
+IsTornShare w l objects share given ended text = ((p : Part) × IsLinePart w given objects l share.first share.step p × IsPartTold p ended text) ⊎ EndsUncut ended text
 
 -- it was cut in the part that this text names; or the text names none
-abbrev pub IsTornPart : List ℕ → Line → List ℕ → Option (List ℕ) → Result Unit Fault → List ℕ → List FileDeed → Type 0
-IsTornPart w l part probe ended text deeds = ((ended ≡ Err BadPart) × ((share : Share) → IsShareText part share → ⊥) × (text ≡ []) × (deeds ≡ []))
-    ⊎ ((share : Share) × IsShareText part share × IsProbed (IsTornShare w l share) probe ended text deeds)
+abbrev pub IsTornPart : List ℕ → Line → Bool → List ℕ → Option (List ℕ) → Result Unit Fault → List ℕ → List FileDeed → Type 0
+IsTornPart w l objects part probe ended text deeds = ((ended ≡ Err BadPart) × ((share : Share) → IsShareText part share → ⊥) × (text ≡ []) × (deeds ≡ []))
+    ⊎ ((share : Share) × IsShareText part share × IsProbed (IsTornShare w l objects share) probe ended text deeds)
 
 -- ---- scripts
 
 -- a command was cut whole, or in the part of this name
-abbrev pub IsTornIf : List ℕ → Line → Depth → Option (List ℕ) → Option (List ℕ) → Result Unit Fault → List ℕ → List FileDeed → Type 0
-IsTornIf w l depth None probe ended text deeds = IsProbed (IsTornOne w l depth) probe ended text deeds
-IsTornIf w l depth (Some part) probe ended text deeds = IsTornPart w l part probe ended text deeds
+abbrev pub IsTornIf : List ℕ → Line → Behind → Option (List ℕ) → Option (List ℕ) → Result Unit Fault → List ℕ → List FileDeed → Type 0
+IsTornIf w l behind None probe ended text deeds = IsProbed (IsTornOne w l behind) probe ended text deeds
+IsTornIf w l behind (Some part) probe ended text deeds = IsTornPart w l behind.objects part probe ended text deeds
 
 -- the text tells a number in decimal digits, if it is not too large; 0 is no number of a line
 pub record IsLineNumber (text : List ℕ) (n : ℕ) : Type 0 where
@@ -126,29 +126,29 @@ IsMeantBy None number = number ≡ None
 IsMeantBy (Some text) number = (n : ℕ) × (number ≡ Some n) × IsLineNumber text n
 
 -- the one of these commands that is meant was cut, or each
-abbrev pub AreTornBy : List ℕ → List ScriptLine → Option (List ℕ) → Bool → Depth → Option (List ℕ) → Option (List ℕ) → Result Unit Fault → List ℕ → List FileDeed → Type 0
-AreTornBy w all line false depth part probe ended text deeds = (number : Option ℕ) × (found : ScriptLine) × IsMeantBy line number
-    × (chosen number all ≡ Some found) × IsTornIf w (line_of found) depth part probe ended text deeds
-AreTornBy w all line true depth part probe ended text deeds = IsProbed (IsTornEach w (map line_of all) depth) probe ended text deeds
+abbrev pub AreTornBy : List ℕ → List ScriptLine → Option (List ℕ) → Bool → Behind → Option (List ℕ) → Option (List ℕ) → Result Unit Fault → List ℕ → List FileDeed → Type 0
+AreTornBy w all line false behind part probe ended text deeds = (number : Option ℕ) × (found : ScriptLine) × IsMeantBy line number
+    × (chosen number all ≡ Some found) × IsTornIf w (line_of found) behind part probe ended text deeds
+AreTornBy w all line true behind part probe ended text deeds = IsProbed (IsTornEach w (map line_of all) behind) probe ended text deeds
 
 -- so they were, or none is meant
-abbrev pub AreTornOf : List ℕ → List ScriptLine → Option (List ℕ) → Bool → Depth → Option (List ℕ) → Option (List ℕ) → Result Unit Fault → List ℕ → List FileDeed → Type 0
-AreTornOf w all line each depth part probe ended text deeds = ((number : Option ℕ) × IsMeantBy line number × (chosen number all ≡ None)
-    × (ended ≡ Err NoCommand) × (text ≡ []) × (deeds ≡ [])) ⊎ AreTornBy w all line each depth part probe ended text deeds
+abbrev pub AreTornOf : List ℕ → List ScriptLine → Option (List ℕ) → Bool → Behind → Option (List ℕ) → Option (List ℕ) → Result Unit Fault → List ℕ → List FileDeed → Type 0
+AreTornOf w all line each behind part probe ended text deeds = ((number : Option ℕ) × IsMeantBy line number × (chosen number all ≡ None)
+    × (ended ≡ Err NoCommand) × (text ≡ []) × (deeds ≡ [])) ⊎ AreTornBy w all line each behind part probe ended text deeds
 
 -- the commands of this script that are meant were cut; or memory was refused for them
-abbrev pub IsTornIn : List ℕ → List ℕ → Option (List ℕ) → Bool → Depth → Option (List ℕ) → Option (List ℕ) → Result Unit Fault → List ℕ → List FileDeed → Type 0
-IsTornIn w script line each depth part probe ended text deeds = ((ended ≡ Err NoMemory) × (text ≡ []) × (deeds ≡ []))
-    ⊎ ((all : List ScriptLine) × (map line_of all ≡ commands_of script) × AreTornOf w all line each depth part probe ended text deeds)
+abbrev pub IsTornIn : List ℕ → List ℕ → Option (List ℕ) → Bool → Behind → Option (List ℕ) → Option (List ℕ) → Result Unit Fault → List ℕ → List FileDeed → Type 0
+IsTornIn w script line each behind part probe ended text deeds = ((ended ≡ Err NoMemory) × (text ≡ []) × (deeds ≡ []))
+    ⊎ ((all : List ScriptLine) × (map line_of all ≡ commands_of script) × AreTornOf w all line each behind part probe ended text deeds)
 
 -- the script was read, and of its commands those that are meant were cut
-abbrev pub IsTearOver : List ℕ → List ℕ → Option (List ℕ) → Bool → Depth → Option (List ℕ) → Option (List ℕ) → Result Unit Fault → List ℕ → List FileDeed → Type 0
-IsTearOver w script line each depth part probe ended text deeds = ((fault : Fault) × (ended ≡ Err fault) × (text ≡ []) × IsUnread script fault deeds)
+abbrev pub IsTearOver : List ℕ → List ℕ → Option (List ℕ) → Bool → Behind → Option (List ℕ) → Option (List ℕ) → Result Unit Fault → List ℕ → List FileDeed → Type 0
+IsTearOver w script line each behind part probe ended text deeds = ((fault : Fault) × (ended ≡ Err fault) × (text ≡ []) × IsUnread script fault deeds)
     ⊎ ((s : List ℕ) × (opened more : List FileDeed) × IsScriptRead script s opened × (deeds ≡ opened ++ more)
-    × IsTornIn w s line each depth part probe ended text more)
+    × IsTornIn w s line each behind part probe ended text more)
 
 -- the words of the image were read, and then commands of the script were cut, on cards in memory alone
-abbrev pub IsTear : List ℕ → List ℕ → Option (List ℕ) → Bool → Depth → Option (List ℕ) → Option (List ℕ) → Result Unit Fault → List ℕ → List FileDeed → Type 0
-IsTear image script line each depth part probe ended text deeds = ((fault : Fault) × (ended ≡ Err fault) × (text ≡ []) × IsImageUnread image fault deeds)
+abbrev pub IsTear : List ℕ → List ℕ → Option (List ℕ) → Bool → Behind → Option (List ℕ) → Option (List ℕ) → Result Unit Fault → List ℕ → List FileDeed → Type 0
+IsTear image script line each behind part probe ended text deeds = ((fault : Fault) × (ended ≡ Err fault) × (text ≡ []) × IsImageUnread image fault deeds)
     ⊎ ((w : List ℕ) × (opened more : List FileDeed) × IsImageRead image w opened × (deeds ≡ opened ++ more)
-    × IsTearOver w script line each depth part probe ended text more)
+    × IsTearOver w script line each behind part probe ended text more)

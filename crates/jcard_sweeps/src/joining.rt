@@ -1,16 +1,19 @@
 //! `jcard tear --join`: joining the texts of all parts of a sweep.
 ghost use Rattle.std.specs.Prelude.{◌≡◌, ◌⊎◌, ◌<◌, ◌++◌, ◌∷◌, [], ℕ, List, Err, MatchResult, IfErr, map, false, length};
+ghost use Rattle.std.specs.Borrow.{Bor};
 ghost use Rattle.std.specs.Io.KnownBytes.{Appends};
 ghost use Rattle.std.specs.String.{string_bytes};
 ghost use Rattle.jc_words.specs.Count.{failures_after};
 ghost use Rattle.jcard_faults.specs.Faults.{is_unwritten};
 ghost use Rattle.jcard_files.specs.FileDeeds.{FileDeed};
-ghost use Rattle.jcard_sweeps.specs.Joinings.{AreFirstRead, AreRead, AreUnread, IsJoinTold, IsJoinedTo, IsJoining, told_join_fault};
+ghost use Rattle.jcard_outcomes.specs.SweepHeads.{AreOfOthers};
+ghost use Rattle.jcard_sweeps.specs.Joinings.{AreBodiesJoinedTo, AreFirstRead, AreRead, AreUnread, IsJoinTold, IsJoinedTo, IsJoining, IsOtherTold, told_join_fault};
 
 use jcard_faults::fault::Fault;
 use jcard_files::disk::Disk;
 use jcard_files::reading::script_of;
 use jcard_outcomes::join::{JoinFault, Joined, join};
+use jcard_outcomes::sweep_head::{HeadFault, bodies_of};
 use jcard_script::streams::{TextOut, write_all};
 use std::alloc::Global;
 
@@ -29,7 +32,7 @@ pub fn join_files<'n, D: Disk, W: TextOut>(
         (is_unwritten result) }
 {
     match texts_of(disk, files) {
-        Ok(texts) => join_texts(disk.alloc(), &texts, out),
+        Ok(texts) => join_texts(disk.alloc(), files, &texts, out),
         Err(fault) => Err(fault),
     }
 }
@@ -55,15 +58,44 @@ fn texts_of<'n, D: Disk>(disk: &mut D, files: &'n [String]) -> Result<Vec<Vec<u8
     Ok(texts)
 }
 
-// Joins these texts, and writes the report.
+// Joins the texts of the files of these names, and writes the report.
 fn join_texts<'n, W: TextOut>(
     alloc: Global,
+    files: &'n [String],
     texts: &[Vec<u8>],
     out: &mut W,
 ) -> Result<(), Fault<'n>>
+    requires some { 0 < length texts.now }
+    requires all { length files.now ≡ length texts.now }
+    ensures done { (text : List ℕ) × Appends (W.contents out.old) (W.contents out.new) text
+        × IsJoinedTo (map string_bytes files.now) (map (λ t. t.items) texts.now) result text }
+    ensures writes { W.failures out.new ≡ failures_after (W.failures out.old)
+        (is_unwritten result) }
+{
+    match bodies_of(alloc, texts) {
+        Ok(bodies) => join_bodies(alloc, &bodies, out),
+        Err(cause) => Err(head_fault(files, texts, cause)),
+    }
+}
+
+// What it means that the texts of these files are not of one sweep.
+fn head_fault<'n>(files: &'n [String], texts: &[Vec<u8>], cause: HeadFault) -> Fault<'n>
+    requires all { length files.now ≡ length texts.now }
+    requires others { AreOfOthers (map (λ t. t.items) texts.now) cause }
+    ensures told { IsOtherTold (map string_bytes files.now) cause result }
+    ensures unwritten { is_unwritten (Err result) ≡ false }
+{
+    match cause {
+        HeadFault::NoMemory => Fault::NoMemory,
+        HeadFault::OtherSweep(place) => Fault::OtherPart(files[place].as_str()),
+    }
+}
+
+// Joins these texts, which have no heads, and writes the report.
+fn join_bodies<'n, W: TextOut>(alloc: Global, texts: &[&[u8]], out: &mut W) -> Result<(), Fault<'n>>
     requires { 0 < length texts.now }
     ensures done { (text : List ℕ) × Appends (W.contents out.old) (W.contents out.new) text
-        × IsJoinedTo (map (λ t. t.items) texts.now) result text }
+        × AreBodiesJoinedTo (map (λ (t : Bor (List ℕ)). t.now) texts.now) result text }
     ensures writes { W.failures out.new ≡ failures_after (W.failures out.old)
         (is_unwritten result) }
 {

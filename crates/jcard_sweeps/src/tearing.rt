@@ -19,11 +19,11 @@ use jcard_files::disk::Disk;
 use jcard_files::reading::script_of;
 use jcard_outcomes::each::{LineSweep, are_all_or_nothing, verdicts};
 use jcard_outcomes::part::{Part, Share, part_lines, share_of};
-use jcard_outcomes::recoveries::Depth;
 use jcard_outcomes::report::{Sweep, report};
 use jcard_outcomes::verdict::is_all_or_nothing;
 use jcard_script::script::ScriptFault;
 use jcard_script::streams::{TextOut, write_all};
+use jcard_tear::cuts::Behind;
 use jcard_tear::each::{tear_each, tear_line};
 use jcard_tear::parts::tear_line_part;
 use jcard_tear::runs::copied;
@@ -32,14 +32,14 @@ use jcard_tear::tearing::TearFault;
 use std::alloc::{AllocError, Global};
 
 /// What is torn of an image: the names of a script and perhaps of a probe, the command in the line of a number, the last
-/// command, or each, and how many recoveries are cut behind each cut.
+/// command, or each, and what comes behind each cut.
 #[derive(Clone, Copy, Debug, PartialEq, Eq, Drop)]
 pub struct Asked<'a> {
     pub script: &'a str,
     pub probe: Option<&'a str>,
     pub line: Option<&'a str>,
     pub each: bool,
-    pub depth: Depth,
+    pub behind: Behind,
     pub part: Option<&'a str>,
 }
 
@@ -54,7 +54,7 @@ pub fn tear_image<'n, D: Disk, W: TextOut>(
     ensures done { (text : List ℕ) × (deeds : List FileDeed)
         × Appends (W.contents out.old) (W.contents out.new) text
         × IsTear image.now asked.entry.script.now
-        (option_map (λ (name : Bor (List ℕ)). name.now) asked.entry.line) asked.entry.each asked.entry.depth
+        (option_map (λ (name : Bor (List ℕ)). name.now) asked.entry.line) asked.entry.each asked.entry.behind
         (option_map (λ (name : Bor (List ℕ)). name.now) asked.entry.part)
         (option_map (λ (name : Bor (List ℕ)). name.now) asked.entry.probe) result text deeds
         × D.does disk.old deeds disk.new }
@@ -79,7 +79,7 @@ fn tear_over<'n, D: Disk, W: TextOut>(
     ensures done { (text : List ℕ) × (deeds : List FileDeed)
         × Appends (W.contents out.old) (W.contents out.new) text
         × IsTearOver words.now asked.entry.script.now
-        (option_map (λ (name : Bor (List ℕ)). name.now) asked.entry.line) asked.entry.each asked.entry.depth
+        (option_map (λ (name : Bor (List ℕ)). name.now) asked.entry.line) asked.entry.each asked.entry.behind
         (option_map (λ (name : Bor (List ℕ)). name.now) asked.entry.part)
         (option_map (λ (name : Bor (List ℕ)). name.now) asked.entry.probe) result text deeds
         × D.does disk.old deeds disk.new }
@@ -115,7 +115,7 @@ fn tear_in<'n, D: Disk, W: TextOut>(
     ensures done { (text : List ℕ) × (deeds : List FileDeed)
         × Appends (W.contents out.old) (W.contents out.new) text
         × IsTornIn words.now script.now
-        (option_map (λ (name : Bor (List ℕ)). name.now) asked.entry.line) asked.entry.each asked.entry.depth
+        (option_map (λ (name : Bor (List ℕ)). name.now) asked.entry.line) asked.entry.each asked.entry.behind
         (option_map (λ (name : Bor (List ℕ)). name.now) asked.entry.part)
         (option_map (λ (name : Bor (List ℕ)). name.now) asked.entry.probe) result text deeds
         × D.does disk.old deeds disk.new }
@@ -141,7 +141,7 @@ fn tear_meant<'n, D: Disk, W: TextOut>(
     ensures done { (text : List ℕ) × (deeds : List FileDeed)
         × Appends (W.contents out.old) (W.contents out.new) text
         × AreTornOf words.now commands.now
-        (option_map (λ (name : Bor (List ℕ)). name.now) asked.entry.line) asked.entry.each asked.entry.depth
+        (option_map (λ (name : Bor (List ℕ)). name.now) asked.entry.line) asked.entry.each asked.entry.behind
         (option_map (λ (name : Bor (List ℕ)). name.now) asked.entry.part)
         (option_map (λ (name : Bor (List ℕ)). name.now) asked.entry.probe) result text deeds
         × D.does disk.old deeds disk.new }
@@ -155,7 +155,7 @@ fn tear_meant<'n, D: Disk, W: TextOut>(
         return tear_all(disk, names, words, commands, asked, out);
     }
     if let Some(part) = asked.part {
-        return tear_part(disk, names, words, found, part, asked.probe, out);
+        return tear_part(disk, names, words, found, part, asked, out);
     }
     tear_one(disk, names, words, found, asked, out)
 }
@@ -167,14 +167,14 @@ fn tear_part<'n, D: Disk, W: TextOut>(
     words: &[u16],
     found: ScriptLine,
     part: &str,
-    probe: Option<&'n str>,
+    asked: Asked<'n>,
     out: &mut W,
 ) -> Result<(), Fault<'n>>
     requires { length words.now < 65536 }
     ensures done { (text : List ℕ) × (deeds : List FileDeed)
         × Appends (W.contents out.old) (W.contents out.new) text
-        × IsTornPart words.now (line_of found.entry) part.now
-        (option_map (λ (name : Bor (List ℕ)). name.now) probe.entry) result text deeds
+        × IsTornPart words.now (line_of found.entry) asked.entry.behind.objects part.now
+        (option_map (λ (name : Bor (List ℕ)). name.now) asked.entry.probe) result text deeds
         × D.does disk.old deeds disk.new }
     ensures writes { W.failures out.new ≡ failures_after (W.failures out.old)
         (is_unwritten result) }
@@ -182,8 +182,17 @@ fn tear_part<'n, D: Disk, W: TextOut>(
     let Some(share) = share_of(part.as_bytes()) else {
         return Err(Fault::BadPart);
     };
-    match probe_of(disk, probe) {
-        Ok(probe) => cut_part(disk.alloc(), names, words, found, share, lent(&probe), out),
+    match probe_of(disk, asked.probe) {
+        Ok(probe) => cut_part(
+            disk.alloc(),
+            names,
+            words,
+            found,
+            lent(&probe),
+            asked.behind.objects,
+            share,
+            out,
+        ),
         Err(fault) => Err(fault),
     }
 }
@@ -200,7 +209,7 @@ fn tear_one<'n, D: Disk, W: TextOut>(
     requires { length words.now < 65536 }
     ensures done { (text : List ℕ) × (deeds : List FileDeed)
         × Appends (W.contents out.old) (W.contents out.new) text
-        × IsProbed (IsTornOne words.now (line_of found.entry) asked.entry.depth)
+        × IsProbed (IsTornOne words.now (line_of found.entry) asked.entry.behind)
         (option_map (λ (name : Bor (List ℕ)). name.now) asked.entry.probe) result text deeds
         × D.does disk.old deeds disk.new }
     ensures writes { W.failures out.new ≡ failures_after (W.failures out.old)
@@ -213,7 +222,7 @@ fn tear_one<'n, D: Disk, W: TextOut>(
             words,
             found,
             lent(&probe),
-            asked.depth,
+            asked.behind,
             out,
         ),
         Err(fault) => Err(fault),
@@ -232,7 +241,7 @@ fn tear_all<'n, D: Disk, W: TextOut>(
     requires { length words.now < 65536 }
     ensures done { (text : List ℕ) × (deeds : List FileDeed)
         × Appends (W.contents out.old) (W.contents out.new) text
-        × IsProbed (IsTornEach words.now (map line_of commands.now) asked.entry.depth)
+        × IsProbed (IsTornEach words.now (map line_of commands.now) asked.entry.behind)
         (option_map (λ (name : Bor (List ℕ)). name.now) asked.entry.probe) result text deeds
         × D.does disk.old deeds disk.new }
     ensures writes { W.failures out.new ≡ failures_after (W.failures out.old)
@@ -245,7 +254,7 @@ fn tear_all<'n, D: Disk, W: TextOut>(
             words,
             commands,
             lent(&probe),
-            asked.depth,
+            asked.behind,
             out,
         ),
         Err(fault) => Err(fault),
@@ -259,17 +268,17 @@ fn cut_one<'n, W: TextOut>(
     words: &[u16],
     found: ScriptLine,
     probe: Option<&[u8]>,
-    depth: Depth,
+    behind: Behind,
     out: &mut W,
 ) -> Result<(), Fault<'n>>
     requires { length words.now < 65536 }
     ensures done { (text : List ℕ) × Appends (W.contents out.old) (W.contents out.new) text
-        × IsTornOne words.now (line_of found.entry) depth
+        × IsTornOne words.now (line_of found.entry) behind
         (option_map (λ (text : Bor (List ℕ)). text.now) probe.entry) result text }
     ensures writes { W.failures out.new ≡ failures_after (W.failures out.old)
         (is_unwritten result) }
 {
-    match tear_line(alloc, words, found, probe, depth) {
+    match tear_line(alloc, words, found, probe, behind) {
         Ok(sweep) => tell_sweep(alloc, &sweep, out),
         Err(cause) => Err(tear_fault(names, cause)),
     }
@@ -281,18 +290,19 @@ fn cut_part<'n, W: TextOut>(
     names: Names<'n>,
     words: &[u16],
     found: ScriptLine,
-    share: Share,
     probe: Option<&[u8]>,
+    objects: bool,
+    share: Share,
     out: &mut W,
 ) -> Result<(), Fault<'n>>
     requires { length words.now < 65536 }
     ensures done { (text : List ℕ) × Appends (W.contents out.old) (W.contents out.new) text
-        × IsTornShare words.now (line_of found.entry) share
+        × IsTornShare words.now (line_of found.entry) objects share
         (option_map (λ (text : Bor (List ℕ)). text.now) probe.entry) result text }
     ensures writes { W.failures out.new ≡ failures_after (W.failures out.old)
         (is_unwritten result) }
 {
-    match tear_line_part(alloc, words, found, probe, share.first, share.step) {
+    match tear_line_part(alloc, words, found, probe, objects, share.first, share.step) {
         Ok(part) => tell_part(alloc, &part, out),
         Err(cause) => Err(tear_fault(names, cause)),
     }
@@ -322,17 +332,17 @@ fn cut_each<'n, W: TextOut>(
     words: &[u16],
     commands: &[ScriptLine],
     probe: Option<&[u8]>,
-    depth: Depth,
+    behind: Behind,
     out: &mut W,
 ) -> Result<(), Fault<'n>>
     requires { length words.now < 65536 }
     ensures done { (text : List ℕ) × Appends (W.contents out.old) (W.contents out.new) text
-        × IsTornEach words.now (map line_of commands.now) depth
+        × IsTornEach words.now (map line_of commands.now) behind
         (option_map (λ (text : Bor (List ℕ)). text.now) probe.entry) result text }
     ensures writes { W.failures out.new ≡ failures_after (W.failures out.old)
         (is_unwritten result) }
 {
-    match tear_each(alloc, words, commands, probe, depth) {
+    match tear_each(alloc, words, commands, probe, behind) {
         Ok(sweeps) => tell_verdicts(alloc, &sweeps, out),
         Err(cause) => Err(tear_fault(names, cause)),
     }

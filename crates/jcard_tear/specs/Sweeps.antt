@@ -2,8 +2,9 @@
 use Rattle.std.specs.Prelude.{ℕ, ◌≡◌, ◌+◌, ◌-◌, ◌<◌, ◌≤◌, ◌≢◌, ◌⊎◌, true, false, List, [], ◌∷◌, ◌++◌, codes, decimal, drop, take, length, slice_index, Option, Some, None}
 use Rattle.jc_words.specs.Stores.{FuseStoreValue}
 use Rattle.jc_objects.specs.Pins.{AreTriesIn}
+use Rattle.jc_objects.specs.declared.image_objects.ImageObjects.{ImageObjects}
 use Rattle.jcard_outcomes.specs.Standings.{IsStanding}
-use Rattle.jcard_outcomes.specs.declared.recoveries.Depth.{Depth}
+use Rattle.jcard_outcomes.specs.declared.recoveries.Depth.TheVariants.{Zero}
 use Rattle.jcard_outcomes.specs.declared.recoveries.Recoveries.{Recoveries}
 use Rattle.jcard_outcomes.specs.declared.standing.Cut.{Cut}
 use Rattle.jcard_outcomes.specs.declared.standing.Left.{Left}
@@ -12,7 +13,13 @@ use Rattle.jcard_outcomes.specs.declared.report.Sweep.{Sweep}
 use Rattle.jcard_tear.specs.Recoveries.{AreRecoveries}
 use Rattle.jcard_tear.specs.Runs.{IsLeft, Runs}
 use Rattle.jcard_tear.specs.ScriptLines.{Line, last_select}
+use Rattle.jcard_tear.specs.Told.{AreObjectsAsked, IsTold}
+use Rattle.jcard_tear.specs.declared.cuts.Behind.{Behind}
 use Rattle.jcard_tear.specs.declared.cuts.Command.{Command}
+
+-- nothing but the answers of the probe
+abbrev pub nothing_more : Behind
+nothing_more = record { depth = Zero; objects = false }
 
 -- the script up to the command, with the power cut after so many of its writes
 abbrev pub cut_script : Command → ℕ → List ℕ
@@ -21,21 +28,21 @@ cut_script c k = c.before.now ++ (codes "stop " ++ decimal k ++ codes "\n") ++ c
 -- with the power cut after k writes of the command the card is down, this is left, and so it is with recoveries that are cut
 abbrev pub IsCutAt : List ℕ → Command → ℕ → Left → Recoveries → Type 0
 IsCutAt words c k left recoveries = (text : List ℕ) × (after : FuseStoreValue) × Runs words (cut_script c k) text after × (after.down ≡ true)
-    × IsLeft after.words c.probe.now left × AreRecoveries c.depth after.words c.probe.now left recoveries
+    × IsLeft after.words c.probe.now left × AreRecoveries c.behind.depth after.words c.probe.now left recoveries
 
 -- the command makes no more writes than k, and is not cut
 abbrev pub IsUncutAt : List ℕ → Command → ℕ → Type 0
 IsUncutAt words c k = (text : List ℕ) × (after : FuseStoreValue) × Runs words (cut_script c k) text after × (after.down ≡ false)
 
 -- what a cut left is told so
-abbrev pub IsToldCut : List ℕ → Command → List ℕ → Left → Left → ℕ → Cut → Type 0
-IsToldCut words c spared before after k cut = (left : Left) × IsCutAt words c k left cut.recoveries × (cut.answers.items ≡ left.answers.items)
+abbrev pub IsToldCut : List ℕ → Command → List ℕ → Option ImageObjects → Left → Left → ℕ → Cut → Type 0
+IsToldCut words c spared objects before after k cut = (left : Left) × IsCutAt words c k left cut.recoveries × IsTold objects left cut.answers.items
     × IsStanding spared before after left.words.items left.answers.items cut.standing
 
 -- what the cuts after k, k + 1, .. writes left is told so
-unfoldable pub AreCuts : List ℕ → Command → List ℕ → Left → Left → ℕ → List Cut → Type 0
-AreCuts words c spared before after k [] = Unit {0}
-AreCuts words c spared before after k (cut ∷ cuts) = IsToldCut words c spared before after k cut × AreCuts words c spared before after (k + 1) cuts
+unfoldable pub AreCuts : List ℕ → Command → List ℕ → Option ImageObjects → Left → Left → ℕ → List Cut → Type 0
+AreCuts words c spared objects before after k [] = Unit {0}
+AreCuts words c spared objects before after k (cut ∷ cuts) = IsToldCut words c spared objects before after k cut × AreCuts words c spared objects before after (k + 1) cuts
 
 -- the last line of a text, without its line feed
 abbrev pub IsLastLine : List ℕ → List ℕ → Type 0
@@ -51,14 +58,20 @@ IsDone words c answer left = (text : List ℕ) × (after : FuseStoreValue) × Ru
 abbrev pub IsBegun : List ℕ → Command → Left → Type 0
 IsBegun words c left = (text : List ℕ) × (after : FuseStoreValue) × Runs words c.before.now text after × IsLeft after.words c.probe.now left
 
+-- a command that is not cut has this answer and leaves this, of which it is told with these objects, and with which cuts are compared that
+-- spare these words
+abbrev pub IsMeasured : List ℕ → Command → List ℕ → Option ImageObjects → Left → Sweep → Type 0
+IsMeasured words c spared objects after s = IsDone words c s.answer.items after × (s.after.words.items ≡ after.words.items)
+    × IsTold objects after s.after.answers.items × AreTriesIn after.words.items spared × AreObjectsAsked c.behind.objects s.before objects
+
 -- what was before a command and what it leaves, its answer, and what is left of it after each number of its writes, up to the first
 -- that does not cut it. The words with the tries left of the OwnerPINs that stand behind it are spared in each comparison
 pub record IsSwept (words : List ℕ) (c : Command) (s : Sweep) : Type 0 where
   pub begun : IsBegun words c s.before
-  pub done : IsDone words c s.answer.items s.after
-  pub cuts : (spared : List ℕ) × AreTriesIn s.after.words.items spared × AreCuts words c spared s.before s.after 0 s.cuts.items
+  pub cuts : (spared : List ℕ) × (objects : Option ImageObjects) × (after : Left) × IsMeasured words c spared objects after s
+      × AreCuts words c spared objects s.before after 0 s.cuts.items
   pub uncut : IsUncutAt words c (length s.cuts.items)
-  pub depth : s.depth ≡ c.depth
+  pub depth : s.depth ≡ c.behind.depth
 
 -- ---- the commands of a script
 
@@ -67,14 +80,14 @@ abbrev pub probe_of : Option (List ℕ) → List ℕ → List ℕ
 probe_of (Some given) before = given
 probe_of None before = last_select before
 
--- the command in this line was cut, and so many recoveries behind each cut
-abbrev pub IsLineSwept : List ℕ → Option (List ℕ) → Depth → Line → Sweep → Type 0
-IsLineSwept words given depth l sweep = (c : Command) × (c.before.now ≡ l.before) × (c.line.now ≡ l.text) × (c.probe.now ≡ probe_of given l.before)
-    × (c.depth ≡ depth) × IsSwept words c sweep
+-- the command in this line was cut, and this came behind each cut
+abbrev pub IsLineSwept : List ℕ → Option (List ℕ) → Behind → Line → Sweep → Type 0
+IsLineSwept words given behind l sweep = (c : Command) × (c.before.now ≡ l.before) × (c.line.now ≡ l.text) × (c.probe.now ≡ probe_of given l.before)
+    × (c.behind ≡ behind) × IsSwept words c sweep
 
 -- the commands in these lines were cut, one after the other
-unfoldable pub AreSwept : List ℕ → Option (List ℕ) → Depth → List Line → List LineSweep → Type 0
-AreSwept words given depth [] [] = Unit {0}
-AreSwept words given depth (l ∷ lines) (s ∷ sweeps) = (s.number ≡ l.number) × IsLineSwept words given depth l s.sweep
-    × AreSwept words given depth lines sweeps
-AreSwept words given depth lines sweeps = ⊥
+unfoldable pub AreSwept : List ℕ → Option (List ℕ) → Behind → List Line → List LineSweep → Type 0
+AreSwept words given behind [] [] = Unit {0}
+AreSwept words given behind (l ∷ lines) (s ∷ sweeps) = (s.number ≡ l.number) × IsLineSwept words given behind l s.sweep
+    × AreSwept words given behind lines sweeps
+AreSwept words given behind lines sweeps = ⊥

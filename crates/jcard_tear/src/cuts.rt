@@ -1,11 +1,14 @@
 //! Cutting the power within a command, after each number of its word writes.
 ghost use Rattle.std.specs.Prelude.{◌≡◌, ◌<◌, ◌++◌, ◌∷◌, [], length, IfOk, OnOk, MatchOption};
 ghost use Rattle.jcard_tear.specs.Sweeps.{AreCuts, IsCutAt, IsUncutAt, cut_script};
+ghost use Rattle.jcard_tear.specs.Told.{AreOfImage};
 
 use crate::recoveries::recoveries;
 use crate::runs::{RunFault, left, run_copy};
 use crate::tearing::TearFault;
+use crate::told::told;
 use itoa::Buffer;
+use jc_objects::image_objects::ImageObjects;
 use jcard_outcomes::recoveries::{Depth, Recoveries};
 use jcard_outcomes::standing::{Cut, Left, standing_of};
 use std::alloc::{AllocError, Global};
@@ -13,14 +16,27 @@ use std::alloc::{AllocError, Global};
 /// The most cuts of a command.
 pub(crate) const MOST: u16 = 65_535;
 
-/// A command of a script: the text before its line, its line, what is asked after a reset, and how many recoveries are cut behind
-/// each of its cuts.
+/// What comes behind each cut of a command: how many recoveries are cut, and whether the cells that changed are told.
+#[derive(Clone, Copy, Debug, PartialEq, Eq, Drop)]
+pub struct Behind {
+    pub depth: Depth,
+    pub objects: bool,
+}
+
+/// What comes behind a cut where only the answers of the probe are asked for.
+pub const NOTHING_MORE: Behind = Behind {
+    depth: Depth::Zero,
+    objects: false,
+};
+
+/// A command of a script: the text before its line, its line, what is asked after a reset, and what else comes behind each of its
+/// cuts.
 #[derive(Clone, Copy, Drop)]
 pub struct Command<'a> {
     pub before: &'a [u8],
     pub line: &'a [u8],
     pub probe: &'a [u8],
-    pub depth: Depth,
+    pub behind: Behind,
 }
 
 /// What each cut of a command left, from the one on that no write passes, up to the number with which it is not cut.
@@ -29,11 +45,13 @@ pub(crate) fn cut_all(
     words: &[u16],
     command: Command,
     spared: &[u16],
+    objects: &Option<ImageObjects>,
     before: &Left,
     after: &Left,
 ) -> Result<Vec<Cut>, TearFault>
-    requires { length words.now < 65536 }
-    ensures { IfOk result (λ cuts. AreCuts words.now command.entry spared.now before.now after.now 0 cuts.items
+    requires short { length words.now < 65536 }
+    requires whole { AreOfImage objects.now }
+    ensures { IfOk result (λ cuts. AreCuts words.now command.entry spared.now objects.now before.now after.now 0 cuts.items
         × IsUncutAt words.now command.entry (length cuts.items)) }
 {
     let mut cuts = Vec::new(alloc);
@@ -44,7 +62,7 @@ pub(crate) fn cut_all(
         let standing = standing_of(spared, before, after, &left.words, &left.answers);
         let cut = Cut {
             standing,
-            answers: left.answers,
+            answers: told(alloc, objects, &left)?,
             recoveries,
         };
         push_cut(&mut cuts, cut)?;
@@ -80,7 +98,7 @@ pub(crate) fn cut_at(
     }
     let torn = Vec::from_slice(alloc, &ran.words)?;
     let left = left(alloc, ran.words, command.probe)?;
-    let recoveries = recoveries(alloc, &torn, command.probe, command.depth, &left)?;
+    let recoveries = recoveries(alloc, &torn, command.probe, command.behind.depth, &left)?;
     Ok(Some((left, recoveries)))
 }
 

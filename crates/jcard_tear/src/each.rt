@@ -4,33 +4,32 @@ ghost use Rattle.std.specs.Borrow.{Bor};
 ghost use Rattle.jcard_tear.specs.ScriptLines.{line_of};
 ghost use Rattle.jcard_tear.specs.Sweeps.{AreSwept, IsLineSwept, probe_of};
 
-use crate::cuts::Command;
+use crate::cuts::{Behind, Command};
 use crate::script_lines::{ScriptLine, last_select};
 use crate::tearing::{TearFault, tear};
 use jcard_outcomes::each::LineSweep;
-use jcard_outcomes::recoveries::Depth;
 use jcard_outcomes::report::Sweep;
 use std::alloc::Global;
 
 /// Cuts the command in a line, with these lines of a probe behind each cut; or, where none are given, with the last SELECT
-/// before it. So many recoveries are cut behind each cut.
+/// before it, and what else is to come behind a cut.
 pub fn tear_line(
     alloc: Global,
     words: &[u16],
     line: ScriptLine,
     probe: Option<&[u8]>,
-    depth: Depth,
+    behind: Behind,
 ) -> Result<Sweep, TearFault>
     requires { length words.now < 65536 }
     ensures { IfOk result (λ sweep. IsLineSwept words.now
-        (option_map (λ (text : Bor (List ℕ)). text.now) probe.entry) depth
+        (option_map (λ (text : Bor (List ℕ)). text.now) probe.entry) behind
         (line_of line.entry) sweep) }
 {
     let command = Command {
         before: line.before,
         line: line.line,
         probe: probe_for(probe, line.before),
-        depth,
+        behind,
     };
     tear(alloc, words, command)
 }
@@ -41,16 +40,16 @@ pub fn tear_each(
     words: &[u16],
     lines: &[ScriptLine],
     probe: Option<&[u8]>,
-    depth: Depth,
+    behind: Behind,
 ) -> Result<Vec<LineSweep>, TearFault>
     requires { length words.now < 65536 }
     ensures { IfOk result (λ sweeps. AreSwept words.now
-        (option_map (λ (text : Bor (List ℕ)). text.now) probe.entry) depth
+        (option_map (λ (text : Bor (List ℕ)). text.now) probe.entry) behind
         (map line_of lines.now) sweeps.items) }
 {
     let mut sweeps = Vec::new(alloc);
     for line in lines {
-        let sweep = tear_line(alloc, words, *line, probe, depth)?;
+        let sweep = tear_line(alloc, words, *line, probe, behind)?;
         let number = line.number;
         push_sweep(&mut sweeps, LineSweep { number, sweep })?;
     }

@@ -4,8 +4,10 @@
 pub mod cuts;
 pub mod each;
 pub mod kept_text;
+mod names;
 pub mod parts;
 mod recoveries;
 pub mod runs;
 pub mod script_lines;
 pub mod tearing;
+mod told;

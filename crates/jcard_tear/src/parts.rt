@@ -4,11 +4,15 @@ ghost use Rattle.std.specs.Borrow.{Bor};
 ghost use Rattle.jcard_tear.specs.Parts.{AreEvery, IsLinePart, IsPartSwept};
 ghost use Rattle.jcard_tear.specs.ScriptLines.{line_of};
 ghost use Rattle.jcard_tear.specs.Sweeps.{IsUncutAt};
+ghost use Rattle.jcard_tear.specs.Told.{AreOfImage};
 
-use crate::cuts::{Command, MOST, cut_at, push_cut};
+use crate::cuts::{Behind, Command, MOST, cut_at, push_cut};
 use crate::each::probe_for;
+use crate::names::sweep_name;
 use crate::script_lines::ScriptLine;
 use crate::tearing::{TearFault, begun, done, tries_in};
+use crate::told::{left_told, objects_asked, told};
+use jc_objects::image_objects::ImageObjects;
 use jcard_outcomes::part::Part;
 use jcard_outcomes::recoveries::Depth;
 use jcard_outcomes::report::Sweep;
@@ -16,18 +20,20 @@ use jcard_outcomes::standing::{Cut, Left, standing_of};
 use std::alloc::Global;
 
 /// Cuts the command in a line after `first` writes, and each `step`-th number behind it. Behind each cut come these lines of a
-/// probe; or, where none are given, the last SELECT before the command. No recovery is cut.
+/// probe; or, where none are given, the last SELECT before the command. No recovery is cut;
+/// with objects, the cells that changed are told.
 pub fn tear_line_part(
     alloc: Global,
     words: &[u16],
     line: ScriptLine,
     probe: Option<&[u8]>,
+    objects: bool,
     first: u16,
     step: u16,
 ) -> Result<Part, TearFault>
     requires { length words.now < 65536 }
     ensures swept { IfOk result (λ part. IsLinePart words.now
-        (option_map (λ (text : Bor (List ℕ)). text.now) probe.entry)
+        (option_map (λ (text : Bor (List ℕ)). text.now) probe.entry) objects
         (line_of line.entry) first step part) }
     ensures below { IfOk result (λ part. part.first + part.step * length part.sweep.cuts.items < 65536) }
 {
@@ -35,7 +41,10 @@ pub fn tear_line_part(
         before: line.before,
         line: line.line,
         probe: probe_for(probe, line.before),
-        depth: Depth::Zero,
+        behind: Behind {
+            depth: Depth::Zero,
+            objects,
+        },
     };
     tear_part(alloc, words, command, first, step)
 }
@@ -55,16 +64,22 @@ pub fn tear_part(
     let (answer, after) = done(alloc, words, command)?;
     let before = begun(alloc, words, command)?;
     let spared = tries_in(alloc, &after)?;
-    let cuts = cut_every(alloc, words, command, &spared, &before, &after, first, step)?;
+    let objects = objects_asked(alloc, command.behind.objects, &before)?;
+    let cuts = cut_every(
+        alloc, words, command, &spared, &objects, &before, &after, first, step,
+    )?;
+    let after = left_told(alloc, &objects, after)?;
+    let name = sweep_name(alloc, words, command, step)?;
     Ok(Part {
         first: usize::from(first),
         step: usize::from(step),
+        name,
         sweep: Sweep {
             before,
             answer,
             after,
             cuts,
-            depth: command.depth,
+            depth: command.behind.depth,
         },
     })
 }
@@ -75,13 +90,15 @@ fn cut_every(
     words: &[u16],
     command: Command,
     spared: &[u16],
+    objects: &Option<ImageObjects>,
     before: &Left,
     after: &Left,
     first: u16,
     step: u16,
 ) -> Result<Vec<Cut>, TearFault>
-    requires { length words.now < 65536 }
-    ensures cut { IfOk result (λ cuts. AreEvery words.now command.entry spared.now before.now after.now first step cuts.items
+    requires short { length words.now < 65536 }
+    requires whole { AreOfImage objects.now }
+    ensures cut { IfOk result (λ cuts. AreEvery words.now command.entry spared.now objects.now before.now after.now first step cuts.items
         × IsUncutAt words.now command.entry (first + step * length cuts.items)) }
     ensures below { IfOk result (λ cuts. first + step * length cuts.items < 65536) }
 {
@@ -94,7 +111,7 @@ fn cut_every(
         let standing = standing_of(spared, before, after, &left.words, &left.answers);
         let cut = Cut {
             standing,
-            answers: left.answers,
+            answers: told(alloc, objects, &left)?,
             recoveries,
         };
         push_cut(&mut cuts, cut)?;

@@ -8,15 +8,19 @@ ghost use Rattle.jc_objects.specs.Pins.{AreTriesIn};
 
 use crate::cuts::{Command, cut_all};
 use crate::runs::{RunFault, left, run_copy};
+use crate::told::{left_told, objects_asked};
 use jc_card::power_up::PowerFault;
-use jc_objects::pins::{ImageFault, try_words};
+use jc_objects::image_objects::ImageFault;
+use jc_objects::pins::try_words;
 use jcard_outcomes::report::Sweep;
 use jcard_outcomes::standing::Left;
 use jcard_script::script::ScriptFault;
 use std::alloc::{AllocError, Global};
 
 /// What a command leaves is no whole image.
-const DAMAGED: TearFault = TearFault::Script(ScriptFault::PowerFault(PowerFault::BadPackage));
+pub(crate) const DAMAGED: TearFault = TearFault::Script(ScriptFault::PowerFault(
+    PowerFault::BadPackage,
+));
 
 /// Why a command was not cut after each number of its writes.
 #[derive(Clone, Copy, Debug, PartialEq, Eq, Drop)]
@@ -34,7 +38,8 @@ pub enum TearFault {
 
 /// Carries out the script up to the command on a card of a copy of these words, and then cuts the command after each number
 /// of its writes, each time on a card of a copy of its own. After each cut comes a reset, and then the probe; and as many
-/// recoveries as the command says are cut before a reset that is not. The tries of OwnerPINs do not count in a comparison.
+/// recoveries as the command says are cut before a reset that is not. The tries of OwnerPINs do not count in a comparison. Where
+/// the command asks for objects, the cells that changed since before it are told behind the answers.
 pub fn tear(alloc: Global, words: &[u16], command: Command) -> Result<Sweep, TearFault>
     requires { length words.now < 65536 }
     ensures { IfOk result (λ sweep. IsSwept words.now command.entry sweep) }
@@ -42,13 +47,15 @@ pub fn tear(alloc: Global, words: &[u16], command: Command) -> Result<Sweep, Tea
     let (answer, after) = done(alloc, words, command)?;
     let before = begun(alloc, words, command)?;
     let spared = tries_in(alloc, &after)?;
-    let cuts = cut_all(alloc, words, command, &spared, &before, &after)?;
+    let objects = objects_asked(alloc, command.behind.objects, &before)?;
+    let cuts = cut_all(alloc, words, command, &spared, &objects, &before, &after)?;
+    let after = left_told(alloc, &objects, after)?;
     Ok(Sweep {
         before,
         answer,
         after,
         cuts,
-        depth: command.depth,
+        depth: command.behind.depth,
     })
 }
 

@@ -3,10 +3,9 @@ use Rattle.std.proofs.Common.{Bool, true, false, ⊎_elim, Result, Ok, Err, ◌�
 use Rattle.std.specs.Prelude.{All, Any, IfOk, IfErr, IsSomeAnd, MatchResult, OnOk, option_map, slice_index_or}
 use Rattle.std.specs.declared.alloc.AllocError.{AllocError}
 use Rattle.jcard_outcomes.specs.Reports.{broken_told, first_broken}
-use Rattle.jcard_outcomes.specs.declared.recoveries.Depth.TheVariants.{Zero}
 use Rattle.jcard_outcomes.specs.declared.report.Sweep.{Sweep}
 use Rattle.jcard_tear.specs.ScriptLines.{Line as TornLine}
-use Rattle.jcard_tear.specs.Sweeps.{IsLineSwept}
+use Rattle.jcard_tear.specs.Sweeps.{IsLineSwept, nothing_more}
 use Rattle.std.specs.Borrow.{Bor}
 use Rattle.std.proofs.lemmas.List.{drop_all, get_or_default, length-map, length-take, map-append, take_all, take_more}
 use Rattle.std.proofs.lemmas.List.Elements.{All-append}
@@ -37,7 +36,7 @@ use Rattle.jcard_files.specs.FileDeeds.{FileDeed, ReadsText, fresh_store}
 use Rattle.jcard_files.specs.Images.{IsNotRead}
 use Rattle.jcard_images.specs.NewImages.{IsNewImage, IsNewImageInMemory}
 use Rattle.jcard_files.specs.Readings.{IsUnread, IsScriptRead}
-use Rattle.jcard_tests.specs.Tests.{AreAnsweredOn, AreCut, AreCutWell, AreFileLines, EndsOn, IsCutWell, IsToldOf, IsToldOfLine, IsTornFailure, AreIncluded, AreTested, IsFilePlace, IsPlace, IsPrinted, IsReading, IsRowsText, IsTested, IsUnanswered, IsUntested, lacked_memory}
+use Rattle.jcard_tests.specs.Tests.{AreAnsweredOn, AreCut, AreCutWell, AreFileLines, EndsOn, IsCutWell, IsToldOf, IsToldOfLine, IsTornFailure, AreIncluded, AreTested, IsFilePlace, IsPlace, IsPrinted, AreNoFileLines, IsNoRowsText, IsNoText, IsNotIncluded, IsOneUntested, IsReading, IsRowsText, IsTested, IsUnanswered, IsUntested, lacked_memory}
 use Rattle.jcard_faults.specs.declared.fault.Fault.{Fault}
 use Rattle.jcard_faults.specs.declared.fault.Fault.TheVariants.{BadTable, CannotRead, ImageTooSmall, NoMemory, WriteFailed}
 
@@ -165,12 +164,12 @@ ended_by card passed (Ok (Some f)) e p = (e.0, e.1, inr (e.2, p))
 ended_by card passed (Err fault) e p = p
 
 -- what is told of the cuts of a line
-told_by : (w : List ℕ) (l : TornLine) (sweep : Sweep) (found : Option (List ℕ)) (first : Option ℕ) → IsLineSwept w None Zero l sweep
+told_by : (w : List ℕ) (l : TornLine) (sweep : Sweep) (found : Option (List ℕ)) (first : Option ℕ) → IsLineSwept w None nothing_more l sweep
     → first_broken 0 sweep.cuts.items ≡ first → found ≡ option_map broken_told first → IsToldOfLine w l found
 told_by w l sweep found None swept e is = subst (IsToldOfLine w l) (sym is) (sweep, swept, e)
 told_by w l sweep found (Some k) swept e is = subst (IsToldOfLine w l) (sym is) (inl (sweep, swept, (k, e, refl)))
 
-pub told_all : {V : Type 0} (items : V → List ℕ) (w : List ℕ) (l : TornLine) (sweep : Sweep) (r : Result (Option V) AllocError) → IsLineSwept w None Zero l sweep
+pub told_all : {V : Type 0} (items : V → List ℕ) (w : List ℕ) (l : TornLine) (sweep : Sweep) (r : Result (Option V) AllocError) → IsLineSwept w None nothing_more l sweep
     → IfOk r (λ found. option_map items found ≡ option_map broken_told (first_broken 0 sweep.cuts.items))
     → IfOk r (λ found. IsToldOfLine w l (option_map items found))
 told_all items w l sweep (Ok found) swept is = told_by w l sweep (option_map items found) (first_broken 0 sweep.cuts.items) swept refl is
@@ -231,58 +230,64 @@ single_reading name told (suc k) d h = absurd (omega arith)
 pub one_reading : (name : List ℕ) (told : Result (Option (List ℕ)) Fault) (deeds : List FileDeed) → deeds ≡ ReadsText name told ∷ [] → All IsReading deeds
 one_reading name told deeds e = subst (λ (ds : List FileDeed). All IsReading ds) (sym e) (single_reading name told)
 
--- a file that cannot be read
-pub not_read : (name : List ℕ) (fault : Fault) → IsNotRead name fault → IsUntested name fault
-not_read name (CannotRead path) h = h
-not_read name NoMemory h = tt
-not_read name other h = absurd h
+-- a text was asked for, though it was not read
+pub unread_reading : (name : List ℕ) (fault : Fault) (deeds : List FileDeed) → IsUnread name fault deeds → All IsReading deeds
+unread_reading name fault deeds (inl u) = one_reading name (Err fault) deeds u.1
+unread_reading name fault deeds (inr u) = one_reading name (Ok u.1.0) deeds u.1.1
 
-pub unread_untested : (name : List ℕ) (fault : Fault) (deeds : List FileDeed) → IsUnread name fault deeds
-    → All IsReading deeds × IsUntested name fault
-unread_untested name fault deeds (inl u) = (one_reading name (Err fault) deeds u.1, subst (λ (f : Fault). IsUntested name f) (sym u.0.1) u.0.2)
-unread_untested name fault deeds (inr u) = (one_reading name (Ok u.1.0) deeds u.1.1, not_read name fault u.0)
+-- no write failed where a file was not tested
+not_read_unwritten : (name : List ℕ) (fault : Fault) → IsNotRead name fault → is_unwritten (Err fault) ≡ false
+not_read_unwritten name WriteFailed h = absurd h
+not_read_unwritten name other h = refl
 
--- why cards did not answer is why a file was not tested
-pub unanswered_untested : (name : List ℕ) (fault : Fault) → IsUnanswered fault → IsUntested name fault
-unanswered_untested name NoMemory h = tt
-unanswered_untested name (BadTable line) h = h
-unanswered_untested name ImageTooSmall h = tt
-unanswered_untested name other h = absurd h
+no_text_unwritten : (name bytes : List ℕ) (fault : Fault) → IsNoText name bytes fault → is_unwritten (Err fault) ≡ false
+no_text_unwritten name bytes WriteFailed h = absurd h
+no_text_unwritten name bytes other h = refl
 
--- no write failed then
-pub untested_unwritten : (name : List ℕ) (fault : Fault) → IsUntested name fault → is_unwritten (Err fault) ≡ false
-untested_unwritten name WriteFailed h = absurd h
-untested_unwritten name other h = refl
+not_included_unwritten : (name : List ℕ) (fault : Fault) → IsNotIncluded name fault → is_unwritten (Err fault) ≡ false
+not_included_unwritten name WriteFailed h = absurd h
+not_included_unwritten name other h = refl
+
+unanswered_unwritten : (fault : Fault) → IsUnanswered fault → is_unwritten (Err fault) ≡ false
+unanswered_unwritten WriteFailed h = absurd h
+unanswered_unwritten other h = refl
+
+untested_unwritten : (name : List ℕ) (fault : Fault) (deeds : List FileDeed) → IsUntested name fault deeds → is_unwritten (Err fault) ≡ false
+untested_unwritten name fault deeds (inl (inl (inl (inl u)))) = ap (λ (f : Fault). is_unwritten (Err f)) u.0.1
+untested_unwritten name fault deeds (inl (inl (inl (inr u)))) = not_read_unwritten name fault u.0
+untested_unwritten name fault deeds (inl (inl (inr t))) = no_text_unwritten name t.0 fault t.2
+untested_unwritten name fault deeds (inl (inr n)) = not_included_unwritten name fault n
+untested_unwritten name fault deeds (inr n) = unanswered_unwritten fault n
 
 -- ---- results of calls, from what their parts are
 
 pub text_read : {S : Type 0} (bytes_of : S → List ℕ) (r : Result S Fault) (name bytes : List ℕ) (deeds : List FileDeed) → IsScriptRead name bytes deeds
-    → IfOk r (λ t. (bytes_of t ≡ bytes) × (length bytes ≤ 16777216)) → IfErr r (λ f. IsUntested name f)
-    → MatchResult r (λ t. IsRowsText name (bytes_of t) deeds) (λ f. IsUntested name f)
+    → IfOk r (λ t. (bytes_of t ≡ bytes) × (length bytes ≤ 16777216)) → IfErr r (λ f. IsNoText name bytes f)
+    → MatchResult r (λ t. IsRowsText name (bytes_of t) deeds) (λ f. IsNoRowsText name f deeds)
 text_read bytes_of (Ok t) name bytes deeds read same refused = (
   read.0,
   subst (λ (x : List ℕ). IfSome read.0 (λ b. x ≡ b)) (sym same.0) (whole_text read.0 bytes read.1 same.1),
   read.2,
 )
-text_read bytes_of (Err f) name bytes deeds read same refused = refused
+text_read bytes_of (Err f) name bytes deeds read same refused = inr (bytes, read, refused)
 
 pub unrolled_lines : {V : Type 0} (items : V → List Numbered) (r : Result V Fault) (name text : List ℕ) (own : List Numbered) (deeds : List FileDeed)
-    → IsUnrolled text own → MatchResult r (λ ls. AreIncluded name own (items ls) deeds) (λ f. IsUntested name f)
-    → MatchResult r (λ ls. (o : List Numbered) × IsUnrolled text o × AreIncluded name o (items ls) deeds) (λ f. IsUntested name f)
+    → IsUnrolled text own → MatchResult r (λ ls. AreIncluded name own (items ls) deeds) (λ f. IsNotIncluded name f)
+    → MatchResult r (λ ls. (o : List Numbered) × IsUnrolled text o × AreIncluded name o (items ls) deeds) (λ f. IsNotIncluded name f)
 unrolled_lines items (Ok ls) name text own deeds u p = (own, u, p)
 unrolled_lines items (Err f) name text own deeds u p = p
 
 pub file_lines : {V : Type 0} (items : V → List Numbered) (r : Result V Fault) (name text shown : List ℕ) (first more : List FileDeed)
     → IsRowsText name text first → shown ≡ text
-    → MatchResult r (λ ls. (o : List Numbered) × IsUnrolled shown o × AreIncluded name o (items ls) more) (λ f. IsUntested name f)
-    → MatchResult r (λ ls. AreFileLines name (items ls) (first ++ more)) (λ f. IsUntested name f)
+    → MatchResult r (λ ls. (o : List Numbered) × IsUnrolled shown o × AreIncluded name o (items ls) more) (λ f. IsNotIncluded name f)
+    → MatchResult r (λ ls. AreFileLines name (items ls) (first ++ more)) (λ f. AreNoFileLines name f (first ++ more))
 file_lines items (Ok ls) name text shown first more read e p = (text, p.0, first, more, read, subst (λ (t : List ℕ). IsUnrolled t p.0) e p.1, p.2, refl)
-file_lines items (Err f) name text shown first more read e p = p
+file_lines items (Err f) name text shown first more read e p = inr p
 
 pub place_of_file : (r : Result (Unit {0}) Fault) (name : List ℕ) (line : Numbered) (file : Bor (List ℕ)) (deeds : List FileDeed) (old new : List Numbered)
     → Says (string_bytes line.text) (Include file)
-    → MatchResult r (λ _. (here : List Numbered) × IsFilePlace name file.now line.number here deeds × (new ≡ old ++ here)) (λ f. IsUntested name f)
-    → MatchResult r (λ _. (here : List Numbered) × IsPlace name line here deeds × (new ≡ old ++ here)) (λ f. IsUntested name f)
+    → MatchResult r (λ _. (here : List Numbered) × IsFilePlace name file.now line.number here deeds × (new ≡ old ++ here)) (λ f. IsNotIncluded name f)
+    → MatchResult r (λ _. (here : List Numbered) × IsPlace name line here deeds × (new ≡ old ++ here)) (λ f. IsNotIncluded name f)
 place_of_file (Ok done) name line file deeds old new says p = (p.0, (Include file, says, p.1), p.2)
 place_of_file (Err f) name line file deeds old new says p = p
 
@@ -294,17 +299,17 @@ place_of_other name line said here other says same is e = (said, says, (same, is
 
 pub file_tested : (r : Result Tested Fault) (name : List ℕ) (lines : List Numbered) (deeds : List FileDeed) → AreFileLines name lines deeds
     → MatchResult r (λ file. (file.name.now ≡ name) × (cards : List CardRows) × AreCardsOf lines cards × AreAnsweredOn cards 0 file.outcome) (λ f. IsUnanswered f)
-    → MatchResult r (λ file. IsTested name file deeds) (λ f. IsUntested name f)
+    → MatchResult r (λ file. IsTested name file deeds) (λ f. IsUntested name f deeds)
 file_tested (Ok file) name lines deeds read p = (p.0, lines, p.1, read, p.2, p.3)
-file_tested (Err f) name lines deeds read p = unanswered_untested name f p
+file_tested (Err f) name lines deeds read p = inr p
 
 -- no write failed where a file was not tested
-pub any_unwritten : (names : List (List ℕ)) (fault : Fault) → Any (λ name. IsUntested name fault) names → is_unwritten (Err fault) ≡ false
-any_unwritten names fault any = untested_unwritten any.1 fault any.4
+pub any_unwritten : (names : List (List ℕ)) (fault : Fault) (reads : List FileDeed) → IsOneUntested names fault reads → is_unwritten (Err fault) ≡ false
+any_unwritten names fault reads one = untested_unwritten one.3.1 fault one.1 one.3.4
 
 -- a file was tested, and kept behind others
 pub file_pushed : (r : Result (Unit {0}) Fault) (name : List ℕ) (old new : List Tested) (file : Tested) (deeds : List FileDeed) → IsTested name file deeds
     → OnOk r (new ≡ old ++ file ∷ []) → IfErr r (λ f. f ≡ NoMemory)
-    → MatchResult r (λ _. (f : Tested) × IsTested name f deeds × (new ≡ old ++ f ∷ [])) (λ f. IsUntested name f)
+    → MatchResult r (λ _. (f : Tested) × IsTested name f deeds × (new ≡ old ++ f ∷ [])) (λ f. IsUntested name f deeds)
 file_pushed (Ok done) name old new file deeds t e refused = (file, t, e)
-file_pushed (Err f) name old new file deeds t e refused = subst (λ (x : Fault). IsUntested name x) (sym refused) tt
+file_pushed (Err f) name old new file deeds t e refused = inr (subst IsUnanswered (sym refused) tt)

@@ -1,6 +1,7 @@
 -- `jcard test`: what is read, which cards are told it, and what is told of them.
 use Rattle.std.specs.Prelude.{ℕ, ◌≡◌, ◌≤◌, ◌<◌, ◌⊎◌, ◌+◌, Any, All, Bool, true, false, List, [], ◌∷◌, ◌++◌, codes, length, min, Option, Some, None, IfSome}
 use Rattle.std.specs.Prelude.{Result, Ok, Err, slice_index_or, take}
+use Rattle.std.specs.Str.{IsUtf8}
 use Rattle.std.specs.String.{string_bytes}
 use Rattle.std.specs.Borrow.{Bor}
 use Rattle.jc_platform.specs.declared.example.TheConstants.{EXAMPLE}
@@ -18,10 +19,9 @@ use Rattle.jcard_rows.specs.Lines.{Says}
 use Rattle.jcard_rows.specs.Outcomes.{AllAnswered, IsFirstFailure}
 use Rattle.jcard_rows.specs.Reports.{failed_of, report_text}
 use Rattle.jcard_outcomes.specs.Reports.{broken_told, first_broken}
-use Rattle.jcard_outcomes.specs.declared.recoveries.Depth.TheVariants.{Zero}
 use Rattle.jcard_outcomes.specs.declared.report.Sweep.{Sweep}
 use Rattle.jcard_tear.specs.ScriptLines.{Line}
-use Rattle.jcard_tear.specs.Sweeps.{IsLineSwept}
+use Rattle.jcard_tear.specs.Sweeps.{IsLineSwept, nothing_more}
 use Rattle.jcard_rows.specs.Rows.{line_text, script_text}
 use Rattle.jcard_rows.specs.Unrolled.{AreLinesOf, IsBeside, IsLineOf, IsUnrolled}
 use Rattle.jcard_rows.specs.declared.card_rows.CardRows.{CardRows}
@@ -35,6 +35,7 @@ use Rattle.jcard_rows.specs.declared.outcome.Tested.{Tested}
 use Rattle.jcard_rows.specs.declared.row.Row.{Row}
 use Rattle.jcard_files.specs.FileDeeds.{FileDeed, ReadsText, WritesText, fresh_store}
 use Rattle.jcard_files.specs.Images.{IsUnwritten}
+use Rattle.jcard_files.specs.Readings.{IsScriptRead, IsUnread}
 use Rattle.jcard_images.specs.NewImages.{IsNewImage}
 use Rattle.jcard_faults.specs.declared.fault.Fault.{Fault}
 use Rattle.jcard_faults.specs.declared.fault.Fault.TheVariants.{BadTable, CannotInclude, CannotRead, ImageTooSmall, NoMemory, RowsFailed, ScriptTooLong}
@@ -92,8 +93,8 @@ IsBrokenTold sweep told = (k : ℕ) × (first_broken 0 sweep.cuts.items ≡ Some
 -- what is told of a line that is cut after each number of its writes, over these words, with the last SELECT before it as the probe: nothing
 -- where each cut left what was before or what comes after; else the first that did not, or that it could not be cut
 abbrev pub IsToldOfLine : List ℕ → Line → Option (List ℕ) → Type 0
-IsToldOfLine w l None = (sweep : Sweep) × IsLineSwept w None Zero l sweep × (first_broken 0 sweep.cuts.items ≡ None)
-IsToldOfLine w l (Some told) = ((sweep : Sweep) × IsLineSwept w None Zero l sweep × IsBrokenTold sweep told) ⊎ (told ≡ codes "not cut")
+IsToldOfLine w l None = (sweep : Sweep) × IsLineSwept w None nothing_more l sweep × (first_broken 0 sweep.cuts.items ≡ None)
+IsToldOfLine w l (Some told) = ((sweep : Sweep) × IsLineSwept w None nothing_more l sweep × IsBrokenTold sweep told) ⊎ (told ≡ codes "not cut")
 
 -- the same of the row behind these
 abbrev pub IsToldOfCuts : List ℕ → List Row → Row → Option (List ℕ) → Type 0
@@ -172,18 +173,33 @@ IsUnanswered (BadTable line) = Reads EXAMPLE.now (Err (BadLine line))
 IsUnanswered ImageTooSmall = Unit {0}
 IsUnanswered other = ⊥
 
--- why those of the file of this name were not
-abbrev pub IsUntested : List ℕ → Fault → Type 0
-IsUntested name ScriptTooLong = Unit {0}
-IsUntested name (CannotRead path) = path.now ≡ name
-IsUntested name (CannotInclude path number) = path.now ≡ name
-IsUntested name fault = IsUnanswered fault
-
 -- why the bytes of the file of this name are no text of rows: they are more than a script may have; or they are not, and are no text
 abbrev pub IsNoText : List ℕ → List ℕ → Fault → Type 0
 IsNoText name bytes ScriptTooLong = 16777216 < length bytes
-IsNoText name bytes (CannotRead path) = (path.now ≡ name) × (length bytes ≤ 16777216)
+IsNoText name bytes (CannotRead path) = (path.now ≡ name) × (length bytes ≤ 16777216) × (IsUtf8 bytes → ⊥)
 IsNoText name bytes other = ⊥
+
+-- why no text of rows was read from the file of this name: it was not read; or its bytes, as far as they were, are none
+abbrev pub IsNoRowsText : List ℕ → Fault → List FileDeed → Type 0
+IsNoRowsText name fault deeds = IsUnread name fault deeds ⊎ ((bytes : List ℕ) × IsScriptRead name bytes deeds × IsNoText name bytes fault)
+
+-- why not all lines of a text in the file of this name came: memory was refused, or a file that one includes was not read
+abbrev pub IsNotIncluded : List ℕ → Fault → Type 0
+IsNotIncluded name NoMemory = Unit {0}
+IsNotIncluded name (CannotInclude path number) = path.now ≡ name
+IsNotIncluded name other = ⊥
+
+-- why the lines of the file of this name did not come
+abbrev pub AreNoFileLines : List ℕ → Fault → List FileDeed → Type 0
+AreNoFileLines name fault deeds = IsNoRowsText name fault deeds ⊎ IsNotIncluded name fault
+
+-- why its rows were not answered
+abbrev pub IsUntested : List ℕ → Fault → List FileDeed → Type 0
+IsUntested name fault deeds = AreNoFileLines name fault deeds ⊎ IsUnanswered fault
+
+-- those of one of these files were not, and it was the last that was read
+abbrev pub IsOneUntested : List (List ℕ) → Fault → List FileDeed → Type 0
+IsOneUntested names fault reads = (earlier last : List FileDeed) × (reads ≡ earlier ++ last) × Any (λ name. IsUntested name fault last) names
 
 -- what is told where the file that the line of this number includes in the file of this name was not read: want of memory as such
 abbrev pub IsIncludeFault : List ℕ → ℕ → Fault → Fault → Type 0
@@ -224,5 +240,5 @@ IsTold ts junit ended text deeds = ((ended ≡ Err NoMemory) × (text ≡ []) ×
 -- texts were read, and no file was asked for in another way
 abbrev pub IsTest : List (List ℕ) → Option (List ℕ) → Result Unit Fault → List ℕ → List FileDeed → Type 0
 IsTest names junit ended text deeds = (reads more : List FileDeed) × (deeds ≡ reads ++ more) × All IsReading reads
-    × (((fault : Fault) × (ended ≡ Err fault) × Any (λ name. IsUntested name fault) names × (text ≡ []) × (more ≡ []))
+    × (((fault : Fault) × (ended ≡ Err fault) × IsOneUntested names fault reads × (text ≡ []) × (more ≡ []))
     ⊎ ((ts : List Tested) × AreTested names ts reads × IsTold ts junit ended text more))

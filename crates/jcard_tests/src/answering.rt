@@ -16,7 +16,6 @@ use jc_platform::read::read_table;
 use jc_words::{FuseStore, MemStore, WordStore};
 use jcard_faults::fault::Fault;
 use jcard_images::memory_image::new_image;
-use jcard_outcomes::recoveries::Depth;
 use jcard_outcomes::verdict::broken;
 use jcard_rows::card_rows::CardRows;
 use jcard_rows::failing::first_failure;
@@ -25,6 +24,7 @@ use jcard_rows::row::{Row, line, script};
 use jcard_script::card::power_up::PowerFault;
 use jcard_script::mem_text::MemText;
 use jcard_script::script::{ScriptFault, run_script};
+use jcard_tear::cuts::NOTHING_MORE;
 use jcard_tear::each::tear_line;
 use jcard_tear::kept_text::KeptText;
 use jcard_tear::script_lines::ScriptLine;
@@ -249,7 +249,7 @@ fn told_of_line(
     ensures { IfOk result (λ found. IsToldOfLine words.now (line_of command.entry)
         (option_map (λ told. told.items) found)) }
 {
-    match tear_line(alloc, words, command, None, Depth::Zero) {
+    match tear_line(alloc, words, command, None, NOTHING_MORE) {
         Ok(sweep) => broken(alloc, &sweep.cuts),
         Err(TearFault::NoMemory) => Err(AllocError),
         Err(_) => Ok(Some(Vec::from_slice(alloc, b"not cut")?)),

@@ -2,7 +2,7 @@
 ghost use Rattle.std.specs.Prelude.{◌≡◌, ◌<◌, ◌++◌, ◌∷◌, [], OnOk, ℕ, List, All, length, ◌≤◌, IfOk, IfErr, MatchResult};
 ghost use Rattle.std.specs.String.{string_bytes};
 ghost use Rattle.jcard_files.specs.FileDeeds.{FileDeed};
-ghost use Rattle.jcard_tests.specs.Tests.{AreFileLines, AreIncluded, IsFilePlace, IsIncludeFault, IsNoText, IsPlace, IsReading, IsRowsText, IsUntested};
+ghost use Rattle.jcard_tests.specs.Tests.{AreFileLines, AreIncluded, AreNoFileLines, IsFilePlace, IsIncludeFault, IsNoRowsText, IsNoText, IsNotIncluded, IsPlace, IsReading, IsRowsText};
 ghost use Rattle.jcard_rows.specs.Unrolled.{IsLineOf, IsUnrolled};
 ghost use Rattle.jcard_rows.specs.declared.numbered.Numbered.{Numbered};
 
@@ -20,7 +20,7 @@ use std::alloc::{AllocError, Global};
 pub(crate) fn lines_of<'n, D: Disk>(disk: &mut D, name: &'n str) -> Result<Vec<Numbered>, Fault<'n>>
     ensures { (deeds : List FileDeed) × D.does disk.old deeds disk.new × All IsReading deeds
         × MatchResult result (λ lines. AreFileLines name.now lines.items deeds)
-        (λ fault. IsUntested name.now fault) }
+        (λ fault. AreNoFileLines name.now fault deeds) }
 {
     match rows_text(disk, name) {
         Ok(text) => unrolled(disk, name, text.as_str()),
@@ -36,7 +36,7 @@ fn unrolled<'n, D: Disk>(
 ) -> Result<Vec<Numbered>, Fault<'n>>
     ensures { (deeds : List FileDeed) × D.does disk.old deeds disk.new × All IsReading deeds
         × MatchResult result (λ lines. (own : List Numbered) × IsUnrolled text.now own
-        × AreIncluded name.now own lines.items deeds) (λ fault. IsUntested name.now fault) }
+        × AreIncluded name.now own lines.items deeds) (λ fault. IsNotIncluded name.now fault) }
 {
     match unroll(disk.alloc(), text) {
         Ok(lines) => with_included(disk, name, &lines),
@@ -52,7 +52,7 @@ fn with_included<'n, D: Disk>(
 ) -> Result<Vec<Numbered>, Fault<'n>>
     ensures { (deeds : List FileDeed) × D.does disk.old deeds disk.new × All IsReading deeds
         × MatchResult result (λ lines. AreIncluded name.now own.now lines.items deeds)
-        (λ fault. IsUntested name.now fault) }
+        (λ fault. IsNotIncluded name.now fault) }
 {
     let mut lines = Vec::new(disk.alloc());
     for line in own {
@@ -73,7 +73,7 @@ fn add_line<'n, D: Disk>(
 ) -> Result<(), Fault<'n>>
     ensures { (deeds : List FileDeed) × D.does disk.old deeds disk.new × All IsReading deeds
         × MatchResult result (λ _. (here : List Numbered) × IsPlace name.now line.now here deeds
-        × (lines.new.items ≡ lines.old.items ++ here)) (λ fault. IsUntested name.now fault) }
+        × (lines.new.items ≡ lines.old.items ++ here)) (λ fault. IsNotIncluded name.now fault) }
 {
     if let Line::Include(file) = read_line(line.text.as_str()) {
         return add_file(disk, name, file, line.number, lines);
@@ -115,7 +115,7 @@ fn add_file<'n, D: Disk>(
     ensures { (deeds : List FileDeed) × D.does disk.old deeds disk.new × All IsReading deeds
         × MatchResult result (λ _. (here : List Numbered)
         × IsFilePlace name.now file.now number here deeds
-        × (lines.new.items ≡ lines.old.items ++ here)) (λ fault. IsUntested name.now fault) }
+        × (lines.new.items ≡ lines.old.items ++ here)) (λ fault. IsNotIncluded name.now fault) }
 {
     let Ok(path) = beside(disk.alloc(), name, file) else {
         return Err(Fault::NoMemory);
@@ -131,7 +131,7 @@ fn add_file<'n, D: Disk>(
 
 // What it means that a file is not read that the line of this number in the file of this name includes.
 fn include_fault<'n>(name: &'n str, number: usize, fault: Fault) -> Fault<'n>
-    ensures untested { IsUntested name.now result }
+    ensures untested { IsNotIncluded name.now result }
     ensures told { IsIncludeFault name.now number fault.entry result }
 {
     match fault {
@@ -144,7 +144,7 @@ fn include_fault<'n>(name: &'n str, number: usize, fault: Fault) -> Fault<'n>
 fn rows_text<'n, D: Disk>(disk: &mut D, name: &'n str) -> Result<String, Fault<'n>>
     ensures { (deeds : List FileDeed) × D.does disk.old deeds disk.new × All IsReading deeds
         × MatchResult result (λ text. IsRowsText name.now (string_bytes text) deeds)
-        (λ fault. IsUntested name.now fault) }
+        (λ fault. IsNoRowsText name.now fault deeds) }
 {
     match script_of(disk, name) {
         Ok(bytes) => text_of_bytes(name, bytes),
@@ -156,8 +156,7 @@ fn rows_text<'n, D: Disk>(disk: &mut D, name: &'n str) -> Result<String, Fault<'
 fn text_of_bytes(name: &str, bytes: Vec<u8>) -> Result<String, Fault<'_>>
     ensures text { IfOk result (λ text. (string_bytes text ≡ bytes.items)
         × (length bytes.items ≤ 16777216)) }
-    ensures refused { IfErr result (λ fault. IsUntested name.now fault) }
-    ensures told { IfErr result (λ fault. IsNoText name.now bytes.items fault) }
+    ensures refused { IfErr result (λ fault. IsNoText name.now bytes.items fault) }
 {
     if bytes.len() > BOUND {
         return Err(Fault::ScriptTooLong);

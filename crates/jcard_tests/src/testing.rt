@@ -1,11 +1,11 @@
 //! `jcard test`: rows of files, answered by cards in memory.
-ghost use Rattle.std.specs.Prelude.{◌≡◌, ◌++◌, ◌∷◌, [], ℕ, List, All, Any, map, option_map, false, IfErr, MatchResult, OnOk};
+ghost use Rattle.std.specs.Prelude.{◌≡◌, ◌++◌, ◌∷◌, [], ℕ, List, All, map, option_map, false, IfErr, MatchResult, OnOk};
 ghost use Rattle.std.specs.Borrow.{Bor};
 ghost use Rattle.std.specs.Io.KnownBytes.{Appends};
 ghost use Rattle.jc_words.specs.Count.{failures_after};
 ghost use Rattle.jcard_faults.specs.Faults.{is_unwritten};
 ghost use Rattle.jcard_files.specs.FileDeeds.{FileDeed};
-ghost use Rattle.jcard_tests.specs.Tests.{AreTested, IsJunit, IsKept, IsReading, IsUnanswered, AreAnsweredOn, IsTest, IsTested, IsTold, IsUntested, IsVerdict};
+ghost use Rattle.jcard_tests.specs.Tests.{AreTested, IsJunit, IsKept, IsReading, IsUnanswered, AreAnsweredOn, IsOneUntested, IsTest, IsTested, IsTold, IsUntested, IsVerdict};
 ghost use Rattle.jcard_rows.specs.Cards.{AreCardsOf};
 ghost use Rattle.jcard_rows.specs.declared.card_rows.CardRows.{CardRows};
 ghost use Rattle.jcard_rows.specs.declared.outcome.Tested.{Tested};
@@ -49,8 +49,8 @@ pub fn test_files<'n, D: Disk, W: TextOut>(
 fn tested_files<'n, D: Disk>(disk: &mut D, files: &[&'n str]) -> Result<Vec<Tested<'n>>, Fault<'n>>
     ensures { (deeds : List FileDeed) × D.does disk.old deeds disk.new × All IsReading deeds
         × MatchResult result (λ tested. AreTested (map (λ (name : Bor (List ℕ)). name.now) files.now)
-        tested.items deeds) (λ fault. Any (λ name. IsUntested name fault)
-        (map (λ (name : Bor (List ℕ)). name.now) files.now)) }
+        tested.items deeds) (λ fault. IsOneUntested
+        (map (λ (name : Bor (List ℕ)). name.now) files.now) fault deeds) }
 {
     let mut tested = Vec::new(disk.alloc());
     for name in files {
@@ -70,7 +70,8 @@ fn add_tested<'n, D: Disk>(
 ) -> Result<(), Fault<'n>>
     ensures { (deeds : List FileDeed) × D.does disk.old deeds disk.new × All IsReading deeds
         × MatchResult result (λ _. (file : Tested) × IsTested name.now file deeds
-        × (tested.new.items ≡ tested.old.items ++ file ∷ [])) (λ fault. IsUntested name.now fault) }
+        × (tested.new.items ≡ tested.old.items ++ file ∷ []))
+        (λ fault. IsUntested name.now fault deeds) }
 {
     match tested_file(disk, name) {
         Ok(file) => push_tested(tested, file),
@@ -92,7 +93,7 @@ fn push_tested<'n>(tested: &mut Vec<Tested<'n>>, file: Tested<'n>) -> Result<(),
 fn tested_file<'n, D: Disk>(disk: &mut D, name: &'n str) -> Result<Tested<'n>, Fault<'n>>
     ensures { (deeds : List FileDeed) × D.does disk.old deeds disk.new × All IsReading deeds
         × MatchResult result (λ file. IsTested name.now file deeds)
-        (λ fault. IsUntested name.now fault) }
+        (λ fault. IsUntested name.now fault deeds) }
 {
     match lines_of(disk, name) {
         Ok(lines) => tested_lines(disk.alloc(), name, &lines),

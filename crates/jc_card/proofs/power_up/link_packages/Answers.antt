@@ -1,8 +1,21 @@
-use Rattle.std.proofs.Common.{◌≡◌, ◌∙◌, ap, length, sym}
+use Rattle.std.proofs.Common.{rules, ◌∙◌, ap, length, sym}
 use Rattle.jc_memory.specs.State.{MemoryState}
 use Rattle.jc_card.proofs.Linked.{as_many}
+use Rattle.jc_card.proofs.PoweredUp.{fits_linked, unfit}
 use Rattle.jc_card.proofs.power_up.link_packages.Goals as goal
 
-pub is_sound-requires-clause-linked : goal.is_sound-requires-clause-linked
-is_sound-requires-clause-linked g c = as_many c.args.platform c.args.heap.now c.in-Ok-read_packages.linked c.in-Ok-read_packages.ensures.linked
+pub card_of-requires-clause-linked : goal.card_of-requires-clause-linked
+card_of-requires-clause-linked g c = as_many c.args.platform c.args.heap.now c.in-Ok-read_packages.linked c.in-Ok-read_packages.ensures.linked
     ∙ ap (λ (m : MemoryState). length m.heap.now.packages) (sym c.new-memory.ensures)
+
+pub returns-in-Ok-read_packages-clause-packages : goal.returns-in-Ok-read_packages-clause-packages
+returns-in-Ok-read_packages-clause-packages g c =
+    fits_linked c.card_of.result c.new-memory.result c.in-Ok-read_packages.linked c.args.platform c.args.heap.now _
+    c.card_of.ensures.card c.card_of.ensures.sound (ap (λ (m : MemoryState). m.heap.now) c.new-memory.ensures) (search rules)
+    c.in-Ok-read_packages.ensures.linked
+
+pub returns-in-Ok-read_packages-clause-cause : goal.returns-in-Ok-read_packages-clause-cause
+returns-in-Ok-read_packages-clause-cause g c =
+    unfit c.card_of.result c.new-memory.result c.in-Ok-read_packages.linked c.args.platform c.args.heap.now _
+    c.card_of.ensures.cause (ap (λ (m : MemoryState). m.heap.now) c.new-memory.ensures) (search rules)
+    c.in-Ok-read_packages.ensures.linked

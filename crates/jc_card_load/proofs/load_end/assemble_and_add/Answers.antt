@@ -5,8 +5,8 @@ use Rattle.jc_card_load.proofs.load_end.assemble_and_add.Goals as goal
 
 pub returns-in-Ok : goal.returns-in-Ok
 unfolding assembly_result
-returns-in-Ok g c = rw (linked_is c.args.linked.now c.args.load c.in-Ok.texts c.in-Ok.ensures) c.link_and_add.ensures
+returns-in-Ok g c = rw (linked_is c.args.linked.now c.args.load c.in-Ok.whole c.in-Ok.ensures.exact) c.link_and_add.ensures
 
 pub returns-in-Err : goal.returns-in-Err
 unfolding assembly_result
-returns-in-Err g c = rw (refused_is c.args.linked.now c.args.load c.in-Err.fault c.in-Err.ensures) (inl (refl, refl))
+returns-in-Err g c = rw (refused_is c.args.linked.now c.args.load c.in-Err.fault c.in-Err.ensures.exact) (inl (refl, refl))

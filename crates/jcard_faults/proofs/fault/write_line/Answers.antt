@@ -22,3 +22,6 @@ returns-in-BadCommand-clause-text g c =
 
 pub returns-in-CannotInclude-clause-text : goal.returns-in-CannotInclude-clause-text
 returns-in-CannotInclude-clause-text g c = rw c.in-CannotInclude.is c.write_unincluded.ensures.text
+
+pub returns-in-OtherPart-clause-text : goal.returns-in-OtherPart-clause-text
+returns-in-OtherPart-clause-text g c = rw c.in-OtherPart.is (rw c.as_bytes-in-OtherPart.ensures.value at c.write_parts-in-OtherPart.ensures.text)

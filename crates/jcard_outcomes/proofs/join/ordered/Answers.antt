@@ -1,31 +1,30 @@
-use Rattle.std.proofs.Common.{arith}
-use Rattle.std.specs.Prelude.{map}
-use Rattle.std.proofs.lemmas.List.{length-map}
+use Rattle.std.proofs.Common.{ap, arith}
+use Rattle.jcard_outcomes.proofs.Ends.{lent, lent_length}
 use Rattle.jcard_outcomes.proofs.LineReads.{ended_read, ended_whole, reads_begun, reads_fault, reads_next}
 use Rattle.jcard_outcomes.proofs.join.ordered.Goals as goal
 
 pub loop-number-init : goal.loop-number-init
-loop-number-init c = reads_begun (map (λ t. t.items) c.args.texts.now) c.new-lines.result.items c.in_ok-rests.rests.items c.new-lines.ensures.items c.in_ok-rests.ensures.lent
+loop-number-init c = reads_begun (lent c.args.texts.now) c.new-lines.result.items c.in_ok-rests.rests.items c.new-lines.ensures.items (ap lent c.in_ok-rests.ensures.items)
 
 pub loop-number-preserved : goal.loop-number-preserved
-loop-number-preserved c = reads_next (map (λ t. t.items) c.args.texts.now) c.loop-number.lines.items c.loop-number.rests.items c.push_told.new.lines.items
+loop-number-preserved c = reads_next (lent c.args.texts.now) c.loop-number.lines.items c.loop-number.rests.items c.push_told.new.lines.items
     c.next_line.new.rests.items c.loop-number.number c.in-Ok-Some.told c.loop-number.invariant
-    (omega (arith, length-map c.args.texts.now (λ t. t.items), c.requires)) (rw c.in-Ok-Some.field-0-is at c.in-Ok-Some.ensures)
+    (omega (arith, lent_length c.args.texts.now, c.requires)) (rw c.in-Ok-Some.field-0-is at c.in-Ok-Some.ensures)
     c.in_ok-push_told-in-Ok-Some.ensures.pushed
 
 pub returns-in-Ok-None-clause-read : goal.returns-in-Ok-None-clause-read
-returns-in-Ok-None-clause-read c = ended_read (λ r. r.items) (map (λ t. t.items) c.args.texts.now) c.loop-number.lines c.loop-number.rests.items
+returns-in-Ok-None-clause-read c = ended_read (λ r. r.items) (lent c.args.texts.now) c.loop-number.lines c.loop-number.rests.items
     c.next_line.new.rests.items c.loop-number.number c.ended.result c.loop-number.invariant
-    (omega (arith, length-map c.args.texts.now (λ t. t.items), c.requires)) (rw c.in-Ok-None.field-0-is at c.in-Ok-None.ensures)
+    (omega (arith, lent_length c.args.texts.now, c.requires)) (rw c.in-Ok-None.field-0-is at c.in-Ok-None.ensures)
     (rw c.deref.ensures.value at c.ended.ensures.whole)
 
 pub returns-in-Ok-None-clause-whole : goal.returns-in-Ok-None-clause-whole
-returns-in-Ok-None-clause-whole c = ended_whole (λ r. r.items) (map (λ t. t.items) c.args.texts.now) c.loop-number.lines c.loop-number.rests.items
+returns-in-Ok-None-clause-whole c = ended_whole (λ r. r.items) (lent c.args.texts.now) c.loop-number.lines c.loop-number.rests.items
     c.next_line.new.rests.items c.loop-number.number c.ended.result c.loop-number.invariant
-    (omega (arith, length-map c.args.texts.now (λ t. t.items), c.requires)) (rw c.in-Ok-None.field-0-is at c.in-Ok-None.ensures)
+    (omega (arith, lent_length c.args.texts.now, c.requires)) (rw c.in-Ok-None.field-0-is at c.in-Ok-None.ensures)
     (rw c.deref.ensures.value at c.ended.ensures.whole) (rw c.deref.ensures.value at c.ended.ensures.missing)
 
 pub returns-in-Err-clause-whole : goal.returns-in-Err-clause-whole
-returns-in-Err-clause-whole c = reads_fault (map (λ t. t.items) c.args.texts.now) c.loop-number.lines.items c.loop-number.rests.items
+returns-in-Err-clause-whole c = reads_fault (lent c.args.texts.now) c.loop-number.lines.items c.loop-number.rests.items
     c.next_line.new.rests.items c.loop-number.number c.in-Err.fault c.loop-number.invariant
-    (omega (arith, length-map c.args.texts.now (λ t. t.items), c.requires)) c.in-Err.ensures
+    (omega (arith, lent_length c.args.texts.now, c.requires)) c.in-Err.ensures

@@ -4,5 +4,5 @@ use Rattle.jcard_outcomes.proofs.Dealt.{Reading}
 use Rattle.jcard_outcomes.proofs.join.ordered.Given as goal
 
 abbrev pub invariant-loop-number : goal.invariant-loop-number
-invariant-loop-number l = Reading (map (λ t. t.items) l.texts) (map (λ (t : Bor (List ℕ)). t.now) l.lines.items)
+invariant-loop-number l = Reading (map (λ (t : Bor (List ℕ)). t.now) l.texts) (map (λ (t : Bor (List ℕ)). t.now) l.lines.items)
     (map (λ (t : Bor (List ℕ)). t.now) l.rests.items) l.number

@@ -1,13 +1,36 @@
-use Rattle.std.proofs.Common.{[], map}
+use Rattle.std.proofs.Common.{[], ℕ, List, arith, length, map, refl}
+use Rattle.std.specs.Borrow.{Bor}
+use Rattle.std.specs.String.{string_bytes}
+use Rattle.std.proofs.lemmas.List.{length-map}
 use Rattle.jcard_script.proofs.Known.{appends_same}
-use Rattle.jcard_sweeps.proofs.Joinings.{joined_told, unjoined}
+use Rattle.jcard_sweeps.proofs.Joinings.{heads_joined, others_told}
 use Rattle.jcard_sweeps.proofs.joining.join_texts.Goals as goal
+
+pub join_bodies-requires : goal.join_bodies-requires
+join_bodies-requires g c =
+    let behind = c.in-Ok.ensures in
+    rw c.deref.ensures.value (omega (
+      arith,
+      behind.1.all,
+      length-map c.args.texts.now (λ t. t.items),
+      length-map c.in-Ok.bodies.items (λ (t : Bor (List ℕ)). t.now),
+      c.requires.some,
+    ))
 
 pub returns-in-Ok-clause-done : goal.returns-in-Ok-clause-done
 returns-in-Ok-clause-done g c =
-    let told = c.tell_joined.ensures.done in
-    (told.0, told.1, joined_told (map (λ t. t.items) c.args.texts.now) c.in-Ok.joined c.tell_joined.result told.0 c.in-Ok.ensures.joined c.in-Ok.ensures.parts told.2)
+    let told = c.join_bodies.ensures.done in
+    let behind = c.in-Ok.ensures in (
+      told.0,
+      told.1,
+      heads_joined (map string_bytes c.args.files.now) (map (λ t. t.items) c.args.texts.now)
+          (map (λ (t : Bor (List ℕ)). t.now) c.in-Ok.bodies.items) behind.0 c.join_bodies.result told.0 behind.1 (rw c.deref.ensures.value at told.2),
+    )
 
 pub returns-in-Err-clause-done : goal.returns-in-Err-clause-done
-returns-in-Err-clause-done g c =
-    ([], appends_same _, unjoined (map (λ t. t.items) c.args.texts.now) c.in-Err.cause c.join_fault.result c.join_fault.ensures.told c.in-Err.ensures.parts)
+returns-in-Err-clause-done g c = (
+  [],
+  appends_same _,
+  others_told (map string_bytes c.args.files.now) (map (λ t. t.items) c.args.texts.now) c.in-Err.cause c.head_fault.result
+      (omega (arith, length-map c.args.texts.now (λ t. t.items), c.requires.some)) c.in-Err.ensures c.head_fault.ensures.told,
+)

@@ -8,7 +8,7 @@ pub returns-in-Ok-clause-done : goal.returns-in-Ok-clause-done
 returns-in-Ok-clause-done g c =
     let read = c.in-Ok.ensures.read in
     let done = c.tear_over.ensures.done in
-    let over = subst (λ w. IsTearOver w c.args.asked.script.now (option_map (λ name. name.now) c.args.asked.line) c.args.asked.each c.args.asked.depth (option_map (λ name. name.now) c.args.asked.part) (option_map (λ name. name.now) c.args.asked.probe) c.tear_over.result
+    let over = subst (λ w. IsTearOver w c.args.asked.script.now (option_map (λ name. name.now) c.args.asked.line) c.args.asked.each c.args.asked.behind (option_map (λ name. name.now) c.args.asked.part) (option_map (λ name. name.now) c.args.asked.probe) c.tear_over.result
     done.0 done.1) c.deref.ensures.value done.3 in (
       done.0,
       read.0 ++ done.1,

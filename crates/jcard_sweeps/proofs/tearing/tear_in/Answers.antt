@@ -7,7 +7,7 @@ use Rattle.jcard_sweeps.proofs.tearing.tear_in.Goals as goal
 pub returns-in-Ok-clause-done : goal.returns-in-Ok-clause-done
 returns-in-Ok-clause-done g c =
     let done = c.tear_meant.ensures.done in
-    let torn = subst (λ all. AreTornOf c.args.words.now all (option_map (λ name. name.now) c.args.asked.line) c.args.asked.each c.args.asked.depth (option_map (λ name. name.now) c.args.asked.part) (option_map (λ name. name.now) c.args.asked.probe) c.tear_meant.result
+    let torn = subst (λ all. AreTornOf c.args.words.now all (option_map (λ name. name.now) c.args.asked.line) c.args.asked.each c.args.asked.behind (option_map (λ name. name.now) c.args.asked.part) (option_map (λ name. name.now) c.args.asked.probe) c.tear_meant.result
     done.0 done.1) c.deref.ensures.value done.3 in
     (done.0, done.1, done.2, inr (c.in-Ok.commands.items, c.in-Ok.ensures, torn), done.4)
 

@@ -8,7 +8,7 @@ pub returns-in-Ok-clause-done : goal.returns-in-Ok-clause-done
 returns-in-Ok-clause-done g c =
     let read = c.in-Ok.ensures.read in
     let done = c.cut_one.ensures.done in
-    let torn = subst (λ given. IsTornOne c.args.words.now (line_of c.args.found) c.args.asked.depth given c.cut_one.result done.0) c.lent.ensures done.2 in
+    let torn = subst (λ given. IsTornOne c.args.words.now (line_of c.args.found) c.args.asked.behind given c.cut_one.result done.0) c.lent.ensures done.2 in
     (done.0, read.0, done.1, inr (_, read.2, torn), read.1)
 
 pub returns-in-Err-clause-done : goal.returns-in-Err-clause-done

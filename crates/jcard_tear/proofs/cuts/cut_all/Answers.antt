@@ -5,7 +5,7 @@ use Rattle.jcard_tear.proofs.CutLists.{cuts_more, cuts_none}
 use Rattle.jcard_tear.proofs.cuts.cut_all.Goals as goal
 
 pub loop-number-init : goal.loop-number-init
-loop-number-init c = record { cuts = rw c.new-cuts.ensures.items (cuts_none _ _ _ _ _ _); count = rw c.new-cuts.ensures.items refl }
+loop-number-init c = record { cuts = rw c.new-cuts.ensures.items (cuts_none _ _ _ _ _ _ _); count = rw c.new-cuts.ensures.items refl }
 
 pub returns-in_default : goal.returns-in_default
 returns-in_default c =
@@ -15,13 +15,13 @@ returns-in_default c =
 pub loop-number-preserved : goal.loop-number-preserved
 loop-number-preserved c =
     let cuts = c.loop-number.cuts.items in
-    let cut : Cut = record { standing = c.standing_of-standing.result; answers = c.in-Some.left.answers; recoveries = c.in-Some.recoveries } in
+    let cut : Cut = record { standing = c.standing_of-standing.result; answers = c.in_ok-told.field-0; recoveries = c.in-Some.recoveries } in
     let left = rw c.in-Some.is at c.in_ok-left.ensures in
     let standing = rw (c.deref.ensures.value, c.deref-in-loop-number.ensures.value) at c.standing_of-standing.ensures in
     let place : c.loop-number.number ≡ 0 + length cuts = omega (arith, c.loop-number.invariant.count) in
     let here = subst (λ n. IsCutAt c.args.words.now c.args.command n c.in-Some.left c.in-Some.recoveries) place left in
     record {
-      cuts = rw c.in_ok-push_cut.ensures (cuts_more c.args.words.now c.args.command c.args.spared.now c.args.before.now c.args.after.now 0 cuts cut
-          c.loop-number.invariant.cuts (c.in-Some.left, here, refl, standing));
+      cuts = rw c.in_ok-push_cut.ensures (cuts_more c.args.words.now c.args.command c.args.spared.now c.args.objects.now c.args.before.now c.args.after.now 0 cuts cut
+          c.loop-number.invariant.cuts (c.in-Some.left, here, c.in_ok-told.ensures, standing));
       count = rw c.in_ok-push_cut.ensures (omega (arith, length-append cuts (cut ∷ []), c.loop-number.invariant.count));
     }

@@ -13,6 +13,6 @@ loop-line-preserved c =
     let none : ScriptLine = record { number = 0; before = record { ref_ptr = (0, 0); now = [] }; line = record { ref_ptr = (0, 0); now = [] } } in
     let line = get_or c.args.lines.now c.loop-line.line-index none in
     let swept : LineSweep = record { number = line.number; sweep = c.in_ok-sweep.sweep } in
-    swept_next c.args.words.now (option_map (λ text. text.now) c.args.probe) c.args.depth c.args.lines.now c.loop-line.line-index none
+    swept_next c.args.words.now (option_map (λ text. text.now) c.args.probe) c.args.behind c.args.lines.now c.loop-line.line-index none
     c.loop-line.sweeps.items c.push_sweep.new.sweeps.items swept c.loop-line-test.true c.loop-line.invariant refl c.in_ok-sweep.ensures
     c.in_ok-push_sweep.ensures

@@ -5,7 +5,7 @@ use Rattle.jcard_tear.proofs.EveryLists.{every_more, every_none, number_more}
 use Rattle.jcard_tear.proofs.parts.cut_every.Goals as goal
 
 pub loop-place-init : goal.loop-place-init
-loop-place-init c = record { cuts = rw c.new-cuts.ensures.items (every_none _ _ _ _ _ _ _); count = rw c.new-cuts.ensures.items (omega arith); fits = omega (arith, c.ranges.first.fits) }
+loop-place-init c = record { cuts = rw c.new-cuts.ensures.items (every_none _ _ _ _ _ _ _ _); count = rw c.new-cuts.ensures.items (omega arith); fits = omega (arith, c.ranges.first.fits) }
 
 pub returns-in_default-clause-cut : goal.returns-in_default-clause-cut
 returns-in_default-clause-cut c =
@@ -18,14 +18,14 @@ returns-in_default-clause-below c = omega (arith, c.loop-place.invariant.count, 
 pub loop-place-preserved : goal.loop-place-preserved
 loop-place-preserved c =
     let cuts = c.loop-place.cuts.items in
-    let cut : Cut = record { standing = c.standing_of-standing.result; answers = c.in-Some.left.answers; recoveries = c.in-Some.recoveries } in
+    let cut : Cut = record { standing = c.standing_of-standing.result; answers = c.in_ok-told.field-0; recoveries = c.in-Some.recoveries } in
     let left = rw c.in-Some.is at c.in_ok-left.ensures in
     let standing = rw (c.deref.ensures.value, c.deref-in-loop-place.ensures.value) at c.standing_of-standing.ensures in
     let here = subst (λ n. IsCutAt c.args.words.now c.args.command n c.in-Some.left c.in-Some.recoveries) c.loop-place.invariant.count left in
     let next : c.in-Some-checked_add.next ≡ c.loop-place.number + c.args.step = search rules in
     record {
-      cuts = rw c.in_ok-push_cut.ensures (every_more c.args.words.now c.args.command c.args.spared.now c.args.before.now c.args.after.now c.args.first c.args.step
-          cuts cut c.loop-place.invariant.cuts (c.in-Some.left, here, refl, standing));
+      cuts = rw c.in_ok-push_cut.ensures (every_more c.args.words.now c.args.command c.args.spared.now c.args.objects.now c.args.before.now c.args.after.now c.args.first c.args.step
+          cuts cut c.loop-place.invariant.cuts (c.in-Some.left, here, c.in_ok-told.ensures, standing));
       count = number_more c.args.first c.args.step (length cuts) c.loop-place.number c.in-Some-checked_add.next c.loop-place.invariant.count next
           ∙ ap (λ n. c.args.first + c.args.step * n) (sym (ap length c.in_ok-push_cut.ensures ∙ length-append cuts (cut ∷ [])));
       fits = search rules;

@@ -1,4 +1,4 @@
-use Rattle.std.proofs.Common.{◌++◌}
+use Rattle.std.proofs.Common.{◌++◌, inl}
 use Rattle.jcard_tests.proofs.RowTests.{file_lines, reads_more}
 use Rattle.jcard_tests.proofs.rows_file.lines_of.Goals as goal
 
@@ -11,3 +11,8 @@ returns-in-Ok g c =
       reads_more read.0 more.0 read.2 more.2,
       file_lines (λ v. v.items) c.unrolled.result c.args.name.now _ _ read.0 more.0 read.3 c.as_str.ensures.value more.3,
     )
+
+pub returns-in-Err : goal.returns-in-Err
+returns-in-Err g c =
+    let read = c.in-Err.ensures in
+    (read.0, read.1, read.2, inl read.3)

@@ -1,6 +1,6 @@
-use Rattle.std.proofs.Common.{Ok}
+use Rattle.std.proofs.Common.{Ok, inl}
 use Rattle.std.specs.String.{string_bytes}
-use Rattle.jcard_tests.proofs.RowTests.{one_reading, text_read, unread_untested}
+use Rattle.jcard_tests.proofs.RowTests.{one_reading, text_read, unread_reading}
 use Rattle.jcard_tests.proofs.rows_file.rows_text.Goals as goal
 
 pub returns-in-Ok : goal.returns-in-Ok
@@ -15,5 +15,4 @@ returns-in-Ok g c =
 pub returns-in-Err : goal.returns-in-Err
 returns-in-Err g c =
     let read = c.in-Err.ensures.read in
-    let unread = unread_untested c.args.name.now c.in-Err.fault read.0 read.2 in
-    (read.0, read.1, unread.0, unread.1)
+    (read.0, read.1, unread_reading c.args.name.now c.in-Err.fault read.0 read.2, inl read.2)

@@ -23,4 +23,4 @@ returns-in-Err-clause-done g c =
     ([], read.0, appends_same _, (read.0, [], sym (append-nil read.0), read.2, inl (c.in-Err.fault, refl, read.3, refl, refl)), read.1)
 
 pub returns-in-Err-clause-writes : goal.returns-in-Err-clause-writes
-returns-in-Err-clause-writes g c = rw (any_unwritten (names_of c.args.files.now) c.in-Err.fault c.in-Err.ensures.3) refl
+returns-in-Err-clause-writes g c = rw (any_unwritten (names_of c.args.files.now) c.in-Err.fault c.in-Err.ensures.0 c.in-Err.ensures.3) refl

@@ -1,4 +1,4 @@
-use Rattle.std.proofs.Common.{ℕ, List, [], ◌++◌, subst}
+use Rattle.std.proofs.Common.{ℕ, List, [], ◌++◌, refl, subst}
 use Rattle.std.specs.Borrow.{Bor}
 use Rattle.std.proofs.lemmas.List.{take_all}
 use Rattle.jcard_tests.specs.Tests.{AreTested, IsUntested}
@@ -28,7 +28,7 @@ returns-in-Err g c =
       so_far.0 ++ last.0,
       g.met.D.Disk.then _ _ _ so_far.0 last.0 so_far.1 last.1,
       reads_more so_far.0 last.0 so_far.2 last.2,
-      any_at (λ name. IsUntested name c.in-Err.fault) c.args.files.now c.loop-name.name-index none c.loop-name-test.true last.3,
+      (so_far.0, last.0, refl, any_at (λ name. IsUntested name c.in-Err.fault last.0) c.args.files.now c.loop-name.name-index none c.loop-name-test.true last.3),
     )
 
 pub returns : goal.returns

@@ -2,4 +2,4 @@ use Rattle.jc_cap.proofs.Named.{found}
 use Rattle.jc_cap.proofs.assembling.Package.of.Goals as goal
 
 pub returns-clause-found : goal.returns-clause-found
-returns-clause-found c = found c.args.texts.now c.package_of.result c.package_of.ensures
+returns-clause-found c = found c.args.load c.assembled.result c.assembled.ensures

@@ -1,34 +1,47 @@
-use Rattle.std.proofs.Common.{rules, sym, ap, ◌∙◌}
+use Rattle.std.proofs.Common.{rules, refl, sym, ap, ◌∙◌}
 use Rattle.jc_cap.specs.Taking.{taken_with}
-use Rattle.jc_cap.proofs.Taken.{header_is, directory_is, applets_are, imports_are, pool_is, classes_are, methods_are, statics_are, exports_are, unused_is}
+use Rattle.jc_cap.specs.Texts.{with_component}
+use Rattle.jc_cap.proofs.Again.{others_kept}
+use Rattle.jc_cap.proofs.Taken.{classes_are, unused_is}
 use Rattle.jc_cap.proofs.texts.LoadedComponents.take_by_tag.Goals as goal
-
-pub returns-in-1 : goal.returns-in-1
-returns-in-1 c = rw c.in-1.is (c.take_header.ensures ∙ ap (taken_with c.args.self.now 1 c.args.bytes.items) (sym (header_is c.args.format c.args.bytes.items)))
-
-pub returns-in-2 : goal.returns-in-2
-returns-in-2 c = rw c.in-2.is (c.take_directory.ensures ∙ ap (taken_with c.args.self.now 2 c.args.bytes.items) (sym (directory_is c.args.format c.args.bytes.items)))
-
-pub returns-in-3 : goal.returns-in-3
-returns-in-3 c = rw c.in-3.is (c.take_applets.ensures ∙ ap (taken_with c.args.self.now 3 c.args.bytes.items) (sym (applets_are c.args.format c.args.bytes.items)))
-
-pub returns-in-4 : goal.returns-in-4
-returns-in-4 c = rw c.in-4.is (c.take_imports.ensures ∙ ap (taken_with c.args.self.now 4 c.args.bytes.items) (sym (imports_are c.args.format c.args.bytes.items)))
-
-pub returns-in-5 : goal.returns-in-5
-returns-in-5 c = rw c.in-5.is (c.take_pool.ensures ∙ ap (taken_with c.args.self.now 5 c.args.bytes.items) (sym (pool_is c.args.format c.args.bytes.items)))
 
 pub returns-in-6 : goal.returns-in-6
 returns-in-6 c = rw c.in-6.is (c.take_classes.ensures ∙ ap (taken_with c.args.self.now 6 c.args.bytes.items) (sym (classes_are c.args.format c.args.bytes.items)))
 
-pub returns-in-7 : goal.returns-in-7
-returns-in-7 c = rw c.in-7.is (c.take_methods.ensures ∙ ap (taken_with c.args.self.now 7 c.args.bytes.items) (sym (methods_are c.args.format c.args.bytes.items)))
+pub returns-in_ok-read-in-2 : goal.returns-in_ok-read-in-2
+unfolding with_component
+returns-in_ok-read-in-2 c = rw c.in-2.is (others_kept c.args.self.now c.args.format 2 c.args.bytes.items c.in_ok-read-in-2.field-0 refl
+    c.in_ok-read-in-2.ensures.0 c.in_ok-read-in-2.ensures.1)
 
-pub returns-in-8 : goal.returns-in-8
-returns-in-8 c = rw c.in-8.is (c.take_statics.ensures ∙ ap (taken_with c.args.self.now 8 c.args.bytes.items) (sym (statics_are c.args.format c.args.bytes.items)))
+pub returns-in_ok-read-in-3 : goal.returns-in_ok-read-in-3
+unfolding with_component
+returns-in_ok-read-in-3 c = rw c.in-3.is (others_kept c.args.self.now c.args.format 3 c.args.bytes.items c.in_ok-read-in-3.field-0 refl
+    c.in_ok-read-in-3.ensures.0 c.in_ok-read-in-3.ensures.1)
 
-pub returns-in-10 : goal.returns-in-10
-returns-in-10 c = rw c.in-10.is (c.take_exports.ensures ∙ ap (taken_with c.args.self.now 10 c.args.bytes.items) (sym (exports_are c.args.format c.args.bytes.items)))
+pub returns-in_ok-read-in-4 : goal.returns-in_ok-read-in-4
+unfolding with_component
+returns-in_ok-read-in-4 c = rw c.in-4.is (others_kept c.args.self.now c.args.format 4 c.args.bytes.items c.in_ok-read-in-4.field-0 refl
+    c.in_ok-read-in-4.ensures.0 c.in_ok-read-in-4.ensures.1)
+
+pub returns-in_ok-read-in-5 : goal.returns-in_ok-read-in-5
+unfolding with_component
+returns-in_ok-read-in-5 c = rw c.in-5.is (others_kept c.args.self.now c.args.format 5 c.args.bytes.items c.in_ok-read-in-5.field-0 refl
+    c.in_ok-read-in-5.ensures.0 c.in_ok-read-in-5.ensures.1)
+
+pub returns-in_ok-read-in-7 : goal.returns-in_ok-read-in-7
+unfolding with_component
+returns-in_ok-read-in-7 c = rw c.in-7.is (others_kept c.args.self.now c.args.format 7 c.args.bytes.items c.in_ok-read-in-7.field-0 refl
+    c.in_ok-read-in-7.ensures.0 c.in_ok-read-in-7.ensures.1)
+
+pub returns-in_ok-read-in-8 : goal.returns-in_ok-read-in-8
+unfolding with_component
+returns-in_ok-read-in-8 c = rw c.in-8.is (others_kept c.args.self.now c.args.format 8 c.args.bytes.items c.in_ok-read-in-8.field-0 refl
+    c.in_ok-read-in-8.ensures.0 c.in_ok-read-in-8.ensures.1)
+
+pub returns-in_ok-read-in-10 : goal.returns-in_ok-read-in-10
+unfolding with_component
+returns-in_ok-read-in-10 c = rw c.in-10.is (others_kept c.args.self.now c.args.format 10 c.args.bytes.items c.in_ok-read-in-10.field-0 refl
+    c.in_ok-read-in-10.ensures.0 c.in_ok-read-in-10.ensures.1)
 
 pub returns-in_default : goal.returns-in_default
 returns-in_default c = c.take_unused.ensures ∙ unused_is c.args.self.now c.args.format c.args.tag c.args.bytes.items (search rules)

@@ -1,0 +1,77 @@
+//! Linking a package that was put together.
+ghost use Rattle.std.specs.Prelude.{◌≡◌, ◌<◌, ◌≤◌, length, is_some, OnOk};
+ghost use Rattle.jc_cap.specs.Views.{package_contents};
+ghost use Rattle.jc_linker.specs.Lookups.{package_with_aid};
+ghost use Rattle.jc_linker.specs.Linking.{link_result};
+ghost use Rattle.jc_linker.specs.Answers.{Answers as AnswersLink};
+ghost use Rattle.jc_card_load.specs.LinkerView.{linker_view};
+ghost use Rattle.jc_card_load.specs.PendingPackages.{Answers, linked_as, linked_package, linked_texts};
+
+use crate::linker_view::linker_components_of;
+use crate::load_refusal::LoadRefusal;
+use jc_cap::assembling::Package;
+use jc_cap::contents::Contents;
+use jc_cap::texts::PackageBytes;
+use jc_linker::fault::LinkFault;
+use jc_linker::link::link;
+use jc_linker::linked::{Addition, Linked, MOST_PACKAGES};
+use std::alloc::Global;
+
+// The package that these components are, linked against those that are there.
+fn link_to<'a>(
+    alloc: Global,
+    linked: &Linked,
+    texts: &'a PackageBytes,
+    contents: Contents<'a>,
+) -> Result<Addition, LinkFault>
+    requires room { length linked.now.loaded < 32 }
+    requires few { length contents.classes ≤ 256 }
+    ensures { AnswersLink (λ added. added) result (link_result linked.now
+        (linker_view texts.entry.now (package_contents contents.entry))) }
+{
+    let components = linker_components_of(texts, contents);
+    link(alloc, linked, &components)
+}
+
+// The same, where its AID is new and there is a place for it.
+#[tactic(auto, unfolding(crate::specs::PendingPackages::linked_package))]
+fn link_contents<'a>(
+    alloc: Global,
+    linked: &Linked,
+    texts: &'a PackageBytes,
+    contents: Contents<'a>,
+) -> Result<Addition, LoadRefusal>
+    requires few { length contents.classes ≤ 256 }
+    ensures answer { Answers (linked_as texts.entry.now) result (linked_package linked.now
+        texts.entry.now (package_contents contents.entry)) }
+    ensures room { OnOk result (length linked.now.loaded < 32) }
+{
+    if linked
+        .package_with_aid(contents.header.this_package.aid)
+        .is_some()
+    {
+        return Err(LoadRefusal::AidTaken);
+    }
+    if linked.count() >= MOST_PACKAGES {
+        return Err(LoadRefusal::Full);
+    }
+    match link_to(alloc, linked, texts, contents) {
+        Ok(addition) => Ok(addition),
+        Err(fault) => Err(LoadRefusal::LinkFailed(fault)),
+    }
+}
+
+/// Links a package against those that are there.
+///
+/// The first of these is answered: AidTaken; Full; the fault of linking. Want of memory is such a fault.
+pub(crate) fn link_package(
+    alloc: Global,
+    linked: &Linked,
+    whole: &Package,
+) -> Result<Addition, LoadRefusal>
+    ensures answer { Answers (linked_as whole.now) result (linked_texts linked.now whole.now) }
+    ensures room { OnOk result (length linked.now.loaded < 32) }
+{
+    let contents = whole.contents();
+    link_contents(alloc, linked, whole.texts(), contents)
+}

@@ -1,0 +1,5 @@
+//! Texts that tell objects: their classes, and which of their cells changed.
+#![tactic(auto)]
+
+pub mod changes;
+pub mod class_texts;
