@@ -11,7 +11,7 @@ MOST_SENT = 256  # bytes before a status word
 ANSWER = re.compile("(?:[0-9A-F]{2}){2,%d}" % (MOST_SENT + 2))
 COMMAND = re.compile("(?: *[0-9A-Fa-f] *[0-9A-Fa-f])* *")
 STOP = re.compile("stop ([0-9]+)")
-DUMP = re.compile(r"words [0-9]+\njournal [0-9]+\npackages ([0-9]+)\napplets ([0-9]+)\n"
+DUMP = re.compile(r"words [0-9]+\njournal [0-9]+ of [0-9]+\npackages ([0-9]+)\napplets ([0-9]+)\n"
                   r"((?:package [0-9]+ [0-9A-F]{10,32} [0-9]+\.[0-9]+\n)*)((?:applet [0-9]+ [0-9A-F]{10,32} package [0-9]+\n)*)")
 BAD_IMAGE = re.compile("jcard: bad image [1-6]")
 BYTES, END = "80B4", "80BA"  # the commands that may tell want of memory

@@ -7,6 +7,7 @@ mod watch;
 
 use crate::watch::Watch;
 use jc_platform::example::EXAMPLE;
+use jc_words::layout::USUAL_CAPACITY;
 use jc_words::{FileStore, FuseStore, MemStore, WordStore, ZeroWords};
 use jcard_script::card::formatting::format;
 use jcard_script::mem_text::MemText;
@@ -53,7 +54,7 @@ fn run_on<S: WordStore + Drop>(
     setup: &[u8],
     commands: &[u8],
 ) -> io::Result<()> {
-    let (store, _) = format(store, EXAMPLE.as_bytes());
+    let (store, _) = format(store, EXAMPLE.as_bytes(), USUAL_CAPACITY);
     let card = FuseStore::new(store);
     let mut setup = MemText::new(rt.alloc(), setup, 0)?;
     let mut commands = MemText::new(rt.alloc(), commands, 0)?;

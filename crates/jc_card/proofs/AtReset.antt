@@ -1,7 +1,7 @@
 -- A card that was powered up is as after a reset.
 use Rattle.std.proofs.Common.{◌≡◌, ◌∙◌, ◌+◌, ℕ, List, [], Ok, Err, Some, None, sym, ap, subst}
 use Rattle.std.specs.Prelude.{Result, IfOk}
-use Rattle.jc_heap.specs.Heap.{HeapState, HeapView, facts, heap_of}
+use Rattle.jc_heap.specs.Heap.{HeapView, facts, heap_of}
 use Rattle.jc_heap.specs.Image.{IsWellFormed, table_text}
 use Rattle.jc_heap.proofs.RawWords.{text_is}
 use Rattle.jc_transient.specs.State.{IsCleared, RamState}

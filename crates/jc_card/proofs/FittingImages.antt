@@ -1,5 +1,5 @@
 -- A new image fits its packages, of which there are none: nothing stands behind the objects of the runtime environment.
-use Rattle.std.proofs.Common.{◌≡◌, ℕ, zero, suc, ◌+◌, ◌<◌, ◌≤◌, false, List, [], ◌∷◌, ◌++◌, length, map, Some, None, refl, sym, ◌∙◌, ap, subst, arith}
+use Rattle.std.proofs.Common.{◌≡◌, ℕ, zero, suc, ◌+◌, ◌<◌, false, List, [], ◌∷◌, ◌++◌, length, map, Some, None, refl, sym, ◌∙◌, ap, subst, arith}
 use Rattle.std.specs.Prelude.{unwrap_or}
 use Rattle.std.proofs.lemmas.Bool.{false≢true}
 use Rattle.std.proofs.lemmas.List.{append_assoc}
@@ -88,10 +88,10 @@ fixed_count : 17 ≡ length fixed_objects
 unfolding fixed_objects
 fixed_count = refl
 
-pub alone : (n : ℕ) (text : List ℕ) (t : Tokens) (x : ℕ) → last_fixed (new_card_heap n text t) < x → IsObject (new_card_heap n text t) x → ⊥
-alone n text t x above object =
-    let h : HeapState = with_objects t (unsealed_heap n text) fixed_objects in
-    last_all t (unsealed_heap n text) fixed_objects 17 fixed_count (omega arith) (record { absent = λ q le. refl; none = λ q le. refl }) refl (omega arith)
+pub alone : (n capacity : ℕ) (text : List ℕ) (t : Tokens) (x : ℕ) → last_fixed (new_card_heap n capacity text t) < x → IsObject (new_card_heap n capacity text t) x → ⊥
+alone n capacity text t x above object =
+    let h : HeapState = with_objects t (unsealed_heap n capacity text) fixed_objects in
+    last_all t (unsealed_heap n capacity text) fixed_objects 17 fixed_count (omega arith) (record { absent = λ q le. refl; none = λ q le. refl }) refl (omega arith)
     x (omega (arith, number_sealed h 17, above)) (object_sealed h x object)
 
 pub packages_add : (t : Tokens) (h : HeapState) (os : List FixedObject) → (with_objects t h os).packages ≡ h.packages
@@ -109,14 +109,14 @@ pub no_packages : (t : Tokens) (h : HeapState) → h.packages ≡ [] → package
 unfolding packages_of
 no_packages t h none = ap (λ ps. with_records (record { platform = t; loaded = [] }) (map (record_of h) ps)) none
 
-pub fits-new_card_heap : (n : ℕ) (text : List ℕ) (t u : Tokens) → HasPackages u (new_card_heap n text t)
-fits-new_card_heap n text t u =
-    let none : (new_card_heap n text t).packages ≡ [] = packages_add t (unsealed_heap n text) fixed_objects in
-    let counts : (new_card_heap n text t).counts ≡ (0, 0) = counts_add t (unsealed_heap n text) fixed_objects in (
+pub fits-new_card_heap : (n capacity : ℕ) (text : List ℕ) (t u : Tokens) → HasPackages u (new_card_heap n capacity text t)
+fits-new_card_heap n capacity text t u =
+    let none : (new_card_heap n capacity text t).packages ≡ [] = packages_add t (unsealed_heap n capacity text) fixed_objects in
+    let counts : (new_card_heap n capacity text t).counts ≡ (0, 0) = counts_add t (unsealed_heap n capacity text) fixed_objects in (
       record { platform = u; loaded = [] },
-      no_packages u (new_card_heap n text t) none,
+      no_packages u (new_card_heap n capacity text t) none,
       record {
-        objects = λ r above object. absurd (alone n text t r above object);
+        objects = λ r above object. absurd (alone n capacity text t r above object);
         statics = λ k below. absurd (omega (arith, ap length none));
         applets = λ a below. absurd (omega (arith, ap (λ c. c.1) counts));
         distinct = λ b below. absurd (omega (arith, ap (λ c. c.1) counts));

@@ -215,13 +215,13 @@ whole-sealed_heap h w = record {
   areas = λ event. filled-sealed_heap h event (w.areas event);
 }
 
-pub whole-new_card_heap : (n : ℕ) (text : List ℕ) (t : Tokens) → IsConsistent (new_card_heap n text t)
+pub whole-new_card_heap : (n capacity : ℕ) (text : List ℕ) (t : Tokens) → IsConsistent (new_card_heap n capacity text t)
 unfolding fixed_objects
-whole-new_card_heap n text t = whole-sealed_heap (with_objects t (unsealed_heap n text) fixed_objects)
-    (all_whole t (unsealed_heap n text) fixed_objects (record { absent = λ q le. refl; none = λ q le. refl }) (lit≤ tt)
-    (empty_whole (unsealed_heap n text) refl refl refl refl))
+whole-new_card_heap n capacity text t = whole-sealed_heap (with_objects t (unsealed_heap n capacity text) fixed_objects)
+    (all_whole t (unsealed_heap n capacity text) fixed_objects (record { absent = λ q le. refl; none = λ q le. refl }) (lit≤ tt)
+    (empty_whole (unsealed_heap n capacity text) refl refl refl refl))
 
-head-all : (t : Tokens) (h : HeapState) (os : List FixedObject) → (with_objects t h os).head ≡ h.head
+pub head-all : (t : Tokens) (h : HeapState) (os : List FixedObject) → (with_objects t h os).head ≡ h.head
 head-all t h [] = refl
 head-all t h (o ∷ os) = head-all t (with_one t h o) os ∙ head-add h o.kind (class_number_of t o.class) 0 o.cells
 
@@ -245,13 +245,13 @@ sealed_heap-follow : (h : HeapState) (r : ℕ) (fs : List Facts) → HeadersFoll
 sealed_heap-follow h r [] f = tt
 sealed_heap-follow h r (d ∷ fs) f = (f.0, next_sealed h r ∙ f.1, facts_sealed h f.0 ∙ f.2, sealed_heap-follow h f.0 fs f.3)
 
-pub begins-new_card_heap : (n : ℕ) (text : List ℕ) (t : Tokens) → BeginsWithFixed t (new_card_heap n text t)
+pub begins-new_card_heap : (n capacity : ℕ) (text : List ℕ) (t : Tokens) → BeginsWithFixed t (new_card_heap n capacity text t)
 unfolding HeapBeginsWith
-begins-new_card_heap n text t = sealed_heap-follow (with_objects t (unsealed_heap n text) fixed_objects) 0 (fixed_facts t 0 fixed_objects)
-    (follow-made t (unsealed_heap n text) 0 fixed_objects (record { absent = λ q le. refl; none = λ q le. refl }) refl (omega arith))
+begins-new_card_heap n capacity text t = sealed_heap-follow (with_objects t (unsealed_heap n capacity text) fixed_objects) 0 (fixed_facts t 0 fixed_objects)
+    (follow-made t (unsealed_heap n capacity text) 0 fixed_objects (record { absent = λ q le. refl; none = λ q le. refl }) refl (omega arith))
 
-pub head-new_card_heap : (n : ℕ) (text : List ℕ) (t : Tokens) → (new_card_heap n text t).head ≡ (magic, n)
-head-new_card_heap n text t = ap (λ (h : ℕ × ℕ). (magic, h.1)) (head-all t (unsealed_heap n text) fixed_objects)
+pub head-new_card_heap : (n capacity : ℕ) (text : List ℕ) (t : Tokens) → (new_card_heap n capacity text t).head ≡ (magic, n)
+head-new_card_heap n capacity text t = ap (λ (h : ℕ × ℕ). (magic, h.1)) (head-all t (unsealed_heap n capacity text) fixed_objects)
 
-pub text-new_card_heap : (n : ℕ) (text : List ℕ) (t : Tokens) → (new_card_heap n text t).text ≡ text
-text-new_card_heap n text t = text-all t (unsealed_heap n text) fixed_objects
+pub text-new_card_heap : (n capacity : ℕ) (text : List ℕ) (t : Tokens) → (new_card_heap n capacity text t).text ≡ text
+text-new_card_heap n capacity text t = text-all t (unsealed_heap n capacity text) fixed_objects

@@ -1,6 +1,7 @@
 -- The first words of a new image.
 use Rattle.std.proofs.Common.{◌≡◌, ◌∙◌, ℕ, ◌+◌, ◌*◌, List, [], ◌∷◌, length, slice_index, ap, refl, arith}
-use Rattle.jc_words.specs.Layout.{journal_capacity, version}
+use Rattle.jc_words.specs.Layout.{version}
+use Rattle.jc_words.specs.Image.{journal_start}
 use Rattle.jc_transient.specs.declared.cell.ClearEvent.TheVariants.{Reset}
 use Rattle.jc_heap.specs.declared.object.Kind.{Kind}
 use Rattle.jc_heap.specs.Heap.{HeapState, add_object, add_transient}
@@ -41,6 +42,15 @@ unread-all t h [] = refl
 unread-all t h (o ∷ os) = unread-all t (add_transient h o.kind Reset (class_number_of t o.class) 0 o.cells) os
     ∙ unread-add h o.kind (class_number_of t o.class) 0 o.cells
 
+capacity-add : (h : HeapState) (kind : Kind) (class owner n : ℕ) → (add_transient h kind Reset class owner n).capacity ≡ h.capacity
+unfolding add_transient add_object
+capacity-add h kind class owner n = refl
+
+capacity-all : (t : Tokens) (h : HeapState) (os : List FixedObject) → (with_objects t h os).capacity ≡ h.capacity
+capacity-all t h [] = refl
+capacity-all t h (o ∷ os) = capacity-all t (add_transient h o.kind Reset (class_number_of t o.class) 0 o.cells) os
+    ∙ capacity-add h o.kind (class_number_of t o.class) 0 o.cells
+
 -- what they take
 top-all : (t : Tokens) (h : HeapState) (os : List FixedObject) → (with_objects t h os).top ≡ h.top + 5 * length os
 top-all t h [] = omega arith
@@ -61,15 +71,16 @@ all-fixed : length fixed_objects ≡ 17
 unfolding fixed_objects
 all-fixed = refl
 
-pub front-new : (n : ℕ) (text : List ℕ) (t : Tokens) → first_words_of (new_card_heap n text t) ≡ new_front n (length text)
-front-new n text t =
-    let h : HeapState = unsealed_heap n text in
-    let head = head-new_card_heap n text t in
+pub front-new : (n capacity : ℕ) (text : List ℕ) (t : Tokens) → first_words_of (new_card_heap n capacity text t) ≡ new_front n capacity (length text)
+front-new n capacity text t =
+    let h : HeapState = unsealed_heap n capacity text in
+    let head = head-new_card_heap n capacity text t in
     let counts = counts-all t h fixed_objects in
     let unread = unread-all t h fixed_objects in
     let top : (with_objects t h fixed_objects).top ≡ first_free (length text) + fixed_size = omega (arith, top-all t h fixed_objects, all-fixed) in
     let first_end : (with_objects t h fixed_objects).area_ends.0 ≡ cells_of_all fixed_objects = omega (arith, end-all t h fixed_objects) in
     let second_end = other_end-all t h fixed_objects in
-    let long = ap (λ (l : List ℕ). length l) (text-new_card_heap n text t) in
+    let long = ap (λ (l : List ℕ). length l) (text-new_card_heap n capacity text t) in
+    let capacities = capacity-all t h fixed_objects in
     λ i. (head i).0 ∷ version ∷ (head i).1 ∷ 0 ∷ slice_index (unread i) 0 ∷ top i ∷ (counts i).0 ∷ (counts i).1 ∷ first_end i ∷ second_end i
-    ∷ long i ∷ slice_index (unread i) 1 ∷ slice_index (unread i) 2 ∷ slice_index (unread i) 3 ∷ slice_index (unread i) 4 ∷ slice_index (unread i) 5 ∷ []
+    ∷ long i ∷ capacities i ∷ journal_start ((head i).1) (capacities i) ∷ slice_index (unread i) 1 ∷ slice_index (unread i) 2 ∷ slice_index (unread i) 3 ∷ []

@@ -1,13 +1,23 @@
 -- What power up finds.
 use Rattle.std.proofs.Common.{◌≡◌, ℕ, ◌+◌, ◌/◌, ◌≤◌, ◌<◌, ◌⊎◌, inl, inr, List, length, get_or, refl, sym, ◌∙◌, ap, subst, arith, Ok, Err}
-use Rattle.std.specs.Prelude.{Result, ◌↔◌, IsOk, IfOk, IfErr, OnOk, MatchResult, None, Some}
+use Rattle.std.specs.Prelude.{Result, Bool, false, ◌↔◌, IsOk, IfOk, IfErr, OnOk, MatchResult, None, Some}
 use Rattle.std.proofs.lemmas.Bool.{false≢true}
-use Rattle.jc_words.specs.Image.{HasSize}
+use Rattle.jc_words.specs.Image.{HasSize, IsVersion}
 use Rattle.jc_words.specs.declared.image.ImageFault.{ImageFault}
-use Rattle.jc_words.specs.Layout.{magic_address, version_address, text_length_address, text_start, magic, version}
-use Rattle.jc_commit.specs.Image.{IsGoodLog, recovered_of}
+use Rattle.jc_words.specs.Layout.{magic_address, version_address, size_address, text_length_address, text_start, magic}
+use Rattle.jc_commit.specs.Image.{IsGoodLog, limit_of, recovered_of}
+use Rattle.jc_commit.specs.Migration.{migrated, StillOpens}
+use Rattle.jc_commit.proofs.InPlace.{length-recovered}
+use Rattle.jc_heap.specs.Whole.{IsConsistent}
+use Rattle.jc_heap.specs.Alike.{StandAlike}
+use Rattle.jc_heap.proofs.Migrated.{migrated_alike}
 use Rattle.jc_heap.specs.Image.{IsWellFormed, base, image, table_text}
-use Rattle.jc_heap.specs.Heap.{HeapState, head_of, heap_of}
+use Rattle.jc_heap.specs.Heap.{HeapState, HeapView, head_of, heap_of}
+use Rattle.jc_heap.specs.Stored.{HoldsHeap}
+use Rattle.jc_image.specs.Opening.{HoldsImage}
+use Rattle.jc_words.specs.Refusals.{Refusals}
+use Rattle.jc_commit.specs.State.{State}
+use Rattle.jc_commit.proofs.Steps.{recovered_plain}
 use Rattle.jc_card_checks.specs.Sound.{IsSound}
 use Rattle.jc_card_load.specs.Reading.{packages_of}
 use Rattle.jc_heap.proofs.RawWords.{recovered-head, head_is, text_is}
@@ -19,17 +29,17 @@ use Rattle.jc_platform.specs.Table.{Reads}
 use Rattle.jc_platform.proofs.OneAnswer.{one_table}
 use Rattle.jc_memory.specs.State.{MemoryState}
 use Rattle.jc_card.specs.CardState.{CardState}
-use Rattle.jc_card.specs.Fixed.{last_fixed}
+use Rattle.jc_card.specs.Fixed.{BeginsWithFixed, last_fixed}
 use Rattle.jc_card.specs.Made.{IsMade}
-use Rattle.jc_card.specs.PowerUp.{HasHead, HasTable, HasHeap, PowerUpRefuses, RecoveredWordsFail, FailsToLink, HasPackages}
+use Rattle.jc_card.specs.PowerUp.{HasHead, HasTable, HasHeap, PowerUpRefuses, RecoveredWordsFail, FailsToLink, HasPackages, StandsFor, LateFaultLeaves, RefusalLeaves}
 use Rattle.jc_card.specs.declared.power_up.PowerFault.{PowerFault}
 use Rattle.jc_card.specs.declared.power_up.PowerFault.TheVariants.{BadMagic, BadVersion, BadSize, BadLog, BadTable, BadPackage, NoMemory, StoreDown}
 
 -- the first words were asked for
 pub head_found : (r : Result Unit ImageFault) (w : List ℕ) → ((f : ImageFault) → r ≡ Err f → ⊥) →
-    (IsOk r → (get_or w magic_address 0 ≡ magic) × (get_or w version_address 0 ≡ version) × HasSize w) → HasHead w
+    (IsOk r → (get_or w magic_address 0 ≡ magic) × IsVersion (get_or w version_address 0) × HasSize w) → HasHead w
 head_found (Ok u) w n f =
-    let h : (get_or w magic_address 0 ≡ magic) × (get_or w version_address 0 ≡ version) × HasSize w = f refl in
+    let h : (get_or w magic_address 0 ≡ magic) × IsVersion (get_or w version_address 0) × HasSize w = f refl in
     record { magic = h.0; version = h.1; size = h.2 }
 head_found (Err e) w n f = absurd (n e refl)
 
@@ -59,7 +69,7 @@ has_head w made =
     record {
       magic = ap (λ (h : ℕ × ℕ). h.0) is;
       version = made.log.known;
-      size = record { told = ap (λ (h : ℕ × ℕ). h.1) is; enough = made.heap.enough };
+      size = made.log.size;
     }
 
 text_fits : (w : List ℕ) → IsWellFormed w → text_start + (get_or w text_length_address 0 + 1) / 2 ≤ length w
@@ -111,7 +121,7 @@ mapped_on (Err e) P Q f p = tt
 
 -- no fault of the first words where they are an image's
 pub no_image_fault : (r : Result Unit ImageFault) (f : ImageFault) (w : List ℕ) → r ≡ Err f
-    → ((get_or w magic_address 0 ≡ magic) × (get_or w version_address 0 ≡ version) × HasSize w → IsOk r) → IsMade w → ⊥
+    → ((get_or w magic_address 0 ≡ magic) × IsVersion (get_or w version_address 0) × HasSize w → IsOk r) → IsMade w → ⊥
 no_image_fault r f w is ok made =
     let h : HasHead w = has_head w made in
     false≢true (subst IsOk is (ok (h.magic, h.version, h.size)))
@@ -120,6 +130,86 @@ no_image_fault r f w is ok made =
 pub on_if : {A E : Type 0} (r : Result A E) (Q : A → Type 0) (P : Type 0) → ((a : A) → Q a → P) → IfOk r Q → OnOk r P
 on_if (Ok a) Q P f q = f a q
 on_if (Err e) Q P f q = tt
+
+-- words that stand alike have the same table and the same heap
+module _ (ws vs : List ℕ) (alike : StandAlike ws vs) where
+  table_to : (t : Tokens) → HasTable ws t → HasTable vs t
+  table_to t has = (omega (arith, has.0, alike.text_length, alike.size), subst (λ l. Reads l (Ok t)) (sym alike.text) has.1)
+
+  pub table_back : (t : Tokens) → HasTable vs t → HasTable ws t
+  table_back t has = (omega (arith, has.0, alike.text_length, alike.size), subst (λ l. Reads l (Ok t)) alike.text has.1)
+
+  heap_to : (t : Tokens) → HasHeap t ws → HasHeap t vs
+  heap_to t has = (
+    alike.laid has.0,
+    subst IsConsistent (sym alike.heap) has.1,
+    subst (BeginsWithFixed t) (sym alike.heap) has.2,
+    subst (HasPackages t) (sym alike.heap) has.3,
+  )
+
+  pub heap_back : (t : Tokens) → HasHeap t vs → HasHeap t ws
+  heap_back t has = (
+    alike.back has.0,
+    subst IsConsistent alike.heap has.1,
+    subst (BeginsWithFixed t) alike.heap has.2,
+    subst (HasPackages t) alike.heap has.3,
+  )
+
+  pub fails_back : (f : PowerFault) → RecoveredWordsFail f vs → RecoveredWordsFail f ws
+  fails_back BadMagic fail = fail
+  fails_back BadVersion fail = fail
+  fails_back BadSize fail = fail
+  fails_back BadLog fail = fail
+  fails_back BadTable fail = λ t has. fail t (table_to t has)
+  fails_back BadPackage fail = (fail.0, table_back fail.0 fail.1, λ has. fail.2 (heap_to fail.0 has))
+  fails_back NoMemory fail = fail
+  fails_back StoreDown fail = fail
+
+  pub stands_back : (new : List ℕ) → StandsFor vs new → StandsFor ws new
+  stands_back new s = record {
+    good = s.good;
+    plain = s.plain ∙ alike.heap;
+    recovered = s.recovered ∙ alike.heap;
+    laid = (λ laid. alike.back (s.laid.0 laid), λ laid. s.laid.1 (alike.laid laid));
+    closed = s.closed;
+  }
+
+-- recovered words stand alike with what a migration makes of them
+pub recovered_alike : (w : List ℕ) → StandAlike (recovered_of w) (migrated 3 (recovered_of w))
+recovered_alike w = migrated_alike (recovered_of w) 3
+
+pub long_image : (w : List ℕ) → length (migrated 3 (recovered_of w)) ≡ limit_of w
+long_image w = (recovered_alike w).size ∙ length-recovered w
+
+pub told_image : (w : List ℕ) → IsGoodLog w → get_or (migrated 3 (recovered_of w)) size_address 0 ≡ length w
+told_image w good = ap (λ (h : ℕ × ℕ). h.1) ((recovered_alike w).head ∙ recovered-head w good) ∙ good.size.told
+
+-- an opening that a refused write stops leaves the heap's end where it is
+pub limit_still : (old new : List ℕ) → StillOpens old new → limit_of new ≡ limit_of old
+limit_still old new still =
+    sym (length-recovered new) ∙ ap (λ (l : List ℕ). length l) still.recovered ∙ (migrated_alike (recovered_of old) still.done).size ∙ length-recovered old
+
+-- the store of a recovered image has as many words as the image tells, and so has that of a heap at rest
+pub long_of_image : (w : List ℕ) (d : Bool) (p : ℕ) (r : Refusals) (j : State) → HoldsImage w d p r j → length w ≡ get_or j.plain size_address 0
+long_of_image w d p r j holds = sym holds.good.size.told ∙ ap (λ (h : ℕ × ℕ). h.1) holds.head
+
+pub long_at_rest : (w : List ℕ) (d : Bool) (p : ℕ) (r : Refusals) (v : HeapView) (plain : List ℕ) → HoldsHeap w d p r v → v.down ≡ false → v.begun ≡ false
+    → v.now ≡ heap_of plain → IsWellFormed plain → length w ≡ get_or plain size_address 0
+long_at_rest w d p r v plain holds up shut same laid =
+    sym holds.good.size.told
+    ∙ ap (λ (h : ℕ × ℕ). h.1) (holds.head ∙ ap (λ (h : HeapState). h.head) (sym holds.durable ∙ ap heap_of (recovered_plain w (holds.rests up shut).closed)
+    ∙ holds.now ∙ same) ∙ head_is plain laid)
+
+-- a fault that is found late leaves of migrated words what it leaves of them
+pub leaves_from : (f : PowerFault) (old new : List ℕ) → LateFaultLeaves f (migrated 3 (recovered_of old)) new → RefusalLeaves f old new
+leaves_from BadMagic old new leaves = absurd leaves
+leaves_from BadVersion old new leaves = absurd leaves
+leaves_from BadSize old new leaves = absurd leaves
+leaves_from BadLog old new leaves = absurd leaves
+leaves_from BadTable old new leaves = leaves
+leaves_from BadPackage old new leaves = stands_back (recovered_of old) (migrated 3 (recovered_of old)) (recovered_alike old) new leaves
+leaves_from NoMemory old new leaves = stands_back (recovered_of old) (migrated 3 (recovered_of old)) (recovered_alike old) new leaves
+leaves_from StoreDown old new leaves = absurd leaves
 
 -- recovered words are laid where those are that they are
 pub laid_as : (to new : List ℕ) → recovered_of new ≡ to → IsWellFormed (recovered_of new) ↔ IsWellFormed to

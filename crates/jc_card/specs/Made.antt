@@ -1,6 +1,7 @@
 -- The images that the product makes.
 use Rattle.std.specs.Prelude.{ℕ, ◌+◌, ◌≡◌, ◌≤◌, List, [], ◌∷◌, length, Ok}
-use Rattle.jc_words.specs.Layout.{journal_capacity, least_size, magic, version}
+use Rattle.jc_words.specs.Layout.{least_size, magic, version}
+use Rattle.jc_words.specs.Image.{journal_start}
 use Rattle.jc_commit.specs.Image.{IsGoodLog, recovered_of}
 use Rattle.jc_heap.specs.Image.{IsWellFormed}
 use Rattle.jc_heap.specs.Heap.{HeapState, heap_of}
@@ -28,11 +29,11 @@ pub record IsMade (w : List ℕ) : Type 0 where
   pub laid : IsWellFormed (recovered_of w)
   pub heap : IsCardHeap (length w) (heap_of (recovered_of w))
 
--- the heap of a new image
-abbrev pub new_card_heap : ℕ → List ℕ → Tokens → HeapState
-new_card_heap n text t = sealed_heap (with_objects t (unsealed_heap n text) fixed_objects)
+-- the heap of a new image of n words, whose journal can have so many entries
+abbrev pub new_card_heap : ℕ → ℕ → List ℕ → Tokens → HeapState
+new_card_heap n capacity text t = sealed_heap (with_objects t (unsealed_heap n capacity text) fixed_objects)
 
--- the first sixteen words of a new image of n words, whose table text has so many bytes
-abbrev pub new_front : ℕ → ℕ → List ℕ
-new_front n long = magic ∷ version ∷ n ∷ 0 ∷ journal_capacity ∷ (first_free long + fixed_size) ∷ 0 ∷ 0 ∷ cells_of_all fixed_objects ∷ 0 ∷ long
-    ∷ 0 ∷ 0 ∷ 0 ∷ 0 ∷ 0 ∷ []
+-- the first sixteen words of a new image of n words, whose journal can have so many entries, and whose table text has so many bytes
+abbrev pub new_front : ℕ → ℕ → ℕ → List ℕ
+new_front n capacity long = magic ∷ version ∷ n ∷ 0 ∷ 0 ∷ (first_free long + fixed_size) ∷ 0 ∷ 0 ∷ cells_of_all fixed_objects ∷ 0 ∷ long
+    ∷ capacity ∷ journal_start n capacity ∷ 0 ∷ 0 ∷ 0 ∷ []

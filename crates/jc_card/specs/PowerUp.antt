@@ -1,10 +1,11 @@
 -- Powering up: why words don't, and what a refusal leaves.
 use Rattle.std.specs.Prelude.{ℕ, ◌≡◌, ◌≢◌, ◌+◌, ◌/◌, ◌≤◌, ◌↔◌, List, length, slice_index, Ok, Some}
-use Rattle.jc_words.specs.Image.{HasSize}
+use Rattle.jc_words.specs.Image.{HasSize, IsVersion}
 use Rattle.jc_words.specs.declared.image.ImageFault.{ImageFault}
 use Rattle.jc_words.specs.declared.image.ImageFault.TheVariants.{BadMagic as NoMagic, BadVersion as OtherVersion, BadSize as NoSize}
-use Rattle.jc_words.specs.Layout.{magic_address, version_address, text_length_address, text_start, magic, version}
-use Rattle.jc_commit.specs.Image.{IsGoodLog, StillRecovers, plain_of, recovered_of, count_of}
+use Rattle.jc_words.specs.Layout.{magic_address, version_address, text_length_address, text_start, magic}
+use Rattle.jc_commit.specs.Image.{IsGoodLog, plain_of, recovered_of, count_of}
+use Rattle.jc_commit.specs.Migration.{migrated, StillOpens}
 use Rattle.jc_heap.specs.Image.{IsWellFormed, table_text}
 use Rattle.jc_heap.specs.Heap.{HeapState, heap_of}
 use Rattle.jc_heap.specs.Whole.{IsConsistent}
@@ -26,7 +27,7 @@ fault_of NoSize = BadSize
 -- the first words are those of an image
 pub record HasHead (w : List ℕ) : Type 0 where
   pub magic : slice_index w magic_address ≡ magic
-  pub version : slice_index w version_address ≡ version
+  pub version : IsVersion (slice_index w version_address)
   pub size : HasSize w
 
 -- the table text is there, and this is the table that it spells
@@ -83,24 +84,24 @@ LateFaultLeaves _ to new = ⊥
 -- why words don't power up, each cause before the next
 abbrev pub PowerUpRefuses : PowerFault → List ℕ → Type 0
 PowerUpRefuses BadMagic w = slice_index w magic_address ≢ magic
-PowerUpRefuses BadVersion w = (slice_index w magic_address ≡ magic) × (slice_index w version_address ≢ version)
-PowerUpRefuses BadSize w = (slice_index w magic_address ≡ magic) × (slice_index w version_address ≡ version) × (HasSize w → ⊥)
+PowerUpRefuses BadVersion w = (slice_index w magic_address ≡ magic) × (IsVersion (slice_index w version_address) → ⊥)
+PowerUpRefuses BadSize w = (slice_index w magic_address ≡ magic) × IsVersion (slice_index w version_address) × (HasSize w → ⊥)
 PowerUpRefuses BadLog w = HasHead w × (IsGoodLog w → ⊥)
 PowerUpRefuses BadTable w = HasHead w × IsGoodLog w × RecoveredWordsFail BadTable (recovered_of w)
 PowerUpRefuses BadPackage w = HasHead w × IsGoodLog w × RecoveredWordsFail BadPackage (recovered_of w)
 PowerUpRefuses NoMemory w = HasHead w × IsGoodLog w
 PowerUpRefuses StoreDown w = HasHead w × IsGoodLog w
 
--- what a refusal leaves of the words
+-- what a refusal leaves of the words, where a fault that is found after the recovery is also found after a migration
 abbrev pub RefusalLeaves : PowerFault → List ℕ → List ℕ → Type 0
 RefusalLeaves BadMagic old new = new ≡ old
 RefusalLeaves BadVersion old new = new ≡ old
 RefusalLeaves BadSize old new = new ≡ old
 RefusalLeaves BadLog old new = new ≡ old
-RefusalLeaves BadTable old new = IsRecovered (recovered_of old) new
+RefusalLeaves BadTable old new = IsRecovered (migrated 3 (recovered_of old)) new
 RefusalLeaves BadPackage old new = StandsFor (recovered_of old) new
 RefusalLeaves NoMemory old new = StandsFor (recovered_of old) new
-RefusalLeaves StoreDown old new = StillRecovers old new
+RefusalLeaves StoreDown old new = StillOpens old new
 
 -- the faults that are found before a recovery, by reading alone
 abbrev pub IsFoundFirst : PowerFault → Type 0

@@ -2,6 +2,7 @@
 ghost use Rattle.std.specs.Prelude.{ℕ, ◌≡◌, ◌≢◌, ◌<◌, ◌≤◌, ◌+◌, ◌⊎◌, ◌↔◌, true, false, length, slice_index, take, Ok, Err, IfOk, IfErr, OnOk, OnErr, IsErrOf, Result};
 ghost use Rattle.jc_words.specs.Refusals.{refused_once};
 ghost use Rattle.jc_words.specs.Layout.{front_length, magic_address, magic, least_size};
+ghost use Rattle.jc_words.specs.Image.{IsCapacity, heap_end};
 ghost use Rattle.jc_image.specs.Laying.{first_free};
 ghost use Rattle.jc_heap.specs.Heap.{heap_of};
 ghost use Rattle.jc_commit.specs.Image.{recovered_of};
@@ -16,8 +17,8 @@ use jc_image::{first_free, lay, seal};
 use jc_platform::fault::TableFault;
 use jc_platform::read::read_table;
 use jc_platform::table::Table;
-use jc_words::WordStore;
 use jc_words::layout::LEAST_SIZE;
+use jc_words::{Log, WordStore, is_capacity};
 use thiserror::Error;
 
 /// How many words the objects of the runtime environment take.
@@ -32,33 +33,39 @@ pub enum FormatFault {
     /// The store has less than 4096 words.
     #[error("an image has at least 4096 words")]
     BadSize,
+    /// A journal cannot have so many entries.
+    #[error("a journal has 16 to 1024 entries")]
+    BadCapacity,
     /// The text is no platform table: the number of its first bad line, or 0.
     #[error("line {0} of the table is bad")]
     BadTable(u16),
-    /// The table and the objects of the runtime environment don't fit.
+    /// The table and the objects of the runtime environment don't fit below the heap's end.
     #[error("the image is too small for the table")]
     TooSmall,
 }
 
-/// Makes an image of a store: the platform table with this text, the objects of the runtime
-/// environment, and last the magic word. So an image that was not made to its end has none.
-pub fn format<S: WordStore>(store: S, text: &[u8]) -> (S, Result<(), FormatFault>)
+/// Makes an image of a store, whose journal can have so many entries, 16 to 1024: the platform table with
+/// this text, the objects of the runtime environment, and last the magic word. So an image that was not made to its end has none.
+pub fn format<S: WordStore>(store: S, text: &[u8], capacity: u16) -> (S, Result<(), FormatFault>)
     ensures made { OnOk result.1 (IsMade (S.words result.0)) }
     ensures heap { OnOk result.1 ((t : Tokens) × Reads text.now (Ok t)
         × (heap_of (recovered_of (S.words result.0)) ≡ new_card_heap
-        (length (S.words store)) text.now t)) }
+        (length (S.words store)) capacity text.now t)) }
     ensures front { OnOk result.1 (take front_length (S.words result.0)
-        ≡ new_front (length (S.words store)) (length text.now)) }
+        ≡ new_front (length (S.words store)) capacity (length text.now)) }
     ensures size { length (S.words result.0) ≡ length (S.words store) }
     ensures up { OnOk result.1 (S.down result.0 ≡ false) }
     ensures none_refused { OnOk result.1 (S.refusals result.0 ≡ S.refusals store) }
     ensures bad_size { (result.1 ≡ Err FormatFault.BadSize)
         ↔ (length (S.words store) < least_size) }
+    ensures bad_capacity { (result.1 ≡ Err FormatFault.BadCapacity)
+        ↔ ((least_size ≤ length (S.words store)) × (IsCapacity capacity → ⊥)) }
     ensures bad_table { (line : ℕ) → (result.1 ≡ Err (FormatFault.BadTable line))
-        ↔ ((least_size ≤ length (S.words store)) × Reads text.now
+        ↔ ((least_size ≤ length (S.words store)) × IsCapacity capacity × Reads text.now
         (Err (TableFault.BadTable line))) }
     ensures too_small { (result.1 ≡ Err FormatFault.TooSmall)
-        ↔ ((least_size ≤ length (S.words store)) × (length (S.words store)
+        ↔ ((least_size ≤ length (S.words store)) × IsCapacity capacity
+        × (heap_end (length (S.words store)) capacity
         < first_free (length text.now) + fixed_size) × ((t : Tokens) × Reads text.now (Ok t))) }
     ensures kept { OnErr result.1 ((result.1 ≡ Err FormatFault.StoreDown → ⊥) → result.0 ≡ store) }
     ensures stopped { result.1 ≡ Err FormatFault.StoreDown
@@ -71,29 +78,34 @@ pub fn format<S: WordStore>(store: S, text: &[u8]) -> (S, Result<(), FormatFault
     if size < LEAST_SIZE {
         return (store, Err(FormatFault::BadSize));
     }
+    if !is_capacity(capacity) {
+        return (store, Err(FormatFault::BadCapacity));
+    }
     let table = match read_table(text) {
         Ok(table) => table,
         Err(TableFault::BadTable(line)) => return (store, Err(FormatFault::BadTable(line))),
     };
-    if u32::from(size) < first_free(text.len() as u16) + FIXED_WORDS {
+    let heap_end = Log::among(size, capacity).heap_end(size);
+    if u32::from(heap_end) < first_free(text.len() as u16) + FIXED_WORDS {
         return (store, Err(FormatFault::TooSmall));
     }
-    match make_image(store, text, &table) {
+    match make_image(store, text, capacity, &table) {
         Ok(store) => (store, Ok(())),
         Err(store) => (store, Err(FormatFault::StoreDown)),
     }
 }
 
 // Makes an image that fits. Where the store refuses a write it is given back.
-fn make_image<S: WordStore>(store: S, text: &[u8], table: &Table) -> Result<S, S>
+fn make_image<S: WordStore>(store: S, text: &[u8], capacity: u16, table: &Table) -> Result<S, S>
     requires enough { least_size ≤ length (S.words store) }
-    requires fits { first_free (length text.now) + fixed_size ≤ length (S.words store) }
+    requires capacity { IsCapacity capacity }
+    requires fits { first_free (length text.now) + fixed_size ≤ heap_end (length (S.words store)) capacity }
     requires reads { Reads text.now (Ok table.now) }
     ensures made { IfOk result (λ s. IsMade (S.words s)) }
     ensures heap { IfOk result (λ s. heap_of (recovered_of (S.words s))
-        ≡ new_card_heap (length (S.words store)) text.now table.now) }
+        ≡ new_card_heap (length (S.words store)) capacity text.now table.now) }
     ensures front { IfOk result (λ s. take front_length (S.words s)
-        ≡ new_front (length (S.words store)) (length text.now)) }
+        ≡ new_front (length (S.words store)) capacity (length text.now)) }
     ensures size { IfOk result (λ s. length (S.words s) ≡ length (S.words store)) }
     ensures up { IfOk result (λ s. S.down s ≡ false) }
     ensures none_refused { IfOk result (λ s. S.refusals s ≡ S.refusals store) }
@@ -104,7 +116,7 @@ fn make_image<S: WordStore>(store: S, text: &[u8], table: &Table) -> Result<S, S
     ensures unmarked { IfErr result (λ s. (S.words s ≡ S.words store)
         ⊎ (slice_index (S.words s) magic_address ≢ magic)) }
 {
-    let mut heap = lay(store, text)?;
+    let mut heap = lay(store, text, capacity)?;
     let Ok(()) = make_fixed(&mut heap, table) else {
         return Err(heap.into_store());
     };

@@ -4,7 +4,7 @@ ghost use Rattle.jc_card.specs.Inventory.{inventory_of};
 ghost use Rattle.jc_card.specs.PowerUp.{HasHead, PowerUpRefuses, fault_of};
 
 use jc_words::layout::{APPLETS, COUNT, PACKAGES};
-use jc_words::{ImageFault, WordStore, check_image};
+use jc_words::{ImageFault, Log, WordStore, check_image};
 
 /// What an image holds, as its words stand: nothing is recovered.
 #[derive(Clone, Copy, Debug, PartialEq, Eq, Drop)]
@@ -13,6 +13,8 @@ pub struct Inventory {
     pub words: u16,
     /// How many entries of the journal count. Where it is above 0, a change was left open.
     pub journal: u16,
+    /// How many entries the journal can have.
+    pub capacity: u16,
     /// How many packages are there.
     pub packages: u16,
     /// How many applets are there.
@@ -30,6 +32,7 @@ impl Inventory {
         Ok(Inventory {
             words: store.size(),
             journal: store.read(COUNT),
+            capacity: Log::of(store).capacity,
             packages: store.read(PACKAGES),
             applets: store.read(APPLETS),
         })

@@ -1,8 +1,8 @@
 //! Powering a card up over the words of its image.
 ghost use Rattle.std.specs.Prelude.{ℕ, List, ◌≡◌, ◌⊎◌, ◌+◌, ◌/◌, ◌≤◌, ◌↔◌, [], length, slice_index, None, Some, Ok, IsOk, IfOk, IfErr, OnOk, false, true, MatchResult};
 ghost use Rattle.jc_words.specs.Refusals.{refused_once};
-ghost use Rattle.jc_words.specs.Layout.{text_length_address, text_start, magic, version};
-ghost use Rattle.jc_commit.specs.Replay.{IsPartOfReplay};
+ghost use Rattle.jc_words.specs.Layout.{size_address, text_length_address, text_start};
+ghost use Rattle.jc_commit.specs.Migration.{IsPartOfOpening};
 ghost use Rattle.jc_commit.specs.State.{recovered_journal};
 ghost use Rattle.jc_heap.specs.Heap.{heap_view};
 ghost use Rattle.jc_heap.specs.Image.{IsWellFormed, table_text};
@@ -15,7 +15,7 @@ ghost use Rattle.jc_card.specs.Made.{IsMade};
 ghost use Rattle.jc_heap.specs.Whole.{IsConsistent};
 ghost use Rattle.jc_heap.specs.Heap.{IsObject, heap_of};
 ghost use Rattle.jc_heap.specs.Stored.{HoldsHeap};
-ghost use Rattle.jc_commit.specs.Image.{IsGoodLog, recovered_of};
+ghost use Rattle.jc_commit.specs.Image.{IsGoodLog, limit_of, recovered_of};
 ghost use Rattle.jc_transient.specs.State.{HasSizes};
 ghost use Rattle.jc_memory.specs.Owners.{at_reset};
 ghost use Rattle.jc_card_load.specs.Reading.{packages_of};
@@ -80,13 +80,13 @@ impl From<ImageFault> for PowerFault {
 }
 
 impl<S: WordStore> Card<S> {
-    /// The card of a store, after a reset: first takes back what a loss of power left open, then
-    /// asks for memory. Where it refuses, it gives the store back.
+    /// The card of a store, after a reset: first takes back what a loss of power left open and makes the
+    /// image one of the version that is written, then asks for memory. Where it refuses, it gives the store back.
     pub fn power_up(alloc: Global, store: S) -> Result<Card<S>, (PowerFault, S)>
         ensures made { OnOk result (IsMade (S.words store)) }
         ensures heap { IfOk result (λ card. card.memory.heap
             ≡ heap_view (recovered_journal (S.words store) (S.passed store) (S.refusals store))
-            (length (S.words store))) }
+            (limit_of (S.words store))) }
         ensures blank { IfOk result (λ card. IsCleared card.memory.ram) }
         ensures load { IfOk result (λ card. card.load ≡ None) }
         ensures reset { IfOk result (λ card. IsAtReset
@@ -106,8 +106,9 @@ impl<S: WordStore> Card<S> {
             (S.passed store) (S.refusals store)).passed) × (S.refusals e.1 ≡ S.refusals store)) }
         ensures good { IfErr result (λ e. IsFoundAfter e.0 → IsGoodLog (S.words e.1)) }
         ensures size { IfErr result (λ e. length (S.words e.1) ≡ length (S.words store)) }
+        ensures limit { IfErr result (λ e. limit_of (S.words e.1) ≡ limit_of (S.words store)) }
         ensures part { IfErr result (λ e. e.0 ≡ PowerFault.StoreDown
-            → IsPartOfReplay (S.words store) (S.words e.1) (S.passed store) (S.passed e.1)) }
+            → IsPartOfOpening (S.words store) (S.words e.1) (S.passed store) (S.passed e.1)) }
         ensures refused { IfErr result (λ e. e.0 ≡ PowerFault.StoreDown → S.down store ≡ false
             → S.refusals e.1 ≡ refused_once false (S.passed e.1) (S.refusals store)) }
     {
@@ -123,7 +124,7 @@ impl<S: WordStore> Card<S> {
 }
 
 // The card of a recovered image.
-#[tactic(auto, using(crate::proofs::PoweredUp::laid_as, crate::proofs::PoweredUp::both_laid))]
+#[tactic(auto, using(crate::proofs::PoweredUp::laid_as, crate::proofs::PoweredUp::both_laid, crate::proofs::PoweredUp::long_of_image))]
 fn start<S: WordStore>(alloc: Global, image: OpenImage<S>) -> Result<Card<S>, (PowerFault, S)>
     requires { image.down ≡ false }
     ensures ok { OnOk result ((t : Tokens) × HasTable image.plain t × HasHeap t image.plain) }
@@ -133,7 +134,8 @@ fn start<S: WordStore>(alloc: Global, image: OpenImage<S>) -> Result<Card<S>, (P
     ensures reset { IfOk result (λ card. IsAtReset (heap_of image.plain) card) }
     ensures cause { IfErr result (λ e. RecoveredWordsFail e.0 image.plain) }
     ensures good { IfErr result (λ e. IsGoodLog (S.words e.1)) }
-    ensures size { IfErr result (λ e. length (S.words e.1) ≡ length image.plain) }
+    ensures size { IfErr result (λ e. length (S.words e.1) ≡ slice_index image.plain size_address) }
+    ensures limit { IfErr result (λ e. limit_of (S.words e.1) ≡ length image.plain) }
     ensures stands { IfErr result (λ e. LateFaultLeaves e.0 image.plain (S.words e.1)) }
     ensures up { IfErr result (λ e. S.down e.1 ≡ false) }
     ensures counts { IfErr result (λ e. (S.passed e.1 ≡ image.passed)

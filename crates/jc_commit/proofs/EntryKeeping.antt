@@ -12,15 +12,17 @@ use Rattle.std.proofs.lemmas.List.Folds.{list_any-append}
 use Rattle.std.proofs.lemmas.List.FromFn.{map-range_with_len_more}
 use Rattle.jc_words.specs.Count.{saturating_count}
 use Rattle.jc_words.specs.Layout.{log_start, log_end, top_address, count_address, addresses_start}
-use Rattle.jc_commit.specs.Image.{address_at, old_at, entries, old_value, count_of, capacity, plain_of, recovered_of, touched_of, top_of, IsPlace, IsReadable}
+use Rattle.jc_words.specs.Image.{log_of}
+use Rattle.jc_words.specs.declared.log.Log.{Log}
+use Rattle.jc_commit.specs.Image.{address_at, old_at, entries, old_value, count_of, capacity_of, limit_of, plain_of, recovered_of, touched_of, top_of, IsPlace}
 use Rattle.jc_commit.specs.Image.{IsGoodLog}
-use Rattle.jc_commit.specs.Entries.{addresses_of, AreDistinct, ArePlaces, SameBefore, HasEntries}
+use Rattle.jc_commit.specs.Entries.{addresses_of, AreDistinct, ArePlaces, IsBeside, AreBeside, SameBefore, HasEntries}
 use Rattle.jc_commit.specs.State.{State, live_words, born_of}
 use Rattle.jc_commit.specs.Keeping.{writes_inside, is_taken_back}
 use Rattle.jc_commit.specs.EntryIndex.{named_by, needing, with_entries, IsIndexOf, GoBack, KeepsAddresses}
-use Rattle.jc_commit.proofs.Words.{readable, place-not_version}
+use Rattle.jc_commit.proofs.Words.{Spot, bounds_of, place_spot, log-set}
 use Rattle.jc_commit.proofs.Steps.{IsGoodLog-set_place, count-set_place, entries-set_place, plain-set_place}
-use Rattle.jc_commit.proofs.Entries.{same_after, target, target-take}
+use Rattle.jc_commit.proofs.Entries.{same_after, target, target-take, places_beside}
 use Rattle.jc_commit.proofs.Counted.{entry_of, named_new, Kept, kept_before, Counted, counted}
 use Rattle.jc_commit.proofs.InPlace.{listed, unlisted, recovered-set_place, live_words-set}
 use Rattle.jc_commit.proofs.Outside.{new_ones}
@@ -58,106 +60,105 @@ places_take n m changes places k within =
 
 -- ---- entries that are put
 
-abbrev after_entry : List ℕ → ℕ → ℕ × ℕ → List ℕ
-after_entry w k change = set (set w (log_start + 2 * k) change.0) (log_start + 2 * k + 1) (slice_index w change.0)
+abbrev after_entry : Log → List ℕ → ℕ → ℕ × ℕ → List ℕ
+after_entry l w k change = set (set w (l.start + 2 * k) change.0) (l.start + 2 * k + 1) (slice_index w change.0)
 
-pub same_more : (first k : ℕ) (old w v : List ℕ) → first ≤ k → SameBefore first old w → SameBefore k w v → SameBefore first old v
-same_more first k old w v order was is = (is.0 ∙ was.0, λ a free. is.1 a (λ h. free (omega (arith, order, h))) ∙ was.1 a free)
+pub same_more : (l : Log) (first k : ℕ) (old w v : List ℕ) → first ≤ k → SameBefore l first old w → SameBefore l k w v → SameBefore l first old v
+same_more l first k old w v order was is = (is.0 ∙ was.0, λ a free. is.1 a (λ h. free (omega (arith, order, h))) ∙ was.1 a free)
 
-pub entry_same : (w : List ℕ) (k : ℕ) (change : ℕ × ℕ) → k < capacity → SameBefore k w (after_entry w k change)
-entry_same w k change few =
-    same_after w w (after_entry w k change) k (log_start + 2 * k) change.0 (slice_index w change.0) (omega arith) (omega (arith, few)) refl
+pub entry_same : (l : Log) (w : List ℕ) (k : ℕ) (change : ℕ × ℕ) → k < l.capacity → SameBefore l k w (after_entry l w k change)
+entry_same l w k change few =
+    same_after l w w (after_entry l w k change) k (l.start + 2 * k) change.0 (slice_index w change.0) (omega arith) (omega (arith, few)) refl
     (refl, λ a free. refl)
 
-length-after : (w : List ℕ) (k : ℕ) (change : ℕ × ℕ) → length (after_entry w k change) ≡ length w
-length-after w k change = length-set (set w (log_start + 2 * k) change.0) (log_start + 2 * k + 1) (slice_index w change.0)
-    ∙ length-set w (log_start + 2 * k) change.0
+length-after : (l : Log) (w : List ℕ) (k : ℕ) (change : ℕ × ℕ) → length (after_entry l w k change) ≡ length w
+length-after l w k change = length-set (set w (l.start + 2 * k) change.0) (l.start + 2 * k + 1) (slice_index w change.0)
+    ∙ length-set w (l.start + 2 * k) change.0
 
-pub entry_address : (w : List ℕ) (k : ℕ) (change : ℕ × ℕ) → k < capacity → log_end ≤ length w → address_at (after_entry w k change) k ≡ change.0
-entry_address w k change few size =
-    get_or-set_other (set w (log_start + 2 * k) change.0) (log_start + 2 * k + 1) (log_start + 2 * k) (slice_index w change.0) 0
+pub entry_address : (l : Log) (w : List ℕ) (k : ℕ) (change : ℕ × ℕ) → k < l.capacity → l.start + 2 * l.capacity ≤ length w → address_at l (after_entry l w k change) k ≡ change.0
+entry_address l w k change few size =
+    get_or-set_other (set w (l.start + 2 * k) change.0) (l.start + 2 * k + 1) (l.start + 2 * k) (slice_index w change.0) 0
     (λ same. absurd (omega (arith, same)))
-    ∙ get_or-set_same w (log_start + 2 * k) change.0 0 (omega (arith, few, size))
+    ∙ get_or-set_same w (l.start + 2 * k) change.0 0 (omega (arith, few, size))
 
-pub with_entries-append : (w : List ℕ) (k : ℕ) (xs ys : List (ℕ × ℕ)) → with_entries w k (xs ++ ys) ≡ with_entries (with_entries w k xs) (k + length xs) ys
-with_entries-append w k [] ys = let e : k ≡ k + 0 = omega arith in ap (λ (j : ℕ). with_entries w j ys) e
-with_entries-append w k (x ∷ xs) ys =
+pub with_entries-append : (l : Log) (w : List ℕ) (k : ℕ) (xs ys : List (ℕ × ℕ)) → with_entries l w k (xs ++ ys) ≡ with_entries l (with_entries l w k xs) (k + length xs) ys
+with_entries-append l w k [] ys = let e : k ≡ k + 0 = omega arith in ap (λ (j : ℕ). with_entries l w j ys) e
+with_entries-append l w k (x ∷ xs) ys =
     let e : k + 1 + length xs ≡ k + suc (length xs) = omega arith in
-    with_entries-append (after_entry w k x) (k + 1) xs ys ∙ ap (λ (j : ℕ). with_entries (with_entries (after_entry w k x) (k + 1) xs) j ys) e
+    with_entries-append l (after_entry l w k x) (k + 1) xs ys ∙ ap (λ (j : ℕ). with_entries l (with_entries l (after_entry l w k x) (k + 1) xs) j ys) e
 
-pub same_with : (w : List ℕ) (k : ℕ) (changes : List (ℕ × ℕ)) → k + length changes ≤ capacity → SameBefore k w (with_entries w k changes)
-same_with w k [] few = (refl, λ a free. refl)
-same_with w k (c ∷ cs) few =
-    let rest = same_with (after_entry w k c) (k + 1) cs (omega (arith, few)) in
-    same_more k (k + 1) w (after_entry w k c) (with_entries (after_entry w k c) (k + 1) cs) (omega arith) (entry_same w k c (omega (arith, few))) rest
+pub same_with : (l : Log) (w : List ℕ) (k : ℕ) (changes : List (ℕ × ℕ)) → k + length changes ≤ l.capacity → SameBefore l k w (with_entries l w k changes)
+same_with l w k [] few = (refl, λ a free. refl)
+same_with l w k (c ∷ cs) few =
+    let rest = same_with l (after_entry l w k c) (k + 1) cs (omega (arith, few)) in
+    same_more l k (k + 1) w (after_entry l w k c) (with_entries l (after_entry l w k c) (k + 1) cs) (omega arith) (entry_same l w k c (omega (arith, few))) rest
 
 -- a word that an entry may name is no word of an entry
-beside_entry : (w : List ℕ) (k n a : ℕ) (change : ℕ × ℕ) → k < capacity → IsPlace n a → slice_index (after_entry w k change) a ≡ slice_index w a
-beside_entry w k n a change few place =
+beside_entry : (l : Log) (w : List ℕ) (k n a : ℕ) (change : ℕ × ℕ) → k < l.capacity → IsBeside l n a → slice_index (after_entry l w k change) a ≡ slice_index w a
+beside_entry l w k n a change few place =
     let beside = place.beside in
-    get_or-set_other (set w (log_start + 2 * k) change.0) (log_start + 2 * k + 1) a (slice_index w change.0) 0 (λ e. absurd (omega (arith, few, beside, e)))
-    ∙ get_or-set_other w (log_start + 2 * k) a change.0 0 (λ e. absurd (omega (arith, few, beside, e)))
+    get_or-set_other (set w (l.start + 2 * k) change.0) (l.start + 2 * k + 1) a (slice_index w change.0) 0 (λ e. absurd (omega (arith, few, beside, e)))
+    ∙ get_or-set_other w (l.start + 2 * k) a change.0 0 (λ e. absurd (omega (arith, few, beside, e)))
 
-pub has_with : (w : List ℕ) (k : ℕ) (changes : List (ℕ × ℕ)) → k + length changes ≤ capacity → log_end ≤ length w → ArePlaces (length w) changes
-    → HasEntries k changes w (with_entries w k changes)
-has_with w k [] few size places j within = absurd (omega (arith, within))
-has_with w k (c ∷ cs) few size places zero within =
-    let v = with_entries (after_entry w k c) (k + 1) cs in
-    let kept : SameBefore (k + 1) (after_entry w k c) v = same_with (after_entry w k c) (k + 1) cs (omega (arith, few)) in
+pub has_with : (l : Log) (w : List ℕ) (k : ℕ) (changes : List (ℕ × ℕ)) → k + length changes ≤ l.capacity → l.start + 2 * l.capacity ≤ length w → AreBeside l (length w) changes
+    → HasEntries l k changes w (with_entries l w k changes)
+has_with l w k [] few size places j within = absurd (omega (arith, within))
+has_with l w k (c ∷ cs) few size places zero within =
+    let v = with_entries l (after_entry l w k c) (k + 1) cs in
+    let kept : SameBefore l (k + 1) (after_entry l w k c) v = same_with l (after_entry l w k c) (k + 1) cs (omega (arith, few)) in
     let e : k + 0 ≡ k = omega arith in (
-      ap (λ (j : ℕ). address_at v j) e ∙ kept.1 (log_start + 2 * k) (λ h. absurd (omega (arith, h)))
-          ∙ get_or-set_other (set w (log_start + 2 * k) c.0) (log_start + 2 * k + 1) (log_start + 2 * k) (slice_index w c.0) 0
+      ap (λ (j : ℕ). address_at l v j) e ∙ kept.1 (l.start + 2 * k) (λ h. absurd (omega (arith, h)))
+          ∙ get_or-set_other (set w (l.start + 2 * k) c.0) (l.start + 2 * k + 1) (l.start + 2 * k) (slice_index w c.0) 0
           (λ same. absurd (omega (arith, same)))
-          ∙ get_or-set_same w (log_start + 2 * k) c.0 0 (omega (arith, few, size)),
-      ap (λ (j : ℕ). old_at v j) e ∙ kept.1 (log_start + 2 * k + 1) (λ h. absurd (omega (arith, h)))
-          ∙ get_or-set_same (set w (log_start + 2 * k) c.0) (log_start + 2 * k + 1) (slice_index w c.0) 0
-          (omega (arith, few, size, length-set w (log_start + 2 * k) c.0)),
+          ∙ get_or-set_same w (l.start + 2 * k) c.0 0 (omega (arith, few, size)),
+      ap (λ (j : ℕ). old_at l v j) e ∙ kept.1 (l.start + 2 * k + 1) (λ h. absurd (omega (arith, h)))
+          ∙ get_or-set_same (set w (l.start + 2 * k) c.0) (l.start + 2 * k + 1) (slice_index w c.0) 0
+          (omega (arith, few, size, length-set w (l.start + 2 * k) c.0)),
     )
-has_with w k (c ∷ cs) few size places (suc j) within =
-    let v = with_entries (after_entry w k c) (k + 1) cs in
-    let long = length-after w k c in
-    let rest = has_with (after_entry w k c) (k + 1) cs (omega (arith, few)) (omega (arith, size, long))
-    (λ i lt. subst (λ (n : ℕ). IsPlace n (get_or cs i (0, 0)).0) (sym long) (places (suc i) (omega (arith, lt)))) j (omega (arith, within)) in
+has_with l w k (c ∷ cs) few size places (suc j) within =
+    let v = with_entries l (after_entry l w k c) (k + 1) cs in
+    let long = length-after l w k c in
+    let rest = has_with l (after_entry l w k c) (k + 1) cs (omega (arith, few)) (omega (arith, size, long))
+    (λ i lt. subst (λ (n : ℕ). IsBeside l n (get_or cs i (0, 0)).0) (sym long) (places (suc i) (omega (arith, lt)))) j (omega (arith, within)) in
     let e : k + suc j ≡ k + 1 + j = omega arith in (
-      ap (λ (i : ℕ). address_at v i) e ∙ rest.0,
-      ap (λ (i : ℕ). old_at v i) e ∙ rest.1 ∙ beside_entry w k (length w) (target cs j) c (omega (arith, few)) (places (suc j) within),
+      ap (λ (i : ℕ). address_at l v i) e ∙ rest.0,
+      ap (λ (i : ℕ). old_at l v i) e ∙ rest.1 ∙ beside_entry l w k (length w) (target cs j) c (omega (arith, few)) (places (suc j) within),
     )
 
-pub named_by_same : (w v : List ℕ) (n : ℕ) → SameBefore n w v → (k : ℕ) → k < n → address_at v k ≡ address_at w k
-named_by_same w v n same k below = same.1 (log_start + 2 * k) (λ h. absurd (omega (arith, h, below)))
+pub named_by_same : (l : Log) (w v : List ℕ) (n : ℕ) → SameBefore l n w v → (k : ℕ) → k < n → address_at l v k ≡ address_at l w k
+named_by_same l w v n same k below = same.1 (l.start + 2 * k) (λ h. absurd (omega (arith, h, below)))
 
-pub named_by_kept : (w v : List ℕ) (n : ℕ) → SameBefore n w v → named_by v n ≡ named_by w n
-named_by_kept w v n same =
-    ext_get_or 0 (named_by v n) (named_by w n) (length-named_by v n ∙ sym (length-named_by w n))
-    (λ k within. let below : k < n = omega (arith, within, length-named_by v n) in get_or-named_by v n k 0 below ∙ named_by_same w v n same k below
-    ∙ sym (get_or-named_by w n k 0 below))
+pub named_by_kept : (l : Log) (w v : List ℕ) (n : ℕ) → SameBefore l n w v → named_by l v n ≡ named_by l w n
+named_by_kept l w v n same =
+    ext_get_or 0 (named_by l v n) (named_by l w n) (length-named_by l v n ∙ sym (length-named_by l w n))
+    (λ k within. let below : k < n = omega (arith, within, length-named_by l v n) in get_or-named_by l v n k 0 below ∙ named_by_same l w v n same k below
+    ∙ sym (get_or-named_by l w n k 0 below))
 
-pub index_kept : (w v : List ℕ) (n : ℕ) (numbers : List ℕ) → SameBefore n w v → IsIndexOf w n numbers → IsIndexOf v n numbers
-index_kept w v n numbers same index = IsIndexOf-same w v n numbers (named_by_same w v n same) index
+pub index_kept : (l : Log) (w v : List ℕ) (n : ℕ) (numbers : List ℕ) → SameBefore l n w v → IsIndexOf l w n numbers → IsIndexOf l v n numbers
+index_kept l w v n numbers same index = IsIndexOf-same l w v n numbers (named_by_same l w v n same) index
 
 -- one entry more names one address more
-named_by_more : (w : List ℕ) (k : ℕ) → named_by w (k + 1) ≡ named_by w k ++ address_at w k ∷ []
+named_by_more : (l : Log) (w : List ℕ) (k : ℕ) → named_by l w (k + 1) ≡ named_by l w k ++ address_at l w k ∷ []
 unfolding named_by
-named_by_more w k = map-range_with_len_more (address_at w) 0 k k (omega arith)
+named_by_more l w k = map-range_with_len_more (address_at l w) 0 k k (omega arith)
 
-pub names_with : (w : List ℕ) (k : ℕ) (changes : List (ℕ × ℕ)) → k + length changes ≤ capacity → log_end ≤ length w → ArePlaces (length w) changes →
-    named_by (with_entries w k changes) (k + length changes) ≡ named_by w k ++ addresses_of changes
-names_with w k [] few size places = let e : k + 0 ≡ k = omega arith in ap (named_by w) e ∙ sym (append-nil (named_by w k))
-names_with w k (c ∷ cs) few size places =
-    let v = after_entry w k c in
-    let long = length-after w k c in
+pub names_with : (l : Log) (w : List ℕ) (k : ℕ) (changes : List (ℕ × ℕ)) → k + length changes ≤ l.capacity → l.start + 2 * l.capacity ≤ length w →
+    named_by l (with_entries l w k changes) (k + length changes) ≡ named_by l w k ++ addresses_of changes
+names_with l w k [] few size = let e : k + 0 ≡ k = omega arith in ap (named_by l w) e ∙ sym (append-nil (named_by l w k))
+names_with l w k (c ∷ cs) few size =
+    let v = after_entry l w k c in
+    let long = length-after l w k c in
     let e : k + suc (length cs) ≡ k + 1 + length cs = omega arith in
-    let rest : named_by (with_entries v (k + 1) cs) (k + 1 + length cs) ≡ named_by v (k + 1) ++ addresses_of cs =
-    names_with v (k + 1) cs (omega (arith, few)) (omega (arith, size, long)) (λ i lt. subst (λ (n : ℕ). IsPlace n (get_or cs i (0, 0)).0) (sym long)
-    (places (suc i) (omega (arith, lt)))) in
-    let one : address_at v k ≡ c.0 =
-    get_or-set_other (set w (log_start + 2 * k) c.0) (log_start + 2 * k + 1) (log_start + 2 * k) (slice_index w c.0) 0 (λ same. absurd (omega (arith, same)))
-    ∙ get_or-set_same w (log_start + 2 * k) c.0 0 (omega (arith, few, size)) in
-    let front : named_by v (k + 1) ≡ named_by w k ++ c.0 ∷ [] =
-    named_by_more v k ∙ ap (λ (l : List ℕ). l ++ address_at v k ∷ []) (named_by_kept w v k (entry_same w k c (omega (arith, few))))
-    ∙ ap (λ (a : ℕ). named_by w k ++ a ∷ []) one in
-    ap (named_by (with_entries v (k + 1) cs)) e ∙ rest ∙ ap (λ (l : List ℕ). l ++ addresses_of cs) front
-    ∙ append_assoc (named_by w k) (c.0 ∷ []) (addresses_of cs)
+    let rest : named_by l (with_entries l v (k + 1) cs) (k + 1 + length cs) ≡ named_by l v (k + 1) ++ addresses_of cs =
+    names_with l v (k + 1) cs (omega (arith, few)) (omega (arith, size, long)) in
+    let one : address_at l v k ≡ c.0 =
+    get_or-set_other (set w (l.start + 2 * k) c.0) (l.start + 2 * k + 1) (l.start + 2 * k) (slice_index w c.0) 0 (λ same. absurd (omega (arith, same)))
+    ∙ get_or-set_same w (l.start + 2 * k) c.0 0 (omega (arith, few, size)) in
+    let front : named_by l v (k + 1) ≡ named_by l w k ++ c.0 ∷ [] =
+    named_by_more l v k ∙ ap (λ (ls : List ℕ). ls ++ address_at l v k ∷ []) (named_by_kept l w v k (entry_same l w k c (omega (arith, few))))
+    ∙ ap (λ (a : ℕ). named_by l w k ++ a ∷ []) one in
+    ap (named_by l (with_entries l v (k + 1) cs)) e ∙ rest ∙ ap (λ (ls : List ℕ). ls ++ addresses_of cs) front
+    ∙ append_assoc (named_by l w k) (c.0 ∷ []) (addresses_of cs)
 
 -- what entries of other words name does not count
 unnamed : (a : ℕ) (xs : List (ℕ × ℕ)) → All (λ (c : ℕ × ℕ). c.0 ≡ a → ⊥) xs → list_any (λ x. x == a) (addresses_of xs) ≡ false
@@ -185,13 +186,13 @@ or_none true b is = absurd (false≢true (sym is))
 or_none false b is = refl
 
 -- an entry that is put names an address that no other does
-pub own_entry : (w v : List ℕ) (k born a : ℕ) → k < capacity → log_end ≤ length w → SameBefore k w v → v ≡ with_entries w k ((a, 0) ∷ [])
-    → is_taken_back (named_by w k) born a ≡ false →
-    list_any (λ x. x == address_at v k) (named_by v k) ≡ false
-own_entry w v k born a few size same put needs =
-    ap (λ (l : List ℕ). list_any (λ x. x == address_at v k) l) (named_by_kept w v k same)
-    ∙ ap (λ (b : ℕ). list_any (λ x. x == b) (named_by w k)) (ap (λ (u : List ℕ). address_at u k) put ∙ entry_address w k (a, 0) few size)
-    ∙ or_none (list_any (λ x. x == a) (named_by w k)) (nat_le born a) needs
+pub own_entry : (l : Log) (w v : List ℕ) (k born a : ℕ) → k < l.capacity → l.start + 2 * l.capacity ≤ length w → SameBefore l k w v → v ≡ with_entries l w k ((a, 0) ∷ [])
+    → is_taken_back (named_by l w k) born a ≡ false →
+    list_any (λ x. x == address_at l v k) (named_by l v k) ≡ false
+own_entry l w v k born a few size same put needs =
+    ap (λ (ls : List ℕ). list_any (λ x. x == address_at l v k) ls) (named_by_kept l w v k same)
+    ∙ ap (λ (b : ℕ). list_any (λ x. x == b) (named_by l w k)) (ap (λ (u : List ℕ). address_at l u k) put ∙ entry_address l w k (a, 0) few size)
+    ∙ or_none (list_any (λ x. x == a) (named_by l w k)) (nat_le born a) needs
 
 or_false : (a b : Bool) → b ≡ false → (a || b) ≡ a
 or_false true b is = refl
@@ -211,14 +212,17 @@ needing_still touched born changes i within distinct =
     list_any-append (λ x. x == c.0) touched (addresses_of (needing touched born (take i changes))) ∙ or_false (list_any (λ x. x == c.0) touched) _ none in
     ap (λ (b : Bool). cond (not (b || nat_le born c.0)) (c ∷ []) []) same
 
-mapped_twice : (w : List ℕ) (ks : List ℕ) → map (address_at w) ks ≡ map (λ (e : ℕ × ℕ). e.0) (map (λ (j : ℕ). (address_at w j, old_at w j)) ks)
-mapped_twice w [] = refl
-mapped_twice w (k ∷ ks) = ap (λ (l : List ℕ). address_at w k ∷ l) (mapped_twice w ks)
+mapped_twice : (l : Log) (w : List ℕ) (ks : List ℕ) → map (address_at l w) ks ≡ map (λ (e : ℕ × ℕ). e.0) (map (λ (j : ℕ). (address_at l w j, old_at l w j)) ks)
+mapped_twice l w [] = refl
+mapped_twice l w (k ∷ ks) = ap (λ (ls : List ℕ). address_at l w k ∷ ls) (mapped_twice l w ks)
 
 -- the addresses that the entries name are those that count
-pub named_touched : (w : List ℕ) → named_by w (count_of w) ≡ touched_of w
+pub named_touched : (w : List ℕ) → named_by (log_of w) w (count_of w) ≡ touched_of w
 unfolding named_by touched_of
-named_touched w = mapped_twice w (range_with_len 0 (count_of w))
+named_touched w = mapped_twice (log_of w) w (range_with_len 0 (count_of w))
+
+pub names_touched : (l : Log) (w : List ℕ) → l ≡ log_of w → named_by l w (count_of w) ≡ touched_of w
+names_touched l w is = ap (λ (m : Log). named_by m w (count_of w)) is ∙ named_touched w
 
 -- ---- the entries are counted, where there are more
 
@@ -228,20 +232,21 @@ pub record Ready (w : List ℕ) (changes : List (ℕ × ℕ)) (u : List ℕ) : T
   pub entries : entries u ≡ entries w ++ map (entry_of w) changes
   pub plain : plain_of u ≡ plain_of w
   pub recovered : recovered_of u ≡ recovered_of w
+  pub log : log_of u ≡ log_of w
 
 ready_none : (w v : List ℕ) → Kept w v → length v ≡ length w → Ready w [] v
-ready_none w v k size = record { good = k.good; size = size; entries = k.entries ∙ sym (nothing_more (entries w)); plain = k.plain; recovered = k.recovered }
+ready_none w v k size = record { good = k.good; size = size; entries = k.entries ∙ sym (nothing_more (entries w)); plain = k.plain; recovered = k.recovered; log = k.log }
   where
     nothing_more : (es : List (ℕ × ℕ)) → es ++ [] ≡ es
     nothing_more [] = refl
     nothing_more (e ∷ es) = ap (λ (l : List (ℕ × ℕ)). e ∷ l) (nothing_more es)
 
 ready_some : (w u : List ℕ) (changes : List (ℕ × ℕ)) → Counted w changes u → Ready w changes u
-ready_some w u changes c = record { good = c.good; size = c.size; entries = c.entries; plain = c.plain; recovered = c.recovered }
+ready_some w u changes c = record { good = c.good; size = c.size; entries = c.entries; plain = c.plain; recovered = c.recovered; log = c.log }
 
-ready_by : (w v u : List ℕ) (first : ℕ) (changes : List (ℕ × ℕ)) (b : Bool) → IsGoodLog w → ArePlaces (length w) changes → first ≡ count_of w
-    → first + length changes ≤ capacity →
-    SameBefore first w v → HasEntries first changes w v → (b ≡ true → changes ≡ []) → u ≡ (if b then v else set v count_address (first + length changes))
+ready_by : (w v u : List ℕ) (first : ℕ) (changes : List (ℕ × ℕ)) (b : Bool) → IsGoodLog w → ArePlaces (limit_of w) changes → first ≡ count_of w
+    → first + length changes ≤ capacity_of w →
+    SameBefore (log_of w) first w v → HasEntries (log_of w) first changes w v → (b ≡ true → changes ≡ []) → u ≡ (if b then v else set v count_address (first + length changes))
     → Ready w changes u
 ready_by w v u first changes true good places is room same has none written =
     let k : Ready w [] v = ready_none w v (kept_before w v first good is same) same.0 in
@@ -254,48 +259,58 @@ none_more : (first : ℕ) (changes : List (ℕ × ℕ)) → (first == first + le
 none_more first [] is = refl
 none_more first (c ∷ cs) is = absurd (omega (arith, eqb-true first (first + length (c ∷ cs)) is))
 
-pub ready : (w v u : List ℕ) (first behind : ℕ) (changes : List (ℕ × ℕ)) → IsGoodLog w → ArePlaces (length w) changes → first ≡ count_of w
-    → first + length changes ≤ capacity →
-    v ≡ with_entries w first changes → behind ≡ first + length changes → u ≡ (if first == behind then v else set v count_address behind) → Ready w changes u
+pub ready : (w v u : List ℕ) (first behind : ℕ) (changes : List (ℕ × ℕ)) → IsGoodLog w → ArePlaces (limit_of w) changes → first ≡ count_of w
+    → first + length changes ≤ capacity_of w →
+    v ≡ with_entries (log_of w) w first changes → behind ≡ first + length changes → u ≡ (if first == behind then v else set v count_address behind) → Ready w changes u
 ready w v u first behind changes good places is room put all written =
-    let big = good.size in
-    let same : SameBefore first w v = subst (λ (t : List ℕ). SameBefore first w t) (sym put) (same_with w first changes room) in
-    let has : HasEntries first changes w v = subst (λ (t : List ℕ). HasEntries first changes w t) (sym put) (has_with w first changes room big places) in
+    let big = (bounds_of w good).within in
+    let same : SameBefore (log_of w) first w v = subst (λ (t : List ℕ). SameBefore (log_of w) first w t) (sym put) (same_with (log_of w) w first changes room) in
+    let has : HasEntries (log_of w) first changes w v = subst (λ (t : List ℕ). HasEntries (log_of w) first changes w t) (sym put) (has_with (log_of w) w first changes room big (places_beside w changes good places)) in
     ready_by w v u first changes (first == first + length changes) good places is room same has (none_more first changes)
     (written ∙ ap (λ (n : ℕ). if first == n then v else set v count_address n) all)
 
-pub ready_is : (w v u : List ℕ) (first behind born : ℕ) (changes : List (ℕ × ℕ)) → IsGoodLog w → ArePlaces (length w) changes → first ≡ count_of w →
-    first + length (needing (named_by w first) born changes) ≤ capacity → v ≡ with_entries w first (needing (named_by w first) born changes) →
-    behind ≡ first + length (needing (named_by w first) born changes) → u ≡ (if first == behind then v else set v count_address behind)
+pub ready_is : (w v u : List ℕ) (first behind born : ℕ) (changes : List (ℕ × ℕ)) → IsGoodLog w → ArePlaces (limit_of w) changes → first ≡ count_of w →
+    first + length (needing (named_by (log_of w) w first) born changes) ≤ capacity_of w → v ≡ with_entries (log_of w) w first (needing (named_by (log_of w) w first) born changes) →
+    behind ≡ first + length (needing (named_by (log_of w) w first) born changes) → u ≡ (if first == behind then v else set v count_address behind)
     → Ready w (needing (touched_of w) born changes) u
 ready_is w v u first behind born changes good places is room put all written =
-    subst (λ (t : List ℕ). Ready w (needing t born changes) u) (ap (named_by w) is ∙ named_touched w)
-    (ready w v u first behind (needing (named_by w first) born changes) good (places_needing (named_by w first) born (length w) changes places) is room put all
+    subst (λ (t : List ℕ). Ready w (needing t born changes) u) (ap (named_by (log_of w) w) is ∙ named_touched w)
+    (ready w v u first behind (needing (named_by (log_of w) w first) born changes) good (places_needing (named_by (log_of w) w first) born (limit_of w) changes places) is room put all
     written)
 
+pub ready_by_log : (l : Log) (w v u : List ℕ) (first behind born : ℕ) (changes : List (ℕ × ℕ)) → l ≡ log_of w → IsGoodLog w → ArePlaces (limit_of w) changes
+    → first ≡ count_of w → first + length (needing (named_by l w first) born changes) ≤ l.capacity
+    → v ≡ with_entries l w first (needing (named_by l w first) born changes) → behind ≡ first + length (needing (named_by l w first) born changes)
+    → u ≡ (if first == behind then v else set v count_address behind) → Ready w (needing (touched_of w) born changes) u
+ready_by_log l w v u first behind born changes log good places is room put all written =
+    ready_is w v u first behind born changes good places is
+    (subst (λ (m : Log). first + length (needing (named_by m w first) born changes) ≤ m.capacity) log room)
+    (subst (λ (m : Log). v ≡ with_entries m w first (needing (named_by m w first) born changes)) log put)
+    (subst (λ (m : Log). behind ≡ first + length (needing (named_by m w first) born changes)) log all) written
+
 -- the count, and the addresses that entries name, where the entries are counted
-pub count_by : (w v u : List ℕ) (first behind : ℕ) → SameBefore first w v → first ≡ count_of w → log_end ≤ length w → u
+pub count_by : (l : Log) (w v u : List ℕ) (first behind : ℕ) → log_start ≤ l.start → SameBefore l first w v → first ≡ count_of w → log_end ≤ length w → u
     ≡ (if first == behind then v else set v count_address behind) →
-    (count_of u ≡ behind) × KeepsAddresses v u
-count_by w v u first behind same is size written = elim (cases_Bool (first == behind)) [
+    (count_of u ≡ behind) × KeepsAddresses l v u
+count_by l w v u first behind low same is size written = elim (cases_Bool (first == behind)) [
   | inl none ↦
       let u_is : u ≡ v = written ∙ ap (λ (b : Bool). if b then v else set v count_address behind) none in (
-        ap count_of u_is ∙ same.1 count_address (λ h. absurd (omega (arith, h))) ∙ sym is ∙ eqb-true first behind none,
-        λ k few. ap (λ (t : List ℕ). address_at t k) u_is,
+        ap count_of u_is ∙ same.1 count_address (λ h. absurd (omega (arith, low, h))) ∙ sym is ∙ eqb-true first behind none,
+        λ k few. ap (λ (t : List ℕ). address_at l t k) u_is,
       )
   | inr some ↦
       let long = same.0 in
       let u_is : u ≡ set v count_address behind = written ∙ ap (λ (b : Bool). if b then v else set v count_address behind) some in (
         ap count_of u_is ∙ get_or-set_same v count_address behind 0 (omega (arith, size, long)),
-        λ k few. ap (λ (t : List ℕ). address_at t k) u_is ∙ get_or-set_other v count_address (log_start + 2 * k) behind 0 (λ e. absurd (omega (arith, e))),
+        λ k few. ap (λ (t : List ℕ). address_at l t k) u_is ∙ get_or-set_other v count_address (l.start + 2 * k) behind 0 (λ e. absurd (omega (arith, low, e))),
       )
 ]
 
-pub index_of_all : (v u x : List ℕ) (behind : ℕ) (numbers : List ℕ) → IsIndexOf v behind numbers → behind ≤ capacity → KeepsAddresses v u → KeepsAddresses u x
-    → count_of x ≡ behind → IsIndexOf x (count_of x) numbers
-index_of_all v u x behind numbers index few first second count =
-    subst (λ (n : ℕ). IsIndexOf x n numbers) (sym count)
-    (IsIndexOf-same v x behind numbers (λ k below. second k (omega (arith, below, few)) ∙ first k (omega (arith, below, few))) index)
+pub index_of_all : (l : Log) (v u x : List ℕ) (behind : ℕ) (numbers : List ℕ) → IsIndexOf l v behind numbers → behind ≤ l.capacity → KeepsAddresses l v u
+    → KeepsAddresses l u x → count_of x ≡ behind → IsIndexOf l x (count_of x) numbers
+index_of_all l v u x behind numbers index few first second count =
+    subst (λ (n : ℕ). IsIndexOf l x n numbers) (sym count)
+    (IsIndexOf-same l v x behind numbers (λ k below. second k (omega (arith, below, few)) ∙ first k (omega (arith, below, few))) index)
 
 -- how many writes that is
 pub writes_sum : (p q r s first behind n m : ℕ) → behind ≡ first + m → q ≡ saturating_count p (2 * m) → r
@@ -388,7 +403,8 @@ pub record Through (w : List ℕ) (a x : ℕ) (v : List ℕ) : Type 0 where
   pub top : top_of (recovered_of v) ≡ top_of (recovered_of w)
   pub entries : entries v ≡ entries w
   pub count : count_of v ≡ count_of w
-  pub addresses : KeepsAddresses w v
+  pub addresses : KeepsAddresses (log_of w) w v
+  pub log : log_of v ≡ log_of w
   pub plain : plain_of v ≡ set (plain_of w) a x
 
 abbrev SameLive : List ℕ → List ℕ → Type 0
@@ -399,11 +415,11 @@ same_live true p a x high = (refl, refl)
 same_live false p a x high =
     let h = high refl in (live_words-set p a x h.0 h.1, get_or-set_other p a top_address x 0 (λ same. absurd (omega (arith, h.1, same))))
 
-through_at : (w : List ℕ) (a x born : ℕ) → IsGoodLog w → IsPlace (length w) a → top_of (recovered_of w) ≤ born → log_end ≤ born
+through_at : (w : List ℕ) (a x born : ℕ) → IsGoodLog w → IsPlace (limit_of w) a → top_of (recovered_of w) ≤ born → log_end ≤ born
     → IsSome (old_value (entries w) a) ⊎ (born ≤ a) → Through w a x (set w a x)
 unfolding touched_of
 through_at w a x born good place top low back =
-    let read = readable (length w) a place in
+    let read = place_spot w a good place in
     let named : Bool = list_any (λ b. b == a) (touched_of w) in
     let high : named ≡ false → (top_of (recovered_of w) ≤ a) × (log_end ≤ a) = λ unnamed. ⊎_elim
     (λ some. absurd (false≢true (sym (ap is_some (unlisted (entries w) a unnamed)) ∙ some)))
@@ -413,17 +429,19 @@ through_at w a x born good place top low back =
     let both : SameLive (recovered_of w) (recovered_of (set w a x)) = subst (λ (r : List ℕ). SameLive (recovered_of w) r) (sym is)
     (same_live named (recovered_of w) a x high) in
     record {
-      good = IsGoodLog-set_place w a x good read (place-not_version (length w) a place);
+      good = IsGoodLog-set_place w a x good read;
       size = length-set w a x;
       live = both.0;
       top = both.1;
       entries = entries-set_place w a x good read;
       count = count-set_place w a x read;
-      addresses = λ k few. get_or-set_other w a (log_start + 2 * k) x 0 (λ same. let beside = read.beside in absurd (omega (arith, few, beside, same)));
-      plain = plain-set_place w a x read;
+      addresses = λ k few. get_or-set_other w a ((log_of w).start + 2 * k) x 0
+          (λ same. let far = read.beside (omega (arith, same)) in absurd (omega (arith, few, far, same)));
+      log = log-set w a x read;
+      plain = plain-set_place w a x good read;
     }
 
-pub through : (w v : List ℕ) (a x born : ℕ) → IsGoodLog w → IsPlace (length w) a → top_of (recovered_of w) ≤ born → log_end ≤ born
+pub through : (w v : List ℕ) (a x born : ℕ) → IsGoodLog w → IsPlace (limit_of w) a → top_of (recovered_of w) ≤ born → log_end ≤ born
     → IsSome (old_value (entries w) a) ⊎ (born ≤ a) → v ≡ set w a x → Through w a x v
 through w v a x born good place top low back written =
     subst (λ (u : List ℕ). Through w a x u) (sym written) (through_at w a x born good place top low back)
@@ -455,7 +473,7 @@ length-needing w s born changes touched recovered is =
     (needing_is w s born changes touched recovered is)
 
 -- a word that may be read, and is not the top, is written: births and the index stay
-pub births_kept : (w : List ℕ) (a x born : ℕ) → IsGoodLog w → IsReadable (length w) a → (a ≡ top_address → ⊥) → born ≡ born_of (recovered_of w) → born
+pub births_kept : (w : List ℕ) (a x born : ℕ) → IsGoodLog w → Spot w a → (a ≡ top_address → ⊥) → born ≡ born_of (recovered_of w) → born
     ≡ born_of (recovered_of (set w a x))
 births_kept w a x born good read other is =
     is ∙ sym (ap (λ (t : ℕ). max addresses_start t) (ap top_of (recovered-set_place w a x good read)
@@ -465,16 +483,17 @@ births_kept w a x born good read other is =
     top_kept true p = refl
     top_kept false p = get_or-set_other p a top_address x 0 (λ same. other (sym same))
 
-pub index_written : (w : List ℕ) (a x : ℕ) (numbers : List ℕ) → IsGoodLog w → IsReadable (length w) a → IsIndexOf w (count_of w) numbers
-    → IsIndexOf (set w a x) (count_of (set w a x)) numbers
+pub index_written : (w : List ℕ) (a x : ℕ) (numbers : List ℕ) → IsGoodLog w → Spot w a → IsIndexOf (log_of w) w (count_of w) numbers
+    → IsIndexOf (log_of (set w a x)) (set w a x) (count_of (set w a x)) numbers
 index_written w a x numbers good read index =
-    subst (λ (n : ℕ). IsIndexOf (set w a x) n numbers) (sym (count-set_place w a x read))
-    (IsIndexOf-same w (set w a x) (count_of w) numbers (λ k below. get_or-set_other w a (log_start + 2 * k) x 0 (λ same. let beside = read.beside in let few =
-    good.few in absurd (omega (arith, below, beside, few, same)))) index)
+    subst (λ (l : Log). IsIndexOf l (set w a x) (count_of (set w a x)) numbers) (sym (log-set w a x read))
+    (subst (λ (n : ℕ). IsIndexOf (log_of w) (set w a x) n numbers) (sym (count-set_place w a x read))
+    (IsIndexOf-same (log_of w) w (set w a x) (count_of w) numbers (λ k below. get_or-set_other w a ((log_of w).start + 2 * k) x 0
+    (λ same. let few = good.few in let far = read.beside (omega (arith, same)) in absurd (omega (arith, below, far, few, same)))) index))
 
 -- with no entry there is nothing in the index
-pub index_none : (w : List ℕ) (n : ℕ) (numbers : List ℕ) → n ≡ 0 → numbers ≡ [] → IsIndexOf w n numbers
-index_none w n numbers none empty = subst (λ (l : List ℕ). IsIndexOf w n l) (sym empty) (record {
+pub index_none : (l : Log) (w : List ℕ) (n : ℕ) (numbers : List ℕ) → n ≡ 0 → numbers ≡ [] → IsIndexOf l w n numbers
+index_none l w n numbers none empty = subst (λ (ns : List ℕ). IsIndexOf l w n ns) (sym empty) (record {
   long = sym none;
   counted = λ i within. absurd (omega (arith, within));
   rising = λ i j less within. absurd (omega (arith, within));

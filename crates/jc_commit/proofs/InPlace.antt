@@ -1,28 +1,114 @@
 -- A word that is written in place, with an old value kept or without.
 use Rattle.std.specs.Prelude.{if◌then◌else◌, ◌==◌, ◌||◌, ◌&&◌}
 use Rattle.std.specs.List.{list_any}
-use Rattle.std.proofs.Common.{◌≡◌, ◌≢◌, ℕ, ◌≤◌, ◌⊎◌, Bool, true, false, cond, List, [], ◌∷◌, Option, Some, None, unwrap_or, length, map, set, take, slice_index, eqb}
+use Rattle.std.proofs.Common.{◌≡◌, ◌≢◌, ℕ, zero, suc, ◌+◌, ◌<◌, ◌≤◌, Bool, true, false, cond, List, [], ◌∷◌, Option, Some, None, unwrap_or, length, map, set, take, slice_index, eqb}
 use Rattle.std.proofs.Common.{refl, sym, ◌∙◌, ap, subst, arith, ⊎_elim, get_or-set_other, get_or-set_same}
 use Rattle.std.proofs.lemmas.List.{length-set, take-set-le}
-use Rattle.std.proofs.lemmas.Bool.{cases_Bool, cases_eq, false≢true}
-use Rattle.jc_commit.specs.Image.{words_by, IsReadable, IsUnlogged, IsGoodLog, entries, old_value, plain_of, recovered_of, touched_of, top_of}
-use Rattle.jc_words.specs.Layout.{top_address, log_end, version_address}
+use Rattle.std.proofs.lemmas.Bool.{cases_Bool, false≢true, ne_eqb}
+use Rattle.jc_commit.specs.Image.{is_log, words_by, limit_of, capacity_of, count_of, address_at, old_at, IsReadable, IsGoodLog, entries, entries_from, old_value, plain_of}
+use Rattle.jc_commit.specs.Image.{recovered_of, touched_of, top_of}
+use Rattle.jc_words.specs.Layout.{top_address, deselect_end_address, count_address, log_start, log_end, version_address, capacity_address, journal_address}
+use Rattle.jc_words.specs.Image.{log_of}
+use Rattle.jc_words.specs.declared.log.Log.{Log}
 use Rattle.jc_commit.specs.Entries.{ArePlaces}
-use Rattle.jc_commit.specs.State.{live_words}
-use Rattle.jc_commit.proofs.Words.{readable, place-not_version, is_log-readable, get_or-words_by, words_by-set, length-words_by}
-use Rattle.jc_commit.proofs.Steps.{recovered_at, recovered-set_named, entries-set_place}
+use Rattle.jc_commit.specs.State.{State, live_words}
+use Rattle.jc_commit.proofs.Words.{Spot, bounds_of, spot_within, is_log-beside, is_log-spot, is_log-readable, entries_in, get_or-words_by, words_by-set, length-words_by}
+use Rattle.jc_commit.proofs.Words.{log-same, log-set}
+use Rattle.jc_commit.proofs.Steps.{recovered_at, recovered-set_named, entries-set_log, limit-same}
 
-pub length-plain : (w : List ℕ) → length (plain_of w) ≡ length w
+pub length-plain : (w : List ℕ) → length (plain_of w) ≡ limit_of w
 unfolding plain_of
-length-plain w = length-words_by (length w) (λ a. slice_index w a)
+length-plain w = length-words_by (log_of w) (limit_of w) (λ a. slice_index w a)
 
-pub length-recovered : (w : List ℕ) → length (recovered_of w) ≡ length w
+pub length-recovered : (w : List ℕ) → length (recovered_of w) ≡ limit_of w
 unfolding recovered_of
-length-recovered w = length-words_by (length w) (recovered_at w)
+length-recovered w = length-words_by (log_of w) (limit_of w) (recovered_at (log_of w) w)
 
-pub plain_word : (w : List ℕ) (a : ℕ) → IsReadable (length w) a → slice_index (plain_of w) a ≡ slice_index w a
+plain_beside : (w : List ℕ) (a : ℕ) → a < limit_of w → is_log (log_of w) a ≡ false → slice_index (plain_of w) a ≡ slice_index w a
 unfolding plain_of
-plain_word w a readable = get_or-words_by (length w) (λ b. slice_index w b) a readable.below (is_log-readable (length w) a readable)
+plain_beside w a below plain = get_or-words_by (log_of w) (limit_of w) (λ b. slice_index w b) a below plain
+
+pub plain_word : (w : List ℕ) (a : ℕ) → IsGoodLog w → IsReadable (limit_of w) a → slice_index (plain_of w) a ≡ slice_index w a
+plain_word w a good readable =
+    plain_beside w a readable.below (is_log-readable w a good readable)
+
+pub plain_top : (w : List ℕ) → IsGoodLog w → slice_index (plain_of w) top_address ≡ slice_index w top_address
+plain_top w good =
+    let big = (bounds_of w good).room in
+    let low = (bounds_of w good).low in
+    plain_beside w top_address (omega arith) (is_log-beside (log_of w) top_address (λ e. absurd (omega arith)) (λ h. absurd (omega arith)))
+
+-- a word before the journal, but the count, that no entry names
+pub record IsFront (a : ℕ) : Type 0 where
+  pub below : a < log_start
+  pub not_count : a ≢ count_address
+  pub unnamed : top_address ≤ a → deselect_end_address < a
+
+pub front_beside : (w : List ℕ) (a : ℕ) → IsGoodLog w → IsFront a → is_log (log_of w) a ≡ false
+front_beside w a good front =
+    let low = (bounds_of w good).low in
+    let below = front.below in
+    is_log-beside (log_of w) a front.not_count (λ h. absurd (omega arith))
+
+pub plain_front : (w : List ℕ) (a : ℕ) → IsGoodLog w → IsFront a → slice_index (plain_of w) a ≡ slice_index w a
+plain_front w a good front =
+    let big = (bounds_of w good).room in
+    let below = front.below in
+    plain_beside w a (omega arith) (front_beside w a good front)
+
+no_old : (l : Log) (w : List ℕ) (k n a : ℕ) → ((j : ℕ) → j < k + n → address_at l w j ≡ a → ⊥) → old_value (entries_from l w k n) a ≡ None
+no_old l w k zero a h = refl
+no_old l w k (suc n) a h =
+    ap (λ (b : Bool). cond b (Some (old_at l w k)) (old_value (entries_from l w (k + 1) n) a)) (ne_eqb (address_at l w k) a (h k (omega arith)))
+    ∙ no_old l w (k + 1) n a (λ j lt. h j (omega arith))
+
+-- no entry names it
+pub front_unnamed : (w : List ℕ) (a : ℕ) → IsGoodLog w → IsFront a → old_value (entries w) a ≡ None
+front_unnamed w a good front =
+    let below = front.below in
+    no_old (log_of w) w 0 (count_of w) a (λ j lt same.
+    let place = good.places j (omega arith) in
+    let above = place.above in
+    let beside = place.beside in
+    let behind = front.unnamed (omega arith) in
+    let far = beside (omega arith) in
+    absurd (omega arith))
+
+pub recovered_front : (w : List ℕ) (a : ℕ) → IsGoodLog w → IsFront a → slice_index (recovered_of w) a ≡ slice_index w a
+unfolding recovered_of
+recovered_front w a good front =
+    let big = (bounds_of w good).room in
+    let below = front.below in
+    let none = front_unnamed w a good front in
+    get_or-words_by (log_of w) (limit_of w) (recovered_at (log_of w) w) a (omega arith) (front_beside w a good front)
+    ∙ ap (λ (o : Option ℕ). unwrap_or o (slice_index w a)) none
+
+pub front_version : IsFront version_address
+front_version = record { below = omega arith; not_count = λ e. absurd (omega arith); unnamed = λ h. absurd (omega arith) }
+
+pub front_capacity_word : IsFront capacity_address
+front_capacity_word = record { below = omega arith; not_count = λ e. absurd (omega arith); unnamed = λ h. omega arith }
+
+pub front_journal : IsFront journal_address
+front_journal = record { below = omega arith; not_count = λ e. absurd (omega arith); unnamed = λ h. omega arith }
+
+-- the words as they are, and those that a recovery leaves, tell the journal that the image has
+pub log-plain : (w : List ℕ) → IsGoodLog w → log_of (plain_of w) ≡ log_of w
+log-plain w good =
+    log-same w (plain_of w) (plain_front w version_address good front_version) (plain_front w capacity_address good front_capacity_word)
+    (plain_front w journal_address good front_journal)
+
+pub log-recovered : (w : List ℕ) → IsGoodLog w → log_of (recovered_of w) ≡ log_of w
+log-recovered w good =
+    log-same w (recovered_of w) (recovered_front w version_address good front_version) (recovered_front w capacity_address good front_capacity_word)
+    (recovered_front w journal_address good front_journal)
+
+-- of a state and its words
+pub limit_is : (s : State) (w : List ℕ) → plain_of w ≡ s.plain → length s.plain ≡ limit_of w
+limit_is s w is = ap (λ (p : List ℕ). length p) (sym is) ∙ length-plain w
+
+pub capacity_is : (s : State) (w : List ℕ) → IsGoodLog w → recovered_of w ≡ s.recovered → capacity_of s.recovered ≡ capacity_of w
+capacity_is s w good is = ap capacity_of (sym is) ∙ ap (λ (l : Log). l.capacity) (log-recovered w good)
 
 -- whether an entry names a word
 abbrev pub is_named : List (ℕ × ℕ) → ℕ → Bool
@@ -45,21 +131,21 @@ pub unlisted : (es : List (ℕ × ℕ)) (a : ℕ) → is_named es a ≡ false �
 unlisted [] a is = refl
 unlisted (e ∷ es) a is = unlisted_step (eqb e.0 a) e.1 (is_named es a) (old_value es a) (unlisted es a) is
 
-recovered-set_unnamed : (w : List ℕ) (a x : ℕ) → IsGoodLog w → IsReadable (length w) a → old_value (entries w) a ≡ None
+recovered-set_unnamed : (w : List ℕ) (a x : ℕ) → IsGoodLog w → Spot w a → old_value (entries w) a ≡ None
     → recovered_of (set w a x) ≡ set (recovered_of w) a x
 unfolding recovered_of
 recovered-set_unnamed w a x good place none =
-    ap (λ (n : ℕ). words_by n (recovered_at (set w a x))) (length-set w a x)
-    ∙ words_by-set (length w) (recovered_at w) (recovered_at (set w a x)) a x place.below (is_log-readable (length w) a place)
+    (λ i. words_by (log-set w a x place i) (limit-same w (set w a x) (length-set w a x) (log-set w a x place) i) (recovered_at (log-set w a x place i) (set w a x)))
+    ∙ words_by-set (log_of w) (limit_of w) (recovered_at (log_of w) w) (recovered_at (log_of w) (set w a x)) a x place.below (is_log-spot w a place)
     (ap (λ (es : List (ℕ × ℕ)). unwrap_or (old_value es a) (slice_index (set w a x) a)) same
-    ∙ ap (λ (o : Option ℕ). unwrap_or o (slice_index (set w a x) a)) none ∙ get_or-set_same w a x 0 place.below)
+    ∙ ap (λ (o : Option ℕ). unwrap_or o (slice_index (set w a x) a)) none ∙ get_or-set_same w a x 0 (spot_within w a good place))
     (λ b other. ap (λ (es : List (ℕ × ℕ)). unwrap_or (old_value es b) (slice_index (set w a x) b)) same
     ∙ ap (λ (v : ℕ). unwrap_or (old_value (entries w) b) v) (get_or-set_other w a b x 0 other))
   where
-    same : entries (set w a x) ≡ entries w
-    same = entries-set_place w a x good place
+    same : entries_in (log_of w) (set w a x) ≡ entries w
+    same = entries-set_log w a x good place
 
-pub recovered-set_place : (w : List ℕ) (a x : ℕ) → IsGoodLog w → IsReadable (length w) a
+pub recovered-set_place : (w : List ℕ) (a x : ℕ) → IsGoodLog w → Spot w a
     → recovered_of (set w a x) ≡ (if list_any (λ b. b == a) (touched_of w) then recovered_of w else set (recovered_of w) a x)
 unfolding touched_of
 recovered-set_place w a x good place =
@@ -84,18 +170,5 @@ pub live_either : (b : Bool) (p : List ℕ) (a x : ℕ) → top_of p ≤ a → l
 live_either true p a x above place = refl
 live_either false p a x above place = live_words-set p a x above place
 
-pub places_in : (p w : List ℕ) (changes : List (ℕ × ℕ)) → length p ≡ length w → ArePlaces (length p) changes → ArePlaces (length w) changes
+pub places_in : (p w : List ℕ) (changes : List (ℕ × ℕ)) → length p ≡ limit_of w → ArePlaces (length p) changes → ArePlaces (limit_of w) changes
 places_in p w changes same places = subst (λ (n : ℕ). ArePlaces n changes) same places
-
--- an address that may be written with no entry may be read
-pub unlogged : (n a : ℕ) → IsUnlogged n a → IsReadable n a
-unlogged n a place = unlogged_by (cases_eq a 0)
-  where
-    unlogged_by : (a ≡ 0) ⊎ (a ≡ 0 → ⊥) → IsReadable n a
-    unlogged_by = ⊎_elim
-        (λ zero. record { below = place.below; not_count = λ same. absurd (omega arith); beside = λ h. absurd (omega arith) })
-        (λ some. readable n a (place.place some))
-
--- nor is it the word with the version
-pub unlogged-not_version : (n a : ℕ) → IsUnlogged n a → a ≢ version_address
-unlogged-not_version n a place same = place-not_version n a (place.place (λ zero. absurd (omega arith))) same

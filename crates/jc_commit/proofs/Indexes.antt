@@ -7,47 +7,48 @@ use Rattle.std.proofs.lemmas.List.Edits.{length-insert, get_or-insert_below, get
 use Rattle.std.proofs.lemmas.List.Folds.{list_any_none, list_any_at}
 use Rattle.std.proofs.lemmas.List.FromFn.{length-map-range_with_len, get_or-map-range_with_len}
 use Rattle.jc_commit.specs.Image.{address_at}
+use Rattle.jc_words.specs.declared.log.Log.{Log}
 use Rattle.jc_commit.specs.EntryIndex.{named_by, IsIndexOf, StandsAt, IsGapFor}
 
-pub length-named_by : (w : List ℕ) (n : ℕ) → length (named_by w n) ≡ n
+pub length-named_by : (l : Log) (w : List ℕ) (n : ℕ) → length (named_by l w n) ≡ n
 unfolding named_by
-length-named_by w n = length-map-range_with_len (address_at w) 0 n
+length-named_by l w n = length-map-range_with_len (address_at l w) 0 n
 
-pub get_or-named_by : (w : List ℕ) (n k d : ℕ) → k < n → get_or (named_by w n) k d ≡ address_at w k
+pub get_or-named_by : (l : Log) (w : List ℕ) (n k d : ℕ) → k < n → get_or (named_by l w n) k d ≡ address_at l w k
 unfolding named_by
-get_or-named_by w n k d below = get_or-map-range_with_len (address_at w) 0 n k k d below (omega arith)
+get_or-named_by l w n k d below = get_or-map-range_with_len (address_at l w) 0 n k k d below (omega arith)
 
 -- where an entry stands that names an address, one names it
-pub stands_named : (w numbers : List ℕ) (n a i : ℕ) → IsIndexOf w n numbers → StandsAt w numbers a i → list_any (λ x. x == a) (named_by w n) ≡ true
-stands_named w numbers n a i index found =
+pub stands_named : (l : Log) (w numbers : List ℕ) (n a i : ℕ) → IsIndexOf l w n numbers → StandsAt l w numbers a i → list_any (λ x. x == a) (named_by l w n) ≡ true
+stands_named l w numbers n a i index found =
     let k : ℕ = slice_index numbers i in
     let below : k < n = index.counted i found.within in
-    list_any_at (λ x. x == a) (named_by w n) k 0 (omega (arith, below, length-named_by w n))
-    (eq-eqb (get_or (named_by w n) k 0) a (get_or-named_by w n k 0 below ∙ found.names))
+    list_any_at (λ x. x == a) (named_by l w n) k 0 (omega (arith, below, length-named_by l w n))
+    (eq-eqb (get_or (named_by l w n) k 0) a (get_or-named_by l w n k 0 below ∙ found.names))
 
 -- in a gap none does
-pub gap_named : (w numbers : List ℕ) (n a i : ℕ) → IsIndexOf w n numbers → IsGapFor w numbers a i → list_any (λ x. x == a) (named_by w n) ≡ false
-gap_named w numbers n a i index gap =
-    list_any_none (λ x. x == a) (named_by w n) (λ k d within.
-    let below : k < n = omega (arith, within, length-named_by w n) in
-    ne_eqb (get_or (named_by w n) k d) a (λ same. none (index.all k below).0 (index.all k below).1 (ap (address_at w) (index.all k below).2
-    ∙ sym (get_or-named_by w n k d below) ∙ same)))
+pub gap_named : (l : Log) (w numbers : List ℕ) (n a i : ℕ) → IsIndexOf l w n numbers → IsGapFor l w numbers a i → list_any (λ x. x == a) (named_by l w n) ≡ false
+gap_named l w numbers n a i index gap =
+    list_any_none (λ x. x == a) (named_by l w n) (λ k d within.
+    let below : k < n = omega (arith, within, length-named_by l w n) in
+    ne_eqb (get_or (named_by l w n) k d) a (λ same. none (index.all k below).0 (index.all k below).1 (ap (address_at l w) (index.all k below).2
+    ∙ sym (get_or-named_by l w n k d below) ∙ same)))
   where
-    none : (j : ℕ) → j < length numbers → address_at w (slice_index numbers j) ≡ a → ⊥
+    none : (j : ℕ) → j < length numbers → address_at l w (slice_index numbers j) ≡ a → ⊥
     none j within same = elim (cases_lt j i) [
       | inl before ↦ let l = gap.lower j before in omega (arith, l, same)
       | inr behind ↦ let h = gap.higher j behind within in omega (arith, h, same)
     ]
 
-pub found_named : (w numbers : List ℕ) (n a : ℕ) (r : Result ℕ ℕ) → IsIndexOf w n numbers → MatchResult r (StandsAt w numbers a) (IsGapFor w numbers a)
-    → is_ok r ≡ list_any (λ x. x == a) (named_by w n)
-found_named w numbers n a (Ok i) index found = sym (stands_named w numbers n a i index found)
-found_named w numbers n a (Err i) index gap = sym (gap_named w numbers n a i index gap)
+pub found_named : (l : Log) (w numbers : List ℕ) (n a : ℕ) (r : Result ℕ ℕ) → IsIndexOf l w n numbers → MatchResult r (StandsAt l w numbers a) (IsGapFor l w numbers a)
+    → is_ok r ≡ list_any (λ x. x == a) (named_by l w n)
+found_named l w numbers n a (Ok i) index found = sym (stands_named l w numbers n a i index found)
+found_named l w numbers n a (Err i) index gap = sym (gap_named l w numbers n a i index gap)
 
 -- an index is one of words whose entries name the same
-pub IsIndexOf-same : (w v : List ℕ) (n : ℕ) (numbers : List ℕ) → ((k : ℕ) → k < n → address_at v k ≡ address_at w k) → IsIndexOf w n numbers
-    → IsIndexOf v n numbers
-IsIndexOf-same w v n numbers same index = record {
+pub IsIndexOf-same : (l : Log) (w v : List ℕ) (n : ℕ) (numbers : List ℕ) → ((k : ℕ) → k < n → address_at l v k ≡ address_at l w k) → IsIndexOf l w n numbers
+    → IsIndexOf l v n numbers
+IsIndexOf-same l w v n numbers same index = record {
   long = index.long;
   counted = index.counted;
   rising = λ i j less within.
@@ -59,7 +60,7 @@ IsIndexOf-same w v n numbers same index = record {
 }
 
 -- one entry more, in its gap
-module _ (w numbers : List ℕ) (n i : ℕ) (index : IsIndexOf w n numbers) (gap : IsGapFor w numbers (address_at w n) i) where
+module _ (l : Log) (w numbers : List ℕ) (n i : ℕ) (index : IsIndexOf l w n numbers) (gap : IsGapFor l w numbers (address_at l w n) i) where
   abbrev more : List ℕ
   more = insert numbers i n
 
@@ -91,16 +92,16 @@ module _ (w numbers : List ℕ) (n i : ℕ) (index : IsIndexOf w n numbers) (gap
   ]
 
   abbrev key : ℕ → ℕ
-  key k = address_at w (slice_index more k)
+  key k = address_at l w (slice_index more k)
 
-  key_below : (k : ℕ) → k < i → key k ≡ address_at w (slice_index numbers k)
-  key_below k less = ap (address_at w) (below_is k less)
+  key_below : (k : ℕ) → k < i → key k ≡ address_at l w (slice_index numbers k)
+  key_below k less = ap (address_at l w) (below_is k less)
 
-  key_here : (k : ℕ) → k ≡ i → key k ≡ address_at w n
-  key_here k same = ap (λ j. address_at w (slice_index more j)) same ∙ ap (address_at w) here_is
+  key_here : (k : ℕ) → k ≡ i → key k ≡ address_at l w n
+  key_here k same = ap (λ j. address_at l w (slice_index more j)) same ∙ ap (address_at l w) here_is
 
-  key_past : (k : ℕ) → i < k → key k ≡ address_at w (slice_index numbers (k - 1))
-  key_past k less = ap (address_at w) (past_is k less)
+  key_past : (k : ℕ) → i < k → key k ≡ address_at l w (slice_index numbers (k - 1))
+  key_past k less = ap (address_at l w) (past_is k less)
 
   rising_more : (j k : ℕ) → j < k → k < length more → key j < key k
   rising_more j k less within = elim (cases_lt k i) [
@@ -135,5 +136,5 @@ module _ (w numbers : List ℕ) (n i : ℕ) (index : IsIndexOf w n numbers) (gap
         ]
   ]
 
-  pub index_more : IsIndexOf w (n + 1) more
+  pub index_more : IsIndexOf l w (n + 1) more
   index_more = record { long = omega (arith, long, index.long); counted = counted_more; rising = rising_more; all = all_more }

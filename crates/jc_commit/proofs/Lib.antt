@@ -11,3 +11,5 @@ pub mod Parts
 pub mod Indexes
 pub mod EntryKeeping
 pub mod WhatIsKept
+pub mod Migrations
+pub mod Openings

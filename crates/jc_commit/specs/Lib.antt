@@ -1,5 +1,6 @@
 pub mod Image
 pub mod Replay
+pub mod Migration
 pub mod Entries
 pub mod Keeping
 pub mod EntryIndex

@@ -1,53 +1,57 @@
 //! Changes in a transaction: a word's first old value is kept, and none of a word born in it.
-ghost use Rattle.std.specs.Prelude.{◌≡◌, ◌<◌, ◌≤◌, ◌+◌, ◌*◌, ◌++◌, ◌==◌, [], ◌∷◌, length, OnOk, OnErr, IfOk, slice_set, filter, not, is_ok, true, if◌then◌else◌};
+ghost use Rattle.std.specs.Prelude.{◌≡◌, ◌<◌, ◌≤◌, ◌+◌, ◌*◌, ◌^◌, ◌++◌, ◌==◌, [], ◌∷◌, length, OnOk, OnErr, IfOk, slice_set, filter, not, is_ok, true, if◌then◌else◌};
 ghost use Rattle.jc_words.specs.Count.{saturating_count};
 ghost use Rattle.jc_words.specs.Refusals.{refused_once};
-ghost use Rattle.jc_words.specs.Layout.{count_address, log_end};
-ghost use Rattle.jc_commit.specs.Image.{capacity, count_of, entries, plain_of, recovered_of, touched_of, top_of, with_words, IsGoodLog, IsPlace};
-ghost use Rattle.jc_commit.specs.Entries.{addresses_of, AreDistinct, ArePlaces, SameBefore};
+ghost use Rattle.jc_words.specs.Layout.{count_address, log_end, most_capacity};
+ghost use Rattle.jc_words.specs.Image.{log_of};
+ghost use Rattle.jc_commit.specs.Image.{count_of, limit_of, entries, plain_of, recovered_of, touched_of, top_of, with_words, IsGoodLog};
+ghost use Rattle.jc_commit.specs.Entries.{addresses_of, AreDistinct, ArePlaces, IsBeside, AreBeside, SameBefore};
 ghost use Rattle.jc_commit.specs.State.{live_words};
 ghost use Rattle.jc_commit.specs.Keeping.{is_taken_back, writes_inside};
 ghost use Rattle.jc_commit.specs.EntryIndex.{named_by, needing, with_entries, IsIndexOf, GoBack, KeepsAddresses};
 
 use crate::changes::WordChanges;
-use crate::entry::address_word;
 use crate::index::{EntryIndex, insert, is_named};
 use jc_words::layout::COUNT;
-use jc_words::{StoreDown, WordStore};
+use jc_words::{Log, StoreDown, WordStore};
 
 // Whether an abort takes back what is written at the address, with nothing more kept of it.
 pub(crate) fn is_taken_back<S: WordStore>(
     store: &S,
+    log: Log,
     n: u16,
     numbers: &[u16],
     born: u16,
     address: u16,
 ) -> bool
-    requires few { n ≤ capacity }
-    requires size { log_end ≤ length (S.words store.now) }
-    requires index { IsIndexOf (S.words store.now) n numbers.now }
-    ensures { result ≡ is_taken_back (named_by (S.words store.now) n) born address }
+    requires few { n ≤ log.capacity }
+    requires size { log.start + 2 * log.capacity ≤ length (S.words store.now) }
+    requires small { log.start + 2 * log.capacity < 2 ^ 16 }
+    requires index { IsIndexOf log (S.words store.now) n numbers.now }
+    ensures { result ≡ is_taken_back (named_by log (S.words store.now) n) born address }
 {
-    is_named(store, n, numbers, address) || born <= address
+    is_named(store, log, n, numbers, address) || born <= address
 }
 
 // How many of these changes have an old value to keep.
 pub(crate) fn count_needing<S: WordStore, C: WordChanges>(
     store: &S,
+    log: Log,
     n: u16,
     numbers: &[u16],
     born: u16,
     changes: &C,
 ) -> usize
-    requires few { n ≤ capacity }
-    requires size { log_end ≤ length (S.words store.now) }
-    requires index { IsIndexOf (S.words store.now) n numbers.now }
-    ensures { result ≡ length (needing (named_by (S.words store.now) n) born (C.changes changes.now)) }
+    requires few { n ≤ log.capacity }
+    requires size { log.start + 2 * log.capacity ≤ length (S.words store.now) }
+    requires small { log.start + 2 * log.capacity < 2 ^ 16 }
+    requires index { IsIndexOf log (S.words store.now) n numbers.now }
+    ensures { result ≡ length (needing (named_by log (S.words store.now) n) born (C.changes changes.now)) }
 {
     let mut needed = 0;
     for i in 0..changes.count() {
         let (address, _) = changes.change(i);
-        if !is_taken_back(store, n, numbers, born, address) {
+        if !is_taken_back(store, log, n, numbers, born, address) {
             needed += 1;
         }
     }
@@ -57,20 +61,22 @@ pub(crate) fn count_needing<S: WordStore, C: WordChanges>(
 // How many of these addresses have an old value to keep.
 pub(crate) fn count_new<S: WordStore>(
     store: &S,
+    log: Log,
     n: u16,
     numbers: &[u16],
     born: u16,
     addresses: &[u16],
 ) -> usize
-    requires few { n ≤ capacity }
-    requires size { log_end ≤ length (S.words store.now) }
-    requires index { IsIndexOf (S.words store.now) n numbers.now }
-    ensures { result ≡ length (filter (λ a. not (is_taken_back (named_by (S.words store.now) n) born
+    requires few { n ≤ log.capacity }
+    requires size { log.start + 2 * log.capacity ≤ length (S.words store.now) }
+    requires small { log.start + 2 * log.capacity < 2 ^ 16 }
+    requires index { IsIndexOf log (S.words store.now) n numbers.now }
+    ensures { result ≡ length (filter (λ a. not (is_taken_back (named_by log (S.words store.now) n) born
         a)) addresses.now) }
 {
     let mut needed = 0;
     for address in addresses {
-        if !is_taken_back(store, n, numbers, born, *address) {
+        if !is_taken_back(store, log, n, numbers, born, *address) {
             needed += 1;
         }
     }
@@ -78,20 +84,21 @@ pub(crate) fn count_new<S: WordStore>(
 }
 
 // Writes an entry: the address, and the word there as it is. The count stays.
-fn put_entry<S: WordStore>(store: &mut S, k: u16, address: u16) -> Result<(), StoreDown>
-    requires size { log_end ≤ length (S.words store.old) }
-    requires few { k < capacity }
-    requires place { IsPlace (length (S.words store.old)) address }
-    ensures words { OnOk result (S.words store.new ≡ with_entries (S.words store.old) k
+fn put_entry<S: WordStore>(store: &mut S, log: Log, k: u16, address: u16) -> Result<(), StoreDown>
+    requires size { log.start + 2 * log.capacity ≤ length (S.words store.old) }
+    requires small { log.start + 2 * log.capacity < 2 ^ 16 }
+    requires few { k < log.capacity }
+    requires place { IsBeside log (length (S.words store.old)) address }
+    ensures words { OnOk result (S.words store.new ≡ with_entries log (S.words store.old) k
         ((address, 0) ∷ [])) }
-    ensures same { SameBefore k (S.words store.old) (S.words store.new) }
+    ensures same { SameBefore log k (S.words store.old) (S.words store.new) }
     ensures passed { OnOk result (S.passed store.new ≡ saturating_count (S.passed store.old) 2) }
     ensures down { S.down store.new ≡ (if is_ok result then S.down store.old else true) }
     ensures refusals { S.refusals store.new ≡ (if is_ok result then S.refusals store.old else
         refused_once (S.down store.old) (S.passed store.new) (S.refusals store.old)) }
 {
     let old = store.read(address);
-    let slot = address_word(k);
+    let slot = log.address_word(k);
     store.write(slot, address)?;
     store.write(slot + 1, old)?;
     Ok(())
@@ -101,35 +108,38 @@ fn put_entry<S: WordStore>(store: &mut S, k: u16, address: u16) -> Result<(), St
 // index, and tells how many there are then.
 fn put_change<S: WordStore>(
     store: &mut S,
+    log: Log,
     k: u16,
     numbers: &mut EntryIndex,
     born: u16,
     change: (u16, u16),
 ) -> Result<u16, StoreDown>
-    requires size { log_end ≤ length (S.words store.old) }
-    requires index { IsIndexOf (S.words store.old) k numbers.old.items }
-    requires place { IsPlace (length (S.words store.old)) change.0 }
-    requires few { k ≤ capacity }
-    requires room { k + length (needing (named_by (S.words store.old) k) born (change ∷ [])) ≤
-        capacity }
-    ensures next { IfOk result (λ n. n ≡ k + length (needing (named_by (S.words store.old) k) born
+    requires size { log.start + 2 * log.capacity ≤ length (S.words store.old) }
+    requires most { log.capacity ≤ most_capacity }
+    requires small { log.start + 2 * log.capacity < 2 ^ 16 }
+    requires index { IsIndexOf log (S.words store.old) k numbers.old.items }
+    requires place { IsBeside log (length (S.words store.old)) change.0 }
+    requires few { k ≤ log.capacity }
+    requires room { k + length (needing (named_by log (S.words store.old) k) born (change ∷ [])) ≤
+        log.capacity }
+    ensures next { IfOk result (λ n. n ≡ k + length (needing (named_by log (S.words store.old) k) born
         (change ∷ []))) }
-    ensures words { OnOk result (S.words store.new ≡ with_entries (S.words store.old) k
-        (needing (named_by (S.words store.old) k) born (change ∷ []))) }
-    ensures index { IfOk result (λ n. IsIndexOf (S.words store.new) n numbers.new.items) }
-    ensures same { SameBefore k (S.words store.old) (S.words store.new) }
+    ensures words { OnOk result (S.words store.new ≡ with_entries log (S.words store.old) k
+        (needing (named_by log (S.words store.old) k) born (change ∷ []))) }
+    ensures index { IfOk result (λ n. IsIndexOf log (S.words store.new) n numbers.new.items) }
+    ensures same { SameBefore log k (S.words store.old) (S.words store.new) }
     ensures passed { OnOk result (S.passed store.new ≡ saturating_count (S.passed store.old)
-        (2 * length (needing (named_by (S.words store.old) k) born (change ∷ [])))) }
+        (2 * length (needing (named_by log (S.words store.old) k) born (change ∷ [])))) }
     ensures down { S.down store.new ≡ (if is_ok result then S.down store.old else true) }
     ensures refusals { S.refusals store.new ≡ (if is_ok result then S.refusals store.old else
         refused_once (S.down store.old) (S.passed store.new) (S.refusals store.old)) }
 {
     let (address, _) = change;
-    if is_taken_back(store, k, numbers.as_slice(), born, address) {
+    if is_taken_back(store, log, k, numbers.as_slice(), born, address) {
         return Ok(k);
     }
-    put_entry(store, k, address)?;
-    insert(store, k, numbers);
+    put_entry(store, log, k, address)?;
+    insert(store, log, k, numbers);
     Ok(k + 1)
 }
 
@@ -137,32 +147,35 @@ fn put_change<S: WordStore>(
 // the index, and tells how many there are then.
 fn put_needing<S: WordStore, C: WordChanges>(
     store: &mut S,
+    log: Log,
     first: u16,
     numbers: &mut EntryIndex,
     born: u16,
     changes: &C,
 ) -> Result<u16, StoreDown>
-    requires size { log_end ≤ length (S.words store.old) }
-    requires index { IsIndexOf (S.words store.old) first numbers.old.items }
-    requires places { ArePlaces (length (S.words store.old)) (C.changes changes.now) }
+    requires size { log.start + 2 * log.capacity ≤ length (S.words store.old) }
+    requires most { log.capacity ≤ most_capacity }
+    requires small { log.start + 2 * log.capacity < 2 ^ 16 }
+    requires index { IsIndexOf log (S.words store.old) first numbers.old.items }
+    requires places { AreBeside log (length (S.words store.old)) (C.changes changes.now) }
     requires distinct { AreDistinct (addresses_of (C.changes changes.now)) }
-    requires room { first + length (needing (named_by (S.words store.old) first) born (C.changes changes.now)) ≤
-        capacity }
+    requires room { first + length (needing (named_by log (S.words store.old) first) born (C.changes changes.now)) ≤
+        log.capacity }
     ensures behind { IfOk result (λ n. n ≡ first + length
-        (needing (named_by (S.words store.old) first) born (C.changes changes.now))) }
-    ensures words { OnOk result (S.words store.new ≡ with_entries (S.words store.old) first
-        (needing (named_by (S.words store.old) first) born (C.changes changes.now))) }
-    ensures index { IfOk result (λ n. IsIndexOf (S.words store.new) n numbers.new.items) }
-    ensures same { SameBefore first (S.words store.old) (S.words store.new) }
+        (needing (named_by log (S.words store.old) first) born (C.changes changes.now))) }
+    ensures words { OnOk result (S.words store.new ≡ with_entries log (S.words store.old) first
+        (needing (named_by log (S.words store.old) first) born (C.changes changes.now))) }
+    ensures index { IfOk result (λ n. IsIndexOf log (S.words store.new) n numbers.new.items) }
+    ensures same { SameBefore log first (S.words store.old) (S.words store.new) }
     ensures passed { OnOk result (S.passed store.new ≡ saturating_count (S.passed store.old)
-        (2 * length (needing (named_by (S.words store.old) first) born (C.changes changes.now)))) }
+        (2 * length (needing (named_by log (S.words store.old) first) born (C.changes changes.now)))) }
     ensures down { S.down store.new ≡ (if is_ok result then S.down store.old else true) }
     ensures refusals { S.refusals store.new ≡ (if is_ok result then S.refusals store.old else
         refused_once (S.down store.old) (S.passed store.new) (S.refusals store.old)) }
 {
     let mut k = first;
     for i in 0..changes.count() {
-        k = put_change(store, k, numbers, born, changes.change(i))?;
+        k = put_change(store, log, k, numbers, born, changes.change(i))?;
     }
     Ok(k)
 }
@@ -170,27 +183,30 @@ fn put_needing<S: WordStore, C: WordChanges>(
 // The same, where it is known how many they are: where there are none, nothing is looked up.
 fn put_counted<S: WordStore, C: WordChanges>(
     store: &mut S,
+    log: Log,
     first: u16,
     needed: usize,
     numbers: &mut EntryIndex,
     born: u16,
     changes: &C,
 ) -> Result<u16, StoreDown>
-    requires size { log_end ≤ length (S.words store.old) }
-    requires index { IsIndexOf (S.words store.old) first numbers.old.items }
-    requires places { ArePlaces (length (S.words store.old)) (C.changes changes.now) }
+    requires size { log.start + 2 * log.capacity ≤ length (S.words store.old) }
+    requires most { log.capacity ≤ most_capacity }
+    requires small { log.start + 2 * log.capacity < 2 ^ 16 }
+    requires index { IsIndexOf log (S.words store.old) first numbers.old.items }
+    requires places { AreBeside log (length (S.words store.old)) (C.changes changes.now) }
     requires distinct { AreDistinct (addresses_of (C.changes changes.now)) }
-    requires needed { needed ≡ length (needing (named_by (S.words store.old) first) born
+    requires needed { needed ≡ length (needing (named_by log (S.words store.old) first) born
         (C.changes changes.now)) }
-    requires room { first + needed ≤ capacity }
+    requires room { first + needed ≤ log.capacity }
     ensures behind { IfOk result (λ n. n ≡ first + length
-        (needing (named_by (S.words store.old) first) born (C.changes changes.now))) }
-    ensures words { OnOk result (S.words store.new ≡ with_entries (S.words store.old) first
-        (needing (named_by (S.words store.old) first) born (C.changes changes.now))) }
-    ensures index { IfOk result (λ n. IsIndexOf (S.words store.new) n numbers.new.items) }
-    ensures same { SameBefore first (S.words store.old) (S.words store.new) }
+        (needing (named_by log (S.words store.old) first) born (C.changes changes.now))) }
+    ensures words { OnOk result (S.words store.new ≡ with_entries log (S.words store.old) first
+        (needing (named_by log (S.words store.old) first) born (C.changes changes.now))) }
+    ensures index { IfOk result (λ n. IsIndexOf log (S.words store.new) n numbers.new.items) }
+    ensures same { SameBefore log first (S.words store.old) (S.words store.new) }
     ensures passed { OnOk result (S.passed store.new ≡ saturating_count (S.passed store.old)
-        (2 * length (needing (named_by (S.words store.old) first) born (C.changes changes.now)))) }
+        (2 * length (needing (named_by log (S.words store.old) first) born (C.changes changes.now)))) }
     ensures down { S.down store.new ≡ (if is_ok result then S.down store.old else true) }
     ensures refusals { S.refusals store.new ≡ (if is_ok result then S.refusals store.old else
         refused_once (S.down store.old) (S.passed store.new) (S.refusals store.old)) }
@@ -198,7 +214,7 @@ fn put_counted<S: WordStore, C: WordChanges>(
     if needed == 0 {
         return Ok(first);
     }
-    put_needing(store, first, numbers, born, changes)
+    put_needing(store, log, first, numbers, born, changes)
 }
 
 // Counts the entries, where there are more.
@@ -228,7 +244,7 @@ fn write_through<S: WordStore, C: WordChanges>(
     changes: &C,
 ) -> Result<(), StoreDown>
     requires good { IsGoodLog (S.words store.old) }
-    requires places { ArePlaces (length (S.words store.old)) (C.changes changes.now) }
+    requires places { ArePlaces (limit_of (S.words store.old)) (C.changes changes.now) }
     requires kept { GoBack (S.words store.old) born (C.changes changes.now) }
     requires top { top_of (recovered_of (S.words store.old)) ≤ born }
     requires low { log_end ≤ born }
@@ -240,7 +256,8 @@ fn write_through<S: WordStore, C: WordChanges>(
         ≡ top_of (recovered_of (S.words store.old)) }
     ensures entries { entries (S.words store.new) ≡ entries (S.words store.old) }
     ensures count { count_of (S.words store.new) ≡ count_of (S.words store.old) }
-    ensures addresses { KeepsAddresses (S.words store.old) (S.words store.new) }
+    ensures log { log_of (S.words store.new) ≡ log_of (S.words store.old) }
+    ensures addresses { KeepsAddresses (log_of (S.words store.old)) (S.words store.old) (S.words store.new) }
     ensures plain { OnOk result (plain_of (S.words store.new)
         ≡ with_words (plain_of (S.words store.old)) (C.changes changes.now)) }
     ensures passed { OnOk result (S.passed store.new ≡ saturating_count (S.passed store.old)
@@ -260,28 +277,34 @@ fn write_through<S: WordStore, C: WordChanges>(
 // and then writes the words.
 pub(crate) fn keep_and_write<S: WordStore, C: WordChanges>(
     store: &mut S,
+    log: Log,
     needed: usize,
     numbers: &mut EntryIndex,
     born: u16,
     changes: &C,
 ) -> Result<(), StoreDown>
     requires good { IsGoodLog (S.words store.old) }
-    requires index { IsIndexOf (S.words store.old) (count_of (S.words store.old)) numbers.old.items }
-    requires places { ArePlaces (length (S.words store.old)) (C.changes changes.now) }
+    requires log { log ≡ log_of (S.words store.old) }
+    requires most { log.capacity ≤ most_capacity }
+    requires within { log.start + 2 * log.capacity ≤ length (S.words store.old) }
+    requires small { length (S.words store.old) < 2 ^ 16 }
+    requires index { IsIndexOf log (S.words store.old) (count_of (S.words store.old)) numbers.old.items }
+    requires places { ArePlaces (limit_of (S.words store.old)) (C.changes changes.now) }
     requires distinct { AreDistinct (addresses_of (C.changes changes.now)) }
     requires top { top_of (recovered_of (S.words store.old)) ≤ born }
     requires low { log_end ≤ born }
     requires needed { needed
         ≡ length (needing (touched_of (S.words store.old)) born (C.changes changes.now)) }
-    requires room { count_of (S.words store.old) + needed ≤ capacity }
+    requires room { count_of (S.words store.old) + needed ≤ log.capacity }
     ensures good { IsGoodLog (S.words store.new) }
     ensures size { length (S.words store.new) ≡ length (S.words store.old) }
+    ensures log { log ≡ log_of (S.words store.new) }
     // What a recovery leaves stays, below the top that the transaction found.
     ensures live { live_words (recovered_of (S.words store.new))
         ≡ live_words (recovered_of (S.words store.old)) }
     ensures top { top_of (recovered_of (S.words store.new))
         ≡ top_of (recovered_of (S.words store.old)) }
-    ensures index { OnOk result (IsIndexOf (S.words store.new) (count_of (S.words store.new))
+    ensures index { OnOk result (IsIndexOf log (S.words store.new) (count_of (S.words store.new))
         numbers.new.items) }
     ensures plain { OnOk result (plain_of (S.words store.new)
         ≡ with_words (plain_of (S.words store.old)) (C.changes changes.now)) }
@@ -296,7 +319,7 @@ pub(crate) fn keep_and_write<S: WordStore, C: WordChanges>(
         refused_once (S.down store.old) (S.passed store.new) (S.refusals store.old)) }
 {
     let first = store.read(COUNT);
-    let behind = put_counted(store, first, needed, numbers, born, changes)?;
+    let behind = put_counted(store, log, first, needed, numbers, born, changes)?;
     count_entries(store, first, behind)?;
     write_through(store, born, changes)?;
     Ok(())

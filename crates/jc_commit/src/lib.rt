@@ -3,12 +3,12 @@
 
 mod changes;
 mod check;
-mod entry;
 mod index;
 mod journal;
 mod keep;
 mod keeping_law;
 mod log;
+mod migration;
 mod recovery_law;
 mod refusal;
 mod undo;

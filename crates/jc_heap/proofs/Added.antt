@@ -5,16 +5,15 @@ use Rattle.std.proofs.lemmas.List.{get_or_append_left, get_or-set_other, get_or-
 use Rattle.std.proofs.lemmas.List.{length-drop, length-set, length-append, take_all, map-append, set-append_left, length-take-le, take-take}
 use Rattle.jc_words.specs.Layout.{magic_address, size_address, top_address, packages_address, applets_address, reset_end_address, deselect_end_address}
 use Rattle.jc_words.specs.Layout.{text_length_address, addresses_start, most_packages, registry_start, registry_length, text_start}
-use Rattle.jc_commit.specs.Image.{capacity_of}
 use Rattle.jc_heap.specs.Cut.{Sizes, records_from, missing_words}
 use Rattle.jc_heap.specs.Object.{Item, AnObject, APackage, object_of, payload}
 use Rattle.jc_heap.specs.Image.{image, base, package_addresses, is_package, sizes, item, item_entry, records, missing_words_of_image, table_text, IsWellFormed}
 use Rattle.jc_heap.specs.Heap.{HeapState, head_of, read_image, heap_of, add_object}
 use Rattle.jc_heap.proofs.Records.{records_from-append, missing_words-append, take-set_comm}
 use Rattle.jc_heap.proofs.Images.{sizes_tell, head-same, text-same}
-use Rattle.jc_heap.proofs.Images.{unread-same}
-use Rattle.jc_heap.specs.Image.{unread_words}
-use Rattle.jc_words.specs.Layout.{capacity_address}
+use Rattle.jc_heap.proofs.Images.{unread-same, capacity-same, reach-both}
+use Rattle.jc_heap.specs.Image.{unread_words, capacity_in}
+use Rattle.jc_words.specs.Layout.{version_address}
 
 -- one thing more, behind the others
 abbrev pub add_item : HeapState → Item → ℕ → HeapState
@@ -117,7 +116,10 @@ module _ (img rec : List ℕ) (long : text_start ≤ length img) where
         (range-grown text_start ((get_or img text_length_address 0 + 1) / 2) (lit< tt) (omega (arith, based))) in
         let first_count : get_or grown packages_address 0 ≡ get_or img packages_address 0 = word-grown packages_address (lit< tt) (λ e. omega arith) in
         let second_count : get_or grown applets_address 0 ≡ get_or img applets_address 0 = word-grown applets_address (lit< tt) (λ e. omega arith) in
-        let unread : unread_words grown ≡ unread_words img = unread-same img grown (word-grown capacity_address (lit< tt) (λ e. omega arith))
+        let unread : unread_words grown ≡ unread_words img = unread-same img grown (word-grown 4 (lit< tt) (λ e. omega arith))
+        (λ a above below. word-grown a (omega arith) (λ e. omega arith)) in
+        let capacity : capacity_in grown ≡ capacity_in img = capacity-same img grown
+        (reach-both img grown (omega (arith, based)) (omega (arith, based, top_is))) (word-grown version_address (lit< tt) (λ e. omega arith))
         (λ a above below. word-grown a (omega arith) (λ e. omega arith)) in
         λ k. record {
           head = head k;
@@ -128,7 +130,7 @@ module _ (img rec : List ℕ) (long : text_start ≤ length img) where
           applets = applets k;
           area_ends = (first_end k, second_end k);
           top = top_is k;
-          capacity = capacity_of img;
+          capacity = capacity k;
           unread = unread k;
         }
 

@@ -3,20 +3,21 @@ use Rattle.std.proofs.Common.{◌≡◌, ℕ, suc, ◌+◌, ◌-◌, ◌/◌, �
 use Rattle.std.proofs.Common.{◌∙◌, ap, subst, arith, if◌then◌else◌, ◌==◌, ◌*◌, ◌%◌, ◌&&◌, ◌||◌, Bool, min}
 use Rattle.std.proofs.lemmas.List.{get_or_append_left, get_or-set_other, get_or-take, get_or-drop, drop-set-add, take-set-le, length-drop, length-take}
 use Rattle.std.proofs.lemmas.List.{length-set}
-use Rattle.std.proofs.lemmas.Bool.{cases_Bool, cases_eq, eqb-true, ne_eqb}
+use Rattle.std.proofs.lemmas.Bool.{cases_Bool, cases_eq, eqb-true, ne_eqb, lt-ltb}
 use Rattle.std.proofs.Math.Bool.{and-false}
 use Rattle.std.proofs.Math.Nat.{min-le_right}
 use Rattle.jc_words.specs.Layout.{magic_address, size_address, top_address, packages_address, applets_address, reset_end_address, deselect_end_address}
 use Rattle.jc_words.specs.Layout.{text_length_address, addresses_start, most_packages, registry_start, registry_length, text_start}
-use Rattle.jc_commit.specs.Image.{capacity_of}
 use Rattle.jc_heap.specs.Cut.{Sizes, records_from, missing_words}
 use Rattle.jc_heap.specs.Table.{entry_or, has_entry, with_entry}
 use Rattle.jc_heap.specs.Object.{Object, Item, AnObject, APackage, object_of, cells_of, cells_of_words, facts_of, with_cell, payload, kind_of, event_of, has_bytes}
 use Rattle.jc_heap.specs.Object.{is_object, is_packed, is_packed_header}
 use Rattle.jc_heap.specs.Packed.{byte_in, with_byte, bytes_of_packed}
 use Rattle.jc_heap.specs.Image.{image, base, package_addresses, is_package, sizes, item, item_entry, records, missing_words_of_image, table_text}
-use Rattle.jc_heap.specs.Image.{IsWellFormed, unread_words}
-use Rattle.jc_words.specs.Layout.{capacity_address, front_length}
+use Rattle.jc_heap.specs.Image.{IsWellFormed, unread_words, capacity_in}
+use Rattle.std.specs.Prelude.{nat_lt}
+use Rattle.jc_words.specs.Layout.{version_address, capacity_address, journal_address, front_length, front_capacity}
+use Rattle.jc_commit.proofs.Words.{log-same}
 use Rattle.std.proofs.Common.{lit<}
 use Rattle.jc_heap.specs.Packed.{bytes_of_packed}
 use Rattle.jc_heap.specs.Heap.{head_of, read_image, heap_of, heap_item_at, cells, facts, set_cell, HeapState, IsObject}
@@ -211,10 +212,22 @@ text-same a b long words = ap (λ n. bytes_of_packed n (take ((n + 1) / 2) (drop
     ∙ ap (bytes_of_packed (get_or a text_length_address 0)) words
 
 -- the words of the front that nothing reads are the same
-pub unread-same : (a b : List ℕ) → get_or b capacity_address 0 ≡ get_or a capacity_address 0
+pub unread-same : (a b : List ℕ) → get_or b 4 0 ≡ get_or a 4 0
     → ((k : ℕ) → text_length_address < k → k < front_length → get_or b k 0 ≡ get_or a k 0) → unread_words b ≡ unread_words a
-unread-same a b first rest = λ i. first i ∷ rest 11 (lit< tt) (lit< tt) i ∷ rest 12 (lit< tt) (lit< tt) i ∷ rest 13 (lit< tt) (lit< tt) i
+unread-same a b first rest = λ i. first i ∷ rest 13 (lit< tt) (lit< tt) i
     ∷ rest 14 (lit< tt) (lit< tt) i ∷ rest 15 (lit< tt) (lit< tt) i ∷ []
+
+-- the journal can keep as many old values where the words that tell it are the same
+pub capacity-same : (a b : List ℕ) → nat_lt journal_address (length b) ≡ nat_lt journal_address (length a)
+    → get_or b version_address 0 ≡ get_or a version_address 0
+    → ((k : ℕ) → text_length_address < k → k < front_length → get_or b k 0 ≡ get_or a k 0) → capacity_in b ≡ capacity_in a
+capacity-same a b reach first rest =
+    let log = log-same a b first (rest capacity_address (lit< tt) (lit< tt)) (rest journal_address (lit< tt) (lit< tt)) in
+    λ i. if reach i then (log i).capacity else front_capacity
+
+-- both are long enough
+pub reach-both : (a b : List ℕ) → journal_address < length a → journal_address < length b → nat_lt journal_address (length b) ≡ nat_lt journal_address (length a)
+reach-both a b first second = lt-ltb journal_address (length b) second ∙ sym (lt-ltb journal_address (length a) first)
 
 pub base-set : (ws : List ℕ) (a v : ℕ) → registry_start ≤ a → base (set ws a v) ≡ base ws
 base-set ws a v h = rw (get_or_front ws a text_length_address v (omega arith)) refl
@@ -300,7 +313,10 @@ module _ (img : List ℕ) (r j v : ℕ) (four : 4 ≤ j) (h : j < length (entry_
       let second_count : get_or (set img (r + j) v) applets_address 0 ≡ get_or img applets_address 0 =
       get_or_front img (r + j) applets_address v (omega (arith, registry)) in
       let unread : unread_words (set img (r + j) v) ≡ unread_words img =
-      unread-same img (set img (r + j) v) (get_or_front img (r + j) capacity_address v (omega (arith, registry)))
+      unread-same img (set img (r + j) v) (get_or_front img (r + j) 4 v (omega (arith, registry)))
+      (λ a low high. get_or_front img (r + j) a v (omega (arith, registry))) in
+      let capacity : capacity_in (set img (r + j) v) ≡ capacity_in img =
+      capacity-same img (set img (r + j) v) (ap (nat_lt journal_address) (length-set img (r + j) v)) (get_or_front img (r + j) version_address v (omega (arith, registry)))
       (λ a low high. get_or_front img (r + j) a v (omega (arith, registry))) in
       λ k. record {
         head = head k;
@@ -311,7 +327,7 @@ module _ (img : List ℕ) (r j v : ℕ) (four : 4 ≤ j) (h : j < length (entry_
         applets = applets k;
         area_ends = (first_end k, second_end k);
         top = top k;
-        capacity = capacity_of img;
+        capacity = capacity k;
         unread = unread k;
       }
 

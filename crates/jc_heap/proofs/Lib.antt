@@ -45,3 +45,4 @@ pub mod RunPlaces
 pub mod ReadBack
 pub mod KeptWords
 pub mod Costs
+pub mod Migrated

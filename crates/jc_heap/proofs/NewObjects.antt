@@ -12,6 +12,7 @@ use Rattle.jc_commit.specs.Image.{with_words}
 use Rattle.jc_commit.specs.Entries.{addresses_of}
 use Rattle.jc_commit.specs.Keeping.{Keeping, unlogged_addresses, writes_for, has_room_for as journal_room}
 use Rattle.jc_commit.specs.State.{State, keeping as journal_keeping, live_words, Changes, IsTornWrite as JournalStopped}
+use Rattle.jc_heap.proofs.RawWords.{capacity_is}
 use Rattle.jc_heap.proofs.JournalViews.{keeping_view, keeping_same}
 use Rattle.jc_heap.specs.declared.object.Kind.{Kind}
 use Rattle.jc_heap.specs.declared.object.Kind.TheVariants.{Instance, BooleanArray, ByteArray, ShortArray, ReferenceArray}
@@ -98,6 +99,7 @@ module _ (j k : State) (n : ℕ) (s : IsSound j n) (up : j.down ≡ false) (b : 
   -- fresh words leave what a change has to know as it is
   pub kept_alike : journal_keeping k ≡ journal_keeping j
   kept_alike = keeping_same j k b.in_transaction b.touched (top-live_words j.recovered k.recovered s.back live_back)
+      (sym (capacity_is k.recovered laid_back) ∙ ap (λ ws. (read_image ws).capacity) live_back ∙ capacity_is j.recovered s.back)
 
   -- the store refused a fresh word
   pub fresh_stopped_sound : IsTornFresh j k → IsSound k n

@@ -6,15 +6,15 @@ use Rattle.std.proofs.lemmas.List.{take_more_set}
 use Rattle.std.proofs.lemmas.Bool.{ne_eqb}
 use Rattle.jc_words.specs.Layout.{magic_address, size_address, packages_address, applets_address, reset_end_address, deselect_end_address}
 use Rattle.jc_words.specs.Layout.{text_length_address, addresses_start, most_packages, registry_start, registry_length, text_start}
-use Rattle.jc_commit.specs.Image.{capacity_of}
 use Rattle.jc_heap.specs.Cut.{Sizes, records_from, missing_words}
 use Rattle.jc_heap.specs.Object.{AnObject, APackage, object_of, payload}
 use Rattle.jc_heap.specs.Image.{table_text, base, package_addresses, is_package, sizes, item, item_entry, records, missing_words_of_image}
 use Rattle.jc_heap.specs.Heap.{head_of, read_image}
 use Rattle.jc_heap.proofs.Images.{head-same, head-set, text-same}
-use Rattle.jc_heap.proofs.Images.{unread-same}
-use Rattle.jc_heap.specs.Image.{unread_words}
-use Rattle.jc_words.specs.Layout.{capacity_address}
+use Rattle.jc_heap.proofs.Images.{unread-same, capacity-same}
+use Rattle.jc_heap.specs.Image.{unread_words, capacity_in}
+use Rattle.std.specs.Prelude.{nat_lt}
+use Rattle.jc_words.specs.Layout.{version_address, journal_address}
 use Rattle.jc_heap.proofs.Records.{take-set_comm, records_from-same_sizes, missing_words-same_sizes}
 
 -- one package more is another answer at its own address alone
@@ -116,7 +116,9 @@ module _ (img : List ℕ) (wide : text_start ≤ length img) (few : get_or img p
       let text : table_text named ≡ table_text img = text-same img named (word-named text_length_address (lit< tt) (λ e. omega arith))
       (ap (take ((get_or img text_length_address 0 + 1) / 2)) (tail-named text_start (lit≤ tt))) in
       let second_count : get_or named applets_address 0 ≡ get_or img applets_address 0 = word-named applets_address (lit< tt) (λ e. omega arith) in
-      let unread : unread_words named ≡ unread_words img = unread-same img named (word-named capacity_address (lit< tt) (λ e. omega arith))
+      let unread : unread_words named ≡ unread_words img = unread-same img named (word-named 4 (lit< tt) (λ e. omega arith))
+      (λ a above below. word-named a (omega arith) (λ e. omega arith)) in
+      let capacity : capacity_in named ≡ capacity_in img = capacity-same img named (ap (nat_lt journal_address) length-named) (word-named version_address (lit< tt) (λ e. omega arith))
       (λ a above below. word-named a (omega arith) (λ e. omega arith)) in
       λ k. record {
         head = head k;
@@ -127,7 +129,7 @@ module _ (img : List ℕ) (wide : text_start ≤ length img) (few : get_or img p
         applets = applets k;
         area_ends = (first_end k, second_end k);
         top = length-named k;
-        capacity = capacity_of img;
+        capacity = capacity k;
         unread = unread k;
       }
 
@@ -162,7 +164,9 @@ read-applet img a v wide h =
     (drop-set-lt text_start img (registry_start + a) v (omega arith))) in
     let first_count : get_or (set img (registry_start + a) v) packages_address 0 ≡ get_or img packages_address 0 = word packages_address (lit< tt) in
     let unread : unread_words (set img (registry_start + a) v) ≡ unread_words img = unread-same img (set img (registry_start + a) v)
-    (word capacity_address (lit< tt)) (λ k above below. word k (omega arith)) in
+    (word 4 (lit< tt)) (λ k above below. word k (omega arith)) in
+    let capacity : capacity_in (set img (registry_start + a) v) ≡ capacity_in img = capacity-same img (set img (registry_start + a) v)
+    (ap (nat_lt journal_address) (length-set img (registry_start + a) v)) (word version_address (lit< tt)) (λ k above below. word k (omega arith)) in
     let second_count : get_or (set img (registry_start + a) v) applets_address 0 ≡ get_or img applets_address 0 = word applets_address (lit< tt) in
     λ k. record {
       head = head k;
@@ -173,6 +177,6 @@ read-applet img a v wide h =
       applets = applets k;
       area_ends = (first_end k, second_end k);
       top = top k;
-      capacity = capacity_of img;
+      capacity = capacity k;
       unread = unread k;
     }

@@ -3,7 +3,7 @@ use Rattle.std.specs.Prelude.{ℕ, ◌+◌, ◌≡◌, ◌≤◌, ◌<◌, List,
 use Rattle.jc_words.specs.Count.{saturating_count}
 use Rattle.jc_words.specs.Refusals.{refused_once}
 use Rattle.jc_words.specs.Layout.{addresses_start}
-use Rattle.jc_commit.specs.Image.{top_of, limit_of}
+use Rattle.jc_commit.specs.Image.{top_of}
 use Rattle.jc_commit.specs.State.{State}
 
 -- so many words from this address on have no meaning: they lie above both tops
@@ -12,7 +12,7 @@ pub record IsFree (at count : ℕ) (j : State) : Type 0 where
   pub low : addresses_start ≤ at
   pub above : top_of j.plain ≤ at
   pub above_recovered : top_of j.recovered ≤ at
-  pub fits : at + count ≤ limit_of j.plain
+  pub fits : at + count ≤ length j.plain
   pub small : length j.plain < 65536
 
 -- words from this address on may have changed, and nothing else did

@@ -5,7 +5,7 @@ use Rattle.jc_words.specs.Count.{saturating_count}
 use Rattle.jc_words.specs.Refusals.{Refusals, refused_once}
 use Rattle.jc_words.specs.Layout.{magic_address, size_address, top_address, packages_address, applets_address, reset_end_address, deselect_end_address}
 use Rattle.jc_words.specs.Layout.{registry_start, registry_length, addresses_start}
-use Rattle.jc_commit.specs.Image.{capacity_of, top_of}
+use Rattle.jc_commit.specs.Image.{top_of}
 use Rattle.jc_commit.specs.State.{State, undo_writes}
 use Rattle.jc_commit.specs.Keeping as journal
 use Rattle.jc_heap.specs.declared.object.Facts.{Facts}
@@ -16,7 +16,7 @@ use Rattle.jc_heap.specs.declared.object.Kind.{Kind}
 use Rattle.jc_heap.specs.Object.{Object, header_size, new_transient, transient_size, Item, AnObject, APackage, cells_of, with_cell, header_only, facts_of}
 use Rattle.jc_heap.specs.Object.{is_object}
 use Rattle.jc_heap.specs.Table.{entry_or, has_entry, with_entry}
-use Rattle.jc_heap.specs.Image.{image, package_addresses, item_entry, records, table_text, unread_words, IsWellFormed}
+use Rattle.jc_heap.specs.Image.{image, package_addresses, item_entry, records, table_text, unread_words, capacity_in, IsWellFormed}
 
 -- the magic word and the number of words, as words tell them
 abbrev pub head_of : List ℕ → ℕ × ℕ
@@ -48,7 +48,7 @@ read_image image = record {
   applets = take registry_length (drop registry_start image);
   area_ends = (slice_index image reset_end_address, slice_index image deselect_end_address);
   top = length image;
-  capacity = capacity_of image;
+  capacity = capacity_in image;
   unread = unread_words image;
 }
 
@@ -134,7 +134,7 @@ abbrev pub KeepsBelowTop : HeapState → HeapState → Type 0
 KeepsBelowTop old new = (r : ℕ) → is_allocated new r ≡ (if nat_lt r new.top then is_allocated old r else false)
 
 -- what the layers above see: the heap now, the heap that a completed recovery would leave, whether a
--- transaction is open, the places whose old values it keeps, the store's state and its number of words
+-- transaction is open, the places whose old values it keeps, the store's state and where the heap ends
 pub record HeapView : Type 0 where
   pub now : HeapState
   pub durable : HeapState

@@ -1,7 +1,9 @@
 -- Where an image keeps what.
-use Rattle.std.specs.Prelude.{ℕ, ◌+◌, ◌-◌, ◌/◌, ◌%◌, ◌==◌, Bool, false, List, [], ◌∷◌, map, take, drop, slice_index, length, ◌≤◌, ◌≡◌, if◌then◌else◌}
+use Rattle.std.specs.Prelude.{ℕ, ◌+◌, ◌-◌, ◌/◌, ◌%◌, ◌==◌, Bool, false, List, [], ◌∷◌, map, take, drop, slice_index, length, ◌≤◌, ◌≡◌, if◌then◌else◌, nat_lt}
 use Rattle.std.specs.List.{list_any}
-use Rattle.jc_words.specs.Layout.{capacity_address, top_address, packages_address, text_length_address, addresses_start, most_packages, text_start}
+use Rattle.jc_words.specs.Layout.{top_address, packages_address, text_length_address, addresses_start, most_packages, text_start}
+use Rattle.jc_words.specs.Layout.{journal_address, front_capacity}
+use Rattle.jc_commit.specs.Image.{capacity_of}
 use Rattle.jc_heap.specs.Cut.{Sizes, records_from, missing_words}
 use Rattle.jc_heap.specs.Object.{Item, AnObject, APackage, object_of, payload}
 use Rattle.jc_heap.specs.Packed.{bytes_of_packed}
@@ -50,11 +52,15 @@ table_text words = bytes_of_packed (slice_index words text_length_address) (text
 abbrev pub text_byte : List ℕ → ℕ → ℕ
 text_byte words i = if i % 2 == 0 then slice_index words (text_start + i / 2) / 256 else slice_index words (text_start + i / 2) % 256
 
--- the words of the front that the making of an image writes, and nothing reads: the journal's capacity, and the last five
+-- the words of the front that nothing reads: one behind the count of entries, and the last three
 abbrev pub unread_words : List ℕ → List ℕ
-unread_words words = map (slice_index words) (capacity_address ∷ 11 ∷ 12 ∷ 13 ∷ 14 ∷ 15 ∷ [])
+unread_words words = map (slice_index words) (4 ∷ 13 ∷ 14 ∷ 15 ∷ [])
 
--- words as the heap lays them: the top lies between the table's begin and the words' end, and the table ends there;
+-- how many old values the journal can keep, as an image says it that reaches up to the words that tell it
+abbrev pub capacity_in : List ℕ → ℕ
+capacity_in image = if nat_lt journal_address (length image) then capacity_of image else front_capacity
+
+-- words as the heap lays them: the top lies between the table's begin and the words' end, where the heap ends, and the table ends there;
 -- a record that is no package's and begins with no header lacks words, so there is none
 pub record IsWellFormed (words : List ℕ) : Type 0 where
   pub based : base (image words) ≤ slice_index words top_address

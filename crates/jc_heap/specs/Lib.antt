@@ -19,3 +19,4 @@ pub mod Packed
 pub mod Elements
 pub mod RegistryLayout
 pub mod WordRuns
+pub mod Alike

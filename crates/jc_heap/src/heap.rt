@@ -1,7 +1,7 @@
 //! A heap: reading, cells, transactions.
 ghost use Rattle.std.specs.Prelude.{ℕ, ◌≡◌, ◌<◌, ◌≤◌, [], ◌∷◌, true, false, length, slice_index, OnOk, ◌+◌, ◌↔◌, IsTrue, None, IfSome};
 ghost use Rattle.jc_words.specs.Layout.{text_start};
-ghost use Rattle.jc_commit.specs.Image.{least_capacity, most_capacity};
+ghost use Rattle.jc_words.specs.Layout.{least_capacity, most_capacity};
 ghost use Rattle.jc_heap.specs.Object.{IsElement};
 ghost use Rattle.jc_heap.specs.Image.{IsWellFormed};
 ghost use Rattle.jc_heap.specs.Heap.{HeapView, heap_view, IsSound, cells, facts, IsObject, HasEnd, next_object, room_left};
@@ -33,7 +33,7 @@ use std::marker::Model;
 #[derive(Drop)]
 pub struct Heap<S: WordStore> {
     pub(crate) journal: Journal<S>,
-    // The number of words of the store.
+    // Where the heap ends.
     pub(crate) size: u16,
 }
 
@@ -209,7 +209,7 @@ impl<S: WordStore> Heap<S> {
         requires laid { IsWellFormed journal.plain }
         ensures { result ≡ heap_view journal size }
     {
-        Heap { journal, size }
+        Heap { journal, size } // as it was given
     }
 
     /// The journal, for the layer that keeps whole images.
@@ -228,11 +228,9 @@ impl<S: WordStore> Heap<S> {
         ensures { result ≡ heap_of_store_at_rest (S.words store) (S.passed store)
             (S.refusals store) }
     {
-        let size = store.size();
-        Heap {
-            journal: Journal::resume(store),
-            size,
-        }
+        let journal = Journal::resume(store);
+        let size = journal.limit();
+        Heap { journal, size }
     }
 
     /// The store, for a power up or for `resume`.

@@ -1,4 +1,5 @@
 //! Laws of the definitions: the first law of atomicity, and what keeps a heap whole.
+ghost use Rattle.jc_heap.specs.Alike.{MigrationsKeepHeaps};
 ghost use Rattle.jc_heap.specs.Components.{ReadsBack};
 ghost use Rattle.jc_heap.specs.Heap.{HeapState};
 ghost use Rattle.jc_heap.specs.Keeping.{KeepsConsistent};
@@ -32,4 +33,9 @@ pub fn places_have_words_of_their_own()
 /// one.
 pub fn components_are_read_back()
     ensures { ReadsBack }
+{}
+
+/// However many writes of an image's migration pass, its words stand for the heap that they stood for.
+pub fn migrations_keep_heaps()
+    ensures { MigrationsKeepHeaps }
 {}

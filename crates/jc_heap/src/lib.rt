@@ -28,8 +28,9 @@ pub use changes::Elements;
 pub use component::Span;
 pub use heap::Heap;
 pub use heap_laws::{
-    changes_keep_a_heap_whole, components_are_read_back, places_have_words_of_their_own,
-    transactions_keep_what_is_durable, transient_objects_own_their_cells,
+    changes_keep_a_heap_whole, components_are_read_back, migrations_keep_heaps,
+    places_have_words_of_their_own, transactions_keep_what_is_durable,
+    transient_objects_own_their_cells,
 };
 pub use object::{Facts, Kind};
 pub use package::{RecordComponent, StaticArray};

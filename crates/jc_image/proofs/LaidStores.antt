@@ -2,97 +2,111 @@
 use Rattle.std.proofs.Common.{◌≡◌, ℕ, zero, suc, ◌+◌, ◌<◌, ◌≤◌, ◌==◌, ◌⊎◌, inl, inr, false, List, [], ◌∷◌, ◌++◌, length, take, drop, get_or, refl, sym, ◌∙◌, ap}
 use Rattle.std.proofs.Common.{subst, arith, if◌then◌else◌, lit<}
 use Rattle.std.proofs.lemmas.List.{take_all, length-append, length-drop, length-take-le, get_or_append_left, get_or-take}
-use Rattle.std.proofs.lemmas.Bool.{eq-eqb}
 use Rattle.jc_words.specs.Count.{saturating_count}
 use Rattle.jc_words.specs.Refusals.{Refusals}
-use Rattle.jc_words.specs.Layout.{version_address}
-use Rattle.jc_commit.specs.Image.{count_of, plain_of, recovered_of, touched_of, with_words, IsGoodLog}
-use Rattle.jc_commit.specs.Replay.{write_backs, torn_replay}
+use Rattle.jc_words.specs.Layout.{first_version, version, version_address, capacity_address, journal_address, front_capacity, log_start, least_size}
+use Rattle.jc_words.specs.Image.{heap_end, IsCapacity}
+use Rattle.jc_commit.specs.Image.{count_of, limit_of, plain_of, recovered_of, touched_of, with_words, IsGoodLog}
+use Rattle.jc_commit.specs.Migration.{migration, migrated, opening_writes}
 use Rattle.jc_commit.specs.State.{recovered_journal}
 use Rattle.jc_commit.specs.declared.refusal.OpenRefusal.{OpenRefusal}
 use Rattle.jc_commit.specs.declared.refusal.OpenRefusal.TheVariants.{StoreDown, BadLog}
-use Rattle.jc_commit.proofs.InPlace.{length-plain}
 use Rattle.jc_commit.proofs.Steps.{recovered_plain}
+use Rattle.jc_commit.proofs.Words.{heap_end_within}
+use Rattle.jc_commit.proofs.Migrations.{migration-recovered}
+use Rattle.jc_commit.proofs.Parts.{replay_none}
+use Rattle.jc_commit.proofs.TornWrites.{ended}
 use Rattle.jc_commit.proofs.Views.{touched_none}
 use Rattle.jc_heap.specs.Image.{IsWellFormed}
 use Rattle.jc_heap.specs.Heap.{heap_of, heap_view}
 use Rattle.jc_image.specs.Laying.{IsOfBytes, first_free, new_image_words, written_image_prefix, unsealed_heap, unsealed_view, IsPartlyWritten}
-use Rattle.jc_image.proofs.LaidImages.{length-laid, front-word, version-laid, heap_of-laid, IsLaid-laid, count-laid}
+use Rattle.jc_image.proofs.LaidImages.{length-laid, front-word, current-laid, good-laid, limit-laid, heap_of-laid, IsLaid-laid, count-laid}
 
 -- a good log is refused by a store that is down alone
 pub only_down : (w : List ℕ) (e : OpenRefusal) → IsGoodLog w → (e ≡ BadLog → IsGoodLog w → ⊥) → e ≡ StoreDown
 only_down w StoreDown good bad = refl
 only_down w BadLog good bad = absurd (bad refl good)
 
--- a replay of no entry writes nothing
-stopped_none : (w : List ℕ) (n : ℕ) → count_of w ≡ 0 → torn_replay n w ≡ w
-stopped_none w n none =
-    ap (λ b. with_words w (take n (if b then [] else write_backs w (count_of w) ++ (3, 0) ∷ []))) (eq-eqb (count_of w) 0 none) ∙ no_writes n
-  where
-    no_writes : (k : ℕ) → with_words w (take k []) ≡ w
-    no_writes zero = refl
-    no_writes (suc k) = refl
+-- an opening writes nothing where no entry counts and the version is the one that is written
+stopped_none : (w : List ℕ) (n : ℕ) → count_of w ≡ 0 → get_or w version_address 0 ≡ version → with_words w (take n (opening_writes w)) ≡ w
+stopped_none w n none current =
+    let writes : opening_writes w ≡ [] = (λ i. replay_none w none i ++ (if current i == first_version then (capacity_address, front_capacity)
+    ∷ (journal_address, log_start) ∷ (version_address, version) ∷ [] else [])) in
+    ap (λ ws. with_words w (take n ws)) writes ∙ ended n w
 
 -- some words laid: none, or the first one
-pub unmarked : (text old new : List ℕ) → IsPartlyWritten text old new → (new ≡ old) ⊎ (get_or new 0 0 ≡ 0)
-unmarked text old new (zero, le, e) = inl e
-unmarked text old new (suc k, le, e) =
-    let some : 0 < length (take (suc k) (new_image_words (length old) text)) = omega
-    (arith, length-take-le (suc k) (new_image_words (length old) text) (omega (arith, le, length-laid (length old) text))) in
+pub unmarked : (capacity : ℕ) (text old new : List ℕ) → IsPartlyWritten capacity text old new → (new ≡ old) ⊎ (get_or new 0 0 ≡ 0)
+unmarked capacity text old new (zero, le, e) = inl e
+unmarked capacity text old new (suc k, le, e) =
+    let some : 0 < length (take (suc k) (new_image_words (length old) capacity text)) = omega
+    (arith, length-take-le (suc k) (new_image_words (length old) capacity text) (omega (arith, le, length-laid (length old) capacity text))) in
     inr
     (ap (λ l. get_or l 0 0) e
-    ∙ get_or_append_left (take (suc k) (new_image_words (length old) text)) (drop (suc k) old) 0 0 some
-    ∙ get_or-take (suc k) (new_image_words (length old) text) 0 0 (omega arith)
-    ∙ front-word (length old) text 0 (lit< tt))
+    ∙ get_or_append_left (take (suc k) (new_image_words (length old) capacity text)) (drop (suc k) old) 0 0 some
+    ∙ get_or-take (suc k) (new_image_words (length old) capacity text) 0 0 (omega arith)
+    ∙ front-word (length old) capacity text 0 (lit< tt))
 
-module _ (text old w : List ℕ) (bytes : IsOfBytes text) (fits : first_free (length text) ≤ length old)
-    (is : w ≡ written_image_prefix (first_free (length text)) (length old) text old) where
+module _ (capacity : ℕ) (text old w : List ℕ) (bytes : IsOfBytes text) (enough : least_size ≤ length old) (may : IsCapacity capacity)
+    (fits : first_free (length text) ≤ heap_end (length old) capacity)
+    (is : w ≡ written_image_prefix (first_free (length text)) (length old) capacity text old) where
   abbrev rest : List ℕ
   rest = drop (first_free (length text)) old
 
-  is_all : w ≡ new_image_words (length old) text ++ rest
-  is_all = is ∙ ap (λ l. l ++ rest) (take_all (first_free (length text)) (new_image_words (length old) text) (omega (arith, length-laid (length old) text)))
+  is_all : w ≡ new_image_words (length old) capacity text ++ rest
+  is_all = is ∙ ap (λ l. l ++ rest) (take_all (first_free (length text)) (new_image_words (length old) capacity text) (omega (arith, length-laid (length old) capacity text)))
 
-  pub length_all : length w ≡ length old
-  length_all = omega (
+  long_all : length (new_image_words (length old) capacity text ++ rest) ≡ length old
+  long_all = omega (
     arith,
-    ap length is_all,
-    length-append (new_image_words (length old) text) rest,
-    length-laid (length old) text,
+    length-append (new_image_words (length old) capacity text) rest,
+    length-laid (length old) capacity text,
     length-drop (first_free (length text)) old,
     fits,
+    heap_end_within (length old) capacity,
   )
 
+  pub length_all : length w ≡ length old
+  length_all = ap length is_all ∙ long_all
+
   count_all : count_of w ≡ 0
-  count_all = ap (λ l. get_or l 3 0) is_all ∙ count-laid (length old) text bytes rest
+  count_all = ap (λ l. get_or l 3 0) is_all ∙ count-laid (length old) capacity text bytes rest long_all enough may fits
+
+  current_all : get_or w version_address 0 ≡ version
+  current_all = ap (λ l. get_or l version_address 0) is_all ∙ current-laid (length old) capacity text bytes rest long_all enough may fits
 
   pub good_all : IsGoodLog w
-  good_all = record {
-    size = omega (arith, length_all, fits);
-    known = ap (λ l. get_or l version_address 0) is_all ∙ version-laid (length old) text bytes rest;
-    few = omega (arith, count_all);
-    places = λ k lt. absurd (omega (arith, count_all));
-  }
+  good_all = subst IsGoodLog (sym is_all) (good-laid (length old) capacity text bytes rest long_all enough may fits)
 
   recovered_all : recovered_of w ≡ plain_of w
   recovered_all = recovered_plain w count_all
 
+  -- nothing is migrated
+  pub moved_all : migrated 3 (recovered_of w) ≡ recovered_of w
+  moved_all =
+      ap (λ ws. with_words (recovered_of w) (take 3 ws)) (migration-recovered w good_all
+      ∙ ap (λ (v : ℕ). if v == first_version then (capacity_address, front_capacity) ∷ (journal_address, log_start) ∷ (version_address, version) ∷ [] else [])
+      current_all)
+
   pub laid_all : IsWellFormed (recovered_of w)
-  laid_all = subst IsWellFormed (sym recovered_all) (subst (λ l. IsWellFormed (plain_of l)) (sym is_all) (IsLaid-laid (length old) text bytes rest))
+  laid_all = subst IsWellFormed (sym recovered_all) (subst (λ l. IsWellFormed (plain_of l)) (sym is_all)
+      (IsLaid-laid (length old) capacity text bytes rest long_all enough may fits))
 
-  pub recovered_long : length (recovered_of w) ≡ length old
-  recovered_long = ap length recovered_all ∙ length-plain w ∙ length_all
+  pub limit_all : limit_of w ≡ heap_end (length old) capacity
+  limit_all = ap limit_of is_all ∙ limit-laid (length old) capacity text bytes rest long_all enough may fits
 
-  heap_all : heap_of (recovered_of w) ≡ unsealed_heap (length old) text
-  heap_all = ap heap_of recovered_all ∙ ap (λ l. heap_of (plain_of l)) is_all ∙ heap_of-laid (length old) text bytes rest
+  heap_all : heap_of (recovered_of w) ≡ unsealed_heap (length old) capacity text
+  heap_all = ap heap_of recovered_all ∙ ap (λ l. heap_of (plain_of l)) is_all ∙ heap_of-laid (length old) capacity text bytes rest long_all enough may fits
 
-  pub view_all : (p : ℕ) (r : Refusals) → heap_view (recovered_journal w p r) (length old) ≡ unsealed_view (length old) text p r
+  pub view_all : (p : ℕ) (r : Refusals) → heap_view (recovered_journal w p r) (heap_end (length old) capacity) ≡ unsealed_view (length old) capacity text p r
   view_all p r =
       let none : touched_of w ≡ [] = touched_none w count_all in
-      let passed : saturating_count p (if length (touched_of w) == 0 then 0 else length (touched_of w) + 1) ≡ p =
-      ap (λ t. saturating_count p (if length t == 0 then 0 else length t + 1)) none ∙ (omega arith) in
-      λ i. record { now = heap_all i; durable = heap_all i; begun = false; touched = []; down = false; passed = passed i; refusals = r; size = length old }
+      let still : migration w ≡ [] = ap (λ (v : ℕ). if v == first_version then (capacity_address, front_capacity) ∷ (journal_address, log_start)
+      ∷ (version_address, version) ∷ [] else []) current_all in
+      let passed : saturating_count p ((if length (touched_of w) == 0 then 0 else length (touched_of w) + 1) + length (migration w)) ≡ p =
+      (λ i. saturating_count p ((if length (none i) == 0 then 0 else length (none i) + 1) + length (still i))) ∙ (omega arith) in
+      let heap : heap_of (migrated 3 (recovered_of w)) ≡ unsealed_heap (length old) capacity text = ap heap_of moved_all ∙ heap_all in
+      λ i. record { now = heap i; durable = heap i; begun = false; touched = []; down = false; passed = passed i; refusals = r; size = heap_end (length old) capacity }
 
-  -- what a replay leaves of these words is these words
-  pub part_after : (new : List ℕ) (n : ℕ) → new ≡ torn_replay n w → IsPartlyWritten text old new
-  part_after new n e = (first_free (length text), omega arith, e ∙ stopped_none w n count_all ∙ is)
+  -- what an opening leaves of these words is these words
+  pub part_after : (new : List ℕ) (n : ℕ) → new ≡ with_words w (take n (opening_writes w)) → IsPartlyWritten capacity text old new
+  part_after new n e = (first_free (length text), omega arith, e ∙ stopped_none w n count_all current_all ∙ is)

@@ -2,7 +2,7 @@
 use Rattle.std.specs.Prelude.{ℕ, ◌≡◌, ◌<◌, ◌≤◌, Bool, false, List, length}
 use Rattle.jc_words.specs.Refusals.{Refusals}
 use Rattle.jc_words.specs.Layout.{text_start}
-use Rattle.jc_commit.specs.Image.{count_of, plain_of, recovered_of, IsGoodLog}
+use Rattle.jc_commit.specs.Image.{count_of, limit_of, plain_of, recovered_of, IsGoodLog}
 use Rattle.jc_commit.specs.State.{State}
 use Rattle.jc_heap.specs.Heap.{head_of}
 
@@ -22,7 +22,7 @@ pub record HoldsImage (words : List ℕ) (is_down : Bool) (let_pass : ℕ) (turn
   pub plain : plain_of words ≡ j.plain
   pub recovered : recovered_of words ≡ j.plain
   pub head : head_of words ≡ head_of j.plain
-  pub size : length words ≡ length j.plain
+  pub size : limit_of words ≡ length j.plain
   pub up : is_down ≡ false
   pub closed : count_of words ≡ 0
   pub passed : let_pass ≡ j.passed

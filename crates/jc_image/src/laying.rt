@@ -3,7 +3,8 @@ ghost use Rattle.std.specs.Prelude.{◌≡◌, ◌<◌, ◌≤◌, ◌+◌, ◌-
 ghost use Rattle.std.specs.Prelude.{OnErr, IfOk, IfErr};
 ghost use Rattle.jc_words.specs.Count.{saturating_count};
 ghost use Rattle.jc_words.specs.Refusals.{refused_once};
-ghost use Rattle.jc_words.specs.Layout.{front_length, magic_address, text_start};
+ghost use Rattle.jc_words.specs.Layout.{front_length, least_size, magic_address, text_start};
+ghost use Rattle.jc_words.specs.Image.{IsCapacity, heap_end};
 ghost use Rattle.jc_heap.specs.Stored.{HoldsHeap};
 ghost use Rattle.jc_image.specs.Laying.{IsOfBytes, IsPartlyWritten, first_free, image_front, written_image_prefix, unsealed_view, new_image_words, sealed_view};
 ghost use Rattle.jc_image.specs.Laying.{first_words_of, heap_after_refused_seal, sealed_heap};
@@ -11,8 +12,8 @@ ghost use Rattle.jc_image.specs.Laying.{first_words_of, heap_after_refused_seal,
 use jc_commit::Journal;
 use jc_heap::Heap;
 use jc_heap::packed::packed_word;
-use jc_words::layout::{FRONT_LENGTH, JOURNAL_CAPACITY, MAGIC, MAGIC_WORD, TEXT_START, VERSION};
-use jc_words::{StoreDown, WordStore};
+use jc_words::layout::{FRONT_LENGTH, MAGIC, MAGIC_WORD, TEXT_START, VERSION};
+use jc_words::{Log, StoreDown, WordStore};
 
 /// How many words an image without objects takes, whose table text has so many bytes.
 pub fn first_free(text: u16) -> u32
@@ -22,25 +23,28 @@ pub fn first_free(text: u16) -> u32
 }
 
 // The first words of an image without objects, all but the magic word.
-fn front_of(size: u16, text: u16) -> [u16; FRONT_LENGTH]
-    requires { first_free text < 65536 }
-    ensures { result ≡ image_front size text }
+fn front_of(size: u16, capacity: u16, text: u16) -> [u16; FRONT_LENGTH]
+    requires size { least_size ≤ size }
+    requires capacity { IsCapacity capacity }
+    requires text { first_free text < 65536 }
+    ensures { result ≡ image_front size capacity text }
 {
     let top = first_free(text) as u16;
+    let log = Log::among(size, capacity);
     [
         0, // no magic word yet
         VERSION,
         size, // of the store
         0,
-        JOURNAL_CAPACITY,
+        0, // not looked at
         top,
         0,
         0,
         0,
         0,
         text,
-        0,
-        0,
+        log.capacity,
+        log.start,
         0,
         0,
         0,
@@ -48,16 +52,18 @@ fn front_of(size: u16, text: u16) -> [u16; FRONT_LENGTH]
 }
 
 // A word of an image of n words without objects.
-fn new_image_word(n: u16, text: &[u8], i: u16) -> u16
+fn new_image_word(n: u16, capacity: u16, text: &[u8], i: u16) -> u16
+    requires size { least_size ≤ n }
+    requires capacity { IsCapacity capacity }
     requires short { length text.now < 65536 }
     requires fits { first_free (length text.now) ≤ n }
     requires low { i < first_free (length text.now) }
-    ensures word { result ≡ slice_index (new_image_words n text.now) i }
+    ensures word { result ≡ slice_index (new_image_words n capacity text.now) i }
     ensures bytes { text_start ≤ i → (slice_index text.now (2 * (i - text_start)) < 256)
         × (slice_index text.now (2 * (i - text_start) + 1) < 256) }
 {
     if (i as usize) < FRONT_LENGTH {
-        return front_of(n, text.len() as u16)[i as usize];
+        return front_of(n, capacity, text.len() as u16)[i as usize];
     }
     if u32::from(i) < TEXT_START {
         return 0;
@@ -66,12 +72,14 @@ fn new_image_word(n: u16, text: &[u8], i: u16) -> u16
 }
 
 // Writes the words of an image without objects, from word 0 on.
-fn write_image<S: WordStore>(store: &mut S, text: &[u8]) -> Result<(), StoreDown>
+fn write_image<S: WordStore>(store: &mut S, text: &[u8], capacity: u16) -> Result<(), StoreDown>
+    requires enough { least_size ≤ length (S.words store.old) }
+    requires capacity { IsCapacity capacity }
     requires short { length text.now < 65536 }
     requires fits { first_free (length text.now) ≤ length (S.words store.old) }
     ensures done { OnOk result (S.words store.new ≡ written_image_prefix
-        (first_free (length text.now)) (length (S.words store.old)) text.now (S.words store.old)) }
-    ensures part { IsPartlyWritten text.now (S.words store.old) (S.words store.new) }
+        (first_free (length text.now)) (length (S.words store.old)) capacity text.now (S.words store.old)) }
+    ensures part { IsPartlyWritten capacity text.now (S.words store.old) (S.words store.new) }
     ensures size { length (S.words store.new) ≡ length (S.words store.old) }
     ensures bytes { OnOk result (IsOfBytes text.now) }
     ensures was_up { OnOk result (S.down store.old ≡ false) }
@@ -84,33 +92,38 @@ fn write_image<S: WordStore>(store: &mut S, text: &[u8]) -> Result<(), StoreDown
 {
     let n = store.size();
     for i in 0..first_free(text.len() as u16) as u16 {
-        store.write(i, new_image_word(n, text, i))?;
+        store.write(i, new_image_word(n, capacity, text, i))?;
     }
     Ok(())
 }
 
-/// Lays the words of an image without objects over a store, with this table text. The magic word
+/// Lays the words of an image without objects over a store, with this table text and a journal of so
+/// many entries, 16 to 1024. The magic word
 /// comes last, by `seal`; until then word 0 is 0. Where the store refuses a write it is given back.
-pub fn lay<S: WordStore>(mut store: S, text: &[u8]) -> Result<Heap<S>, S>
+pub fn lay<S: WordStore>(mut store: S, text: &[u8], capacity: u16) -> Result<Heap<S>, S>
+    requires enough { least_size ≤ length (S.words store) }
+    requires capacity { IsCapacity capacity }
     requires short { length text.now < 65536 }
-    requires fits { first_free (length text.now) ≤ length (S.words store) }
-    ensures done { IfOk result (λ h. h ≡ unsealed_view (length (S.words store)) text.now
+    requires fits { first_free (length text.now) ≤ heap_end (length (S.words store)) capacity }
+    ensures done { IfOk result (λ h. h ≡ unsealed_view (length (S.words store)) capacity text.now
         (saturating_count (S.passed store) (first_free (length text.now))) (S.refusals store)) }
     ensures was_up { OnOk result (S.down store ≡ false) }
     ensures down { IfErr result (λ s. S.down s ≡ true) }
     ensures refused { IfErr result (λ s. S.refusals s
         ≡ refused_once (S.down store) (S.passed s) (S.refusals store)) }
-    ensures part { IfErr result (λ s. IsPartlyWritten text.now (S.words store) (S.words s)) }
+    ensures part { IfErr result (λ s. IsPartlyWritten capacity text.now (S.words store) (S.words s)) }
     ensures size { IfErr result (λ s. length (S.words s) ≡ length (S.words store)) }
     ensures unmarked { IfErr result (λ s. (S.words s ≡ S.words store)
         ⊎ (slice_index (S.words s) magic_address ≡ 0)) }
 {
-    let size = store.size();
-    let Ok(()) = write_image(&mut store, text) else {
+    let Ok(()) = write_image(&mut store, text, capacity) else {
         return Err(store);
     };
     match Journal::open(store) {
-        Ok(journal) => Ok(Heap::of_journal(journal, size)),
+        Ok(journal) => {
+            let size = journal.limit();
+            Ok(Heap::of_journal(journal, size))
+        }
         Err((_, store)) => Err(store),
     }
 }

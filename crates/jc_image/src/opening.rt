@@ -2,8 +2,8 @@
 ghost use Rattle.std.specs.Prelude.{ℕ, ◌+◌, ◌/◌, ◌≡◌, ◌<◌, ◌≤◌, ◌^◌, ◌↔◌, IsTrue, IsOk, IfOk, IfErr, OnOk, true, false, length, slice_index, take};
 ghost use Rattle.jc_words.specs.Refusals.{refused_once};
 ghost use Rattle.jc_words.specs.Layout.{top_address, text_length_address, text_start};
-ghost use Rattle.jc_commit.specs.Image.{IsGoodLog, StillRecovers};
-ghost use Rattle.jc_commit.specs.Replay.{IsPartOfReplay};
+ghost use Rattle.jc_commit.specs.Image.{IsGoodLog};
+ghost use Rattle.jc_commit.specs.Migration.{IsPartOfOpening, StillOpens};
 ghost use Rattle.jc_commit.specs.State.{recovered_journal};
 ghost use Rattle.jc_heap.specs.Cut.{missing_words};
 ghost use Rattle.jc_heap.specs.Image.{text_byte, table_text, IsWellFormed, image, base, missing_words_of_image, package_addresses, is_package, sizes};
@@ -103,27 +103,29 @@ fn is_heap<S: WordStore>(journal: &Journal<S>, size: u16) -> bool
 }
 
 impl<S: WordStore> OpenImage<S> {
-    /// Opens a store, and first takes back what a loss of power left open.
+    /// Opens a store, and first takes back what a loss of power left open. An image of the first
+    /// version then becomes one of the version that is written.
     pub fn open(store: S) -> Result<OpenImage<S>, (OpenRefusal, S)>
-        requires { text_start ≤ length (S.words store) }
         ensures ok { IfOk result (λ o. o ≡ recovered_journal (S.words store) (S.passed store)
             (S.refusals store)) }
         ensures good { OnOk result (IsGoodLog (S.words store)) }
         ensures bad_log { IfErr result (λ e. e.0 ≡ OpenRefusal.BadLog
             → (IsGoodLog (S.words store) → ⊥) × (e.1 ≡ store)) }
         ensures stopped { IfErr result (λ e. e.0 ≡ OpenRefusal.StoreDown
-            → IsGoodLog (S.words store) × StillRecovers (S.words store) (S.words e.1)
+            → IsGoodLog (S.words store) × StillOpens (S.words store) (S.words e.1)
             × (S.down e.1 ≡ true)) }
         ensures part { IfErr result (λ e. e.0 ≡ OpenRefusal.StoreDown
-            → IsPartOfReplay (S.words store) (S.words e.1) (S.passed store) (S.passed e.1)) }
+            → IsPartOfOpening (S.words store) (S.words e.1) (S.passed store) (S.passed e.1)) }
         ensures was_up { OnOk result (S.down store ≡ false) }
         ensures was_down { IfErr result (λ e. S.down store ≡ true → e.1 ≡ store) }
         ensures refused { IfErr result (λ e. e.0 ≡ OpenRefusal.StoreDown → S.down store ≡ false
             → S.refusals e.1 ≡ refused_once false (S.passed e.1) (S.refusals store)) }
     {
-        let size = store.size();
         match Journal::open(store) {
-            Ok(journal) => Ok(OpenImage { journal, size }),
+            Ok(journal) => {
+                let size = journal.limit();
+                Ok(OpenImage { journal, size })
+            }
             Err(refused) => Err(refused),
         }
     }
@@ -147,7 +149,7 @@ impl<S: WordStore> OpenImage<S> {
         (word % 256) as u8
     }
 
-    /// Whether the store has the words of a table text of that length.
+    /// Whether there are words for a table text of that length below the heap's end.
     pub fn has_text(&self) -> bool
         ensures { IsTrue result ↔ (text_start + (slice_index self.now.plain text_length_address + 1)
             / 2 ≤ length self.now.plain) }
@@ -167,7 +169,7 @@ impl<S: WordStore> OpenImage<S> {
         }
     }
 
-    /// The number of words of the store.
+    /// Where the heap ends.
     pub fn size(&self) -> u16
         ensures { result ≡ length self.now.plain }
     {

@@ -1,7 +1,7 @@
 //! Calls of several changes ask room for all of them before the first one. After that the store alone may refuse.
 
 ghost use Rattle.std.specs.Prelude.{◌≡◌, ◌+◌, ◌<◌, ◌≤◌, false, true, None, List, [], ◌∷◌, ◌++◌, All, map, length, IfOk, OnOk};
-ghost use Rattle.jc_commit.specs.Image.{least_capacity};
+ghost use Rattle.jc_words.specs.Layout.{least_capacity};
 ghost use Rattle.jc_heap.specs.Object.{AnObject, new_object, is_packed};
 ghost use Rattle.jc_heap.specs.Heap.{heap_item_at, facts, IsObject};
 ghost use Rattle.jc_heap.specs.Keeping.{AreLegalValues};

@@ -1,6 +1,6 @@
 //! Transactions, and changes of places: for a while, several as one, and for good.
 ghost use Rattle.std.specs.Prelude.{◌≡◌, ◌<◌, ◌≤◌, ◌+◌, ◌++◌, false, true, length};
-ghost use Rattle.jc_commit.specs.Image.{least_capacity, most_capacity};
+ghost use Rattle.jc_words.specs.Layout.{least_capacity, most_capacity};
 ghost use Rattle.jc_heap.specs.declared.object.Kind.TheVariants.{Instance};
 ghost use Rattle.jc_heap.specs.Heap.{cells, facts};
 ghost use Rattle.jc_heap.specs.Keeping.{IsLegalValue, AreLegalValues};

@@ -1,3 +1,4 @@
 mod CellWalk
 mod CellWords
+mod Opened
 mod Walked

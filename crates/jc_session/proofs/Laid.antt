@@ -1,12 +1,14 @@
 -- Whether words are laid, as an answer.
-use Rattle.std.proofs.Common.{arith, ◌≡◌, ℕ, ◌≤◌, ◌<◌, ◌⊎◌, inl, inr, List, [], ◌∷◌, length, get_or, refl, sym, ◌∙◌, ap, true, false}
-use Rattle.std.specs.Prelude.{◌↔◌, ◌==◌, ◌&&◌, Bool, nat_le, nat_lt}
+use Rattle.std.proofs.Common.{arith, ◌≡◌, ℕ, ◌≤◌, inl, inr, List, [], ◌∷◌, length, get_or, refl, sym, ◌∙◌, ap, true, false}
+use Rattle.std.specs.Prelude.{◌↔◌, ◌==◌, ◌&&◌, nat_le, nat_lt}
 use Rattle.std.specs.List.{list_all}
 use Rattle.std.proofs.lemmas.Bool.{and_from, and_parts, cases_Bool, cases_lt, eq-eqb, eqb-true, le-leb, leb-true, lt-ltb, ltb-true, ne_eqb, or_from, or_parts}
 use Rattle.std.proofs.lemmas.Bool.{true≢false}
 use Rattle.jc_words.specs.Layout.{top_address}
 use Rattle.jc_heap.specs.Image.{IsWellFormed, base, image, is_package, missing_words_of_image, package_addresses}
 use Rattle.jc_commit.specs.Image.{recovered_of}
+use Rattle.jc_commit.specs.Migration.{migrated}
+use Rattle.jc_heap.proofs.Migrated.{migrated_alike}
 use Rattle.jc_card.specs.PowerUp.{RefusalLeaves}
 use Rattle.jc_card.specs.declared.power_up.PowerFault.{PowerFault as Fault}
 use Rattle.jc_card.specs.declared.power_up.PowerFault.TheVariants.{BadMagic, BadVersion, BadSize, BadLog, BadTable, BadPackage, NoMemory, StoreDown}
@@ -58,7 +60,7 @@ if_laid w laid =
     and_from a (b && (c && d)) (le-leb (base (image w)) top laid.based) (and_from b (c && d) (le-leb top (length w) laid.fits)
     (and_from c d (eq-eqb (missing_words_of_image (image w)) 0 laid.whole) (all_below top (package_addresses (image w)) laid.packages)))
 
-same_answer : (v w : List ℕ) → IsWellFormed v ↔ IsWellFormed w → is_well_formed v ≡ is_well_formed w
+pub same_answer : (v w : List ℕ) → IsWellFormed v ↔ IsWellFormed w → is_well_formed v ≡ is_well_formed w
 same_answer v w both = elim (cases_Bool (is_well_formed w)) [
   | inl is ↦ if_laid v (both.1 (laid_if w is)) ∙ sym is
   | inr isnt ↦ elim (cases_Bool (is_well_formed v)) [
@@ -74,7 +76,9 @@ laid_still BadMagic old new other stands = ap (λ w. is_well_formed (recovered_o
 laid_still BadVersion old new other stands = ap (λ w. is_well_formed (recovered_of w)) stands
 laid_still BadSize old new other stands = ap (λ w. is_well_formed (recovered_of w)) stands
 laid_still BadLog old new other stands = ap (λ w. is_well_formed (recovered_of w)) stands
-laid_still BadTable old new other stands = ap is_well_formed stands.recovered
+laid_still BadTable old new other stands =
+    let alike = migrated_alike (recovered_of old) 3 in
+    ap is_well_formed stands.recovered ∙ same_answer (migrated 3 (recovered_of old)) (recovered_of old) (alike.back, alike.laid)
 laid_still BadPackage old new other stands = same_answer (recovered_of new) (recovered_of old) stands.laid
 laid_still NoMemory old new other stands = same_answer (recovered_of new) (recovered_of old) stands.laid
 laid_still StoreDown old new other stands = absurd (other refl)

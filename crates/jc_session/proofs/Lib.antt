@@ -4,3 +4,4 @@ pub mod Refusals
 pub mod WholeSessions
 pub mod SessionRuns
 pub mod Selections
+pub mod Starts

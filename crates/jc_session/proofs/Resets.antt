@@ -1,7 +1,8 @@
 -- A reset that finds a fault leaves what was there.
-use Rattle.std.proofs.Common.{◌≡◌, List, ℕ, false, length, refl, sym, ◌∙◌, ap, subst}
-use Rattle.jc_commit.specs.Image.{IsGoodLog, recovered_of}
+use Rattle.std.proofs.Common.{◌≡◌, List, ℕ, false, refl, sym, ◌∙◌, ap, subst}
+use Rattle.jc_commit.specs.Image.{IsGoodLog, limit_of, recovered_of}
 use Rattle.jc_heap.specs.Heap.{heap_of}
+use Rattle.jc_heap.proofs.Migrated.{migrated_alike}
 use Rattle.jc_card.specs.PowerUp.{PowerUpRefuses, RefusalLeaves}
 use Rattle.jc_card.specs.declared.power_up.PowerFault.{PowerFault as Fault}
 use Rattle.jc_card.specs.declared.power_up.PowerFault.TheVariants.{BadMagic, BadVersion, BadSize, BadLog, BadTable, BadPackage, NoMemory, StoreDown}
@@ -16,14 +17,14 @@ still_left BadMagic old new other good stands = (subst IsGoodLog (sym stands) go
 still_left BadVersion old new other good stands = (subst IsGoodLog (sym stands) good, ap (λ w. heap_of (recovered_of w)) stands)
 still_left BadSize old new other good stands = (subst IsGoodLog (sym stands) good, ap (λ w. heap_of (recovered_of w)) stands)
 still_left BadLog old new other good stands = (subst IsGoodLog (sym stands) good, ap (λ w. heap_of (recovered_of w)) stands)
-still_left BadTable old new other good stands = (stands.good, ap heap_of stands.recovered)
+still_left BadTable old new other good stands = (stands.good, ap heap_of stands.recovered ∙ (migrated_alike (recovered_of old) 3).heap)
 still_left BadPackage old new other good stands = (stands.good, stands.recovered)
 still_left NoMemory old new other good stands = (stands.good, stands.recovered)
 still_left StoreDown old new other good stands = absurd (other refl)
 
 -- a reset that finds a fault leaves what was there, with the power on
 pub fails_to_reset : (fault : Fault) (s : PowerState) (before after : StoreState) → IsStoreOf s before → PowerUpRefuses fault before.words
-    → (fault ≡ StoreDown → ⊥) → length after.words ≡ length before.words → RefusalLeaves fault before.words after.words → after.down ≡ false
+    → (fault ≡ StoreDown → ⊥) → limit_of after.words ≡ limit_of before.words → RefusalLeaves fault before.words after.words → after.down ≡ false
     → after.refusals ≡ before.refusals → FailsToReset fault s after
 fails_to_reset fault s before after held cause other size stands up refusals =
     let left = still_left fault before.words after.words other held.good stands in (

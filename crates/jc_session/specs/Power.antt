@@ -3,13 +3,13 @@ use Rattle.std.specs.Prelude.{ℕ, ◌≡◌, ◌==◌, ◌&&◌, nat_le, nat_lt
 use Rattle.std.specs.List.{list_all}
 use Rattle.jc_words.specs.Layout.{top_address}
 use Rattle.jc_words.specs.Refusals.{Refusals, refused_once}
-use Rattle.jc_commit.specs.Image.{IsGoodLog, recovered_of}
+use Rattle.jc_commit.specs.Image.{IsGoodLog, limit_of, recovered_of}
 use Rattle.jc_heap.specs.Heap.{HeapState, HeapView, heap_of}
 use Rattle.jc_heap.specs.Image.{base, image, missing_words_of_image, package_addresses}
 use Rattle.jc_card.specs.CardState.{CardState}
 
 -- what is left of a card without power: the heap that a recovery gives, and whether its words are laid; of its store, whether it is
--- down, how many writes have passed, those that it has refused, and its number of words
+-- down, how many writes have passed, those that it has refused, and where the heap ends in it
 pub record KeptState : Type 0 where
   pub durable : HeapState
   pub laid : Bool
@@ -61,7 +61,7 @@ durable_state_in_store store = record {
   down = store.down;
   passed = store.passed;
   refusals = store.refusals;
-  size = length store.words;
+  size = limit_of store.words;
 }
 
 -- the store of a card that is so: a recovery of its words gives the durable heap

@@ -1,5 +1,6 @@
 -- Powering up: at the beginning, over whatever words a store has, and at a reset.
-use Rattle.std.specs.Prelude.{◌≡◌, false, length}
+use Rattle.std.specs.Prelude.{◌≡◌, false}
+use Rattle.jc_commit.specs.Image.{limit_of}
 use Rattle.jc_heap.specs.Heap.{heap_at_rest}
 use Rattle.jc_card.specs.CardState.{CardState}
 use Rattle.jc_card.specs.Made.{IsCardHeap, IsMade}
@@ -11,7 +12,7 @@ use Rattle.jc_session.specs.Power.{PowerState, Up, Off, KeptState, StoreState, I
 
 -- the card of what was left: its heap is the durable one, at rest, and all else is as after a reset
 pub record IsPoweredUp (k : KeptState) (card : CardState) : Type 0 where
-  pub made : IsCardHeap k.size k.durable
+  pub made : IsCardHeap k.durable.head.1 k.durable
   pub heap : card.memory.heap ≡ heap_at_rest k.durable card.memory.heap.passed k.refusals k.size
   pub reset : IsAtReset k.durable card
 
@@ -26,7 +27,7 @@ pub record FailsToStart (fault : PowerFault) (before after : StoreState) : Type 
   pub cause : PowerUpRefuses fault before.words
   pub other : fault ≡ StoreDown → ⊥
   pub stands : RefusalLeaves fault before.words after.words
-  pub size : length after.words ≡ length before.words
+  pub size : limit_of after.words ≡ limit_of before.words
   pub up : after.down ≡ false
   pub refusals : after.refusals ≡ before.refusals
 

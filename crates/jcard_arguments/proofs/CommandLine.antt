@@ -58,11 +58,13 @@ pub run_read : (found : Found) (image script : Option Text) → image ≡ first_
 run_read found image script i s = ap₂ run_by (i ∙ first_value-rows found (codes "image")) (s ∙ first_value-rows found (codes "script"))
 
 -- those of `new`
-pub new_read : (found : Found) (image words table : Option Text) → image ≡ first_value found (codes "image") → words ≡ first_value found (codes "words")
-    → table ≡ first_value found (codes "table") → new_by image words table ≡ new_of (rows_of found)
-new_read found image words table i w t =
-    ap (λ (o : Option Text). new_by o words table) (i ∙ first_value-rows found (codes "image"))
-    ∙ ap₂ (new_by (first_of (codes "image") (rows_of found))) (w ∙ first_value-rows found (codes "words")) (t ∙ first_value-rows found (codes "table"))
+pub new_read : (found : Found) (image words table journal : Option Text) → image ≡ first_value found (codes "image")
+    → words ≡ first_value found (codes "words") → table ≡ first_value found (codes "table") → journal ≡ first_value found (codes "journal")
+    → new_by image words table journal ≡ new_of (rows_of found)
+new_read found image words table journal i w t j =
+    ap₂ (λ (o r : Option Text). new_by o r table journal) (i ∙ first_value-rows found (codes "image")) (w ∙ first_value-rows found (codes "words"))
+    ∙ ap₂ (new_by (first_of (codes "image") (rows_of found)) (first_of (codes "words") (rows_of found)))
+    (t ∙ first_value-rows found (codes "table")) (j ∙ first_value-rows found (codes "journal"))
 
 -- that of `dump`
 pub dump_read : (found : Found) (image : Option Text) → image ≡ first_value found (codes "image") → option_map ToTell image ≡ dump_of (rows_of found)

@@ -1,5 +1,5 @@
--- Plain lines of the commands `new` and `try`, which take one operand and the options `--words` and `--table`.
-use Rattle.std.proofs.Common.{◌≡◌, ◌∙◌, false, List, [], ◌∷◌, Option, Some, None, refl, codes}
+-- Plain lines of the commands `new` and `try`, which take one operand and the options `--words` and `--table`, `new` also `--journal`.
+use Rattle.std.proofs.Common.{◌≡◌, ◌∙◌, ap, false, List, [], ◌∷◌, Option, Some, None, refl, codes}
 use Rattle.std.specs.Prelude.{fold}
 use Rattle.clap.specs.Words.{App, Row, Text}
 use Rattle.clap.specs.Walk.{Waiting, Walk, finished, idle, nothing_held, option, settled, walk_from, walked}
@@ -9,7 +9,8 @@ use Rattle.clap.proofs.OnLiterals.{clap_on_literals}
 use Rattle.jcard_arguments.proofs.Runs.{no_hyphen}
 use Rattle.jcard_arguments.proofs.CommandWalk.{after_next, as_ended, causes_of, met, none_more, opened_by, request_after, whole}
 use Rattle.jcard_arguments.specs.CommandLine.{IsNoFlag, CommandLineRequest, TakesNews, TakesTries, ToMake, ToTry, new_grammar, new_of, program_grammar}
-use Rattle.jcard_arguments.specs.CommandLine.{request_of_words, try_grammar, try_of}
+use Rattle.jcard_arguments.specs.CommandLine.{JournalTableWords, JournalWordsTable, NewOrder, TableJournalWords, TableWordsJournal, WordsJournalTable}
+use Rattle.jcard_arguments.specs.CommandLine.{WordsTableJournal, in_order, request_of_words, try_grammar, try_of}
 
 data OptionCommand : Type 0 where
   NewCommand : OptionCommand
@@ -31,9 +32,9 @@ abbrev taken_by : OptionCommand → List Row → Option CommandLineRequest
 taken_by NewCommand rows = new_of rows
 taken_by TryCommand rows = try_of rows
 
--- what it asks for, with this operand, these words and this table
+-- what it asks for, with this operand, these words, this table and no other option
 abbrev request_by : OptionCommand → Text → Text → Text → CommandLineRequest
-request_by NewCommand operand words table = ToMake operand words table
+request_by NewCommand operand words table = ToMake operand words (codes "256") table
 request_by TryCommand operand words table = ToTry operand words table
 
 -- the command, as the build leaves it
@@ -186,10 +187,151 @@ table_before_words c name operand words table ho hw ht =
     ∙ (step (at_words c (read c (operand_read c operand) (codes "table") table) words hw) []
     ∙ words_last c operand words table)))))
 
+-- ---- the options of `new` with `--journal`
+
+data NewOption : Type 0 where
+  Words : NewOption
+  Table : NewOption
+  Journal : NewOption
+
+abbrev id_of : NewOption → Text
+id_of Words = codes "words"
+id_of Table = codes "table"
+id_of Journal = codes "journal"
+
+abbrev flag_of : NewOption → Text
+flag_of Words = codes "--words"
+flag_of Table = codes "--table"
+flag_of Journal = codes "--journal"
+
+abbrev first : NewOrder → NewOption
+first WordsTableJournal = Words
+first WordsJournalTable = Words
+first TableWordsJournal = Table
+first TableJournalWords = Table
+first JournalWordsTable = Journal
+first JournalTableWords = Journal
+
+abbrev second : NewOrder → NewOption
+second WordsTableJournal = Table
+second WordsJournalTable = Journal
+second TableWordsJournal = Words
+second TableJournalWords = Journal
+second JournalWordsTable = Words
+second JournalTableWords = Table
+
+abbrev third : NewOrder → NewOption
+third WordsTableJournal = Journal
+third WordsJournalTable = Table
+third TableWordsJournal = Journal
+third TableJournalWords = Words
+third JournalWordsTable = Table
+third JournalTableWords = Words
+
+-- the value of an option, of these words, this table and this journal
+abbrev value_of : Text → Text → Text → NewOption → Text
+value_of words table journal Words = words
+value_of words table journal Table = table
+value_of words table journal Journal = journal
+
+-- the rows after the first option, and after the second
+abbrev first_read : NewOrder → Text → Text → List Row
+first_read o image value = read NewCommand (operand_read NewCommand image) (id_of (first o)) value
+
+abbrev second_read : NewOrder → Text → Text → Text → List Row
+second_read o image value next = read NewCommand (first_read o image value) (id_of (second o)) next
+
+first_name : (o : NewOrder) (image : Text)
+    → Goes NewCommand (given [] (codes "image") image) (flag_of (first o)) (named (operand_read NewCommand image) (id_of (first o)))
+unfolding clap_on_literals
+first_name WordsTableJournal image = record { fault = refl; walk = refl }
+first_name WordsJournalTable image = record { fault = refl; walk = refl }
+first_name TableWordsJournal image = record { fault = refl; walk = refl }
+first_name TableJournalWords image = record { fault = refl; walk = refl }
+first_name JournalWordsTable image = record { fault = refl; walk = refl }
+first_name JournalTableWords image = record { fault = refl; walk = refl }
+
+second_name : (o : NewOrder) (image value : Text)
+    → Goes NewCommand (given (operand_read NewCommand image) (id_of (first o)) value) (flag_of (second o)) (named (first_read o image value) (id_of (second o)))
+unfolding clap_on_literals
+second_name WordsTableJournal image value = record { fault = refl; walk = refl }
+second_name WordsJournalTable image value = record { fault = refl; walk = refl }
+second_name TableWordsJournal image value = record { fault = refl; walk = refl }
+second_name TableJournalWords image value = record { fault = refl; walk = refl }
+second_name JournalWordsTable image value = record { fault = refl; walk = refl }
+second_name JournalTableWords image value = record { fault = refl; walk = refl }
+
+third_name : (o : NewOrder) (image value next : Text) → Goes NewCommand (given (first_read o image value) (id_of (second o)) next) (flag_of (third o))
+    (named (second_read o image value next) (id_of (third o)))
+unfolding clap_on_literals
+third_name WordsTableJournal image value next = record { fault = refl; walk = refl }
+third_name WordsJournalTable image value next = record { fault = refl; walk = refl }
+third_name TableWordsJournal image value next = record { fault = refl; walk = refl }
+third_name TableJournalWords image value next = record { fault = refl; walk = refl }
+third_name JournalWordsTable image value next = record { fault = refl; walk = refl }
+third_name JournalTableWords image value next = record { fault = refl; walk = refl }
+
+at_value : (option : NewOption) (rows : List Row) (value : Text) → IsNoFlag value
+    → Goes NewCommand (named rows (id_of option)) value (given rows (id_of option) value)
+unfolding clap_on_literals
+at_value Words rows value h = at_words NewCommand rows value h
+at_value Table rows value h = at_table NewCommand rows value h
+at_value Journal rows [] h = record { fault = refl; walk = refl }
+at_value Journal rows (x ∷ xs) h = record { fault = simp (no_hyphen x xs h); walk = simp (no_hyphen x xs h) }
+
+-- the last word
+order_last : (o : NewOrder) (image words table journal : Text) → after NewCommand
+    (given (second_read o image (value_of words table journal (first o)) (value_of words table journal (second o))) (id_of (third o))
+    (value_of words table journal (third o))) [] ≡ Some (ToMake image words journal table)
+unfolding request_after clap_on_literals
+order_last WordsTableJournal image words table journal = refl
+order_last WordsJournalTable image words table journal = refl
+order_last TableWordsJournal image words table journal = refl
+order_last TableJournalWords image words table journal = refl
+order_last JournalWordsTable image words table journal = refl
+order_last JournalTableWords image words table journal = refl
+
+ordered : (o : NewOrder) (words table journal : Text) → in_order o words table journal
+    ≡ flag_of (first o) ∷ value_of words table journal (first o) ∷ flag_of (second o) ∷ value_of words table journal (second o)
+    ∷ flag_of (third o) ∷ value_of words table journal (third o) ∷ []
+ordered WordsTableJournal words table journal = refl
+ordered WordsJournalTable words table journal = refl
+ordered TableWordsJournal words table journal = refl
+ordered TableJournalWords words table journal = refl
+ordered JournalWordsTable words table journal = refl
+ordered JournalTableWords words table journal = refl
+
+no_flags : (option : NewOption) (words table journal : Text) → IsNoFlag words → IsNoFlag table → IsNoFlag journal
+    → IsNoFlag (value_of words table journal option)
+no_flags Words words table journal hw ht hj = hw
+no_flags Table words table journal hw ht hj = ht
+no_flags Journal words table journal hw ht hj = hj
+
+in_any_order : (name image words table journal : Text) → IsNoFlag image → IsNoFlag words → IsNoFlag table → IsNoFlag journal → (o : NewOrder)
+    → request_of_words (name ∷ codes "new" ∷ image ∷ in_order o words table journal) ≡ Some (ToMake image words journal table)
+in_any_order name image words table journal hi hw ht hj o =
+    let value = value_of words table journal in
+    let first_value = value (first o) in
+    let second_value = value (second o) in
+    let third_value = value (third o) in
+    let is_value = λ (option : NewOption). no_flags option words table journal hw ht hj in
+    ap (λ (rest : List Text). request_of_words (name ∷ codes "new" ∷ image ∷ rest)) (ordered o words table journal)
+    ∙ (opened NewCommand name (image ∷ flag_of (first o) ∷ first_value ∷ flag_of (second o) ∷ second_value ∷ flag_of (third o) ∷ third_value ∷ [])
+    ∙ (step (at_operand NewCommand image hi) (flag_of (first o) ∷ first_value ∷ flag_of (second o) ∷ second_value ∷ flag_of (third o) ∷ third_value ∷ [])
+    ∙ (step (first_name o image) (first_value ∷ flag_of (second o) ∷ second_value ∷ flag_of (third o) ∷ third_value ∷ [])
+    ∙ (step (at_value (first o) (operand_read NewCommand image) first_value (is_value (first o)))
+    (flag_of (second o) ∷ second_value ∷ flag_of (third o) ∷ third_value ∷ [])
+    ∙ (step (second_name o image first_value) (second_value ∷ flag_of (third o) ∷ third_value ∷ [])
+    ∙ (step (at_value (second o) (first_read o image first_value) second_value (is_value (second o))) (flag_of (third o) ∷ third_value ∷ [])
+    ∙ (step (third_name o image first_value second_value) (third_value ∷ [])
+    ∙ (step (at_value (third o) (second_read o image first_value second_value) third_value (is_value (third o))) []
+    ∙ order_last o image words table journal))))))))
+
 pub news : TakesNews
-news name image words table hi hw ht = (
+news name image words table journal hi hw ht hj = (
   words_before_table NewCommand name image words table hi hw ht,
   table_before_words NewCommand name image words table hi hw ht,
+  in_any_order name image words table journal hi hw ht hj,
 )
 
 pub tries : TakesTries

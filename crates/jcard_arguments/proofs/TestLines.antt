@@ -3,7 +3,7 @@ use Rattle.std.proofs.Common.{◌≡◌, ◌∙◌, false, List, [], ◌∷◌, 
 use Rattle.std.specs.Prelude.{All, fold}
 use Rattle.std.proofs.lemmas.List.Elements.{All-head, All-tail}
 use Rattle.clap.specs.Words.{Row, Text}
-use Rattle.clap.specs.Walk.{Waiting, Walk, finished, idle, nothing_held, option, positional, reading_by, settled, walk_from, walked}
+use Rattle.clap.specs.Walk.{Waiting, Walk, finished, idle, nothing_held, option, positional, reading_by, walk_from, walked}
 use Rattle.clap.specs.Simple.{Shape, built_leaf, inherited, marked_built, names_of, on_top, with_leaf_noted}
 use Rattle.clap.specs.Faults.{defaults_fault, turn_fault, walk_fault}
 use Rattle.clap.specs.declared.parser.matches.ValueSource.TheVariants.{CommandLine}

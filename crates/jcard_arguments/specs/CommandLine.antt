@@ -14,8 +14,8 @@ use Rattle.jcard_faults.specs.declared.fault.Fault.TheVariants.{BadCommandLine, 
 
 -- what a command line asks for
 pub data CommandLineRequest : Type 0 where
-  -- an image of this name is made, with so many words, with the platform table of this name
-  ToMake : Text → Text → Text → CommandLineRequest
+  -- an image of this name is made, with so many words and a journal of so many entries, with the platform table of this name
+  ToMake : Text → Text → Text → Text → CommandLineRequest
   -- the script of the second name is carried out, on the card of the image of the first
   ToRun : Text → Text → CommandLineRequest
   -- what the image of this name holds is told
@@ -52,9 +52,10 @@ free_option name = record (new_rule name) { action = Some Set; long = Some name 
 abbrev pub flag : Text → Rule
 flag name = record (new_rule name) { action = Some SetTrue; long = Some name }
 
--- `new IMAGE --words N --table FILE`
+-- `new IMAGE --words N --table FILE [--journal C]`
 abbrev pub new_grammar : App
-new_grammar = with_rule (with_rule (with_rule (new_app (codes "new")) (operand (codes "image"))) (given_option (codes "words"))) (given_option (codes "table"))
+new_grammar = with_rule (with_rule (with_rule (with_rule (new_app (codes "new")) (operand (codes "image"))) (given_option (codes "words")))
+    (given_option (codes "table"))) (free_option (codes "journal"))
 
 -- `run IMAGE SCRIPT`
 abbrev pub run_grammar : App
@@ -87,10 +88,15 @@ program_grammar = with_subcommand (with_subcommand (with_subcommand (with_subcom
 
 -- ---- what the words are taken for
 
--- what `new` asks for, with these operands and options
-abbrev pub new_by : Option Text → Option Text → Option Text → Option CommandLineRequest
-new_by (Some image) (Some words) (Some table) = Some (ToMake image words table)
-new_by image words table = None
+-- how many entries the journal of an image has that is made
+abbrev pub made_journal : Option Text → Text
+made_journal (Some entries) = entries
+made_journal None = codes "256"
+
+-- what `new` asks for, with this operand and these options
+abbrev pub new_by : Option Text → Option Text → Option Text → Option Text → Option CommandLineRequest
+new_by (Some image) (Some words) (Some table) journal = Some (ToMake image words (made_journal journal) table)
+new_by image words table journal = None
 
 -- what `run` asks for, with these operands
 abbrev pub run_by : Option Text → Option Text → Option CommandLineRequest
@@ -144,7 +150,7 @@ tear_by image script probe line each depth objects part = None
 
 -- the same, with these values of all operands and options
 abbrev pub new_of : List Row → Option CommandLineRequest
-new_of rows = new_by (first_of (codes "image") rows) (first_of (codes "words") rows) (first_of (codes "table") rows)
+new_of rows = new_by (first_of (codes "image") rows) (first_of (codes "words") rows) (first_of (codes "table") rows) (first_of (codes "journal") rows)
 
 abbrev pub run_of : List Row → Option CommandLineRequest
 run_of rows = run_by (first_of (codes "image") rows) (first_of (codes "script") rows)
@@ -196,11 +202,33 @@ TakesRuns = (name image script : Text) → IsNoFlag image → IsNoFlag script
 abbrev pub TakesDumps : Type 0
 TakesDumps = (name image : Text) → IsNoFlag image → request_of_words (name ∷ codes "dump" ∷ image ∷ []) ≡ Some (ToTell image)
 
--- `NAME new IMAGE --words N --table FILE` asks to make exactly this image, in either order of the options
+-- in which order the options of `new` stand
+pub data NewOrder : Type 0 where
+  WordsTableJournal : NewOrder
+  WordsJournalTable : NewOrder
+  TableWordsJournal : NewOrder
+  TableJournalWords : NewOrder
+  JournalWordsTable : NewOrder
+  JournalTableWords : NewOrder
+
+-- the words of these options in this order
+abbrev pub in_order : NewOrder → Text → Text → Text → List Text
+in_order WordsTableJournal words table journal = codes "--words" ∷ words ∷ codes "--table" ∷ table ∷ codes "--journal" ∷ journal ∷ []
+in_order WordsJournalTable words table journal = codes "--words" ∷ words ∷ codes "--journal" ∷ journal ∷ codes "--table" ∷ table ∷ []
+in_order TableWordsJournal words table journal = codes "--table" ∷ table ∷ codes "--words" ∷ words ∷ codes "--journal" ∷ journal ∷ []
+in_order TableJournalWords words table journal = codes "--table" ∷ table ∷ codes "--journal" ∷ journal ∷ codes "--words" ∷ words ∷ []
+in_order JournalWordsTable words table journal = codes "--journal" ∷ journal ∷ codes "--words" ∷ words ∷ codes "--table" ∷ table ∷ []
+in_order JournalTableWords words table journal = codes "--journal" ∷ journal ∷ codes "--table" ∷ table ∷ codes "--words" ∷ words ∷ []
+
+-- `NAME new IMAGE --words N --table FILE` asks to make exactly this image with a journal of 256 entries; with `--journal C`, with one of C
+-- entries; in any order of the options
 abbrev pub TakesNews : Type 0
-TakesNews = (name image words table : Text) → IsNoFlag image → IsNoFlag words → IsNoFlag table
-    → (request_of_words (name ∷ codes "new" ∷ image ∷ codes "--words" ∷ words ∷ codes "--table" ∷ table ∷ []) ≡ Some (ToMake image words table))
-    × (request_of_words (name ∷ codes "new" ∷ image ∷ codes "--table" ∷ table ∷ codes "--words" ∷ words ∷ []) ≡ Some (ToMake image words table))
+TakesNews = (name image words table journal : Text) → IsNoFlag image → IsNoFlag words → IsNoFlag table → IsNoFlag journal
+    → (request_of_words (name ∷ codes "new" ∷ image ∷ codes "--words" ∷ words ∷ codes "--table" ∷ table ∷ [])
+    ≡ Some (ToMake image words (codes "256") table))
+    × (request_of_words (name ∷ codes "new" ∷ image ∷ codes "--table" ∷ table ∷ codes "--words" ∷ words ∷ [])
+    ≡ Some (ToMake image words (codes "256") table))
+    × ((order : NewOrder) → request_of_words (name ∷ codes "new" ∷ image ∷ in_order order words table journal) ≡ Some (ToMake image words journal table))
 
 -- `NAME try SCRIPT --table FILE` asks to try exactly this script on a card of 8192 words; with `--words N`, in either order of the
 -- options, on one of N words
@@ -267,7 +295,7 @@ TakesRunLines = (name : Text) (words : List Text) → request_of_words (name ∷
 
 -- what the action does
 abbrev pub request_by : Action → CommandLineRequest
-request_by (New image words table) = ToMake image.now words.now table.now
+request_by (New image words journal table) = ToMake image.now words.now journal.now table.now
 request_by (Run image script) = ToRun image.now script.now
 request_by (Dump image) = ToTell image.now
 request_by (Try script words table) = ToTry script.now words.now table.now

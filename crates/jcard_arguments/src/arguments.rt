@@ -18,10 +18,11 @@ use std::alloc::{AllocError, Global};
 /// What the words ask for.
 #[derive(Debug, PartialEq, Eq, Drop)]
 pub enum Action<'a> {
-    /// An image with so many words is made, from the platform table of this name.
+    /// An image with so many words and a journal of so many entries is made, from the platform table of this name.
     New {
         image: &'a str,
         words: &'a str,
+        journal: &'a str,
         table: &'a str,
     },
     /// The script is carried out, on the card of the image.
@@ -133,14 +134,15 @@ fn with_command<'a>(program: Command<'a>, command: Command<'a>) -> Result<Comman
     program.subcommand(command)
 }
 
-// `new IMAGE --words N --table FILE`.
+// `new IMAGE --words N --table FILE [--journal C]`.
 fn new_command<'a>(alloc: Global) -> Result<Command<'a>, AllocError>
     ensures { IfOk result (λ c. app_of c ≡ new_grammar) }
 {
     Command::new(alloc, "new")
         .arg(operand(alloc, "image"))?
         .arg(given_option(alloc, "words"))?
-        .arg(given_option(alloc, "table"))
+        .arg(given_option(alloc, "table"))?
+        .arg(free_option(alloc, "journal"))
 }
 
 // `run IMAGE SCRIPT`.
@@ -283,9 +285,14 @@ fn new_asked<'a>(operands: &ArgMatches<'a>) -> Option<Action<'a>>
     let image = operands.get_str("image")?;
     let words = operands.get_str("words")?;
     let table = operands.get_str("table")?;
+    let journal = match operands.get_str("journal") {
+        Some(journal) => journal,
+        None => "256",
+    };
     Some(Action::New {
         image,
         words,
+        journal,
         table,
     })
 }

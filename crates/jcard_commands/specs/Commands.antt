@@ -17,7 +17,7 @@ use Rattle.jcard_commands.specs.Trials.{IsTrial}
 -- is bad
 abbrev pub IsDone : Option CommandLineRequest → Result Unit Fault → List ℕ → List FileDeed → Type 0
 IsDone None ended text deeds = (ended ≡ Err BadCommandLine) × (text ≡ []) × (deeds ≡ [])
-IsDone (Some (ToMake image words table)) ended text deeds = IsNew image words table ended deeds × (text ≡ [])
+IsDone (Some (ToMake image words journal table)) ended text deeds = IsNew image words journal table ended deeds × (text ≡ [])
 IsDone (Some (ToRun image script)) ended text deeds = IsRun image script ended text deeds
 IsDone (Some (ToTell image)) ended text deeds = IsDump image ended text deeds
 IsDone (Some (ToTry script words table)) ended text deeds = IsTrial script words table ended text deeds

@@ -97,8 +97,9 @@ fn act<'n, D: Disk, W: TextOut>(
         Action::New {
             image,
             words,
+            journal,
             table,
-        } => make_image(disk, image, words, table),
+        } => make_image(disk, image, words, journal, table),
         Action::Run { image, script } => run_file(disk, image, script, out),
         Action::Dump { image } => dump_image(disk, image, out),
         Action::Try {

@@ -9,7 +9,7 @@ use Rattle.jcard_faults.specs.declared.fault.Fault.{Fault}
 use Rattle.jcard_faults.specs.declared.fault.Fault.TheVariants.{BadCommandLine, NoMemory, BadWords, BadTable, ImageTooSmall, CannotRead, CannotOpenToWrite}
 use Rattle.jcard_faults.specs.declared.fault.Fault.TheVariants.{CannotWrite, ImageInUse, BadImage, BadCommand, ScriptTooLong, WriteFailed}
 use Rattle.jcard_faults.specs.declared.fault.Fault.TheVariants.{Down, NoCommand, TooManyCuts, NotAllOrNothing, CannotInclude, RowsFailed}
-use Rattle.jcard_faults.specs.declared.fault.Fault.TheVariants.{BadCut, BadPart, CutMissing, CutTwice, OtherPart, OtherSweep}
+use Rattle.jcard_faults.specs.declared.fault.Fault.TheVariants.{BadCut, BadJournal, BadPart, CutMissing, CutTwice, OtherPart, OtherSweep}
 
 -- the exit status
 abbrev pub status_of : Result Unit Fault → ℕ
@@ -17,6 +17,7 @@ status_of (Ok done) = 0
 status_of (Err BadCommandLine) = 2
 status_of (Err NoMemory) = 1
 status_of (Err BadWords) = 1
+status_of (Err BadJournal) = 1
 status_of (Err (BadTable line)) = 1
 status_of (Err ImageTooSmall) = 1
 status_of (Err (CannotRead path)) = 1
@@ -66,6 +67,7 @@ abbrev pub line_of : Fault → List ℕ
 line_of BadCommandLine = codes "jcard: bad command line\n"
 line_of NoMemory = codes "jcard: no memory\n"
 line_of BadWords = codes "jcard: words must be 4096 to 65535\n"
+line_of BadJournal = codes "jcard: journal must be 16 to 1024\n"
 line_of (BadTable line) = codes "jcard: bad table line " ++ decimal line ++ codes "\n"
 line_of ImageTooSmall = codes "jcard: image too small\n"
 line_of (CannotRead path) = unread_text path.now

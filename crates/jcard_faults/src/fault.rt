@@ -34,6 +34,8 @@ pub enum Fault<'a> {
     NoMemory,
     /// An image cannot have so many words.
     BadWords,
+    /// A journal cannot have so many entries.
+    BadJournal,
     /// This line of the platform table, counted from 1, is bad; or 0.
     BadTable(u16),
     /// The platform table and the objects of the runtime environment don't fit.
@@ -112,6 +114,7 @@ fn write_line<W: TextOut>(fault: Fault, out: &mut W) -> Result<(), WriteFailed>
         Fault::BadCommandLine => write_all(out, b"jcard: bad command line\n"),
         Fault::NoMemory => write_all(out, b"jcard: no memory\n"),
         Fault::BadWords => write_all(out, b"jcard: words must be 4096 to 65535\n"),
+        Fault::BadJournal => write_all(out, b"jcard: journal must be 16 to 1024\n"),
         Fault::BadTable(n) => write_parts(
             out,
             b"jcard: bad table line ",

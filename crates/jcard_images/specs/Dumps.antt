@@ -8,7 +8,7 @@ use Rattle.jc_card.specs.declared.inventory.Inventory.{Inventory}
 use Rattle.jcard_script.specs.Texts.{IsCutOf}
 use Rattle.jcard_files.specs.FileDeeds.{FileDeed, ClosesImage, ReadsImage, untouched}
 use Rattle.jcard_files.specs.Images.{IsNotOpened}
-use Rattle.jcard_images.specs.Listings.{Lines, count_line, line, listing_of, then_lines}
+use Rattle.jcard_images.specs.Listings.{Lines, count_line, journal_line, line, listing_of, then_lines}
 use Rattle.jcard_images.specs.declared.listing.ListingFault.{ListingFault}
 use Rattle.jcard_images.specs.declared.listing.ListingFault.TheVariants.{Unreadable, NotWritten}
 use Rattle.jcard_faults.specs.declared.fault.Damage.{Damage}
@@ -23,10 +23,13 @@ damage_of BadMagic = Magic
 damage_of BadVersion = Version
 damage_of BadSize = Size
 
+-- the lines of the numbers of words and of entries
+abbrev pub sizes_of : Inventory → List ℕ
+sizes_of found = count_line (codes "words ") found.words ++ journal_line found.journal found.capacity
+
 -- the four lines of an inventory
 abbrev pub lines_of : Inventory → List ℕ
-lines_of found = (count_line (codes "words ") found.words ++ count_line (codes "journal ") found.journal)
-    ++ (count_line (codes "packages ") found.packages ++ count_line (codes "applets ") found.applets)
+lines_of found = sizes_of found ++ (count_line (codes "packages ") found.packages ++ count_line (codes "applets ") found.applets)
 
 -- jcard dump IMAGE: an inventory, then the packages and the applets
 abbrev pub dump_text : List ℕ → Lines

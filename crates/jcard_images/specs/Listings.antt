@@ -16,6 +16,10 @@ use Rattle.jcard_images.specs.declared.listing.ListingFault.TheVariants.{Unreada
 abbrev pub count_line : List ℕ → ℕ → List ℕ
 count_line name n = name ++ decimal n ++ codes "\n"
 
+-- the line of a journal: how many entries count, and how many there can be
+abbrev pub journal_line : ℕ → ℕ → List ℕ
+journal_line count capacity = (codes "journal " ++ decimal count ++ codes " of ") ++ count_line [] capacity
+
 -- how a line begins that names one of several: what it is, its number, its AID in hexadecimal
 abbrev pub name_text : List ℕ → ℕ → List ℕ → List ℕ
 name_text name n aid = (name ++ decimal n ++ codes " ") ++ (encode_upper aid ++ codes " ")

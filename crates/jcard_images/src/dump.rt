@@ -6,22 +6,23 @@ ghost use Rattle.jcard_script.specs.Texts.{AppendsCut};
 ghost use Rattle.jc_words.specs.Count.{failures_after};
 ghost use Rattle.jcard_files.specs.FileDeeds.{FileDeed};
 ghost use Rattle.jcard_faults.specs.Faults.{is_unwritten};
-ghost use Rattle.jcard_images.specs.Dumps.{IsDump, IsTold, lines_of, told_listing_fault, damage_of};
-ghost use Rattle.jcard_images.specs.Listings.{Tells, applet_text, count_line, line, numbered_lines, package_text, then_lines};
+ghost use Rattle.jcard_images.specs.Dumps.{IsDump, IsTold, lines_of, sizes_of, told_listing_fault, damage_of};
+ghost use Rattle.jcard_images.specs.Listings.{Tells, applet_text, count_line, journal_line, line, numbered_lines, package_text, then_lines};
 ghost use Rattle.jcard_images.specs.Listings.{is_not_written};
 
 use crate::listing::{ListingFault, write_applets, write_count, write_packages};
+use itoa::Buffer;
 use jc_words::{ImageFault, WordStore};
 use jcard_faults::fault::{Damage, Fault};
 use jcard_files::closed_store::ClosedStore;
 use jcard_files::disk::Disk;
 use jcard_script::card::inventory::Inventory;
-use jcard_script::streams::{TextOut, WriteFailed};
+use jcard_script::streams::{TextOut, WriteFailed, write_parts};
 
 /// A count and what stands before it in its line.
 type Count<'a> = (&'a [u8], u16);
 
-/// `jcard dump IMAGE`: prints what the image of this name holds: how many words, entries of its journal,
+/// `jcard dump IMAGE`: prints what the image of this name holds: how many words, entries of its journal and of how many,
 /// packages and applets, a line each, and then a line of each package and of each applet. Nothing is recovered.
 pub fn dump_image<'n, D: Disk, W: TextOut>(
     disk: &mut D,
@@ -106,12 +107,35 @@ fn write_inventory<W: TextOut>(found: Inventory, out: &mut W) -> Result<(), Writ
         (λ _. AppendsCut (W.contents out.old) (W.contents out.new) (lines_of found)) }
     ensures count { W.failures out.new ≡ failures_after (W.failures out.old) (is_err result) }
 {
-    write_counts(out, (b"words ", found.words), (b"journal ", found.journal))?;
+    write_sizes(found, out)?;
     write_counts(
         out,
         (b"packages ", found.packages),
         (b"applets ", found.applets),
     )
+}
+
+// Writes how many words there are, and how many entries of the journal.
+fn write_sizes<W: TextOut>(found: Inventory, out: &mut W) -> Result<(), WriteFailed>
+    ensures text { MatchResult result
+        (λ _. Appends (W.contents out.old) (W.contents out.new) (sizes_of found))
+        (λ _. AppendsCut (W.contents out.old) (W.contents out.new) (sizes_of found)) }
+    ensures count { W.failures out.new ≡ failures_after (W.failures out.old) (is_err result) }
+{
+    write_count(out, b"words ", found.words)?;
+    write_journal(out, found.journal, found.capacity)
+}
+
+// Writes how many entries of the journal count, and how many there can be.
+fn write_journal<W: TextOut>(out: &mut W, count: u16, capacity: u16) -> Result<(), WriteFailed>
+    ensures text { MatchResult result
+        (λ _. Appends (W.contents out.old) (W.contents out.new) (journal_line count capacity))
+        (λ _. AppendsCut (W.contents out.old) (W.contents out.new) (journal_line count capacity)) }
+    ensures count { W.failures out.new ≡ failures_after (W.failures out.old) (is_err result) }
+{
+    let mut digits = Buffer::new();
+    write_parts(out, b"journal ", digits.format(count).as_bytes(), b" of ")?;
+    write_count(out, b"", capacity)
 }
 
 // Writes the lines of two counts.

@@ -5,11 +5,12 @@ ghost use Rattle.jcard_images.specs.NewImages.{IsLaidInMemory, IsNewImageInMemor
 
 use crate::new_image::format_fault;
 use jc_words::MemStore;
+use jc_words::layout::USUAL_CAPACITY;
 use jcard_faults::fault::Fault;
 use jcard_script::card::formatting::format;
 use std::alloc::{AllocError, Global};
 
-/// A new image in memory.
+/// A new image in memory, with the usual journal.
 pub fn new_image<'a>(alloc: Global, count: u16, table: &[u8]) -> Result<MemStore, Fault<'a>>
     requires enough { least_size ≤ count }
     requires table { IsTable table.now }
@@ -28,7 +29,7 @@ fn laid_in<'a>(store: MemStore, table: &[u8]) -> Result<MemStore, Fault<'a>>
     requires table { IsTable table.now }
     ensures { IsLaidInMemory (length store.words) table.now result }
 {
-    let (store, made) = format(store, table);
+    let (store, made) = format(store, table, USUAL_CAPACITY);
     match made {
         // What it took to make the image does not count as writes of the card.
         Ok(()) => Ok(MemStore::of(store.into_words())),

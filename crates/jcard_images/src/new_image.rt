@@ -1,38 +1,50 @@
 //! Making an image.
 ghost use Rattle.std.specs.Prelude.{ℕ, ◌≡◌, ◌≤◌, List, [], None, false, IfSome, length, replicate};
 ghost use Rattle.jc_words.specs.Layout.{least_size};
+ghost use Rattle.jc_words.specs.Image.{IsCapacity};
 ghost use Rattle.jc_words.specs.Refusals.{no_refusals};
 ghost use Rattle.jc_words.specs.Stores.{store_value};
 ghost use Rattle.jcard_files.specs.FileDeeds.{FileDeed};
-ghost use Rattle.jcard_images.specs.NewImages.{IsFormatFault, IsLaid, IsMadeFrom, IsNew, IsTable, IsWordCount};
+ghost use Rattle.jcard_images.specs.NewImages.{IsFormatFault, IsJournalCapacity, IsLaid, IsMadeFrom, IsNew, IsNumberAmong, IsTable, IsWordCount};
 
 use jc_platform::fault::TableFault;
 use jc_platform::read::read_table;
 use jc_words::WordStore;
-use jc_words::layout::LEAST_SIZE;
+use jc_words::layout::{LEAST_CAPACITY, LEAST_SIZE, MOST_CAPACITY};
 use jcard_faults::fault::Fault;
 use jcard_files::closed_store::ClosedStore;
 use jcard_files::disk::Disk;
 use jcard_files::reading::text_of;
 use jcard_script::card::formatting::{FormatFault, format};
 
-/// Makes an image of this name with so many words, a decimal number, from the platform table in
-/// the file of the last name. A file that is there is replaced, but only where the number and the
-/// table are good and nobody has it open.
+// How many words an image has, and how many entries its journal can have.
+#[derive(Clone, Copy, Drop)]
+struct Extent {
+    count: u16,
+    capacity: u16,
+}
+
+/// Makes an image of this name with so many words and a journal of so many entries, decimal numbers,
+/// from the platform table in the file of the last name. A file that is there is replaced, but only
+/// where the numbers and the table are good and nobody has it open.
 pub fn make_image<'n, D: Disk>(
     disk: &mut D,
     image: &'n str,
     words: &str,
+    journal: &str,
     table: &'n str,
 ) -> Result<(), Fault<'n>>
-    ensures { (deeds : List FileDeed) × IsNew image.now words.now table.now result deeds
+    ensures { (deeds : List FileDeed) × IsNew image.now words.now journal.now table.now result deeds
         × D.does disk.old deeds disk.new }
 {
     let Some(count) = word_count(words) else {
         return Err(Fault::BadWords);
     };
+    let Some(capacity) = journal_capacity(journal) else {
+        return Err(Fault::BadJournal);
+    };
     match text_of(disk, table) {
-        Ok(text) => make_from(disk, image, count, &text),
+        Ok(text) => make_from(disk, image, Extent { count, capacity }, &text),
         Err(fault) => Err(fault),
     }
 }
@@ -42,33 +54,51 @@ pub fn word_count(text: &str) -> Option<u16>
     ensures some { IfSome result (λ count. IsWordCount text.now count) }
     ensures none { result ≡ None → (count : ℕ) → IsWordCount text.now count → ⊥ }
 {
+    number_among(text, LEAST_SIZE, u16::MAX)
+}
+
+/// The number of entries that a text tells, if a journal can have so many.
+pub fn journal_capacity(text: &str) -> Option<u16>
+    ensures some { IfSome result (λ capacity. IsJournalCapacity text.now capacity) }
+    ensures none { result ≡ None → (capacity : ℕ) → IsJournalCapacity text.now capacity → ⊥ }
+{
+    number_among(text, LEAST_CAPACITY, MOST_CAPACITY)
+}
+
+// The number that a text of decimal digits tells, if it is neither below the least nor above the most.
+fn number_among(text: &str, least: u16, most: u16) -> Option<u16>
+    ensures some { IfSome result (λ n. IsNumberAmong least most text.now n) }
+    ensures none { result ≡ None → (n : ℕ) → IsNumberAmong least most text.now n → ⊥ }
+{
     if text.starts_with('+') {
         return None;
     }
     match text.parse::<u16>() {
-        Ok(count) if count >= LEAST_SIZE => Some(count),
+        Ok(n) if n >= least && n <= most => Some(n),
         _ => None,
     }
 }
 
-// Makes an image of this name and size from this text.
+// Makes an image of this name, with so many words and such a journal, from this text.
 fn make_from<'n, D: Disk>(
     disk: &mut D,
     image: &'n str,
-    count: u16,
+    extent: Extent,
     text: &[u8],
 ) -> Result<(), Fault<'n>>
-    requires { least_size ≤ count }
-    ensures { (deeds : List FileDeed) × IsMadeFrom image.now count text.now result deeds
+    requires size { least_size ≤ extent.count }
+    requires journal { IsCapacity extent.capacity }
+    ensures { (deeds : List FileDeed)
+        × IsMadeFrom image.now extent.count extent.capacity text.now result deeds
         × D.does disk.old deeds disk.new }
 {
     match read_table(text) {
         Ok(_) => (),
         Err(TableFault::BadTable(line)) => return Err(Fault::BadTable(line)),
     }
-    match disk.make_image(image, count) {
+    match disk.make_image(image, extent.count) {
         Ok(store) => {
-            let (store, ended) = lay_image(store, image, text);
+            let (store, ended) = lay_image(store, image, text, extent.capacity);
             disk.close_image(image, ClosedStore::new(store));
             ended
         }
@@ -81,17 +111,19 @@ fn lay_image<'a, S: WordStore + Drop>(
     store: S,
     image: &'a str,
     text: &[u8],
+    capacity: u16,
 ) -> (S, Result<(), Fault<'a>>)
     requires enough { least_size ≤ length (S.words store) }
     requires zeros { S.words store ≡ replicate (length (S.words store)) 0 }
     requires up { S.down store ≡ false }
     requires none_passed { S.passed store ≡ 0 }
     requires none_refused { S.refusals store ≡ no_refusals }
+    requires journal { IsCapacity capacity }
     requires table { IsTable text.now }
-    ensures { IsLaid image.now (length (S.words store)) text.now result.1
+    ensures { IsLaid image.now (length (S.words store)) capacity text.now result.1
         (store_value S.words S.down S.passed S.refusals result.0) }
 {
-    let (store, made) = format(store, text);
+    let (store, made) = format(store, text, capacity);
     match made {
         Ok(()) => (store, Ok(())),
         Err(cause) => (store, Err(format_fault(image, cause))),
@@ -105,6 +137,7 @@ pub(crate) fn format_fault(image: &str, cause: FormatFault) -> Fault<'_>
     match cause {
         FormatFault::StoreDown => Fault::CannotWrite(image),
         FormatFault::BadSize => Fault::BadWords,
+        FormatFault::BadCapacity => Fault::BadJournal,
         FormatFault::BadTable(line) => Fault::BadTable(line),
         FormatFault::TooSmall => Fault::ImageTooSmall,
     }

@@ -18,6 +18,7 @@ pub struct Left {
 #[derive(Drop)]
 pub struct Cut {
     pub standing: Standing,
+    /// The answers of the probe and, where objects are asked for, behind them the cells that changed.
     pub answers: Vec<u8>,
     pub recoveries: Recoveries,
 }

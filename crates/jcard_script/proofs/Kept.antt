@@ -1,6 +1,7 @@
 -- What a power up leaves that fails.
-use Rattle.std.proofs.Common.{◌≡◌, length, ◌⊎◌, inl, inr, false, ap, refl, sym, subst}
+use Rattle.std.proofs.Common.{◌≡◌, ◌⊎◌, inl, inr, false, ap, refl, sym, subst}
 use Rattle.jc_words.specs.Stores.{FuseStoreValue}
+use Rattle.jc_commit.specs.Image.{limit_of}
 use Rattle.jc_commit.specs.State.{recovered_journal}
 use Rattle.jc_card.specs.PowerUp.{PowerUpRefuses, RefusalLeaves, IsFoundFirst, IsFoundAfter}
 use Rattle.jc_card.specs.declared.power_up.PowerFault.{PowerFault as Fault}
@@ -9,7 +10,7 @@ use Rattle.jcard_script.specs.ScriptStates.{ScriptState, Down, IsSessionStore, F
 
 -- what is known of a store over which a power up found the fault
 abbrev pub Found : Fault → FuseStoreValue → FuseStoreValue → Type 0
-Found fault before after = PowerUpRefuses fault before.words × RefusalLeaves fault before.words after.words × (length after.words ≡ length before.words)
+Found fault before after = PowerUpRefuses fault before.words × RefusalLeaves fault before.words after.words × (limit_of after.words ≡ limit_of before.words)
     × (IsFoundFirst fault → after ≡ before)
     × (IsFoundAfter fault → (after.down ≡ false) × (after.passed ≡ (recovered_journal before.words before.passed before.refusals).passed)
     × (after.refusals ≡ before.refusals))

@@ -1,10 +1,10 @@
 -- How a session stands, and what a power up makes of it.
-use Rattle.std.specs.Prelude.{ℕ, ◌≡◌, List, length, true, false, Some, None}
+use Rattle.std.specs.Prelude.{ℕ, ◌≡◌, List, true, false, Some, None}
 use Rattle.jc_words.specs.Count.{saturating_count}
 use Rattle.jc_words.specs.Refusals.{refused_once, with_fuse_at}
 use Rattle.jc_words.specs.Stores.{FuseStoreValue, with_fuse_armed}
-use Rattle.jc_commit.specs.Image.{IsGoodLog, StillRecovers, recovered_of}
-use Rattle.jc_commit.specs.Replay.{IsPartOfReplay}
+use Rattle.jc_commit.specs.Image.{IsGoodLog, limit_of, recovered_of}
+use Rattle.jc_commit.specs.Migration.{IsPartOfOpening, StillOpens}
 use Rattle.jc_commit.specs.State.{recovered_journal}
 use Rattle.jc_heap.specs.Heap.{HeapView, heap_of, heap_view, heap_at_rest}
 use Rattle.jc_heap.specs.Image.{IsWellFormed}
@@ -35,7 +35,7 @@ pub record IsStoreOf (heap : HeapView) (store : FuseStoreValue) : Type 0 where
   pub good : IsGoodLog store.words
   pub laid : IsWellFormed (recovered_of store.words)
   pub durable : heap_of (recovered_of store.words) ≡ heap.durable
-  pub size : length store.words ≡ heap.size
+  pub size : limit_of store.words ≡ heap.size
   pub down : store.down ≡ heap.down
   pub passed : store.passed ≡ heap.passed
   pub refusals : store.refusals ≡ heap.refusals
@@ -50,11 +50,11 @@ IsSessionStore (Down held) store = store ≡ held
 -- this one would have left
 abbrev pub PowersUp : FuseStoreValue → ScriptState → Type 0
 PowersUp before (Up card) = IsMade before.words × (card.memory.heap ≡ heap_view (recovered_journal before.words before.passed before.refusals)
-    (length before.words)) × IsCleared card.memory.ram × (card.load ≡ None)
+    (limit_of before.words)) × IsCleared card.memory.ram × (card.load ≡ None)
     × IsAtReset (heap_of (recovered_of before.words)) card
-PowersUp before (Down after) = PowerUpRefuses StoreDown before.words × StillRecovers before.words after.words × (after.down ≡ true)
+PowersUp before (Down after) = PowerUpRefuses StoreDown before.words × StillOpens before.words after.words × (after.down ≡ true)
     × (after.refusals ≡ refused_once false after.passed before.refusals)
-    × IsPartOfReplay before.words after.words before.passed after.passed
+    × IsPartOfOpening before.words after.words before.passed after.passed
 
 -- the power is back, in the store below too
 abbrev pub with_power : FuseStoreValue → FuseStoreValue
@@ -66,7 +66,7 @@ pub record FailsUp (before : FuseStoreValue) (fault : Fault) (after : FuseStoreV
   pub cause : PowerUpRefuses fault before.words
   pub other : fault ≡ StoreDown → ⊥
   pub stands : RefusalLeaves fault before.words after.words
-  pub size : length after.words ≡ length before.words
+  pub size : limit_of after.words ≡ limit_of before.words
   pub up : after.down ≡ false
   pub refusals : after.refusals ≡ before.refusals
   pub untouched : IsFoundFirst fault → after ≡ with_power before

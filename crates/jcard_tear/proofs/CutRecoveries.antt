@@ -1,17 +1,18 @@
 -- What recoveries leave that are cut one after the other: what one leaves that is cut after as many writes as one of them.
-use Rattle.std.specs.Prelude.{if◌then◌else◌, Bool}
-use Rattle.std.proofs.Common.{◌≡◌, ◌≢◌, ◌∙◌, ◌<◌, ◌≤◌, ℕ, zero, suc, ◌+◌, max, true, List, [], ◌∷◌, ◌++◌, length, take, set, get_or, refl, sym, ap}
-use Rattle.std.proofs.Common.{arith, subst, get_or-set_other, get_or-set_same, eq-eqb, false, ⊎_elim}
+use Rattle.std.proofs.Common.{◌≡◌, ◌≢◌, ◌⊎◌, ◌∙◌, ◌<◌, ◌≤◌, ℕ, zero, suc, ◌+◌, max, true, List, [], ◌∷◌, length, take, set, get_or, refl, sym, ap, ap₂}
+use Rattle.std.proofs.Common.{arith, subst, get_or-set_other, get_or-set_same, false, inl, inr, slice_index, ⊎_elim}
 use Rattle.std.proofs.Math.Nat.{suc-max-suc}
 use Rattle.std.proofs.lemmas.List.{length-set, set-get_or}
 use Rattle.std.proofs.lemmas.Bool.{cases_lt, false≢true}
-use Rattle.std.specs.Prelude.{All, IsTrue, MatchBool, MatchOption, Option, Some, None, ◌↔◌}
-use Rattle.jc_words.specs.Layout.{count_address}
-use Rattle.jc_commit.specs.Image.{IsGoodLog, IsPlace, address_at, capacity, count_of, old_at, with_words}
+use Rattle.std.specs.Prelude.{All, Bool, IsTrue, MatchBool, MatchOption, Option, Some, None, ◌↔◌}
+use Rattle.jc_words.specs.Image.{log_of}
+use Rattle.jc_words.specs.Layout.{addresses_start, capacity_address, count_address, deselect_end_address, journal_address, top_address, version_address}
+use Rattle.jc_words.specs.declared.log.Log.{Log}
+use Rattle.jc_commit.specs.Image.{IsGoodLog, IsPlace, address_at, count_of, is_log, limit_of, old_at, with_words}
 use Rattle.jc_commit.specs.Replay.{after_replays, replay_writes, torn_replay, write_backs}
-use Rattle.jc_commit.proofs.Parts.{SameLog, address_same, old_same, same_log-set, so_many_writes, stopped_before}
+use Rattle.jc_commit.proofs.Parts.{SameLog, address_same, old_same, replay_none, same_log-set, so_many_writes, stopped_before}
 use Rattle.jc_commit.proofs.TornWrites.{stops}
-use Rattle.jc_commit.proofs.Words.{readable}
+use Rattle.jc_commit.proofs.Words.{bounds_of, is_log-readable, log-same, readable}
 use Rattle.jcard_outcomes.specs.declared.standing.Left.{Left}
 use Rattle.jcard_tear.specs.Recoveries.{AreCutAfter, AreTheSame, ComesToAnother, ComesToTheSame, IsFirstDifference, IsSameLeft, MakeNoDifference, NamesEachOnce}
 use Rattle.jcard_tear.specs.Runs.{IsLeft}
@@ -22,63 +23,63 @@ none : (n : ℕ) (w : List ℕ) → with_words w (take n []) ≡ w
 none zero w = refl
 none (suc n) w = refl
 
-length-with : (log w : List ℕ) (k n : ℕ) → length (with_words w (take n (write_backs log k))) ≡ length w
-length-with log w zero n = ap (λ (u : List ℕ). length u) (none n w)
-length-with log w (suc k) zero = refl
-length-with log w (suc k) (suc n) =
-    length-with log (set w (address_at log k) (old_at log k)) k n ∙ length-set w (address_at log k) (old_at log k)
+length-with : (l : Log) (log w : List ℕ) (k n : ℕ) → length (with_words w (take n (write_backs l log k))) ≡ length w
+length-with l log w zero n = ap (λ (u : List ℕ). length u) (none n w)
+length-with l log w (suc k) zero = refl
+length-with l log w (suc k) (suc n) =
+    length-with l log (set w (address_at l log k) (old_at l log k)) k n ∙ length-set w (address_at l log k) (old_at l log k)
 
 -- a word stays that none of the first k entries names
-kept : (log w : List ℕ) (k n a : ℕ) → ((j : ℕ) → j < k → address_at log j ≢ a)
-    → get_or (with_words w (take n (write_backs log k))) a 0 ≡ get_or w a 0
-kept log w zero n a other = ap (λ (u : List ℕ). get_or u a 0) (none n w)
-kept log w (suc k) zero a other = refl
-kept log w (suc k) (suc n) a other =
-    kept log (set w (address_at log k) (old_at log k)) k n a (λ j h. other j (omega arith))
-    ∙ get_or-set_other w (address_at log k) a (old_at log k) 0 (λ e. other k (omega arith) (sym e))
+kept : (l : Log) (log w : List ℕ) (k n a : ℕ) → ((j : ℕ) → j < k → address_at l log j ≢ a)
+    → get_or (with_words w (take n (write_backs l log k))) a 0 ≡ get_or w a 0
+kept l log w zero n a other = ap (λ (u : List ℕ). get_or u a 0) (none n w)
+kept l log w (suc k) zero a other = refl
+kept l log w (suc k) (suc n) a other =
+    kept l log (set w (address_at l log k) (old_at l log k)) k n a (λ j h. other j (omega arith))
+    ∙ get_or-set_other w (address_at l log k) a (old_at l log k) 0 (λ e. other k (omega arith) (sym e))
 
 -- old values are written back, some of them again
-again : (log w : List ℕ) (k n m : ℕ) → ((j : ℕ) → j < k → address_at log j < length w)
-    → ((i j : ℕ) → i < j → j < k → address_at log i ≢ address_at log j)
-    → with_words (with_words w (take n (write_backs log k))) (take m (write_backs log k)) ≡ with_words w (take (max n m) (write_backs log k))
-again log w zero n m within once =
+again : (l : Log) (log w : List ℕ) (k n m : ℕ) → ((j : ℕ) → j < k → address_at l log j < length w)
+    → ((i j : ℕ) → i < j → j < k → address_at l log i ≢ address_at l log j)
+    → with_words (with_words w (take n (write_backs l log k))) (take m (write_backs l log k)) ≡ with_words w (take (max n m) (write_backs l log k))
+again l log w zero n m within once =
     none m (with_words w (take n [])) ∙ none n w ∙ sym (none (max n m) w)
-again log w (suc k) zero m within once =
+again l log w (suc k) zero m within once =
     let whole : m ≡ max 0 m = omega arith in
-    ap (λ (i : ℕ). with_words w (take i (write_backs log (suc k)))) whole
-again log w (suc k) (suc n) zero within once =
+    ap (λ (i : ℕ). with_words w (take i (write_backs l log (suc k)))) whole
+again l log w (suc k) (suc n) zero within once =
     let whole : suc n ≡ max (suc n) 0 = omega arith in
-    ap (λ (i : ℕ). with_words w (take i (write_backs log (suc k)))) whole
-again log w (suc k) (suc n) (suc m) within once =
-    let a : ℕ = address_at log k in
-    let v : ℕ = old_at log k in
+    ap (λ (i : ℕ). with_words w (take i (write_backs l log (suc k)))) whole
+again l log w (suc k) (suc n) (suc m) within once =
+    let a : ℕ = address_at l log k in
+    let v : ℕ = old_at l log k in
     let first : List ℕ = set w a v in
-    let some : List ℕ = with_words first (take n (write_backs log k)) in
-    let there : get_or some a 0 ≡ v = kept log first k n a (λ j h. once j k h (omega arith)) ∙ get_or-set_same w a v 0 (within k (omega arith)) in
+    let some : List ℕ = with_words first (take n (write_backs l log k)) in
+    let there : get_or some a 0 ≡ v = kept l log first k n a (λ j h. once j k h (omega arith)) ∙ get_or-set_same w a v 0 (within k (omega arith)) in
     let same : set some a v ≡ some = ap (λ (x : ℕ). set some a x) (sym there) ∙ set-get_or some a 0 in
     let long : length first ≡ length w = length-set w a v in
-    ap (λ (u : List ℕ). with_words u (take m (write_backs log k))) same
-    ∙ again log first k n m (λ j h. subst (λ (l : ℕ). address_at log j < l) (sym long) (within j (omega arith))) (λ i j h below. once i j h (omega arith))
-    ∙ ap (λ (i : ℕ). with_words w (take i (write_backs log (suc k)))) (sym (suc-max-suc n m))
+    ap (λ (u : List ℕ). with_words u (take m (write_backs l log k))) same
+    ∙ again l log first k n m (λ j h. subst (λ (i : ℕ). address_at l log j < i) (sym long) (within j (omega arith)))
+    (λ i j h below. once i j h (omega arith))
+    ∙ ap (λ (i : ℕ). with_words w (take i (write_backs l log (suc k)))) (sym (suc-max-suc n m))
 
 -- ---- the entries stay
 
-same_log : (w u : List ℕ) (k n : ℕ) → length u ≡ length w → ((j : ℕ) → j < k → IsPlace (length w) (address_at w j)) → SameLog w u
-    → SameLog w (with_words u (take n (write_backs w k)))
-same_log w u zero n long places same = subst (λ (v : List ℕ). SameLog w v) (sym (none n u)) same
-same_log w u (suc k) zero long places same = same
-same_log w u (suc k) (suc n) long places same =
-    let a : ℕ = address_at w k in
-    let place : IsPlace (length u) a = subst (λ (l : ℕ). IsPlace l a) (sym long) (places k (omega arith)) in
-    same_log w (set u a (old_at w k)) k n (length-set u a (old_at w k) ∙ long) (λ j h. places j (omega arith))
-    (same_log-set w u (set u a (old_at w k)) a (old_at w k) (readable (length u) a place) refl same)
+same_log : (l : Log) (w u : List ℕ) (k n : ℕ) → ((j : ℕ) → j < k → is_log l (address_at l w j) ≡ false) → SameLog l w u
+    → SameLog l w (with_words u (take n (write_backs l w k)))
+same_log l w u zero n apart same = subst (λ (v : List ℕ). SameLog l w v) (sym (none n u)) same
+same_log l w u (suc k) zero apart same = same
+same_log l w u (suc k) (suc n) apart same =
+    let a : ℕ = address_at l w k in
+    same_log l w (set u a (old_at l w k)) k n (λ j h. apart j (omega arith))
+    (same_log-set l w u (set u a (old_at l w k)) a (old_at l w k) (apart k (omega arith)) refl same)
 
-same_entries : (w v : List ℕ) (k : ℕ) → k ≤ capacity → SameLog w v → write_backs v k ≡ write_backs w k
-same_entries w v zero few same = refl
-same_entries w v (suc k) few same =
-    let address : address_at v k ≡ address_at w k = address_same w v k (omega arith) same in
-    let old : old_at v k ≡ old_at w k = old_same w v k (omega arith) same in
-    let rest : write_backs v k ≡ write_backs w k = same_entries w v k (omega arith) same in
+same_entries : (l : Log) (w v : List ℕ) (k : ℕ) → k ≤ l.capacity → SameLog l w v → write_backs l v k ≡ write_backs l w k
+same_entries l w v zero few same = refl
+same_entries l w v (suc k) few same =
+    let address : address_at l v k ≡ address_at l w k = address_same l w v k (omega arith) same in
+    let old : old_at l v k ≡ old_at l w k = old_same l w v k (omega arith) same in
+    let rest : write_backs l v k ≡ write_backs l w k = same_entries l w v k (omega arith) same in
     cc
 
 -- ---- a recovery that is cut
@@ -86,16 +87,24 @@ same_entries w v (suc k) few same =
 -- a recovery that writes has entries
 some_entry : (w : List ℕ) (n : ℕ) → n < length (replay_writes w) → count_of w ≡ 0 → ⊥
 some_entry w n h empty =
-    let nothing : replay_writes w ≡ [] =
-    ap (λ (b : Bool). if b then [] else write_backs w (count_of w) ++ (count_address, 0) ∷ []) (eq-eqb (count_of w) 0 empty) in
-    let long : length (replay_writes w) ≡ 0 = ap (λ (ws : List (ℕ × ℕ)). length ws) nothing in
+    let long : length (replay_writes w) ≡ 0 = ap (λ (ws : List (ℕ × ℕ)). length ws) (replay_none w empty) in
     absurd (omega (arith, long, h))
+
+-- no entry names a word of the front that is not the heap's
+unnamed : (n b a : ℕ) → IsPlace n b → (a < top_address) ⊎ ((deselect_end_address < a) × (a < addresses_start)) → b ≡ a → ⊥
+unnamed n b a place (inl low) same = let above = place.above in absurd (omega arith)
+unnamed n b a place (inr front) same =
+    let behind : deselect_end_address < b = subst (λ (i : ℕ). deselect_end_address < i) (sym same) front.0 in
+    let far = place.beside behind in
+    let near = front.1 in
+    absurd (omega arith)
 
 -- what is known of words in which a recovery is cut
 record IsCut (w : List ℕ) (n : ℕ) (v : List ℕ) : Type 0 where
-  words : v ≡ with_words w (take n (write_backs w (count_of w)))
+  words : v ≡ with_words w (take n (write_backs (log_of w) w (count_of w)))
   within : n ≤ count_of w
-  log : SameLog w v
+  place : log_of v ≡ log_of w
+  log : SameLog (log_of w) w v
   count : count_of v ≡ count_of w
   writes : length (replay_writes v) ≡ length (replay_writes w)
   good : IsGoodLog v
@@ -103,27 +112,37 @@ record IsCut (w : List ℕ) (n : ℕ) (v : List ℕ) : Type 0 where
 
 is_cut : (w : List ℕ) (n : ℕ) → IsGoodLog w → NamesEachOnce w → n < length (replay_writes w) → IsCut w n (torn_replay n w)
 is_cut w n good once h =
+    let l : Log = log_of w in
+    let c : ℕ = count_of w in
+    let v : List ℕ = torn_replay n w in
     let some = some_entry w n h in
-    let many : length (replay_writes w) ≡ count_of w + 1 = so_many_writes w some in
-    let within : n ≤ count_of w = omega (arith, many, h) in
-    let partly : List ℕ = with_words w (take n (write_backs w (count_of w))) in
-    let words : torn_replay n w ≡ partly = sym (stopped_before w partly n some within refl) in
-    let log : SameLog w (torn_replay n w) = subst (λ (v : List ℕ). SameLog w v) (sym words) (same_log w w (count_of w) n refl good.places (λ j own. refl)) in
-    let count : count_of (torn_replay n w) ≡ count_of w = log count_address refl in
+    let many : length (replay_writes w) ≡ c + 1 = so_many_writes w some in
+    let within : n ≤ c = omega (arith, many, h) in
+    let partly : List ℕ = with_words w (take n (write_backs l w c)) in
+    let words : v ≡ partly = sym (stopped_before w partly n some within refl) in
+    let log : SameLog l w v = subst (λ (u : List ℕ). SameLog l w u) (sym words)
+    (same_log l w w c n (λ j below. is_log-readable w (address_at l w j) good (readable (limit_of w) (address_at l w j) (good.places j below))) (λ j own. refl)) in
+    let stays : (a : ℕ) → (a < top_address) ⊎ ((deselect_end_address < a) × (a < addresses_start)) → slice_index v a ≡ slice_index w a =
+    λ a front. ap (λ (u : List ℕ). slice_index u a) words ∙ kept l w w c n a (λ j below named. unnamed (limit_of w) (address_at l w j) a (good.places j below) front named) in
+    let place : log_of v ≡ l = log-same w v (stays version_address (inl (omega arith))) (stays capacity_address (inr (omega arith, omega arith)))
+    (stays journal_address (inr (omega arith, omega arith))) in
+    let count : count_of v ≡ c = log count_address refl in
     let few = good.few in
-    let some_left : count_of (torn_replay n w) ≡ 0 → ⊥ = λ e. some (sym count ∙ e) in
-    let many_left : length (replay_writes (torn_replay n w)) ≡ count_of (torn_replay n w) + 1 = so_many_writes (torn_replay n w) some_left in
+    let some_left : count_of v ≡ 0 → ⊥ = λ e. some (sym count ∙ e) in
+    let many_left : length (replay_writes v) ≡ count_of v + 1 = so_many_writes v some_left in
     record {
       words = words;
       within = within;
+      place = place;
       log = log;
       count = count;
       writes = omega (arith, many, many_left, count);
       good = (stops n w good).good;
       once = λ j k below counts e.
+          let named : address_at l v j ≡ address_at l v k = subst (λ (i : Log). address_at i v j ≡ address_at i v k) place e in
           once j k below (omega (arith, count, counts))
-          (sym (address_same w (torn_replay n w) j (omega (arith, few, count, counts, below)) log) ∙ e
-          ∙ address_same w (torn_replay n w) k (omega (arith, few, count, counts)) log);
+          (sym (address_same l w v j (omega (arith, few, count, counts, below)) log) ∙ named
+          ∙ address_same l w v k (omega (arith, few, count, counts)) log);
     }
 
 -- a second one comes to what one leaves that is cut after the greater of both numbers
@@ -131,20 +150,22 @@ cut_twice : (w : List ℕ) (n m : ℕ) → IsGoodLog w → NamesEachOnce w → n
     → torn_replay m (torn_replay n w) ≡ torn_replay (max n m) w
 cut_twice w n m good once h below =
     let some = some_entry w n h in
+    let l : Log = log_of w in
     let c : ℕ = count_of w in
     let v : List ℕ = torn_replay n w in
     let first = is_cut w n good once h in
     let many : length (replay_writes w) ≡ c + 1 = so_many_writes w some in
     let few = good.few in
     let second = is_cut v m first.good first.once (omega (arith, below, first.writes)) in
-    let entries : write_backs v (count_of v) ≡ write_backs w c =
-    ap (λ (i : ℕ). write_backs v i) first.count ∙ same_entries w v c few first.log in
+    let entries : write_backs (log_of v) v (count_of v) ≡ write_backs l w c =
+    ap₂ (λ (i : Log) (k : ℕ). write_backs i v k) first.place first.count ∙ same_entries l w v c few first.log in
     let within : max n m ≤ c = omega (arith, first.within, below, many) in
+    let limit = (bounds_of w good).limit in
     second.words
     ∙ ap (λ (ws : List (ℕ × ℕ)). with_words v (take m ws)) entries
-    ∙ ap (λ (u : List ℕ). with_words u (take m (write_backs w c))) first.words
-    ∙ again w w c n m (λ j h. let place = good.places j h in place.below) (λ i j h below. once i j h below)
-    ∙ stopped_before w (with_words w (take (max n m) (write_backs w c))) (max n m) some within refl
+    ∙ ap (λ (u : List ℕ). with_words u (take m (write_backs l w c))) first.words
+    ∙ again l w w c n m (λ j h. let place = (good.places j h).below in omega (arith, place, limit)) (λ i j h below. once i j h below)
+    ∙ stopped_before w (with_words w (take (max n m) (write_backs l w c))) (max n m) some within refl
 
 -- recoveries that are cut leave what one leaves that is cut after as many writes as one of them, n
 pub record LeaveAsOne (w : List ℕ) (cuts : List ℕ) (n : ℕ) : Type 0 where

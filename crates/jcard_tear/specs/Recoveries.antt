@@ -1,5 +1,6 @@
 -- Recoveries that are cut, one after the other, behind a cut of a command.
 use Rattle.std.specs.Prelude.{ℕ, ◌≡◌, ◌≢◌, ◌<◌, ◌^◌, All, MatchOption, List, [], ◌∷◌, length}
+use Rattle.jc_words.specs.Image.{log_of}
 use Rattle.jc_commit.specs.Image.{address_at, count_of}
 use Rattle.jc_commit.specs.Replay.{after_replays, replay_writes, torn_replay}
 use Rattle.jcard_outcomes.specs.Recoveries.{recoveries_of}
@@ -48,4 +49,4 @@ AreRecoveries depth words probe left r = (r.ways ≡ length (replay_writes words
 
 -- no two entries that count name the same word
 abbrev pub NamesEachOnce : List ℕ → Type 0
-NamesEachOnce words = (j k : ℕ) → j < k → k < count_of words → address_at words j ≢ address_at words k
+NamesEachOnce words = (j k : ℕ) → j < k → k < count_of words → address_at (log_of words) words j ≢ address_at (log_of words) words k

@@ -3,6 +3,7 @@ use Rattle.std.specs.Prelude.{ℕ, ◌≡◌, Bool, true, false, List, ◌++◌,
 use Rattle.jc_words.specs.Refusals.{no_refusals}
 use Rattle.jc_words.specs.Stores.{FuseStoreValue}
 use Rattle.jc_commit.specs.Image.{plain_of, recovered_of}
+use Rattle.jc_commit.specs.Migration.{migrated}
 use Rattle.jcard_outcomes.specs.declared.standing.Left.{Left}
 use Rattle.jcard_script.specs.Script.{Ends}
 use Rattle.jcard_tear.specs.declared.runs.Ran.{Ran}
@@ -28,6 +29,6 @@ IsRunFault words script NoMemory = Unit {0}
 IsRunFault words script (Script fault) = (read rest text : List ℕ) × (at_end : Bool) × (after : FuseStoreValue) × (script ≡ read ++ rest)
     × Ends (Err fault) (store_of words) after at_end read text
 
--- a recovery of these words leaves this heap, and after a power up over them a card gives the lines of the probe these answers
+-- a power up over these words leaves this heap, and behind it a card gives the lines of the probe these answers
 abbrev pub IsLeft : List ℕ → List ℕ → Left → Type 0
-IsLeft words probe left = (last : FuseStoreValue) × (plain_of left.words.items ≡ recovered_of words) × Runs words probe left.answers.items last
+IsLeft words probe left = (last : FuseStoreValue) × (plain_of left.words.items ≡ migrated 3 (recovered_of words)) × Runs words probe left.answers.items last

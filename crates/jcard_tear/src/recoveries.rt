@@ -1,7 +1,8 @@
 //! Recoveries of what a cut left, which are cut themselves, and what comes of the one behind them.
-ghost use Rattle.std.specs.Prelude.{◌≡◌, ◌≢◌, ◌≤◌, ◌<◌, ◌^◌, ◌↔◌, ℕ, false, length, vec_len, IfOk, IfSome, IsTrue, MatchBool, MatchOption, OnOk};
-ghost use Rattle.jc_words.specs.Layout.{log_end};
-ghost use Rattle.jc_commit.specs.Image.{IsGoodLog, address_at, capacity, count_of};
+ghost use Rattle.std.specs.Prelude.{◌≡◌, ◌≢◌, ◌≤◌, ◌<◌, ◌+◌, ◌*◌, ◌^◌, ◌↔◌, ℕ, false, length, slice_index, vec_len, IfOk, IfSome, IsTrue, MatchBool, MatchOption, OnOk};
+ghost use Rattle.jc_words.specs.Image.{IsLogAmong, log_of};
+ghost use Rattle.jc_words.specs.Layout.{first_version, least_size, most_capacity, version_address};
+ghost use Rattle.jc_commit.specs.Image.{IsGoodLog, address_at, count_of};
 ghost use Rattle.jc_commit.specs.Replay.{replay_writes, torn_replay};
 ghost use Rattle.jcard_outcomes.specs.Recoveries.{recoveries_of};
 ghost use Rattle.jcard_tear.specs.Recoveries.{AreRecoveries, AreTheSame, ComesToAnother, ComesToTheSame, IsSameLeft, NamesEachOnce};
@@ -10,8 +11,10 @@ ghost use Rattle.jcard_tear.specs.Runs.{IsLeft};
 use crate::runs::{RunFault, left, words_of};
 use jc_card::power_up::PowerFault;
 use jc_commit::{Journal, OpenRefusal};
-use jc_words::layout::{ADDRESSES, COUNT, JOURNAL_CAPACITY, LOG_START};
-use jc_words::{FuseStore, MemStore};
+use jc_words::layout::{
+    CAPACITY_WORD, COUNT, FIRST_VERSION, JOURNAL_WORD, LEAST_SIZE, VERSION_WORD,
+};
+use jc_words::{FuseStore, Log, MemStore};
 use jcard_outcomes::recoveries::{Depth, Recoveries};
 use jcard_outcomes::standing::Left;
 use jcard_script::script::ScriptFault;
@@ -85,7 +88,7 @@ fn first_difference(
     whole: &Left,
 ) -> Result<Option<u16>, RunFault>
     requires small { length words.now < 65536 }
-    requires size { log_end ≤ length words.now }
+    requires version { slice_index words.now version_address ≢ first_version }
     requires left { IsLeft words.now probe.now whole.now }
     ensures difference { IfOk result (λ found. MatchOption found
         (AreTheSame words.now probe.now whole.now writes)
@@ -109,7 +112,7 @@ fn first_difference(
 // The words that a recovery of these leaves which is cut after so many of its writes.
 fn cut_recovery(alloc: Global, words: &[u16], number: u16) -> Result<Vec<u16>, RunFault>
     requires small { length words.now < 65536 }
-    requires size { log_end ≤ length words.now }
+    requires version { slice_index words.now version_address ≢ first_version }
     ensures torn { IfOk result (λ torn. torn.items ≡ torn_replay number words.now) }
     ensures good { OnOk result (IsGoodLog words.now) }
     ensures short { IfOk result (λ torn. vec_len torn < 65536) }
@@ -151,11 +154,13 @@ fn are_equal(a: &[u16], b: &[u16]) -> bool
     a == b
 }
 
-// How many writes a recovery of these words makes: one for each entry that counts, and one for their count.
+// How many writes a recovery of these words makes: one for each entry that counts, and one for their count. A card that powered up
+// leaves an image of the version that is written.
 fn recovery_writes(words: &[u16]) -> Result<u16, RunFault>
+    requires { length words.now < 65536 }
     ensures writes { IfOk result (λ n. n ≡ length (replay_writes words.now)) }
-    ensures size { OnOk result (log_end ≤ length words.now) }
     ensures once { OnOk result (NamesEachOnce words.now) }
+    ensures version { OnOk result (slice_index words.now version_address ≢ first_version) }
 {
     match entries(words) {
         Some(0) => Ok(0),
@@ -166,36 +171,64 @@ fn recovery_writes(words: &[u16]) -> Result<u16, RunFault>
 
 // How many entries count; none where they are too many, or two of them name the same word.
 fn entries(words: &[u16]) -> Option<u16>
+    requires { length words.now < 65536 }
     ensures count { IfSome result (λ n. n ≡ count_of words.now) }
-    ensures few { IfSome result (λ n. n ≤ capacity) }
-    ensures size { IfSome result (λ _. log_end ≤ length words.now) }
+    ensures few { IfSome result (λ n. n ≤ most_capacity) }
     ensures once { IfSome result (λ _. NamesEachOnce words.now) }
+    ensures version { IfSome result (λ _. slice_index words.now version_address ≢ first_version) }
 {
-    if words.len() < usize::from(ADDRESSES) {
-        return None;
-    }
+    let log = journal_of(words)?;
     let count = words[usize::from(COUNT)];
-    if count > JOURNAL_CAPACITY {
+    if count > log.capacity {
         return None;
     }
     for entry in 0..count {
-        if is_named_before(words, entry) {
+        if is_named_before(words, log, entry) {
             return None;
         }
     }
     Some(count)
 }
 
-// Whether an entry before this one names the same word.
-fn is_named_before(words: &[u16], entry: u16) -> bool
-    requires size { log_end ≤ length words.now }
-    requires entry { entry < capacity }
-    ensures { result ≡ false
-        → (j : ℕ) → j < entry → address_at words.now j ≢ address_at words.now entry }
+// Where the journal of these words stands; nothing where it cannot stand there, or where the version is the first.
+#[tactic(auto, unfolding(jc_words::specs::Image::log_of))]
+fn journal_of(words: &[u16]) -> Option<Log>
+    requires { length words.now < 65536 }
+    ensures log { IfSome result (λ log. log ≡ log_of words.now) }
+    ensures fits { IfSome result (λ log. IsLogAmong (length words.now) log) }
+    ensures size { IfSome result (λ _. least_size ≤ length words.now) }
+    ensures version { IfSome result (λ _. slice_index words.now version_address ≢ first_version) }
 {
-    let address = address_in(words, entry);
+    if words.len() < usize::from(LEAST_SIZE) {
+        return None;
+    }
+    let version = words[usize::from(VERSION_WORD)];
+    if version == FIRST_VERSION {
+        return None;
+    }
+    let log = Log {
+        version,
+        start: words[usize::from(JOURNAL_WORD)],
+        capacity: words[usize::from(CAPACITY_WORD)],
+    };
+    if log.fits(words.len() as u16) {
+        Some(log)
+    } else {
+        None
+    }
+}
+
+// Whether an entry before this one names the same word.
+fn is_named_before(words: &[u16], log: Log, entry: u16) -> bool
+    requires size { log.start + 2 * log.capacity ≤ length words.now }
+    requires small { length words.now < 65536 }
+    requires entry { entry < log.capacity }
+    ensures { result ≡ false
+        → (j : ℕ) → j < entry → address_at log words.now j ≢ address_at log words.now entry }
+{
+    let address = address_in(words, log, entry);
     for earlier in 0..entry {
-        if address_in(words, earlier) == address {
+        if address_in(words, log, earlier) == address {
             return true;
         }
     }
@@ -203,10 +236,11 @@ fn is_named_before(words: &[u16], entry: u16) -> bool
 }
 
 // The address that an entry names.
-fn address_in(words: &[u16], entry: u16) -> u16
-    requires size { log_end ≤ length words.now }
-    requires entry { entry < capacity }
-    ensures { result ≡ address_at words.now entry }
+fn address_in(words: &[u16], log: Log, entry: u16) -> u16
+    requires size { log.start + 2 * log.capacity ≤ length words.now }
+    requires small { length words.now < 65536 }
+    requires entry { entry < log.capacity }
+    ensures { result ≡ address_at log words.now entry }
 {
-    words[usize::from(LOG_START + 2 * entry)]
+    words[usize::from(log.address_word(entry))]
 }

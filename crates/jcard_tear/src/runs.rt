@@ -3,11 +3,11 @@ ghost use Rattle.std.specs.Prelude.{◌≡◌, ◌<◌, length, vec_len, IfOk, M
 ghost use Rattle.jcard_tear.specs.declared.runs.RunFault.TheVariants.{NoMemory};
 ghost use Rattle.jcard_tear.specs.Runs.{HasRun, IsLeft, IsRunFault};
 ghost use Rattle.jc_commit.specs.Image.{plain_of, recovered_of};
+ghost use Rattle.jc_commit.specs.Migration.{migrated};
 
 use crate::kept_text::KeptText;
 use jc_card::power_up::PowerFault;
 use jc_commit::Journal;
-use jc_words::layout::ADDRESSES;
 use jc_words::{FuseStore, MemStore, WordStore};
 use jcard_outcomes::standing::Left;
 use jcard_script::mem_text::MemText;
@@ -70,7 +70,7 @@ pub(crate) fn run_copy(alloc: Global, words: &[u16], script: &[u8]) -> Result<Ra
     run(alloc, copy, script)
 }
 
-/// What a recovery of these words leaves, and what the lines of a probe are answered after a power up over them.
+/// What a power up over these words leaves, and what the lines of a probe are answered behind it.
 pub(crate) fn left(alloc: Global, words: Vec<u16>, probe: &[u8]) -> Result<Left, RunFault>
     requires { vec_len words < 65536 }
     ensures { IfOk result (λ left. IsLeft words.items probe.now left) }
@@ -84,14 +84,12 @@ pub(crate) fn left(alloc: Global, words: Vec<u16>, probe: &[u8]) -> Result<Left,
     })
 }
 
-// The words that a recovery of these leaves.
+// The words that a recovery and a migration of these leave.
 fn recovered(words: Vec<u16>) -> Result<Vec<u16>, RunFault>
     requires { vec_len words < 65536 }
-    ensures { IfOk result (λ found. plain_of found.items ≡ recovered_of words.items) }
+    ensures { IfOk result (λ found. plain_of found.items
+        ≡ migrated 3 (recovered_of words.items)) }
 {
-    if words.len() < usize::from(ADDRESSES) {
-        return Err(RunFault::Script(ScriptFault::PowerFault(PowerFault::BadSize)));
-    }
     match Journal::open(MemStore::of(words)) {
         Ok(journal) => Ok(journal.into_store().into_words()),
         Err(_) => Err(RunFault::Script(ScriptFault::PowerFault(PowerFault::BadLog))),

@@ -33,6 +33,13 @@ pub record IsOwnMemory (n : ℕ) (t : Tokens) (p : Packages) (m : MemoryState) :
   pub beginning : KeepsBeginning n t m
   pub layout : AreLaidOut m
 
+-- a heap tells the number of words of its image
+pub own_at : (n : ℕ) (t : Tokens) (p : Packages) (h : HeapState) → IsOwnHeap n t p h → IsOwnHeap h.head.1 t p h
+own_at n t p h own = subst (λ k. IsOwnHeap k t p h) (sym (ap (λ (x : ℕ × ℕ). x.1) own.beginning.head)) own
+
+pub keeps_at : (n : ℕ) (t : Tokens) (m : MemoryState) → KeepsBeginning n t m → KeepsBeginning m.heap.durable.head.1 t m
+keeps_at n t m keeps = subst (λ k. KeepsBeginning k t m) (sym (ap (λ (x : ℕ × ℕ). x.1) keeps.durable.head)) keeps
+
 read_served : (t : Tokens) (p : Packages) (e : Effect) (m : MemoryState) → IsServed p e m → IsSoundMemory p m → IsReadAs t p m → IsReadAs t p (apply_effect e m)
 read_served t p (HeapMove move) m due s r = keeps_reading t p (HeapMove move) m due s r
 read_served t p (SetTransient q i values) m due s r = keeps_reading t p (SetTransient q i values) m due s r

@@ -6,6 +6,7 @@ use Rattle.jc_words.specs.Refusals.{Refusals}
 use Rattle.jc_commit.specs.Image.{recovered_of}
 use Rattle.jc_heap.specs.Heap.{HeapState, heap_of}
 use Rattle.jc_heap.specs.Stored.{HoldsHeap}
+use Rattle.jc_heap.proofs.RawWords.{head_is, recovered-head}
 use Rattle.jc_image.specs.Laying.{unsealed_heap}
 use Rattle.jc_linker.specs.Values.{Packages}
 use Rattle.law_linking.proofs.Bytes.{have_bytes}
@@ -21,6 +22,7 @@ use Rattle.jc_session.specs.Power.{KeptState, Up, durable_rest}
 use Rattle.law_soundness.specs.State.{IsFitObject}
 use Rattle.law_images.specs.Loads.{IsLaidOut}
 use Rattle.law_images.specs.Heaps.{IsOwnHeap}
+use Rattle.law_images.proofs.CardHeaps.{own_at}
 use Rattle.law_images.proofs.NewImages.{new_images}
 use Rattle.law_images.proofs.NewApart.{new_apart}
 use Rattle.law_images.specs.Cards.{IsOwnCard, IsOwnKept}
@@ -44,26 +46,32 @@ card_heap n t p h own = record {
   whole = own.stands.whole;
 }
 
+-- a heap that words keep tells their number
+told : (words : List ℕ) (k : KeptState) → Keeps words k → k.durable.head.1 ≡ length words
+told words k keeps =
+    sym (ap (λ (h : HeapState). h.head.1) keeps.durable)
+    ∙ ap (λ (x : ℕ × ℕ). x.1) (head_is (recovered_of words) keeps.laid ∙ recovered-head words keeps.good) ∙ keeps.good.size.told
+
 kept_made : (t : Tokens) (words : List ℕ) (k : KeptState) → IsOwnKept t k → Keeps words k → IsMade words
 kept_made t words k own keeps = record {
   log = keeps.good;
   laid = keeps.laid;
-  heap = subst (λ n. IsCardHeap n (heap_of (recovered_of words))) (sym keeps.size)
-      (subst (IsCardHeap k.size) (sym keeps.durable) (card_heap k.size t own.packages k.durable own.heap));
+  heap = subst (λ n. IsCardHeap n (heap_of (recovered_of words))) (told words k keeps)
+      (subst (IsCardHeap k.durable.head.1) (sym keeps.durable) (card_heap k.durable.head.1 t own.packages k.durable own.heap));
 }
 
 -- a new image has no packages
-pub new_layout : (n : ℕ) (text : List ℕ) (t : Tokens) → IsLaidOut (new_card_heap n text t)
-new_layout n text t = record {
-  counted = ap (λ c. c.0) (counts_add t (unsealed_heap n text) fixed_objects) ∙ ap length (sym (packages_add t (unsealed_heap n text) fixed_objects));
-  apart = new_apart n text t;
+pub new_layout : (n capacity : ℕ) (text : List ℕ) (t : Tokens) → IsLaidOut (new_card_heap n capacity text t)
+new_layout n capacity text t = record {
+  counted = ap (λ c. c.0) (counts_add t (unsealed_heap n capacity text) fixed_objects) ∙ ap length (sym (packages_add t (unsealed_heap n capacity text) fixed_objects));
+  apart = new_apart n capacity text t;
 }
 
-new_kept : (t : Tokens) (text words : List ℕ) (k : KeptState) → IsMade words → Reads text (Ok t)
-    → heap_of (recovered_of words) ≡ new_card_heap (length words) text t → Keeps words k → IsOwnKept t k
-new_kept t text words k made reads is keeps =
-    let same : new_card_heap (length words) text t ≡ k.durable = sym is ∙ keeps.durable in
-    let fits = new_images (length words) text t made.heap.enough reads in
+new_kept : (t : Tokens) (capacity : ℕ) (text words : List ℕ) (k : KeptState) → IsMade words → Reads text (Ok t)
+    → heap_of (recovered_of words) ≡ new_card_heap (length words) capacity text t → Keeps words k → IsOwnKept t k
+new_kept t capacity text words k made reads is keeps =
+    let same : new_card_heap (length words) capacity text t ≡ k.durable = sym is ∙ keeps.durable in
+    let fits = new_images (length words) capacity text t made.heap.enough reads in
     record {
       packages = record { platform = t; loaded = [] };
       linked = record {
@@ -71,9 +79,9 @@ new_kept t text words k made reads is keeps =
         read = record { names = names_told text t reads; bytes = have_bytes text t reads; classes = λ i c e. absurd (none-some c e); linked = refl };
         applets = λ i c e. absurd (none-some c e);
       };
-      heap = subst (λ n. IsOwnHeap n t (record { platform = t; loaded = [] }) k.durable) keeps.size
+      heap = own_at (length words) t (record { platform = t; loaded = [] }) k.durable
           (subst (IsOwnHeap (length words) t (record { platform = t; loaded = [] })) same fits);
-      layout = subst IsLaidOut same (new_layout (length words) text t);
+      layout = subst IsLaidOut same (new_layout (length words) capacity text t);
     }
 
 card_made : (t : Tokens) (words : List ℕ) (down : Bool) (passed : ℕ) (refusals : Refusals) (card : CardState) → IsOwnCard t card

@@ -12,7 +12,7 @@ use Rattle.jc_heap.specs.Heap.{HeapState}
 use Rattle.jc_memory.specs.declared.registers.AppletNumber.{AppletNumber}
 use Rattle.jc_memory.specs.State.{MemoryState, BeginCommand, apply_effect}
 use Rattle.jc_memory.specs.Programs.{Program, Finish, Completes, TearLeaves}
-use Rattle.jc_memory.proofs.ProgramLemmas.{due_keeps, due_left, each_did, size_did}
+use Rattle.jc_memory.proofs.ProgramLemmas.{due_keeps, due_left, each_did}
 use Rattle.jc_linker.specs.Values.{Packages}
 use Rattle.jc_platform.specs.Tokens.{Tokens}
 use Rattle.jc_registry.specs.Registry.{applet_count, applet_with_aid, first_with_aid}
@@ -37,9 +37,9 @@ use Rattle.law_soundness.specs.Commands.{CommandsAreSound, IsReady, IsServed, Le
 use Rattle.law_soundness.proofs.Commands.{in_range}
 use Rattle.law_soundness.proofs.Phases.{Good, good_bind, good_gives, good_more, good_then}
 use Rattle.law_soundness.proofs.Serving.{serving_keeps}
-use Rattle.law_images.specs.NewImages.{EffectsKeepBeginnings, KeepsBeginning}
+use Rattle.law_images.specs.NewImages.{EffectsKeepBeginnings}
 use Rattle.law_images.specs.Cards.{IsOwnCard}
-use Rattle.law_images.proofs.CardHeaps.{IsLeft, IsOwnMemory, left_own, still_own}
+use Rattle.law_images.proofs.CardHeaps.{IsLeft, IsOwnMemory, keeps_at, left_own, still_own}
 
 -- ---- what is asked of an answer
 
@@ -49,7 +49,7 @@ pub record IsAnswered (p : Packages) (ans : LoadResponse) (m : MemoryState) : Ty
   pub packages : ans.packages ≡ p
   pub load : IfSome ans.load IsOpenReadable
 
-pub own_memory : (t : Tokens) (card : CardState) → IsOwnCard t card → IsOwnMemory card.memory.heap.size t card.packages card.memory
+pub own_memory : (t : Tokens) (card : CardState) → IsOwnCard t card → IsOwnMemory card.memory.heap.durable.head.1 t card.packages card.memory
 own_memory t card own = record {
   sound = own.ready.sound;
   environment = own.ready.environment;
@@ -60,31 +60,30 @@ own_memory t card own = record {
 
 module _ (begins : EffectsKeepBeginnings) (t : Tokens) (card : CardState) (own : IsOwnCard t card) (d : Program LoadResponse)
     (good : Good card.packages d card.memory (IsAnswered card.packages)) where
-  keeps : (e : _) (s : MemoryState) → IsServed card.packages e s → IsOwnMemory card.memory.heap.size t card.packages s
-      → IsOwnMemory card.memory.heap.size t card.packages (apply_effect e s)
-  keeps e s due o = still_own begins card.memory.heap.size t card.packages e s due o
+  keeps : (e : _) (s : MemoryState) → IsServed card.packages e s → IsOwnMemory card.memory.heap.durable.head.1 t card.packages s
+      → IsOwnMemory card.memory.heap.durable.head.1 t card.packages (apply_effect e s)
+  keeps e s due o = still_own begins card.memory.heap.durable.head.1 t card.packages e s due o
 
   -- all of it was done
   pub did_own : (ans : LoadResponse) (new : MemoryState) → Completes d card.memory ans new
       → IsOwnCard t (record { memory = new; packages = ans.packages; load = ans.load })
   did_own ans new did =
       let left = each_did (IsAnswered card.packages) d card.memory new ans good.each did in
-      let memory = due_keeps (IsServed card.packages) (IsOwnMemory card.memory.heap.size t card.packages) keeps d card.memory new ans good.due did
+      let memory = due_keeps (IsServed card.packages) (IsOwnMemory card.memory.heap.durable.head.1 t card.packages) keeps d card.memory new ans good.due did
       (own_memory t card own) in
-      let size = size_did d card.memory new ans did in
       subst (λ p. IsOwnCard t (record { memory = new; packages = p; load = ans.load })) (sym left.packages) (record {
         linked = own.linked;
         ready = left.ready;
         reading = memory.reading;
-        beginning = subst (λ n. KeepsBeginning n t new) (sym size) memory.beginning;
+        beginning = keeps_at card.memory.heap.durable.head.1 t new memory.beginning;
         layout = memory.layout;
         load = left.load;
       })
 
   -- the power was lost within it
-  pub lost_own : (h : HeapState) → TearLeaves d card.memory h → IsLeft card.memory.heap.size t card.packages h
-  lost_own h left = due_left (IsServed card.packages) (IsOwnMemory card.memory.heap.size t card.packages) keeps (IsLeft card.memory.heap.size t card.packages)
-      (λ s o. left_own card.memory.heap.size t card.packages s o) d card.memory h good.due left (own_memory t card own)
+  pub lost_own : (h : HeapState) → TearLeaves d card.memory h → IsLeft card.memory.heap.durable.head.1 t card.packages h
+  lost_own h left = due_left (IsServed card.packages) (IsOwnMemory card.memory.heap.durable.head.1 t card.packages) keeps (IsLeft card.memory.heap.durable.head.1 t card.packages)
+      (λ s o. left_own card.memory.heap.durable.head.1 t card.packages s o) d card.memory h good.due left (own_memory t card own)
 
 -- ---- the buffer has room for a command
 

@@ -10,7 +10,7 @@ use Rattle.jc_heap.specs.Moves.{AddPackage, refusal_of_package}
 use Rattle.jc_heap.specs.Completions.{Done}
 use Rattle.jc_memory.specs.State.{MemoryState, HeapMove, apply_effect}
 use Rattle.jc_memory.specs.Programs.{Program, Finish, Perform, Choose, Completes, TearLeaves, bind, unless_refused}
-use Rattle.jc_memory.proofs.ProgramLemmas.{did_bind, left_bind, size_did}
+use Rattle.jc_memory.proofs.ProgramLemmas.{did_bind, left_bind}
 use Rattle.jc_linker.specs.Values.{Packages}
 use Rattle.jc_platform.specs.Tokens.{Tokens}
 use Rattle.jc_linker.specs.Linking.{with_package}
@@ -32,7 +32,7 @@ use Rattle.law_images.specs.Loads.{IsSoundForLoads, LoadsKeepSound, load_move}
 use Rattle.law_images.specs.NewImages.{EffectsKeepBeginnings, KeepsBeginning}
 use Rattle.law_images.specs.Cards.{AreLinkedWell, IsOwnCard}
 use Rattle.law_images.proofs.Commands.{own_memory}
-use Rattle.law_images.proofs.CardHeaps.{IsLeft, left_own}
+use Rattle.law_images.proofs.CardHeaps.{IsLeft, keeps_at, left_own}
 
 module _ (begins : EffectsKeepBeginnings) (loads : LoadsKeepSound) (t : Tokens) (card : CardState) (own : IsOwnCard t card) where
   abbrev m : MemoryState
@@ -42,7 +42,7 @@ module _ (begins : EffectsKeepBeginnings) (loads : LoadsKeepSound) (t : Tokens) 
   p = card.packages
 
   abbrev n : ℕ
-  n = card.memory.heap.size
+  n = card.memory.heap.durable.head.1
 
   -- how the end of a load leaves a memory
   record HasEnded (packages : Packages) (new : MemoryState) : Type 0 where
@@ -160,12 +160,11 @@ module _ (begins : EffectsKeepBeginnings) (loads : LoadsKeepSound) (t : Tokens) 
       let mid = both.1 in
       let done = ended card.load own.load left mid both.2 in
       let read = ends_keep.done t p card.load m mid left own.load own.ready.sound.whole own.ready.closed own.reading both.2 in
-      let size = size_did (end_of_load p m card.load) m mid left both.2 in
       let here : IsOwnCard t (record { memory = mid; packages = left.packages; load = left.load }) = record {
         linked = done.linked;
         ready = record { sound = done.fits.sound; environment = done.fits.environment; closed = done.closed; idle = done.idle };
         reading = read.0;
-        beginning = subst (λ k. KeepsBeginning k t mid) (sym size) done.beginning;
+        beginning = keeps_at n t mid done.beginning;
         layout = done.fits.layout;
         load = read.1;
       } in

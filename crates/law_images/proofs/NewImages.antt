@@ -180,68 +180,68 @@ begin_there h t begins k lt =
     subst (IsObject h) (sym at) (follow_there h t 0 fixed_objects 0 k (1 + k)
     (subst (λ q. HeadersFollow h q (fixed_facts t 0 fixed_objects)) (sym (number_zero h)) begins) (omega (arith, lt, seventeen)) (omega arith))
 
-module _ (n : ℕ) (text : List ℕ) (t : Tokens) where
+module _ (n capacity : ℕ) (text : List ℕ) (t : Tokens) where
   abbrev made : HeapState
-  made = with_objects t (unsealed_heap n text) fixed_objects
+  made = with_objects t (unsealed_heap n capacity text) fixed_objects
 
-  below : IsBelow (new_card_heap n text t)
+  below : IsBelow (new_card_heap n capacity text t)
   below =
-      let b : IsBelow made = below_all t (unsealed_heap n text) fixed_objects (record { absent = λ q le. refl; none = λ q le. refl }) in
+      let b : IsBelow made = below_all t (unsealed_heap n capacity text) fixed_objects (record { absent = λ q le. refl; none = λ q le. refl }) in
       record { absent = b.absent; none = b.none }
 
-  some : 0 < (new_card_heap n text t).top
-  some = let more = top_all t (unsealed_heap n text) fixed_objects in omega (arith, more)
+  some : 0 < (new_card_heap n capacity text t).top
+  some = let more = top_all t (unsealed_heap n capacity text) fixed_objects in omega (arith, more)
 
-  stands_whole : IsConsistentHeap (new_card_heap n text t)
+  stands_whole : IsConsistentHeap (new_card_heap n capacity text t)
   unfolding is_allocated
-  stands_whole = record { whole = whole-new_card_heap n text t; end = λ r high. below.absent r high; some = some }
+  stands_whole = record { whole = whole-new_card_heap n capacity text t; end = λ r high. below.absent r high; some = some }
 
-  fixed_items : (r : ℕ) → IsFixed t (heap_item_at (new_card_heap n text t) r)
+  fixed_items : (r : ℕ) → IsFixed t (heap_item_at (new_card_heap n capacity text t) r)
   unfolding heap_item_at
-  fixed_items r = all_fixed t (unsealed_heap n text) fixed_objects fixed_fit (λ q. absent_fixed t) r
+  fixed_items r = all_fixed t (unsealed_heap n capacity text) fixed_objects fixed_fit (λ q. absent_fixed t) r
 
-  no_package : (new_card_heap n text t).packages ≡ []
-  no_package = packages_add t (unsealed_heap n text) fixed_objects
+  no_package : (new_card_heap n capacity text t).packages ≡ []
+  no_package = packages_add t (unsealed_heap n capacity text) fixed_objects
 
-  no_applet : (new_card_heap n text t).counts ≡ (0, 0)
-  no_applet = counts_add t (unsealed_heap n text) fixed_objects
+  no_applet : (new_card_heap n capacity text t).counts ≡ (0, 0)
+  no_applet = counts_add t (unsealed_heap n capacity text) fixed_objects
 
-  nothing_above : IsSoundUpTo (new_card_heap n text t).counts.1 (alone_with t) (new_card_heap n text t) (last_fixed (new_card_heap n text t))
+  nothing_above : IsSoundUpTo (new_card_heap n capacity text t).counts.1 (alone_with t) (new_card_heap n capacity text t) (last_fixed (new_card_heap n capacity text t))
   nothing_above = record {
-    objects = λ r above object. absurd (alone n text t r above object);
+    objects = λ r above object. absurd (alone n capacity text t r above object);
     statics = λ k low. absurd (omega (arith, low, ap length no_package));
     applets = λ a low. absurd (omega (arith, low, ap (λ c. c.1) no_applet));
     distinct = λ b low. absurd (omega (arith, low, ap (λ c. c.1) no_applet));
     aids = λ a low. absurd (omega (arith, low, ap (λ c. c.1) no_applet));
   }
 
-  environments : AreEnvironmentObjects (alone_with t) (new_card_heap n text t) (fixed_of (new_card_heap n text t))
+  environments : AreEnvironmentObjects (alone_with t) (new_card_heap n capacity text t) (fixed_of (new_card_heap n capacity text t))
   environments = record {
-    there = begin_there (new_card_heap n text t) t (begins-new_card_heap n text t);
+    there = begin_there (new_card_heap n capacity text t) t (begins-new_card_heap n capacity text t);
     first = λ r low. (fixed_items r).owner;
     classes = λ r there instance zero. (fixed_items r).class there instance;
   }
 
-  begins : least_size ≤ n → Reads text (Ok t) → HasBeginning n t (new_card_heap n text t)
+  begins : least_size ≤ n → Reads text (Ok t) → HasBeginning n t (new_card_heap n capacity text t)
   begins enough reads = record {
-    head = head-new_card_heap n text t;
+    head = head-new_card_heap n capacity text t;
     enough = enough;
-    table = subst (λ l. Reads l (Ok t)) (sym (text-new_card_heap n text t)) reads;
-    begins = begins-new_card_heap n text t;
+    table = subst (λ l. Reads l (Ok t)) (sym (text-new_card_heap n capacity text t)) reads;
+    begins = begins-new_card_heap n capacity text t;
   }
 
-  own_heap : least_size ≤ n → Reads text (Ok t) → IsOwnHeap n t (alone_with t) (new_card_heap n text t)
+  own_heap : least_size ≤ n → Reads text (Ok t) → IsOwnHeap n t (alone_with t) (new_card_heap n capacity text t)
   own_heap enough reads = record {
     beginning = begins enough reads;
-    packages = no_packages t (new_card_heap n text t) no_package;
+    packages = no_packages t (new_card_heap n capacity text t) no_package;
     stands = stands_whole;
-    registry = ap length (applets_all t (unsealed_heap n text) fixed_objects) ∙ length-replicate {A = ℕ} registry_length 0;
+    registry = ap length (applets_all t (unsealed_heap n capacity text) fixed_objects) ∙ length-replicate {A = ℕ} registry_length 0;
     loaded = ap length no_package;
     fits = nothing_above;
     environment = environments;
-    behind = number_below (new_card_heap n text t) 16 below some;
+    behind = number_below (new_card_heap n capacity text t) 16 below some;
     own = λ r low there. (fixed_items r).kept there;
   }
 
 pub new_images : NewImagesFit
-new_images = λ n text t enough reads. own_heap n text t enough reads
+new_images = λ n capacity text t enough reads. own_heap n capacity text t enough reads

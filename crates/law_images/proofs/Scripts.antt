@@ -1,12 +1,12 @@
 -- Lines of a script as events of a session.
-use Rattle.std.proofs.Common.{◌≡◌, ◌<◌, ◌≤◌, inl, inr, ℕ, List, [], ◌∷◌, ◌++◌, refl, sym, ◌∙◌, ap, subst, length, arith}
-use Rattle.std.specs.Prelude.{false, Ok, Err}
+use Rattle.std.proofs.Common.{◌≡◌, ◌<◌, ◌≤◌, inl, inr, ℕ, List, [], ◌∷◌, ◌++◌, refl, sym, ◌∙◌, ap, subst, arith}
+use Rattle.std.specs.Prelude.{false, map, Ok, Err}
 use Rattle.std.proofs.lemmas.List.{append_assoc, append-nil}
 use Rattle.std.specs.Str.Lines.{lines}
 use Rattle.jc_words.specs.Count.{saturating_count}
 use Rattle.jc_words.specs.Refusals.{with_fuse_at}
 use Rattle.jc_words.specs.Stores.{FuseStoreValue}
-use Rattle.jc_commit.specs.Image.{IsGoodLog, recovered_of}
+use Rattle.jc_commit.specs.Image.{IsGoodLog, limit_of, recovered_of}
 use Rattle.jc_heap.specs.Heap.{HeapView, heap_at_rest}
 use Rattle.jc_memory.specs.State.{MemoryState}
 use Rattle.jc_heap.specs.Completions.{Completion, Completed, Torn}
@@ -33,9 +33,10 @@ use Rattle.jcard_script.specs.Script.{AreCarriedOut, Form, Skipped, Command, Res
 use Rattle.jcard_script.specs.Script.{form_of, lines_so_far, power_text}
 use Rattle.jcard_script.specs.Texts.{IsCutOf}
 use Rattle.law_images.proofs.Rest.{leave_at_rest, rests_so}
-use Rattle.law_images.proofs.Steps.{cut_kept, starts_off, starts_up}
+use Rattle.law_images.proofs.Steps.{cut_kept}
+use Rattle.jc_session.proofs.Starts.{starts_off, starts_up}
 use Rattle.law_images.specs.Rest.{IsResting}
-use Rattle.law_images.specs.Scripts.{AreAnswered, AreSessionsOfScript, AreSessions, AreWholeSessions, IsWrittenFirst, Leaves, Spell, SpellsFirst}
+use Rattle.law_images.specs.Scripts.{AreAnswered, AreSessionsOfScript, AreSessions, AreWholeSessions, ArmsNone, IsWrittenFirst, Leaves, RunOfBytes, RunsAreOfBytes, brought_by, brought_first, bytes_of_event}
 use Rattle.law_images.specs.Scripts.{ServeAsEvents, ServeLines, ServeLinesWhole, ServesForm, ServesFormWhole, armed, armed_card, state_of, text_of_answer}
 
 -- how the card of a script stands, as a session sees it
@@ -165,7 +166,7 @@ reset_fails : (fault : Fault) (s t : ScriptState) (after : FuseStoreValue) → I
 reset_fails fault s t after good h holds =
     let left : after ≡ h.1 = subst (λ (v : ScriptState). IsSessionStore v after) h.4 holds in
     fails_to_reset fault (power_in s) (state_of h.0) (state_of after) (store_held s h.0 good h.2) h.3.cause h.3.other
-    (ap (λ (f : FuseStoreValue). length f.words) left ∙ h.3.size)
+    (ap (λ (f : FuseStoreValue). limit_of f.words) left ∙ h.3.size)
     (subst (λ (f : FuseStoreValue). RefusalLeaves fault h.0.words f.words) (sym left) h.3.stands) (ap (λ (f : FuseStoreValue). f.down) left ∙ h.3.up)
     (ap (λ (f : FuseStoreValue). f.refusals) left ∙ h.3.refusals)
 
@@ -234,27 +235,40 @@ are_sessions (Err WriteFailed) before after at_end script text (inr h) =
 
 -- ---- lines as events
 
-first_events : (form : Form) (more : List (List ℕ)) (s u t : PowerState) (first rest text : List ℕ) (events : List Event) → text ≡ first ++ rest
-    → ServesForm form s u first → SpellsFirst form (Spell more) events →
-    ((others : List Event) → Spell more others → (answers : List Answer) × SessionRun u others answers t × AreAnswered more answers rest) →
-    (answers : List Answer) × SessionRun s events answers t × IsWrittenFirst form (AreAnswered more) answers text
-first_events Skipped more s u t first rest text events is h spells then =
-    let ran = then events spells in
-    (ran.0, subst (λ p. SessionRun p events ran.0 t) h.0 ran.1, subst (AreAnswered more ran.0) (sym (is ∙ ap (λ l. l ++ rest) h.1)) ran.2)
-first_events (Command bytes) more s u t first rest text (event.Command v ∷ events) is h spells then =
-    let ran = then events spells.1 in (
-      h.0 ∷ ran.0,
-      (u, subst (λ b. AnswersCommand s b h.0 u) (sym spells.0) h.1, ran.1),
-      (rest, is ∙ ap (λ l. l ++ rest) h.2, ran.2),
-    )
-first_events Resets more s u t first rest text (event.Reset ∷ events) is h spells then =
-    let ran = then events spells in (h.0 ∷ ran.0, (u, h.1, ran.1), (rest, is ∙ ap (λ l. l ++ rest) h.2, ran.2))
-first_events form more s u t first rest text events is h spells then = absurd spells
+first_events : (form : Form) (more : List (List ℕ)) (s u t : PowerState) (first rest text : List ℕ) → text ≡ first ++ rest
+    → ServesForm form s u first → ArmsNone form →
+    ((answers : List Answer) × RunOfBytes u (brought_by more) answers t × AreAnswered more answers rest) →
+    (answers : List Answer) × RunOfBytes s (brought_first form (brought_by more)) answers t × IsWrittenFirst form (AreAnswered more) answers text
+first_events Skipped more s u t first rest text is h none ran =
+    (ran.0, subst (λ p. RunOfBytes p (brought_by more) ran.0 t) h.0 ran.1, subst (AreAnswered more ran.0) (sym (is ∙ ap (λ l. l ++ rest) h.1)) ran.2)
+first_events (Command bytes) more s u t first rest text is h none ran = (h.0 ∷ ran.0, (u, h.1, ran.1), (rest, is ∙ ap (λ l. l ++ rest) h.2, ran.2))
+first_events Resets more s u t first rest text is h none ran = (h.0 ∷ ran.0, (u, h.1, ran.1), (rest, is ∙ ap (λ l. l ++ rest) h.2, ran.2))
+first_events (ArmsFuse k) more s u t first rest text is h none ran = absurd none
+first_events Bad more s u t first rest text is h none ran = absurd h
 
 pub serve_as_events : ServeAsEvents
-serve_as_events [] s t text events h spells = ([], subst (λ es. SessionRun s es [] t) (sym spells) h.0, (refl, h.1))
-serve_as_events (line ∷ more) s t text events h spells =
-    first_events (form_of line) more s h.2 t h.0 h.1 text events h.3 h.4 spells (λ others spelt. serve_as_events more h.2 t h.1 others h.5 spelt)
+serve_as_events [] s t text h none = ([], h.0, (refl, h.1))
+serve_as_events (line ∷ more) s t text h none =
+    first_events (form_of line) more s h.2 t h.0 h.1 text h.3 h.4 none.0 (serve_as_events more h.2 t h.1 h.5 none.1)
+
+bytes_run : (events : List Event) (s last : PowerState) (answers : List Answer) → SessionRun s events answers last
+    → RunOfBytes s (map bytes_of_event events) answers last
+bytes_run [] s last [] run = run
+bytes_run (event.Command v ∷ events) s last (answer ∷ answers) run = (run.0, run.1, bytes_run events run.0 last answers run.2)
+bytes_run (event.Reset ∷ events) s last (answer ∷ answers) run = (run.0, run.1, bytes_run events run.0 last answers run.2)
+bytes_run [] s last (answer ∷ answers) run = absurd run
+bytes_run (event ∷ events) s last [] run = absurd run
+
+run_of_bytes : (events : List Event) (s last : PowerState) (answers : List Answer) → RunOfBytes s (map bytes_of_event events) answers last
+    → SessionRun s events answers last
+run_of_bytes [] s last [] run = run
+run_of_bytes (event.Command v ∷ events) s last (answer ∷ answers) run = (run.0, run.1, run_of_bytes events run.0 last answers run.2)
+run_of_bytes (event.Reset ∷ events) s last (answer ∷ answers) run = (run.0, run.1, run_of_bytes events run.0 last answers run.2)
+run_of_bytes [] s last (answer ∷ answers) run = absurd run
+run_of_bytes (event ∷ events) s last [] run = absurd run
+
+pub runs_are_of_bytes : RunsAreOfBytes
+runs_are_of_bytes s last events answers = (bytes_run events s last answers, run_of_bytes events s last answers)
 
 -- ---- scripts that refuse nothing
 

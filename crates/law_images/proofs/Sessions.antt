@@ -49,7 +49,7 @@ use Rattle.law_images.specs.Cards.{AreLinkedWell, AreOfBytes, IsOfBytes, IsOwnCa
 use Rattle.law_images.specs.Loads.{IsLaidOut}
 use Rattle.law_images.proofs.Commands.{IsAnswered, answers_good, command_fits, creates_good, did_own, dispatched_good, grows_good, loads_good, lost_own, on_load_good}
 use Rattle.law_images.proofs.Commands.{own_memory, runs_good}
-use Rattle.law_images.proofs.CardHeaps.{IsLeft, left_own}
+use Rattle.law_images.proofs.CardHeaps.{IsLeft, left_own, own_at}
 use Rattle.law_images.proofs.Loads.{ends_lost, ends_own}
 
 -- packages that were linked well are known
@@ -98,7 +98,7 @@ module _ (t : Tokens) (card : CardState) (own : IsOwnCard t card) where
   record Does (d : Program LoadResponse) : Type 0 where
     did : (ans : LoadResponse) (new : MemoryState) → Completes d card.memory ans new
         → IsOwnCard t (record { memory = new; packages = ans.packages; load = ans.load })
-    lost : (h : HeapState) → TearLeaves d card.memory h → IsLeft card.memory.heap.size t card.packages h
+    lost : (h : HeapState) → TearLeaves d card.memory h → IsLeft card.memory.heap.durable.head.1 t card.packages h
 
   are_known : AreKnown card.packages
   are_known = linked_known card.packages own.linked
@@ -148,7 +148,7 @@ module _ (t : Tokens) (card : CardState) (own : IsOwnCard t card) where
   command_own bytes Down (Off k) are lost = record {
     packages = card.packages;
     linked = own.linked;
-    heap = subst (λ n. IsOwnHeap n t card.packages k.durable) (sym lost.3) ((exchanging_does bytes are).lost k.durable lost.0).heap;
+    heap = own_at card.memory.heap.durable.head.1 t card.packages k.durable ((exchanging_does bytes are).lost k.durable lost.0).heap;
     layout = ((exchanging_does bytes are).lost k.durable lost.0).layout;
   }
   command_own bytes (Response r) (Off k) are none = absurd none
@@ -161,12 +161,12 @@ pub kept_own : (t : Tokens) (s : PowerState) → IsOwnPower t s → IsOwnKept t 
 kept_own t (Up card) own = record {
   packages = card.packages;
   linked = own.linked;
-  heap = (left_own card.memory.heap.size t card.packages card.memory (own_memory t card own)).heap;
+  heap = (left_own card.memory.heap.durable.head.1 t card.packages card.memory (own_memory t card own)).heap;
   layout = own.layout.durable;
 }
 kept_own t (Off k) own = own
 
-module _ (n : ℕ) (t : Tokens) (p : Packages) (h : HeapState) (own : IsOwnHeap n t p h) (linked : AreLinkedWell p) (layout : IsLaidOut h)
+module _ (n : ℕ) (t : Tokens) (p : Packages) (h : HeapState) (own : IsOwnHeap h.head.1 t p h) (linked : AreLinkedWell p) (layout : IsLaidOut h)
     (passed : ℕ) (refusals : Refusals) (m : MemoryState) (clear : IsCleared m.ram) (none : m.command ≡ []) where
   abbrev reset_memory : MemoryState
   reset_memory = record m { heap = heap_at_rest h passed refusals n; fixed = fixed_of h; registers = at_reset }

@@ -31,7 +31,7 @@ pub record IsOwnCard (t : Tokens) (card : CardState) : Type 0 where
   pub linked : AreLinkedWell card.packages
   pub ready : IsReady card.packages card.memory
   pub reading : IsReadAs t card.packages card.memory
-  pub beginning : KeepsBeginning card.memory.heap.size t card.memory
+  pub beginning : KeepsBeginning card.memory.heap.durable.head.1 t card.memory
   pub layout : AreLaidOut card.memory
   pub load : IfSome card.load IsOpenReadable
 
@@ -39,7 +39,7 @@ pub record IsOwnCard (t : Tokens) (card : CardState) : Type 0 where
 pub record IsOwnKept (t : Tokens) (k : KeptState) : Type 0 where
   pub packages : Packages
   pub linked : AreLinkedWell packages
-  pub heap : IsOwnHeap k.size t packages k.durable
+  pub heap : IsOwnHeap k.durable.head.1 t packages k.durable
   pub layout : IsLaidOut k.durable
 
 -- a card that is so, up or off

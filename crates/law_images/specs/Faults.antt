@@ -23,8 +23,8 @@ pub record IsOwnStore (t : Tokens) (store : StoreState) : Type 0 where
 -- Such is the store of a new image. A session over such a store leaves such a one, which powers up again, also where it ended by a
 -- fault; and neither its first power up nor a reset in it finds a fault but want of memory
 pub record SessionsEndWell : Type 0 where
-  pub new : (t : Tokens) (text : List ℕ) (store : StoreState) → IsMade store.words → Reads text (Ok t)
-      → heap_of (recovered_of store.words) ≡ new_card_heap (length store.words) text t → IsOwnStore t store
+  pub new : (t : Tokens) (capacity : ℕ) (text : List ℕ) (store : StoreState) → IsMade store.words → Reads text (Ok t)
+      → heap_of (recovered_of store.words) ≡ new_card_heap (length store.words) capacity text t → IsOwnStore t store
   pub made : (t : Tokens) (store : StoreState) → IsOwnStore t store → IsMade store.words
   pub done : (t : Tokens) (before after : StoreState) (events : List Event) (answers : List Answer) → AreOfBytes events → IsOwnStore t before
       → SessionEnds (Ok answers) before events after → IsOwnStore t after

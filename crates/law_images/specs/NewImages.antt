@@ -10,8 +10,8 @@ use Rattle.law_images.specs.Heaps.{HasBeginning, IsOwnHeap}
 
 -- the heap of a new image fits its packages, of which there are none
 abbrev pub NewImagesFit : Type 0
-NewImagesFit = (n : ℕ) (text : List ℕ) (t : Tokens) → least_size ≤ n → Reads text (Ok t)
-    → IsOwnHeap n t (record { platform = t; loaded = [] }) (new_card_heap n text t)
+NewImagesFit = (n capacity : ℕ) (text : List ℕ) (t : Tokens) → least_size ≤ n → Reads text (Ok t)
+    → IsOwnHeap n t (record { platform = t; loaded = [] }) (new_card_heap n capacity text t)
 
 -- a memory's heap, and the one that a loss of power leaves, have their beginning, and the same objects of the runtime environment, which are
 -- those that the memory knows

@@ -1,5 +1,5 @@
 -- Scripts as sessions.
-use Rattle.std.specs.Prelude.{ℕ, ◌≡◌, ◌+◌, ◌⊎◌, List, [], ◌∷◌, ◌++◌, length, Bool, false, Result, Ok, Err}
+use Rattle.std.specs.Prelude.{ℕ, ◌≡◌, ◌+◌, ◌⊎◌, ◌↔◌, List, [], ◌∷◌, ◌++◌, length, map, Bool, false, Result, Ok, Err}
 use Rattle.std.specs.Str.Lines.{lines}
 use Rattle.jc_words.specs.Count.{saturating_count}
 use Rattle.jc_words.specs.Refusals.{with_fuse_at}
@@ -98,23 +98,58 @@ abbrev pub AreSessions : Type 0
 AreSessions = (result : Result Unit ScriptFault) (before after : FuseStoreValue) (at_end : Bool) (script text : List ℕ)
     → Ends result before after at_end script text → EndsAsSession result before after at_end script text
 
--- a line that asks for this spells the first of these events, and the lines behind it the others. An empty line and a comment spell
--- none; one that arms the fuse, and one that has no form, spells no events that there are
-abbrev pub SpellsFirst : Form → (List Event → Type 0) → List Event → Type 0
-SpellsFirst Skipped rest events = rest events
-SpellsFirst (Command bytes) rest (event.Command v ∷ events) = (v.items ≡ bytes) × rest events
-SpellsFirst Resets rest (event.Reset ∷ events) = rest events
-SpellsFirst (Command bytes) rest (event.Reset ∷ events) = ⊥
-SpellsFirst (Command bytes) rest [] = ⊥
-SpellsFirst Resets rest (event.Command v ∷ events) = ⊥
-SpellsFirst Resets rest [] = ⊥
-SpellsFirst (ArmsFuse k) rest events = ⊥
-SpellsFirst Bad rest events = ⊥
+-- what comes to a card, by its bytes alone: a command of these, or a reset
+pub data Coming : Type 0 where
+  Sent : List ℕ → Coming
+  PowerBack : Coming
 
--- the lines spell these events, one after another
-abbrev pub Spell : List (List ℕ) → List Event → Type 0
-Spell [] events = events ≡ []
-Spell (line ∷ more) events = SpellsFirst (form_of line) (Spell more) events
+-- it may be answered so, and lead there
+abbrev pub AnswersComing : PowerState → Coming → Answer → PowerState → Type 0
+AnswersComing s (Sent bytes) answer next = AnswersCommand s bytes answer next
+AnswersComing s PowerBack answer next = AnswersReset s answer next
+
+-- these may be answered so, one after another, from one state to the other
+abbrev pub RunOfBytes : PowerState → List Coming → List Answer → PowerState → Type 0
+RunOfBytes s [] [] last = last ≡ s
+RunOfBytes s (coming ∷ more) (answer ∷ answers) last = (next : PowerState) × AnswersComing s coming answer next × RunOfBytes next more answers last
+RunOfBytes s [] (answer ∷ answers) last = ⊥
+RunOfBytes s (coming ∷ more) [] last = ⊥
+
+-- an event by its bytes alone, wherever they lie
+abbrev pub bytes_of_event : Event → Coming
+bytes_of_event (event.Command v) = Sent v.items
+bytes_of_event event.Reset = PowerBack
+
+-- a run of events is one of their bytes
+abbrev pub RunsAreOfBytes : Type 0
+RunsAreOfBytes = (s last : PowerState) (events : List Event) (answers : List Answer)
+    → SessionRun s events answers last ↔ RunOfBytes s (map bytes_of_event events) answers last
+
+-- what a line that asks for this brings, before what those behind it bring: an empty line and a comment bring nothing
+abbrev pub brought_first : Form → List Coming → List Coming
+brought_first Skipped more = more
+brought_first (Command bytes) more = Sent bytes ∷ more
+brought_first Resets more = PowerBack ∷ more
+brought_first (ArmsFuse k) more = more
+brought_first Bad more = more
+
+-- what these lines bring to a card
+abbrev pub brought_by : List (List ℕ) → List Coming
+brought_by [] = []
+brought_by (line ∷ more) = brought_first (form_of line) (brought_by more)
+
+-- a line that asks for this arms no fuse
+abbrev pub ArmsNone : Form → Type 0
+ArmsNone Skipped = Unit {0}
+ArmsNone (Command bytes) = Unit {0}
+ArmsNone Resets = Unit {0}
+ArmsNone (ArmsFuse k) = ⊥
+ArmsNone Bad = Unit {0}
+
+-- none of these lines does
+abbrev pub ArmNone : List (List ℕ) → Type 0
+ArmNone [] = Unit {0}
+ArmNone (line ∷ more) = ArmsNone (form_of line) × ArmNone more
 
 -- a text begins with another one, and the rest is so
 abbrev pub IsBegun : List ℕ → (List ℕ → Type 0) → List ℕ → Type 0
@@ -135,10 +170,10 @@ abbrev pub AreAnswered : List (List ℕ) → List Answer → List ℕ → Type 0
 AreAnswered [] answers text = (answers ≡ []) × (text ≡ [])
 AreAnswered (line ∷ more) answers text = IsWrittenFirst (form_of line) (AreAnswered more) answers text
 
--- lines that spell events are served as a run of these, and what is written for them are its answers
+-- lines that arm no fuse are served as a run of what they bring, and what is written for them are its answers
 abbrev pub ServeAsEvents : Type 0
-ServeAsEvents = (carried : List (List ℕ)) (first last : PowerState) (text : List ℕ) (events : List Event) → ServeLines carried first last text
-    → Spell carried events → (answers : List Answer) × SessionRun first events answers last × AreAnswered carried answers text
+ServeAsEvents = (carried : List (List ℕ)) (first last : PowerState) (text : List ℕ) → ServeLines carried first last text → ArmNone carried
+    → (answers : List Answer) × RunOfBytes first (brought_by carried) answers last × AreAnswered carried answers text
 
 -- a line that asks for this is served so by a card that keeps whole copies of its heap, and this is written for it
 abbrev pub ServesFormWhole : Form → CardState → CardState → List ℕ → Type 0

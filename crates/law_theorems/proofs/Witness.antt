@@ -1,10 +1,11 @@
 -- A new image, its first reset, and a command.
-use Rattle.std.proofs.Common.{◌≡◌, ℕ, zero, suc, ◌+◌, ◌≤◌, Bool, true, false, List, [], ◌∷◌, get_or, refl, ◌∙◌, ap, Some, None}
+use Rattle.std.proofs.Common.{◌≡◌, ℕ, zero, suc, ◌+◌, ◌≤◌, Bool, true, false, List, [], ◌∷◌, get_or, refl, sym, ◌∙◌, ap, subst, Some, None}
 use Rattle.std.specs.Prelude.{pos, replicate, Ok}
 use Rattle.std.proofs.lemmas.Bool.{false≢true, true≢false}
 use Rattle.std.proofs.lemmas.List.{length-replicate}
 use Rattle.std.proofs.lemmas.Option.{none-some}
 use Rattle.jc_words.specs.Layout.{least_size}
+use Rattle.jc_words.specs.Image.{heap_end}
 use Rattle.jc_words.specs.Refusals.{Refusals, no_refusals, refused_once}
 use Rattle.jc_transient.specs.declared.cell.CellValue.TheVariants.{Short}
 use Rattle.jc_transient.specs.declared.cell.ClearEvent.{ClearEvent}
@@ -28,6 +29,7 @@ use Rattle.jc_card.specs.Reset.{ReadsAsZero}
 use Rattle.jc_card_checks.specs.Sound.{IsSound}
 use Rattle.law_soundness.specs.State.{IsFitObject}
 use Rattle.law_images.specs.Heaps.{IsOwnHeap}
+use Rattle.law_images.proofs.CardHeaps.{own_at}
 use Rattle.law_images.proofs.CardImages.{new_layout}
 use Rattle.law_images.proofs.NewImages.{new_images}
 use Rattle.jc_session.specs.declared.event.Event.TheVariants.{Reset}
@@ -73,17 +75,17 @@ is_blank = record {
   flags = λ r. false_there flag_count r;
 }
 
-module _ (n : ℕ) (text : List ℕ) (t : Tokens) (enough : least_size ≤ n) (reads : Reads text (Ok t)) where
+module _ (n capacity : ℕ) (text : List ℕ) (t : Tokens) (enough : least_size ≤ n) (reads : Reads text (Ok t)) where
   abbrev heap : HeapState
-  heap = new_card_heap n text t
+  heap = new_card_heap n capacity text t
 
   abbrev none : Packages
   none = record { platform = t; loaded = [] }
 
   fits : IsOwnHeap n t none heap
-  fits = new_images n text t enough reads
+  fits = new_images n capacity text t enough reads
 
-  own : IsOwnKept t (new_kept n text t)
+  own : IsOwnKept t (new_kept n capacity text t)
   own = record {
     packages = none;
     linked = record {
@@ -91,8 +93,8 @@ module _ (n : ℕ) (text : List ℕ) (t : Tokens) (enough : least_size ≤ n) (r
       read = record { names = names_told text t reads; bytes = have_bytes text t reads; classes = λ i c e. absurd (none-some c e); linked = refl };
       applets = λ i c e. absurd (none-some c e);
     };
-    heap = fits;
-    layout = new_layout n text t;
+    heap = own_at n t none heap fits;
+    layout = new_layout n capacity text t;
   }
 
   found : IsSound none heap (last_fixed heap)
@@ -116,7 +118,7 @@ module _ (n : ℕ) (text : List ℕ) (t : Tokens) (enough : least_size ≤ n) (r
   module _ (refusals : Refusals) where
     abbrev memory : MemoryState
     memory = record {
-      heap = heap_at_rest heap 0 refusals n;
+      heap = heap_at_rest heap 0 refusals (heap_end n capacity);
       ram = blank;
       fixed = fixed_of heap;
       registers = at_reset;
@@ -136,10 +138,10 @@ module _ (n : ℕ) (text : List ℕ) (t : Tokens) (enough : least_size ≤ n) (r
       down = down;
       passed = 0;
       refusals = refusals;
-      size = n;
+      size = heap_end n capacity;
     }) card
     powered down = record {
-      made = card_heap;
+      made = subst (λ m. IsCardHeap m heap) (sym (ap (λ (x : ℕ × ℕ). x.1) fits.beginning.head)) card_heap;
       heap = refl;
       reset = record {
         ram = is_blank;
@@ -153,12 +155,12 @@ module _ (n : ℕ) (text : List ℕ) (t : Tokens) (enough : least_size ≤ n) (r
       };
     }
 
-  comes_off : ComesTo t (Off (new_kept n text t))
-  comes_off = record { first = new_kept n text t; events = []; answers = []; own = own; bytes = tt; run = refl }
+  comes_off : ComesTo t (Off (new_kept n capacity text t))
+  comes_off = record { first = new_kept n capacity text t; events = []; answers = []; own = own; bytes = tt; run = refl }
 
   comes_up : ComesTo t (Up (card no_refusals))
   comes_up = record {
-    first = new_kept n text t;
+    first = new_kept n capacity text t;
     events = Reset ∷ [];
     answers = Ready ∷ [];
     own = own;
@@ -168,13 +170,13 @@ module _ (n : ℕ) (text : List ℕ) (t : Tokens) (enough : least_size ≤ n) (r
 
 pub witnesses : HaveWitnesses
 unfolding exchange manager_command refused_once
-witnesses n text t enough reads =
-    let first = card n text t enough reads no_refusals in
+witnesses n capacity text t enough reads =
+    let first = card n capacity text t enough reads no_refusals in
     let refused = refused_once false 0 no_refusals in record {
-      off = comes_off n text t enough reads;
+      off = comes_off n capacity text t enough reads;
       card = first;
-      reset = powered n text t enough reads no_refusals false;
-      up = comes_up n text t enough reads;
+      reset = powered n capacity text t enough reads no_refusals false;
+      up = comes_up n capacity text t enough reads;
       begins = record {
         first = refl;
         living = first_living first.memory.heap.now [] 0 0 0 no_package (none_living first.memory.heap.now);
@@ -182,10 +184,10 @@ witnesses n text t enough reads =
         owner = λ home zero. true≢false home;
       };
       cut = refl;
-      other = card n text t enough reads refused;
-      again = powered n text t enough reads refused true;
+      other = card n capacity text t enough reads refused;
+      again = powered n capacity text t enough reads refused true;
       next = record first { load = Some empty_load };
       command = (refl, refl);
-      blown = (down_text, [], Off (new_blown n text t), refl, (Down, refl, refl), (refl, refl));
+      blown = (down_text, [], Off (new_blown n capacity text t), refl, (Down, refl, refl), (refl, refl));
       spared = refl;
     }

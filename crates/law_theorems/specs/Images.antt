@@ -20,8 +20,8 @@ use Rattle.law_images.specs.Faults.{IsOwnStore}
 -- from the store of a new image sessions may go on, and each session, however it ends, leaves such a store; neither its first power up nor a
 -- reset in it finds a fault but want of memory, and no power up over such a store does, but that a write was refused
 pub record PowerUpAgain : Type 0 where
-  pub new : (t : Tokens) (text : List ℕ) (store : StoreState) → IsMade store.words → Reads text (Ok t)
-      → heap_of (recovered_of store.words) ≡ new_card_heap (length store.words) text t → IsOwnStore t store
+  pub new : (t : Tokens) (capacity : ℕ) (text : List ℕ) (store : StoreState) → IsMade store.words → Reads text (Ok t)
+      → heap_of (recovered_of store.words) ≡ new_card_heap (length store.words) capacity text t → IsOwnStore t store
   pub ends : (t : Tokens) (before after : StoreState) (events : List Event) (result : Result (List Answer) SessionFault) → AreOfBytes events
       → IsOwnStore t before → SessionEnds result before events after → IsOwnStore t after
   pub fault : (t : Tokens) (before after : StoreState) (events : List Event) (fault : Fault) → AreOfBytes events → IsOwnStore t before

@@ -2,6 +2,7 @@
 use Rattle.std.specs.Prelude.{ℕ, ◌≡◌, ◌≤◌, true, false, List, [], ◌∷◌, codes, Ok}
 use Rattle.jc_words.specs.Layout.{least_size}
 use Rattle.jc_words.specs.Refusals.{no_refusals}
+use Rattle.jc_words.specs.Image.{heap_end}
 use Rattle.jc_platform.specs.Table.{Reads}
 use Rattle.jc_platform.specs.Tokens.{Tokens}
 use Rattle.jc_card.specs.CardState.{CardState}
@@ -16,23 +17,23 @@ use Rattle.law_theorems.specs.Comes.{ComesTo}
 use Rattle.law_theorems.specs.References.{MayBegin}
 
 -- what is kept of a new image
-abbrev pub new_kept : ℕ → List ℕ → Tokens → KeptState
-new_kept n text t = record { durable = new_card_heap n text t; laid = true; down = false; passed = 0; refusals = no_refusals; size = n }
+abbrev pub new_kept : ℕ → ℕ → List ℕ → Tokens → KeptState
+new_kept n capacity text t = record { durable = new_card_heap n capacity text t; laid = true; down = false; passed = 0; refusals = no_refusals; size = heap_end n capacity }
 
 -- it with its fuse armed, so that no write passes
-abbrev pub new_armed : ℕ → List ℕ → Tokens → PowerState
-new_armed n text t = armed 0 (Off (new_kept n text t))
+abbrev pub new_armed : ℕ → ℕ → List ℕ → Tokens → PowerState
+new_armed n capacity text t = armed 0 (Off (new_kept n capacity text t))
 
 -- a reset of it that the fuse cuts
-abbrev pub new_blown : ℕ → List ℕ → Tokens → KeptState
-new_blown n text t = with_refusal 0 (durable_state (new_armed n text t))
+abbrev pub new_blown : ℕ → ℕ → List ℕ → Tokens → KeptState
+new_blown n capacity text t = with_refusal 0 (durable_state (new_armed n capacity text t))
 
 -- With any table that reads sessions come to a new image without power, and to a card behind its first reset, on which lent code may run. A reset of it may be cut, and
 -- the next one completes; a command may be answered, as one that begins a load; and a script's line may be cut by the fuse
-pub record HaveWitness (n : ℕ) (text : List ℕ) (t : Tokens) : Type 0 where
-  pub off : ComesTo t (Off (new_kept n text t))
+pub record HaveWitness (n capacity : ℕ) (text : List ℕ) (t : Tokens) : Type 0 where
+  pub off : ComesTo t (Off (new_kept n capacity text t))
   pub card : CardState
-  pub reset : AnswersReset (Off (new_kept n text t)) Ready (Up card)
+  pub reset : AnswersReset (Off (new_kept n capacity text t)) Ready (Up card)
   pub up : ComesTo t (Up card)
   pub begins : MayBegin (bare_frames 0 0) card.memory
   pub cut : AnswersReset (Up card) Down (Off (with_refusal 0 (durable_state (Up card))))
@@ -40,8 +41,8 @@ pub record HaveWitness (n : ℕ) (text : List ℕ) (t : Tokens) : Type 0 where
   pub again : AnswersReset (Off (with_refusal 0 (durable_state (Up card)))) Ready (Up other)
   pub next : CardState
   pub command : AnswersCommand (Up card) (0x80 ∷ 0xB0 ∷ 0 ∷ 0 ∷ []) (Response (0x90 ∷ 0 ∷ [])) (Up next)
-  pub blown : ServeLines (codes "reset" ∷ []) (new_armed n text t) (Off (new_blown n text t)) down_text
-  pub spared : (new_blown n text t).refusals.faults ≡ 0
+  pub blown : ServeLines (codes "reset" ∷ []) (new_armed n capacity text t) (Off (new_blown n capacity text t)) down_text
+  pub spared : (new_blown n capacity text t).refusals.faults ≡ 0
 
 abbrev pub HaveWitnesses : Type 0
-HaveWitnesses = (n : ℕ) (text : List ℕ) (t : Tokens) → least_size ≤ n → Reads text (Ok t) → HaveWitness n text t
+HaveWitnesses = (n capacity : ℕ) (text : List ℕ) (t : Tokens) → least_size ≤ n → Reads text (Ok t) → HaveWitness n capacity text t

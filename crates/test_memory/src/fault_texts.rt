@@ -35,7 +35,7 @@ const IMAGE_TEXTS: [(ImageFault, &str); 3] = [
     ),
     (
         ImageFault::BadSize,
-        "the image does not tell its own size, or it is too small",
+        "the image does not tell its own size or its journal, or it is too small",
     ),
 ];
 
@@ -165,9 +165,10 @@ const TABLE_TEXTS: [(TableFault, &str); 1] = [(
     "bad table line 65535",
 )];
 
-const FORMAT_TEXTS: [(FormatFault, &str); 4] = [
+const FORMAT_TEXTS: [(FormatFault, &str); 5] = [
     (FormatFault::StoreDown, "the store is down"),
     (FormatFault::BadSize, "an image has at least 4096 words"),
+    (FormatFault::BadCapacity, "a journal has 16 to 1024 entries"),
     (FormatFault::BadTable(7), "line 7 of the table is bad"),
     (
         FormatFault::TooSmall,
@@ -221,7 +222,7 @@ const SCRIPT_TEXTS: [(ScriptFault, &str); 5] = [
 // Looks that each fault says its text.
 fn check_texts<R: Abort, F: Display + Copy>(rt: &R, texts: &[(F, &str)]) {
     for (fault, text) in texts {
-        assert_eq!(rt; InlineText::<64>::of(*fault).as_str(), *text);
+        assert_eq!(rt; InlineText::<96>::of(*fault).as_str(), *text);
     }
 }
 

@@ -1,6 +1,7 @@
 //! Sessions over a new card, told as rows.
 use jc_platform::example::EXAMPLE;
 use jc_session::card::formatting::format;
+use jc_words::layout::USUAL_CAPACITY;
 use jc_words::{MemStore, WordStore};
 use jcard_rows::line::{Line, read_line};
 use std::alloc::{AllocError, Global};
@@ -35,7 +36,11 @@ pub(crate) struct Served {
 
 /// A new image.
 pub(crate) fn new_store(alloc: Global) -> Result<MemStore, Fail> {
-    let (store, made) = format(MemStore::new(alloc, 4096)?, EXAMPLE.as_bytes());
+    let (store, made) = format(
+        MemStore::new(alloc, 4096)?,
+        EXAMPLE.as_bytes(),
+        USUAL_CAPACITY,
+    );
     made?;
     Ok(store)
 }

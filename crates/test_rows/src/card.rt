@@ -4,6 +4,7 @@ use crate::image::Image;
 use crate::order::{Order, read_order};
 use crate::piece::Piece;
 use crate::words::no_store;
+use jc_words::layout::USUAL_CAPACITY;
 use jcard_rows::line::{Line, read_line};
 use jcard_rows::numbered::Numbered;
 use std::alloc::{AllocError, Global};
@@ -21,10 +22,10 @@ pub(crate) struct Card {
 }
 
 impl Card {
-    /// A new card of so many words.
+    /// A new card of so many words, with the usual journal.
     pub(crate) fn new(alloc: Global, words: u16) -> Result<Card, AllocError> {
         Ok(Card {
-            image: Image::formatted(alloc, words)?,
+            image: Image::formatted(alloc, words, USUAL_CAPACITY)?,
             piece: Piece::new(alloc),
             cuts: Cuts::new(alloc),
             rows: 0,
@@ -86,7 +87,7 @@ impl Card {
         order: Order,
     ) -> Result<Option<String>, AllocError> {
         match order {
-            Order::Card(words) => self.image = Image::formatted(alloc, words)?,
+            Order::Card(words, capacity) => self.image = Image::formatted(alloc, words, capacity)?,
             Order::Zeros(words) => self.image = Image::zeros(alloc, words)?,
             Order::Random(seed, count) => self.piece.add_random(alloc, number, seed, count)?,
             Order::Cut(depth) => return Ok(Some(self.cuts.cut(alloc, depth)?)),

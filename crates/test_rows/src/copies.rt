@@ -95,7 +95,7 @@ pub(crate) fn first_unlike(heap: &[u16], words: &[u16]) -> Option<usize> {
         if place >= top {
             return None;
         }
-        if word != other && !is_of_journal(place) {
+        if word != other && !is_of_journal(heap, place) {
             return Some(place);
         }
     }
@@ -107,7 +107,7 @@ fn unlike(alloc: Global, heap: &[u16], words: &[u16]) -> Result<Vec<usize>, Allo
     let mut places = Vec::new(alloc);
     let top = end_of_heap(heap);
     for (place, (word, other)) in heap.iter().zip(words).enumerate() {
-        if place < top && word != other && !is_of_journal(place) {
+        if place < top && word != other && !is_of_journal(heap, place) {
             places.push(place)?;
         }
     }

@@ -24,9 +24,9 @@ impl Image {
         Image::of(alloc, zeros(alloc, count)?)
     }
 
-    /// A new image of so many words, which are kept.
-    pub(crate) fn formatted(alloc: Global, count: u16) -> Result<Image, AllocError> {
-        let (store, _) = format(MemStore::new(alloc, count)?, EXAMPLE.as_bytes());
+    /// A new image of so many words, with a journal of so many entries; its words are kept.
+    pub(crate) fn formatted(alloc: Global, count: u16, capacity: u16) -> Result<Image, AllocError> {
+        let (store, _) = format(MemStore::new(alloc, count)?, EXAMPLE.as_bytes(), capacity);
         Image::of(alloc, FuseStore::new(store))
     }
 
@@ -45,7 +45,7 @@ impl Image {
         order: ImageOrder,
     ) -> Result<String, AllocError> {
         match order {
-            ImageOrder::Format(writes) => self.format(alloc, writes),
+            ImageOrder::Format(writes, capacity) => self.format(alloc, writes, capacity),
             ImageOrder::Power(writes) => self.power_up(alloc, writes),
             ImageOrder::Words(first, count) => self.told_words(alloc, first, count),
             ImageOrder::Put(first, words) => self.put(alloc, first, words),
@@ -69,8 +69,9 @@ impl Image {
     }
 
     /// Makes an image of it: `ok`, `down` or a fault.
-    fn format(&mut self, alloc: Global, writes: u64) -> Result<String, AllocError> {
-        let (store, result) = format(self.take_store(alloc, writes), EXAMPLE.as_bytes());
+    fn format(&mut self, alloc: Global, writes: u64, capacity: u16) -> Result<String, AllocError> {
+        let store = self.take_store(alloc, writes);
+        let (store, result) = format(store, EXAMPLE.as_bytes(), capacity);
         self.store = store;
         match result {
             Ok(()) => String::from_str(alloc, "ok"),
@@ -114,7 +115,7 @@ impl Image {
     fn told_changes(&self, alloc: Global, is_outside: bool) -> Result<String, AllocError> {
         let mut text = String::new(alloc);
         for (i, kept) in self.kept.as_slice().iter().enumerate() {
-            if is_outside && is_of_journal(i) {
+            if is_outside && is_of_journal(self.kept.as_slice(), i) {
                 continue;
             }
             if let Some(word) = self.word_unlike(i, *kept) {

@@ -1,10 +1,11 @@
 //! What a row asks for.
+use jc_words::layout::USUAL_CAPACITY;
 
 /// What a row asks for.
 #[derive(Drop)]
 pub(crate) enum Order<'a> {
-    /// A new card of so many words.
-    Card(u16),
+    /// A new card of so many words, with a journal of so many entries.
+    Card(u16, u16),
     /// A card of so many words, all of them 0.
     Zeros(u16),
     /// So many random commands from this seed.
@@ -26,8 +27,8 @@ pub(crate) enum Order<'a> {
 /// What is done to an image, or asked of it, while the power is off.
 #[derive(Drop)]
 pub(crate) enum ImageOrder<'a> {
-    /// An image is made of it, and the power is cut after so many word writes.
-    Format(u64),
+    /// An image is made of it, with a journal of so many entries, and the power is cut after so many word writes.
+    Format(u64, u16),
     /// The card powers up, and the power is cut after so many word writes.
     Power(u64),
     /// What so many words from this one on are.
@@ -64,7 +65,8 @@ pub(crate) fn read_order(text: &str) -> Order<'_> {
 /// An order that begins a card, random commands, or what a session is told.
 fn read_card_order<'a>(name: &str, words: &'a str) -> Option<Order<'a>> {
     if name == "card" {
-        return Some(Order::Card(words.parse::<u16>().ok()?));
+        let (words, capacity) = split_journal(words)?;
+        return Some(Order::Card(words.parse::<u16>().ok()?, capacity));
     }
     if name == "zeros" {
         return Some(Order::Zeros(words.parse::<u16>().ok()?));
@@ -92,7 +94,8 @@ fn read_cut_order<'a>(name: &str, words: &'a str) -> Option<Order<'a>> {
 /// An order for an image.
 fn read_image_order<'a>(name: &str, words: &'a str) -> Option<ImageOrder<'a>> {
     if name == "format" {
-        return Some(ImageOrder::Format(read_writes(words)?));
+        let (writes, capacity) = split_journal(words)?;
+        return Some(ImageOrder::Format(read_writes(writes)?, capacity));
     }
     if name == "power" {
         return Some(ImageOrder::Power(read_writes(words)?));
@@ -140,6 +143,14 @@ fn read_plain_order<'a>(name: &str, words: &str) -> Option<ImageOrder<'a>> {
         return Some(ImageOrder::Passed);
     }
     None
+}
+
+/// What stands before `journal C`, and how many entries that is; the usual number where it is not there.
+fn split_journal(words: &str) -> Option<(&str, u16)> {
+    match words.split_once("journal ") {
+        Some((before, capacity)) => Some((before.trim_end(), capacity.parse::<u16>().ok()?)),
+        None => Some((words, USUAL_CAPACITY)),
+    }
 }
 
 /// A number of word writes, or more than there ever are.

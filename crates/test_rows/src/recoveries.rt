@@ -1,6 +1,6 @@
 //! Recoveries, each cut after each number of its word writes.
 use crate::copies::first_unlike;
-use crate::words::store_of;
+use crate::words::{store_of, word_at};
 use jc_session::card::card::Card;
 use jc_session::card::power_up::PowerFault;
 use jc_words::layout::COUNT;
@@ -129,11 +129,6 @@ fn compared(
         return Ok(Err(format!(in alloc; "after {way}: entries are left")?));
     }
     Ok(Ok(writes))
-}
-
-/// A word, or 0.
-fn word_at(words: &[u16], place: usize) -> u16 {
-    words.get(place).copied().unwrap_or(0)
 }
 
 /// Whether words were left before.

@@ -1,5 +1,7 @@
 //! The words of stores in memory.
-use jc_words::layout::{FRONT_LENGTH, JOURNAL_CAPACITY};
+use jc_words::layout::{
+    CAPACITY_WORD, COUNT, FIRST_VERSION, FRONT_CAPACITY, JOURNAL_WORD, LOG_START, VERSION_WORD,
+};
 use jc_words::{FuseStore, MemStore, WordStore};
 use std::alloc::{AllocError, Global};
 
@@ -34,10 +36,22 @@ pub(crate) fn words_of(alloc: Global, store: &Store) -> Result<Vec<u16>, AllocEr
     Ok(words)
 }
 
-/// Whether the word is one of the journal's own: the number of its entries, or in one of them.
-pub(crate) fn is_of_journal(i: usize) -> bool {
-    let entries = FRONT_LENGTH..FRONT_LENGTH + 2 * usize::from(JOURNAL_CAPACITY);
-    i == 3 || entries.contains(&i)
+/// Whether a place of an image is the journal's own: that of the number of its entries, or in one of them.
+pub(crate) fn is_of_journal(words: &[u16], place: usize) -> bool {
+    let mut first = LOG_START;
+    let mut entries = FRONT_CAPACITY;
+    if word_at(words, usize::from(VERSION_WORD)) != FIRST_VERSION {
+        first = word_at(words, usize::from(JOURNAL_WORD));
+        entries = word_at(words, usize::from(CAPACITY_WORD));
+    }
+    let first = usize::from(first);
+    let behind = first + 2 * usize::from(entries);
+    place == usize::from(COUNT) || (first <= place && place < behind)
+}
+
+/// A word, or 0.
+pub(crate) fn word_at(words: &[u16], place: usize) -> u16 {
+    words.get(place).copied().unwrap_or(0)
 }
 
 /// The word that four hexadecimal digits spell.

@@ -12,10 +12,10 @@ returns-in_default g c =
     let n = c.args.n in
     let a = c.read-address.result in
     let i = c.in_default.field-0 in
-    let is : a ≡ address_at w n = c.read-address.ensures ∙ ap (slice_index w) c.address_word.ensures in
-    let found : StandsAt w c.args.numbers.now.items a i = subst (λ l. StandsAt w l a i) c.as_slice.ensures.value c.in_default.ensures in
-    absurd (false≢true (sym c.requires.own ∙ ap (λ x. list_any (λ y. y == x) (named_by w n)) (sym is)
-    ∙ stands_named w c.args.numbers.now.items n a i c.requires.index found))
+    let is : a ≡ address_at c.args.log w n = c.read-address.ensures ∙ ap (slice_index w) c.address_word.ensures in
+    let found : StandsAt c.args.log w c.args.numbers.now.items a i = subst (λ l. StandsAt c.args.log w l a i) c.as_slice.ensures.value c.in_default.ensures in
+    absurd (false≢true (sym c.requires.own ∙ ap (λ x. list_any (λ y. y == x) (named_by c.args.log w n)) (sym is)
+    ∙ stands_named c.args.log w c.args.numbers.now.items n a i c.requires.index found))
 
 pub returns : goal.returns
 returns g c =
@@ -23,7 +23,7 @@ returns g c =
     let n = c.args.n in
     let a = c.read-address.result in
     let i = c.in-Err.place in
-    let is : a ≡ address_at w n = c.read-address.ensures ∙ ap (slice_index w) c.address_word.ensures in
-    let gap : IsGapFor w c.args.numbers.now.items (address_at w n) i = subst (λ x. IsGapFor w c.args.numbers.now.items x i) is
-    (subst (λ l. IsGapFor w l a i) c.as_slice.ensures.value c.in-Err.ensures) in
-    subst (IsIndexOf w (n + 1)) (sym c.insert.ensures.items) (index_more w c.args.numbers.now.items n i c.requires.index gap)
+    let is : a ≡ address_at c.args.log w n = c.read-address.ensures ∙ ap (slice_index w) c.address_word.ensures in
+    let gap : IsGapFor c.args.log w c.args.numbers.now.items (address_at c.args.log w n) i = subst (λ x. IsGapFor c.args.log w c.args.numbers.now.items x i) is
+    (subst (λ l. IsGapFor c.args.log w l a i) c.as_slice.ensures.value c.in-Err.ensures) in
+    subst (IsIndexOf c.args.log w (n + 1)) (sym c.insert.ensures.items) (index_more c.args.log w c.args.numbers.now.items n i c.requires.index gap)

@@ -1,6 +1,7 @@
 use Rattle.std.proofs.Common.{◌≡◌, length, take}
 use Rattle.jc_words.specs.Count.{saturating_count}
 use Rattle.jc_commit.specs.Image.{count_of, plain_of, recovered_of, entries, top_of, with_words, IsGoodLog}
+use Rattle.jc_words.specs.Image.{log_of}
 use Rattle.jc_commit.specs.State.{live_words}
 use Rattle.jc_commit.specs.EntryIndex.{KeepsAddresses}
 use Rattle.jc_commit.proofs.keep.write_through.Given as goal
@@ -16,7 +17,8 @@ invariant-loop-i g l =
       top : top_of (recovered_of words) ≡ top_of (recovered_of initial);
       entries : entries words ≡ entries initial;
       count : count_of words ≡ count_of initial;
-      addresses : KeepsAddresses initial words;
+      addresses : KeepsAddresses (log_of initial) initial words;
+      log : log_of words ≡ log_of initial;
       plain : plain_of words ≡ with_words (plain_of initial) (take l.i (g.C.WordChanges.changes l.changes));
       passed : g.S.WordStore.passed l.store ≡ saturating_count (g.S.WordStore.passed l.initial.store) l.i;
       down : g.S.WordStore.down l.store ≡ g.S.WordStore.down l.initial.store;

@@ -1,65 +1,61 @@
 use Rattle.std.proofs.Common.{◌≡◌, ◌∙◌, sym, ap, subst, length, arith}
 use Rattle.jc_words.specs.Count.{saturating_count}
 use Rattle.jc_words.specs.Refusals.{refused_once}
+use Rattle.jc_words.specs.Image.{heap_end}
+use Rattle.jc_commit.proofs.Words.{heap_end_within}
 use Rattle.jc_commit.specs.Image.{recovered_of, IsGoodLog}
 use Rattle.jc_commit.specs.State.{State, recovered_journal}
 use Rattle.jc_commit.specs.declared.refusal.OpenRefusal.TheVariants.{StoreDown}
 use Rattle.jc_heap.specs.Image.{IsWellFormed}
 use Rattle.jc_heap.specs.Heap.{heap_view}
 use Rattle.jc_image.specs.Laying.{unsealed_view, first_free}
-use Rattle.jc_image.proofs.LaidStores.{unmarked, only_down, length_all, good_all, laid_all, recovered_long, view_all, part_after}
+use Rattle.jc_image.proofs.LaidStores.{unmarked, only_down, good_all, moved_all, laid_all, limit_all, view_all, part_after}
 use Rattle.jc_image.proofs.laying.lay.Goals as goal
 
 pub returns-in_default-clause-unmarked : goal.returns-in_default-clause-unmarked
-returns-in_default-clause-unmarked g c = unmarked c.args.text.now (g.S.WordStore.words c.args.store)
+returns-in_default-clause-unmarked g c = unmarked c.args.capacity c.args.text.now (g.S.WordStore.words c.args.store)
     (g.S.WordStore.words c.write_image.new.store) c.write_image.ensures.part
 
-pub open-requires : goal.open-requires
-open-requires g c = omega (
-  arith,
-  length_all c.args.text.now (g.S.WordStore.words c.args.store)
-      (g.S.WordStore.words c.write_image.new.store) c.in-Ok.ensures.bytes c.requires.fits c.in-Ok.ensures.done,
-)
-
-pub of_journal-requires-clause-size : goal.of_journal-requires-clause-size
-of_journal-requires-clause-size g c =
-    c.size-size.ensures
-    ∙ sym (recovered_long c.args.text.now (g.S.WordStore.words c.args.store) (g.S.WordStore.words c.write_image.new.store) c.in-Ok.ensures.bytes c.requires.fits
-    c.in-Ok.ensures.done)
-    ∙ ap (λ (j : State). length j.plain) (sym c.in-Ok-open.ensures.ok)
+pub write_image-requires-clause-fits : goal.write_image-requires-clause-fits
+write_image-requires-clause-fits g c = omega (arith, c.requires.fits, heap_end_within (length (g.S.WordStore.words c.args.store)) c.args.capacity)
 
 pub of_journal-requires-clause-laid : goal.of_journal-requires-clause-laid
 of_journal-requires-clause-laid g c =
     let laid : IsWellFormed (recovered_of (g.S.WordStore.words c.write_image.new.store)) =
-    laid_all c.args.text.now (g.S.WordStore.words c.args.store) (g.S.WordStore.words c.write_image.new.store) c.in-Ok.ensures.bytes c.requires.fits
-    c.in-Ok.ensures.done in
-    subst (λ (j : State). IsWellFormed j.plain) (sym c.in-Ok-open.ensures.ok) laid
+    laid_all c.args.capacity c.args.text.now (g.S.WordStore.words c.args.store) (g.S.WordStore.words c.write_image.new.store) c.in-Ok.ensures.bytes
+    c.requires.enough c.requires.capacity c.requires.fits c.in-Ok.ensures.done in
+    let moved = moved_all c.args.capacity c.args.text.now (g.S.WordStore.words c.args.store) (g.S.WordStore.words c.write_image.new.store) c.in-Ok.ensures.bytes
+    c.requires.enough c.requires.capacity c.requires.fits c.in-Ok.ensures.done in
+    subst (λ (j : State). IsWellFormed j.plain) (sym c.in-Ok-open.ensures.ok) (subst IsWellFormed (sym moved) laid)
 
 pub returns-in-Ok-open-clause-done : goal.returns-in-Ok-open-clause-done
 returns-in-Ok-open-clause-done g c =
     let w = g.S.WordStore.words c.write_image.new.store in
     let old = g.S.WordStore.words c.args.store in
+    let r = g.S.WordStore.refusals c.write_image.new.store in
+    let limit : c.limit-size.result ≡ heap_end (length old) c.args.capacity = c.limit-size.ensures ∙ c.in-Ok-open.ensures.size
+    ∙ limit_all c.args.capacity c.args.text.now old w c.in-Ok.ensures.bytes c.requires.enough c.requires.capacity c.requires.fits c.in-Ok.ensures.done in
     c.of_journal.ensures
-    ∙ ap (λ (j : State). heap_view j c.size-size.result) c.in-Ok-open.ensures.ok
-    ∙ ap (heap_view (recovered_journal w (g.S.WordStore.passed c.write_image.new.store) (g.S.WordStore.refusals c.write_image.new.store))) c.size-size.ensures
-    ∙ view_all c.args.text.now old w c.in-Ok.ensures.bytes c.requires.fits c.in-Ok.ensures.done (g.S.WordStore.passed c.write_image.new.store)
-    (g.S.WordStore.refusals c.write_image.new.store)
-    ∙ ap (λ p. unsealed_view (length old) c.args.text.now p (g.S.WordStore.refusals c.write_image.new.store)) c.in-Ok.ensures.passed
-    ∙ ap (unsealed_view (length old) c.args.text.now (saturating_count (g.S.WordStore.passed c.args.store) (first_free (length c.args.text.now))))
+    ∙ ap (λ (j : State). heap_view j c.limit-size.result) c.in-Ok-open.ensures.ok
+    ∙ ap (heap_view (recovered_journal w (g.S.WordStore.passed c.write_image.new.store) r)) limit
+    ∙ view_all c.args.capacity c.args.text.now old w c.in-Ok.ensures.bytes c.requires.enough c.requires.capacity c.requires.fits c.in-Ok.ensures.done
+    (g.S.WordStore.passed c.write_image.new.store) r
+    ∙ ap (λ p. unsealed_view (length old) c.args.capacity c.args.text.now p r) c.in-Ok.ensures.passed
+    ∙ ap (unsealed_view (length old) c.args.capacity c.args.text.now (saturating_count (g.S.WordStore.passed c.args.store) (first_free (length c.args.text.now))))
     c.in-Ok.ensures.refusals
 
 pub returns-in-Err-clause-down : goal.returns-in-Err-clause-down
 returns-in-Err-clause-down g c =
-    let good : IsGoodLog (g.S.WordStore.words c.write_image.new.store) = good_all c.args.text.now (g.S.WordStore.words c.args.store)
-    (g.S.WordStore.words c.write_image.new.store) c.in-Ok.ensures.bytes c.requires.fits c.in-Ok.ensures.done in
+    let good : IsGoodLog (g.S.WordStore.words c.write_image.new.store) = good_all c.args.capacity c.args.text.now (g.S.WordStore.words c.args.store)
+    (g.S.WordStore.words c.write_image.new.store) c.in-Ok.ensures.bytes c.requires.enough c.requires.capacity c.requires.fits c.in-Ok.ensures.done in
     let down : c.in-Err.field-0-0 ≡ StoreDown = only_down (g.S.WordStore.words c.write_image.new.store) c.in-Err.field-0-0 good
     (λ e. (c.in-Err.ensures.bad_log e).0) in
     (c.in-Err.ensures.stopped down).2
 
 pub returns-in-Err-clause-refused : goal.returns-in-Err-clause-refused
 returns-in-Err-clause-refused g c =
-    let good : IsGoodLog (g.S.WordStore.words c.write_image.new.store) = good_all c.args.text.now (g.S.WordStore.words c.args.store)
-    (g.S.WordStore.words c.write_image.new.store) c.in-Ok.ensures.bytes c.requires.fits c.in-Ok.ensures.done in
+    let good : IsGoodLog (g.S.WordStore.words c.write_image.new.store) = good_all c.args.capacity c.args.text.now (g.S.WordStore.words c.args.store)
+    (g.S.WordStore.words c.write_image.new.store) c.in-Ok.ensures.bytes c.requires.enough c.requires.capacity c.requires.fits c.in-Ok.ensures.done in
     let down : c.in-Err.field-0-0 ≡ StoreDown = only_down (g.S.WordStore.words c.write_image.new.store) c.in-Err.field-0-0 good
     (λ e. (c.in-Err.ensures.bad_log e).0) in
     c.in-Err.ensures.refusals down c.in-Ok.ensures.up
@@ -67,27 +63,27 @@ returns-in-Err-clause-refused g c =
 
 pub returns-in-Err-clause-part : goal.returns-in-Err-clause-part
 returns-in-Err-clause-part g c =
-    let good : IsGoodLog (g.S.WordStore.words c.write_image.new.store) = good_all c.args.text.now (g.S.WordStore.words c.args.store)
-    (g.S.WordStore.words c.write_image.new.store) c.in-Ok.ensures.bytes c.requires.fits c.in-Ok.ensures.done in
+    let good : IsGoodLog (g.S.WordStore.words c.write_image.new.store) = good_all c.args.capacity c.args.text.now (g.S.WordStore.words c.args.store)
+    (g.S.WordStore.words c.write_image.new.store) c.in-Ok.ensures.bytes c.requires.enough c.requires.capacity c.requires.fits c.in-Ok.ensures.done in
     let down : c.in-Err.field-0-0 ≡ StoreDown = only_down (g.S.WordStore.words c.write_image.new.store) c.in-Err.field-0-0 good
     (λ e. (c.in-Err.ensures.bad_log e).0) in
-    part_after c.args.text.now (g.S.WordStore.words c.args.store) (g.S.WordStore.words c.write_image.new.store) c.in-Ok.ensures.bytes c.requires.fits
-    c.in-Ok.ensures.done (g.S.WordStore.words c.in-Err.store) (c.in-Err.ensures.part down).0 (c.in-Err.ensures.part down).2
+    part_after c.args.capacity c.args.text.now (g.S.WordStore.words c.args.store) (g.S.WordStore.words c.write_image.new.store) c.in-Ok.ensures.bytes
+    c.requires.enough c.requires.capacity c.requires.fits c.in-Ok.ensures.done (g.S.WordStore.words c.in-Err.store) (c.in-Err.ensures.part down).0 (c.in-Err.ensures.part down).2
 
 pub returns-in-Err-clause-unmarked : goal.returns-in-Err-clause-unmarked
 returns-in-Err-clause-unmarked g c =
-    let good : IsGoodLog (g.S.WordStore.words c.write_image.new.store) = good_all c.args.text.now (g.S.WordStore.words c.args.store)
-    (g.S.WordStore.words c.write_image.new.store) c.in-Ok.ensures.bytes c.requires.fits c.in-Ok.ensures.done in
+    let good : IsGoodLog (g.S.WordStore.words c.write_image.new.store) = good_all c.args.capacity c.args.text.now (g.S.WordStore.words c.args.store)
+    (g.S.WordStore.words c.write_image.new.store) c.in-Ok.ensures.bytes c.requires.enough c.requires.capacity c.requires.fits c.in-Ok.ensures.done in
     let down : c.in-Err.field-0-0 ≡ StoreDown = only_down (g.S.WordStore.words c.write_image.new.store) c.in-Err.field-0-0 good
     (λ e. (c.in-Err.ensures.bad_log e).0) in
-    unmarked c.args.text.now (g.S.WordStore.words c.args.store) (g.S.WordStore.words c.in-Err.store)
-    (part_after c.args.text.now (g.S.WordStore.words c.args.store) (g.S.WordStore.words c.write_image.new.store) c.in-Ok.ensures.bytes c.requires.fits
-    c.in-Ok.ensures.done (g.S.WordStore.words c.in-Err.store) (c.in-Err.ensures.part down).0 (c.in-Err.ensures.part down).2)
+    unmarked c.args.capacity c.args.text.now (g.S.WordStore.words c.args.store) (g.S.WordStore.words c.in-Err.store)
+    (part_after c.args.capacity c.args.text.now (g.S.WordStore.words c.args.store) (g.S.WordStore.words c.write_image.new.store) c.in-Ok.ensures.bytes
+    c.requires.enough c.requires.capacity c.requires.fits c.in-Ok.ensures.done (g.S.WordStore.words c.in-Err.store) (c.in-Err.ensures.part down).0 (c.in-Err.ensures.part down).2)
 
 pub returns-in-Err-clause-size : goal.returns-in-Err-clause-size
 returns-in-Err-clause-size g c =
-    let good : IsGoodLog (g.S.WordStore.words c.write_image.new.store) = good_all c.args.text.now (g.S.WordStore.words c.args.store)
-    (g.S.WordStore.words c.write_image.new.store) c.in-Ok.ensures.bytes c.requires.fits c.in-Ok.ensures.done in
+    let good : IsGoodLog (g.S.WordStore.words c.write_image.new.store) = good_all c.args.capacity c.args.text.now (g.S.WordStore.words c.args.store)
+    (g.S.WordStore.words c.write_image.new.store) c.in-Ok.ensures.bytes c.requires.enough c.requires.capacity c.requires.fits c.in-Ok.ensures.done in
     let down : c.in-Err.field-0-0 ≡ StoreDown = only_down (g.S.WordStore.words c.write_image.new.store) c.in-Err.field-0-0 good
     (λ e. (c.in-Err.ensures.bad_log e).0) in
     (c.in-Err.ensures.stopped down).1.size ∙ c.write_image.ensures.size

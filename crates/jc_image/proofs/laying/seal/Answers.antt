@@ -18,6 +18,7 @@ returns-in-Ok-clause-sealed g c =
       passed = e.passed;
       refusals = e.refusals;
       closed = e.closed;
+      current = e.current;
     })
     c.in-Ok.ensures.ok c.into_journal-journal.ensures.view c.into_journal-journal.ensures.sound c.requires.up c.requires.outside
 
@@ -37,9 +38,11 @@ returns-in-Ok-clause-front g c =
       passed = e.passed;
       refusals = e.refusals;
       closed = e.closed;
+      current = e.current;
     })
     c.in-Ok.ensures.ok c.into_journal-journal.ensures.view c.into_journal-journal.ensures.sound c.requires.up c.requires.outside in
-    front-words (S.words s) held.good held.laid (held.rests c.requires.up c.requires.outside).closed ∙ ap (λ h. first_words_of h) held.durable
+    front-words (S.words s) held.good held.laid (held.rests c.requires.up c.requires.outside).closed
+    (held.rests c.requires.up c.requires.outside).current ∙ ap (λ h. first_words_of h) held.durable
 
 pub returns-in-Ok-clause-settled : goal.returns-in-Ok-clause-settled
 returns-in-Ok-clause-settled g c =
@@ -59,6 +62,7 @@ returns-in-Err-clause-stopped g c =
       passed = e.passed;
       refusals = e.refusals;
       closed = e.closed;
+      current = e.current;
     })
     c.in-Err.ensures.err c.into_journal-journal.ensures.view c.into_journal-journal.ensures.sound
 

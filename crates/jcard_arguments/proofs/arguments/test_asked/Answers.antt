@@ -1,4 +1,4 @@
-use Rattle.std.proofs.Common.{◌∙◌, List, Option, Some, None, ap, map, refl, codes}
+use Rattle.std.proofs.Common.{◌∙◌, List, Some, None, ap, map, refl, codes}
 use Rattle.std.specs.Prelude.{option_map}
 use Rattle.std.specs.Borrow.{Bor}
 use Rattle.clap.specs.Words.{Text, first_value, found_of}

@@ -15,9 +15,9 @@ returns-in-Err g c =
     let after = c.format-store.result.0 in
     let f = c.format-store.ensures in
     let kept = rw c.in-Err.is at f.kept in
-    laid_with c.args.image.now (length words) c.args.text.now c.format-store.result.1 c.in-Err.cause c.format_fault.result
+    laid_with c.args.image.now (length words) c.args.capacity c.args.text.now c.format-store.result.1 c.in-Err.cause c.format_fault.result
     (store_value s.words s.down s.passed s.refusals after)
-    c.in-Err.is c.requires.table c.requires.enough f.bad_size.0 (λ k e. ((f.bad_table k).0 e).1) (λ e. (f.too_small.0 e).1)
+    c.in-Err.is c.requires.table c.requires.enough c.requires.journal f.bad_size.0 (λ e. (f.bad_capacity.0 e).1) (λ k e. ((f.bad_table k).0 e).2) (λ e. (f.too_small.0 e).2)
     (λ h. ap (λ t. store_value s.words s.down s.passed s.refusals t) (kept (λ e. h (c.in-Err.is ∙ e)))
     ∙ (fresh_untouched words _ _ _ c.requires.up c.requires.none_passed c.requires.none_refused ∙ ap untouched c.requires.zeros))
     (λ e. let stopped = f.stopped e in (

@@ -12,5 +12,5 @@ returns-in-Err-StoreDown-default-clause-torn c =
     c.new-store.ensures ∙ ap under_fuse c.of.ensures ∙ ap store_of c.in_ok-copy.ensures.items in
     let armed : c.arm.new.self ≡ with_fuse_armed c.args.number (store_of c.args.words.now) = c.arm.ensures ∙ ap₂ with_fuse_armed c.from.ensures fresh in
     c.words_of.ensures.words
-    ∙ torn_at c.args.words.now c.arm.new.self c.in-Err-StoreDown-default.store c.args.number armed c.ranges.number.fits
+    ∙ torn_at c.args.words.now c.arm.new.self c.in-Err-StoreDown-default.store c.args.number armed c.ranges.number.fits c.requires.version
     (e.part c.in-Err-StoreDown-default.field-0-0-is) (e.refusals c.in-Err-StoreDown-default.field-0-0-is) c.words_of.ensures.refuses_none

@@ -5,4 +5,4 @@ use Rattle.jc_heap.proofs.heap.Heap.commit_capacity.Goals as goal
 
 pub returns-clause-exact : goal.returns-clause-exact
 returns-clause-exact g c =
-    c.capacity.ensures.exact ∙ sym (capacity_is c.self.inside.journal.recovered) ∙ ap (λ (v : HeapView). v.durable.capacity) c.self.view_is
+    c.capacity.ensures.exact ∙ sym (capacity_is c.self.inside.journal.recovered c.self.invariant.back) ∙ ap (λ (v : HeapView). v.durable.capacity) c.self.view_is

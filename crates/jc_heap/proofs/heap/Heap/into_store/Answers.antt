@@ -19,5 +19,6 @@ returns g c =
       passed = e.passed;
       refusals = e.refusals;
       closed = e.closed;
+      current = e.current;
     })
     c.self.invariant.back c.self.invariant.size_recovered)

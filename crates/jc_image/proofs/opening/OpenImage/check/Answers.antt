@@ -18,6 +18,7 @@ returns-then-not-is_heap-clause-store g c =
       passed = e.passed;
       refusals = e.refusals;
       closed = e.closed;
+      current = e.current;
     })
     c.self.invariant)
 
@@ -36,5 +37,6 @@ returns-then-not-begins_with-clause-store g c =
       passed = e.passed;
       refusals = e.refusals;
       closed = e.closed;
+      current = e.current;
     })
     c.self.invariant)

@@ -18,5 +18,6 @@ returns g c =
       passed = e.passed;
       refusals = e.refusals;
       closed = e.closed;
+      current = e.current;
     })
     c.self.invariant)

@@ -13,7 +13,7 @@ returns-in-Err g c =
       fault = (
         c.in-Err.store,
         fails_up c.args.store c.power_on.new.self c.in-Err.store c.in-Err.fault c.power_on.ensures other
-            (found.cause, found.stands, found.size, found.untouched, found.after),
+            (found.cause, found.stands, found.limit, found.untouched, found.after),
         refl,
       );
     }

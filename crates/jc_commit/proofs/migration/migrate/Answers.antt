@@ -1,0 +1,48 @@
+use Rattle.std.specs.Prelude.{◌==◌, Bool}
+use Rattle.std.proofs.Common.{◌≡◌, true, ℕ, List, length, set, take, slice_index, sym, ap, ◌∙◌, arith, eq-eqb}
+use Rattle.jc_words.specs.Layout.{version_address, journal_address, log_start, first_version}
+use Rattle.jc_commit.specs.Image.{with_words}
+use Rattle.jc_commit.specs.Migration.{migration}
+use Rattle.jc_commit.proofs.Refusals.{anyway}
+use Rattle.jc_commit.proofs.Migrations.{steps}
+use Rattle.jc_commit.proofs.migration.migrate.Goals as goal
+
+pub returns-in_err-write-clause-part : goal.returns-in_err-write-clause-part
+returns-in_err-write-clause-part g c =
+    let w = g.S.WordStore.words c.args.store.now in
+    let first : slice_index w version_address ≡ first_version = omega (arith, c.read.ensures, c.if-read-ne-FIRST_VERSION.false) in
+    let is : (slice_index w version_address == first_version) ≡ true = eq-eqb (slice_index w version_address) first_version first in
+    let three : length (migration w) ≡ 3 = ap (λ (b : Bool). length (steps b)) is in
+    anyway c.from_residual.result _ (
+      0,
+      omega (arith, three),
+      c.in_err-write.ensures.kept ∙ sym (ap (λ (b : Bool). with_words w (take 0 (steps b))) is),
+      omega (arith, c.in_err-write.ensures.passed),
+    )
+
+pub returns-in_err-write-2-clause-part : goal.returns-in_err-write-2-clause-part
+returns-in_err-write-2-clause-part g c =
+    let w = g.S.WordStore.words c.args.store.now in
+    let first : slice_index w version_address ≡ first_version = omega (arith, c.read.ensures, c.if-read-ne-FIRST_VERSION.false) in
+    let is : (slice_index w version_address == first_version) ≡ true = eq-eqb (slice_index w version_address) first_version first in
+    let three : length (migration w) ≡ 3 = ap (λ (b : Bool). length (steps b)) is in
+    anyway c.from_residual-in_err-write-2.result _ (
+      1,
+      omega (arith, three),
+      c.in_err-write-2.ensures.kept ∙ c.in_ok-write.ensures.written ∙ sym (ap (λ (b : Bool). with_words w (take 1 (steps b))) is),
+      omega (arith, c.in_err-write-2.ensures.passed, c.in_ok-write.ensures.passed),
+    )
+
+pub returns-in_err-write-3-clause-part : goal.returns-in_err-write-3-clause-part
+returns-in_err-write-3-clause-part g c =
+    let w = g.S.WordStore.words c.args.store.now in
+    let first : slice_index w version_address ≡ first_version = omega (arith, c.read.ensures, c.if-read-ne-FIRST_VERSION.false) in
+    let is : (slice_index w version_address == first_version) ≡ true = eq-eqb (slice_index w version_address) first_version first in
+    let three : length (migration w) ≡ 3 = ap (λ (b : Bool). length (steps b)) is in
+    anyway c.from_residual-in_err-write-3.result _ (
+      2,
+      omega (arith, three),
+      c.in_err-write-3.ensures.kept ∙ c.in_ok-write-2.ensures.written
+          ∙ ap (λ (u : List ℕ). set u journal_address log_start) c.in_ok-write.ensures.written ∙ sym (ap (λ (b : Bool). with_words w (take 2 (steps b))) is),
+      omega (arith, c.in_err-write-3.ensures.passed, c.in_ok-write-2.ensures.passed, c.in_ok-write.ensures.passed),
+    )
