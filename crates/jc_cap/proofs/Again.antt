@@ -1,5 +1,5 @@
 -- What a component says can be read again.
-use Rattle.std.proofs.Common.{◌≡◌, ℕ, eqb, true, false, List, Option, Some, None, Result, Ok, refl, sym, ap, subst, ◌∙◌}
+use Rattle.std.proofs.Common.{◌≡◌, ℕ, eqb, true, false, List, Option, Some, None, Result, Ok, Err, refl, sym, ap, subst, ◌∙◌}
 use Rattle.jc_cap_linkage.specs.declared.fault.CapFault.{CapFault}
 use Rattle.jc_cap_linkage.specs.declared.formats.Format.{Format}
 use Rattle.jc_cap_linkage.specs.Again.{IsReadable}
@@ -15,15 +15,17 @@ use Rattle.jc_cap_linkage.specs.Applets.{AppletNamed, applets_at}
 use Rattle.jc_cap_linkage.specs.Imports.{imports_at}
 use Rattle.jc_cap_linkage.specs.Pool.{pool_at}
 use Rattle.jc_cap_linkage.specs.Exports.{exports_at}
-use Rattle.jc_cap_linkage.proofs.Many.{bind_ok}
+use Rattle.jc_cap_linkage.proofs.Many.{bind_ok, ok_is}
 use Rattle.jc_cap_code.specs.ClassValues.{RecordAt}
 use Rattle.jc_cap_code.specs.ClassReading.{classes_of}
 use Rattle.jc_cap_code.specs.MethodValues.{MethodParts}
 use Rattle.jc_cap_code.specs.MethodReading.{methods_of}
 use Rattle.jc_cap_code.specs.StaticValues.{StaticParts}
 use Rattle.jc_cap_code.specs.StaticReading.{statics_at}
+use Rattle.jc_cap_code.specs.StaticViews.{TellsCounts, counts_or_none, static_counts}
+use Rattle.jc_cap_code.specs.declared.statics.StaticCounts.{StaticCounts}
 use Rattle.jc_cap.specs.declared.texts.LoadedComponents.{LoadedComponents}
-use Rattle.jc_cap.specs.ComponentReading.{header_in, classes_in}
+use Rattle.jc_cap.specs.ComponentReading.{header_in, classes_in, statics_in}
 use Rattle.jc_cap.specs.Taking.{taken, taken_with, told_by}
 use Rattle.jc_cap.specs.Texts.{with_component}
 use Rattle.jc_cap.proofs.Taken.{classes_are, header_is}
@@ -62,10 +64,6 @@ of_pool info given = unwrapped contents.pool (value_of_whole (pool_at info)) giv
 pub of_methods : (info : List ℕ) → Again 7 info → IsReadable (methods_of info)
 unfolding content_at
 of_methods info given = unwrapped contents.methods (methods_of info) given.1
-
-pub of_statics : (info : List ℕ) → Again 8 info → IsReadable (value_of_whole (statics_at info))
-unfolding content_at
-of_statics info given = unwrapped contents.statics (value_of_whole (statics_at info)) given.1
 
 pub of_exports : (info : List ℕ) → Again 10 info → IsReadable (value_of_whole (exports_at info))
 unfolding content_at
@@ -157,3 +155,17 @@ others_kept old format tag bytes kept other same given =
     ap (λ (t : List ℕ). taken (Ok None) (with_component old tag t)) same
     ∙ ap (λ (o : Option Format). taken (Ok o) (with_component old tag bytes)) (sym none)
     ∙ sym (ap (taken_with old tag bytes) given.1)
+
+-- ---- the numbers of a StaticField component
+
+pub counts_told : (read : Result StaticParts CapFault) (counts : StaticCounts) → counts_or_none read ≡ Ok counts → TellsCounts counts read
+counts_told read counts e = let s = bind_ok read _ counts e in (s.0, s.1, sym (ok_is (static_counts s.0) counts s.2))
+
+pub counts_fault : (read : Result StaticParts CapFault) (fault : CapFault) → counts_or_none read ≡ Err fault → read ≡ Err fault
+counts_fault (Ok s) fault e = absurd cc
+counts_fault (Err f) fault e = cc
+
+pub counts_of_info : (counts : StaticCounts) (bytes info : List ℕ) → TellsCounts counts (statics_in bytes) → info_at 8 bytes ≡ Ok info
+    → TellsCounts counts (value_of_whole (statics_at info))
+counts_of_info counts bytes info told is =
+    (told.0, ap (λ (r : Result (List ℕ) CapFault). r >>= λ i. value_of_whole (statics_at i)) (sym is) ∙ told.1, told.2)

@@ -6,14 +6,13 @@ ghost use Rattle.jc_cap_linkage.specs.Envelope.{info_at};
 ghost use Rattle.jc_cap_linkage.specs.Reading.{ParsesAs};
 ghost use Rattle.jc_cap_linkage.specs.ComponentViews.{head};
 ghost use Rattle.jc_cap_code.specs.MethodViews.{method_parts};
-ghost use Rattle.jc_cap_code.specs.StaticViews.{static_parts};
-ghost use Rattle.jc_cap.specs.ComponentReading.{header_in, directory_in, imports_in, pool_in, methods_in, statics_in};
+ghost use Rattle.jc_cap.specs.ComponentReading.{header_in, directory_in, imports_in, pool_in, methods_in};
 ghost use Rattle.jc_cap.specs.Components.{component_at, content_at};
 ghost use Rattle.jc_cap.specs.Kept.{IsReadAs, Keeps, applets_told, exports_told};
 
 use jc_cap_code::classes::read_class;
 use jc_cap_code::methods::{Methods, read_method};
-use jc_cap_code::statics::{StaticFields, read_static_field};
+use jc_cap_code::statics::read_static_field;
 use jc_cap_linkage::applets::{Applets, read_applets};
 use jc_cap_linkage::directory::{Directory, read_directory};
 use jc_cap_linkage::envelope::{info_found_in, info_of};
@@ -141,8 +140,6 @@ pub type ConstantPoolComponent = Component<CONSTANT_POOL>;
 
 pub type MethodComponent = Component<METHOD>;
 
-pub type StaticFieldComponent = Component<STATIC_FIELD>;
-
 pub type ExportComponent = Component<EXPORT>;
 
 impl Component<HEADER> {
@@ -213,16 +210,6 @@ impl Component<METHOD> {
         ensures { methods_in self.now ≡ Ok (method_parts result) }
     {
         Methods::found_in(self.info())
-    }
-}
-
-impl Component<STATIC_FIELD> {
-    /// The package's static fields. They are found again in the bytes, without a fault.
-    #[tactic(auto, using(crate::proofs::Again::of_statics))]
-    pub fn statics(&self) -> StaticFields<'_>
-        ensures { statics_in self.now ≡ Ok (static_parts result) }
-    {
-        StaticFields::found_in(self.info())
     }
 }
 

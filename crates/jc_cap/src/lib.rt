@@ -7,4 +7,5 @@ pub mod component;
 pub mod contents;
 mod fitting;
 mod sizes;
+pub mod static_component;
 pub mod texts;

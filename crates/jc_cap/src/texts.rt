@@ -4,16 +4,17 @@ ghost use Rattle.jc_cap.specs.Texts.{no_components};
 ghost use Rattle.jc_cap.specs.Contents.{Content};
 ghost use Rattle.jc_cap.specs.Contents as contents;
 ghost use Rattle.jc_cap.specs.Components.{component_at, content_result, IsComponent};
-ghost use Rattle.jc_cap.specs.ComponentReading.{classes_in};
+ghost use Rattle.jc_cap.specs.ComponentReading.{classes_in, statics_in};
 ghost use Rattle.jc_cap.specs.Taking.{taken, taken_with, unused_taken};
 ghost use Rattle.jc_cap_linkage.specs.Envelope.{info_at};
-ghost use Rattle.jc_cap_linkage.specs.Tags.{header_tag, class_tag};
+ghost use Rattle.jc_cap_linkage.specs.Tags.{header_tag, class_tag, static_field_tag};
 
 use crate::class_component::ClassComponent;
 use crate::component::{
     AppletComponent, Component, ConstantPoolComponent, DirectoryComponent, ExportComponent,
-    HeaderComponent, ImportComponent, MethodComponent, StaticFieldComponent,
+    HeaderComponent, ImportComponent, MethodComponent,
 };
+use crate::static_component::StaticFieldComponent;
 use jc_cap_linkage::envelope::info_of;
 use jc_cap_linkage::fault::CapFault;
 use jc_cap_linkage::formats::Format;
@@ -100,7 +101,7 @@ impl LoadedComponents {
             tags::CONSTANT_POOL => self.pool = Some(Component::read(format, bytes)?),
             tags::CLASS => return self.take_classes(format, bytes),
             tags::METHOD => self.methods = Some(Component::read(format, bytes)?),
-            tags::STATIC_FIELD => self.statics = Some(Component::read(format, bytes)?),
+            tags::STATIC_FIELD => return self.take_statics(bytes),
             tags::EXPORT => self.exports = Some(Component::read(format, bytes)?),
             _ => return self.take_unused(tag, bytes),
         }
@@ -126,6 +127,16 @@ impl LoadedComponents {
             (content_result contents.classes (classes_in format bytes.items)) }
     {
         self.classes = Some(ClassComponent::read(format, bytes)?);
+        Ok(None)
+    }
+
+    // A StaticField component, whose numbers are kept with it.
+    #[tactic(auto, unfolding(crate::specs::Texts::with_component))]
+    fn take_statics(&mut self, bytes: Vec<u8>) -> Result<Option<Format>, CapFault>
+        ensures { taken result self.new ≡ taken_with self.old static_field_tag bytes.items
+            (content_result contents.statics (statics_in bytes.items)) }
+    {
+        self.statics = Some(StaticFieldComponent::read(bytes)?);
         Ok(None)
     }
 

@@ -12,3 +12,4 @@ pub mod Every
 pub mod Found
 pub mod ArraySizes
 pub mod Earlier
+pub mod FoundStatics

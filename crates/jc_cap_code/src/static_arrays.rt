@@ -144,6 +144,14 @@ fn size_of_all(count: u16, bytes: &[u8]) -> usize
 }
 
 impl<'a> ArrayInits<'a> {
+    /// As many arrays as are counted, with which bytes begin that were read before.
+    pub(crate) fn found_in(count: u16, bytes: &'a [u8]) -> ArrayInits<'a>
+        requires { IsList static_array_at count bytes.now }
+        ensures { result ≡ list_or_empty (many_at static_array_at count bytes.now) }
+    {
+        ArrayInits { count, bytes }
+    }
+
     /// How many there are.
     pub fn count(&self) -> u16
         ensures { result ≡ length self.now }

@@ -1,11 +1,10 @@
 //! The StaticField component.
 ghost use Rattle.std.specs.Prelude.{◌≡◌, Ok, IfOk};
 ghost use Rattle.jc_cap_linkage.specs.Reading.{ParsesAs, value_of_whole};
-ghost use Rattle.jc_cap_linkage.specs.Again.{IsReadable};
 ghost use Rattle.jc_cap_code.specs.StaticValues.{StaticParts};
 ghost use Rattle.jc_cap_code.specs.StaticReading.{value_counts_at, statics_at};
 ghost use Rattle.jc_cap_code.specs.StaticGrammar.{AreStatics};
-ghost use Rattle.jc_cap_code.specs.StaticViews.{static_parts};
+ghost use Rattle.jc_cap_code.specs.StaticViews.{TellsCounts, static_counts, static_parts};
 
 use crate::static_arrays::{ArrayInits, read_arrays};
 use jc_cap_linkage::fault::CapFault;
@@ -92,15 +91,43 @@ pub fn read_static_field(info: &[u8]) -> Result<StaticFields<'_>, CapFault>
     read_whole(info)
 }
 
+/// The numbers that a StaticField component tells. Where they are kept once it was read, it is not read a second time.
+#[derive(Clone, Copy, Debug, Drop)]
+pub struct StaticCounts {
+    pub image_size: u16,
+    pub reference_count: u16,
+    pub array_count: u16,
+    pub default_value_count: u16,
+    pub non_default_count: usize,
+}
+
 impl<'a> StaticFields<'a> {
-    /// The static fields that an info is which was read before.
-    pub fn found_in(info: &'a [u8]) -> StaticFields<'a>
-        requires { IsReadable (value_of_whole (statics_at info.now)) }
+    /// The numbers that the component tells.
+    pub fn counts(&self) -> StaticCounts
+        ensures { result ≡ static_counts (static_parts self.now) }
+    {
+        StaticCounts {
+            image_size: self.image_size,
+            reference_count: self.reference_count,
+            array_count: self.arrays.count(),
+            default_value_count: self.default_value_count,
+            non_default_count: self.non_default_values.len(),
+        }
+    }
+
+    /// The static fields that an info is which was read before, and which tells these numbers. Nothing is read a second time.
+    pub fn found_in(counts: StaticCounts, info: &'a [u8]) -> StaticFields<'a>
+        requires { TellsCounts counts (value_of_whole (statics_at info.now)) }
         ensures { value_of_whole (statics_at info.now) ≡ Ok (static_parts result) }
     {
-        match read_whole(info) {
-            Ok(fields) => fields,
-            Err(_) => unreachable!(),
+        let (_, arrays) = info.split_at(6);
+        let (_, values) = info.split_at(info.len() - counts.non_default_count);
+        StaticFields {
+            image_size: counts.image_size,
+            reference_count: counts.reference_count,
+            arrays: ArrayInits::found_in(counts.array_count, arrays),
+            default_value_count: counts.default_value_count,
+            non_default_values: values,
         }
     }
 }

@@ -10,3 +10,5 @@ pub mod ToldDirectory
 pub mod ToldPool
 pub mod ToldEnvelope
 pub mod Again
+pub mod FoundHeader
+pub mod FoundDirectory

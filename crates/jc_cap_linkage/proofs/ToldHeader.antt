@@ -80,12 +80,12 @@ flags_again false true rest = refl
 flags_again false false rest = refl
 
 -- a name, and what stands behind it
-record NameTaken (format : Format) (bytes name rest : List ℕ) : Type 0 where
-  text : List ℕ
-  is : IsName format name text
-  parts : bytes ≡ text ++ rest
+pub record NameTaken (format : Format) (bytes name rest : List ℕ) : Type 0 where
+  pub text : List ℕ
+  pub is : IsName format name text
+  pub parts : bytes ≡ text ++ rest
 
-name_takes : (format : Format) (bytes name rest : List ℕ) → name_at format bytes ≡ Ok (name, rest) → NameTaken format bytes name rest
+pub name_takes : (format : Format) (bytes name rest : List ℕ) → name_at format bytes ≡ Ok (name, rest) → NameTaken format bytes name rest
 unfolding name_at
 name_takes V2_1 bytes name rest e =
     let same = ok_is ([], bytes) (name, rest) e in
@@ -99,7 +99,7 @@ name_takes V2_2 bytes name rest e =
       parts = u1_takes bytes count.0.0 count.0.1 count.1 ∙ ap (λ (t : List ℕ). count.0.0 ∷ t) run.0 ∙ ap (λ (n : ℕ). n ∷ (name ++ rest)) (sym run.1);
     }
 
-name_again : (format : Format) (name text rest : List ℕ) → IsName format name text → name_at format (text ++ rest) ≡ Ok (name, rest)
+pub name_again : (format : Format) (name text rest : List ℕ) → IsName format name text → name_at format (text ++ rest) ≡ Ok (name, rest)
 unfolding name_at
 name_again V2_1 name text rest is = rw (is.0, is.1) refl
 name_again V2_2 name text rest is = rw is (run_again name rest)

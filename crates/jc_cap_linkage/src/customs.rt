@@ -1,6 +1,7 @@
 //! The custom components that a Directory component names.
 ghost use Rattle.std.specs.Prelude.{◌≡◌, ◌∷◌, [], ◌<◌, List, length, Some, None, Ok, MatchOption, slice_get};
-ghost use Rattle.jc_cap_linkage.specs.Reading.{ParsesAs, rest_after, many_at};
+ghost use Rattle.jc_cap_linkage.specs.Reading.{ParsesAs, rest_after, many_at, list_or_empty};
+ghost use Rattle.jc_cap_linkage.specs.Places.{IsList};
 ghost use Rattle.jc_cap_linkage.specs.Customs.{CustomNamed, custom_at};
 ghost use Rattle.jc_cap_linkage.specs.ComponentViews.{custom_component};
 
@@ -80,6 +81,14 @@ pub(crate) fn custom_components(
 }
 
 impl<'a> CustomComponents<'a> {
+    /// As many custom components as are counted, with which bytes begin that were read before.
+    pub(crate) fn found_in(count: u8, bytes: &'a [u8]) -> CustomComponents<'a>
+        requires { IsList custom_at count bytes.now }
+        ensures { result ≡ list_or_empty (many_at custom_at count bytes.now) }
+    {
+        CustomComponents { count, bytes }
+    }
+
     /// How many there are.
     pub fn count(&self) -> u8
         ensures { result ≡ length self.now }

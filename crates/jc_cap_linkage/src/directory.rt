@@ -1,5 +1,5 @@
 //! The Directory component.
-ghost use Rattle.std.specs.Prelude.{◌≡◌, Ok, IfOk};
+ghost use Rattle.std.specs.Prelude.{◌≡◌, ◌+◌, ◌*◌, Ok, IfOk};
 ghost use Rattle.jc_cap_linkage.specs.Reading.{ParsesAs, value_of_whole};
 ghost use Rattle.jc_cap_linkage.specs.Again.{IsReadable};
 ghost use Rattle.jc_cap_linkage.specs.declared.directory.Directory.{Directory};
@@ -101,15 +101,35 @@ pub fn read_directory(format: Format, info: &[u8]) -> Result<Directory<'_>, CapF
     whole_directory(format, info)
 }
 
+/// The number that two bytes are, the high one first.
+fn number(high: u8, low: u8) -> u16
+    ensures { result ≡ high * 256 + low }
+{
+    u16::from(high) * 256 + u16::from(low)
+}
+
 impl<'a> Directory<'a> {
-    /// The directory that an info is which was read before in this format.
+    /// The directory that an info is which was read before in this format. Its fields are taken from their places, and nothing
+    /// is tested again.
     pub fn found_in(format: Format, info: &'a [u8]) -> Directory<'a>
         requires { IsReadable (value_of_whole (directory_at format info.now)) }
         ensures { value_of_whole (directory_at format info.now) ≡ Ok result }
     {
-        match whole_directory(format, info) {
-            Ok(directory) => directory,
-            Err(_) => unreachable!(),
+        let count = size_count(format);
+        let (_, behind) = info.split_at(2 * usize::from(count));
+        match behind {
+            [a, b, c, d, e, f, imports, applets, customs, rest @ ..] => Directory {
+                component_sizes: U2List::found_in(count, info),
+                static_field_size: StaticFieldSize {
+                    image_size: number(*a, *b),
+                    array_init_count: number(*c, *d),
+                    array_init_size: number(*e, *f),
+                },
+                import_count: *imports,
+                applet_count: *applets,
+                custom_components: CustomComponents::found_in(*customs, rest),
+            },
+            _ => unreachable!(),
         }
     }
 }

@@ -146,15 +146,66 @@ pub fn read_header(info: &[u8]) -> Result<Header<'_>, CapFault>
     whole_header(info)
 }
 
+/// The format with this minor version, which is known.
+fn format_found(minor: u8) -> Format
+    requires { IsReadable (format_of minor) }
+    ensures { format_of minor ≡ Ok result }
+{
+    match minor {
+        1 => Format::V2_1,
+        _ => Format::V2_2,
+    }
+}
+
+/// The name behind the package's version and AID.
+fn name_found(format: Format, bytes: &[u8]) -> &[u8]
+    requires { IsReadable (value_of_whole (name_at format bytes.now)) }
+    ensures { value_of_whole (name_at format bytes.now) ≡ Ok result.now }
+{
+    match format {
+        Format::V2_1 => &[],
+        Format::V2_2 => {
+            let (_, name) = bytes.split_at(1);
+            name
+        }
+    }
+}
+
 impl<'a> Header<'a> {
-    /// The header that an info is which was read before.
+    /// The header that an info is which was read before. Its fields are taken from their places, and nothing is tested again.
     pub fn found_in(info: &'a [u8]) -> Header<'a>
         requires { IsReadable (value_of_whole (header_at info.now)) }
         ensures { value_of_whole (header_at info.now) ≡ Ok (head result) }
     {
-        match whole_header(info) {
-            Ok(header) => header,
-            Err(_) => unreachable!(),
+        match info {
+            [
+                _,
+                _,
+                _,
+                _,
+                minor,
+                _,
+                flags,
+                minor_version,
+                major_version,
+                size,
+                rest @ ..,
+            ] => {
+                let format = format_found(*minor);
+                let (aid, behind) = rest.split_at(*size as usize);
+                Header {
+                    format,
+                    exports: *flags / 2 % 2 == 1,
+                    has_applets: *flags > 3,
+                    this_package: PackageInfo {
+                        minor_version: *minor_version,
+                        major_version: *major_version,
+                        aid,
+                    },
+                    name: name_found(format, behind),
+                }
+            }
+            _ => unreachable!(),
         }
     }
 }

@@ -1,6 +1,7 @@
 //! Lent lists of numbers.
 ghost use Rattle.std.specs.Prelude.{◌≡◌, ◌<◌, length, Some, slice_get};
-ghost use Rattle.jc_cap_linkage.specs.Reading.{ParsesAs, u2_at, many_at};
+ghost use Rattle.jc_cap_linkage.specs.Reading.{ParsesAs, u2_at, many_at, list_or_empty};
+ghost use Rattle.jc_cap_linkage.specs.Places.{IsList};
 
 use crate::counted::skip_many;
 use crate::fault::CapFault;
@@ -36,6 +37,14 @@ pub fn u2_list(count: u16, bytes: &[u8]) -> Result<(U2List<'_>, &[u8]), CapFault
 }
 
 impl<'a> U2List<'a> {
+    /// As many numbers as are counted, with which bytes begin that were read before.
+    pub(crate) fn found_in(count: u16, bytes: &'a [u8]) -> U2List<'a>
+        requires { IsList u2_at count bytes.now }
+        ensures { result ≡ list_or_empty (many_at u2_at count bytes.now) }
+    {
+        U2List { count, bytes }
+    }
+
     /// How many there are.
     pub fn count(&self) -> u16
         ensures { result ≡ length self.now }

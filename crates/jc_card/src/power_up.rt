@@ -17,6 +17,7 @@ ghost use Rattle.jc_heap.specs.Heap.{IsObject, heap_of};
 ghost use Rattle.jc_heap.specs.Stored.{HoldsHeap};
 ghost use Rattle.jc_commit.specs.Image.{IsGoodLog, limit_of, recovered_of};
 ghost use Rattle.jc_transient.specs.State.{HasSizes};
+ghost use Rattle.jc_memory.specs.Marks.{AreNone, AreObjects, mark_count};
 ghost use Rattle.jc_memory.specs.Owners.{at_reset};
 ghost use Rattle.jc_card_load.specs.Reading.{packages_of};
 ghost use Rattle.jc_card_checks.specs.Sound.{IsSound};
@@ -33,7 +34,7 @@ use jc_commit::OpenRefusal;
 use jc_heap::Heap;
 use jc_image::OpenImage;
 use jc_linker::linked::Linked;
-use jc_memory::{Marks, Memory};
+use jc_memory::{Marks, Memory, unset_flags};
 use jc_platform::platform::Platform;
 use jc_platform::read::{LARGEST_TEXT, read_table};
 use jc_platform::table::Table;
@@ -149,16 +150,27 @@ fn start<S: WordStore>(alloc: Global, image: OpenImage<S>) -> Result<Card<S>, (P
     let Ok(ram) = Ram::new(alloc) else {
         return Err((PowerFault::NoMemory, image.into_store()));
     };
-    match whole_heap(image, &table) {
-        Ok(heap) => link_packages(alloc, table.platform(), heap, ram),
+    let Ok(mut marks) = unset_flags(alloc) else {
+        return Err((PowerFault::NoMemory, image.into_store()));
+    };
+    match whole_heap(image, &table, marks.as_mut_slice()) {
+        Ok(heap) => link_packages(alloc, table.platform(), heap, ram, Marks::of_flags(marks)),
         Err(refused) => Err(refused),
     }
 }
 
-// The heap of a recovered image, where it is whole and begins with the objects of the runtime environment. No memory is
-// asked for.
-fn whole_heap<S: WordStore>(image: OpenImage<S>, table: &Table) -> Result<Heap<S>, (PowerFault, S)>
-    requires { image.down ≡ false }
+// The heap of a recovered image, where it is whole and begins with the objects of the runtime environment; and marks where
+// its objects stand. No memory is asked for.
+fn whole_heap<S: WordStore>(
+    image: OpenImage<S>,
+    table: &Table,
+    marks: &mut [bool],
+) -> Result<Heap<S>, (PowerFault, S)>
+    requires up { image.down ≡ false }
+    requires long { length marks.old ≡ mark_count }
+    requires unset { AreNone marks.old }
+    ensures long { length marks.new ≡ mark_count }
+    ensures marked { IfOk result (AreObjects marks.new) }
     ensures exact { IsOk result ↔ (IsWellFormed image.plain × IsConsistent (heap_of image.plain)
         × HeapBeginsWith (heap_of image.plain) (fixed_facts table.now 0 fixed_objects)) }
     ensures whole { IfOk result (λ heap. IsConsistent heap.now) }
@@ -167,7 +179,7 @@ fn whole_heap<S: WordStore>(image: OpenImage<S>, table: &Table) -> Result<Heap<S
     ensures store { IfErr result (λ e. HoldsImage (S.words e.1) (S.down e.1) (S.passed e.1)
         (S.refusals e.1) image) }
 {
-    match image.check(&fixed_headers(table)) {
+    match image.check_and_mark(&fixed_headers(table), marks) {
         Ok(heap) => Ok(heap),
         Err(store) => Err((PowerFault::BadPackage, store)),
     }
@@ -179,8 +191,10 @@ fn link_packages<S: WordStore>(
     platform: Platform,
     heap: Heap<S>,
     ram: Ram,
+    marks: Marks,
 ) -> Result<Card<S>, (PowerFault, S)>
     requires up { heap.down ≡ false }
+    requires marked { AreObjects marks heap }
     requires rests { heap.begun ≡ false }
     requires whole { IsConsistent heap.now }
     requires words { (w : List ℕ) × (heap.now ≡ heap_of w) }
@@ -201,9 +215,6 @@ fn link_packages<S: WordStore>(
     ensures store { IfErr result (λ e. HoldsHeap (S.words e.1) (S.down e.1) (S.passed e.1)
         (S.refusals e.1) heap) }
 {
-    let Ok(marks) = Marks::new(alloc) else {
-        return Err((PowerFault::NoMemory, heap.into_store()));
-    };
     match read_packages(alloc, platform, &heap) {
         Ok(linked) => {
             let fixed = fixed_of(&heap);

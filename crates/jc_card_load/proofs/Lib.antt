@@ -1,6 +1,5 @@
 pub mod Fit
 pub mod Statics
-pub mod Linkings
 pub mod Assembled
 pub mod NoPackages
 pub mod RecordLoads

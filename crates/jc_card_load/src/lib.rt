@@ -4,7 +4,7 @@
 #![tactic(auto)]
 
 mod incoming;
-mod linker_view;
+mod infos;
 mod linking;
 mod load;
 mod load_end;

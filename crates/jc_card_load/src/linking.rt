@@ -7,43 +7,49 @@ ghost use Rattle.jc_linker.specs.Answers.{Answers as AnswersLink};
 ghost use Rattle.jc_card_load.specs.LinkerView.{linker_view};
 ghost use Rattle.jc_card_load.specs.PendingPackages.{Answers, linked_as, linked_package, linked_texts};
 
-use crate::linker_view::linker_components_of;
+use crate::infos::info_in;
 use crate::load_refusal::LoadRefusal;
 use jc_cap::assembling::Package;
 use jc_cap::contents::Contents;
 use jc_cap::texts::PackageBytes;
+use jc_cap_linkage::tags::METHOD;
 use jc_linker::fault::LinkFault;
 use jc_linker::link::link;
-use jc_linker::linked::{Addition, Linked, MOST_PACKAGES};
+use jc_linker::linked::{Linked, MOST_PACKAGES};
+use jc_linker::package::LinkedPackage;
 use std::alloc::Global;
 
 // The package that these components are, linked against those that are there.
-fn link_to<'a>(
+fn link_to(
     alloc: Global,
     linked: &Linked,
-    texts: &'a PackageBytes,
-    contents: Contents<'a>,
-) -> Result<Addition, LinkFault>
+    texts: &PackageBytes,
+    contents: &Contents<'_>,
+) -> Result<LinkedPackage, LinkFault>
     requires room { length linked.now.loaded < 32 }
-    requires few { length contents.classes ≤ 256 }
+    requires few { length contents.now.classes ≤ 256 }
     ensures { AnswersLink (λ added. added) result (link_result linked.now
-        (linker_view texts.entry.now (package_contents contents.entry))) }
+        (linker_view texts.now (package_contents contents.now))) }
 {
-    let components = linker_components_of(texts, contents);
-    link(alloc, linked, &components)
+    link(
+        alloc,
+        linked,
+        contents,
+        info_in(METHOD, texts.methods.bytes()),
+    )
 }
 
 // The same, where its AID is new and there is a place for it.
 #[tactic(auto, unfolding(crate::specs::PendingPackages::linked_package))]
-fn link_contents<'a>(
+fn link_contents(
     alloc: Global,
     linked: &Linked,
-    texts: &'a PackageBytes,
-    contents: Contents<'a>,
-) -> Result<Addition, LoadRefusal>
-    requires few { length contents.classes ≤ 256 }
-    ensures answer { Answers (linked_as texts.entry.now) result (linked_package linked.now
-        texts.entry.now (package_contents contents.entry)) }
+    texts: &PackageBytes,
+    contents: &Contents<'_>,
+) -> Result<LinkedPackage, LoadRefusal>
+    requires few { length contents.now.classes ≤ 256 }
+    ensures answer { Answers (linked_as texts.now) result (linked_package linked.now
+        texts.now (package_contents contents.now)) }
     ensures room { OnOk result (length linked.now.loaded < 32) }
 {
     if linked
@@ -68,10 +74,10 @@ pub(crate) fn link_package(
     alloc: Global,
     linked: &Linked,
     whole: &Package,
-) -> Result<Addition, LoadRefusal>
+) -> Result<LinkedPackage, LoadRefusal>
     ensures answer { Answers (linked_as whole.now) result (linked_texts linked.now whole.now) }
     ensures room { OnOk result (length linked.now.loaded < 32) }
 {
     let contents = whole.contents();
-    link_contents(alloc, linked, whole.texts(), contents)
+    link_contents(alloc, linked, whole.texts(), &contents)
 }

@@ -16,7 +16,8 @@ use jc_cap::assembling::Package;
 use jc_cap::texts::LoadedComponents;
 use jc_heap::HeapRefusal;
 use jc_linker::fault::LinkFault;
-use jc_linker::linked::{Addition, Linked};
+use jc_linker::linked::Linked;
+use jc_linker::package::LinkedPackage;
 use jc_memory::Memory;
 use jc_words::layout::MOST_PACKAGES;
 use jc_words::{StoreDown, WordStore};
@@ -87,7 +88,7 @@ fn add<S: WordStore>(
     memory: &mut Memory<S>,
     linked: &mut Linked,
     whole: &Package,
-    addition: Addition,
+    addition: LinkedPackage,
 ) -> Result<Result<(), LoadRefusal>, StoreDown>
     requires up { memory.old.heap.down ≡ false }
     requires room { length linked.old.loaded < 32 }
@@ -110,7 +111,7 @@ fn write_record<S: WordStore>(
     memory: &mut Memory<S>,
     linked: &mut Linked,
     contents: &RecordContents,
-    addition: Addition,
+    addition: LinkedPackage,
 ) -> Result<Result<(), LoadRefusal>, StoreDown>
     requires up { memory.old.heap.down ≡ false }
     requires few { memory.old.heap.now.counts.0 < most_packages }

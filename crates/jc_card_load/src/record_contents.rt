@@ -6,7 +6,7 @@ ghost use Rattle.jc_heap.specs.Packages.{AreArrays, array_init, array_inits, par
 ghost use Rattle.jc_heap.specs.Packages.{part as component_part};
 ghost use Rattle.jc_card_load.specs.RecordContents.{AreRecordContents, array_of, kind_of, part, parts_of, statics_of, zeros_of};
 
-use crate::linker_view::info_in;
+use crate::infos::info_in;
 use jc_cap::assembling::Package;
 use jc_cap::texts::PackageBytes;
 use jc_cap_code::static_arrays::{ArrayInit, ArrayInits, ElementType};

@@ -8,8 +8,8 @@ use Rattle.jc_transient.specs.declared.cell.ClearEvent.{ClearEvent}
 use Rattle.jc_transient.specs.declared.cell.ClearEvent.TheVariants.{Reset, Deselect}
 use Rattle.jc_heap.proofs.Images.{no_event}
 use Rattle.jc_heap.specs.Object.{APackage, facts_of, is_header, is_packed_header, event_of, event_number}
-use Rattle.jc_heap.specs.Image.{image, package_addresses, is_package, IsWellFormed}
-use Rattle.jc_image.specs.Steps.{IsAt, size_from, item_from}
+use Rattle.jc_heap.specs.Image.{image, package_addresses, is_package}
+use Rattle.jc_image.specs.Steps.{HasRecord, size_from, item_from}
 use Rattle.jc_heap.specs.Whole.{lies_in, cells_in, FitsAt}
 use Rattle.jc_image.proofs.Stepping.{header_here, facts_here, package_here, place_within}
 
@@ -41,9 +41,9 @@ none_lies : (event : ClearEvent) (ws : List ℕ) → lies_in event (APackage ws)
 none_lies Reset ws = refl
 none_lies Deselect ws = refl
 
-module _ (ws : List ℕ) (at : ℕ) (event : ClearEvent) (laid : IsWellFormed ws) (here : IsAt ws at) (below : at < get_or ws top_address 0) where
+module _ (ws : List ℕ) (at : ℕ) (event : ClearEvent) (fits : get_or ws top_address 0 ≤ length ws) (here : HasRecord ws at) where
   pub package_lies : is_package (package_addresses (image ws)) at ≡ true → lies_in event (item_from ws at) ≡ false
-  package_lies there = ap (lies_in event) (package_here ws at laid here below there) ∙ none_lies event (take (size_from ws at) (drop at (image ws)))
+  package_lies there = ap (lies_in event) (package_here ws at fits here there) ∙ none_lies event (take (size_from ws at) (drop at (image ws)))
 
   pub package_cells : is_package (package_addresses (image ws)) at ≡ true → cells_in event (item_from ws at) ≡ 0
   package_cells there = ap (λ b. if b then (facts_of (item_from ws at)).length else 0) (package_lies there)
@@ -59,9 +59,9 @@ module _ (ws : List ℕ) (at : ℕ) (event : ClearEvent) (laid : IsWellFormed ws
     pub object_lies : is_package (package_addresses (image ws)) at ≡ false → lies_in event (item_from ws at)
         ≡ (get_or ws at 0 / 256 == event_number (Some event))
     object_lies other =
-        ap (λ f. event_number f.event == event_number (Some event)) (facts_here ws at laid here below small other)
+        ap (λ f. event_number f.event == event_number (Some event)) (facts_here ws at fits here small other)
         ∙ ap (λ n. n == event_number (Some event)) (event_numbered (get_or ws at 0 / 256)
-        (event_small (get_or ws at 0) (header_here ws at laid here below small other)))
+        (event_small (get_or ws at 0) (header_here ws at fits here small other)))
 
     -- where its cells lie in the area, it is a transient object
     lies_object : lies_in event (item_from ws at) ≡ true → is_package (package_addresses (image ws)) at ≡ false
@@ -81,12 +81,12 @@ module _ (ws : List ℕ) (at : ℕ) (event : ClearEvent) (laid : IsWellFormed ws
         omega (arith, positive event)
 
     pub lies_within : lies_in event (item_from ws at) ≡ true → at + 4 < get_or ws top_address 0
-    lies_within l = place_within ws at laid here below small (lies_object l) (lies_transient l)
+    lies_within l = place_within ws at fits here small (lies_object l) (lies_transient l)
 
     pub lies_place : lies_in event (item_from ws at) ≡ true → (facts_of (item_from ws at)).place ≡ get_or ws (at + 4) 0
-    lies_place l = ap (λ f. f.place) (facts_here ws at laid here below small (lies_object l))
+    lies_place l = ap (λ f. f.place) (facts_here ws at fits here small (lies_object l))
         ∙ ap (λ b. if b then 0 else get_or ws (at + 4) 0) (ne_eqb (get_or ws at 0 / 256) 0 (lies_transient l))
 
     pub lies_cells : lies_in event (item_from ws at) ≡ true → cells_in event (item_from ws at) ≡ get_or ws (at + 3) 0
     lies_cells l = ap (λ b. if b then (facts_of (item_from ws at)).length else 0) l
-        ∙ ap (λ f. f.length) (facts_here ws at laid here below small (lies_object l))
+        ∙ ap (λ f. f.length) (facts_here ws at fits here small (lies_object l))

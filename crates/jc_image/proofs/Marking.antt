@@ -11,7 +11,7 @@ none_marked zero k = refl
 none_marked (suc n) zero = refl
 none_marked (suc n) (suc k) = none_marked n k
 
-or-true : (b : Bool) → (b || true) ≡ true
+pub or-true : (b : Bool) → (b || true) ≡ true
 or-true true = refl
 or-true false = refl
 

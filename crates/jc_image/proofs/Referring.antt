@@ -7,9 +7,9 @@ use Rattle.jc_heap.specs.declared.object.Kind.TheVariants.{Instance, BooleanArra
 use Rattle.jc_heap.specs.Cut.{Sizes, records_from}
 use Rattle.jc_heap.specs.Table.{entry_or, has_entry}
 use Rattle.jc_heap.specs.Object.{Item, APackage, facts_of, cells_of, kind_of, is_packed_header}
-use Rattle.jc_heap.specs.Image.{image, base, package_addresses, is_package, sizes, item, item_entry, IsWellFormed}
+use Rattle.jc_heap.specs.Image.{image, base, package_addresses, is_package, sizes, item, item_entry}
 use Rattle.jc_heap.specs.Heap.{HeapState, heap_of, read_image, heap_item_at}
-use Rattle.jc_image.specs.Steps.{IsAt, item_from}
+use Rattle.jc_image.specs.Steps.{HasRecord, item_from}
 use Rattle.jc_heap.specs.Whole.{IsReference, HoldsReferences}
 use Rattle.jc_heap.proofs.Tables.{has-map}
 use Rattle.jc_heap.proofs.Records.{has_behind}
@@ -29,22 +29,22 @@ kind_five n e = by_tests (n == 2 || n == 6) (n == 3 || n == 7) (n == 4) (n == 5)
     by_tests false false false false is e = absurd (cc)
 
 -- the record at an address
-module _ (h : HeapState) (ws : List ℕ) (at : ℕ) (laid : IsWellFormed ws) (here : IsAt ws at) (below : at < get_or ws top_address 0) where
+module _ (h : HeapState) (ws : List ℕ) (at : ℕ) (fits : get_or ws top_address 0 ≤ length ws) (here : HasRecord ws at) where
   -- a package has no cells
   pub holds_package : is_package (package_addresses (image ws)) at ≡ true → HoldsReferences h (item_from ws at)
   holds_package there kind i lt =
-      let none : i < 0 = subst (λ t. i < length (cells_of t)) (package_here ws at laid here below there) lt in
+      let none : i < 0 = subst (λ t. i < length (cells_of t)) (package_here ws at fits here there) lt in
       absurd (omega arith)
 
   module _ (small : length ws < 65536) (other : is_package (package_addresses (image ws)) at ≡ false) where
     kind_here : (facts_of (item_from ws at)).kind ≡ kind_of (get_or ws at 0 % 256)
-    kind_here = ap (λ f. f.kind) (facts_here ws at laid here below small other)
+    kind_here = ap (λ f. f.kind) (facts_here ws at fits here small other)
 
     -- another object has no references
     pub holds_other : (get_or ws at 0 ≡ 5 → ⊥) → HoldsReferences h (item_from ws at)
     holds_other ne kind i lt = elim (cases_eq (get_or ws at 0 / 256) 0) [
       | inl e ↦ let five : get_or ws at 0 % 256 ≡ 5 = kind_five (get_or ws at 0 % 256) (sym kind_here ∙ kind) in absurd (ne (omega arith))
-      | inr n ↦ let none : i < 0 = omega (arith, lt, transient_cells ws at laid here below small other n) in absurd (omega arith)
+      | inr n ↦ let none : i < 0 = omega (arith, lt, transient_cells ws at fits here small other n) in absurd (omega arith)
     ]
 
     module _ (five : get_or ws at 0 ≡ 5) where
@@ -58,13 +58,13 @@ module _ (h : HeapState) (ws : List ℕ) (at : ℕ) (laid : IsWellFormed ws) (he
       is_array = kind_here ∙ ap (λ w. kind_of (w % 256)) five
 
       pub cells_count : length (cells_of (item_from ws at)) ≡ get_or ws (at + 3) 0
-      cells_count = cells_long ws at laid here below small other persistent
+      cells_count = cells_long ws at fits here small other persistent
 
       pub cell_within_at : (i : ℕ) → i < get_or ws (at + 3) 0 → at + 4 + i < get_or ws top_address 0
-      cell_within_at i lt = omega (arith, (cell_here ws at laid here below small other persistent single i (omega (arith, cells_count, lt))).0)
+      cell_within_at i lt = omega (arith, (cell_here ws at fits here small other persistent single i (omega (arith, cells_count, lt))).0)
 
       cell_is : (i : ℕ) → i < length (cells_of (item_from ws at)) → get_or (cells_of (item_from ws at)) i 0 ≡ get_or ws (at + 4 + i) 0
-      cell_is i lt = (cell_here ws at laid here below small other persistent single i lt).1 ∙ ap (λ a. get_or ws a 0) (omega arith)
+      cell_is i lt = (cell_here ws at fits here small other persistent single i lt).1 ∙ ap (λ a. get_or ws a 0) (omega arith)
 
       pub holds_of : ((i : ℕ) → i < get_or ws (at + 3) 0 → IsReference h (get_or ws (at + 4 + i) 0)) → HoldsReferences h (item_from ws at)
       holds_of all kind i lt = subst (IsReference h) (sym (cell_is i lt)) (all i (omega (arith, cells_count, lt)))

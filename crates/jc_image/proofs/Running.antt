@@ -1,11 +1,11 @@
 -- Objects of an event that fit one behind another, from an address on.
-use Rattle.std.proofs.Common.{◌≡◌, ℕ, ◌≤◌, ◌↔◌, List, [], sym, subst}
+use Rattle.std.proofs.Common.{◌≡◌, ℕ, ◌+◌, ◌≤◌, ◌↔◌, List, [], ◌∷◌, sym, subst}
 use Rattle.jc_transient.specs.declared.cell.ClearEvent.{ClearEvent}
 use Rattle.jc_transient.specs.declared.cell.ClearEvent.TheVariants.{Reset, Deselect}
 use Rattle.jc_transient.specs.State.{area_size}
 use Rattle.jc_heap.specs.Object.{Item}
 use Rattle.jc_heap.specs.Heap.{HeapState, area_end}
-use Rattle.jc_heap.specs.Whole.{IsFilledArea}
+use Rattle.jc_heap.specs.Whole.{cells_in, FitsAt, IsFilledArea}
 use Rattle.jc_heap.proofs.AreaRuns.{Run, filled_of, run_of}
 
 -- where nothing is left, the area is filled just if it ends here
@@ -20,3 +20,11 @@ module _ (h : HeapState) (event : ClearEvent) (place : ℕ) (left : List (ℕ ×
 pub both_filled : (h : HeapState) → IsFilledArea h Reset → IsFilledArea h Deselect → (event : ClearEvent) → IsFilledArea h event
 both_filled h reset deselect Reset = reset
 both_filled h reset deselect Deselect = deselect
+
+-- one item further
+pub run_step : (event : ClearEvent) (here left : List (ℕ × Item)) (at : ℕ) (t : Item) (place next end : ℕ) (all : Type 0) → here ≡ (at, t) ∷ left
+    → FitsAt event place t → next ≡ place + cells_in event t → (Run event place here end ↔ all) → (Run event next left end ↔ all)
+run_step event here left at t place next end all is fits behind both = (
+  (λ run. both.0 (subst (λ l. Run event place l end) (sym is) (fits, subst (λ n. Run event n left end) behind run))),
+  λ a. subst (λ n. Run event n left end) (sym behind) ((subst (λ l. Run event place l end) is (both.1 a)).1),
+)

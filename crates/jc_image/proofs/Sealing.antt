@@ -6,7 +6,6 @@ use Rattle.std.proofs.lemmas.Bool.{true≢false}
 use Rattle.jc_words.specs.Refusals.{Refusals}
 use Rattle.jc_words.specs.Layout.{size_address, top_address, packages_address, applets_address, reset_end_address, deselect_end_address, text_length_address}
 use Rattle.jc_words.specs.Layout.{addresses_start, registry_start, registry_length, text_start, magic}
-use Rattle.jc_commit.specs.Image.{capacity_of}
 use Rattle.jc_commit.specs.State.{State, after_refusal, after_write_in_place, is_touched}
 use Rattle.jc_heap.specs.Cut.{records_from, missing_words}
 use Rattle.jc_heap.specs.Image.{image, base, package_addresses, is_package, sizes, item_entry, records, missing_words_of_image, table_text, IsWellFormed}

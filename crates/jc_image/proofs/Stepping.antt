@@ -1,34 +1,45 @@
 -- One step over the records of a heap's words.
 use Rattle.std.proofs.Common.{◌≡◌, ℕ, ◌+◌, ◌-◌, add-zero, ◌/◌, ◌<◌, ◌≤◌, true, false, inl, inr, List, [], ◌∷◌, length, get_or, take, drop, map, refl, sym}
 use Rattle.std.proofs.Common.{◌∙◌, ap, subst, arith, if◌then◌else◌, ◌==◌, Bool}
-use Rattle.std.proofs.lemmas.List.{length-drop, length-take, length-take-le, get_or-take, drop_all}
+use Rattle.std.proofs.lemmas.List.{length-drop, length-take, length-take-le, get_or-take, drop-drop, drop_all}
 use Rattle.std.proofs.lemmas.Bool.{cases_Bool, cases_eq, eq-eqb, ne_eqb}
 use Rattle.jc_words.specs.Layout.{top_address, text_length_address, text_start}
 use Rattle.jc_heap.specs.Cut.{records_from, missing_words}
 use Rattle.jc_heap.specs.Object.{AnObject, APackage, object_of, facts_of, cells_of, is_header, is_packed, is_packed_header, words_of_cells, payload}
-use Rattle.jc_heap.specs.Image.{image, base, package_addresses, is_package, sizes, item_entry, IsWellFormed}
+use Rattle.jc_heap.specs.Image.{image, base, missing_words_of_image, package_addresses, is_package, sizes, item_entry, IsWellFormed}
 use Rattle.jc_heap.specs.Heap.{heap_of, read_image}
-use Rattle.jc_image.specs.Steps.{IsAt, items_from, size_from, item_from}
-use Rattle.jc_heap.proofs.Walks.{word_from, word_at}
+use Rattle.jc_image.specs.Steps.{HasBounds, HasRecord, items_from, size_from, item_from}
+use Rattle.jc_heap.proofs.Walks.{walk_step, walk_short, word_from, word_at}
 use Rattle.jc_heap.proofs.Images.{object_cell, packed_of, cell_offset, cell_said}
 use Rattle.jc_heap.proofs.Reading.{said, said-object_of, cells-object_of}
-use Rattle.jc_heap.proofs.Following.{base_is, whole_first, step_fits, step_whole, item_here}
+use Rattle.jc_heap.proofs.Following.{records_from-step}
 
--- the first record
-pub first_at : (ws : List ℕ) (at : ℕ) → IsWellFormed ws → at ≡ text_start + (get_or ws text_length_address 0 + 1) / 2 → IsAt ws at
-first_at ws at laid e =
-    let is : base (image ws) ≡ at = base_is ws laid ∙ sym e in
-    record {
-      low = omega (arith, e);
-      high = omega (arith, is, laid.based);
-      whole = ap (λ a. missing_words (sizes (package_addresses (image ws))) 0 a (drop a (image ws))) (sym is) ∙ whole_first ws laid;
-    }
+-- where the first record begins
+pub base_bounded : (ws : List ℕ) → HasBounds ws → base (image ws) ≡ text_start + (get_or ws text_length_address 0 + 1) / 2
+base_bounded ws bounds = ap (λ n. text_start + (n + 1) / 2) (get_or-take (get_or ws top_address 0) ws text_length_address 0 (omega (arith, bounds.based)))
 
-pub first_items : (ws : List ℕ) (at : ℕ) → IsWellFormed ws → at ≡ text_start + (get_or ws text_length_address 0 + 1) / 2 → (heap_of ws).items ≡ items_from ws at
+pub first_items : (ws : List ℕ) → (heap_of ws).items ≡ items_from ws (base (image ws))
 unfolding read_image items_from
-first_items ws at laid e =
-    let is : base (image ws) ≡ at = base_is ws laid ∙ sym e in
-    ap (λ a. map (item_entry (package_addresses (image ws))) (records_from (sizes (package_addresses (image ws))) 0 a (drop a (image ws)))) is
+first_items ws = refl
+
+-- how many words the records from an address on lack
+abbrev pub missing_from : List ℕ → ℕ → ℕ
+missing_from ws at = missing_words (sizes (package_addresses (image ws))) 0 at (drop at (image ws))
+
+pub first_missing : (ws : List ℕ) → missing_from ws (base (image ws)) ≡ missing_words_of_image (image ws)
+unfolding missing_words_of_image
+first_missing ws = refl
+
+-- where the records from the top on lack what all of them lack, none is lacking
+pub laid_at_top : (ws : List ℕ) (at : ℕ) → HasBounds ws → get_or ws top_address 0 ≤ at → missing_from ws at ≡ missing_words_of_image (image ws)
+    → IsWellFormed ws
+laid_at_top ws at bounds end left = record {
+  based = bounds.based;
+  fits = bounds.fits;
+  whole = sym left ∙ ap (missing_words (sizes (package_addresses (image ws))) 0 at)
+      (drop_all at (image ws) (omega (arith, end, length-take (get_or ws top_address 0) ws)));
+  packages = bounds.packages;
+}
 
 -- past the last record there is nothing
 pub nothing_from : (ws : List ℕ) (at : ℕ) → get_or ws top_address 0 ≤ at → items_from ws at ≡ []
@@ -43,31 +54,47 @@ no_cells (a ∷ b ∷ []) n = refl
 no_cells (a ∷ b ∷ c ∷ []) n = refl
 no_cells (a ∷ b ∷ c ∷ d ∷ rest) n = rw (ne_eqb (a / 256) 0 n) refl
 
-module _ (ws : List ℕ) (at : ℕ) (laid : IsWellFormed ws) (here : IsAt ws at) (below : at < get_or ws top_address 0) where
-  pub size_is : size_from ws at ≡ sizes (package_addresses (image ws)) at (drop at (image ws)) + 1
-  unfolding size_from
-  size_is = refl
+pub size_is : (ws : List ℕ) (at : ℕ) → size_from ws at ≡ sizes (package_addresses (image ws)) at (drop at (image ws)) + 1
+unfolding size_from
+size_is ws at = refl
 
+-- a record that reaches beyond the top lacks words
+pub cut_short : (ws : List ℕ) (at : ℕ) → get_or ws top_address 0 ≤ length ws → at < get_or ws top_address 0
+    → get_or ws top_address 0 < at + size_from ws at → missing_from ws at ≡ 0 → ⊥
+cut_short ws at fits below beyond =
+    let long : length (drop at (image ws)) ≡ get_or ws top_address 0 - at =
+    omega (arith, length-drop at (image ws), length-take-le (get_or ws top_address 0) ws fits) in
+    walk_short (sizes (package_addresses (image ws))) at (drop at (image ws)) (omega (arith, long, below)) (omega (arith, long, beyond, size_is ws at))
+
+module _ (ws : List ℕ) (at : ℕ) (fits : get_or ws top_address 0 ≤ length ws) (here : HasRecord ws at) where
   pub size_fits : at + size_from ws at ≤ get_or ws top_address 0
-  size_fits = step_fits ws at (size_from ws at) laid below here.whole size_is
+  size_fits = here.whole
 
-  pub step_at : IsAt ws (at + size_from ws at)
-  step_at = record {
-    low = omega (arith, here.low);
-    high = size_fits;
-    whole = step_whole ws at (size_from ws at) laid below here.whole size_is;
-  }
+  table_long : length (drop at (image ws)) ≡ get_or ws top_address 0 - at
+  table_long = omega (arith, length-drop at (image ws), length-take-le (get_or ws top_address 0) ws fits)
+
+  tail_behind : drop (size_from ws at) (drop at (image ws)) ≡ drop (at + size_from ws at) (image ws)
+  tail_behind = drop-drop (size_from ws at) at (image ws)
+
+  -- the records behind it lack as many words
+  pub step_missing : missing_from ws (at + size_from ws at) ≡ missing_from ws at
+  step_missing =
+      ap (missing_words (sizes (package_addresses (image ws))) 0 (at + size_from ws at)) (sym tail_behind)
+      ∙ ap (λ n. missing_words (sizes (package_addresses (image ws))) 0 (at + n) (drop n (drop at (image ws)))) (size_is ws at)
+      ∙ sym (walk_step (sizes (package_addresses (image ws))) at (drop at (image ws)) (omega (arith, table_long, here.inside, here.whole, size_is ws at)))
 
   pub step_items : items_from ws at ≡ (at, item_from ws at) ∷ items_from ws (at + size_from ws at)
   unfolding items_from item_from
-  step_items = item_here ws at (size_from ws at) laid below here.whole size_is
+  step_items = ap (map (item_entry (package_addresses (image ws)))) (
+      records_from-step (sizes (package_addresses (image ws))) at (drop at (image ws)) (omega (arith, table_long, here.inside))
+      ∙ ap (λ n. (at, take n (drop at (image ws))) ∷ records_from (sizes (package_addresses (image ws))) 0 (at + n) (drop n (drop at (image ws))))
+      (sym (size_is ws at))
+      ∙ ap (λ l. (at, take (size_from ws at) (drop at (image ws))) ∷ records_from (sizes (package_addresses (image ws))) 0 (at + size_from ws at) l) tail_behind
+      )
 
   -- the words of the record
   abbrev rec : List ℕ
   rec = take (size_from ws at) (drop at (image ws))
-
-  table_long : length (drop at (image ws)) ≡ get_or ws top_address 0 - at
-  table_long = omega (arith, length-drop at (image ws), length-take-le (get_or ws top_address 0) ws laid.fits)
 
   rec_long : length rec ≡ size_from ws at
   rec_long = length-take-le (size_from ws at) (drop at (image ws)) (omega (arith, size_fits, table_long))
@@ -77,11 +104,11 @@ module _ (ws : List ℕ) (at : ℕ) (laid : IsWellFormed ws) (here : IsAt ws at)
 
   module _ (small : length ws < 65536) (no : is_package (package_addresses (image ws)) at ≡ false) where
     object_size : size_from ws at ≡ 4 + payload (get_or (drop at (image ws)) 0 0) (get_or (drop at (image ws)) 3 0)
-    object_size = size_is ∙ ap (λ b. (if b then get_or (drop at (image ws)) 0 0 - 1 else 3
+    object_size = size_is ws at ∙ ap (λ b. (if b then get_or (drop at (image ws)) 0 0 - 1 else 3
         + payload (get_or (drop at (image ws)) 0 0) (get_or (drop at (image ws)) 3 0)) + 1) no ∙ (omega arith)
 
     first_word : get_or (drop at (image ws)) 0 0 ≡ get_or ws at 0
-    first_word = word_at ws at below
+    first_word = word_at ws at here.inside
 
     pub header_here : is_header (get_or ws at 0) ≡ true
     header_here = elim (cases_Bool (is_header (get_or ws at 0))) [
@@ -91,7 +118,7 @@ module _ (ws : List ℕ) (at : ℕ) (laid : IsWellFormed ws) (here : IsAt ws at)
           let long : size_from ws at ≡ 4 + 65536 = object_size ∙ ap (λ b. 4 + (if b then
           (if get_or (drop at (image ws)) 0 0 / 256 == 0 then words_of_cells (is_packed_header (get_or (drop at (image ws)) 0 0))
           (get_or (drop at (image ws)) 3 0) else 1) else 65536)) none in
-          absurd (omega (arith, long, size_fits, laid.fits))
+          absurd (omega (arith, long, size_fits, fits))
     ]
 
     four : 4 ≤ size_from ws at
@@ -153,7 +180,7 @@ module _ (ws : List ℕ) (at : ℕ) (laid : IsWellFormed ws) (here : IsAt ws at)
   -- a persistent object's cells are the words behind its header, where each has a word of its own
   module _ (small : length ws < 65536) (no : is_package (package_addresses (image ws)) at ≡ false) (persistent : get_or ws at 0 / 256 ≡ 0) where
     words_small : length rec < 65536
-    words_small = omega (arith, rec_long, size_fits, laid.fits)
+    words_small = omega (arith, rec_long, size_fits, fits)
 
     zeroth_word : get_or rec 0 0 ≡ get_or ws at 0
     zeroth_word = rec_word 0 (omega (arith, four small no)) ∙ ap (λ k. get_or ws k 0) (add-zero at)

@@ -1,12 +1,11 @@
 //! Whether the objects' transient cells fill their areas.
-ghost use Rattle.std.specs.Prelude.{◌≡◌, ◌<◌, ◌≤◌, ◌+◌, ◌↔◌, IsTrue, IfSome, IfNone, Some, false, length, slice_index};
-ghost use Rattle.jc_words.specs.Layout.{top_address};
+ghost use Rattle.std.specs.Prelude.{◌≡◌, ◌<◌, ◌≤◌, ◌+◌, ◌↔◌, IsTrue, IfSome, IfNone, Some, false, length};
 ghost use Rattle.jc_transient.specs.State.{area_size};
 ghost use Rattle.jc_transient.specs.declared.cell.ClearEvent.TheVariants.{Reset, Deselect};
 ghost use Rattle.jc_heap.specs.Object.{event_number};
 ghost use Rattle.jc_heap.specs.Image.{IsWellFormed, image, package_addresses, is_package};
 ghost use Rattle.jc_heap.specs.Heap.{heap_of, area_end};
-ghost use Rattle.jc_image.specs.Steps.{IsAt, item_from};
+ghost use Rattle.jc_image.specs.Steps.{HasBounds, HasRecord, item_from};
 ghost use Rattle.jc_heap.specs.Whole.{lies_in, cells_in, FitsAt};
 
 use jc_commit::Journal;
@@ -33,10 +32,9 @@ fn number_of(event: ClearEvent) -> u16
 
 // The cells of the object at an address lie in the event's area.
 fn is_in_area<S: WordStore>(journal: &Journal<S>, at: u16, event: ClearEvent) -> bool
-    requires laid { IsWellFormed journal.now.plain }
+    requires bounds { HasBounds journal.now.plain }
     requires small { length journal.now.plain < 65536 }
-    requires begins { IsAt journal.now.plain at }
-    requires inside { at < slice_index journal.now.plain top_address }
+    requires here { HasRecord journal.now.plain at }
     requires object { is_package (package_addresses (image journal.now.plain)) at ≡ false }
     ensures { result ≡ lies_in event (item_from journal.now.plain at) }
 {
@@ -51,10 +49,9 @@ fn place_behind<S: WordStore>(
     event: ClearEvent,
     place: u16,
 ) -> Option<u16>
-    requires laid { IsWellFormed journal.now.plain }
+    requires bounds { HasBounds journal.now.plain }
     requires small { length journal.now.plain < 65536 }
-    requires begins { IsAt journal.now.plain at }
-    requires inside { at < slice_index journal.now.plain top_address }
+    requires here { HasRecord journal.now.plain at }
     requires object { is_package (package_addresses (image journal.now.plain)) at ≡ false }
     requires room { place ≤ area_size }
     ensures fits { IfSome result (λ _. FitsAt event place (item_from journal.now.plain at)) }
@@ -83,10 +80,9 @@ pub(crate) fn places_behind<S: WordStore>(
     at: u16,
     places: Places,
 ) -> Option<Places>
-    requires laid { IsWellFormed journal.now.plain }
+    requires bounds { HasBounds journal.now.plain }
     requires small { length journal.now.plain < 65536 }
-    requires begins { IsAt journal.now.plain at }
-    requires inside { at < slice_index journal.now.plain top_address }
+    requires here { HasRecord journal.now.plain at }
     requires object { is_package (package_addresses (image journal.now.plain)) at ≡ false }
     requires room { (places.reset ≤ area_size) × (places.deselect ≤ area_size) }
     ensures fits { IfSome result (λ _. FitsAt Reset places.reset (item_from journal.now.plain at)

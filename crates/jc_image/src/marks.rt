@@ -7,7 +7,7 @@ ghost use Rattle.jc_transient.specs.declared.cell.ClearEvent.TheVariants.{Reset,
 ghost use Rattle.jc_heap.specs.Image.{IsWellFormed};
 ghost use Rattle.jc_heap.specs.Heap.{heap_of, heap_item_at, is_allocated};
 ghost use Rattle.jc_heap.specs.Whole.{FitsAt, HoldsReferences, IsFilledArea, cells_in};
-ghost use Rattle.jc_image.specs.Steps.{IsAt, item_from, AreReferences};
+ghost use Rattle.jc_image.specs.Steps.{HasBounds, HasRecord, item_from, AreReferences};
 
 use crate::areas::{Places, ends_at, places_behind};
 use crate::references::mark_named;
@@ -40,10 +40,9 @@ fn visit<S: WordStore>(
     top: u16,
     places: Places,
 ) -> Option<Places>
-    requires laid { IsWellFormed journal.now.plain }
+    requires bounds { HasBounds journal.now.plain }
     requires small { length journal.now.plain < 65536 }
-    requires begins { IsAt journal.now.plain at }
-    requires inside { at < slice_index journal.now.plain top_address }
+    requires here { HasRecord journal.now.plain at }
     requires is_top { top ≡ slice_index journal.now.plain top_address }
     requires room { (places.reset ≤ area_size) × (places.deselect ≤ area_size) }
     ensures long { length named.new ≡ 65536 }
@@ -72,16 +71,20 @@ fn visit<S: WordStore>(
 }
 
 /// Marks the addresses at which records begin and those that arrays of references name, in one walk, up to the first record
-/// that is wrong. Whether the objects fill both areas, and name nothing at or above the top.
+/// that is wrong. Whether the records end where the table ends, the objects fill both areas, and name nothing at or above
+/// the top.
 pub(crate) fn mark_records<S: WordStore>(
     journal: &Journal<S>,
-    marks: &mut [bool; ALL],
+    marks: &mut [bool],
     named: &mut [bool; ALL],
 ) -> bool
-    requires laid { IsWellFormed journal.now.plain }
+    requires bounds { HasBounds journal.now.plain }
     requires small { length journal.now.plain < 65536 }
+    requires long { length marks.old ≡ 65536 }
     requires none { (r : ℕ) → slice_index_or marks.old r false ≡ false }
     requires unnamed { (r : ℕ) → slice_index_or named.old r false ≡ false }
+    ensures long { length marks.new ≡ 65536 }
+    ensures laid { IsTrue result → IsWellFormed journal.now.plain }
     ensures marks { IsTrue result → (r : ℕ) → slice_index_or marks.new r false
         ≡ is_allocated (heap_of journal.now.plain) r }
     ensures below { IsTrue result → (r : ℕ) → slice_index journal.now.plain top_address ≤ r
@@ -91,9 +94,10 @@ pub(crate) fn mark_records<S: WordStore>(
         (heap_item_at (heap_of journal.now.plain) r))) }
     ensures filled { IsTrue result → (event : ClearEvent) → IsFilledArea
         (heap_of journal.now.plain) event }
-    ensures broken { IsFalse result → ((event : ClearEvent) → IsFilledArea
-        (heap_of journal.now.plain) event) → ((r : ℕ) → HoldsReferences
-        (heap_of journal.now.plain) (heap_item_at (heap_of journal.now.plain) r)) → ⊥ }
+    ensures broken { IsFalse result → IsWellFormed journal.now.plain
+        → ((event : ClearEvent) → IsFilledArea (heap_of journal.now.plain) event)
+        → ((r : ℕ) → HoldsReferences (heap_of journal.now.plain)
+        (heap_item_at (heap_of journal.now.plain) r)) → ⊥ }
 {
     let top = journal.read(TOP);
     let mut at = first_record(journal);
@@ -102,12 +106,15 @@ pub(crate) fn mark_records<S: WordStore>(
         deselect: 0,
     };
     while at < top {
+        let Some(end) = end_of_record(journal, at, top) else {
+            return false;
+        };
         let Some(next) = visit(journal, named, at, top, places) else {
             return false;
         };
         marks[usize::from(at)] = true;
         places = next;
-        at = end_of_record(journal, at, top);
+        at = end;
     }
     ends_at(journal, ClearEvent::Reset, places.reset)
         && ends_at(journal, ClearEvent::Deselect, places.deselect)

@@ -1,21 +1,23 @@
 //! Opening an image, and whether its heap is whole.
-ghost use Rattle.std.specs.Prelude.{ℕ, ◌+◌, ◌/◌, ◌≡◌, ◌<◌, ◌≤◌, ◌^◌, ◌↔◌, IsTrue, IsOk, IfOk, IfErr, OnOk, true, false, length, slice_index, take};
+ghost use Rattle.std.specs.Prelude.{ℕ, ◌+◌, ◌/◌, ◌≡◌, ◌<◌, ◌≤◌, ◌↔◌, IsTrue, IsOk, IfOk, IfErr, OnOk, true, false, length, slice_index, slice_index_or};
 ghost use Rattle.jc_words.specs.Refusals.{refused_once};
 ghost use Rattle.jc_words.specs.Layout.{top_address, text_length_address, text_start};
 ghost use Rattle.jc_commit.specs.Image.{IsGoodLog};
 ghost use Rattle.jc_commit.specs.Migration.{IsPartOfOpening, StillOpens};
 ghost use Rattle.jc_commit.specs.State.{recovered_journal};
-ghost use Rattle.jc_heap.specs.Cut.{missing_words};
-ghost use Rattle.jc_heap.specs.Image.{text_byte, table_text, IsWellFormed, image, base, missing_words_of_image, package_addresses, is_package, sizes};
-ghost use Rattle.jc_heap.specs.Heap.{heap_view, heap_of};
+ghost use Rattle.jc_heap.specs.Object.{is_object};
+ghost use Rattle.jc_heap.specs.Image.{text_byte, table_text, IsWellFormed, image, package_addresses, is_package};
+ghost use Rattle.jc_heap.specs.Heap.{heap_view, heap_of, heap_item_at, is_allocated};
 ghost use Rattle.jc_heap.specs.Whole.{IsConsistent};
 ghost use Rattle.jc_image.specs.Beginning.{HeapBeginsWith};
 ghost use Rattle.jc_image.specs.Opening.{HoldsImage};
+ghost use Rattle.jc_image.specs.Steps.{HasBounds};
 
 use crate::beginning::begins_with;
 use crate::consistency::is_consistent;
+use crate::marks::no_marks;
+use crate::package_table::unmark_packages;
 use jc_commit::{Journal, OpenRefusal};
-use jc_heap::walk::record_size;
 use jc_heap::{Facts, Heap};
 use jc_words::WordStore;
 use jc_words::layout::{ADDRESSES, MOST_PACKAGES, PACKAGES, TEXT_LENGTH, TEXT_START, TOP};
@@ -39,25 +41,6 @@ impl<S: WordStore> Model for OpenImage<S> {
     ghost invariant = { λ o. IsOpen o.journal o.size };
 }
 
-// The records end where the table ends.
-fn records_fit<S: WordStore>(journal: &Journal<S>) -> bool
-    requires wide { base (image journal.now.plain) ≤ slice_index journal.now.plain top_address }
-    requires fits { slice_index journal.now.plain top_address ≤ length journal.now.plain }
-    requires small { length journal.now.plain < 65536 }
-    ensures { IsTrue result ↔ (missing_words_of_image (image journal.now.plain) ≡ 0) }
-{
-    let top = u32::from(journal.read(TOP));
-    let mut at = TEXT_START + (u32::from(journal.read(TEXT_LENGTH)) + 1) / 2;
-    while at < top {
-        let size = record_size(journal, at as u16, top as u16);
-        if size > top - at {
-            return false;
-        }
-        at += size;
-    }
-    true
-}
-
 // No package begins at or above the top.
 fn packages_below<S: WordStore>(journal: &Journal<S>, top: u16) -> bool
     requires wide { text_start ≤ slice_index journal.now.plain top_address }
@@ -75,31 +58,33 @@ fn packages_below<S: WordStore>(journal: &Journal<S>, top: u16) -> bool
     true
 }
 
-// The heap's records end where the top says.
-fn is_well_formed<S: WordStore>(journal: &Journal<S>, size: u16) -> bool
+// The top lies where a heap's may.
+fn has_bounds<S: WordStore>(journal: &Journal<S>, size: u16) -> bool
     requires size { size ≡ length journal.now.plain }
     requires wide { text_start ≤ size }
-    ensures { IsTrue result ↔ IsWellFormed journal.now.plain }
+    ensures { IsTrue result ↔ HasBounds journal.now.plain }
 {
     let top = journal.read(TOP);
     let text = u32::from(journal.read(TEXT_LENGTH));
     if u32::from(top) < TEXT_START + (text + 1) / 2 || top > size {
         return false;
     }
-    if packages_below(journal, top) {
-        return records_fit(journal);
-    }
-    false
+    packages_below(journal, top)
 }
 
-// The words are a heap, and it is whole.
-fn is_heap<S: WordStore>(journal: &Journal<S>, size: u16) -> bool
+// The words are a heap, and it is whole. Then all addresses at which something stands are marked.
+fn is_heap<S: WordStore>(journal: &Journal<S>, size: u16, marks: &mut [bool]) -> bool
     requires size { size ≡ length journal.now.plain }
     requires wide { text_start ≤ size }
-    ensures { IsTrue result ↔ (IsWellFormed journal.now.plain
+    requires long { length marks.old ≡ 65536 }
+    requires none { (r : ℕ) → slice_index_or marks.old r false ≡ false }
+    ensures long { length marks.new ≡ 65536 }
+    ensures exact { IsTrue result ↔ (IsWellFormed journal.now.plain
         × IsConsistent (heap_of journal.now.plain)) }
+    ensures marks { IsTrue result → (r : ℕ) → slice_index_or marks.new r false
+        ≡ is_allocated (heap_of journal.now.plain) r }
 {
-    is_well_formed(journal, size) && is_consistent(journal)
+    has_bounds(journal, size) && is_consistent(journal, marks)
 }
 
 impl<S: WordStore> OpenImage<S> {
@@ -196,13 +181,34 @@ impl<S: WordStore> OpenImage<S> {
         ensures store { IfErr result (λ s. HoldsImage (S.words s) (S.down s) (S.passed s)
             (S.refusals s) self) }
     {
+        let mut marks = no_marks();
+        self.check_and_mark(first, &mut marks)
+    }
+
+    /// The same, and where it gives the heap it has marked the addresses at which objects stand, among marks of which
+    /// none was set. The records are walked over once.
+    pub fn check_and_mark(self, first: &[Facts], marks: &mut [bool]) -> Result<Heap<S>, S>
+        requires up { self.down ≡ false }
+        requires long { length marks.old ≡ 65536 }
+        requires none { (r : ℕ) → slice_index_or marks.old r false ≡ false }
+        ensures long { length marks.new ≡ 65536 }
+        ensures exact { IsOk result ↔ (IsWellFormed self.plain × IsConsistent (heap_of self.plain)
+            × HeapBeginsWith (heap_of self.plain) first.now) }
+        ensures whole { IfOk result (λ h. IsConsistent h.now) }
+        ensures heap { IfOk result (λ h. h ≡ heap_view self (length self.plain)) }
+        ensures marks { IfOk result (λ h. (r : ℕ) → slice_index_or marks.new r false
+            ≡ is_object (heap_item_at h.now r)) }
+        ensures store { IfErr result (λ s. HoldsImage (S.words s) (S.down s) (S.passed s)
+            (S.refusals s) self) }
+    {
         let OpenImage { journal, size } = self;
-        if !is_heap(&journal, size) {
+        if !is_heap(&journal, size, marks) {
             return Err(journal.into_store());
         }
         if !begins_with(&journal, first) {
             return Err(journal.into_store());
         }
+        unmark_packages(&journal, marks);
         Ok(Heap::of_journal(journal, size))
     }
 }

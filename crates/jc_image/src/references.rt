@@ -3,7 +3,7 @@ ghost use Rattle.std.specs.Prelude.{ℕ, ◌≡◌, ◌<◌, ◌≤◌, ◌↔�
 ghost use Rattle.jc_words.specs.Layout.{top_address, most_packages};
 ghost use Rattle.jc_heap.specs.Image.{IsWellFormed, image, package_addresses, is_package};
 ghost use Rattle.jc_heap.specs.Heap.{heap_of, is_allocated};
-ghost use Rattle.jc_image.specs.Steps.{IsAt, item_from, AreReferences};
+ghost use Rattle.jc_image.specs.Steps.{HasBounds, HasRecord, item_from, AreReferences};
 ghost use Rattle.jc_heap.specs.Object.{kind_number};
 ghost use Rattle.jc_heap.specs.declared.object.Kind.TheVariants.{ReferenceArray};
 ghost use Rattle.jc_heap.specs.Whole.{AreAllocated, HoldsReferences};
@@ -16,10 +16,9 @@ use jc_words::layout::{ADDRESSES, PACKAGES, TOP};
 
 // The object at an address is a persistent array of references.
 fn has_references<S: WordStore>(journal: &Journal<S>, at: u16) -> bool
-    requires laid { IsWellFormed journal.now.plain }
+    requires bounds { HasBounds journal.now.plain }
     requires small { length journal.now.plain < 65536 }
-    requires begins { IsAt journal.now.plain at }
-    requires inside { at < slice_index journal.now.plain top_address }
+    requires here { HasRecord journal.now.plain at }
     ensures { IsTrue result ↔ (slice_index journal.now.plain at ≡ kind_number ReferenceArray) }
 {
     journal.read(at) == REFERENCES
@@ -33,10 +32,9 @@ pub(crate) fn mark_named<S: WordStore>(
     at: u16,
     top: u16,
 ) -> bool
-    requires laid { IsWellFormed journal.now.plain }
+    requires bounds { HasBounds journal.now.plain }
     requires small { length journal.now.plain < 65536 }
-    requires begins { IsAt journal.now.plain at }
-    requires inside { at < slice_index journal.now.plain top_address }
+    requires here { HasRecord journal.now.plain at }
     requires object { is_package (package_addresses (image journal.now.plain)) at ≡ false }
     requires is_top { top ≡ slice_index journal.now.plain top_address }
     ensures long { length named.new ≡ 65536 }
@@ -83,7 +81,8 @@ fn names_no_package<S: WordStore>(journal: &Journal<S>, named: &[bool; ALL]) -> 
 
 // Below the top, each address that is marked among those that are named, but null, is marked among those where something
 // stands.
-fn all_met(marks: &[bool; ALL], named: &[bool; ALL], top: u16) -> bool
+fn all_met(marks: &[bool], named: &[bool; ALL], top: u16) -> bool
+    requires { length marks.now ≡ 65536 }
     ensures { IsTrue result ↔ ((r : ℕ) → 0 < r → r < top → slice_index_or named.now r false ≡ true
         → slice_index_or marks.now r false ≡ true) }
 {
@@ -98,13 +97,14 @@ fn all_met(marks: &[bool; ALL], named: &[bool; ALL], top: u16) -> bool
 /// The words that are marked as named are references.
 pub(crate) fn are_references<S: WordStore>(
     journal: &Journal<S>,
-    marks: &[bool; ALL],
+    marks: &[bool],
     named: &[bool; ALL],
 ) -> bool
     requires laid { IsWellFormed journal.now.plain }
     requires small { length journal.now.plain < 65536 }
     requires few { (heap_of journal.now.plain).counts.0 ≤ most_packages }
     requires met { AreAllocated (heap_of journal.now.plain) (heap_of journal.now.plain).packages }
+    requires long { length marks.now ≡ 65536 }
     requires marks { (r : ℕ) → slice_index_or marks.now r false
         ≡ is_allocated (heap_of journal.now.plain) r }
     requires below { (r : ℕ) → slice_index journal.now.plain top_address ≤ r

@@ -1,16 +1,17 @@
 -- Lists that go on until a fault.
-use Rattle.std.proofs.Common.{◌≡◌, ◌<◌, ◌≤◌, ◌+◌, ℕ, List, [], ◌∷◌, ◌++◌, Option, Some, None, Result, Ok, Err, length, drop, refl, ap, sym, ◌∙◌, append_assoc}
-use Rattle.std.specs.Prelude.{slice_get}
+use Rattle.std.proofs.Common.{◌≡◌, ◌<◌, ◌≤◌, ◌+◌, ℕ, Bool, true, false, List, [], ◌∷◌, ◌++◌, Option, Some, None, Result, Ok, Err, length, drop, refl, ap, sym, subst, ◌∙◌, append_assoc}
+use Rattle.std.specs.Prelude.{slice_get, if◌then◌else◌}
 use Rattle.std.proofs.lemmas.List.{append-nil, drop_all}
 use Rattle.jc_cap_linkage.specs.Packages.{NamedPackage}
 use Rattle.jc_cap_linkage.specs.declared.pool.Entry.{Entry}
 use Rattle.jc_linker.specs.declared.target.Target.{Target}
 use Rattle.jc_linker.specs.Resolves.{resolution}
+use Rattle.jc_linker.specs.Lookups.{package_with_aid}
 use Rattle.jc_linker.specs.Values.{Packages}
 use Rattle.jc_linker.specs.declared.fault.LinkFault.{LinkFault}
 use Rattle.jc_linker.specs.declared.fault.LinkFault.TheVariants.{ImportMissing, ImportVersion, Unresolved, NoMemory}
 use Rattle.jc_linker.specs.Answers.{IsFault, list_append, then_on}
-use Rattle.jc_linker.specs.Imports.{import_number, import_numbers}
+use Rattle.jc_linker.specs.Imports.{AreFound, fits, if_fits, import_number, import_numbers, version_of}
 use Rattle.jc_linker.specs.Linking.{targets_from}
 use Rattle.jc_linker.proofs.Walks.{dropped_next}
 
@@ -65,6 +66,56 @@ imports_fault p all k i e ns at is =
 
 pub imports_end : (p : Packages) (all : List NamedPackage) (k : ℕ) (ns : List ℕ) → length all ≤ k → list_append ns (import_numbers p (drop k all)) ≡ Ok ns
 imports_end p all k ns h = ap (λ rest. list_append ns (import_numbers p rest)) (drop_all k all h) ∙ ap (list_append ns) (imports_nil p) ∙ onto_end ns
+
+-- no memory was asked for
+abbrev AsksNothing : {Y : Type 0} → Result Y LinkFault → Type 0
+AsksNothing (Ok x) = Unit {0}
+AsksNothing (Err ImportMissing) = Unit {0}
+AsksNothing (Err ImportVersion) = Unit {0}
+AsksNothing (Err (Unresolved index)) = Unit {0}
+AsksNothing (Err NoMemory) = ⊥
+
+both_ask_nothing : {A B : Type 0} (r : Result A LinkFault) (f : A → Result B LinkFault) → AsksNothing r → ((x : A) → AsksNothing (f x))
+    → AsksNothing (then_on r f)
+both_ask_nothing (Ok x) f h g = g x
+both_ask_nothing (Err ImportMissing) f h g = tt
+both_ask_nothing (Err ImportVersion) f h g = tt
+both_ask_nothing (Err (Unresolved index)) f h g = tt
+both_ask_nothing (Err NoMemory) f h g = h
+
+if_asks_nothing : (number : ℕ) (b : Bool) → AsksNothing (if b then Ok number else Err ImportVersion)
+if_asks_nothing number true = tt
+if_asks_nothing number false = tt
+
+fitting_asks_nothing : (p : Packages) (i : NamedPackage) (o : Option ℕ) → AsksNothing (if_fits p i o)
+fitting_asks_nothing p i None = tt
+fitting_asks_nothing p i (Some number) = if_asks_nothing number (fits i (version_of p number))
+
+import_asks_nothing : (p : Packages) (i : NamedPackage) → AsksNothing (import_number p i)
+unfolding import_number
+import_asks_nothing p i = fitting_asks_nothing p i (package_with_aid p i.aid)
+
+imports_ask_nothing : (p : Packages) (is : List NamedPackage) → AsksNothing (import_numbers p is)
+unfolding import_numbers
+imports_ask_nothing p [] = tt
+imports_ask_nothing p (i ∷ is) = both_ask_nothing (import_number p i) (λ n. then_on (import_numbers p is) (λ ns. Ok (n ∷ ns))) (import_asks_nothing p i)
+    (λ n. both_ask_nothing (import_numbers p is) (λ ns. Ok (n ∷ ns)) (imports_ask_nothing p is) (λ ns. tt))
+
+-- imports have no such fault
+never_no_memory : (p : Packages) (is : List NamedPackage) → import_numbers p is ≡ Err NoMemory → ⊥
+never_no_memory p is e = subst AsksNothing e (imports_ask_nothing p is)
+
+abbrev fault_of : {Y : Type 0} → Result Y LinkFault → LinkFault
+fault_of (Ok x) = NoMemory
+fault_of (Err e) = e
+
+-- a fault is told as it is
+pub told_as_it_is : {X : Type 0} (e told : LinkFault) (result : Result X LinkFault) → result ≡ Err told → told ≡ e → result ≡ Err NoMemory → e ≡ NoMemory
+told_as_it_is e told result left same refused = sym same ∙ ap fault_of (sym left ∙ refused)
+
+-- want of memory is no fault of imports
+pub are_found : (p : Packages) (is : List NamedPackage) (e : LinkFault) → import_numbers p is ≡ Err e → e ≡ NoMemory → AreFound p is
+are_found p is e said memory = elim (never_no_memory p is (said ∙ ap Err memory)) [ ]
 
 -- ---- entries
 

@@ -15,6 +15,11 @@ abbrev pub Answers : {X Y : Type 0} → (X → Y) → Result X LinkFault → Res
 Answers view (Ok x) said = said ≡ Ok (view x)
 Answers view (Err e) said = IsFault e said
 
+-- What a function that asks for no memory returned, seen by view, is this.
+abbrev pub Tells : {X Y : Type 0} → (X → Y) → Result X LinkFault → Result Y LinkFault → Type 0
+Tells view (Ok x) said = said ≡ Ok (view x)
+Tells view (Err e) said = said ≡ Err e
+
 -- first the one, and if it has no fault the other, with its value
 abbrev pub then_on : {A B : Type 0} → Result A LinkFault → (A → Result B LinkFault) → Result B LinkFault
 then_on (Ok x) f = f x

@@ -1,5 +1,5 @@
 -- Which packages a package imports.
-use Rattle.std.specs.Prelude.{ℕ, ◌-◌, ◌==◌, ◌&&◌, nat_le, Bool, List, [], ◌∷◌, Option, Some, None, Result, Ok, Err, if◌then◌else◌, slice_get}
+use Rattle.std.specs.Prelude.{◌≡◌, ℕ, ◌-◌, ◌==◌, ◌&&◌, nat_le, Bool, List, [], ◌∷◌, Option, Some, None, Result, Ok, Err, if◌then◌else◌, slice_get}
 use Rattle.std.specs.Option.{option_map, option_and_then}
 use Rattle.jc_platform.specs.declared.row.Version.{Version}
 use Rattle.jc_platform.specs.Numbers.{package_number}
@@ -37,3 +37,7 @@ import_number p i = if_fits p i (package_with_aid p i.aid)
 unfoldable pub import_numbers : Packages → List NamedPackage → Result (List ℕ) LinkFault
 import_numbers p [] = Ok []
 import_numbers p (i ∷ is) = then_on (import_number p i) (λ n. then_on (import_numbers p is) (λ ns. Ok (n ∷ ns)))
+
+-- all of them are there, in versions that fit
+abbrev pub AreFound : Packages → List NamedPackage → Type 0
+AreFound p is = (numbers : List ℕ) × (import_numbers p is ≡ Ok numbers)

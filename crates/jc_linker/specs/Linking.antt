@@ -11,8 +11,7 @@ use Rattle.jc_cap_code.specs.Implemented.{Implemented}
 use Rattle.jc_linker.specs.declared.target.Target.{Target}
 use Rattle.jc_linker.specs.Classes.{size_of}
 use Rattle.jc_linker.specs.Resolves.{class_named, resolution}
-use Rattle.jc_linker.specs.Values.{ClassValue, Implementation, PackageValue, Packages}
-use Rattle.jc_linker.specs.declared.components.LinkerComponents.{LinkerComponents}
+use Rattle.jc_linker.specs.Values.{ClassValue, Implementation, LinkerComponents, PackageValue, Packages}
 use Rattle.jc_linker.specs.Outlines.{outline_of, package_outline}
 use Rattle.jc_linker.specs.declared.fault.LinkFault.{LinkFault}
 use Rattle.jc_linker.specs.declared.fault.LinkFault.TheVariants.{Unresolved}

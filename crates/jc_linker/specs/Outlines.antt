@@ -1,11 +1,10 @@
 -- What of a package is copied from its components.
 use Rattle.std.specs.Prelude.{ℕ, false, List, [], map, Option, Some, None}
-use Rattle.jc_cap_linkage.specs.FieldViews.{package_info}
 use Rattle.jc_cap_linkage.specs.declared.exports.ExportedClass.{ExportedClass}
 use Rattle.jc_cap_linkage.specs.Applets.{AppletNamed}
 use Rattle.jc_cap_code.specs.ClassValues.{offsets_of}
-use Rattle.jc_linker.specs.Values.{AppletEntry, ClassValue, Export, PackageValue}
-use Rattle.jc_linker.specs.declared.components.LinkerComponents.{LinkerComponents}
+use Rattle.jc_cap.specs.Contents.{PackageContents}
+use Rattle.jc_linker.specs.Values.{AppletEntry, ClassValue, Export, LinkerComponents, PackageValue}
 
 -- an exported class, with the names of its lists
 abbrev pub export_of : ExportedClass → Export
@@ -35,15 +34,29 @@ outline_of offset = record {
   package_methods = record { base = 0; offsets = [] };
 }
 
+-- what is linked of a package with this info of its Method component, whose components say this
+abbrev pub components_of : List ℕ → PackageContents → LinkerComponents
+components_of methods c = record {
+  name = c.header.this_package;
+  imports = c.imports;
+  pool = c.pool;
+  classes = c.classes;
+  methods = methods;
+  image_size = c.statics.image_size;
+  image_references = c.statics.reference_count;
+  exports = c.exports;
+  applets = c.applets;
+}
+
 -- what stands in a package before its classes are linked and its entries resolved
 abbrev pub package_outline : LinkerComponents → List ℕ → PackageValue
 package_outline c imports = record {
-  name = package_info c.name;
+  name = c.name;
   imports = imports;
   classes = map outline_of (offsets_of c.classes);
   exports = map export_of (all_of c.exports);
   targets = [];
-  methods = c.methods.now;
+  methods = c.methods;
   image_size = c.image_size;
   image_references = c.image_references;
   applets = map applet_of (all_of c.applets);

@@ -1,8 +1,24 @@
 -- Linked packages.
-use Rattle.std.specs.Prelude.{ℕ, Bool, List}
+use Rattle.std.specs.Prelude.{ℕ, Bool, List, Option}
 use Rattle.jc_platform.specs.Tokens.{Tokens}
 use Rattle.jc_cap_linkage.specs.Packages.{NamedPackage}
+use Rattle.jc_cap_linkage.specs.Applets.{AppletNamed}
+use Rattle.jc_cap_linkage.specs.declared.exports.ExportedClass.{ExportedClass}
+use Rattle.jc_cap_linkage.specs.declared.pool.Entry.{Entry}
+use Rattle.jc_cap_code.specs.ClassValues.{RecordAt}
 use Rattle.jc_linker.specs.declared.target.Target.{Target}
+
+-- what of a package's components is linked; methods is the info of the Method component
+pub record LinkerComponents : Type 0 where
+  pub name : NamedPackage
+  pub imports : List NamedPackage
+  pub pool : List Entry
+  pub classes : List RecordAt
+  pub methods : List ℕ
+  pub image_size : ℕ
+  pub image_references : ℕ
+  pub exports : Option (List ExportedClass)
+  pub applets : Option (List AppletNamed)
 
 -- a class's virtual methods by token, from a base on: the offset of each in the Method component, 65535 for one that is
 -- inherited; those below the base are the superclass's

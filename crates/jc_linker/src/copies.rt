@@ -2,11 +2,12 @@
 ghost use Rattle.std.specs.Prelude.{◌≡◌, ◌≤◌, length, map, IfOk};
 ghost use Rattle.jc_cap_code.specs.ClassValues.{offsets_of};
 ghost use Rattle.jc_cap_linkage.specs.ComponentViews.{applet_info};
-ghost use Rattle.jc_linker.specs.Outlines.{all_of, applet_of, export_of, outline_of, package_outline};
+ghost use Rattle.jc_cap.specs.Views.{package_contents};
+ghost use Rattle.jc_linker.specs.Outlines.{all_of, applet_of, components_of, export_of, outline_of, package_outline};
 
 use crate::class::{LinkedClass, TokenTable};
-use crate::components::LinkerComponents;
 use crate::package::{Applet, ExportedClass, LinkedPackage, PackageName};
+use jc_cap::contents::Contents;
 use jc_cap_code::classes::Classes;
 use jc_cap_linkage::applets::{AppletInfo, Applets};
 use jc_cap_linkage::exports::{ExportedClass as Exported, Exports};
@@ -14,24 +15,27 @@ use jc_cap_linkage::lists::U2List;
 use jc_transient::NO_CLASS;
 use std::alloc::{AllocError, Global};
 
-/// What stands in a package before its classes are linked and its entries resolved.
+/// What stands in a package of these contents before its classes are linked and its entries resolved. Its Method component has this info.
 pub fn package_outline(
     alloc: Global,
-    components: &LinkerComponents<'_>,
+    contents: &Contents<'_>,
+    methods: &[u8],
     imports: Vec<u8>,
 ) -> Result<LinkedPackage, AllocError>
-    requires { length components.now.classes ≤ 256 }
-    ensures { IfOk result (λ made. made ≡ package_outline components.now imports.items) }
+    requires { length contents.now.classes ≤ 256 }
+    ensures { IfOk result (λ made. made ≡ package_outline
+        (components_of methods.now (package_contents contents.now)) imports.items) }
 {
-    let aid = bytes(alloc, components.name.aid)?;
-    let classes = outlines(alloc, &components.classes)?;
-    let exports = all_exports(alloc, &components.exports)?;
-    let methods = bytes(alloc, components.methods)?;
-    let applets = all_applets(alloc, &components.applets)?;
+    let name = contents.header.this_package;
+    let aid = bytes(alloc, name.aid)?;
+    let classes = outlines(alloc, &contents.classes)?;
+    let exports = all_exports(alloc, &contents.exports)?;
+    let methods = bytes(alloc, methods)?;
+    let applets = all_applets(alloc, &contents.applets)?;
     Ok(LinkedPackage {
         name: PackageName {
-            minor_version: components.name.minor_version,
-            major_version: components.name.major_version,
+            minor_version: name.minor_version,
+            major_version: name.major_version,
             aid,
         },
         imports,
@@ -39,8 +43,8 @@ pub fn package_outline(
         exports,
         targets: Vec::new(alloc),
         methods,
-        image_size: components.image_size,
-        image_references: components.image_references,
+        image_size: contents.statics.image_size,
+        image_references: contents.statics.reference_count,
         applets,
     })
 }

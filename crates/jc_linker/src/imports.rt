@@ -1,15 +1,17 @@
 //! Which packages a package imports.
-ghost use Rattle.std.specs.Prelude.{◌≡◌, [], ◌∷◌, ◌++◌, OnOk};
+ghost use Rattle.std.specs.Prelude.{◌≡◌, Err};
 ghost use Rattle.jc_cap_linkage.specs.FieldViews.{package_info};
-ghost use Rattle.jc_linker.specs.Answers.{Answers};
-ghost use Rattle.jc_linker.specs.Imports.{import_number, import_numbers, version_of};
+ghost use Rattle.jc_linker.specs.Answers.{Answers, Tells};
+ghost use Rattle.jc_linker.specs.Imports.{AreFound, import_number, import_numbers, version_of};
 
+use crate::copies::bytes;
 use crate::fault::LinkFault;
 use crate::linked::Linked;
+use arrayvec::ArrayVec;
 use jc_cap_linkage::imports::Imports;
 use jc_cap_linkage::packages::PackageInfo;
 use jc_platform::row::Version;
-use std::alloc::{AllocError, Global};
+use std::alloc::Global;
 
 impl Linked {
     /// The version of the package with this number.
@@ -43,29 +45,32 @@ impl Linked {
         }
     }
 
-    /// The numbers of all packages that are imported, or the fault of the first that fails.
-    pub(crate) fn import_numbers(
-        &self,
-        alloc: Global,
-        imports: &Imports<'_>,
-    ) -> Result<Vec<u8>, LinkFault>
-        ensures { Answers (λ v. v.items) result (import_numbers self.now imports.now) }
+    /// The numbers of all packages that are imported, or the fault of the first that fails. No memory is asked for.
+    fn numbers_found(&self, imports: &Imports<'_>) -> Result<ArrayVec<u8, 255>, LinkFault>
+        ensures { Tells (λ v. v.items) result (import_numbers self.now imports.now) }
     {
-        let mut numbers = Vec::new(alloc);
+        let mut numbers: ArrayVec<u8, 255> = ArrayVec::new();
         for token in 0..imports.count() {
             let number = match self.import_number(imports.get(token)) {
                 Ok(number) => number,
                 Err(fault) => return Err(fault),
             };
-            push_number(&mut numbers, number)?;
+            numbers.push(number);
         }
         Ok(numbers)
     }
-}
 
-fn push_number(numbers: &mut Vec<u8>, number: u8) -> Result<(), AllocError>
-    ensures { OnOk result (numbers.new.items ≡ numbers.old.items ++ number ∷ []) }
-{
-    numbers.push(number)?;
-    Ok(())
+    /// The same. Memory is asked for once all are found.
+    pub(crate) fn import_numbers(
+        &self,
+        alloc: Global,
+        imports: &Imports<'_>,
+    ) -> Result<Vec<u8>, LinkFault>
+        ensures answer { Answers (λ v. v.items) result (import_numbers self.now imports.now) }
+        ensures found { result ≡ Err LinkFault.NoMemory → AreFound self.now imports.now }
+    {
+        let numbers = self.numbers_found(imports)?;
+        let copy = bytes(alloc, numbers.as_slice())?;
+        Ok(copy)
+    }
 }

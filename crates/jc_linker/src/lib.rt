@@ -8,7 +8,6 @@ pub mod class;
 mod classes;
 mod classes_linked;
 mod completeness;
-pub mod components;
 pub mod copies;
 pub mod fault;
 mod imports;

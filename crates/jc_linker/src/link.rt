@@ -1,46 +1,55 @@
 //! Linking a package.
-ghost use Rattle.std.specs.Prelude.{◌≡◌, ◌<◌, ◌≤◌, ◌++◌, [], ◌∷◌, IfOk, OnOk, length};
+ghost use Rattle.std.specs.Prelude.{◌≡◌, ◌<◌, ◌≤◌, ◌++◌, [], ◌∷◌, Err, IfOk, OnOk, length};
+ghost use Rattle.jc_cap.specs.Views.{package_contents};
 ghost use Rattle.jc_linker.specs.Answers.{Answers};
+ghost use Rattle.jc_linker.specs.Imports.{AreFound};
 ghost use Rattle.jc_linker.specs.Linking.{classes_behind, link_result, targets_from, with_package};
+ghost use Rattle.jc_linker.specs.Outlines.{components_of};
 
 use crate::class::LinkedClass;
 use crate::classes_linked::Linking;
-use crate::components::LinkerComponents;
 use crate::copies::package_outline;
 use crate::fault::LinkFault;
-use crate::linked::{Addition, Linked};
+use crate::linked::Linked;
 use crate::package::LinkedPackage;
 use crate::scope::Scope;
 use crate::target::Target;
+use jc_cap::contents::Contents;
 use jc_cap_code::classes::Classes;
 use jc_cap_linkage::pool::ConstantPool;
 use std::alloc::{AllocError, Global};
 
-/// Links a package against those that are there: what each entry of its constant pool resolves to is found here, once.
+/// Links a package of these contents against those that are there. Its Method component has this info. What each entry of its
+/// constant pool resolves to is found here, once.
+///
 /// The fault is that of the first import that fails; else the lowest index of an entry that does not resolve; else 65535
-/// where the Class component names what is not there.
+/// where the Class component names what is not there. Memory is asked for once all imports are found.
 #[tactic(auto, unfolding(crate::specs::Linking::link_result))]
 pub fn link(
     alloc: Global,
     linked: &Linked,
-    components: &LinkerComponents<'_>,
-) -> Result<Addition, LinkFault>
+    contents: &Contents<'_>,
+    methods: &[u8],
+) -> Result<LinkedPackage, LinkFault>
     requires room { length linked.now.loaded < 32 }
-    requires few { length components.now.classes ≤ 256 }
-    ensures { Answers (λ added. added) result (link_result linked.now components.now) }
+    requires few { length contents.now.classes ≤ 256 }
+    ensures answer { Answers (λ added. added) result (link_result linked.now
+        (components_of methods.now (package_contents contents.now))) }
+    ensures found { result ≡ Err LinkFault.NoMemory
+        → AreFound linked.now contents.now.imports }
 {
     let number = linked.count() as u8 + 1;
-    let imports = linked.import_numbers(alloc, &components.imports)?;
-    let mut package = package_outline(alloc, components, imports)?;
-    let classes = linked_classes(alloc, linked, &package, number, &components.classes)?;
+    let imports = linked.import_numbers(alloc, &contents.imports)?;
+    let mut package = package_outline(alloc, contents, methods, imports)?;
+    let classes = linked_classes(alloc, linked, &package, number, &contents.classes)?;
     package.classes = classes;
     let scope = linked.scope_with(&package);
-    let targets = scope.targets(alloc, number, &components.pool)?;
+    let targets = scope.targets(alloc, number, &contents.pool)?;
     if !scope.are_complete(number, &package.classes) {
         return Err(LinkFault::Unresolved(65535));
     }
     package.targets = targets;
-    Ok(Addition { package })
+    Ok(package)
 }
 
 // The classes of the records. Names are looked up in the package as it is outlined.

@@ -35,20 +35,6 @@ impl Model for Linked {
     ghost invariant = { λ l. (length l.loaded.items ≤ 32) × (32 ≤ vec_capacity l.loaded) };
 }
 
-/// A package that was linked, to be added.
-#[derive(Drop)]
-pub struct Addition {
-    pub(crate) package: LinkedPackage,
-}
-
-impl Model for Addition {
-    ghost use Rattle.jc_linker.specs.Values.{PackageValue};
-
-    ghost Value = { PackageValue };
-
-    ghost view = { λ a. a.package };
-}
-
 impl Linked {
     /// The platform's packages alone. There is room for all others from then on.
     pub fn new(alloc: Global, platform: Platform) -> Result<Linked, AllocError>
@@ -60,12 +46,12 @@ impl Linked {
         })
     }
 
-    /// Adds a package, which gets the next number.
-    pub fn add(&mut self, addition: Addition)
+    /// Adds a package that was linked against these. It gets the next number.
+    pub fn add(&mut self, addition: LinkedPackage)
         requires { length self.old.loaded < 32 }
         ensures { self.new ≡ record self.old { loaded = self.old.loaded ++ addition ∷ [] } }
     {
-        match self.loaded.push(addition.package) {
+        match self.loaded.push(addition) {
             Ok(()) => {}
             Err(_) => unreachable!(),
         }

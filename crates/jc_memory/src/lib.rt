@@ -22,7 +22,7 @@ pub use commit_capacity::{
     write_within_capacity,
 };
 pub use making::NewObject;
-pub use marks::Marks;
+pub use marks::{Marks, unset_flags};
 pub use memory::{FIXED_OBJECTS, MOST_COMMAND, MOST_SENT, Memory};
 pub use power::Volatile;
 pub use program_laws::{

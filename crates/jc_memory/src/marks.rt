@@ -1,6 +1,6 @@
 //! Marks: addresses at which objects are known to stand, so that a reference is known at once.
 ghost use Rattle.std.specs.Prelude.{◌≡◌, ◌<◌, ◌≤◌, ◌⊎◌, ℕ, false, true, length, slice_set, vec_len, IfOk};
-ghost use Rattle.jc_memory.specs.Marks.{AreNone, AreObjects, is_marked};
+ghost use Rattle.jc_memory.specs.Marks.{AreNone, AreObjects, is_marked, mark_count};
 
 use jc_heap::Heap;
 use jc_transient::Ref;
@@ -28,13 +28,21 @@ impl Model for Marks {
     ghost invariant = { λ m. length m.marks.items ≡ mark_count };
 }
 
-// So many marks, none of which is set.
+// So many flags, none of which is set.
 fn unset(alloc: Global, count: usize) -> Result<Vec<bool>, AllocError>
-    ensures len { IfOk result (λ marks. vec_len marks ≡ count) }
-    ensures unset { IfOk result (λ marks. AreNone marks.items) }
+    ensures len { IfOk result (λ flags. vec_len flags ≡ count) }
+    ensures unset { IfOk result (λ flags. AreNone flags.items) }
 {
-    let marks = vec![in alloc; false; count]?;
-    Ok(marks)
+    let flags = vec![in alloc; false; count]?;
+    Ok(flags)
+}
+
+/// A flag for each address, none of which is set.
+pub fn unset_flags(alloc: Global) -> Result<Vec<bool>, AllocError>
+    ensures long { IfOk result (λ flags. vec_len flags ≡ mark_count) }
+    ensures unset { IfOk result (λ flags. AreNone flags.items) }
+{
+    unset(alloc, MARK_COUNT)
 }
 
 // Takes all these marks away.
@@ -60,13 +68,12 @@ fn unmark_between(marks: &mut [bool], from: usize, to: usize)
 }
 
 impl Marks {
-    /// No mark yet.
-    pub fn new(alloc: Global) -> Result<Marks, AllocError>
-        ensures { IfOk result AreNone }
+    /// The marks that these flags say, one for each address.
+    pub fn of_flags(flags: Vec<bool>) -> Marks
+        requires { vec_len flags ≡ mark_count }
+        ensures { result ≡ flags.items }
     {
-        Ok(Marks {
-            marks: unset(alloc, MARK_COUNT)?,
-        })
+        Marks { marks: flags }
     }
 
     // Whether an address is marked.

@@ -5,7 +5,7 @@ ghost use Rattle.jc_heap.specs.Whole.{IsConsistent};
 ghost use Rattle.jc_transient.specs.State.{HasSizes};
 ghost use Rattle.jc_memory.specs.Owners.{at_reset};
 ghost use Rattle.jc_memory.specs.Cells.{IsHeaderOf, header_at};
-ghost use Rattle.jc_memory.specs.Marks.{AreNone};
+ghost use Rattle.jc_memory.specs.Marks.{AreObjects};
 
 use crate::marks::Marks;
 use crate::registers::Registers;
@@ -59,13 +59,13 @@ impl<S: WordStore> Model for Memory<S> {
 
 impl<S: WordStore> Memory<S> {
     /// A memory over a whole heap at rest, as a reset leaves it; with the objects with which the heap
-    /// begins, in their order, and with marks of which none is set yet.
-    pub fn new(heap: Heap<S>, ram: Ram, fixed: [Ref; FIXED_OBJECTS], mut marks: Marks) -> Memory<S>
+    /// begins, in their order, and with marks where objects stand.
+    pub fn new(heap: Heap<S>, ram: Ram, fixed: [Ref; FIXED_OBJECTS], marks: Marks) -> Memory<S>
         requires up { heap.down ≡ false }
         requires rests { heap.begun ≡ false }
         requires whole { IsConsistent heap.now }
         requires sizes { HasSizes ram }
-        requires unset { AreNone marks }
+        requires marked { AreObjects marks heap }
         ensures { result ≡ record {
           heap = heap;
           ram = ram;
@@ -77,7 +77,6 @@ impl<S: WordStore> Memory<S> {
     {
         // Nothing stands at or above the top, and the durable heap is this one.
         let _ = (heap.top(), heap.is_open());
-        marks.scan(&heap);
         Memory {
             heap,
             ram,

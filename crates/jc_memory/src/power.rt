@@ -87,8 +87,10 @@ impl<S: WordStore> Memory<S> {
             command,
             sent,
         } = volatile;
+        let heap = Heap::resume(store);
         marks.clear();
-        let mut memory = Memory::new(Heap::resume(store), ram, fixed, marks);
+        marks.scan(&heap);
+        let mut memory = Memory::new(heap, ram, fixed, marks);
         memory.registers = registers;
         memory.command = command;
         memory.sent = sent;

@@ -1,5 +1,5 @@
 -- The writes that a store refuses, and its fuse.
-use Rattle.std.specs.Prelude.{ℕ, ◌==◌, ◌||◌, Bool, false, Option, None, Some, if◌then◌else◌}
+use Rattle.std.specs.Prelude.{ℕ, ◌≡◌, ◌≤◌, ◌==◌, ◌||◌, Bool, false, Option, None, Some, if◌then◌else◌}
 use Rattle.jc_words.specs.Count.{saturating_count}
 
 -- what is told of the writes that a store refuses
@@ -23,6 +23,10 @@ with_fuse_at passed r = record r { fuse = Some passed }
 abbrev pub is_at : ℕ → Option ℕ → Bool
 is_at passed None = false
 is_at passed (Some n) = n == passed
+
+-- no more writes have passed than the fuse lets pass, where one is known
+abbrev pub IsWithinFuse : ℕ → Option ℕ → Type 0
+IsWithinFuse passed fuse = (n : ℕ) → fuse ≡ Some n → passed ≤ n
 
 -- one write more was refused when so many had passed: by a store that was down, or by one that was up, whose fuse is then burnt out if
 -- it was at this count; if it was not, that is one fault more

@@ -8,7 +8,7 @@ use Rattle.jc_platform.specs.Platform.{TellNames}
 use Rattle.jc_platform.proofs.NamesTold.{names_told}
 use Rattle.jc_linker.specs.Values.{Packages}
 use Rattle.jc_cap.specs.declared.texts.LoadedComponents.{LoadedComponents}
-use Rattle.jc_linker.specs.declared.components.LinkerComponents.{LinkerComponents}
+use Rattle.jc_linker.specs.Values.{LinkerComponents}
 use Rattle.jc_linker.specs.Linking.{with_package}
 use Rattle.jc_card_load.specs.PendingPackages.{PendingPackageValue, linked_components}
 use Rattle.jc_card_load.specs.Reading.{load_of, packages_of, with_prepared, with_records}

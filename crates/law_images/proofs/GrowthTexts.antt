@@ -20,7 +20,7 @@ use Rattle.jc_cap_code.specs.ClassValues.{RecordAt}
 use Rattle.jc_cap.specs.declared.texts.LoadedComponents.{LoadedComponents}
 use Rattle.jc_cap.specs.declared.texts.PackageBytes.{PackageBytes}
 use Rattle.jc_cap.specs.Contents.{PackageContents}
-use Rattle.jc_cap.specs.Assembling.{flagged_component, assembly_of, checked_package, flags_in, required_component, required_components}
+use Rattle.jc_cap.specs.Assembling.{assembly_of, checked_package, required_components}
 use Rattle.jc_cap.specs.ComponentReading.{applets_in, classes_in, directory_in, exports_in, header_in, imports_in, methods_in, pool_in, statics_in}
 use Rattle.jc_cap.specs.Reading.{contents_of}
 use Rattle.jc_cap.proofs.Named.{is_assembled}
@@ -29,6 +29,7 @@ use Rattle.law_linking.proofs.Closed.{anything}
 use Rattle.law_linking.proofs.Lists.{IfThere, map_there}
 use Rattle.law_linking.specs.Given.{HasAppletComponent}
 use Rattle.law_images.specs.GrowthRecords.{AreWords}
+use Rattle.law_images.proofs.Preparing.{has_all}
 
 -- ---- bytes
 
@@ -73,32 +74,12 @@ applet_component (Some text) xs bytes e =
     subst HasAppletComponent (ok_is (Some named.0) xs named.2)
     (info.0, subst (All IsByte) (info_behind 3 text info.0 info.1) bytes, whole_takes applets_at IsApplets applets_tells info.0 named.0 named.1)
 
-asked_is : (tag : ℕ) (flag : Bool) (o r : Option (List ℕ)) → flagged_component tag flag o ≡ Ok r → o ≡ r
-asked_is tag flag (Some text) r e = ok_is (Some text) r e
-asked_is tag true None r e = absurd cc
-asked_is tag false None r e = ok_is None r e
-
-required_applets : (load : LoadedComponents) (t : PackageBytes) → required_components load ≡ Ok t → load.applets ≡ t.applets
-unfolding required_components
-required_applets load t e =
-    let header = bind_ok (required_component 1 load.header) _ t e in
-    let directory = bind_ok (required_component 2 load.directory) _ t header.2 in
-    let flags = bind_ok (flags_in header.0) _ t directory.2 in
-    let applets = bind_ok (flagged_component 3 flags.0.1 load.applets) _ t flags.2 in
-    let imports = bind_ok (required_component 4 load.imports) _ t applets.2 in
-    let pool = bind_ok (required_component 5 load.pool) _ t imports.2 in
-    let classes = bind_ok (required_component 6 load.classes) _ t pool.2 in
-    let methods = bind_ok (required_component 7 load.methods) _ t classes.2 in
-    let statics = bind_ok (required_component 8 load.statics) _ t methods.2 in
-    let exports = bind_ok (flagged_component 10 flags.0.0 load.exports) _ t statics.2 in
-    asked_is 3 flags.0.1 load.applets applets.0 applets.1 ∙ ap (λ (x : PackageBytes). x.applets) (ok_is _ t exports.2)
-
 pub assembled_applets : (load : LoadedComponents) (t : PackageBytes) → assembly_of load ≡ Ok t → load.applets ≡ t.applets
 unfolding assembly_of
 assembled_applets load t e =
     let texts = bind_ok (required_components load) _ t e in
     let good = bind_ok (checked_package texts.0) _ t texts.2 in
-    required_applets load texts.0 texts.1 ∙ ap (λ (x : PackageBytes). x.applets) (ok_is texts.0 t good.2)
+    (has_all load texts.0 texts.1).applets ∙ ap (λ (x : PackageBytes). x.applets) (ok_is texts.0 t good.2)
 
 pub applets_said : (t : PackageBytes) (c : PackageContents) → contents_of t ≡ Ok c → applets_in t.applets ≡ Ok c.applets
 unfolding contents_of

@@ -12,7 +12,6 @@ use Rattle.jc_heap.specs.Keeping.{AreConsistent, IsConsistentHeap}
 use Rattle.jc_heap.specs.Moves.{AddPackage}
 use Rattle.jc_heap.specs.Object.{APackage}
 use Rattle.jc_heap.specs.Packages.{add_arrays, add_package, array_object, array_size, package_owner, package_record, push_package}
-use Rattle.jc_heap.proofs.Laws.{heap_item_at-add_other, top-add_object}
 use Rattle.jc_heap.proofs.NewPackages.{item-package, top-push}
 use Rattle.jc_heap.proofs.Tables.{at_or-push_other}
 use Rattle.jc_memory.specs.State.{MemoryState, HeapMove, apply_effect}
@@ -27,6 +26,7 @@ use Rattle.law_images.specs.Loaded.{IsReadable, LoadedPackagesReadBack}
 use Rattle.law_images.proofs.ReadingHeaps.{packages-add_object, records_same}
 use Rattle.law_images.proofs.Preparing.{Prepares, are_read, assembled_is, has_all, prepares}
 use Rattle.law_images.proofs.ReadingTexts.{AreRead, load_back}
+use Rattle.law_images.proofs.Arrays.{item_behind}
 
 -- ---- what stands in the heap
 
@@ -39,16 +39,9 @@ packages-arrays h owner [] = refl
 packages-arrays h owner (x ∷ xs) = packages-arrays (add_object h (array_object owner x) (array_size x)) owner xs
     ∙ packages-add_object h (array_object owner x) (array_size x)
 
-item-push_other : (h : HeapState) (words : List ℕ) (q : ℕ) → q < h.top → heap_item_at (push_package h words) q ≡ heap_item_at h q
+pub item-push_other : (h : HeapState) (words : List ℕ) (q : ℕ) → q < h.top → heap_item_at (push_package h words) q ≡ heap_item_at h q
 unfolding push_package heap_item_at
 item-push_other h words q lt = at_or-push_other (APackage []) h.items h.top q (APackage words) (λ e. omega (arith, e, lt))
-
-item-arrays_other : (h : HeapState) (owner : ℕ) (xs : List (Kind × List ℕ)) (q : ℕ) → q < h.top → heap_item_at (add_arrays h owner xs) q ≡ heap_item_at h q
-item-arrays_other h owner [] q lt = refl
-item-arrays_other h owner (x ∷ xs) q lt =
-    let top = top-add_object h (array_object owner x) (array_size x) in
-    item-arrays_other (add_object h (array_object owner x) (array_size x)) owner xs q (omega (arith, top, lt))
-    ∙ heap_item_at-add_other h (array_object owner x) (array_size x) q (λ e. omega (arith, e, lt))
 
 module _ (h : HeapState) (cs : List (ℕ × List ℕ)) (xs : List (Kind × List ℕ)) (rest : List ℕ) where
   abbrev g : HeapState
@@ -61,7 +54,7 @@ module _ (h : HeapState) (cs : List (ℕ × List ℕ)) (xs : List (Kind × List 
   record-low : (q : ℕ) → q < h.top → record_of g q ≡ record_of h q
   record-low q lt =
       let top = top-push h (package_record h.top cs xs rest) in
-      ap words_of (item-arrays_other (push_package h (package_record h.top cs xs rest)) (package_owner (h.counts.0 + 1)) xs q (omega (arith, top, lt))
+      ap words_of (item_behind (push_package h (package_record h.top cs xs rest)) (package_owner (h.counts.0 + 1)) xs q (omega (arith, top, lt))
       ∙ item-push_other h (package_record h.top cs xs rest) q lt)
 
   module _ (s : IsConsistentHeap h) where

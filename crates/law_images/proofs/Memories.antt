@@ -16,7 +16,7 @@ use Rattle.jc_memory.specs.declared.registers.Installation.TheVariants.{Idle, Op
 use Rattle.jc_memory.specs.Owners.{owner_number}
 use Rattle.jc_memory.specs.State.{HeapMove, MemoryState, apply_effect}
 use Rattle.jc_linker.specs.Values.{Packages}
-use Rattle.jc_linker.specs.declared.components.LinkerComponents.{LinkerComponents}
+use Rattle.jc_linker.specs.Values.{LinkerComponents}
 use Rattle.jc_linker.specs.Linking.{with_package}
 use Rattle.law_linking.specs.Linked.{AreLinked}
 use Rattle.jc_card_load.specs.RecordContents.{arrays_of, image_of, parts_of, statics_of}

@@ -18,14 +18,17 @@ use Rattle.jc_platform.specs.declared.names.PlatformClass.{PlatformClass}
 use Rattle.jc_platform.specs.Hierarchy.{is_interface}
 use Rattle.jc_platform.specs.Table.{Reads}
 use Rattle.jc_platform.specs.Tokens.{Tokens}
+use Rattle.jc_platform.proofs.Lists.{and_true}
 use Rattle.jc_linker.specs.Values.{Packages}
 use Rattle.jc_card_checks.specs.Objects.{is_instance, is_persistent_instance}
 use Rattle.jc_card.specs.Fixed.{BeginsWithFixed, class_number_of, fixed_facts, fixed_objects, fixed_of, last_fixed, next_or_null, object_number, with_objects}
 use Rattle.jc_image.specs.Beginning.{HeadersFollow, HeapBeginsWith}
+use Rattle.jc_image.proofs.Referring.{not_true}
 use Rattle.jc_card.specs.Made.{new_card_heap}
 use Rattle.jc_card.proofs.FittingImages.{alone, counts_add, no_packages, number_suc, packages_add}
 use Rattle.jc_card.proofs.FixedObjects.{IsBelow, begins-new_card_heap, below-one, head-new_card_heap, items-one, next_is, text-new_card_heap, top-add}
 use Rattle.jc_card.proofs.FixedObjects.{whole-new_card_heap, with_one}
+use Rattle.jc_card.proofs.Objects.{zeroth}
 use Rattle.law_soundness.specs.Environment.{AreEnvironmentObjects}
 use Rattle.law_soundness.specs.Fit.{IsPlatformClass}
 use Rattle.law_soundness.specs.State.{IsSoundUpTo}
@@ -55,14 +58,6 @@ record IsFixed (t : Tokens) (x : Item) : Type 0 where
 and_false : (b : Bool) → (b && false) ≡ false
 and_false true = refl
 and_false false = refl
-
-not_true : (b : Bool) → not b ≡ true → b ≡ false
-not_true true e = absurd (false≢true e)
-not_true false e = refl
-
-parts : (a b : Bool) → (a && b) ≡ true → (a ≡ true) × (b ≡ true)
-parts true b e = (refl, e)
-parts false b e = absurd (false≢true e)
 
 -- an instance has a class of the platform that is no interface
 abbrev fits_kind : Kind → Option PlatformClass → Bool
@@ -113,7 +108,7 @@ all_fixed : (t : Tokens) (h : HeapState) (os : List FixedObject) → all_fit os 
     → IsFixed t (entry_or (APackage []) (with_objects t h os).items r)
 all_fixed t h [] fit old r = old r
 all_fixed t h (o ∷ os) fit old r =
-    let both : (fits_kind o.kind o.class ≡ true) × (all_fit os ≡ true) = parts (fits_kind o.kind o.class) (all_fit os) fit in
+    let both : (fits_kind o.kind o.class ≡ true) × (all_fit os ≡ true) = and_true (fits_kind o.kind o.class) (all_fit os) fit in
     all_fixed t (with_one t h o) os both.1
     (λ q. subst (λ l. IsFixed t (entry_or (APackage []) l q)) (sym (items-one t h o))
     (pushed_fixed t h.items h.top _ q (old q) (object_fixed t o (area_end h Reset) both.0))) r
@@ -148,10 +143,6 @@ number_below h k b some = subst (λ q. q < h.top) (sym (number_suc h k)) (next_b
 
 -- ---- the objects that it begins with are there
 
-number_zero : (h : HeapState) → object_number h 0 ≡ 0
-unfolding object_number
-number_zero h = refl
-
 seventeen : length fixed_objects ≡ 17
 unfolding fixed_objects
 seventeen = refl
@@ -178,7 +169,7 @@ unfolding HeapBeginsWith
 begin_there h t begins k lt =
     let at : slice_index (fixed_of h) k ≡ object_number h (1 + k) = get_or-map-range_with_len (object_number h) 1 17 k (1 + k) 0 lt refl in
     subst (IsObject h) (sym at) (follow_there h t 0 fixed_objects 0 k (1 + k)
-    (subst (λ q. HeadersFollow h q (fixed_facts t 0 fixed_objects)) (sym (number_zero h)) begins) (omega (arith, lt, seventeen)) (omega arith))
+    (subst (λ q. HeadersFollow h q (fixed_facts t 0 fixed_objects)) (sym (zeroth h)) begins) (omega (arith, lt, seventeen)) (omega arith))
 
 module _ (n capacity : ℕ) (text : List ℕ) (t : Tokens) where
   abbrev made : HeapState

@@ -2,7 +2,6 @@
 use Rattle.std.proofs.Common.{◌≡◌, ℕ, ◌+◌, ◌*◌, ◌<◌, Bool, true, false, List, [], ◌∷◌, map, length, get_or, suc, refl, sym, ◌∙◌, ap, subst, arith, Result, Ok}
 use Rattle.std.proofs.Common.{Err, if◌then◌else◌}
 use Rattle.std.specs.Prelude.{is_some, nat_le}
-use Rattle.jc_cap_linkage.specs.declared.fault.CapFault.{CapFault}
 use Rattle.jc_cap_code.specs.declared.static_arrays.ElementType.{ElementType}
 use Rattle.jc_cap_code.specs.declared.static_arrays.ElementType.TheVariants.{Boolean, Byte, Short}
 use Rattle.jc_cap_code.specs.StaticValues.{StaticArray}
@@ -16,18 +15,18 @@ use Rattle.jc_cap.proofs.Named.{is_assembled}
 use Rattle.jc_heap.specs.Packages.{AreComponents, is_array_init}
 use Rattle.jc_linker.specs.Lookups.{package_with_aid}
 use Rattle.jc_linker.specs.Values.{PackageValue, Packages}
-use Rattle.jc_linker.specs.declared.fault.LinkFault.{LinkFault}
 use Rattle.jc_linker.specs.Linking.{link_result}
 use Rattle.law_linking.proofs.Linking.{made}
 use Rattle.jc_card_load.specs.declared.load_refusal.LoadRefusal.{LoadRefusal}
-use Rattle.jc_card_load.specs.declared.load_refusal.LoadRefusal.TheVariants.{AidTaken, BadComponents, Full, LinkFailed}
+use Rattle.jc_card_load.specs.declared.load_refusal.LoadRefusal.TheVariants.{AidTaken, Full}
 use Rattle.jc_card_load.specs.RecordContents.{array_of, kind_of, parts_of, statics_of, zeros_of}
-use Rattle.jc_card_load.specs.PendingPackages.{PendingPackageValue, if_linked, if_read, linked_components, linked_package}
+use Rattle.jc_card_load.specs.PendingPackages.{PendingPackageValue, if_read, linked_components, linked_package}
 use Rattle.jc_card_load.specs.LinkerView.{linker_view}
 use Rattle.jc_card_load.proofs.Fit.{parts_fit}
 use Rattle.jc_card_load.proofs.Statics.{image_adds_up, statics_read}
 use Rattle.law_images.proofs.Arrays.{AreInitial}
 use Rattle.law_images.proofs.LoadImages.{AreTagged}
+use Rattle.law_images.proofs.Preparing.{linked_ok, read_ok}
 
 -- ---- what answered
 
@@ -47,14 +46,6 @@ as_ok x = Ok x
 
 ok_value : {A : Type 0} (x y : A) → as_ok x ≡ as_ok y → x ≡ y
 ok_value x y is = ap (value_or x) is
-
-read_ok : {A B : Type 0} (r : Result A CapFault) (f : A → Result B LoadRefusal) (y : B) → if_read r f ≡ Ok y → (x : A) × (r ≡ Ok x) × (f x ≡ Ok y)
-read_ok (Ok x) f y is = (x, refl, is)
-read_ok (Err e) f y is = absurd (no_refusal (BadComponents e) y is)
-
-linked_ok : {A B : Type 0} (r : Result A LinkFault) (f : A → Result B LoadRefusal) (y : B) → if_linked r f ≡ Ok y → (x : A) × (r ≡ Ok x) × (f x ≡ Ok y)
-linked_ok (Ok x) f y is = (x, refl, is)
-linked_ok (Err e) f y is = absurd (no_refusal (LinkFailed e) y is)
 
 unless_ok : {A : Type 0} (b : Bool) (e : LoadRefusal) (r : Result A LoadRefusal) (y : A) → (if b then Err e else r) ≡ Ok y → r ≡ Ok y
 unless_ok true e r y is = absurd (no_refusal e y is)

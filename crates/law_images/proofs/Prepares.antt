@@ -1,5 +1,5 @@
 -- What a package that was prepared was prepared of.
-use Rattle.std.proofs.Common.{◌≡◌, ◌<◌, Bool, true, false, Result, Ok, Err, length, refl, ap, ◌∙◌, if◌then◌else◌, nat_le}
+use Rattle.std.proofs.Common.{◌≡◌, ◌<◌, Result, Ok, Err, length, refl, ap, ◌∙◌, if◌then◌else◌, nat_le}
 use Rattle.std.specs.Prelude.{is_some}
 use Rattle.std.proofs.lemmas.Bool.{leb-false}
 use Rattle.jc_cap.specs.declared.texts.LoadedComponents.{LoadedComponents}
@@ -7,27 +7,14 @@ use Rattle.jc_cap.specs.declared.texts.PackageBytes.{PackageBytes}
 use Rattle.jc_cap.specs.Contents.{PackageContents}
 use Rattle.jc_cap.specs.Assembling.{assembly_of}
 use Rattle.jc_cap.specs.Reading.{contents_of}
-use Rattle.jc_cap_linkage.specs.declared.fault.CapFault.{CapFault}
 use Rattle.jc_linker.specs.Values.{PackageValue, Packages}
 use Rattle.jc_linker.specs.Lookups.{package_with_aid}
-use Rattle.jc_linker.specs.declared.fault.LinkFault.{LinkFault}
 use Rattle.jc_linker.specs.Linking.{link_result}
-use Rattle.jc_card_load.specs.PendingPackages.{PendingPackageValue, if_linked, if_read, linked_components, linked_package}
+use Rattle.jc_card_load.specs.PendingPackages.{PendingPackageValue, if_read, linked_components, linked_package}
 use Rattle.jc_card_load.specs.LinkerView.{linker_view}
 use Rattle.jc_card_load.specs.declared.load_refusal.LoadRefusal.{LoadRefusal}
 use Rattle.jc_card_load.specs.declared.load_refusal.LoadRefusal.TheVariants.{AidTaken, Full}
-
-read_ok : {A B : Type 0} (r : Result A CapFault) (f : A → Result B LoadRefusal) (y : B) → if_read r f ≡ Ok y → (x : A) × (r ≡ Ok x) × (f x ≡ Ok y)
-read_ok (Ok x) f y e = (x, refl, e)
-read_ok (Err fault) f y e = absurd cc
-
-linked_ok : {A B : Type 0} (r : Result A LinkFault) (f : A → Result B LoadRefusal) (y : B) → if_linked r f ≡ Ok y → (x : A) × (r ≡ Ok x) × (f x ≡ Ok y)
-linked_ok (Ok x) f y e = (x, refl, e)
-linked_ok (Err fault) f y e = absurd cc
-
-refused : {A : Type 0} (b : Bool) (why : LoadRefusal) (r : Result A LoadRefusal) (y : A) → (if b then Err why else r) ≡ Ok y → (b ≡ false) × (r ≡ Ok y)
-refused true why r y e = absurd cc
-refused false why r y e = (refl, e)
+use Rattle.law_images.proofs.Preparing.{linked_ok, read_ok, refused}
 
 abbrev prepared_or : PendingPackageValue → Result PendingPackageValue LoadRefusal → PendingPackageValue
 prepared_or d (Ok q) = q

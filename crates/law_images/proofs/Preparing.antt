@@ -155,15 +155,15 @@ assembled_again load t e =
 
 -- ---- what is linked
 
-read_ok : {A B : Type 0} (r : Result A CapFault) (f : A → Result B LoadRefusal) (y : B) → if_read r f ≡ Ok y → (x : A) × (r ≡ Ok x) × (f x ≡ Ok y)
+pub read_ok : {A B : Type 0} (r : Result A CapFault) (f : A → Result B LoadRefusal) (y : B) → if_read r f ≡ Ok y → (x : A) × (r ≡ Ok x) × (f x ≡ Ok y)
 read_ok (Ok x) f y e = (x, refl, e)
 read_ok (Err fault) f y e = absurd cc
 
-linked_ok : {A B : Type 0} (r : Result A LinkFault) (f : A → Result B LoadRefusal) (y : B) → if_linked r f ≡ Ok y → (x : A) × (r ≡ Ok x) × (f x ≡ Ok y)
+pub linked_ok : {A B : Type 0} (r : Result A LinkFault) (f : A → Result B LoadRefusal) (y : B) → if_linked r f ≡ Ok y → (x : A) × (r ≡ Ok x) × (f x ≡ Ok y)
 linked_ok (Ok x) f y e = (x, refl, e)
 linked_ok (Err fault) f y e = absurd cc
 
-refused : {B : Type 0} (b : Bool) (d : LoadRefusal) (r : Result B LoadRefusal) (y : B) → (if b then Err d else r) ≡ Ok y → (b ≡ false) × (r ≡ Ok y)
+pub refused : {B : Type 0} (b : Bool) (d : LoadRefusal) (r : Result B LoadRefusal) (y : B) → (if b then Err d else r) ≡ Ok y → (b ≡ false) × (r ≡ Ok y)
 refused true d r y e = absurd cc
 refused false d r y e = (refl, e)
 

@@ -53,7 +53,7 @@ use Rattle.law_images.proofs.CardHeaps.{IsLeft, left_own, own_at}
 use Rattle.law_images.proofs.Loads.{ends_lost, ends_own}
 
 -- packages that were linked well are known
-linked_known : (p : Packages) → AreLinkedWell p → AreKnown p
+pub linked_known : (p : Packages) → AreLinkedWell p → AreKnown p
 linked_known p l = record {
   classes = have_classes l.components p l.read;
   aids = have_aids l.components p l.read.linked l.applets;

@@ -2,7 +2,7 @@
 use Rattle.std.specs.Prelude.{List, [], ◌∷◌, IfSome}
 use Rattle.jc_platform.specs.Tokens.{Tokens}
 use Rattle.jc_linker.specs.Values.{Packages}
-use Rattle.jc_linker.specs.declared.components.LinkerComponents.{LinkerComponents}
+use Rattle.jc_linker.specs.Values.{LinkerComponents}
 use Rattle.jc_card.specs.CardState.{CardState}
 use Rattle.law_linking.specs.Given.{AreRead}
 use Rattle.law_images.specs.GrowthRecords.{HaveAppletComponents}

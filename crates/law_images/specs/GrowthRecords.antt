@@ -4,7 +4,7 @@ use Rattle.jc_heap.specs.Heap.{HeapState, heap_of}
 use Rattle.jc_platform.specs.Table.{Reads}
 use Rattle.jc_platform.specs.Tokens.{Tokens}
 use Rattle.jc_linker.specs.Values.{Packages}
-use Rattle.jc_linker.specs.declared.components.LinkerComponents.{LinkerComponents}
+use Rattle.jc_linker.specs.Values.{LinkerComponents}
 use Rattle.jc_card_load.specs.Reading.{packages_of}
 use Rattle.jc_card_checks.specs.Sound.{package_record_at}
 use Rattle.law_linking.specs.Given.{AreRead, HasAppletComponent, HasByteTokens}

@@ -9,7 +9,7 @@ use Rattle.jc_heap.specs.Moves.{Move, AddPackage}
 use Rattle.jc_heap.specs.Packages.{add_package}
 use Rattle.jc_memory.specs.State.{MemoryState, Effect, HeapMove, apply_effect}
 use Rattle.jc_linker.specs.Values.{Packages}
-use Rattle.jc_linker.specs.declared.components.LinkerComponents.{LinkerComponents}
+use Rattle.jc_linker.specs.Values.{LinkerComponents}
 use Rattle.jc_linker.specs.Linking.{with_package}
 use Rattle.law_linking.specs.Linked.{AreLinked}
 use Rattle.jc_card_load.specs.RecordContents.{arrays_of, image_of, parts_of, statics_of}

@@ -16,7 +16,7 @@ use Rattle.jc_linker.specs.Lookups.{target_at}
 use Rattle.jc_linker.specs.Methods.{method_at}
 use Rattle.jc_linker.specs.Resolves.{class_named, interface_by, names_interface, super_target}
 use Rattle.jc_linker.specs.Values.{ClassValue, Packages}
-use Rattle.jc_linker.specs.declared.components.LinkerComponents.{LinkerComponents}
+use Rattle.jc_linker.specs.Values.{LinkerComponents}
 use Rattle.law_linking.specs.Linked.{AreLinked}
 use Rattle.law_linking.proofs.Entered.{entered}
 use Rattle.law_linking.proofs.Fields.{any_field, any_foreign, mapped_there, of_entry}

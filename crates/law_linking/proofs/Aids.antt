@@ -9,7 +9,7 @@ use Rattle.jc_cap_linkage.specs.Applets.{AppletNamed, IsApplet}
 use Rattle.jc_linker.specs.Classes.{package_in}
 use Rattle.jc_linker.specs.Lookups.{applet_entry}
 use Rattle.jc_linker.specs.Values.{AppletEntry, PackageValue, Packages}
-use Rattle.jc_linker.specs.declared.components.LinkerComponents.{LinkerComponents}
+use Rattle.jc_linker.specs.Values.{LinkerComponents}
 use Rattle.jc_linker.specs.Linking.{with_package}
 use Rattle.jc_linker.specs.Outlines.{all_of, applet_of}
 use Rattle.law_linking.specs.Linked.{AreLinkedAgainst}

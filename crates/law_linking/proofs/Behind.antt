@@ -6,7 +6,7 @@ use Rattle.std.proofs.lemmas.Bool.{cases_eq, false≢true}
 use Rattle.std.proofs.lemmas.Option.{none-some, same_Some}
 use Rattle.jc_linker.specs.Classes.{class_in}
 use Rattle.jc_linker.specs.Values.{ClassValue, PackageValue, Packages}
-use Rattle.jc_linker.specs.declared.components.LinkerComponents.{LinkerComponents}
+use Rattle.jc_linker.specs.Values.{LinkerComponents}
 use Rattle.jc_linker.specs.Linking.{next_number, with_classes, with_package}
 use Rattle.law_linking.specs.Linked.{AreLinkedAgainst, IsLinkedAgainst}
 use Rattle.law_linking.proofs.Closed.{IsClosed, IsClosedClass, class_closed, package_same}

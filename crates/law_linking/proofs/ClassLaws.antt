@@ -6,7 +6,7 @@ use Rattle.jc_linker.specs.declared.target.Target.TheVariants.{InstanceField}
 use Rattle.jc_linker.specs.Classes.{is_below, reference_cell}
 use Rattle.jc_linker.specs.Lookups.{target_at}
 use Rattle.jc_linker.specs.Values.{Packages}
-use Rattle.jc_linker.specs.declared.components.LinkerComponents.{LinkerComponents}
+use Rattle.jc_linker.specs.Values.{LinkerComponents}
 use Rattle.law_linking.proofs.Entered.{few_packages}
 use Rattle.law_linking.proofs.Fields.{named_field}
 use Rattle.jc_card_checks.specs.Objects.{is_a}

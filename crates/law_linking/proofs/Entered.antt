@@ -10,7 +10,7 @@ use Rattle.jc_linker.specs.Classes.{package_in}
 use Rattle.jc_linker.specs.Lookups.{target_at, target_of}
 use Rattle.jc_linker.specs.Resolves.{resolution}
 use Rattle.jc_linker.specs.Values.{PackageValue, Packages}
-use Rattle.jc_linker.specs.declared.components.LinkerComponents.{LinkerComponents}
+use Rattle.jc_linker.specs.Values.{LinkerComponents}
 use Rattle.jc_linker.specs.Linking.{with_package}
 use Rattle.law_linking.specs.Linked.{AreLinked, AreLinkedAgainst}
 use Rattle.law_linking.specs.Resolving.{Resolve}

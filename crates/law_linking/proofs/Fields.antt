@@ -24,7 +24,7 @@ use Rattle.jc_linker.specs.Methods.{method_at}
 use Rattle.jc_linker.specs.Resolves.{class_named, class_with_token, export_of, field_of, field_target, foreign_field, foreign_method, import_by_token}
 use Rattle.jc_linker.specs.Resolves.{names_interface, resolution, static_method_by, super_target, virtual_target}
 use Rattle.jc_linker.specs.Values.{ClassValue, Packages}
-use Rattle.jc_linker.specs.declared.components.LinkerComponents.{LinkerComponents}
+use Rattle.jc_linker.specs.Values.{LinkerComponents}
 use Rattle.law_linking.specs.Fields.{HideFields}
 use Rattle.law_linking.specs.Linked.{AreLinked}
 use Rattle.law_linking.proofs.Lists.{AllOf, IfThere, any_so, map_there, then_there}

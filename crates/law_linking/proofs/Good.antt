@@ -10,7 +10,7 @@ use Rattle.jc_platform.specs.Platform.{class_by_word}
 use Rattle.jc_linker.specs.Classes.{class_in, package_in, size_by, size_of}
 use Rattle.jc_linker.specs.Resolves.{names_interface}
 use Rattle.jc_linker.specs.Values.{ClassValue, Implementation, PackageValue, Packages}
-use Rattle.jc_linker.specs.declared.components.LinkerComponents.{LinkerComponents}
+use Rattle.jc_linker.specs.Values.{LinkerComponents}
 use Rattle.jc_linker.specs.Linking.{cells_above, cells_in, next_number, with_classes, with_package}
 use Rattle.jc_linker.specs.Completeness.{are_complete_from, has_superclass, inherits_from, is_implemented, is_complete}
 use Rattle.law_linking.specs.Linked.{AreLinked, AreLinkedAgainst, IsLinkedAgainst}

@@ -16,7 +16,7 @@ use Rattle.jc_cap_code.specs.ClassValues.{RecordAt, offsets_of}
 use Rattle.jc_linker.specs.Classes.{size_of}
 use Rattle.jc_linker.specs.Resolves.{class_at_offset, class_named, class_of, class_with_token, import_of, import_by_token, class_index}
 use Rattle.jc_linker.specs.Values.{ClassValue, PackageValue, Packages}
-use Rattle.jc_linker.specs.declared.components.LinkerComponents.{LinkerComponents}
+use Rattle.jc_linker.specs.Values.{LinkerComponents}
 use Rattle.jc_linker.specs.Linking.{cells_above, cells_in, class_by_record, classes_behind, next_number, with_package, word_of}
 use Rattle.jc_linker.specs.Outlines.{outline_of, package_outline}
 use Rattle.law_linking.proofs.Closed.{Beside, IsBeside, IsClosed, alike, names}

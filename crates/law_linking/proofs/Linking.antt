@@ -17,7 +17,7 @@ use Rattle.jc_linker.specs.Classes.{is_class}
 use Rattle.jc_linker.specs.Lookups.{package_with_aid}
 use Rattle.jc_linker.specs.Resolves.{names_interface, resolution}
 use Rattle.jc_linker.specs.Values.{ClassValue, Implementation, PackageValue, Packages}
-use Rattle.jc_linker.specs.declared.components.LinkerComponents.{LinkerComponents}
+use Rattle.jc_linker.specs.Values.{LinkerComponents}
 use Rattle.jc_linker.specs.declared.fault.LinkFault.{LinkFault}
 use Rattle.jc_linker.specs.declared.fault.LinkFault.TheVariants.{ImportMissing, ImportVersion, Unresolved}
 use Rattle.jc_linker.specs.Answers.{then_on}

@@ -17,7 +17,7 @@ use Rattle.jc_linker.specs.Classes.{class_in, is_class, package_in}
 use Rattle.jc_linker.specs.Lookups.{target_at}
 use Rattle.jc_linker.specs.Resolves.{class_at_offset, class_by, class_named, class_of, class_with_token, exported_class, import_by_token, class_index}
 use Rattle.jc_linker.specs.Values.{PackageValue, Packages}
-use Rattle.jc_linker.specs.declared.components.LinkerComponents.{LinkerComponents}
+use Rattle.jc_linker.specs.Values.{LinkerComponents}
 use Rattle.jc_linker.specs.Outlines.{outline_of}
 use Rattle.law_linking.proofs.Closed.{IsClosed, IsClosedPackage}
 use Rattle.law_linking.proofs.Entered.{entered, there as some_at}

@@ -26,7 +26,7 @@ use Rattle.jc_linker.specs.Lookups.{target_at}
 use Rattle.jc_linker.specs.Methods.{by_offset, if_native, in_table, lookup_classes, method_at, method_in, method_by_class, first_decided, found_or_above}
 use Rattle.jc_linker.specs.Resolves.{class_named as named_class, class_with_token, export_of, foreign_method, static_method_by}
 use Rattle.jc_linker.specs.Values.{ClassValue, Export, MethodTable, Packages}
-use Rattle.jc_linker.specs.declared.components.LinkerComponents.{LinkerComponents}
+use Rattle.jc_linker.specs.Values.{LinkerComponents}
 use Rattle.jc_card_checks.specs.Objects.{is_a}
 use Rattle.law_linking.specs.Linked.{AreLinked}
 use Rattle.law_linking.proofs.Entered.{entered}

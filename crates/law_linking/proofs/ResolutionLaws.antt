@@ -17,7 +17,7 @@ use Rattle.jc_linker.specs.Lookups.{applet_entry, applet_of, code_at, entry_at, 
 use Rattle.jc_linker.specs.Lookups.{target_at, target_of}
 use Rattle.jc_linker.specs.Resolves.{class_at_offset, class_with_token, import_by_token, resolution}
 use Rattle.jc_linker.specs.Values.{PackageValue, Packages}
-use Rattle.jc_linker.specs.declared.components.LinkerComponents.{LinkerComponents}
+use Rattle.jc_linker.specs.Values.{LinkerComponents}
 use Rattle.jc_linker.specs.Linking.{next_number, with_classes, with_package}
 use Rattle.law_linking.specs.Linked.{AreLinkedAgainst, IsLinkedAgainst}
 use Rattle.law_linking.specs.Staying.{AddingKeeps, PackageStays, Stays}

@@ -1,7 +1,7 @@
 -- What linked packages know of classes.
 use Rattle.std.specs.Prelude.{ℕ, ◌≡◌, List, Some, slice_get}
 use Rattle.jc_linker.specs.Values.{Packages}
-use Rattle.jc_linker.specs.declared.components.LinkerComponents.{LinkerComponents}
+use Rattle.jc_linker.specs.Values.{LinkerComponents}
 use Rattle.law_linking.specs.Linked.{AreLinked}
 use Rattle.law_soundness.specs.Classes.{HasAids, HasFieldCells, HasPlatformCells, HasReceivers, KnowsClasses}
 use Rattle.law_linking.specs.Given.{AreRead, HasAppletComponent}

@@ -8,7 +8,7 @@ use Rattle.jc_platform.specs.Numbers.{class_number}
 use Rattle.jc_platform.specs.Platform.{TellNames}
 use Rattle.jc_platform.specs.Tokens.{Tokens}
 use Rattle.jc_linker.specs.Values.{Packages}
-use Rattle.jc_linker.specs.declared.components.LinkerComponents.{LinkerComponents}
+use Rattle.jc_linker.specs.Values.{LinkerComponents}
 use Rattle.law_linking.specs.Linked.{AreLinked}
 
 -- the token of each class of the platform is one byte

@@ -1,7 +1,7 @@
 -- Packages that were linked, each onto those before it.
 use Rattle.std.specs.Prelude.{◌≡◌, ◌<◌, ◌≤◌, List, [], ◌∷◌, length, Ok}
 use Rattle.jc_linker.specs.Values.{PackageValue, Packages}
-use Rattle.jc_linker.specs.declared.components.LinkerComponents.{LinkerComponents}
+use Rattle.jc_linker.specs.Values.{LinkerComponents}
 use Rattle.jc_linker.specs.Linking.{link_result, with_package}
 
 -- a package of these components is linked onto these packages, among which there is a place for it

@@ -5,7 +5,7 @@ use Rattle.jc_linker.specs.declared.target.Target.{Target}
 use Rattle.jc_linker.specs.Lookups.{target_at}
 use Rattle.jc_linker.specs.Resolves.{resolution}
 use Rattle.jc_linker.specs.Values.{Packages}
-use Rattle.jc_linker.specs.declared.components.LinkerComponents.{LinkerComponents}
+use Rattle.jc_linker.specs.Values.{LinkerComponents}
 use Rattle.law_linking.specs.Linked.{AreLinked}
 
 -- each entry of this constant pool resolves in the package with this number, and is looked up by its index as what it

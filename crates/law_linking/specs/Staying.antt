@@ -7,7 +7,7 @@ use Rattle.jc_linker.specs.Lookups.{applet_entry, code_at, entry_at, entry_with_
 use Rattle.jc_linker.specs.Methods.{interface_method_at, method_at}
 use Rattle.jc_linker.specs.Resolves.{names_interface, resolution}
 use Rattle.jc_linker.specs.Values.{PackageValue, Packages}
-use Rattle.jc_linker.specs.declared.components.LinkerComponents.{LinkerComponents}
+use Rattle.jc_linker.specs.Values.{LinkerComponents}
 use Rattle.jc_linker.specs.Linking.{next_number, with_package}
 use Rattle.law_linking.specs.Linked.{AreLinked}
 

@@ -14,13 +14,14 @@ use Rattle.law_soundness.specs.State.{IsSoundMemory}
 use Rattle.law_soundness.specs.Commands.{IsServed}
 use Rattle.law_images.specs.Cards.{IsOwnCard}
 use Rattle.law_images.proofs.Rest.{IsEmpty, empty_effect}
+use Rattle.law_images.proofs.Sessions.{linked_known}
 use Rattle.law_theorems.specs.Comes.{ComesWithin, memory_at}
 use Rattle.law_theorems.specs.Tries.{IsAsFound}
 use Rattle.law_theorems.proofs.Orders.{commands_orderly}
 use Rattle.law_theorems.proofs.Others.{others}
 use Rattle.law_theorems.proofs.Pins.{pin_left}
 use Rattle.law_theorems.proofs.Prefixes.{behind_both, due_after, due_all, due_begun}
-use Rattle.law_theorems.proofs.Served.{AddsPackage, IsFine, commands_fine, known_of}
+use Rattle.law_theorems.proofs.Served.{AddsPackage, IsFine, commands_fine}
 use Rattle.jc_heap.specs.Heap.{HeapView}
 use Rattle.jc_session.specs.Power.{Up}
 use Rattle.law_theorems.specs.Comes.{ComesTo}
@@ -73,7 +74,7 @@ module _ (t : Tokens) (card : CardState) (own : IsOwnCard t card) (bytes : List 
           stands = same.stands;
           others = λ r none. others card.packages r during begun served.1 laid_begun.0 refl inside none;
           pins = λ r is.
-              let known = known_of card.packages own.linked in (
+              let known = linked_known card.packages own.linked in (
                 tries_left r during begun (tries_in found.heap.now r),
                 stay card.packages known r during begun (tries_in found.heap.now r) served.1 laid_begun refl inside is
                     (away_at_begin card.packages found sound laid.1.now.apart r (pin_stands card.packages known found sound r is) untouched),

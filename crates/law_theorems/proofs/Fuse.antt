@@ -197,11 +197,11 @@ armed_refusals k (Up card) = refl
 armed_refusals k (Off kept) = refl
 
 pub fuses_cut : FusesCut
-fuses_cut k carried s last text h leave small same =
+fuses_cut k carried s last text h leave small same within =
+    let count = saturating_count (durable_state s).passed k in
     let set = armed_refusals k s in
     let faults : (refusals_of (armed k s)).faults ≡ (refusals_of s).faults = ap (λ (r : Refusals). r.faults) set in
-    elim (stays_or_cuts (saturating_count (durable_state s).passed k) carried last (armed k s) text leave h (ap (λ (r : Refusals). r.fuse) set)
-    (omega (arith, faults, small)) (same ∙ sym faults)) [
-      | inl stays ↦ inl (stays ∙ set)
+    elim (stays_or_cuts count carried last (armed k s) text leave h (ap (λ (r : Refusals). r.fuse) set) (omega (arith, faults, small)) (same ∙ sym faults)) [
+      | inl stays ↦ inl (record { set = stays ∙ set; within = within count (ap (λ (r : Refusals). r.fuse) (stays ∙ set)) })
       | inr at ↦ inr at
     ]

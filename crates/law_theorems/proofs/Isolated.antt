@@ -16,10 +16,11 @@ use Rattle.law_isolation.proofs.Runs.{isolated}
 use Rattle.law_soundness.specs.Commands.{IsServed}
 use Rattle.law_soundness.specs.State.{IsSoundMemory}
 use Rattle.law_images.specs.Cards.{IsOwnCard}
+use Rattle.law_images.proofs.Sessions.{linked_known}
 use Rattle.law_theorems.specs.Comes.{ComesWithin, memory_at}
 use Rattle.law_theorems.specs.Isolation.{AddNone, RunsApart, StayApart}
 use Rattle.law_theorems.proofs.Prefixes.{due_begun}
-use Rattle.law_theorems.proofs.Served.{AddsPackage, IsFine, commands_fine, known_of, sound_behind}
+use Rattle.law_theorems.proofs.Served.{AddsPackage, IsFine, commands_fine, sound_behind}
 use Rattle.law_theorems.proofs.Coming.{comes_own}
 
 pub none_added : (es : List Effect) (m : MemoryState) → AllEffectsDue AddsPackage es m → AddNone es → es ≡ []
@@ -36,7 +37,7 @@ set_of p m sound = record {
 }
 
 statics_of : (t : Tokens) (card : CardState) → IsOwnCard t card → NamesStatics card.packages
-statics_of t card own number index class method target = ((known_of card.packages own.linked).classes.receivers.statically number index class method target).1
+statics_of t card own number index class method target = ((linked_known card.packages own.linked).classes.receivers.statically number index class method target).1
 
 module _ (t : Tokens) (card : CardState) (bytes : List ℕ) (es : List Effect) (comes : ComesWithin t card bytes es) (none : AddNone es) where
   own : IsOwnCard t card

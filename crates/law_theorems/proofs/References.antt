@@ -35,6 +35,7 @@ use Rattle.law_soundness.proofs.StepLaws.{given}
 use Rattle.law_soundness.proofs.Stepping.{steps_sound}
 use Rattle.law_soundness.proofs.Transients.{names_object}
 use Rattle.law_images.specs.Cards.{IsOwnCard}
+use Rattle.law_images.proofs.Sessions.{linked_known}
 use Rattle.law_theorems.specs.Comes.{ComesWithin, memory_at}
 use Rattle.law_theorems.specs.Isolation.{AddNone}
 use Rattle.law_theorems.specs.References.{HandsObjects, MayBegin, NamesObjects, ReferencesNameObjects, RunsFrom}
@@ -42,7 +43,7 @@ use Rattle.law_theorems.proofs.Coming.{comes_own}
 use Rattle.law_theorems.proofs.Living.{name_what_is_there}
 use Rattle.law_theorems.proofs.Isolated.{none_added}
 use Rattle.law_theorems.proofs.Prefixes.{due_all, due_begun}
-use Rattle.law_theorems.proofs.Served.{AddsPackage, IsFine, commands_fine, known_of}
+use Rattle.law_theorems.proofs.Served.{AddsPackage, IsFine, commands_fine}
 
 named : (p : Packages) (m : MemoryState) → IsSoundMemory p m → NamesObjects p m
 named p m sound = record {
@@ -106,7 +107,7 @@ module _ (t : Tokens) (card : CardState) (bytes : List ℕ) (es : List Effect) (
 ran : (t : Tokens) (card : CardState) (bytes : List ℕ) (es : List Effect) (k : ℕ) (lent : List ℕ) (s u : Frames) (n : MemoryState)
     → RunsFrom t card bytes es k lent s u n → AreLivingFrames n.heap.now u × NamesObjects card.packages n
 ran t card bytes es k lent s u n runs =
-    let last = steps_lead card.packages (known_of card.packages (own t card bytes es runs.comes runs.same).linked) lent k s u (memory_at card es) n
+    let last = steps_lead card.packages (linked_known card.packages (own t card bytes es runs.comes runs.same).linked) lent k s u (memory_at card es) n
     (begun t card bytes es runs.comes runs.same s runs.begins) runs.steps in
     (last.living, named card.packages n last.sound)
 

@@ -6,7 +6,7 @@ use Rattle.std.proofs.lemmas.Option.{none-some}
 use Rattle.jc_heap.specs.declared.object.Kind.{Kind}
 use Rattle.jc_heap.specs.declared.place.Place.{Place}
 use Rattle.jc_heap.specs.declared.place.Place.TheVariants.{Cell, Static, Registry, AppletCount}
-use Rattle.jc_heap.specs.Object.{Object, AnObject, APackage, cells_of, facts_of, is_object, with_cell}
+use Rattle.jc_heap.specs.Object.{Object, AnObject, cells_of, facts_of, is_object, with_cell}
 use Rattle.jc_heap.specs.Heap.{HasEnd, HeapState, add_object, add_transient, facts, heap_item_at, is_allocated, set_cell, set_cells}
 use Rattle.jc_heap.specs.Moves.{Write, SetPlaces, WriteNonAtomic, SetCells, AddObject, AddTransient, AddPackage, Begin, Commit, Abort}
 use Rattle.jc_heap.specs.Packages.{add_arrays, array_object, array_size, package_owner, package_record, push_package}
@@ -14,7 +14,6 @@ use Rattle.jc_heap.specs.Places.{cell_changes, set_place, set_places}
 use Rattle.jc_heap.proofs.KeepingPackages.{end-add, end-push}
 use Rattle.jc_heap.proofs.Laws.{heap_item_at-add_other, heap_item_at-set_cell, object_named}
 use Rattle.jc_heap.proofs.NewPackages.{top-push}
-use Rattle.jc_heap.proofs.Tables.{at_or-push_other}
 use Rattle.jc_memory.specs.State.{MemoryState, Effect, HeapMove, SetTransient, SetFlag, ClearTransient, SetRegisters, BeginCommand, SendBytes}
 use Rattle.jc_memory.specs.State.{apply_effect}
 use Rattle.jc_memory.specs.Reading.{AllDue, AllEffectsDue}
@@ -33,6 +32,8 @@ use Rattle.law_soundness.specs.State.{IsSoundMemory}
 use Rattle.law_images.specs.Cards.{IsOwnCard}
 use Rattle.law_images.proofs.Apart.{record_some}
 use Rattle.law_images.proofs.Arrays.{below_end, item_behind}
+use Rattle.law_images.proofs.Sessions.{linked_known}
+use Rattle.law_images.proofs.Loaded.{item-push_other}
 use Rattle.law_theorems.specs.Comes.{memory_at}
 use Rattle.law_theorems.specs.Tries.{SetsAnew}
 use Rattle.law_theorems.specs.TryChanges.{Renews, TriesChangeByPinCalls}
@@ -40,7 +41,7 @@ use Rattle.law_theorems.proofs.Coming.{comes_own}
 use Rattle.law_theorems.proofs.Named.{PinStands, is_value, kept_none, no_instance}
 use Rattle.law_theorems.proofs.OwnerPins.{an_object, pin_stands}
 use Rattle.law_theorems.proofs.Prefixes.{behind_both, due_after, due_all, due_begun}
-use Rattle.law_theorems.proofs.Served.{AddsPackage, IsFine, commands_fine, known_of, sound_behind}
+use Rattle.law_theorems.proofs.Served.{AddsPackage, IsFine, commands_fine, sound_behind}
 
 -- the place is not the counter of this PIN
 abbrev IsBeside : ℕ → Place → Type 0
@@ -230,15 +231,11 @@ added_end (HeapMove (AddPackage cs xs rest)) m adds end =
     (end-push m.heap.now words (record_some m.heap.now.top cs xs rest) end)
 added_end e m adds end = absurd adds
 
-pushed_item : (h : HeapState) (words : List ℕ) (q : ℕ) → q < h.top → heap_item_at (push_package h words) q ≡ heap_item_at h q
-unfolding push_package heap_item_at
-pushed_item h words q low = at_or-push_other (APackage []) h.items h.top q (APackage words) (λ e. omega (arith, e, low))
-
 added_item : (e : Effect) (m : MemoryState) (q : ℕ) → AddsPackage e m → q < m.heap.now.top → heap_item_at (apply_effect e m).heap.now q ≡ heap_item_at m.heap.now q
 added_item (HeapMove (AddPackage cs xs rest)) m q adds low =
     let words = package_record m.heap.now.top cs xs rest in
     let top = top-push m.heap.now words in
-    item_behind (push_package m.heap.now words) (package_owner (m.heap.now.counts.0 + 1)) xs q (omega (arith, low, top)) ∙ pushed_item m.heap.now words q low
+    item_behind (push_package m.heap.now words) (package_owner (m.heap.now.counts.0 + 1)) xs q (omega (arith, low, top)) ∙ item-push_other m.heap.now words q low
 added_item e m q adds low = absurd adds
 
 pub tries_change : TriesChangeByPinCalls
@@ -254,7 +251,7 @@ tries_change t card bytes es e q comes is none =
     by own (inl served) =
         let all = due (IsServed card.packages) served in
         let sound : IsSoundMemory card.packages (memory_at card es) = sound_behind card.packages es card.memory (due_before (IsServed card.packages) es (e ∷ []) card.memory all) own.ready.sound in
-        served_tries card.packages e (memory_at card es) q sound (pin_stands card.packages (known_of card.packages own.linked) (memory_at card es) sound q is)
+        served_tries card.packages e (memory_at card es) q sound (pin_stands card.packages (linked_known card.packages own.linked) (memory_at card es) sound q is)
         (due_after (IsServed card.packages) es (e ∷ []) card.memory all).0 none
     by own (inr adds) =
         let all = due AddsPackage adds in

@@ -9,27 +9,16 @@ use Rattle.jc_linker.specs.Values.{Packages}
 use Rattle.jc_platform.specs.Tokens.{Tokens}
 use Rattle.jc_card.specs.Answers.{exchange}
 use Rattle.jc_card.specs.CardState.{CardState}
-use Rattle.law_linking.proofs.Aids.{have_aids}
-use Rattle.law_linking.proofs.ClassLaws.{have_classes}
-use Rattle.law_linking.proofs.MethodLaws.{have_methods, have_no_code}
-use Rattle.law_images.specs.Cards.{AreLinkedWell, IsOwnCard}
+use Rattle.law_images.specs.Cards.{IsOwnCard}
 use Rattle.law_images.specs.Loaded.{AreBytes}
 use Rattle.law_images.proofs.Commands.{command_fits, creates_good, dispatched_good, runs_good}
+use Rattle.law_images.proofs.Sessions.{linked_known}
 use Rattle.law_soundness.specs.Commands.{IsServed}
-use Rattle.law_soundness.specs.Soundness.{AreKnown}
 use Rattle.law_soundness.specs.State.{IsSoundMemory}
 use Rattle.law_soundness.proofs.CommandLaws.{commands_are_sound}
 use Rattle.law_soundness.proofs.Serving.{serving_keeps}
 use Rattle.law_theorems.proofs.Exchanged.{exchanged, load_ended}
 use Rattle.law_theorems.proofs.Prefixes.{due_all}
-
-pub known_of : (p : Packages) → AreLinkedWell p → AreKnown p
-known_of p l = record {
-  classes = have_classes l.components p l.read;
-  aids = have_aids l.components p l.read.linked l.applets;
-  methods = have_methods l.components p l.read;
-  platform = have_no_code l.components p l.read.linked;
-}
 
 -- a package comes in
 abbrev pub AddsPackage : Effect → MemoryState → Type 0
@@ -42,7 +31,7 @@ IsFine p d m = AllDue (IsServed p) d m ⊎ AllDue AddsPackage d m
 pub commands_fine : (t : Tokens) (card : CardState) → IsOwnCard t card → (bytes : List ℕ) → AreBytes bytes
     → IsFine card.packages (exchange bytes card) card.memory
 commands_fine t card own bytes are =
-    let known = known_of card.packages own.linked in
+    let known = linked_known card.packages own.linked in
     exchanged (λ d. IsFine card.packages d card.memory) card (λ a. inl tt) (λ a b. inl (tt, tt))
     (inr (load_ended AddsPackage (λ components arrays image m. tt) card))
     (λ limit locals code. inl (runs_good commands_are_sound t card own known limit locals code).due)

@@ -1,7 +1,7 @@
 -- The fuse of a script's store.
-use Rattle.std.specs.Prelude.{ℕ, ◌≡◌, ◌⊎◌, ◌<◌, List, [], ◌∷◌, ◌++◌, None}
+use Rattle.std.specs.Prelude.{ℕ, ◌≡◌, ◌⊎◌, ◌<◌, ◌≤◌, List, [], ◌∷◌, ◌++◌, None}
 use Rattle.jc_words.specs.Count.{saturating_count}
-use Rattle.jc_words.specs.Refusals.{with_fuse_at}
+use Rattle.jc_words.specs.Refusals.{IsWithinFuse, with_fuse_at}
 use Rattle.jc_session.specs.Power.{PowerState, durable_state}
 use Rattle.jcard_script.specs.Script.{Form, Skipped, Command, Resets, ArmsFuse, Bad, down_text, form_of}
 use Rattle.law_images.specs.Scripts.{ServeLines, ServesForm, armed}
@@ -38,10 +38,17 @@ pub record IsCutAt (count : ℕ) (carried : List (List ℕ)) (s last : PowerStat
   pub behind : ServeLines after next last rest
   pub still : (durable_state last).refusals ≡ (durable_state next).refusals
 
--- Behind `stop K`, while no line arms the fuse again and the store below refuses nothing by itself: no write is refused, and the fuse stands K
--- writes ahead of those that had passed; or exactly one is, behind exactly K more. Resets in between change nothing of that
+-- no write is refused, at most as many pass as the fuse lets pass, and it stands where it was set
+pub record IsSpared (count : ℕ) (s last : PowerState) : Type 0 where
+  pub set : (durable_state last).refusals ≡ with_fuse_at count (durable_state s).refusals
+  pub within : (durable_state last).passed ≤ count
+
+-- Behind `stop K`, while no line arms the fuse again and the store below refuses nothing by itself, over a store that lets no more writes pass
+-- than its fuse: no write is refused, at most K more pass, and the fuse stands K writes ahead of those that had passed; or exactly one is
+-- refused, behind exactly K more. Resets in between change nothing of that
 abbrev pub FusesCut : Type 0
 FusesCut = (k : ℕ) (carried : List (List ℕ)) (s last : PowerState) (text : List ℕ) → ServeLines carried (armed k s) last text → LeaveFuse carried
     → (durable_state s).refusals.faults < 18446744073709551615 → (durable_state last).refusals.faults ≡ (durable_state s).refusals.faults
-    → ((durable_state last).refusals ≡ with_fuse_at (saturating_count (durable_state s).passed k) (durable_state s).refusals)
+    → IsWithinFuse (durable_state last).passed (durable_state last).refusals.fuse
+    → IsSpared (saturating_count (durable_state s).passed k) s last
     ⊎ IsCutAt (saturating_count (durable_state s).passed k) carried (armed k s) last text

@@ -5,17 +5,17 @@ use Rattle.jc_card.proofs.PoweredUp.{fits_linked, unfit}
 use Rattle.jc_card.proofs.power_up.link_packages.Goals as goal
 
 pub card_of-requires-clause-linked : goal.card_of-requires-clause-linked
-card_of-requires-clause-linked g c = as_many c.args.platform c.args.heap.now c.in-Ok-read_packages.linked c.in-Ok-read_packages.ensures.linked
+card_of-requires-clause-linked g c = as_many c.args.platform c.args.heap.now c.in-Ok.linked c.in-Ok.ensures.linked
     ∙ ap (λ (m : MemoryState). length m.heap.now.packages) (sym c.new-memory.ensures)
 
-pub returns-in-Ok-read_packages-clause-packages : goal.returns-in-Ok-read_packages-clause-packages
-returns-in-Ok-read_packages-clause-packages g c =
-    fits_linked c.card_of.result c.new-memory.result c.in-Ok-read_packages.linked c.args.platform c.args.heap.now _
+pub returns-in-Ok-clause-packages : goal.returns-in-Ok-clause-packages
+returns-in-Ok-clause-packages g c =
+    fits_linked c.card_of.result c.new-memory.result c.in-Ok.linked c.args.platform c.args.heap.now _
     c.card_of.ensures.card c.card_of.ensures.sound (ap (λ (m : MemoryState). m.heap.now) c.new-memory.ensures) (search rules)
-    c.in-Ok-read_packages.ensures.linked
+    c.in-Ok.ensures.linked
 
-pub returns-in-Ok-read_packages-clause-cause : goal.returns-in-Ok-read_packages-clause-cause
-returns-in-Ok-read_packages-clause-cause g c =
-    unfit c.card_of.result c.new-memory.result c.in-Ok-read_packages.linked c.args.platform c.args.heap.now _
+pub returns-in-Ok-clause-cause : goal.returns-in-Ok-clause-cause
+returns-in-Ok-clause-cause g c =
+    unfit c.card_of.result c.new-memory.result c.in-Ok.linked c.args.platform c.args.heap.now _
     c.card_of.ensures.cause (ap (λ (m : MemoryState). m.heap.now) c.new-memory.ensures) (search rules)
-    c.in-Ok-read_packages.ensures.linked
+    c.in-Ok.ensures.linked

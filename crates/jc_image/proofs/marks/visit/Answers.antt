@@ -10,9 +10,9 @@ pub returns-then-begins_package-clause-fits : goal.returns-then-begins_package-c
 returns-then-begins_package-clause-fits g c =
     let there : is_package (package_addresses (image c.args.journal.now.plain)) c.args.at ≡ true = sym c.begins_package.ensures
     ∙ c.if-begins_package.true in (
-      package_fits c.args.journal.now.plain c.args.at Reset c.requires.laid c.requires.begins c.requires.inside c.args.places.reset
+      package_fits c.args.journal.now.plain c.args.at Reset c.requires.bounds.fits c.requires.here c.args.places.reset
           c.requires.room.0 there,
-      package_fits c.args.journal.now.plain c.args.at Deselect c.requires.laid c.requires.begins c.requires.inside
+      package_fits c.args.journal.now.plain c.args.at Deselect c.requires.bounds.fits c.requires.here
           c.args.places.deselect c.requires.room.1 there,
     )
 
@@ -20,8 +20,8 @@ pub returns-then-begins_package-clause-next : goal.returns-then-begins_package-c
 returns-then-begins_package-clause-next g c =
     let there : is_package (package_addresses (image c.args.journal.now.plain)) c.args.at ≡ true = sym c.begins_package.ensures
     ∙ c.if-begins_package.true in (
-      omega (arith, package_cells c.args.journal.now.plain c.args.at Reset c.requires.laid c.requires.begins c.requires.inside there),
-      omega (arith, package_cells c.args.journal.now.plain c.args.at Deselect c.requires.laid c.requires.begins c.requires.inside there),
+      omega (arith, package_cells c.args.journal.now.plain c.args.at Reset c.requires.bounds.fits c.requires.here there),
+      omega (arith, package_cells c.args.journal.now.plain c.args.at Deselect c.requires.bounds.fits c.requires.here there),
     )
 
 pub returns-then-begins_package-clause-held : goal.returns-then-begins_package-clause-held
@@ -30,7 +30,7 @@ returns-then-begins_package-clause-held g c =
     ∙ c.if-begins_package.true in (
       (λ all. (
         all,
-        holds_package (heap_of c.args.journal.now.plain) c.args.journal.now.plain c.args.at c.requires.laid c.requires.begins c.requires.inside there,
+        holds_package (heap_of c.args.journal.now.plain) c.args.journal.now.plain c.args.at c.requires.bounds.fits c.requires.here there,
       )),
       λ both. both.0,
     )

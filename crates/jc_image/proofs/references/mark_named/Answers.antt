@@ -17,55 +17,55 @@ use Rattle.jc_image.proofs.references.mark_named.Goals as goal
 pub returns-then-not-has_references-clause-held : goal.returns-then-not-has_references-clause-held
 returns-then-not-has_references-clause-held g c = λ t.
     let holds : HoldsReferences (heap_of c.args.journal.now.plain) (item_from c.args.journal.now.plain c.args.at) =
-    holds_other (heap_of c.args.journal.now.plain) c.args.journal.now.plain c.args.at c.requires.laid c.requires.begins c.requires.inside
+    holds_other (heap_of c.args.journal.now.plain) c.args.journal.now.plain c.args.at c.requires.bounds.fits c.requires.here
     c.requires.small c.requires.object (λ five. false≢true (sym c.if-not-has_references.true ∙ c.has_references.ensures.1 five)) in
     ((λ all. (all, holds)), λ both. both.0)
 
 pub overflow_add-at : goal.overflow_add-at
 overflow_add-at g c = omega (
   arith,
-  header_within c.args.journal.now.plain c.args.at c.requires.laid c.requires.begins c.requires.inside c.requires.small c.requires.object,
-  c.requires.laid.fits,
+  header_within c.args.journal.now.plain c.args.at c.requires.bounds.fits c.requires.here c.requires.small c.requires.object,
+  c.requires.bounds.fits,
   c.requires.small,
 )
 
 pub read-count-requires : goal.read-count-requires
 read-count-requires g c = readable (length c.args.journal.now.plain) (c.args.at + 3) (omega (
   arith,
-  header_within c.args.journal.now.plain c.args.at c.requires.laid c.requires.begins c.requires.inside c.requires.small c.requires.object,
-  c.requires.laid.fits,
-)) (omega (arith, c.requires.begins.low))
+  header_within c.args.journal.now.plain c.args.at c.requires.bounds.fits c.requires.here c.requires.small c.requires.object,
+  c.requires.bounds.fits,
+)) (omega (arith, c.requires.here.low))
 
 pub overflow_add-at-in-loop-i : goal.overflow_add-at-in-loop-i
 overflow_add-at-in-loop-i g c =
     let five : slice_index c.args.journal.now.plain c.args.at ≡ kind_number ReferenceArray = c.has_references.ensures.0 c.if-not-has_references.false in
     let within : c.args.at + 4 + c.loop-i.i < slice_index c.args.journal.now.plain top_address =
-    cell_within_at (heap_of c.args.journal.now.plain) c.args.journal.now.plain c.args.at c.requires.laid c.requires.begins c.requires.inside
+    cell_within_at (heap_of c.args.journal.now.plain) c.args.journal.now.plain c.args.at c.requires.bounds.fits c.requires.here
     c.requires.small c.requires.object five c.loop-i.i (omega (arith, c.read-count.ensures, c.loop-i-test.true)) in
-    omega (arith, within, c.requires.laid.fits, c.requires.small)
+    omega (arith, within, c.requires.bounds.fits, c.requires.small)
 
 pub overflow_add-at-in-loop-i-2 : goal.overflow_add-at-in-loop-i-2
 overflow_add-at-in-loop-i-2 g c =
     let five : slice_index c.args.journal.now.plain c.args.at ≡ kind_number ReferenceArray = c.has_references.ensures.0 c.if-not-has_references.false in
     let within : c.args.at + 4 + c.loop-i.i < slice_index c.args.journal.now.plain top_address =
-    cell_within_at (heap_of c.args.journal.now.plain) c.args.journal.now.plain c.args.at c.requires.laid c.requires.begins c.requires.inside
+    cell_within_at (heap_of c.args.journal.now.plain) c.args.journal.now.plain c.args.at c.requires.bounds.fits c.requires.here
     c.requires.small c.requires.object five c.loop-i.i (omega (arith, c.read-count.ensures, c.loop-i-test.true)) in
-    omega (arith, within, c.requires.laid.fits, c.requires.small)
+    omega (arith, within, c.requires.bounds.fits, c.requires.small)
 
 pub read-word-requires : goal.read-word-requires
 read-word-requires g c =
     let five : slice_index c.args.journal.now.plain c.args.at ≡ kind_number ReferenceArray = c.has_references.ensures.0 c.if-not-has_references.false in
     let within : c.args.at + 4 + c.loop-i.i < slice_index c.args.journal.now.plain top_address =
-    cell_within_at (heap_of c.args.journal.now.plain) c.args.journal.now.plain c.args.at c.requires.laid c.requires.begins c.requires.inside
+    cell_within_at (heap_of c.args.journal.now.plain) c.args.journal.now.plain c.args.at c.requires.bounds.fits c.requires.here
     c.requires.small c.requires.object five c.loop-i.i (omega (arith, c.read-count.ensures, c.loop-i-test.true)) in
-    readable (length c.args.journal.now.plain) (c.args.at + 4 + c.loop-i.i) (omega (arith, within, c.requires.laid.fits)) (omega (arith, c.requires.begins.low))
+    readable (length c.args.journal.now.plain) (c.args.at + 4 + c.loop-i.i) (omega (arith, within, c.requires.bounds.fits)) (omega (arith, c.requires.here.low))
 
 pub returns-then-word-top-clause-outside : goal.returns-then-word-top-clause-outside
 returns-then-word-top-clause-outside g c = λ t. λ holds.
     let five : slice_index c.args.journal.now.plain c.args.at ≡ kind_number ReferenceArray = c.has_references.ensures.0 c.if-not-has_references.false in
-    no_reference_high c.args.journal.now.plain c.requires.laid c.read-word.result (omega (arith, c.requires.is_top))
+    no_reference_high c.args.journal.now.plain c.requires.bounds c.read-word.result (omega (arith, c.requires.is_top))
     (subst (IsReference (heap_of c.args.journal.now.plain)) (sym c.read-word.ensures)
-    (of_holds (heap_of c.args.journal.now.plain) c.args.journal.now.plain c.args.at c.requires.laid c.requires.begins c.requires.inside c.requires.small
+    (of_holds (heap_of c.args.journal.now.plain) c.args.journal.now.plain c.args.at c.requires.bounds.fits c.requires.here c.requires.small
     c.requires.object five holds c.loop-i.i (omega (arith, c.read-count.ensures, c.loop-i-test.true))))
 
 pub loop-i-preserved : goal.loop-i-preserved
@@ -99,12 +99,12 @@ returns-clause-held g c = λ t.
       (λ all.
           let two = c.loop-i.invariant.held.0 all in (
             two.0,
-            holds_of (heap_of c.args.journal.now.plain) c.args.journal.now.plain c.args.at c.requires.laid c.requires.begins c.requires.inside
+            holds_of (heap_of c.args.journal.now.plain) c.args.journal.now.plain c.args.at c.requires.bounds.fits c.requires.here
                 c.requires.small c.requires.object five (λ i lt. two.1 i (omega (arith, lt, c.read-count.ensures))),
           )),
       λ both. c.loop-i.invariant.held.1 (
         both.0,
-        λ j lt. of_holds (heap_of c.args.journal.now.plain) c.args.journal.now.plain c.args.at c.requires.laid c.requires.begins c.requires.inside
+        λ j lt. of_holds (heap_of c.args.journal.now.plain) c.args.journal.now.plain c.args.at c.requires.bounds.fits c.requires.here
             c.requires.small c.requires.object five both.1 j (omega (arith, lt, c.read-count.ensures)),
       ),
     )

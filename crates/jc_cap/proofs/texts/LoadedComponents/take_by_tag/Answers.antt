@@ -2,11 +2,14 @@ use Rattle.std.proofs.Common.{rules, refl, sym, ap, ◌∙◌}
 use Rattle.jc_cap.specs.Taking.{taken_with}
 use Rattle.jc_cap.specs.Texts.{with_component}
 use Rattle.jc_cap.proofs.Again.{others_kept}
-use Rattle.jc_cap.proofs.Taken.{classes_are, unused_is}
+use Rattle.jc_cap.proofs.Taken.{classes_are, statics_are, unused_is}
 use Rattle.jc_cap.proofs.texts.LoadedComponents.take_by_tag.Goals as goal
 
 pub returns-in-6 : goal.returns-in-6
 returns-in-6 c = rw c.in-6.is (c.take_classes.ensures ∙ ap (taken_with c.args.self.now 6 c.args.bytes.items) (sym (classes_are c.args.format c.args.bytes.items)))
+
+pub returns-in-8 : goal.returns-in-8
+returns-in-8 c = rw c.in-8.is (c.take_statics.ensures ∙ ap (taken_with c.args.self.now 8 c.args.bytes.items) (sym (statics_are c.args.format c.args.bytes.items)))
 
 pub returns-in_ok-read-in-2 : goal.returns-in_ok-read-in-2
 unfolding with_component
@@ -32,11 +35,6 @@ pub returns-in_ok-read-in-7 : goal.returns-in_ok-read-in-7
 unfolding with_component
 returns-in_ok-read-in-7 c = rw c.in-7.is (others_kept c.args.self.now c.args.format 7 c.args.bytes.items c.in_ok-read-in-7.field-0 refl
     c.in_ok-read-in-7.ensures.0 c.in_ok-read-in-7.ensures.1)
-
-pub returns-in_ok-read-in-8 : goal.returns-in_ok-read-in-8
-unfolding with_component
-returns-in_ok-read-in-8 c = rw c.in-8.is (others_kept c.args.self.now c.args.format 8 c.args.bytes.items c.in_ok-read-in-8.field-0 refl
-    c.in_ok-read-in-8.ensures.0 c.in_ok-read-in-8.ensures.1)
 
 pub returns-in_ok-read-in-10 : goal.returns-in_ok-read-in-10
 unfolding with_component

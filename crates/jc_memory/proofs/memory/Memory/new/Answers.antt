@@ -9,5 +9,5 @@ invariant_of-result g c = (
         (c.is_open.ensures.settled c.requires.up (c.is_open.ensures.open ∙ c.requires.rests));
     ram = c.requires.sizes;
   },
-  c.scan.ensures,
+  c.requires.marked,
 )

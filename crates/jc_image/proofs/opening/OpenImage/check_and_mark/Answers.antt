@@ -1,7 +1,7 @@
 use Rattle.std.proofs.Common.{subst}
 use Rattle.jc_image.specs.Opening.{HoldsImage}
 use Rattle.jc_image.proofs.OpenImages.{holds_image}
-use Rattle.jc_image.proofs.opening.OpenImage.check.Goals as goal
+use Rattle.jc_image.proofs.opening.OpenImage.check_and_mark.Goals as goal
 
 pub returns-then-not-is_heap-clause-store : goal.returns-then-not-is_heap-clause-store
 returns-then-not-is_heap-clause-store g c =
