@@ -1,10 +1,11 @@
 -- A card that was powered up is as after a reset.
 use Rattle.std.proofs.Common.{◌≡◌, ◌∙◌, ◌+◌, ℕ, List, [], Ok, Err, Some, None, sym, ap, subst}
 use Rattle.std.specs.Prelude.{Result, IfOk}
-use Rattle.jc_heap.specs.Heap.{HeapView, facts, heap_of}
+use Rattle.jc_heap.specs.Heap.{HeapState, HeapView, facts, heap_of}
 use Rattle.jc_heap.specs.Image.{IsWellFormed, table_text}
 use Rattle.jc_heap.proofs.RawWords.{text_is}
 use Rattle.jc_transient.specs.State.{IsCleared, RamState}
+use Rattle.jc_linker.specs.Values.{Packages}
 use Rattle.jc_platform.specs.Tokens.{Tokens}
 use Rattle.jc_platform.specs.Table.{Reads}
 use Rattle.jc_card_load.specs.Reading.{packages_of}
@@ -39,3 +40,20 @@ is_at_reset w t u heap ram (Ok card) same now laid reads blank linked memory loa
   );
   load = load;
 }
+
+-- so is one of another heap view with the same packages and transient contents
+pub reset_over : (h : HeapState) (heap : HeapView) (ram : RamState) (p : Packages) (lent card : CardState) → IsAtReset h lent → ram ≡ lent.memory.ram
+    → p ≡ lent.packages → card.memory ≡ record { heap = heap; ram = ram; fixed = fixed_of h; registers = at_reset; command = []; sent = [] }
+    → card.packages ≡ p → card.load ≡ None → IsAtReset h card
+reset_over h heap ram p lent card reset same linked memory packages load =
+    let blank : IsCleared card.memory.ram = subst IsCleared (sym (ap (λ (m : MemoryState). m.ram) memory ∙ same)) reset.ram in
+    record {
+      ram = blank;
+      cells = zero_blank card.memory blank;
+      fixed = ap (λ (m : MemoryState). m.fixed) memory;
+      registers = ap (λ (m : MemoryState). m.registers) memory;
+      command = ap (λ (m : MemoryState). m.command) memory;
+      sent = ap (λ (m : MemoryState). m.sent) memory;
+      packages = (reset.packages.0, reset.packages.1, reset.packages.2 ∙ ap Some (sym (packages ∙ linked)));
+      load = load;
+    }

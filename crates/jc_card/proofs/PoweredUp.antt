@@ -1,6 +1,6 @@
 -- What power up finds.
 use Rattle.std.proofs.Common.{◌≡◌, ℕ, ◌+◌, ◌/◌, ◌≤◌, ◌<◌, ◌⊎◌, inl, inr, List, length, get_or, refl, sym, ◌∙◌, ap, subst, arith, Ok, Err}
-use Rattle.std.specs.Prelude.{Result, Bool, false, ◌↔◌, IsOk, IfOk, IfErr, OnOk, MatchResult, None, Some}
+use Rattle.std.specs.Prelude.{Result, Bool, IsOk, IfOk, IfErr, OnOk, MatchResult, None, Some}
 use Rattle.std.proofs.lemmas.Bool.{false≢true}
 use Rattle.jc_words.specs.Image.{HasSize, IsVersion}
 use Rattle.jc_words.specs.declared.image.ImageFault.{ImageFault}
@@ -12,12 +12,10 @@ use Rattle.jc_heap.specs.Whole.{IsConsistent}
 use Rattle.jc_heap.specs.Alike.{StandAlike}
 use Rattle.jc_heap.proofs.Migrated.{migrated_alike}
 use Rattle.jc_heap.specs.Image.{IsWellFormed, base, image, table_text}
-use Rattle.jc_heap.specs.Heap.{HeapState, HeapView, head_of, heap_of}
-use Rattle.jc_heap.specs.Stored.{HoldsHeap}
+use Rattle.jc_heap.specs.Heap.{HeapState, head_of, heap_of}
 use Rattle.jc_image.specs.Opening.{HoldsImage}
 use Rattle.jc_words.specs.Refusals.{Refusals}
 use Rattle.jc_commit.specs.State.{State}
-use Rattle.jc_commit.proofs.Steps.{recovered_plain}
 use Rattle.jc_card_checks.specs.Sound.{IsSound}
 use Rattle.jc_card_load.specs.Reading.{packages_of}
 use Rattle.jc_heap.proofs.RawWords.{recovered-head, head_is, text_is}
@@ -31,7 +29,7 @@ use Rattle.jc_memory.specs.State.{MemoryState}
 use Rattle.jc_card.specs.CardState.{CardState}
 use Rattle.jc_card.specs.Fixed.{BeginsWithFixed, last_fixed}
 use Rattle.jc_card.specs.Made.{IsMade}
-use Rattle.jc_card.specs.PowerUp.{HasHead, HasTable, HasHeap, PowerUpRefuses, RecoveredWordsFail, FailsToLink, HasPackages, StandsFor, LateFaultLeaves, RefusalLeaves}
+use Rattle.jc_card.specs.PowerUp.{HasHead, HasTable, HasHeap, PowerUpRefuses, RecoveredWordsFail, FailsToLink, HasPackages, IsFoundAfter, IsFoundFirst, IsRecovered, RefusalLeaves}
 use Rattle.jc_card.specs.declared.power_up.PowerFault.{PowerFault}
 use Rattle.jc_card.specs.declared.power_up.PowerFault.TheVariants.{BadMagic, BadVersion, BadSize, BadLog, BadTable, BadPackage, NoMemory, StoreDown}
 
@@ -165,15 +163,6 @@ module _ (ws vs : List ℕ) (alike : StandAlike ws vs) where
   fails_back NoMemory fail = fail
   fails_back StoreDown fail = fail
 
-  pub stands_back : (new : List ℕ) → StandsFor vs new → StandsFor ws new
-  stands_back new s = record {
-    good = s.good;
-    plain = s.plain ∙ alike.heap;
-    recovered = s.recovered ∙ alike.heap;
-    laid = (λ laid. alike.back (s.laid.0 laid), λ laid. s.laid.1 (alike.laid laid));
-    closed = s.closed;
-  }
-
 -- recovered words stand alike with what a migration makes of them
 pub recovered_alike : (w : List ℕ) → StandAlike (recovered_of w) (migrated 3 (recovered_of w))
 recovered_alike w = migrated_alike (recovered_of w) 3
@@ -193,30 +182,26 @@ limit_still old new still =
 pub long_of_image : (w : List ℕ) (d : Bool) (p : ℕ) (r : Refusals) (j : State) → HoldsImage w d p r j → length w ≡ get_or j.plain size_address 0
 long_of_image w d p r j holds = sym holds.good.size.told ∙ ap (λ (h : ℕ × ℕ). h.1) holds.head
 
-pub long_at_rest : (w : List ℕ) (d : Bool) (p : ℕ) (r : Refusals) (v : HeapView) (plain : List ℕ) → HoldsHeap w d p r v → v.down ≡ false → v.begun ≡ false
-    → v.now ≡ heap_of plain → IsWellFormed plain → length w ≡ get_or plain size_address 0
-long_at_rest w d p r v plain holds up shut same laid =
-    sym holds.good.size.told
-    ∙ ap (λ (h : ℕ × ℕ). h.1) (holds.head ∙ ap (λ (h : HeapState). h.head) (sym holds.durable ∙ ap heap_of (recovered_plain w (holds.rests up shut).closed)
-    ∙ holds.now ∙ same) ∙ head_is plain laid)
+-- a fault that is found after the recovery leaves the words as the recovery and the migration left them
+pub leaves_from : (f : PowerFault) (old new : List ℕ) → IsFoundAfter f → IsRecovered (migrated 3 (recovered_of old)) new → RefusalLeaves f old new
+leaves_from BadMagic old new late leaves = absurd late
+leaves_from BadVersion old new late leaves = absurd late
+leaves_from BadSize old new late leaves = absurd late
+leaves_from BadLog old new late leaves = absurd late
+leaves_from BadTable old new late leaves = leaves
+leaves_from BadPackage old new late leaves = leaves
+leaves_from NoMemory old new late leaves = leaves
+leaves_from StoreDown old new late leaves = absurd late
 
--- a fault that is found late leaves of migrated words what it leaves of them
-pub leaves_from : (f : PowerFault) (old new : List ℕ) → LateFaultLeaves f (migrated 3 (recovered_of old)) new → RefusalLeaves f old new
-leaves_from BadMagic old new leaves = absurd leaves
-leaves_from BadVersion old new leaves = absurd leaves
-leaves_from BadSize old new leaves = absurd leaves
-leaves_from BadLog old new leaves = absurd leaves
-leaves_from BadTable old new leaves = leaves
-leaves_from BadPackage old new leaves = stands_back (recovered_of old) (migrated 3 (recovered_of old)) (recovered_alike old) new leaves
-leaves_from NoMemory old new leaves = stands_back (recovered_of old) (migrated 3 (recovered_of old)) (recovered_alike old) new leaves
-leaves_from StoreDown old new leaves = absurd leaves
+pub no_first : (f : PowerFault) → IsFoundAfter f → IsFoundFirst f → ⊥
+no_first BadTable late first = first
+no_first BadPackage late first = first
+no_first NoMemory late first = first
+no_first f late first = late
 
--- recovered words are laid where those are that they are
-pub laid_as : (to new : List ℕ) → recovered_of new ≡ to → IsWellFormed (recovered_of new) ↔ IsWellFormed to
-laid_as to new same = (λ laid. subst IsWellFormed same laid, λ laid. subst IsWellFormed (sym same) laid)
-
-pub both_laid : (to new : List ℕ) → IsWellFormed to → IsWellFormed (recovered_of new) → IsWellFormed (recovered_of new) ↔ IsWellFormed to
-both_laid to new first second = (λ laid. first, λ laid. second)
+pub both_err : {A E : Type 0} (r : Result A E) (P Q : E → Type 0) → IfErr r P → IfErr r Q → IfErr r (λ e. P e × Q e)
+both_err (Ok a) P Q p q = tt
+both_err (Err e) P Q p q = (p, q)
 
 -- what does not fit the packages that are linked of it fits none
 pub none_fit : (t : Tokens) (h : HeapState) (p : Packages) → packages_of t h ≡ Some p → (IsSound p h (last_fixed h) → ⊥) → HasPackages t h → ⊥
@@ -236,9 +221,9 @@ fits_linked (Ok card) m p t h own is sound same at linked =
     (linked ∙ ap Some packages, subst (λ (q : Packages). IsSound q h (last_fixed h)) packages here)
 
 -- it does not fit them
-pub unfit : {A S : Type 0} (r : Result A (PowerFault × S)) (m : MemoryState) (p : Packages) (t : Tokens) (h : HeapState) (own : ℕ)
-    → IfErr r (λ e. (e.0 ≡ BadPackage) × (IsSound p m.heap.now own → ⊥)) → m.heap.now ≡ h → own ≡ last_fixed h → packages_of t h ≡ Some p
-    → IfErr r (λ e. FailsToLink e.0 t h)
+pub unfit : {A : Type 0} (r : Result A PowerFault) (m : MemoryState) (p : Packages) (t : Tokens) (h : HeapState) (own : ℕ)
+    → IfErr r (λ e. (e ≡ BadPackage) × (IsSound p m.heap.now own → ⊥)) → m.heap.now ≡ h → own ≡ last_fixed h → packages_of t h ≡ Some p
+    → IfErr r (λ e. FailsToLink e t h)
 unfit (Ok card) m p t h own cause same at linked = tt
 unfit (Err e) m p t h own cause same at linked = subst (λ (f : PowerFault). FailsToLink f t h) (sym cause.0) (none_fit t h p linked
     (λ (fit : IsSound p h (last_fixed h)). cause.1 (subst (λ (x : HeapState). IsSound p x own) (sym same) (subst (λ (o : ℕ). IsSound p h o) (sym at) fit))))

@@ -1,5 +1,5 @@
 -- Powering up: why words don't, and what a refusal leaves.
-use Rattle.std.specs.Prelude.{ℕ, ◌≡◌, ◌≢◌, ◌+◌, ◌/◌, ◌≤◌, ◌↔◌, List, length, slice_index, Ok, Some}
+use Rattle.std.specs.Prelude.{ℕ, ◌≡◌, ◌≢◌, ◌+◌, ◌/◌, ◌≤◌, List, length, slice_index, Ok, Some}
 use Rattle.jc_words.specs.Image.{HasSize, IsVersion}
 use Rattle.jc_words.specs.declared.image.ImageFault.{ImageFault}
 use Rattle.jc_words.specs.declared.image.ImageFault.TheVariants.{BadMagic as NoMagic, BadVersion as OtherVersion, BadSize as NoSize}
@@ -60,26 +60,11 @@ pub record IsRecovered (to new : List ℕ) : Type 0 where
   pub recovered : recovered_of new ≡ to
   pub closed : count_of new ≡ 0
 
--- the words stand for the heap of these recovered ones, are laid where those are, the log is good, and no entry counts
-pub record StandsFor (to new : List ℕ) : Type 0 where
-  pub good : IsGoodLog new
-  pub plain : heap_of (plain_of new) ≡ heap_of to
-  pub recovered : heap_of (recovered_of new) ≡ heap_of to
-  pub laid : IsWellFormed (recovered_of new) ↔ IsWellFormed to
-  pub closed : count_of new ≡ 0
-
 -- why the packages of a heap are not linked, or it does not fit them
 abbrev pub FailsToLink : PowerFault → Tokens → HeapState → Type 0
 FailsToLink BadPackage t h = HasPackages t h → ⊥
 FailsToLink NoMemory t h = Unit {0}
 FailsToLink _ t h = ⊥
-
--- what a fault that is found after the recovery leaves of the words: where it is found last, the heap is known
-abbrev pub LateFaultLeaves : PowerFault → List ℕ → List ℕ → Type 0
-LateFaultLeaves BadTable to new = IsRecovered to new
-LateFaultLeaves BadPackage to new = StandsFor to new
-LateFaultLeaves NoMemory to new = StandsFor to new
-LateFaultLeaves _ to new = ⊥
 
 -- why words don't power up, each cause before the next
 abbrev pub PowerUpRefuses : PowerFault → List ℕ → Type 0
@@ -92,15 +77,15 @@ PowerUpRefuses BadPackage w = HasHead w × IsGoodLog w × RecoveredWordsFail Bad
 PowerUpRefuses NoMemory w = HasHead w × IsGoodLog w
 PowerUpRefuses StoreDown w = HasHead w × IsGoodLog w
 
--- what a refusal leaves of the words, where a fault that is found after the recovery is also found after a migration
+-- what a refusal leaves of the words: a fault that is found after the recovery is also found after a migration
 abbrev pub RefusalLeaves : PowerFault → List ℕ → List ℕ → Type 0
 RefusalLeaves BadMagic old new = new ≡ old
 RefusalLeaves BadVersion old new = new ≡ old
 RefusalLeaves BadSize old new = new ≡ old
 RefusalLeaves BadLog old new = new ≡ old
 RefusalLeaves BadTable old new = IsRecovered (migrated 3 (recovered_of old)) new
-RefusalLeaves BadPackage old new = StandsFor (recovered_of old) new
-RefusalLeaves NoMemory old new = StandsFor (recovered_of old) new
+RefusalLeaves BadPackage old new = IsRecovered (migrated 3 (recovered_of old)) new
+RefusalLeaves NoMemory old new = IsRecovered (migrated 3 (recovered_of old)) new
 RefusalLeaves StoreDown old new = StillOpens old new
 
 -- the faults that are found before a recovery, by reading alone

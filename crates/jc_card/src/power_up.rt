@@ -1,21 +1,20 @@
 //! Powering a card up over the words of its image.
 ghost use Rattle.std.specs.Prelude.{ℕ, List, ◌≡◌, ◌⊎◌, ◌+◌, ◌/◌, ◌≤◌, ◌↔◌, [], length, slice_index, None, Some, Ok, IsOk, IfOk, IfErr, OnOk, false, true, MatchResult};
 ghost use Rattle.jc_words.specs.Refusals.{refused_once};
-ghost use Rattle.jc_words.specs.Layout.{size_address, text_length_address, text_start};
+ghost use Rattle.jc_words.specs.Layout.{text_length_address, text_start, version, version_address};
 ghost use Rattle.jc_commit.specs.Migration.{IsPartOfOpening};
 ghost use Rattle.jc_commit.specs.State.{recovered_journal};
 ghost use Rattle.jc_heap.specs.Heap.{heap_view};
 ghost use Rattle.jc_heap.specs.Image.{IsWellFormed, table_text};
 ghost use Rattle.jc_image.specs.Beginning.{HeapBeginsWith};
-ghost use Rattle.jc_image.specs.Opening.{HoldsImage};
 ghost use Rattle.jc_transient.specs.State.{IsCleared};
 ghost use Rattle.jc_platform.specs.Table.{Reads};
 ghost use Rattle.jc_platform.specs.Tokens.{Tokens};
 ghost use Rattle.jc_card.specs.Made.{IsMade};
 ghost use Rattle.jc_heap.specs.Whole.{IsConsistent};
 ghost use Rattle.jc_heap.specs.Heap.{IsObject, heap_of};
-ghost use Rattle.jc_heap.specs.Stored.{HoldsHeap};
-ghost use Rattle.jc_commit.specs.Image.{IsGoodLog, limit_of, recovered_of};
+ghost use Rattle.jc_heap.specs.Stored.{IsAtRest, heap_of_store_at_rest};
+ghost use Rattle.jc_commit.specs.Image.{IsGoodLog, count_of, limit_of, recovered_of};
 ghost use Rattle.jc_transient.specs.State.{HasSizes};
 ghost use Rattle.jc_memory.specs.Marks.{AreNone, AreObjects, mark_count};
 ghost use Rattle.jc_memory.specs.Owners.{at_reset};
@@ -23,11 +22,12 @@ ghost use Rattle.jc_card_load.specs.Reading.{packages_of};
 ghost use Rattle.jc_card_checks.specs.Sound.{IsSound};
 ghost use Rattle.jc_card.specs.Fixed.{fixed_facts, fixed_objects, fixed_of, last_fixed};
 ghost use Rattle.jc_card.specs.Reset.{IsAtReset};
-ghost use Rattle.jc_card.specs.PowerUp.{PowerUpRefuses, RecoveredWordsFail, FailsToLink, RefusalLeaves, LateFaultLeaves, IsFoundFirst, IsFoundAfter, HasTable};
+ghost use Rattle.jc_card.specs.PowerUp.{PowerUpRefuses, RecoveredWordsFail, FailsToLink, RefusalLeaves, IsFoundFirst, IsFoundAfter, HasTable};
 ghost use Rattle.jc_card.specs.PowerUp.{HasHeap, fault_of};
 
 use crate::card::Card;
 use crate::fixed::{LAST_FIXED, fixed_headers, fixed_of};
+use crate::lent::LentStore;
 use jc_card_checks::sound::is_sound;
 use jc_card_load::reading::{RecordFault, read_packages};
 use jc_commit::OpenRefusal;
@@ -117,55 +117,86 @@ impl<S: WordStore> Card<S> {
             return Err((PowerFault::from(fault), store));
         }
         match OpenImage::open(store) {
-            Ok(image) => start(alloc, image),
+            Ok(image) => start(alloc, image.into_store()),
             Err((OpenRefusal::BadLog, store)) => Err((PowerFault::BadLog, store)),
             Err((OpenRefusal::StoreDown, store)) => Err((PowerFault::StoreDown, store)),
         }
     }
 }
 
-// The card of a recovered image.
-#[tactic(auto, using(crate::proofs::PoweredUp::laid_as, crate::proofs::PoweredUp::both_laid, crate::proofs::PoweredUp::long_of_image))]
-fn start<S: WordStore>(alloc: Global, image: OpenImage<S>) -> Result<Card<S>, (PowerFault, S)>
-    requires { image.down ≡ false }
-    ensures ok { OnOk result ((t : Tokens) × HasTable image.plain t × HasHeap t image.plain) }
-    ensures heap { IfOk result (λ card. card.memory.heap ≡ heap_view image (length image.plain)) }
+// The card of a store at rest. Its image is read of words that are lent, so that a fault leaves the store as it is.
+fn start<S: WordStore>(alloc: Global, store: S) -> Result<Card<S>, (PowerFault, S)>
+    requires up { S.down store ≡ false }
+    requires good { IsGoodLog (S.words store) }
+    requires current { slice_index (S.words store) version_address ≡ version }
+    requires closed { count_of (S.words store) ≡ 0 }
+    ensures ok { OnOk result ((t : Tokens) × HasTable (recovered_of (S.words store)) t
+        × HasHeap t (recovered_of (S.words store))) }
+    ensures heap { IfOk result (λ card. card.memory.heap
+        ≡ heap_of_store_at_rest (S.words store) (S.passed store) (S.refusals store)) }
     ensures blank { IfOk result (λ card. IsCleared card.memory.ram) }
     ensures load { IfOk result (λ card. card.load ≡ None) }
-    ensures reset { IfOk result (λ card. IsAtReset (heap_of image.plain) card) }
-    ensures cause { IfErr result (λ e. RecoveredWordsFail e.0 image.plain) }
-    ensures good { IfErr result (λ e. IsGoodLog (S.words e.1)) }
-    ensures size { IfErr result (λ e. length (S.words e.1) ≡ slice_index image.plain size_address) }
-    ensures limit { IfErr result (λ e. limit_of (S.words e.1) ≡ length image.plain) }
-    ensures stands { IfErr result (λ e. LateFaultLeaves e.0 image.plain (S.words e.1)) }
-    ensures up { IfErr result (λ e. S.down e.1 ≡ false) }
-    ensures counts { IfErr result (λ e. (S.passed e.1 ≡ image.passed)
-        × (S.refusals e.1 ≡ image.refusals)) }
+    ensures reset { IfOk result (λ card. IsAtReset (heap_of (recovered_of (S.words store))) card) }
+    ensures cause { IfErr result (λ e. RecoveredWordsFail e.0 (recovered_of (S.words store))) }
     ensures found { IfErr result (λ e. IsFoundAfter e.0) }
+    ensures same { IfErr result (λ e. e.1 ≡ store) }
+{
+    let Ok(mut marks) = unset_flags(alloc) else {
+        return Err((PowerFault::NoMemory, store));
+    };
+    let image = OpenImage::resume(LentStore::of(&store));
+    match lent_card(alloc, image, marks.as_mut_slice()) {
+        Ok(card) => {
+            let (linked, ram) = parts_of(card);
+            Ok(card_over(alloc, store, linked, ram, Marks::of_flags(marks)))
+        }
+        Err(fault) => Err((fault, store)),
+    }
+}
+
+// The card of a recovered image whose words are lent; and marks where its objects stand.
+fn lent_card<S: WordStore + Drop>(
+    alloc: Global,
+    image: OpenImage<S>,
+    marks: &mut [bool],
+) -> Result<Card<S>, PowerFault>
+    requires up { image.down ≡ false }
+    requires long { length marks.old ≡ mark_count }
+    requires unset { AreNone marks.old }
+    ensures long { length marks.new ≡ mark_count }
+    ensures marked { IfOk result (λ card. AreObjects marks.new card.memory.heap) }
+    ensures ok { OnOk result ((t : Tokens) × HasTable image.plain t × HasHeap t image.plain) }
+    ensures blank { IfOk result (λ card. IsCleared card.memory.ram) }
+    ensures reset { IfOk result (λ card. IsAtReset (heap_of image.plain) card) }
+    ensures heap { IfOk result (λ card. card.memory.heap ≡ heap_view image (length image.plain)) }
+    ensures cause { IfErr result (λ fault. RecoveredWordsFail fault image.plain) }
+    ensures found { IfErr result (λ fault. IsFoundAfter fault) }
 {
     let table = match platform_of(alloc, &image) {
         Ok(table) => table,
-        Err(fault) => return Err((fault, image.into_store())),
+        Err(fault) => return Err(fault),
     };
     let Ok(ram) = Ram::new(alloc) else {
-        return Err((PowerFault::NoMemory, image.into_store()));
+        return Err(PowerFault::NoMemory);
     };
-    let Ok(mut marks) = unset_flags(alloc) else {
-        return Err((PowerFault::NoMemory, image.into_store()));
-    };
-    match whole_heap(image, &table, marks.as_mut_slice()) {
-        Ok(heap) => link_packages(alloc, table.platform(), heap, ram, Marks::of_flags(marks)),
-        Err(refused) => Err(refused),
+    match whole_heap(image, &table, marks) {
+        Ok(heap) => {
+            let Ok(copy) = Vec::from_slice(alloc, marks) else {
+                return Err(PowerFault::NoMemory);
+            };
+            link_packages(alloc, table.platform(), heap, ram, Marks::of_flags(copy))
+        }
+        Err(fault) => Err(fault),
     }
 }
 
 // The heap of a recovered image, where it is whole and begins with the objects of the runtime environment; and marks where
 // its objects stand. No memory is asked for.
-fn whole_heap<S: WordStore>(
+fn whole_heap<S: WordStore + Drop>(
     image: OpenImage<S>,
     table: &Table,
     marks: &mut [bool],
-) -> Result<Heap<S>, (PowerFault, S)>
+) -> Result<Heap<S>, PowerFault>
     requires up { image.down ≡ false }
     requires long { length marks.old ≡ mark_count }
     requires unset { AreNone marks.old }
@@ -175,24 +206,22 @@ fn whole_heap<S: WordStore>(
         × HeapBeginsWith (heap_of image.plain) (fixed_facts table.now 0 fixed_objects)) }
     ensures whole { IfOk result (λ heap. IsConsistent heap.now) }
     ensures heap { IfOk result (λ heap. heap ≡ heap_view image (length image.plain)) }
-    ensures fault { IfErr result (λ e. e.0 ≡ PowerFault.BadPackage) }
-    ensures store { IfErr result (λ e. HoldsImage (S.words e.1) (S.down e.1) (S.passed e.1)
-        (S.refusals e.1) image) }
+    ensures fault { IfErr result (λ fault. fault ≡ PowerFault.BadPackage) }
 {
     match image.check_and_mark(&fixed_headers(table), marks) {
         Ok(heap) => Ok(heap),
-        Err(store) => Err((PowerFault::BadPackage, store)),
+        Err(_) => Err(PowerFault::BadPackage),
     }
 }
 
 // The card of a whole heap, whose packages are read and linked, and which has to fit them.
-fn link_packages<S: WordStore>(
+fn link_packages<S: WordStore + Drop>(
     alloc: Global,
     platform: Platform,
     heap: Heap<S>,
     ram: Ram,
     marks: Marks,
-) -> Result<Card<S>, (PowerFault, S)>
+) -> Result<Card<S>, PowerFault>
     requires up { heap.down ≡ false }
     requires marked { AreObjects marks heap }
     requires rests { heap.begun ≡ false }
@@ -211,28 +240,26 @@ fn link_packages<S: WordStore>(
           sent = [];
         }) }
     ensures load { IfOk result (λ card. card.load ≡ None) }
-    ensures cause { IfErr result (λ e. FailsToLink e.0 platform heap.now) }
-    ensures store { IfErr result (λ e. HoldsHeap (S.words e.1) (S.down e.1) (S.passed e.1)
-        (S.refusals e.1) heap) }
+    ensures cause { IfErr result (λ fault. FailsToLink fault platform heap.now) }
 {
     match read_packages(alloc, platform, &heap) {
         Ok(linked) => {
             let fixed = fixed_of(&heap);
             let memory = Memory::new(heap, ram, fixed, marks);
-            card_of(alloc, memory, linked, fixed[LAST_FIXED])
+            sound_card(alloc, memory, linked, fixed[LAST_FIXED])
         }
-        Err(fault) => Err((fault_of(fault), heap.into_store())),
+        Err(fault) => Err(fault_of(fault)),
     }
 }
 
 // The card of this memory and these packages, where what stands behind the last object of the runtime environment fits
 // them. No memory is asked for.
-fn card_of<S: WordStore>(
+fn sound_card<S: WordStore + Drop>(
     alloc: Global,
     memory: Memory<S>,
     linked: Linked,
     own: Ref,
-) -> Result<Card<S>, (PowerFault, S)>
+) -> Result<Card<S>, PowerFault>
     requires up { memory.heap.down ≡ false }
     requires rests { memory.heap.begun ≡ false }
     requires whole { IsConsistent memory.heap.now }
@@ -242,14 +269,11 @@ fn card_of<S: WordStore>(
     ensures card { IfOk result (λ card. card
         ≡ record { memory = memory; packages = linked; load = None }) }
     ensures sound { OnOk result (IsSound linked memory.heap.now own) }
-    ensures cause { IfErr result (λ e. (e.0 ≡ PowerFault.BadPackage)
+    ensures cause { IfErr result (λ fault. (fault ≡ PowerFault.BadPackage)
         × (IsSound linked memory.heap.now own → ⊥)) }
-    ensures store { IfErr result (λ e. HoldsHeap (S.words e.1) (S.down e.1) (S.passed e.1)
-        (S.refusals e.1) memory.heap) }
 {
     if !is_sound(&memory, &linked, own) {
-        let (heap, _) = memory.into_parts();
-        return Err((PowerFault::BadPackage, heap.into_store()));
+        return Err(PowerFault::BadPackage);
     }
     Ok(Card {
         alloc,
@@ -257,6 +281,51 @@ fn card_of<S: WordStore>(
         linked,
         load: None,
     })
+}
+
+// The packages of a card, and its transient contents.
+fn parts_of<S: WordStore + Drop>(card: Card<S>) -> (Linked, Ram)
+    ensures packages { result.0 ≡ card.packages }
+    ensures ram { result.1 ≡ card.memory.ram }
+{
+    let Card { memory, linked, .. } = card;
+    let (_, ram) = memory.into_parts();
+    (linked, ram)
+}
+
+// The card over a store at rest, with packages and transient contents that were found. No memory is asked for.
+fn card_over<S: WordStore>(
+    alloc: Global,
+    store: S,
+    linked: Linked,
+    ram: Ram,
+    marks: Marks,
+) -> Card<S>
+    requires rests { IsAtRest (S.words store) (S.down store) }
+    requires whole { IsConsistent (heap_of (recovered_of (S.words store))) }
+    requires marked { AreObjects marks (heap_of_store_at_rest (S.words store) (S.passed store)
+        (S.refusals store)) }
+    requires sizes { HasSizes ram }
+    ensures memory { result.memory
+        ≡ record {
+          heap = heap_of_store_at_rest (S.words store) (S.passed store) (S.refusals store);
+          ram = ram;
+          fixed = fixed_of (heap_of (recovered_of (S.words store)));
+          registers = at_reset;
+          command = [];
+          sent = [];
+        } }
+    ensures packages { result.packages ≡ linked }
+    ensures load { result.load ≡ None }
+{
+    let heap = Heap::resume(store);
+    let fixed = fixed_of(&heap);
+    Card {
+        alloc,
+        memory: Memory::new(heap, ram, fixed, marks),
+        linked,
+        load: None,
+    }
 }
 
 // The fault of packages that are not read.

@@ -16,6 +16,7 @@ holds_image w d p r j n s o = record {
   size = s.size ∙ ap (λ (l : List ℕ). length l) o.recovered;
   up = s.down ∙ o.up;
   closed = s.closed o.up o.closed;
+  current = s.current;
   passed = s.passed;
   refusals = s.refusals;
 }

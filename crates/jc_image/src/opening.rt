@@ -1,10 +1,10 @@
 //! Opening an image, and whether its heap is whole.
 ghost use Rattle.std.specs.Prelude.{ℕ, ◌+◌, ◌/◌, ◌≡◌, ◌<◌, ◌≤◌, ◌↔◌, IsTrue, IsOk, IfOk, IfErr, OnOk, true, false, length, slice_index, slice_index_or};
 ghost use Rattle.jc_words.specs.Refusals.{refused_once};
-ghost use Rattle.jc_words.specs.Layout.{top_address, text_length_address, text_start};
-ghost use Rattle.jc_commit.specs.Image.{IsGoodLog};
+ghost use Rattle.jc_words.specs.Layout.{top_address, text_length_address, text_start, version, version_address};
+ghost use Rattle.jc_commit.specs.Image.{IsGoodLog, count_of};
 ghost use Rattle.jc_commit.specs.Migration.{IsPartOfOpening, StillOpens};
-ghost use Rattle.jc_commit.specs.State.{recovered_journal};
+ghost use Rattle.jc_commit.specs.State.{recovered_journal, resumed_journal};
 ghost use Rattle.jc_heap.specs.Object.{is_object};
 ghost use Rattle.jc_heap.specs.Image.{text_byte, table_text, IsWellFormed, image, package_addresses, is_package};
 ghost use Rattle.jc_heap.specs.Heap.{heap_view, heap_of, heap_item_at, is_allocated};
@@ -113,6 +113,19 @@ impl<S: WordStore> OpenImage<S> {
             }
             Err(refused) => Err(refused),
         }
+    }
+
+    /// A recovered image, over a store as `into_store` gives it. Nothing is read or written.
+    pub fn resume(store: S) -> OpenImage<S>
+        requires up { S.down store ≡ false }
+        requires good { IsGoodLog (S.words store) }
+        requires current { slice_index (S.words store) version_address ≡ version }
+        requires closed { count_of (S.words store) ≡ 0 }
+        ensures { result ≡ resumed_journal (S.words store) (S.passed store) (S.refusals store) }
+    {
+        let journal = Journal::resume(store);
+        let size = journal.limit();
+        OpenImage { journal, size }
     }
 
     /// How many bytes the table text has, as the image says.

@@ -79,6 +79,10 @@ laid_still BadLog old new other stands = ap (λ w. is_well_formed (recovered_of 
 laid_still BadTable old new other stands =
     let alike = migrated_alike (recovered_of old) 3 in
     ap is_well_formed stands.recovered ∙ same_answer (migrated 3 (recovered_of old)) (recovered_of old) (alike.back, alike.laid)
-laid_still BadPackage old new other stands = same_answer (recovered_of new) (recovered_of old) stands.laid
-laid_still NoMemory old new other stands = same_answer (recovered_of new) (recovered_of old) stands.laid
+laid_still BadPackage old new other stands =
+    let alike = migrated_alike (recovered_of old) 3 in
+    ap is_well_formed stands.recovered ∙ same_answer (migrated 3 (recovered_of old)) (recovered_of old) (alike.back, alike.laid)
+laid_still NoMemory old new other stands =
+    let alike = migrated_alike (recovered_of old) 3 in
+    ap is_well_formed stands.recovered ∙ same_answer (migrated 3 (recovered_of old)) (recovered_of old) (alike.back, alike.laid)
 laid_still StoreDown old new other stands = absurd (other refl)

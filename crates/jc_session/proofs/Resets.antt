@@ -18,8 +18,8 @@ still_left BadVersion old new other good stands = (subst IsGoodLog (sym stands) 
 still_left BadSize old new other good stands = (subst IsGoodLog (sym stands) good, ap (λ w. heap_of (recovered_of w)) stands)
 still_left BadLog old new other good stands = (subst IsGoodLog (sym stands) good, ap (λ w. heap_of (recovered_of w)) stands)
 still_left BadTable old new other good stands = (stands.good, ap heap_of stands.recovered ∙ (migrated_alike (recovered_of old) 3).heap)
-still_left BadPackage old new other good stands = (stands.good, stands.recovered)
-still_left NoMemory old new other good stands = (stands.good, stands.recovered)
+still_left BadPackage old new other good stands = (stands.good, ap heap_of stands.recovered ∙ (migrated_alike (recovered_of old) 3).heap)
+still_left NoMemory old new other good stands = (stands.good, ap heap_of stands.recovered ∙ (migrated_alike (recovered_of old) 3).heap)
 still_left StoreDown old new other good stands = absurd (other refl)
 
 -- a reset that finds a fault leaves what was there, with the power on

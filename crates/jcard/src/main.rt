@@ -3,10 +3,11 @@
 
 use jcard_commands::program::run_program;
 use jcard_script::std_text::StdText;
-use std::io;
+use std::io::{self, IsTerminal};
 use std::process::ExitCode;
 
 fn main(rt: HostRuntime) -> ExitCode {
     let mut out = StdText::new(io::writer(&rt));
-    ExitCode::from(run_program(&rt, &mut out))
+    let is_terminal = rt.stderr().is_terminal();
+    ExitCode::from(run_program(&rt, is_terminal, &mut out))
 }

@@ -1,11 +1,13 @@
 -- What the program does for the words of its command line.
-use Rattle.std.specs.Prelude.{ℕ, ◌≡◌, ◌⊎◌, List, [], codes, Result, Err, Option, Some, None}
+use Rattle.std.specs.Prelude.{ℕ, ◌≡◌, ◌⊎◌, Bool, List, [], codes, Result, Err, Option, Some, None}
 use Rattle.jcard_arguments.specs.CommandLine.{CommandLineRequest, ToMake, ToRun, ToTear, ToTell, ToTest, ToTry, request_of_words}
 use Rattle.jcard_images.specs.Dumps.{IsDump}
 use Rattle.jcard_files.specs.FileDeeds.{FileDeed}
 use Rattle.jcard_sweeps.specs.Joinings.{IsJoining}
 use Rattle.jcard_arguments.specs.JoinLines.{files_of}
 use Rattle.jcard_images.specs.NewImages.{IsNew}
+use Rattle.jcard_listing.specs.Asked.{asked_of}
+use Rattle.jcard_listing.specs.Told.{IsObjectsDump}
 use Rattle.jcard_sweeps.specs.Tears.{IsTear}
 use Rattle.jcard_tests.specs.Tests.{IsTest}
 use Rattle.jcard_faults.specs.declared.fault.Fault.{Fault}
@@ -34,9 +36,14 @@ abbrev pub IsPerformedBy : Option (List (List ℕ)) → List (List ℕ) → Resu
 IsPerformedBy (Some files) words ended text deeds = IsJoining files ended text deeds
 IsPerformedBy None words ended text deeds = IsDoneOrNoMemory words ended text deeds
 
+-- the objects of the image that they name were told; or, where they ask for none, that was done
+abbrev pub IsListedBy : Option (List ℕ × Bool) → List (List ℕ) → Result Unit Fault → List ℕ → List FileDeed → Type 0
+IsListedBy (Some asked) words ended text deeds = IsObjectsDump asked.0 asked.1 ended text deeds
+IsListedBy None words ended text deeds = IsPerformedBy (files_of words) words ended text deeds
+
 -- on these words the program came to this end, wrote this text and did this with files
 abbrev pub IsPerformed : List (List ℕ) → Result Unit Fault → List ℕ → List FileDeed → Type 0
-IsPerformed words = IsPerformedBy (files_of words) words
+IsPerformed words = IsListedBy (asked_of words) words
 
 -- why nothing was begun: memory was refused, an argument is no text, or the folder that closed standard streams are opened on cannot be
 abbrev pub IsUnbegun : Result Unit Fault → Type 0

@@ -2,5 +2,6 @@
 #![tactic(auto)]
 
 pub mod program;
+mod progress_line;
 pub mod run;
 pub mod trial;

@@ -6,6 +6,7 @@ ghost use Rattle.jcard_faults.specs.Faults.{failures_of, status_of, IsLastLine};
 ghost use Rattle.jcard_commands.specs.Commands.{IsStarted, IsUnbegun};
 ghost use Rattle.jcard_faults.specs.declared.fault.Fault.{Fault};
 
+use crate::progress_line::ProgressLine;
 use crate::run::perform;
 use jc_words::LockFile;
 use jcard_faults::fault::{Fault, tell};
@@ -22,8 +23,13 @@ const FOLDER: &str = "/";
 
 /// Does what the program's arguments ask for, and answers the exit status. Arguments that are no
 /// text are a bad command line. Before any other file is opened, standard streams that are closed
-/// are opened on a folder, so that none of these files stands in their place.
-pub fn run_program<R: Env + Files + Eprint + AllocGlobal, W: TextOut>(rt: &R, out: &mut W) -> u8
+/// are opened on a folder, so that none of these files stands in their place. Where standard error is a terminal, it shows how far a
+/// sweep has come.
+pub fn run_program<R: Env + Files + Eprint + AllocGlobal, W: TextOut>(
+    rt: &R,
+    is_terminal: bool,
+    out: &mut W,
+) -> u8
 where
     R::File: LockFile,
     ensures { (text last : List ℕ) × (ended : Result Unit Fault) × (deeds : List FileDeed)
@@ -39,7 +45,9 @@ where
     match env::args(rt) {
         Ok(args) => match args.collect::<Vec<String>>(rt.alloc()) {
             Ok(words) => {
-                let ended = perform(&mut SystemDisk::new(rt), &words, out);
+                let mut progress = ProgressLine::new(rt, is_terminal);
+                let ended = perform(&mut SystemDisk::new(rt), &words, out, &mut progress);
+                progress.clear();
                 explain(rt, ended);
                 tell(ended, out)
             }

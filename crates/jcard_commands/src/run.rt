@@ -4,10 +4,11 @@ ghost use Rattle.std.specs.String.{string_bytes};
 ghost use Rattle.std.specs.Io.KnownBytes.{Appends};
 ghost use Rattle.jc_words.specs.Count.{failures_after};
 ghost use Rattle.jcard_arguments.specs.CommandLine.{request_by};
+ghost use Rattle.jcard_arguments.specs.JoinLines.{files_of};
 ghost use Rattle.jcard_files.specs.FileDeeds.{FileDeed};
 ghost use Rattle.jcard_faults.specs.Faults.{status_of, failures_of, is_unwritten, IsLastLine};
 ghost use Rattle.jcard_commands.specs.Runs.{IsCarriedOut, IsRun};
-ghost use Rattle.jcard_commands.specs.Commands.{IsDone, IsPerformed, IsDoneOrNoMemory};
+ghost use Rattle.jcard_commands.specs.Commands.{IsDone, IsPerformed, IsPerformedBy, IsDoneOrNoMemory};
 ghost use Rattle.jcard_faults.specs.declared.fault.Fault.{Fault};
 
 use crate::trial::try_script;
@@ -20,18 +21,26 @@ use jcard_files::closed_store::ClosedStore;
 use jcard_files::disk::Disk;
 use jcard_images::dump::dump_image;
 use jcard_images::new_image::make_image;
+use jcard_listing::asked::asked_of;
+use jcard_listing::dump::dump_objects;
 use jcard_script::script::run_script;
 use jcard_script::std_text::StdText;
 use jcard_script::streams::{TextIn, TextOut};
 use jcard_sweeps::joining::join_files;
 use jcard_sweeps::tearing::{Asked, tear_image};
 use jcard_tear::cuts::Behind;
+use jcard_tear::progress::Progress;
 use jcard_tests::testing::test_files;
 use std::alloc::Global;
 
 /// Does what the words ask for, the program's name among them as the first, and answers the exit
-/// status. What is written goes to `out`: the answers, and after a fault one last line.
-pub fn run_words<D: Disk, W: TextOut>(disk: &mut D, words: &[String], out: &mut W) -> u8
+/// status. What is written goes to `out`: the answers, and after a fault one last line. How far a sweep has come goes to `progress`.
+pub fn run_words<D: Disk, W: TextOut, P: Progress>(
+    disk: &mut D,
+    words: &[String],
+    out: &mut W,
+    progress: &mut P,
+) -> u8
     ensures { (text last : List ℕ) × (ended : Result Unit Fault) × (deeds : List FileDeed)
         × (failed : Bool)
         × Appends (W.contents out.old) (W.contents out.new) (text ++ last)
@@ -39,15 +48,16 @@ pub fn run_words<D: Disk, W: TextOut>(disk: &mut D, words: &[String], out: &mut 
         × (W.failures out.new ≡ failures_of (W.failures out.old) ended failed)
         × D.does disk.old deeds disk.new × (result ≡ status_of ended) }
 {
-    let ended = perform(disk, words, out);
+    let ended = perform(disk, words, out, progress);
     tell(ended, out)
 }
 
 /// Does what the words ask for.
-pub(crate) fn perform<'n, D: Disk, W: TextOut>(
+pub(crate) fn perform<'n, D: Disk, W: TextOut, P: Progress>(
     disk: &mut D,
     words: &'n [String],
     out: &mut W,
+    progress: &mut P,
 ) -> Result<(), Fault<'n>>
     ensures done { (text : List ℕ) × (deeds : List FileDeed)
         × Appends (W.contents out.old) (W.contents out.new) text
@@ -56,17 +66,38 @@ pub(crate) fn perform<'n, D: Disk, W: TextOut>(
     ensures writes { W.failures out.new ≡ failures_after (W.failures out.old)
         (is_unwritten result) }
 {
+    match asked_of(words) {
+        Some(asked) => dump_objects(disk, asked.image, asked.all, out),
+        None => perform_other(disk, words, out, progress),
+    }
+}
+
+// Does what the words ask for, which ask for no objects.
+fn perform_other<'n, D: Disk, W: TextOut, P: Progress>(
+    disk: &mut D,
+    words: &'n [String],
+    out: &mut W,
+    progress: &mut P,
+) -> Result<(), Fault<'n>>
+    ensures done { (text : List ℕ) × (deeds : List FileDeed)
+        × Appends (W.contents out.old) (W.contents out.new) text
+        × IsPerformedBy (files_of (map string_bytes words.now)) (map string_bytes words.now)
+        result text deeds × D.does disk.old deeds disk.new }
+    ensures writes { W.failures out.new ≡ failures_after (W.failures out.old)
+        (is_unwritten result) }
+{
     match files_of(words) {
         Some(files) => join_files(disk, files, out),
-        None => perform_parsed(disk, words, out),
+        None => perform_parsed(disk, words, out, progress),
     }
 }
 
 // Does what the words ask for, which name no files to join.
-fn perform_parsed<'n, D: Disk, W: TextOut>(
+fn perform_parsed<'n, D: Disk, W: TextOut, P: Progress>(
     disk: &mut D,
     words: &'n [String],
     out: &mut W,
+    progress: &mut P,
 ) -> Result<(), Fault<'n>>
     ensures done { (text : List ℕ) × (deeds : List FileDeed)
         × Appends (W.contents out.old) (W.contents out.new) text
@@ -76,15 +107,16 @@ fn perform_parsed<'n, D: Disk, W: TextOut>(
         (is_unwritten result) }
 {
     match parse(disk.alloc(), words) {
-        Ok(action) => act(disk, action, out),
+        Ok(action) => act(disk, action, out, progress),
         Err(fault) => Err(fault),
     }
 }
 
-fn act<'n, D: Disk, W: TextOut>(
+fn act<'n, D: Disk, W: TextOut, P: Progress>(
     disk: &mut D,
     action: Action<'n>,
     out: &mut W,
+    progress: &mut P,
 ) -> Result<(), Fault<'n>>
     ensures done { (text : List ℕ) × (deeds : List FileDeed)
         × Appends (W.contents out.old) (W.contents out.new) text
@@ -128,6 +160,7 @@ fn act<'n, D: Disk, W: TextOut>(
                 part,
             },
             out,
+            progress,
         ),
         Action::Test { files, junit } => test_files(disk, &files, junit, out),
     }

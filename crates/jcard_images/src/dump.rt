@@ -45,8 +45,8 @@ pub fn dump_image<'n, D: Disk, W: TextOut>(
     }
 }
 
-// Writes what the words of a store hold.
-fn dump_store<'a, S: WordStore, W: TextOut>(store: &S, out: &mut W) -> Result<(), Fault<'a>>
+/// Prints what the words of a store hold, as `jcard dump` does.
+pub fn dump_store<'a, S: WordStore, W: TextOut>(store: &S, out: &mut W) -> Result<(), Fault<'a>>
     ensures told { (text : List ℕ) × Appends (W.contents out.old) (W.contents out.new) text
         × IsTold (S.words store.now) result text }
     ensures writes { W.failures out.new ≡ failures_after (W.failures out.old)

@@ -26,6 +26,7 @@ use jcard_script::streams::{TextOut, write_all};
 use jcard_tear::cuts::Behind;
 use jcard_tear::each::{tear_each, tear_line};
 use jcard_tear::parts::tear_line_part;
+use jcard_tear::progress::Progress;
 use jcard_tear::runs::copied;
 use jcard_tear::script_lines::{ScriptLine, chosen, commands};
 use jcard_tear::tearing::TearFault;
@@ -45,11 +46,12 @@ pub struct Asked<'a> {
 
 /// `jcard tear`: cuts a command of the script, or each, after each number of its writes, each time on a card of a copy of the image's
 /// words, and tells what is left. The image is read, and never written.
-pub fn tear_image<'n, D: Disk, W: TextOut>(
+pub fn tear_image<'n, D: Disk, W: TextOut, P: Progress>(
     disk: &mut D,
     image: &'n str,
     asked: Asked<'n>,
     out: &mut W,
+    progress: &mut P,
 ) -> Result<(), Fault<'n>>
     ensures done { (text : List ℕ) × (deeds : List FileDeed)
         × Appends (W.contents out.old) (W.contents out.new) text
@@ -62,18 +64,19 @@ pub fn tear_image<'n, D: Disk, W: TextOut>(
         (is_unwritten result) }
 {
     match words_of(disk, image) {
-        Ok(words) => tear_over(disk, image, &words, asked, out),
+        Ok(words) => tear_over(disk, image, &words, asked, out, progress),
         Err(fault) => Err(fault),
     }
 }
 
 // Cuts a command of the script over these words.
-fn tear_over<'n, D: Disk, W: TextOut>(
+fn tear_over<'n, D: Disk, W: TextOut, P: Progress>(
     disk: &mut D,
     image: &'n str,
     words: &[u16],
     asked: Asked<'n>,
     out: &mut W,
+    progress: &mut P,
 ) -> Result<(), Fault<'n>>
     requires { length words.now < 65536 }
     ensures done { (text : List ℕ) × (deeds : List FileDeed)
@@ -97,19 +100,21 @@ fn tear_over<'n, D: Disk, W: TextOut>(
             &script,
             asked,
             out,
+            progress,
         ),
         Err(fault) => Err(fault),
     }
 }
 
 // Cuts the commands of this script that are meant.
-fn tear_in<'n, D: Disk, W: TextOut>(
+fn tear_in<'n, D: Disk, W: TextOut, P: Progress>(
     disk: &mut D,
     names: Names<'n>,
     words: &[u16],
     script: &[u8],
     asked: Asked<'n>,
     out: &mut W,
+    progress: &mut P,
 ) -> Result<(), Fault<'n>>
     requires { length words.now < 65536 }
     ensures done { (text : List ℕ) × (deeds : List FileDeed)
@@ -123,19 +128,20 @@ fn tear_in<'n, D: Disk, W: TextOut>(
         (is_unwritten result) }
 {
     match commands(disk.alloc(), script) {
-        Ok(commands) => tear_meant(disk, names, words, &commands, asked, out),
+        Ok(commands) => tear_meant(disk, names, words, &commands, asked, out, progress),
         Err(AllocError) => Err(Fault::NoMemory),
     }
 }
 
 // Cuts the one of these commands that is meant, or all of them.
-fn tear_meant<'n, D: Disk, W: TextOut>(
+fn tear_meant<'n, D: Disk, W: TextOut, P: Progress>(
     disk: &mut D,
     names: Names<'n>,
     words: &[u16],
     commands: &[ScriptLine],
     asked: Asked<'n>,
     out: &mut W,
+    progress: &mut P,
 ) -> Result<(), Fault<'n>>
     requires { length words.now < 65536 }
     ensures done { (text : List ℕ) × (deeds : List FileDeed)
@@ -152,16 +158,16 @@ fn tear_meant<'n, D: Disk, W: TextOut>(
         return Err(Fault::NoCommand);
     };
     if asked.each {
-        return tear_all(disk, names, words, commands, asked, out);
+        return tear_all(disk, names, words, commands, asked, out, progress);
     }
     if let Some(part) = asked.part {
-        return tear_part(disk, names, words, found, part, asked, out);
+        return tear_part(disk, names, words, found, part, asked, out, progress);
     }
-    tear_one(disk, names, words, found, asked, out)
+    tear_one(disk, names, words, found, asked, out, progress)
 }
 
 // Cuts a command in the part of this name.
-fn tear_part<'n, D: Disk, W: TextOut>(
+fn tear_part<'n, D: Disk, W: TextOut, P: Progress>(
     disk: &mut D,
     names: Names<'n>,
     words: &[u16],
@@ -169,6 +175,7 @@ fn tear_part<'n, D: Disk, W: TextOut>(
     part: &str,
     asked: Asked<'n>,
     out: &mut W,
+    progress: &mut P,
 ) -> Result<(), Fault<'n>>
     requires { length words.now < 65536 }
     ensures done { (text : List ℕ) × (deeds : List FileDeed)
@@ -192,19 +199,21 @@ fn tear_part<'n, D: Disk, W: TextOut>(
             asked.behind.objects,
             share,
             out,
+            progress,
         ),
         Err(fault) => Err(fault),
     }
 }
 
 // Cuts a command, with the lines of the probe of this name behind each cut, if there is one.
-fn tear_one<'n, D: Disk, W: TextOut>(
+fn tear_one<'n, D: Disk, W: TextOut, P: Progress>(
     disk: &mut D,
     names: Names<'n>,
     words: &[u16],
     found: ScriptLine,
     asked: Asked<'n>,
     out: &mut W,
+    progress: &mut P,
 ) -> Result<(), Fault<'n>>
     requires { length words.now < 65536 }
     ensures done { (text : List ℕ) × (deeds : List FileDeed)
@@ -224,19 +233,21 @@ fn tear_one<'n, D: Disk, W: TextOut>(
             lent(&probe),
             asked.behind,
             out,
+            progress,
         ),
         Err(fault) => Err(fault),
     }
 }
 
 // Cuts each of these commands so.
-fn tear_all<'n, D: Disk, W: TextOut>(
+fn tear_all<'n, D: Disk, W: TextOut, P: Progress>(
     disk: &mut D,
     names: Names<'n>,
     words: &[u16],
     commands: &[ScriptLine],
     asked: Asked<'n>,
     out: &mut W,
+    progress: &mut P,
 ) -> Result<(), Fault<'n>>
     requires { length words.now < 65536 }
     ensures done { (text : List ℕ) × (deeds : List FileDeed)
@@ -256,13 +267,14 @@ fn tear_all<'n, D: Disk, W: TextOut>(
             lent(&probe),
             asked.behind,
             out,
+            progress,
         ),
         Err(fault) => Err(fault),
     }
 }
 
 // Cuts a command, with these lines of a probe, if any, and writes the report.
-fn cut_one<'n, W: TextOut>(
+fn cut_one<'n, W: TextOut, P: Progress>(
     alloc: Global,
     names: Names<'n>,
     words: &[u16],
@@ -270,6 +282,7 @@ fn cut_one<'n, W: TextOut>(
     probe: Option<&[u8]>,
     behind: Behind,
     out: &mut W,
+    progress: &mut P,
 ) -> Result<(), Fault<'n>>
     requires { length words.now < 65536 }
     ensures done { (text : List ℕ) × Appends (W.contents out.old) (W.contents out.new) text
@@ -278,14 +291,14 @@ fn cut_one<'n, W: TextOut>(
     ensures writes { W.failures out.new ≡ failures_after (W.failures out.old)
         (is_unwritten result) }
 {
-    match tear_line(alloc, words, found, probe, behind) {
+    match tear_line(alloc, words, found, probe, behind, progress) {
         Ok(sweep) => tell_sweep(alloc, &sweep, out),
         Err(cause) => Err(tear_fault(names, cause)),
     }
 }
 
 // Cuts a command in this part, with these lines of a probe, if any, and writes what that leaves.
-fn cut_part<'n, W: TextOut>(
+fn cut_part<'n, W: TextOut, P: Progress>(
     alloc: Global,
     names: Names<'n>,
     words: &[u16],
@@ -294,6 +307,7 @@ fn cut_part<'n, W: TextOut>(
     objects: bool,
     share: Share,
     out: &mut W,
+    progress: &mut P,
 ) -> Result<(), Fault<'n>>
     requires { length words.now < 65536 }
     ensures done { (text : List ℕ) × Appends (W.contents out.old) (W.contents out.new) text
@@ -302,7 +316,16 @@ fn cut_part<'n, W: TextOut>(
     ensures writes { W.failures out.new ≡ failures_after (W.failures out.old)
         (is_unwritten result) }
 {
-    match tear_line_part(alloc, words, found, probe, objects, share.first, share.step) {
+    match tear_line_part(
+        alloc,
+        words,
+        found,
+        probe,
+        objects,
+        share.first,
+        share.step,
+        progress,
+    ) {
         Ok(part) => tell_part(alloc, &part, out),
         Err(cause) => Err(tear_fault(names, cause)),
     }
@@ -326,7 +349,7 @@ fn tell_part<'n, W: TextOut>(alloc: Global, part: &Part, out: &mut W) -> Result<
 }
 
 // Cuts each of these commands so, and writes the verdicts.
-fn cut_each<'n, W: TextOut>(
+fn cut_each<'n, W: TextOut, P: Progress>(
     alloc: Global,
     names: Names<'n>,
     words: &[u16],
@@ -334,6 +357,7 @@ fn cut_each<'n, W: TextOut>(
     probe: Option<&[u8]>,
     behind: Behind,
     out: &mut W,
+    progress: &mut P,
 ) -> Result<(), Fault<'n>>
     requires { length words.now < 65536 }
     ensures done { (text : List ℕ) × Appends (W.contents out.old) (W.contents out.new) text
@@ -342,7 +366,7 @@ fn cut_each<'n, W: TextOut>(
     ensures writes { W.failures out.new ≡ failures_after (W.failures out.old)
         (is_unwritten result) }
 {
-    match tear_each(alloc, words, commands, probe, behind) {
+    match tear_each(alloc, words, commands, probe, behind, progress) {
         Ok(sweeps) => tell_verdicts(alloc, &sweeps, out),
         Err(cause) => Err(tear_fault(names, cause)),
     }

@@ -3,6 +3,7 @@ ghost use Rattle.std.specs.Prelude.{◌≡◌, ◌<◌, ◌++◌, ◌∷◌, [],
 ghost use Rattle.jcard_tear.specs.Sweeps.{AreCuts, IsCutAt, IsUncutAt, cut_script};
 ghost use Rattle.jcard_tear.specs.Told.{AreOfImage};
 
+use crate::progress::Progress;
 use crate::recoveries::recoveries;
 use crate::runs::{RunFault, left, run_copy};
 use crate::tearing::TearFault;
@@ -40,7 +41,7 @@ pub struct Command<'a> {
 }
 
 /// What each cut of a command left, from the one on that no write passes, up to the number with which it is not cut.
-pub(crate) fn cut_all(
+pub(crate) fn cut_all<P: Progress>(
     alloc: Global,
     words: &[u16],
     command: Command,
@@ -48,6 +49,7 @@ pub(crate) fn cut_all(
     objects: &Option<ImageObjects>,
     before: &Left,
     after: &Left,
+    progress: &mut P,
 ) -> Result<Vec<Cut>, TearFault>
     requires short { length words.now < 65536 }
     requires whole { AreOfImage objects.now }
@@ -56,6 +58,7 @@ pub(crate) fn cut_all(
 {
     let mut cuts = Vec::new(alloc);
     for number in 0..MOST {
+        progress.tell_cut(number);
         let Some((left, recoveries)) = cut_at(alloc, words, command, number)? else {
             return Ok(cuts);
         };

@@ -5,6 +5,7 @@ ghost use Rattle.jcard_tear.specs.ScriptLines.{line_of};
 ghost use Rattle.jcard_tear.specs.Sweeps.{AreSwept, IsLineSwept, probe_of};
 
 use crate::cuts::{Behind, Command};
+use crate::progress::Progress;
 use crate::script_lines::{ScriptLine, last_select};
 use crate::tearing::{TearFault, tear};
 use jcard_outcomes::each::LineSweep;
@@ -13,12 +14,13 @@ use std::alloc::Global;
 
 /// Cuts the command in a line, with these lines of a probe behind each cut; or, where none are given, with the last SELECT
 /// before it, and what else is to come behind a cut.
-pub fn tear_line(
+pub fn tear_line<P: Progress>(
     alloc: Global,
     words: &[u16],
     line: ScriptLine,
     probe: Option<&[u8]>,
     behind: Behind,
+    progress: &mut P,
 ) -> Result<Sweep, TearFault>
     requires { length words.now < 65536 }
     ensures { IfOk result (λ sweep. IsLineSwept words.now
@@ -31,16 +33,17 @@ pub fn tear_line(
         probe: probe_for(probe, line.before),
         behind,
     };
-    tear(alloc, words, command)
+    tear(alloc, words, command, progress)
 }
 
 /// Cuts each of these commands.
-pub fn tear_each(
+pub fn tear_each<P: Progress>(
     alloc: Global,
     words: &[u16],
     lines: &[ScriptLine],
     probe: Option<&[u8]>,
     behind: Behind,
+    progress: &mut P,
 ) -> Result<Vec<LineSweep>, TearFault>
     requires { length words.now < 65536 }
     ensures { IfOk result (λ sweeps. AreSwept words.now
@@ -49,7 +52,7 @@ pub fn tear_each(
 {
     let mut sweeps = Vec::new(alloc);
     for line in lines {
-        let sweep = tear_line(alloc, words, *line, probe, behind)?;
+        let sweep = tear_line(alloc, words, *line, probe, behind, progress)?;
         let number = line.number;
         push_sweep(&mut sweeps, LineSweep { number, sweep })?;
     }

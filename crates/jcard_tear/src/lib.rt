@@ -6,6 +6,7 @@ pub mod each;
 pub mod kept_text;
 mod names;
 pub mod parts;
+pub mod progress;
 mod recoveries;
 pub mod runs;
 pub mod script_lines;

@@ -9,6 +9,7 @@ ghost use Rattle.jcard_tear.specs.Told.{AreOfImage};
 use crate::cuts::{Behind, Command, MOST, cut_at, push_cut};
 use crate::each::probe_for;
 use crate::names::sweep_name;
+use crate::progress::Progress;
 use crate::script_lines::ScriptLine;
 use crate::tearing::{TearFault, begun, done, tries_in};
 use crate::told::{left_told, objects_asked, told};
@@ -22,7 +23,7 @@ use std::alloc::Global;
 /// Cuts the command in a line after `first` writes, and each `step`-th number behind it. Behind each cut come these lines of a
 /// probe; or, where none are given, the last SELECT before the command. No recovery is cut;
 /// with objects, the cells that changed are told.
-pub fn tear_line_part(
+pub fn tear_line_part<P: Progress>(
     alloc: Global,
     words: &[u16],
     line: ScriptLine,
@@ -30,6 +31,7 @@ pub fn tear_line_part(
     objects: bool,
     first: u16,
     step: u16,
+    progress: &mut P,
 ) -> Result<Part, TearFault>
     requires { length words.now < 65536 }
     ensures swept { IfOk result (λ part. IsLinePart words.now
@@ -46,16 +48,17 @@ pub fn tear_line_part(
             objects,
         },
     };
-    tear_part(alloc, words, command, first, step)
+    tear_part(alloc, words, command, first, step, progress)
 }
 
 /// Carries out the script up to the command, and then cuts the command after `first` writes, and each `step`-th number behind it.
-pub fn tear_part(
+pub fn tear_part<P: Progress>(
     alloc: Global,
     words: &[u16],
     command: Command,
     first: u16,
     step: u16,
+    progress: &mut P,
 ) -> Result<Part, TearFault>
     requires { length words.now < 65536 }
     ensures swept { IfOk result (λ part. IsPartSwept words.now command.entry first step part) }
@@ -66,7 +69,7 @@ pub fn tear_part(
     let spared = tries_in(alloc, &after)?;
     let objects = objects_asked(alloc, command.behind.objects, &before)?;
     let cuts = cut_every(
-        alloc, words, command, &spared, &objects, &before, &after, first, step,
+        alloc, words, command, &spared, &objects, &before, &after, first, step, progress,
     )?;
     let after = left_told(alloc, &objects, after)?;
     let name = sweep_name(alloc, words, command, step)?;
@@ -85,7 +88,7 @@ pub fn tear_part(
 }
 
 // What the cuts left, from the first on, up to the number with which the command is not cut.
-fn cut_every(
+fn cut_every<P: Progress>(
     alloc: Global,
     words: &[u16],
     command: Command,
@@ -95,6 +98,7 @@ fn cut_every(
     after: &Left,
     first: u16,
     step: u16,
+    progress: &mut P,
 ) -> Result<Vec<Cut>, TearFault>
     requires short { length words.now < 65536 }
     requires whole { AreOfImage objects.now }
@@ -105,6 +109,7 @@ fn cut_every(
     let mut cuts = Vec::new(alloc);
     let mut number = first;
     for _place in 0..MOST {
+        progress.tell_cut(number);
         let Some((left, recoveries)) = cut_at(alloc, words, command, number)? else {
             return Ok(cuts);
         };

@@ -7,6 +7,7 @@ ghost use Rattle.jcard_tear.specs.Faults.{told_run_fault};
 ghost use Rattle.jc_objects.specs.Pins.{AreTriesIn};
 
 use crate::cuts::{Command, cut_all};
+use crate::progress::Progress;
 use crate::runs::{RunFault, left, run_copy};
 use crate::told::{left_told, objects_asked};
 use jc_card::power_up::PowerFault;
@@ -39,8 +40,13 @@ pub enum TearFault {
 /// Carries out the script up to the command on a card of a copy of these words, and then cuts the command after each number
 /// of its writes, each time on a card of a copy of its own. After each cut comes a reset, and then the probe; and as many
 /// recoveries as the command says are cut before a reset that is not. The tries of OwnerPINs do not count in a comparison. Where
-/// the command asks for objects, the cells that changed since before it are told behind the answers.
-pub fn tear(alloc: Global, words: &[u16], command: Command) -> Result<Sweep, TearFault>
+/// the command asks for objects, the cells that changed since before it are told behind the answers. Each cut is told as it is made.
+pub fn tear<P: Progress>(
+    alloc: Global,
+    words: &[u16],
+    command: Command,
+    progress: &mut P,
+) -> Result<Sweep, TearFault>
     requires { length words.now < 65536 }
     ensures { IfOk result (λ sweep. IsSwept words.now command.entry sweep) }
 {
@@ -48,7 +54,9 @@ pub fn tear(alloc: Global, words: &[u16], command: Command) -> Result<Sweep, Tea
     let before = begun(alloc, words, command)?;
     let spared = tries_in(alloc, &after)?;
     let objects = objects_asked(alloc, command.behind.objects, &before)?;
-    let cuts = cut_all(alloc, words, command, &spared, &objects, &before, &after)?;
+    let cuts = cut_all(
+        alloc, words, command, &spared, &objects, &before, &after, progress,
+    )?;
     let after = left_told(alloc, &objects, after)?;
     Ok(Sweep {
         before,

@@ -27,6 +27,7 @@ use jcard_script::script::{ScriptFault, run_script};
 use jcard_tear::cuts::NOTHING_MORE;
 use jcard_tear::each::tear_line;
 use jcard_tear::kept_text::KeptText;
+use jcard_tear::progress::Nobody;
 use jcard_tear::script_lines::ScriptLine;
 use jcard_tear::tearing::TearFault;
 use std::alloc::{AllocError, Global};
@@ -249,7 +250,7 @@ fn told_of_line(
     ensures { IfOk result (λ found. IsToldOfLine words.now (line_of command.entry)
         (option_map (λ told. told.items) found)) }
 {
-    match tear_line(alloc, words, command, None, NOTHING_MORE) {
+    match tear_line(alloc, words, command, None, NOTHING_MORE, &mut Nobody) {
         Ok(sweep) => broken(alloc, &sweep.cuts),
         Err(TearFault::NoMemory) => Err(AllocError),
         Err(_) => Ok(Some(Vec::from_slice(alloc, b"not cut")?)),

@@ -32,6 +32,7 @@ use jcard_script::mem_text::MemText;
 use jcard_script::script::ScriptFault;
 use jcard_script::std_text::StdText;
 use jcard_script::streams::TextIn;
+use jcard_tear::progress::Nobody;
 use std::alloc::{AllocError, Global};
 use std::cell::Cell;
 use std::fs::File;
@@ -108,7 +109,12 @@ impl Desk {
     ) -> io::Result<String> {
         let words = words_of(rt.alloc(), words)?;
         let mut out = MemText::new(rt.alloc(), b"", self.room)?;
-        let status = run_words(&mut SystemDisk::new(rt), words.as_slice(), &mut out);
+        let status = run_words(
+            &mut SystemDisk::new(rt),
+            words.as_slice(),
+            &mut out,
+            &mut Nobody,
+        );
         Ok(told(rt.alloc(), status, out.written())?)
     }
 
@@ -145,7 +151,7 @@ impl Desk {
         let mut out = MemText::new(alloc, b"", self.room)?;
         let images = mem::replace(&mut self.images, Vec::new(alloc));
         let mut disk = MemDisk::new(alloc, &texts, images);
-        let status = run_words(&mut disk, words.as_slice(), &mut out);
+        let status = run_words(&mut disk, words.as_slice(), &mut out, &mut Nobody);
         self.images = disk.into_images();
         Ok(told(alloc, status, out.written())?)
     }

@@ -5,15 +5,15 @@ use Rattle.jcard_tear.proofs.CutLists.{cuts_more, cuts_none}
 use Rattle.jcard_tear.proofs.cuts.cut_all.Goals as goal
 
 pub loop-number-init : goal.loop-number-init
-loop-number-init c = record { cuts = rw c.new-cuts.ensures.items (cuts_none _ _ _ _ _ _ _); count = rw c.new-cuts.ensures.items refl }
+loop-number-init g c = record { cuts = rw c.new-cuts.ensures.items (cuts_none _ _ _ _ _ _ _); count = rw c.new-cuts.ensures.items refl }
 
 pub returns-in_default : goal.returns-in_default
-returns-in_default c =
+returns-in_default g c =
     let uncut = rw c.in_default.is at c.in_ok-left.ensures in
     (c.loop-number.invariant.cuts, subst (λ n. IsUncutAt c.args.words.now c.args.command n) (sym c.loop-number.invariant.count) uncut)
 
 pub loop-number-preserved : goal.loop-number-preserved
-loop-number-preserved c =
+loop-number-preserved g c =
     let cuts = c.loop-number.cuts.items in
     let cut : Cut = record { standing = c.standing_of-standing.result; answers = c.in_ok-told.field-0; recoveries = c.in-Some.recoveries } in
     let left = rw c.in-Some.is at c.in_ok-left.ensures in

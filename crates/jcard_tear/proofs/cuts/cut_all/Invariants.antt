@@ -3,7 +3,7 @@ use Rattle.jcard_tear.specs.Sweeps.{AreCuts}
 use Rattle.jcard_tear.proofs.cuts.cut_all.Given as goal
 
 abbrev pub invariant-loop-number : goal.invariant-loop-number
-invariant-loop-number l = record {
+invariant-loop-number g l = record {
   cuts : AreCuts l.words l.command l.spared l.objects l.before l.after 0 l.cuts.items;
   count : length l.cuts.items ≡ l.number;
 }

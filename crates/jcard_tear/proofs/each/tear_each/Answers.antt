@@ -6,10 +6,10 @@ use Rattle.jcard_tear.proofs.EachSwept.{swept_next, swept_none}
 use Rattle.jcard_tear.proofs.each.tear_each.Goals as goal
 
 pub loop-line-init : goal.loop-line-init
-loop-line-init c = rw c.new-sweeps.ensures.items (swept_none _ _ _)
+loop-line-init g c = rw c.new-sweeps.ensures.items (swept_none _ _ _)
 
 pub loop-line-preserved : goal.loop-line-preserved
-loop-line-preserved c =
+loop-line-preserved g c =
     let none : ScriptLine = record { number = 0; before = record { ref_ptr = (0, 0); now = [] }; line = record { ref_ptr = (0, 0); now = [] } } in
     let line = get_or c.args.lines.now c.loop-line.line-index none in
     let swept : LineSweep = record { number = line.number; sweep = c.in_ok-sweep.sweep } in

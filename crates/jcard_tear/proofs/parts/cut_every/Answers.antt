@@ -5,18 +5,18 @@ use Rattle.jcard_tear.proofs.EveryLists.{every_more, every_none, number_more}
 use Rattle.jcard_tear.proofs.parts.cut_every.Goals as goal
 
 pub loop-place-init : goal.loop-place-init
-loop-place-init c = record { cuts = rw c.new-cuts.ensures.items (every_none _ _ _ _ _ _ _ _); count = rw c.new-cuts.ensures.items (omega arith); fits = omega (arith, c.ranges.first.fits) }
+loop-place-init g c = record { cuts = rw c.new-cuts.ensures.items (every_none _ _ _ _ _ _ _ _); count = rw c.new-cuts.ensures.items (omega arith); fits = omega (arith, c.ranges.first.fits) }
 
 pub returns-in_default-clause-cut : goal.returns-in_default-clause-cut
-returns-in_default-clause-cut c =
+returns-in_default-clause-cut g c =
     let uncut = rw c.in_default.is at c.in_ok-left.ensures in
     (c.loop-place.invariant.cuts, subst (λ n. IsUncutAt c.args.words.now c.args.command n) c.loop-place.invariant.count uncut)
 
 pub returns-in_default-clause-below : goal.returns-in_default-clause-below
-returns-in_default-clause-below c = omega (arith, c.loop-place.invariant.count, c.loop-place.invariant.fits)
+returns-in_default-clause-below g c = omega (arith, c.loop-place.invariant.count, c.loop-place.invariant.fits)
 
 pub loop-place-preserved : goal.loop-place-preserved
-loop-place-preserved c =
+loop-place-preserved g c =
     let cuts = c.loop-place.cuts.items in
     let cut : Cut = record { standing = c.standing_of-standing.result; answers = c.in_ok-told.field-0; recoveries = c.in-Some.recoveries } in
     let left = rw c.in-Some.is at c.in_ok-left.ensures in

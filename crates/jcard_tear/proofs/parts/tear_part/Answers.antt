@@ -3,7 +3,7 @@ use Rattle.jcard_tear.specs.Parts.{AreEvery}
 use Rattle.jcard_tear.proofs.parts.tear_part.Goals as goal
 
 pub returns-clause-swept : goal.returns-clause-swept
-returns-clause-swept c = record {
+returns-clause-swept g c = record {
   first_is = c.from.ensures;
   step_is = c.from-2.ensures;
   name = c.in_ok-name.ensures;

@@ -3,7 +3,7 @@ use Rattle.jcard_tear.specs.Sweeps.{AreCuts}
 use Rattle.jcard_tear.proofs.tearing.tear.Goals as goal
 
 pub returns : goal.returns
-returns c = record {
+returns g c = record {
   begun = c.in_ok-before.ensures;
   cuts = (
     c.in_ok-spared.spared.items,

@@ -1,0 +1,5 @@
+pub mod HeapBounds
+pub mod Holding
+pub mod ItemWords
+pub mod Sizes
+pub mod Standing

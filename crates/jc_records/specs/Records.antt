@@ -1,0 +1,46 @@
+-- The records of a heap, as the words of an image tell them.
+use Rattle.std.specs.Prelude.{ℕ, ◌+◌, ◌-◌, ◌≤◌, ◌==◌, nat_le, Bool, List, take, drop, length, Option, Some, None, if◌then◌else◌}
+use Rattle.jc_words.specs.Layout.{text_start}
+use Rattle.jc_commit.specs.Image.{top_of}
+use Rattle.jc_heap.specs.Heap.{heap_of}
+use Rattle.jc_heap.specs.Image.{image, item, missing_words_of_image, package_addresses, sizes}
+use Rattle.jc_heap.specs.Object.{Item, AnObject, APackage}
+use Rattle.jc_heap.specs.declared.object.Facts.{Facts}
+
+-- how many words the record that begins at an address has
+abbrev pub record_size : List ℕ → ℕ → ℕ
+record_size w at = sizes (package_addresses (image w)) at (drop at (image w)) + 1
+
+-- the same, where these lie below the top
+abbrev pub whole_size : List ℕ → ℕ → Option ℕ
+whole_size w at = if nat_le (record_size w at) (top_of w - at) then Some (record_size w at) else None
+
+-- the words of a record that begins at an address lie behind the first ones, and below the top
+pub record IsRecord (w : List ℕ) (at : ℕ) : Type 0 where
+  pub low : text_start ≤ at
+  pub whole : at + record_size w at ≤ top_of w
+
+-- the words of the record that begins at an address
+abbrev pub record_words : List ℕ → ℕ → List ℕ
+record_words w at = take (record_size w at) (drop at (image w))
+
+-- what stands at an address where a record begins
+abbrev pub item_at : List ℕ → ℕ → Item
+item_at w at = item (package_addresses (image w)) at (record_words w at)
+
+-- what the header says, if it is an object
+abbrev pub object_in : Item → Option Facts
+object_in (AnObject o) = Some o.facts
+object_in (APackage ws) = None
+
+-- no record lacks words
+abbrev pub are_whole : List ℕ → Bool
+are_whole w = missing_words_of_image (image w) == 0
+
+-- those that have all their words, where the last of them may lack some
+abbrev pub whole_among : {A : Type 0} → Bool → List A → List A
+whole_among whole xs = if whole then xs else take (length xs - 1) xs
+
+-- what stands in the heap that words are, by addresses: all but a last record that lacks words
+abbrev pub standing_items : List ℕ → List (ℕ × Item)
+standing_items w = whole_among (are_whole w) (heap_of w).items

@@ -1,0 +1,6 @@
+//! What stands in the heap of an image, told from its words as they are: nothing is recovered, and no memory is asked for.
+#![tactic(auto)]
+
+pub mod bounds;
+pub mod holders;
+pub mod records;

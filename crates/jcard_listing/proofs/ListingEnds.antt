@@ -1,0 +1,18 @@
+-- How lines were told that were all written.
+use Rattle.std.proofs.Common.{◌≡◌, Bool, true, false, List, Result, Ok, Err, inl, inr, refl, sym, subst, ap, ◌∙◌, if◌then◌else◌}
+use Rattle.std.proofs.lemmas.Bool.{cases_Bool}
+use Rattle.jcard_faults.specs.declared.fault.Fault.{Fault}
+use Rattle.jcard_faults.specs.declared.fault.Fault.TheVariants.{BadImage}
+use Rattle.jcard_faults.specs.declared.fault.Damage.TheVariants.{Package}
+use Rattle.jcard_images.specs.Listings.{Lines}
+use Rattle.jcard_listing.specs.Told.{AreLinesTold, end_of}
+
+pub told_whole : (l : Lines) (r : Result Unit Fault) → r ≡ end_of l.readable → AreLinesTold l r l.text
+told_whole l r e = elim (cases_Bool l.readable) [
+  | inl holds ↦
+      let done : r ≡ Ok tt = e ∙ ap end_of holds in
+      subst (λ (s : Result Unit Fault). AreLinesTold l s l.text) (sym done) (holds, refl)
+  | inr fails ↦
+      let damaged : r ≡ Err (BadImage Package) = e ∙ ap end_of fails in
+      subst (λ (s : Result Unit Fault). AreLinesTold l s l.text) (sym damaged) (fails, refl, refl)
+]

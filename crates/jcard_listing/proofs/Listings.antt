@@ -1,0 +1,55 @@
+-- A listing, part by part.
+use Rattle.std.proofs.Common.{◌≡◌, ◌∙◌, ◌⊎◌, ℕ, Bool, true, false, inl, inr, List, Option, Some, None, Result, Ok, Err, ap, refl, sym, if◌then◌else◌}
+use Rattle.std.proofs.lemmas.Bool.{cases_Bool, false≢true}
+use Rattle.jc_platform.specs.Tokens.{Tokens}
+use Rattle.jc_records.specs.Bounds.{has_bounds}
+use Rattle.jcard_images.specs.Listings.{Lines, line_if, then_lines}
+use Rattle.jcard_listing.specs.Areas.{areas_line, areas_text}
+use Rattle.jcard_listing.specs.Fault.{Lists}
+use Rattle.jcard_listing.specs.Listing.{IsListed, IsListing, contents_lines}
+use Rattle.jcard_listing.specs.Table.{IsPlatformOf}
+use Rattle.jcard_listing.specs.declared.fault.ListFault.{ListFault}
+use Rattle.jcard_listing.specs.declared.fault.ListFault.TheVariants.{Unreadable, NoMemory}
+use Rattle.jcard_listing.proofs.Listed.{lists_then, lists_unread}
+
+listed_by : (r : Result Unit ListFault) (w : List ℕ) (all : Bool) (old new : List ℕ) (l : Lines) → IsListing w all l → Lists old new l r
+    → IsListed w all old new r
+listed_by (Ok done) w all old new l is told = (l, is, told)
+listed_by (Err Unreadable) w all old new l is told = (l, is, told)
+listed_by (Err NoMemory) w all old new l is told = tt
+
+areas_readable : (w : List ℕ) (b : Bool) → has_bounds w ≡ b → (line_if (areas_line w)).readable ≡ b
+areas_readable w true e = ap (λ (c : Bool). (line_if (if c then Some (areas_text w) else None)).readable) e
+areas_readable w false e = ap (λ (c : Bool). (line_if (if c then Some (areas_text w) else None)).readable) e
+
+-- where the first line was told, the heap lies within its bounds
+pub areas_told : (w old new : List ℕ) → Lists old new (line_if (areas_line w)) (Ok tt) → has_bounds w ≡ true
+areas_told w old new told = elim (cases_Bool (has_bounds w)) [
+  | inl holds ↦ holds
+  | inr fails ↦ absurd (false≢true (sym (areas_readable w false fails) ∙ told.0))
+]
+
+-- and where it was not, nothing is
+pub areas_untold : (stop : ListFault) (w : List ℕ) (all : Bool) (old new : List ℕ) → Lists old new (line_if (areas_line w)) (Err stop)
+    → IsListed w all old new (Err stop)
+areas_untold Unreadable w all old new told = elim (cases_Bool (has_bounds w)) [
+  | inl holds ↦ absurd (false≢true (sym told.0 ∙ areas_readable w true holds))
+  | inr fails ↦ (line_if (areas_line w), inl (fails, refl), told)
+]
+areas_untold NoMemory w all old new told = tt
+
+-- nor is anything behind a text that is no table
+pub table_untold : (stop : ListFault) (w : List ℕ) (all : Bool) (old new : List ℕ) → Lists old new (line_if (areas_line w)) (Ok tt)
+    → IsPlatformOf w (Err stop) → IsListed w all old new (Err stop)
+table_untold Unreadable w all old new told none = (
+  then_lines (line_if (areas_line w)) (contents_lines None w all),
+  inr (None, areas_told w old new told, none, refl),
+  lists_then (Err Unreadable) old new new (line_if (areas_line w)) (contents_lines None w all) told (lists_unread new (line_if None) refl refl),
+)
+table_untold NoMemory w all old new told none = tt
+
+-- all that is told behind a table
+pub contents_told : (r : Result Unit ListFault) (w : List ℕ) (all : Bool) (t : Tokens) (old new next : List ℕ) → Lists old new (line_if (areas_line w)) (Ok tt)
+    → IsPlatformOf w (Ok t) → Lists new next (contents_lines (Some t) w all) r → IsListed w all old next r
+contents_told r w all t old new next told reads more = listed_by r w all old next (then_lines (line_if (areas_line w)) (contents_lines (Some t) w all))
+    (inr (Some t, areas_told w old new told, reads, refl)) (lists_then r old new next (line_if (areas_line w)) (contents_lines (Some t) w all) told more)

@@ -1,0 +1,18 @@
+use Rattle.std.proofs.Common.{◌≡◌, ◌≤◌, ◌-◌}
+use Rattle.jc_records.specs.Records.{record_words}
+use Rattle.jcard_listing.specs.Packages.{parts_lines}
+use Rattle.jcard_listing.proofs.Listed.{IsTelling}
+use Rattle.jcard_listing.proofs.PartLines.{parts_from}
+use Rattle.jcard_listing.proofs.packages.push_parts.Given as goal
+
+abbrev pub invariant-loop-offset : goal.invariant-loop-offset
+invariant-loop-offset g l =
+    let words = record_words (g.S.WordStore.words l.store) l.found.at in
+    record {
+      low : 1 ≤ l.offset;
+      high : l.offset ≤ l.found.size;
+      told : IsTelling l.fn.text.items l.text.items (parts_lines words) (parts_from words l.offset);
+    }
+
+abbrev pub decreases-loop-offset : goal.decreases-loop-offset
+decreases-loop-offset g l = l.found.size - l.offset

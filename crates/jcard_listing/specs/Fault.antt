@@ -1,0 +1,16 @@
+-- How far lines were told.
+use Rattle.std.specs.Prelude.{ℕ, zero, suc, ◌≡◌, true, false, List, [], ◌++◌, Result, Ok, Err}
+use Rattle.jcard_images.specs.Listings.{Lines, line, then_lines}
+use Rattle.jcard_listing.specs.declared.fault.ListFault.{ListFault}
+use Rattle.jcard_listing.specs.declared.fault.ListFault.TheVariants.{Unreadable, NoMemory}
+
+-- a text grew by lines, or by those before the first that cannot be read; or memory was refused
+abbrev pub Lists : List ℕ → List ℕ → Lines → Result Unit ListFault → Type 0
+Lists old new l (Ok done) = (l.readable ≡ true) × (new ≡ old ++ l.text)
+Lists old new l (Err Unreadable) = (l.readable ≡ false) × (new ≡ old ++ l.text)
+Lists old new l (Err NoMemory) = Unit {0}
+
+-- the lines of so many, by their numbers from 1 on
+unfoldable pub each_line : (ℕ → Lines) → ℕ → Lines
+each_line one zero = line []
+each_line one (suc n) = then_lines (each_line one n) (one (suc n))

@@ -1,0 +1,11 @@
+pub mod Applets
+pub mod Areas
+pub mod Asked
+pub mod Entries
+pub mod Fault
+pub mod Listing
+pub mod Objects
+pub mod Packages
+pub mod Table
+pub mod Told
+pub mod Texts

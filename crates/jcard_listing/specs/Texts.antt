@@ -1,0 +1,15 @@
+-- Numbers, references and bytes in lines.
+use Rattle.std.specs.Prelude.{ℕ, ◌++◌, ◌∷◌, [], ◌/◌, ◌%◌, ◌==◌, List, codes, decimal, if◌then◌else◌}
+use Rattle.hex.specs.Hex.{encode_upper}
+
+-- a number between two texts
+abbrev pub labelled_text : List ℕ → ℕ → List ℕ → List ℕ
+labelled_text before n behind = before ++ decimal n ++ behind
+
+-- the two bytes of a word in hexadecimal
+abbrev pub word_text : ℕ → List ℕ
+word_text word = encode_upper (word / 256 ∷ word % 256 ∷ [])
+
+-- a reference: the address of an object, or null
+abbrev pub reference_text : ℕ → List ℕ
+reference_text word = if word == 0 then codes "null" else labelled_text (codes "@") word []

@@ -1,0 +1,44 @@
+//! The line of the heap's end and of the ends of the areas.
+ghost use Rattle.std.specs.Prelude.{◌≡◌, ◌++◌, true, OnOk};
+ghost use Rattle.jc_words.specs.Image.{HasSize};
+ghost use Rattle.jc_records.specs.Bounds.{has_bounds};
+ghost use Rattle.jcard_images.specs.Listings.{line_if};
+ghost use Rattle.jcard_listing.specs.Areas.{areas_line, areas_text};
+ghost use Rattle.jcard_listing.specs.Fault.{Lists};
+
+use crate::fault::ListFault;
+use crate::texts::push_labelled;
+use jc_records::bounds::{has_bounds, heap_end};
+use jc_words::WordStore;
+use jc_words::layout::{DESELECT_END, RESET_END, TOP};
+use std::alloc::AllocError;
+
+/// Writes where the heap ends, how many words are free, and how many cells of the two areas are taken.
+pub(crate) fn push_areas<S: WordStore>(text: &mut Vec<u8>, store: &S) -> Result<(), ListFault>
+    requires { HasSize (S.words store.now) }
+    ensures { Lists text.old.items text.new.items (line_if (areas_line (S.words store.now))) result }
+{
+    if !has_bounds(store) {
+        return Err(ListFault::Unreadable);
+    }
+    push_ends(text, store)?;
+    Ok(())
+}
+
+// Writes the line.
+fn push_ends<S: WordStore>(text: &mut Vec<u8>, store: &S) -> Result<(), AllocError>
+    requires size { HasSize (S.words store.now) }
+    requires bounds { has_bounds (S.words store.now) ≡ true }
+    ensures { OnOk result (text.new.items ≡ text.old.items ++ areas_text (S.words store.now)) }
+{
+    let top = store.read(TOP);
+    push_labelled(text, b"top ", top, b", free ")?;
+    push_labelled(text, b"", heap_end(store) - top, b" words, reset area ")?;
+    push_labelled(
+        text,
+        b"",
+        store.read(RESET_END),
+        b" of 2048, deselect area ",
+    )?;
+    push_labelled(text, b"", store.read(DESELECT_END), b" of 2048\n")
+}

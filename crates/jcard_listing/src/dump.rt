@@ -1,0 +1,105 @@
+//! Telling what an image holds, object by object.
+ghost use Rattle.std.specs.Prelude.{◌≡◌, ℕ, List};
+ghost use Rattle.std.specs.Io.KnownBytes.{Appends};
+ghost use Rattle.jc_words.specs.Count.{failures_after};
+ghost use Rattle.jc_words.specs.Image.{HasSize};
+ghost use Rattle.jcard_faults.specs.Faults.{is_unwritten};
+ghost use Rattle.jcard_files.specs.FileDeeds.{FileDeed};
+ghost use Rattle.jcard_listing.specs.Told.{AreLinesTold, AreObjectsTold, IsListingTold, IsObjectsDump, end_of};
+
+use crate::listing::{Listing, listing_of};
+use jc_words::WordStore;
+use jcard_faults::fault::{Damage, Fault};
+use jcard_files::closed_store::ClosedStore;
+use jcard_files::disk::Disk;
+use jcard_images::dump::dump_store;
+use jcard_script::streams::{TextOut, write_all};
+use std::alloc::{AllocError, Global};
+
+/// `jcard dump IMAGE --objects`: prints what `jcard dump` does, and then the heap's end, the journal's entries that count, the
+/// packages' records, the applets' entries and the objects; those of the runtime environment where all are asked for. Nothing is
+/// recovered.
+pub fn dump_objects<'n, D: Disk, W: TextOut>(
+    disk: &mut D,
+    image: &'n str,
+    all: bool,
+    out: &mut W,
+) -> Result<(), Fault<'n>>
+    ensures told { (text : List ℕ) × (deeds : List FileDeed)
+        × Appends (W.contents out.old) (W.contents out.new) text
+        × IsObjectsDump image.now all result text deeds × D.does disk.old deeds disk.new }
+    ensures writes { W.failures out.new ≡ failures_after (W.failures out.old)
+        (is_unwritten result) }
+{
+    match disk.open_image_to_read(image) {
+        Ok(store) => {
+            let told = tell_objects(disk.alloc(), &store, all, out);
+            disk.close_image(image, ClosedStore::new(store));
+            told
+        }
+        Err(fault) => Err(fault),
+    }
+}
+
+// Writes what the words of a store hold.
+fn tell_objects<'a, S: WordStore, W: TextOut>(
+    alloc: Global,
+    store: &S,
+    all: bool,
+    out: &mut W,
+) -> Result<(), Fault<'a>>
+    ensures told { (text : List ℕ) × Appends (W.contents out.old) (W.contents out.new) text
+        × AreObjectsTold (S.words store.now) all result text }
+    ensures writes { W.failures out.new ≡ failures_after (W.failures out.old)
+        (is_unwritten result) }
+{
+    match dump_store(store, out) {
+        Ok(()) => tell_listing(alloc, store, all, out),
+        Err(fault) => Err(fault),
+    }
+}
+
+// Writes the listing.
+fn tell_listing<'a, S: WordStore, W: TextOut>(
+    alloc: Global,
+    store: &S,
+    all: bool,
+    out: &mut W,
+) -> Result<(), Fault<'a>>
+    requires { HasSize (S.words store.now) }
+    ensures told { (text : List ℕ) × Appends (W.contents out.old) (W.contents out.new) text
+        × IsListingTold (S.words store.now) all result text }
+    ensures writes { W.failures out.new ≡ failures_after (W.failures out.old)
+        (is_unwritten result) }
+{
+    match listing_of(alloc, store, all) {
+        Ok(listing) => write_listing(&listing, out),
+        Err(AllocError) => Err(Fault::NoMemory),
+    }
+}
+
+// Writes these lines, and tells whether there could be more.
+fn write_listing<'a, W: TextOut>(listing: &Listing, out: &mut W) -> Result<(), Fault<'a>>
+    ensures told { (text : List ℕ) × Appends (W.contents out.old) (W.contents out.new) text
+        × AreLinesTold (record {
+          text = listing.now.text.items;
+          readable = listing.now.readable;
+        }) result text }
+    ensures writes { W.failures out.new ≡ failures_after (W.failures out.old)
+        (is_unwritten result) }
+{
+    match write_all(out, &listing.text) {
+        Ok(()) => end_of(listing.readable),
+        Err(_) => Err(Fault::WriteFailed),
+    }
+}
+
+// How a listing ends whose lines were all written.
+fn end_of(readable: bool) -> Result<(), Fault<'static>>
+    ensures { result ≡ end_of readable }
+{
+    if !readable {
+        return Err(Fault::BadImage(Damage::Package));
+    }
+    Ok(())
+}

@@ -1,0 +1,146 @@
+//! The lines of the journal's entries that count.
+ghost use Rattle.std.specs.Prelude.{◌≡◌, ◌<◌, ◌≤◌, ◌+◌, ◌*◌, ◌-◌, ◌++◌, ◌∷◌, ◌^◌, true, length, slice_index, Option, OnOk};
+ghost use Rattle.jc_words.specs.Image.{HasSize, log_of};
+ghost use Rattle.jc_words.specs.Layout.{text_start};
+ghost use Rattle.jc_commit.specs.Image.{address_at, capacity_of, count_of, old_at};
+ghost use Rattle.jc_records.specs.Bounds.{has_bounds};
+ghost use Rattle.jcard_listing.specs.Entries.{cell_text, entry_lines, entry_text, found_text};
+ghost use Rattle.jcard_listing.specs.Fault.{Lists, each_line};
+ghost use Rattle.jcard_objects.specs.Changes.{value_text};
+
+use crate::fault::ListFault;
+use crate::texts::{push_labelled, push_number, push_word};
+use jc_platform::platform::Platform;
+use jc_records::holders::{Holder, holder_of};
+use jc_records::records::is_packed;
+use jc_words::layout::COUNT;
+use jc_words::{Log, WordStore};
+use jcard_objects::class_texts::push_kind;
+use std::alloc::{AllocError, Global};
+
+/// Writes the line of each entry of the journal that counts, up to the first for which the journal has no place.
+pub(crate) fn push_entries<S: WordStore>(
+    alloc: Global,
+    text: &mut Vec<u8>,
+    platform: &Platform,
+    store: &S,
+) -> Result<(), ListFault>
+    requires size { HasSize (S.words store.now) }
+    requires bounds { has_bounds (S.words store.now) ≡ true }
+    ensures { Lists text.old.items text.new.items (each_line
+        (entry_lines platform.now (S.words store.now)) (count_of (S.words store.now))) result }
+{
+    let count = store.read(COUNT);
+    for i in 0..count {
+        push_entry_at(alloc, text, platform, store, i)?;
+    }
+    Ok(())
+}
+
+// Writes the line of the entry behind so many others.
+fn push_entry_at<S: WordStore>(
+    alloc: Global,
+    text: &mut Vec<u8>,
+    platform: &Platform,
+    store: &S,
+    before: u16,
+) -> Result<(), ListFault>
+    requires size { HasSize (S.words store.now) }
+    requires bounds { has_bounds (S.words store.now) ≡ true }
+    requires number { before < 65535 }
+    ensures { Lists text.old.items text.new.items
+        (entry_lines platform.now (S.words store.now) (before + 1)) result }
+{
+    let log = Log::of(store);
+    if before >= log.capacity {
+        return Err(ListFault::Unreadable);
+    }
+    push_entry(alloc, text, platform, store, log, before)?;
+    Ok(())
+}
+
+// Writes the line of this entry of a journal.
+fn push_entry<S: WordStore>(
+    alloc: Global,
+    text: &mut Vec<u8>,
+    platform: &Platform,
+    store: &S,
+    log: Log,
+    before: u16,
+) -> Result<(), AllocError>
+    requires size { HasSize (S.words store.now) }
+    requires bounds { has_bounds (S.words store.now) ≡ true }
+    requires log { log ≡ log_of (S.words store.now) }
+    requires entry { before < capacity_of (S.words store.now) }
+    ensures { OnOk result (text.new.items ≡ text.old.items
+        ++ entry_text platform.now (S.words store.now) (before + 1)) }
+{
+    let _ = store.size(); // so that the proof knows that there are fewer than 65,536 words
+    let at = log.address_word(before);
+    let address = store.read(at);
+    push_labelled(text, b"entry ", before + 1, b": word ")?;
+    push_labelled(text, b"", address, b" was ")?;
+    push_found(
+        alloc,
+        text,
+        platform,
+        store,
+        holder_of(store, address),
+        store.read(at + 1),
+    )
+}
+
+// Writes the old value, and the cell that stands in the word.
+fn push_found<S: WordStore>(
+    alloc: Global,
+    text: &mut Vec<u8>,
+    platform: &Platform,
+    store: &S,
+    found: Option<Holder>,
+    old: u16,
+) -> Result<(), AllocError>
+    requires { text_start ≤ length (S.words store.now) }
+    ensures { OnOk result (text.new.items ≡ text.old.items
+        ++ found_text platform.now (S.words store.now) found old) }
+{
+    match found {
+        Some(holder) => push_cell(alloc, text, platform, store, holder, old),
+        None => push_labelled(text, b"", old, b"\n"),
+    }
+}
+
+// Writes the old value of a cell, and which it is.
+fn push_cell<S: WordStore>(
+    alloc: Global,
+    text: &mut Vec<u8>,
+    platform: &Platform,
+    store: &S,
+    holder: Holder,
+    old: u16,
+) -> Result<(), AllocError>
+    requires { text_start ≤ length (S.words store.now) }
+    ensures { OnOk result (text.new.items ≡ text.old.items
+        ++ cell_text platform.now (S.words store.now) holder old) }
+{
+    push_value(alloc, text, is_packed(holder.facts), old)?;
+    push_labelled(text, b" @", holder.object, b" ")?;
+    push_kind(
+        alloc,
+        text,
+        platform,
+        store,
+        holder.facts.kind,
+        holder.facts.class(),
+    )?;
+    push_labelled(text, b" [", holder.cell, b"]\n")
+}
+
+// Writes a word: two elements in hexadecimal, or a number.
+fn push_value(alloc: Global, text: &mut Vec<u8>, packed: bool, word: u16) -> Result<(), AllocError>
+    ensures { OnOk result (text.new.items ≡ text.old.items ++ value_text packed word) }
+{
+    if packed {
+        return push_word(alloc, text, word);
+    }
+    push_number(text, word)
+}

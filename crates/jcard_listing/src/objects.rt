@@ -1,0 +1,281 @@
+//! The lines of the objects.
+ghost use Rattle.std.specs.Prelude.{◌≡◌, ◌<◌, ◌≤◌, ◌+◌, ◌++◌, ◌&&◌, ◌==◌, Some, None, true, false, length, slice_index, IfSome, Option, OnOk};
+ghost use Rattle.jc_words.specs.Layout.{text_start};
+ghost use Rattle.jc_heap.specs.Object.{cells_of};
+ghost use Rattle.jc_cap_linkage.specs.Packages.{NamedPackage};
+ghost use Rattle.jc_image.specs.Listed.{NamedApplet};
+ghost use Rattle.jc_records.specs.Bounds.{has_bounds};
+ghost use Rattle.jc_records.specs.Records.{IsRecord, item_at, object_in};
+ghost use Rattle.jcard_listing.specs.Fault.{Lists};
+ghost use Rattle.jcard_listing.specs.Objects.{applet_name, area_text, behind_text, cell_text, contents_text, header_text, is_pin, is_told, item_text, object_text, objects_lines, owner_text, package_name, pin_text};
+
+use crate::fault::ListFault;
+use crate::texts::{push_hex, push_labelled, push_number, push_reference};
+use jc_heap::{Facts, Kind};
+use jc_image::{AppletName, PackageName, applet_at, package_at};
+use jc_platform::names::PlatformClass;
+use jc_platform::platform::Platform;
+use jc_records::bounds::first_record;
+use jc_records::records::{cell_of, object_at, whole_size};
+use jc_transient::{ClearEvent, OwnerWord};
+use jc_words::WordStore;
+use jc_words::layout::TOP;
+use jcard_objects::class_texts::push_kind;
+use std::alloc::{AllocError, Global};
+
+/// The first owner word that names a package.
+const FIRST_PACKAGE: u16 = 256;
+
+/// How many cells an OwnerPIN has.
+const PIN_CELLS: u16 = 5;
+
+/// Writes the line of each object, up to the first record that lacks words. Those of the runtime environment are told
+/// where all are asked for.
+pub(crate) fn push_objects<S: WordStore>(
+    alloc: Global,
+    text: &mut Vec<u8>,
+    platform: &Platform,
+    store: &S,
+    all: bool,
+) -> Result<(), ListFault>
+    requires { has_bounds (S.words store.now) ≡ true }
+    ensures { Lists text.old.items text.new.items
+        (objects_lines platform.now (S.words store.now) all) result }
+{
+    let _ = store.size(); // so that the proof knows that there are fewer than 65,536 words
+    let top = store.read(TOP);
+    let mut at = first_record(store) as u16;
+    while at < top {
+        let Some(size) = whole_size(store, at, top) else {
+            return Err(ListFault::Unreadable);
+        };
+        push_item(alloc, text, platform, store, at, all)?;
+        at += size;
+    }
+    Ok(())
+}
+
+// Writes the line of what stands at an address, if it is an object that is told.
+fn push_item<S: WordStore>(
+    alloc: Global,
+    text: &mut Vec<u8>,
+    platform: &Platform,
+    store: &S,
+    at: u16,
+    all: bool,
+) -> Result<(), AllocError>
+    requires bounds { has_bounds (S.words store.now) ≡ true }
+    requires record { IsRecord (S.words store.now) at }
+    ensures { OnOk result (text.new.items ≡ text.old.items
+        ++ item_text platform.now (S.words store.now) all (at, item_at (S.words store.now) at)) }
+{
+    match object_at(store, at) {
+        Some(facts) if is_told(facts, all) => push_object(alloc, text, platform, store, at, facts),
+        _ => Ok(()),
+    }
+}
+
+// Whether an object is told.
+fn is_told(facts: Facts, all: bool) -> bool
+    ensures { result ≡ is_told facts all }
+{
+    all || facts.owner().0 != 0
+}
+
+// Writes the line of an object.
+fn push_object<S: WordStore>(
+    alloc: Global,
+    text: &mut Vec<u8>,
+    platform: &Platform,
+    store: &S,
+    at: u16,
+    facts: Facts,
+) -> Result<(), AllocError>
+    requires bounds { has_bounds (S.words store.now) ≡ true }
+    requires record { IsRecord (S.words store.now) at }
+    requires object { object_in (item_at (S.words store.now) at) ≡ Some facts }
+    requires cells { facts.event ≡ None
+        → length (cells_of (item_at (S.words store.now) at)) ≡ facts.length }
+    ensures { OnOk result (text.new.items ≡ text.old.items
+        ++ object_text platform.now (S.words store.now) at facts
+        (cells_of (item_at (S.words store.now) at))) }
+{
+    push_header(alloc, text, platform, store, at, facts)?;
+    push_behind(alloc, text, platform, store, at, facts)?;
+    text.extend_from_slice(b"\n")?;
+    Ok(())
+}
+
+// Writes the cells of an object, or where they are.
+fn push_behind<S: WordStore>(
+    alloc: Global,
+    text: &mut Vec<u8>,
+    platform: &Platform,
+    store: &S,
+    at: u16,
+    facts: Facts,
+) -> Result<(), AllocError>
+    requires bounds { has_bounds (S.words store.now) ≡ true }
+    requires record { IsRecord (S.words store.now) at }
+    requires object { object_in (item_at (S.words store.now) at) ≡ Some facts }
+    requires cells { facts.event ≡ None
+        → length (cells_of (item_at (S.words store.now) at)) ≡ facts.length }
+    ensures { OnOk result (text.new.items ≡ text.old.items
+        ++ behind_text platform.now facts facts.event (cells_of (item_at (S.words store.now) at))) }
+{
+    match facts.event {
+        Some(event) => push_area(text, event, facts.place),
+        None => push_contents(alloc, text, platform, store, at, facts),
+    }
+}
+
+// Writes the address, the class, the owner and the length.
+fn push_header<S: WordStore>(
+    alloc: Global,
+    text: &mut Vec<u8>,
+    platform: &Platform,
+    store: &S,
+    at: u16,
+    facts: Facts,
+) -> Result<(), AllocError>
+    requires { text_start ≤ length (S.words store.now) }
+    ensures { OnOk result (text.new.items ≡ text.old.items
+        ++ header_text platform.now (S.words store.now) at facts) }
+{
+    push_labelled(text, b"@", at, b" ")?;
+    push_kind(alloc, text, platform, store, facts.kind, facts.class())?;
+    text.extend_from_slice(b" of ")?;
+    push_owner(alloc, text, store, facts.owner())?;
+    push_labelled(text, b", length ", facts.length, b"")
+}
+
+// Writes an owner.
+fn push_owner<S: WordStore>(
+    alloc: Global,
+    text: &mut Vec<u8>,
+    store: &S,
+    owner: OwnerWord,
+) -> Result<(), AllocError>
+    requires { text_start ≤ length (S.words store.now) }
+    ensures { OnOk result (text.new.items ≡ text.old.items ++ owner_text (S.words store.now) owner) }
+{
+    let number = owner.0;
+    if number == 0 {
+        return text.extend_from_slice(b"environment");
+    }
+    if number < FIRST_PACKAGE {
+        text.extend_from_slice(b"applet ")?;
+        return push_applet_name(alloc, text, applet_at(store, number), number);
+    }
+    text.extend_from_slice(b"package ")?;
+    let package = number - FIRST_PACKAGE;
+    push_package_name(alloc, text, package_at(store, package), package)
+}
+
+// Writes the AID of an applet, or its number where none is told.
+fn push_applet_name(
+    alloc: Global,
+    text: &mut Vec<u8>,
+    found: Option<AppletName>,
+    number: u16,
+) -> Result<(), AllocError>
+    ensures { OnOk result (text.new.items ≡ text.old.items ++ applet_name found number) }
+{
+    match found {
+        Some(named) => push_hex(alloc, text, named.aid()),
+        None => push_number(text, number),
+    }
+}
+
+// Writes the AID of a package, or its number where none is told.
+fn push_package_name(
+    alloc: Global,
+    text: &mut Vec<u8>,
+    found: Option<PackageName>,
+    number: u16,
+) -> Result<(), AllocError>
+    ensures { OnOk result (text.new.items ≡ text.old.items ++ package_name found number) }
+{
+    match found {
+        Some(named) => push_hex(alloc, text, named.aid()),
+        None => push_number(text, number),
+    }
+}
+
+// Writes where the cells of a transient object are.
+fn push_area(text: &mut Vec<u8>, event: ClearEvent, place: u16) -> Result<(), AllocError>
+    ensures { OnOk result (text.new.items ≡ text.old.items ++ area_text event place) }
+{
+    match event {
+        ClearEvent::Reset => push_labelled(text, b", reset area from ", place, b""),
+        ClearEvent::Deselect => push_labelled(text, b", deselect area from ", place, b""),
+    }
+}
+
+// Writes the cells of a persistent object.
+fn push_contents<S: WordStore>(
+    alloc: Global,
+    text: &mut Vec<u8>,
+    platform: &Platform,
+    store: &S,
+    at: u16,
+    facts: Facts,
+) -> Result<(), AllocError>
+    requires bounds { has_bounds (S.words store.now) ≡ true }
+    requires record { IsRecord (S.words store.now) at }
+    requires object { object_in (item_at (S.words store.now) at) ≡ Some facts }
+    requires cells { length (cells_of (item_at (S.words store.now) at)) ≡ facts.length }
+    ensures { OnOk result (text.new.items ≡ text.old.items
+        ++ contents_text platform.now facts (cells_of (item_at (S.words store.now) at))) }
+{
+    if is_pin(platform, facts) {
+        return push_pin(text, store, at, facts);
+    }
+    text.extend_from_slice(b":")?;
+    for i in 0..facts.length {
+        push_cell(alloc, text, facts.kind, cell_of(store, at, facts, i))?;
+    }
+    Ok(())
+}
+
+// Whether an object is an OwnerPIN.
+fn is_pin(platform: &Platform, facts: Facts) -> bool
+    ensures { result ≡ is_pin platform.now facts }
+{
+    matches!(facts.kind, Kind::Instance)
+        && facts.length == PIN_CELLS
+        && facts.class() == platform.class_word(PlatformClass::OwnerPin)
+}
+
+// Writes the fields of an OwnerPIN.
+fn push_pin<S: WordStore>(
+    text: &mut Vec<u8>,
+    store: &S,
+    at: u16,
+    facts: Facts,
+) -> Result<(), AllocError>
+    requires bounds { has_bounds (S.words store.now) ≡ true }
+    requires record { IsRecord (S.words store.now) at }
+    requires object { object_in (item_at (S.words store.now) at) ≡ Some facts }
+    requires cells { length (cells_of (item_at (S.words store.now) at)) ≡ 5 }
+    ensures { OnOk result (text.new.items ≡ text.old.items
+        ++ pin_text (cells_of (item_at (S.words store.now) at))) }
+{
+    push_labelled(text, b": tries ", cell_of(store, at, facts, 2), b" of ")?;
+    push_labelled(text, b"", cell_of(store, at, facts, 0), b", length ")?;
+    push_labelled(text, b"", cell_of(store, at, facts, 3), b" of ")?;
+    push_labelled(text, b"", cell_of(store, at, facts, 1), b", value ")?;
+    push_reference(text, cell_of(store, at, facts, 4))
+}
+
+// Writes a cell of an object of this kind.
+fn push_cell(alloc: Global, text: &mut Vec<u8>, kind: Kind, cell: u16) -> Result<(), AllocError>
+    ensures { OnOk result (text.new.items ≡ text.old.items ++ cell_text kind cell) }
+{
+    text.extend_from_slice(b" ")?;
+    match kind {
+        Kind::BooleanArray | Kind::ByteArray => push_hex(alloc, text, &[(cell % 256) as u8]),
+        Kind::ReferenceArray => push_reference(text, cell),
+        Kind::Instance | Kind::ShortArray => push_number(text, cell),
+    }
+}
