@@ -9,6 +9,8 @@ const PACKAGES: usize = 6;
 const APPLETS: usize = 7;
 const AREAS: [usize; 2] = [8, 9];
 const TEXT_LENGTH: usize = 10;
+const CAPACITY: usize = 11;
+const JOURNAL: usize = 12;
 const ENTRIES: usize = 16;
 const ADDRESSES: usize = 528;
 const REGISTRY: usize = 560;
@@ -51,19 +53,43 @@ pub struct Card {
     pub marks: Vec<bool>,
 }
 
-fn recover(words: &mut [u16]) -> Result<(), u8> {
+/// Where a journal's entries begin, how many there can be, and where the heap ends.
+struct Journal {
+    start: usize,
+    capacity: usize,
+    limit: usize,
+}
+
+/// The journal that the first words tell.
+fn journal_of(words: &[u16]) -> Result<Journal, u8> {
+    if words[1] == 1 {
+        return Ok(Journal { start: ENTRIES, capacity: 256, limit: words.len() });
+    }
+    let capacity = usize::from(words[CAPACITY]);
+    if !(16..=1024).contains(&capacity) {
+        return Err(SIZE);
+    }
+    let (start, limit) = if capacity > 256 { (words.len() - 2 * capacity, words.len() - 2 * capacity) } else { (ENTRIES, words.len()) };
+    if usize::from(words[JOURNAL]) == start { Ok(Journal { start, capacity, limit }) } else { Err(SIZE) }
+}
+
+/// Takes back what the journal's entries tell, and makes an image of version 1 one of version 2.
+fn recover(journal: &Journal, words: &mut [u16]) -> Result<(), u8> {
     let count = usize::from(words[COUNT]);
-    if count > 256 {
+    if count > journal.capacity {
         return Err(LOG);
     }
-    let names_a_word = |at: u16| (5..10).contains(&at) || usize::from(at) >= ADDRESSES && usize::from(at) < words.len();
-    if !(0..count).all(|entry| names_a_word(words[ENTRIES + 2 * entry])) {
+    let names_a_word = |at: u16| (5..10).contains(&at) || (ADDRESSES..journal.limit).contains(&usize::from(at));
+    if !(0..count).all(|entry| names_a_word(words[journal.start + 2 * entry])) {
         return Err(LOG);
     }
     for entry in (0..count).rev() {
-        words[usize::from(words[ENTRIES + 2 * entry])] = words[ENTRIES + 2 * entry + 1];
+        words[usize::from(words[journal.start + 2 * entry])] = words[journal.start + 2 * entry + 1];
     }
     words[COUNT] = 0;
+    if words[1] == 1 {
+        (words[CAPACITY], words[JOURNAL], words[1]) = (256, ENTRIES as u16, 2);
+    }
     Ok(())
 }
 
@@ -316,14 +342,15 @@ pub fn power_up(words: &mut [u16]) -> Result<Card, u8> {
     if words[0] != 0x4A43 {
         return Err(MAGIC);
     }
-    if words[1] != 1 {
+    if !matches!(words[1], 1 | 2) {
         return Err(VERSION);
     }
     if words.len() < 4096 || usize::from(words[2]) != words.len() {
         return Err(SIZE);
     }
-    recover(words)?;
-    let words = &*words;
+    let journal = journal_of(words)?;
+    recover(&journal, words)?;
+    let words = &words[..journal.limit];
     let text_length = usize::from(words[TEXT_LENGTH]);
     let first = TEXT + text_length.div_ceil(2);
     if text_length > 16384 || first > words.len() {
