@@ -36,10 +36,9 @@ class Converted:
         """The export file, or None where other packages can name nothing."""
         return export_file.Writer(self.package).content if self.package.exports else None
 
-
     def map(self):
         """Where the methods stand in the Method component, as tools/cap2script --map tells it."""
-        return map_text({offset: told_method(*method) for method, offset in self.methods.items()})
+        return map_text(self.request.aid, {offset: told_method(*method) for method, offset in self.methods.items()})
 
 
 def read_classes(folder):

@@ -4,8 +4,8 @@ from .refusal import Refusal, class_name
 OBJECT = "java/lang/Object"
 APPLET = "javacard/framework/Applet"
 SHAREABLE = "javacard/framework/Shareable"
-LANG, FRAMEWORK = "java/lang", "javacard/framework"
-CONSTANTS_ALONE = "javacard/framework/ISO7816"  # an interface that no card has, since nothing of it is left in the code
+LANG, FRAMEWORK, APDU = "java/lang", "javacard/framework", "javacardx/apdu"
+CONSTANTS_ALONE = "javacard/framework/ISO7816"  # an interface of which nothing is left in the code that is made
 
 
 class PackageInfo:

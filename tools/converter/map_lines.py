@@ -11,6 +11,6 @@ def told_method(owner, name, descriptor):
     return ascii(told)[1:-1].replace(" ", "")
 
 
-def map_text(names):
-    """The lines for names by their offsets in the Method component."""
-    return "".join(f"{offset} {name}\n" for offset, name in sorted(names.items()))
+def map_text(aid, names):
+    """The lines for a package's names by their offsets in the Method component, behind one that tells its AID."""
+    return f"package {aid.hex().upper()}\n" + "".join(f"{offset} {name}\n" for offset, name in sorted(names.items()))

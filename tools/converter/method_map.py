@@ -111,12 +111,12 @@ def component(contents, tag, name, reader):
         raise Refusal(f"{name}.cap: {fault}") from None
 
 
-def map_of(contents, exports):
-    """The lines of the map, each an offset in the Method component and a name."""
+def map_of(aid, contents, exports):
+    """The lines of the map of a package: its AID, and for each method an offset in the Method component and a name."""
     debug, descriptor = component(contents, cap.DEBUG, "Debug", Debug), component(contents, cap.DESCRIPTOR, "Descriptor", Descriptor)
     if debug is None and descriptor is None:
         raise Refusal("the CAP file has neither a Descriptor nor a Debug component")
     names = ExportedNames(contents, exports)
     found = {offset: names.name(offset, *more) for offset, *more in descriptor.methods} if descriptor else {}
     found.update(debug.methods if debug else {})
-    return map_text(found)
+    return map_text(aid, found)

@@ -1,25 +1,35 @@
 """The packages of the platform, with the numbers of a platform table.
 
-The stubs tell what the classes and methods of javacard.framework look like, and the table tells which of them a card has, and
+The stubs tell what the classes and methods of packages but java.lang look like, and the table tells which of them a card has, and
 by which numbers."""
+import functools
 import glob
 import os
 import re
 
-from .library import FRAMEWORK, LANG, Classes, ClassInfo, PackageInfo
-from .refusal import Refusal
+from .library import APDU, FRAMEWORK, LANG, Classes, ClassInfo, PackageInfo
+from .refusal import Refusal, class_name
 
 HERE = os.path.dirname(os.path.realpath(__file__))
 STUBS = os.path.join(HERE, "stubs")
-EXAMPLE = os.path.join(HERE, "../../examples/platform.table")  # has the names that each table has
-NAMES = {"A0000000620001": LANG, "A0000000620101": FRAMEWORK}
+NEEDED = os.path.join(HERE, "../../examples/platform.table")  # has the names that each table has
+ALLOWED = os.path.join(HERE, "../../examples/extended.table")  # has all names that an extended table may have
+EXTENDED = "extended"  # the first line of such a table
+LONGEST_TABLE = 16384  # bytes
+LARGEST_NUMBER, LARGEST_VIRTUAL = 255, 127
+NAMES = {"A0000000620001": LANG, "A0000000620101": FRAMEWORK, "A0000000620209": APDU}
 # The classes of java.lang that stand above others than RuntimeException.
 ABOVE = {
     "Object": None, "Throwable": "Object", "Exception": "Throwable", "RuntimeException": "Exception",
     "ArrayIndexOutOfBoundsException": "IndexOutOfBoundsException",
 }
 LANG_METHODS = {"<init>": ("<init>", "()V"), "equals": ("equals", "(Ljava/lang/Object;)Z")}
-ALIASES = {"registerBytes": ("register", "([BSB)V"), "equalsBytes": ("equals", "([BSB)Z")}
+# The words of a table for the second of two methods of one name.
+ALIASES = {
+    ("Applet", "registerBytes"): ("register", "([BSB)V"), ("AID", "equalsBytes"): ("equals", "([BSB)Z"),
+    ("JCSystem", "getAvailableMemoryShorts"): ("getAvailableMemory", "([SSB)V"),
+    ("UserException", "<init>WithoutReason"): ("<init>", "()V"),
+}
 LETTERS = {"void": "V", "byte": "B", "short": "S", "boolean": "Z"}
 CLASS = re.compile(r"public (?:final |abstract )*(class|interface) (\w+)(?: extends (\w+))?(?: implements (\w+))? \{")
 METHOD = re.compile(r"^    ((?:public |protected |private |static |final |abstract )*)(?:([\w\[\]]+) )?(\w+)\(([^)]*)\)[^;{]*[;{]", re.M)
@@ -27,9 +37,7 @@ METHOD = re.compile(r"^    ((?:public |protected |private |static |final |abstra
 
 def name_of(word):
     """A class's name as a stub calls it."""
-    if word == "Object" or word in ABOVE:
-        return f"{LANG}/{word}"
-    return f"{FRAMEWORK}/{word}"
+    return f"{LANG if word in ABOVE else APDU if word == 'ExtendedLength' else FRAMEWORK}/{word}"
 
 
 def descriptor_of(word):
@@ -57,8 +65,9 @@ class Stub:
 
 
 def read_stubs():
+    """The stubs by the words for their classes, of which no two have one."""
     stubs = {}
-    for path in sorted(glob.glob(os.path.join(STUBS, FRAMEWORK, "*.java"))):
+    for path in sorted(glob.glob(os.path.join(STUBS, "*/*/*.java"))):
         with open(path, encoding="utf-8") as file:
             stub = Stub(file.read())
         stubs[stub.word] = stub
@@ -66,20 +75,44 @@ def read_stubs():
 
 
 class Table:
-    """Makes packages of the lines of a platform table."""
+    """Makes packages of the lines of a platform table. What the card refuses as a line raises ValueError or KeyError."""
 
-    def __init__(self, path):
-        self.path, self.stubs, self.packages, self.info = path, read_stubs(), [], None
+    def __init__(self):
+        self.stubs, self.packages, self.info = read_stubs(), [], None
+        self.is_extended, self.tokens = False, set()
+        self.free = set(names_of(NEEDED))  # the names that may stand in the lines to come
 
     def line(self, words):
-        kind, *rest = words
-        if kind == "package":
-            aid, major, minor = rest
-            self.packages.append(PackageInfo(NAMES[aid], bytes.fromhex(aid), (int(major), int(minor))))
-        elif kind == "class":
-            self.add_class(int(rest[0]), rest[1])
+        """Takes a line, and answers what it names."""
+        if words == [EXTENDED] and not self.packages and not self.is_extended:
+            self.is_extended, self.free = True, set(names_of(ALLOWED))
+            return None
+        if words[0] == "package":
+            return self.package_line(*words)
+        kind, number, word = words
+        name, token = self.take(kind, word), number_of(number)
+        if (*name[:3], token) in self.tokens or kind in ("virtual", "interface") and token > LARGEST_VIRTUAL:
+            raise ValueError
+        self.tokens.add((*name[:3], token))
+        if kind == "class":
+            self.add_class(token, word)
         else:
-            self.add_method(kind, int(rest[0]), rest[1])
+            self.add_method(kind, token, word)
+        return name
+
+    def package_line(self, kind, aid, major, minor):
+        self.info, name = None, self.take(kind, aid)
+        if NAMES[aid] == APDU and len(self.packages) < 2:  # it stands behind both others
+            raise ValueError
+        self.packages.append(PackageInfo(NAMES[aid], bytes.fromhex(aid), (number_of(major), number_of(minor))))
+        return name
+
+    def take(self, kind, word):
+        """A name, which may stand once."""
+        home = self.packages[-1].name if kind != "package" and self.packages else None
+        owner = self.info.name if kind not in ("package", "class") and self.info else None
+        self.free.remove((home, owner, kind, word))
+        return home, owner, kind, word
 
     def add_class(self, token, word):
         package = self.packages[-1]
@@ -98,47 +131,80 @@ class Table:
         methods[self.key(kind, word)] = token
 
     def key(self, kind, word):
-        if word in ALIASES:
-            return ALIASES[word]
+        """The name and the descriptor of a method of the class."""
+        owner = self.info.name.rpartition("/")[2]
+        if (owner, word) in ALIASES:
+            return ALIASES[owner, word]
         if self.info.package.name == LANG:
             return LANG_METHODS[word]
+        others = [key for (each, _), key in ALIASES.items() if each == owner]
         found = [
-            key for key, is_static in self.stubs[self.info.name.rpartition("/")[2]].methods
-            if key[0] == word and is_static == (kind == "static") and key not in ALIASES.values()]
+            key for key, is_static in self.stubs[owner].methods if key[0] == word and is_static == (kind == "static") and key not in others]
         return found[0]
+
+    def missing(self):
+        """The names that each table has and that do not stand."""
+        return [name for name in names_of(NEEDED) if name in self.free]
+
+
+def number_of(word):
+    if not re.fullmatch("[0-9]+", word) or int(word) > LARGEST_NUMBER:
+        raise ValueError
+    return int(word)
 
 
 def lines_of(path):
+    """The lines of a text; the last one is empty, unless no line feed ends it."""
     try:
-        with open(path, encoding="ascii") as file:
-            return file.read().splitlines()
+        with open(path, encoding="ascii", newline="") as file:
+            return file.read().split("\n")
     except (OSError, UnicodeDecodeError) as error:
         raise Refusal(f"cannot read {path}: {getattr(error, 'strerror', 'it is no text')}") from None
 
 
-def names_of(lines):
-    """What the lines of a table name, without numbers and in any order."""
+@functools.cache
+def names_of(path):
+    """What the lines of a table name: each the package, the class, the keyword and the word; None where one does not count."""
     package = info = None
     found = []
-    for kind, *words in (line.split() for line in lines):
+    for kind, *words in (line.split() for line in lines_of(path) if line not in ("", EXTENDED)):
         if kind == "package":
-            package = words[0]
+            package, info = NAMES[words[0]], None
+            found.append((None, None, kind, words[0]))
         elif kind == "class":
-            info = words[1]
-        found.append((package,) if kind == "package" else (package, info, kind, words[1]))
-    return sorted(found)
+            info = f"{package}/{words[1]}"
+            found.append((package, None, kind, words[1]))
+        else:
+            found.append((package, info, kind, words[1]))
+    return found
+
+
+def read_lines(path):
+    """The lines of a platform table, and what they tell; one that the card refuses is refused."""
+    *lines, rest = lines_of(path)
+    if sum(len(line) + 1 for line in lines) + len(rest) > LONGEST_TABLE:
+        raise Refusal(f"{path} is no platform table: it has more than {LONGEST_TABLE} bytes")
+    table = Table()
+    for number, line in enumerate(lines, 1):
+        try:
+            table.line(line.split(" "))
+        except (KeyError, ValueError, TypeError):
+            raise Refusal(f"{path}: line {number} is no line of a platform table") from None
+    if rest:
+        raise Refusal(f"{path}: line {len(lines) + 1} is ended by no line feed")
+    missing = table.missing()
+    if missing:
+        more = f" and {len(missing) - 1} more" if len(missing) > 1 else ""
+        raise Refusal(f"{path} is no platform table: it lacks the name {told_name(*missing[0])}{more}")
+    return lines, table
+
+
+def told_name(package, owner, kind, word):
+    return f"{kind} {word}" + (f" of {class_name(owner or package)}" if owner or package else "")
 
 
 def read_table(path):
     """The packages of a platform table."""
-    lines = lines_of(path)
-    table = Table(path)
-    for number, line in enumerate(lines, 1):
-        try:
-            table.line(line.split(" "))
-        except (KeyError, ValueError, IndexError, AttributeError):
-            raise Refusal(f"{path}: line {number} is no line of a platform table") from None
-    if names_of(lines) != names_of(lines_of(EXAMPLE)):
-        raise Refusal(f"{path} is no platform table: it lacks names, or has some twice")
+    table = read_lines(path)[1]
     Classes(table.packages).set_ends()
     return table.packages

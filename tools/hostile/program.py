@@ -93,9 +93,9 @@ class Program:
             raise Failed(f"it ends by {ended}")
         return printed, ended
 
-    def tried(self, lines):
+    def tried(self, lines, table=TABLE):
         """The answers of a card in memory to lines, all of which have a form."""
-        answers, ended = self.answers(lines, "try", None, "--table", TABLE)
+        answers, ended = self.answers(lines, "try", None, "--table", table)
         if ended is not None:
             raise Failed(f"it ends by {ended}")
         return answers

@@ -5,6 +5,7 @@ use Rattle.jc_transient.specs.State.{buffer_size}
 use Rattle.jc_frames.specs.declared.cell.Cell.{Cell}
 use Rattle.jc_frames.specs.declared.cell.Cell.TheVariants.{Reference}
 use Rattle.jc_frames.specs.Reasons.{bad_length, buffer_bounds, illegal_use}
+use Rattle.jc_frames.specs.declared.outcome.Exception.TheVariants.{SecurityException}
 use Rattle.jc_frames.specs.declared.outcome.FrameExit.{FrameExit}
 use Rattle.jc_frames.specs.declared.outcome.FrameExit.TheVariants.{Throw}
 use Rattle.jc_memory.specs.declared.registers.ApduPhase.{ApduPhase}
@@ -13,15 +14,28 @@ use Rattle.jc_memory.specs.declared.registers.Registers.{Registers}
 use Rattle.jc_memory.specs.State.{MemoryState, SetRegisters, SendBytes}
 use Rattle.jc_memory.specs.Programs.{Perform, bind}
 use Rattle.jc_memory.specs.Cells.{bytes_at, cells_refusal, cells_effect}
+use Rattle.jc_linker.specs.Values.{Packages}
 use Rattle.jc_platform.specs.declared.names.PlatformMethod.{PlatformMethod}
 use Rattle.jc_platform.specs.declared.names.PlatformMethod.TheVariants.{ApduGetBuffer, ApduReceiveBytes, ApduSendBytes, ApduSetIncomingAndReceive}
-use Rattle.jc_platform.specs.declared.names.PlatformMethod.TheVariants.{ApduSetOutgoing, ApduSetOutgoingAndSend, ApduSetOutgoingLength}
+use Rattle.jc_platform.specs.declared.names.PlatformMethod.TheVariants.{ApduSetOutgoing, ApduSetOutgoingAndSend, ApduSetOutgoingLength, ApduGetIncomingLength}
+use Rattle.jc_platform.specs.declared.names.PlatformMethod.TheVariants.{ApduGetOffsetCdata, ApduSendBytesLong, ApduGetCurrentState, ApduGetProtocol, ApduGetNad}
+use Rattle.jc_platform.specs.declared.names.PlatformMethod.TheVariants.{ApduGetClaChannel, ApduGetInBlockSize, ApduGetOutBlockSize, ApduIsIsoInterindustryCla}
+use Rattle.jc_platform.specs.declared.names.PlatformMethod.TheVariants.{ApduIsCommandChainingCla, ApduIsSecureMessagingCla, ApduIsValidCla}
+use Rattle.jc_platform.specs.declared.names.PlatformMethod.TheVariants.{ApduSetOutgoingNoChaining, ApduWaitExtension, ApduGetCurrentApdu}
+use Rattle.jc_platform.specs.declared.names.PlatformMethod.TheVariants.{ApduGetCurrentApduBuffer}
 use Rattle.jc_world.specs.declared.native_result.NativeResult.TheVariants.{ReturnVoid, ReturnValue}
 use Rattle.jc_world.specs.NativeCalls.{NativeProgram, return_value, throw_exception, code_fault, if_some, if_ok, unless}
 use Rattle.jc_world.specs.Objects.{short_argument}
 use Rattle.jc_world.specs.Answers.{returns_short}
+use Rattle.jc_world.specs.declared.arrays.Stretch.{Stretch}
+use Rattle.jc_world.specs.Arrays.{bytes_in}
 use Rattle.jc_api_data.specs.declared.apdu_send.Piece.{Piece}
 use Rattle.jc_api_data.specs.ApduBuffer.{buffer_of, data_of}
+use Rattle.jc_api_data.specs.ApduCurrent.{has_command, apdu_object}
+use Rattle.jc_api_data.specs.ApduQueries.{apdu_get_incoming_length, apdu_get_offset_cdata, apdu_get_current_state, apdu_get_protocol, apdu_get_nad}
+use Rattle.jc_api_data.specs.ApduQueries.{apdu_get_in_block_size, apdu_get_out_block_size, apdu_is_iso_interindustry_cla, apdu_is_command_chaining_cla}
+use Rattle.jc_api_data.specs.ApduQueries.{apdu_is_secure_messaging_cla, apdu_is_valid_cla, apdu_get_cla_channel}
+use Rattle.jc_api_data.specs.OwnerPinArguments.{array_arguments, argument_bytes}
 
 abbrev pub phase_of : MemoryState → ApduPhase
 phase_of m = m.registers.apdu.phase
@@ -125,14 +139,60 @@ then_call m first next = bind (first m) m (λ answer v. if_ok answer (λ a. next
 unfoldable pub apdu_set_outgoing_and_send : ℤ → ℤ → MemoryState → NativeProgram
 apdu_set_outgoing_and_send start count m = then_call m apdu_set_outgoing (λ v. then_call v (apdu_set_outgoing_length count) (apdu_send_bytes start count))
 
--- what a call of a method of APDU may do
-unfoldable pub apdu_call : PlatformMethod → List Cell → MemoryState → NativeProgram
-apdu_call ApduGetBuffer args m = apdu_get_buffer m
-apdu_call ApduReceiveBytes args m = if_some (short_argument args 1) (λ start. apdu_receive_bytes (phase_of m))
-apdu_call ApduSendBytes args m = if_some (short_argument args 1) (λ start. if_some (short_argument args 2) (λ count. apdu_send_bytes start count m))
-apdu_call ApduSetIncomingAndReceive args m = apdu_set_incoming_and_receive m
-apdu_call ApduSetOutgoing args m = apdu_set_outgoing m
-apdu_call ApduSetOutgoingAndSend args m = if_some (short_argument args 1) (λ start. if_some (short_argument args 2)
+-- sendBytesLong, by how far the command has come
+abbrev pub send_elements_in_phase : MemoryState → ApduPhase → Stretch → NativeProgram
+send_elements_in_phase m Waiting e = throw_exception illegal_use
+send_elements_in_phase m Received e = throw_exception illegal_use
+send_elements_in_phase m Outgoing e = throw_exception illegal_use
+send_elements_in_phase m (Sending left) e =
+    if is_too_much m left (pos e.count) then throw_exception illegal_use
+    else Perform (SendBytes (bytes_in m e)) (with_phase_set m (Sending (left - e.count)) (return_value ReturnVoid))
+
+-- APDU.sendBytesLong: elements of an array of bytes are sent, no more than are left
+unfoldable pub apdu_send_bytes_long : List Cell → Packages → MemoryState → NativeProgram
+apdu_send_bytes_long args p m = if_ok (array_arguments args m) (λ given. if_ok (argument_bytes given p m) (λ e. send_elements_in_phase m (phase_of m) e))
+
+-- the code that runs asks for its command; else the call throws
+abbrev pub if_own_command : MemoryState → NativeProgram → NativeProgram
+if_own_command m answer = if has_command m then answer else throw_exception SecurityException
+
+-- APDU.getCurrentAPDU: the APDU object, within process of the selected applet
+unfoldable pub apdu_get_current_apdu : MemoryState → NativeProgram
+apdu_get_current_apdu m = if_own_command m (if_some (apdu_object m) (λ apdu. return_value (ReturnValue (Reference apdu))))
+
+-- APDU.getCurrentAPDUBuffer: the APDU buffer, within process of the selected applet
+unfoldable pub apdu_get_current_apdu_buffer : MemoryState → NativeProgram
+apdu_get_current_apdu_buffer m = if_own_command m (apdu_get_buffer m)
+
+-- APDU.waitExtension: nobody waits
+abbrev pub apdu_wait_extension : NativeProgram
+apdu_wait_extension = return_value ReturnVoid
+
+-- what a call of a method of APDU may do; setOutgoingNoChaining is setOutgoing, since T=0 has no chains of blocks
+unfoldable pub apdu_call : PlatformMethod → List Cell → Packages → MemoryState → NativeProgram
+apdu_call ApduGetBuffer args p m = apdu_get_buffer m
+apdu_call ApduReceiveBytes args p m = if_some (short_argument args 1) (λ start. apdu_receive_bytes (phase_of m))
+apdu_call ApduSendBytes args p m = if_some (short_argument args 1) (λ start. if_some (short_argument args 2) (λ count. apdu_send_bytes start count m))
+apdu_call ApduSetIncomingAndReceive args p m = apdu_set_incoming_and_receive m
+apdu_call ApduSetOutgoing args p m = apdu_set_outgoing m
+apdu_call ApduSetOutgoingAndSend args p m = if_some (short_argument args 1) (λ start. if_some (short_argument args 2)
     (λ count. apdu_set_outgoing_and_send start count m))
-apdu_call ApduSetOutgoingLength args m = if_some (short_argument args 1) (λ count. apdu_set_outgoing_length count m)
-apdu_call _ args m = code_fault
+apdu_call ApduSetOutgoingLength args p m = if_some (short_argument args 1) (λ count. apdu_set_outgoing_length count m)
+apdu_call ApduGetIncomingLength args p m = apdu_get_incoming_length m (phase_of m)
+apdu_call ApduGetOffsetCdata args p m = apdu_get_offset_cdata (phase_of m)
+apdu_call ApduSendBytesLong args p m = apdu_send_bytes_long args p m
+apdu_call ApduGetCurrentState args p m = apdu_get_current_state m (phase_of m)
+apdu_call ApduGetProtocol args p m = apdu_get_protocol
+apdu_call ApduGetNad args p m = apdu_get_nad
+apdu_call ApduGetClaChannel args p m = apdu_get_cla_channel m
+apdu_call ApduGetInBlockSize args p m = apdu_get_in_block_size
+apdu_call ApduGetOutBlockSize args p m = apdu_get_out_block_size
+apdu_call ApduIsIsoInterindustryCla args p m = apdu_is_iso_interindustry_cla m
+apdu_call ApduIsCommandChainingCla args p m = apdu_is_command_chaining_cla m
+apdu_call ApduIsSecureMessagingCla args p m = apdu_is_secure_messaging_cla m
+apdu_call ApduIsValidCla args p m = apdu_is_valid_cla m
+apdu_call ApduSetOutgoingNoChaining args p m = apdu_set_outgoing m
+apdu_call ApduWaitExtension args p m = apdu_wait_extension
+apdu_call ApduGetCurrentApdu args p m = apdu_get_current_apdu m
+apdu_call ApduGetCurrentApduBuffer args p m = apdu_get_current_apdu_buffer m
+apdu_call _ args p m = code_fault

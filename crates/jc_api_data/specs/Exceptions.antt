@@ -1,5 +1,5 @@
 -- Exceptions of the card's framework (API specification): each has a reason, the first cell of its instance.
-use Rattle.std.specs.Prelude.{ℤ, List}
+use Rattle.std.specs.Prelude.{ℤ, pos, List}
 use Rattle.jc_frames.specs.declared.cell.Cell.{Cell}
 use Rattle.jc_frames.specs.declared.outcome.Exception.{Exception}
 use Rattle.jc_frames.specs.declared.outcome.Exception.TheVariants as exception
@@ -14,6 +14,7 @@ use Rattle.jc_platform.specs.declared.names.PlatformMethod.TheVariants.{CardRunt
 use Rattle.jc_platform.specs.declared.names.PlatformMethod.TheVariants.{PinExceptionThrowIt, SystemExceptionInit, SystemExceptionThrowIt}
 use Rattle.jc_platform.specs.declared.names.PlatformMethod.TheVariants.{TransactionExceptionInit, TransactionExceptionThrowIt, ApduExceptionInit}
 use Rattle.jc_platform.specs.declared.names.PlatformMethod.TheVariants.{ApduExceptionThrowIt, UserExceptionInit, UserExceptionThrowIt}
+use Rattle.jc_platform.specs.declared.names.PlatformMethod.TheVariants.{UserExceptionInitWithoutReason}
 use Rattle.jc_world.specs.declared.native_result.NativeResult.TheVariants.{ReturnVoid}
 use Rattle.jc_world.specs.NativeCalls.{NativeProgram, return_value, throw_exception, code_fault, if_some, if_ok, unless}
 use Rattle.jc_world.specs.Objects.{short_argument, reference_argument}
@@ -26,6 +27,11 @@ use Rattle.jc_world.specs.Instances.{instance_at}
 unfoldable pub exception_set_reason : List Cell → MemoryState → NativeProgram
 exception_set_reason args m = if_some (reference_argument args 0) (λ own. if_some (short_argument args 1) (λ reason. if_ok (instance_at m own 1) (λ f.
     unless (cell_refusal m own 0) (Perform (cell_effect m own 0 (cell.Short reason)) (return_value ReturnVoid)))))
+
+-- UserException.<init> without a reason: the reason of the receiver is 0
+unfoldable pub exception_set_no_reason : List Cell → MemoryState → NativeProgram
+exception_set_no_reason args m = if_some (reference_argument args 0) (λ own. if_ok (instance_at m own 1) (λ f.
+    unless (cell_refusal m own 0) (Perform (cell_effect m own 0 (cell.Short (pos 0))) (return_value ReturnVoid))))
 
 -- CardException.getReason, CardRuntimeException.getReason: the reason is returned
 unfoldable pub exception_get_reason : List Cell → MemoryState → NativeProgram
@@ -59,4 +65,5 @@ exception_call ApduExceptionInit args m = exception_set_reason args m
 exception_call ApduExceptionThrowIt args m = exception_throw_it exception.APDUException args
 exception_call UserExceptionInit args m = exception_set_reason args m
 exception_call UserExceptionThrowIt args m = exception_throw_it exception.UserException args
+exception_call UserExceptionInitWithoutReason args m = exception_set_no_reason args m
 exception_call _ args m = code_fault

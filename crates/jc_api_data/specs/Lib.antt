@@ -3,6 +3,9 @@ pub mod Util
 pub mod Objects
 pub mod Exceptions
 pub mod ApduBuffer
-pub mod Apdu
+pub mod ApduClass
+pub mod ApduCurrent
+pub mod ApduQueries
 pub mod OwnerPinArguments
+pub mod Apdu
 pub mod OwnerPin

@@ -1,5 +1,6 @@
 -- OwnerPIN (API specification).
-use Rattle.std.specs.Prelude.{ℕ, ◌==◌, false, List, if◌then◌else◌, Option, Some, None, Result, Ok, Err}
+use Rattle.std.specs.Prelude.{ℕ, pos, ◌==◌, not, false, List, if◌then◌else◌, Option, Some, None, Result, Ok, Err}
+use Rattle.std.specs.Ordering.{int_eq}
 use Rattle.std.specs.Int.{w16, cast_signed}
 use Rattle.jc_transient.specs.State.{flag_of}
 use Rattle.jc_frames.specs.declared.cell.Cell.{Cell}
@@ -7,13 +8,14 @@ use Rattle.jc_frames.specs.declared.cell.Cell.TheVariants.{Short}
 use Rattle.jc_frames.specs.declared.outcome.Exception.{Exception}
 use Rattle.jc_frames.specs.Reasons.{buffer_full, illegal_pin_value, no_resource}
 use Rattle.jc_frames.specs.declared.outcome.FrameExit.{FrameExit}
-use Rattle.jc_memory.specs.State.{MemoryState}
-use Rattle.jc_memory.specs.Programs.{Program, bind}
+use Rattle.jc_memory.specs.State.{MemoryState, SetFlag}
+use Rattle.jc_memory.specs.Programs.{Program, Perform, bind}
 use Rattle.jc_memory.specs.Cells.{bytes_at}
 use Rattle.jc_linker.specs.Values.{Packages}
 use Rattle.jc_platform.specs.declared.names.PlatformMethod.{PlatformMethod}
 use Rattle.jc_platform.specs.declared.names.PlatformMethod.TheVariants.{OwnerPinInit, OwnerPinCheck, OwnerPinGetTriesRemaining, OwnerPinIsValidated}
 use Rattle.jc_platform.specs.declared.names.PlatformMethod.TheVariants.{OwnerPinReset, OwnerPinResetAndUnblock, OwnerPinUpdate}
+use Rattle.jc_platform.specs.declared.names.PlatformMethod.TheVariants.{OwnerPinGetValidatedFlag, OwnerPinSetValidatedFlag}
 use Rattle.jc_pin.specs.declared.updating.PinRefusal.{PinRefusal}
 use Rattle.jc_pin.specs.declared.updating.PinRefusal.TheVariants.{StoreDown, CommitFull, IllegalValue, HeapFull}
 use Rattle.jc_pin.specs.Pins.{record_of}
@@ -96,9 +98,14 @@ owner_pin_reset_and_unblock args m = if_some (receiver m args) (λ pin. bind (pi
 unfoldable pub owner_pin_get_tries_remaining : List Cell → MemoryState → NativeProgram
 owner_pin_get_tries_remaining args m = if_some (receiver m args) (λ pin. return_value (ReturnValue (Short (cast_signed w16 (record_of m pin).tries))))
 
--- OwnerPIN.isValidated: the validated flag
+-- OwnerPIN.isValidated, OwnerPIN.getValidatedFlag: the validated flag
 unfoldable pub owner_pin_is_validated : List Cell → MemoryState → NativeProgram
 owner_pin_is_validated args m = if_some (receiver m args) (λ pin. returns_bool (flag_of m.ram pin))
+
+-- OwnerPIN.setValidatedFlag: the validated flag is set, or taken away for 0
+unfoldable pub owner_pin_set_validated_flag : List Cell → MemoryState → NativeProgram
+owner_pin_set_validated_flag args m = if_some (receiver m args) (λ pin. if_some (short_argument args 1) (λ value.
+    Perform (SetFlag pin (not (int_eq value (pos 0)))) (return_value ReturnVoid)))
 
 -- what a call of a method of OwnerPIN may do
 unfoldable pub pin_call : PlatformMethod → List Cell → Packages → MemoryState → NativeProgram
@@ -109,4 +116,6 @@ pin_call OwnerPinIsValidated args p m = owner_pin_is_validated args m
 pin_call OwnerPinReset args p m = owner_pin_reset args m
 pin_call OwnerPinResetAndUnblock args p m = owner_pin_reset_and_unblock args m
 pin_call OwnerPinUpdate args p m = owner_pin_update args p m
+pin_call OwnerPinGetValidatedFlag args p m = owner_pin_is_validated args m
+pin_call OwnerPinSetValidatedFlag args p m = owner_pin_set_validated_flag args m
 pin_call _ args p m = code_fault

@@ -1,5 +1,5 @@
 -- Util (API specification).
-use Rattle.std.specs.Prelude.{ℕ, ℤ, pos, negsuc, ◌+◌, ◌*◌, ◌/◌, ◌%◌, List, [], ◌∷◌}
+use Rattle.std.specs.Prelude.{ℕ, ℤ, pos, negsuc, ◌+◌, ◌*◌, ◌/◌, ◌%◌, List, [], ◌∷◌, replicate}
 use Rattle.std.specs.Int.{w16, cast_signed, cast_unsigned}
 use Rattle.std.specs.Cmp.Lexicographic.{slice_cmp}
 use Rattle.std.specs.Ordering.{nat_cmp}
@@ -11,13 +11,14 @@ use Rattle.jc_memory.specs.Programs.{Perform}
 use Rattle.jc_memory.specs.Cells.{byte_at, cells_refusal, cells_effect}
 use Rattle.jc_linker.specs.Values.{Packages}
 use Rattle.jc_platform.specs.declared.names.PlatformMethod.{PlatformMethod}
-use Rattle.jc_platform.specs.declared.names.PlatformMethod.TheVariants.{UtilArrayCompare, UtilArrayCopy, UtilGetShort, UtilMakeShort, UtilSetShort}
+use Rattle.jc_platform.specs.declared.names.PlatformMethod.TheVariants.{UtilArrayCompare, UtilArrayCopy, UtilArrayFill, UtilGetShort, UtilMakeShort}
+use Rattle.jc_platform.specs.declared.names.PlatformMethod.TheVariants.{UtilSetShort}
 use Rattle.jc_world.specs.NativeCalls.{NativeProgram, code_fault, if_some, if_ok, unless}
 use Rattle.jc_world.specs.Objects.{short_argument}
 use Rattle.jc_world.specs.declared.arrays.Stretch.{Stretch}
 use Rattle.jc_world.specs.Answers.{returns_short}
 use Rattle.jc_world.specs.Arrays.{bytes_in}
-use Rattle.jc_api_data.specs.UtilArguments.{pair_arguments, pair_of, two_of}
+use Rattle.jc_api_data.specs.UtilArguments.{pair_arguments, pair_of, two_of, counted_of}
 
 -- the bytes of a number, the high one first
 abbrev pub bytes_of_short : ℤ → List ℕ
@@ -44,6 +45,17 @@ util_array_copy args p m = if_ok (pair_arguments args) (λ n. if_ok (pair_of p m
     unless (cells_refusal m a.to.array a.to.start (bytes_in m a.from)) (Perform (cells_effect m a.to.array a.to.start (bytes_in m a.from))
     (returns_short (end_of a.to)))))
 
+-- the low byte of a number, so many times
+abbrev pub filling_of : ℤ → Stretch → List ℕ
+filling_of value e = replicate e.count (cast_unsigned w16 value % 256)
+
+-- Util.arrayFill: elements set to the low byte of a number, as one change; the index behind the last one written is
+-- returned
+unfoldable pub util_array_fill : List Cell → Packages → MemoryState → NativeProgram
+util_array_fill args p m = if_some (short_argument args 3) (λ value. if_ok (counted_of args p m) (λ e.
+    unless (cells_refusal m e.array e.start (filling_of value e)) (Perform (cells_effect m e.array e.start (filling_of value e))
+    (returns_short (end_of e)))))
+
 -- Util.arrayCompare: -1, 0 or 1, the bytes as numbers from 0 to 255
 unfoldable pub util_array_compare : List Cell → Packages → MemoryState → NativeProgram
 util_array_compare args p m = if_ok (pair_arguments args) (λ n. if_ok (pair_of p m n)
@@ -67,6 +79,7 @@ util_make_short args = if_some (short_argument args 0) (λ high. if_some (short_
 unfoldable pub util_call : PlatformMethod → List Cell → Packages → MemoryState → NativeProgram
 util_call UtilArrayCompare args p m = util_array_compare args p m
 util_call UtilArrayCopy args p m = util_array_copy args p m
+util_call UtilArrayFill args p m = util_array_fill args p m
 util_call UtilGetShort args p m = util_get_short args p m
 util_call UtilMakeShort args p m = util_make_short args
 util_call UtilSetShort args p m = util_set_short args p m

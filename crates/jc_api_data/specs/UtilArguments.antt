@@ -32,3 +32,10 @@ abbrev pub two_of : List Cell → Packages → MemoryState → Result Stretch Fr
 two_of args p m =
     and_then (some_or_fault (reference_argument args 0)) (λ array. and_then (some_or_fault (short_argument args 1)) (λ start.
     and_then (bytes_argument m array) (λ argument. elements_of p m array argument start (pos 2))))
+
+-- the elements of a method of one array with an offset and a length
+abbrev pub counted_of : List Cell → Packages → MemoryState → Result Stretch FrameExit
+counted_of args p m =
+    and_then (some_or_fault (reference_argument args 0)) (λ array. and_then (some_or_fault (short_argument args 1)) (λ start.
+    and_then (some_or_fault (short_argument args 2)) (λ count.
+    and_then (bytes_argument m array) (λ argument. elements_of p m array argument start count))))

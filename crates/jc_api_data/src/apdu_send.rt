@@ -18,8 +18,8 @@ use jc_transient::Ref;
 use jc_words::WordStore;
 use jc_world::{NativeResult, StepExit};
 
-// How many bytes an answer has at most.
-const MOST_SENT: u16 = 256;
+/// How many bytes an answer has at most.
+pub(crate) const MOST_SENT: u16 = 256;
 
 /// Bytes of the buffer, from one on.
 #[derive(Clone, Copy, Debug, PartialEq, Eq)]
@@ -84,8 +84,8 @@ pub(crate) fn apdu_set_outgoing_length<S: WordStore>(
     }
 }
 
-// Whether these are more bytes than are left, or than an answer has.
-fn is_too_much<S: WordStore>(memory: &Memory<S>, left: u16, count: i16) -> bool
+/// Whether these are more bytes than are left, or than an answer has.
+pub(crate) fn is_too_much<S: WordStore>(memory: &Memory<S>, left: u16, count: i16) -> bool
     ensures { result ≡ is_too_much memory.now left count }
 {
     if count < 0 {

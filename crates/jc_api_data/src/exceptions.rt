@@ -3,7 +3,7 @@ ghost use Rattle.std.specs.Prelude.{◌≡◌, false};
 ghost use Rattle.jc_frames.specs.declared.outcome.Exception.TheVariants as exceptions;
 ghost use Rattle.jc_memory.specs.Programs.{Executes};
 ghost use Rattle.jc_world.specs.NativeCalls.{after_call};
-ghost use Rattle.jc_api_data.specs.Exceptions.{exception_set_reason, exception_get_reason, exception_call};
+ghost use Rattle.jc_api_data.specs.Exceptions.{exception_set_reason, exception_set_no_reason, exception_get_reason, exception_call};
 
 use jc_frames::{Cell, Exception, Outcome};
 use jc_memory::Memory;
@@ -29,6 +29,22 @@ fn exception_set_reason<S: WordStore>(
     let reason = short_argument(args, 1)?;
     let _facts = instance(own, 1, memory)?;
     memory.set(own, 0, CellValue::Short(reason))?;
+    Ok(NativeResult::ReturnVoid)
+}
+
+// `UserException.<init>` without a reason: the reason is 0.
+#[tactic(auto, unfolding(crate::specs::Exceptions::exception_set_no_reason))]
+fn exception_set_no_reason<S: WordStore>(
+    args: &[Cell],
+    memory: &mut Memory<S>,
+) -> Result<NativeResult, StepExit>
+    requires up { memory.old.heap.down ≡ false }
+    ensures { Executes (exception_set_no_reason args.now memory.old) memory.old
+        (after_call result memory.new) }
+{
+    let own = reference_argument(args, 0)?;
+    let _facts = instance(own, 1, memory)?;
+    memory.set(own, 0, CellValue::Short(0))?;
     Ok(NativeResult::ReturnVoid)
 }
 
@@ -89,6 +105,9 @@ pub fn call_exception<S: WordStore>(
         | PlatformMethod::TransactionExceptionInit
         | PlatformMethod::ApduExceptionInit
         | PlatformMethod::UserExceptionInit => return exception_set_reason(args, memory),
+        PlatformMethod::UserExceptionInitWithoutReason => {
+            return exception_set_no_reason(args, memory);
+        }
         _ => return Err(StepExit::End(Outcome::Fault)),
     };
     Err(StepExit::Throw(exception))

@@ -5,9 +5,13 @@
 
 mod apdu;
 mod apdu_buffer;
+mod apdu_class;
+mod apdu_current;
 mod apdu_phase;
+mod apdu_queries;
 mod apdu_receive;
 mod apdu_send;
+mod apdu_send_long;
 pub mod exceptions;
 mod lengths;
 pub mod objects;
@@ -18,6 +22,7 @@ mod owner_pin_update;
 pub mod util;
 mod util_arguments;
 mod util_array_copy;
+mod util_array_fill;
 
 pub use apdu::call_apdu;
 pub use apdu_buffer::buffer;

@@ -3,6 +3,7 @@ ghost use Rattle.std.specs.Prelude.{◌≡◌, false};
 ghost use Rattle.jc_memory.specs.Programs.{Executes};
 ghost use Rattle.jc_world.specs.NativeCalls.{after_call};
 ghost use Rattle.jc_api_data.specs.OwnerPin.{pin_call, owner_pin_get_tries_remaining, owner_pin_is_validated, owner_pin_reset, owner_pin_reset_and_unblock};
+ghost use Rattle.jc_api_data.specs.OwnerPin.{owner_pin_set_validated_flag};
 
 use crate::owner_pin_arguments::receiver;
 use crate::owner_pin_check::owner_pin_check;
@@ -13,6 +14,7 @@ use jc_memory::Memory;
 use jc_pin::{is_validated, tries};
 use jc_platform::names::PlatformMethod;
 use jc_words::WordStore;
+use jc_world::arguments::short_argument;
 use jc_world::{NativeResult, StepExit};
 
 // `OwnerPIN.reset`: takes the validated flag away and gives all tries back, where the flag was set.
@@ -59,7 +61,7 @@ fn owner_pin_get_tries_remaining<S: WordStore>(
     Ok(NativeResult::ReturnValue(Cell::Short(tries(memory, pin).cast_signed())))
 }
 
-// `OwnerPIN.isValidated`: returns the validated flag.
+// `OwnerPIN.isValidated`, `OwnerPIN.getValidatedFlag`: returns the validated flag.
 #[tactic(auto, unfolding(crate::specs::OwnerPin::owner_pin_is_validated))]
 fn owner_pin_is_validated<S: WordStore>(
     args: &[Cell],
@@ -71,6 +73,22 @@ fn owner_pin_is_validated<S: WordStore>(
 {
     let pin = receiver(args, memory)?;
     Ok(NativeResult::ReturnValue(Cell::Short(i16::from(is_validated(memory, pin)))))
+}
+
+// `OwnerPIN.setValidatedFlag`: sets the validated flag, or takes it away.
+#[tactic(auto, unfolding(crate::specs::OwnerPin::owner_pin_set_validated_flag))]
+fn owner_pin_set_validated_flag<S: WordStore>(
+    args: &[Cell],
+    memory: &mut Memory<S>,
+) -> Result<NativeResult, StepExit>
+    requires up { memory.old.heap.down ≡ false }
+    ensures { Executes (owner_pin_set_validated_flag args.now memory.old) memory.old
+        (after_call result memory.new) }
+{
+    let pin = receiver(args, memory)?;
+    let value = short_argument(args, 1)?;
+    memory.set_flag(pin, value != 0);
+    Ok(NativeResult::ReturnVoid)
 }
 
 /// A call of a method of `OwnerPIN`; a method of another class is a code fault.
@@ -89,7 +107,10 @@ pub fn call_pin<S: WordStore>(
         PlatformMethod::OwnerPinInit => owner_pin_init(args, memory),
         PlatformMethod::OwnerPinCheck => owner_pin_check(args, memory, linked),
         PlatformMethod::OwnerPinGetTriesRemaining => owner_pin_get_tries_remaining(args, memory),
-        PlatformMethod::OwnerPinIsValidated => owner_pin_is_validated(args, memory),
+        PlatformMethod::OwnerPinIsValidated | PlatformMethod::OwnerPinGetValidatedFlag => {
+            owner_pin_is_validated(args, memory)
+        }
+        PlatformMethod::OwnerPinSetValidatedFlag => owner_pin_set_validated_flag(args, memory),
         PlatformMethod::OwnerPinReset => owner_pin_reset(args, memory),
         PlatformMethod::OwnerPinResetAndUnblock => owner_pin_reset_and_unblock(args, memory),
         PlatformMethod::OwnerPinUpdate => owner_pin_update(args, memory, linked),

@@ -5,13 +5,14 @@ ghost use Rattle.jc_heap.specs.Completions.{after_change};
 ghost use Rattle.jc_memory.specs.Cells.{cells_store};
 ghost use Rattle.jc_world.specs.NativeCalls.{after_call};
 ghost use Rattle.jc_api_data.specs.Util.{util_array_copy, util_array_compare, util_get_short, util_set_short, util_make_short, short_of, bytes_of_short};
-ghost use Rattle.jc_api_data.specs.Util.{end_of, sign_of, util_call};
+ghost use Rattle.jc_api_data.specs.Util.{end_of, sign_of, util_array_fill, util_call};
 ghost use Rattle.std.specs.Ordering.{nat_cmp};
 ghost use Rattle.std.specs.Cmp.Lexicographic.{slice_cmp};
 ghost use Rattle.jc_world.specs.Arrays.{IsInArray, bytes_in};
 
-use crate::util_arguments::{pair_arguments, pair_of, two_of};
+use crate::util_arguments::{counted_of, pair_arguments, pair_of, two_of};
 use crate::util_array_copy::copy;
+use crate::util_array_fill::fill;
 use jc_frames::{Cell, Outcome};
 use jc_heap::ChangeRefusal;
 use jc_linker::linked::Linked;
@@ -53,6 +54,24 @@ fn util_array_copy<S: WordStore>(
     let pair = pair_of(named, memory, linked)?;
     copy(memory, pair.from, pair.to)?;
     Ok(short(end_of(&pair.to)))
+}
+
+// `Util.arrayFill`: sets elements to the low byte of a number, as one change; returns the index behind the last
+// one written.
+#[tactic(auto, unfolding(crate::specs::Util::util_array_fill))]
+fn util_array_fill<S: WordStore>(
+    args: &[Cell],
+    memory: &mut Memory<S>,
+    linked: &Linked,
+) -> Result<NativeResult, StepExit>
+    requires up { memory.old.heap.down ≡ false }
+    ensures { Executes (util_array_fill args.now linked.now memory.old) memory.old
+        (after_call result memory.new) }
+{
+    let value = (short_argument(args, 3)?.cast_unsigned() % 256) as u8;
+    let to = counted_of(args, memory, linked)?;
+    fill(memory, to, value)?;
+    Ok(short(end_of(&to)))
 }
 
 // Sets two elements to the bytes of a number, the high one first.
@@ -183,6 +202,7 @@ pub fn call_util<S: WordStore>(
     match method {
         PlatformMethod::UtilArrayCompare => util_array_compare(args, memory, linked),
         PlatformMethod::UtilArrayCopy => util_array_copy(args, memory, linked),
+        PlatformMethod::UtilArrayFill => util_array_fill(args, memory, linked),
         PlatformMethod::UtilGetShort => util_get_short(args, memory, linked),
         PlatformMethod::UtilMakeShort => util_make_short(args, memory),
         PlatformMethod::UtilSetShort => util_set_short(args, memory, linked),

@@ -1,7 +1,7 @@
 //! The array arguments of `Util`'s methods, all checked.
 ghost use Rattle.std.specs.Prelude.{◌≡◌, ◌≤◌, false, IfOk, pos};
 ghost use Rattle.jc_world.specs.Arrays.{IsInArray};
-ghost use Rattle.jc_api_data.specs.UtilArguments.{pair_arguments, pair_of, two_of};
+ghost use Rattle.jc_api_data.specs.UtilArguments.{pair_arguments, pair_of, two_of, counted_of};
 
 use crate::lengths::MOST_ELEMENTS;
 use jc_frames::{Cell, FrameExit};
@@ -99,4 +99,23 @@ pub(crate) fn two_of<S: WordStore>(
     let start = short_argument(args, 1)?;
     let argument = bytes_argument(array, memory)?;
     elements(array, argument, start, 2, memory, linked)
+}
+
+/// The elements of an array, by it, an offset and a length.
+#[inline(always)]
+pub(crate) fn counted_of<S: WordStore>(
+    args: &[Cell],
+    memory: &Memory<S>,
+    linked: &Linked,
+) -> Result<Stretch, FrameExit>
+    requires up { memory.now.heap.down ≡ false }
+    ensures counted { result ≡ counted_of args.now linked.now memory.now }
+    ensures there { IfOk result (IsInArray memory.now) }
+    ensures few { IfOk result (λ e. e.count ≤ MOST_ELEMENTS) }
+{
+    let array = reference_argument(args, 0)?;
+    let start = short_argument(args, 1)?;
+    let count = short_argument(args, 2)?;
+    let argument = bytes_argument(array, memory)?;
+    elements(array, argument, start, count, memory, linked)
 }

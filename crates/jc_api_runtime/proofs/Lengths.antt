@@ -1,6 +1,7 @@
--- Lists of other lengths are not one.
-use Rattle.std.proofs.Common.{◌≡◌, ℕ, suc, false, List, [], ◌∷◌, length, nat_eq, refl, sym, ◌∙◌, ap}
-use Rattle.std.specs.Prelude.{◌&&◌}
+-- Lists of other lengths are not one, and a longer one is no beginning.
+use Rattle.std.proofs.Common.{◌≡◌, ◌<◌, ℕ, suc, Bool, true, false, List, [], ◌∷◌, length, nat_eq, refl, sym, ◌∙◌, ap, arith}
+use Rattle.std.specs.Prelude.{◌&&◌, nat_le}
+use Rattle.std.proofs.lemmas.Bool.{leb-true}
 use Rattle.std.specs.Str.{bytes_eq}
 use Rattle.std.proofs.Math.Bool.{and-false}
 
@@ -9,3 +10,10 @@ other_length [] [] other = absurd (other refl)
 other_length [] (y ∷ ys) other = refl
 other_length (x ∷ xs) [] other = refl
 other_length (x ∷ xs) (y ∷ ys) other = sym (and-false (nat_eq x y)) ∙ ap (λ b. nat_eq x y && b) (other_length xs ys (λ e. other (ap suc e)))
+
+pub no_beginning : (n m : ℕ) (rest : Bool) → m < n → false ≡ (nat_le n m && rest)
+no_beginning n m rest more = by_order (nat_le n m) refl
+  where
+    by_order : (b : Bool) → nat_le n m ≡ b → false ≡ (b && rest)
+    by_order true e = let le = leb-true n m e in absurd (omega (arith, le, more))
+    by_order false e = refl

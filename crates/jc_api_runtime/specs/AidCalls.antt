@@ -1,14 +1,17 @@
 -- AID (API specification).
-use Rattle.std.specs.Prelude.{ℕ, ◌==◌, pos, false, List, length, Option, Some, None, if◌then◌else◌}
+use Rattle.std.specs.Prelude.{ℕ, ◌+◌, ◌==◌, ◌&&◌, nat_le, pos, Bool, false, List, length, take, drop, Option, Some, None, if◌then◌else◌}
+use Rattle.std.specs.Str.{bytes_eq}
 use Rattle.jc_heap.specs.declared.object.Facts.{Facts}
 use Rattle.jc_frames.specs.declared.cell.Cell.{Cell}
+use Rattle.jc_frames.specs.declared.outcome.Exception.TheVariants.{ArrayIndexOutOfBoundsException}
 use Rattle.jc_frames.specs.Reasons.{illegal_value}
 use Rattle.jc_memory.specs.State.{MemoryState}
 use Rattle.jc_memory.specs.Programs.{Perform}
 use Rattle.jc_memory.specs.Cells.{header_at, cells_refusal, cells_effect}
 use Rattle.jc_platform.specs.declared.names.PlatformClass.TheVariants.{Aid}
 use Rattle.jc_platform.specs.declared.names.PlatformMethod.{PlatformMethod}
-use Rattle.jc_platform.specs.declared.names.PlatformMethod.TheVariants.{AidInit, AidEquals, AidEqualsBytes, AidGetBytes}
+use Rattle.jc_platform.specs.declared.names.PlatformMethod.TheVariants.{AidInit, AidEquals, AidEqualsBytes, AidGetBytes, AidRidEquals, AidPartialEquals}
+use Rattle.jc_platform.specs.declared.names.PlatformMethod.TheVariants.{AidGetPartialBytes}
 use Rattle.jc_platform.specs.Distinct.{class_word}
 use Rattle.jc_linker.specs.Values.{Packages}
 use Rattle.jc_world.specs.declared.native_result.NativeResult.TheVariants.{ReturnVoid}
@@ -18,6 +21,7 @@ use Rattle.jc_registry.specs.Aids.{aid_at}
 use Rattle.jc_registry.specs.Registry.{is_aid}
 use Rattle.jc_world.specs.Answers.{returns_short, returns_bool}
 use Rattle.jc_world.specs.Arrays.{bytes_argument, elements_of, bytes_in}
+use Rattle.jc_world.specs.Numbers.{not_negative}
 use Rattle.jc_world.specs.Instances.{instance_at}
 use Rattle.jc_api_runtime.specs.AidCells.{is_aid_length, cells_of_aid}
 
@@ -56,10 +60,59 @@ aid_get_bytes args p m = if_some (reference_argument args 0) (λ own. if_some (r
     if_some (aid_at m own) (λ aid. if_ok (bytes_argument m array) (λ argument. if_ok (elements_of p m array argument start (pos (length aid))) (λ e.
     unless (cells_refusal m e.array e.start aid) (Perform (cells_effect m e.array e.start aid) (returns_short (pos (length aid))))))))))
 
+-- the provider's part of an AID: its first five bytes
+abbrev pub rid_of : List ℕ → List ℕ
+rid_of aid = take 5 aid
+
+-- the other is an AID of the same provider
+abbrev pub is_of_provider : List ℕ → Option (List ℕ) → Bool
+is_of_provider aid None = false
+is_of_provider aid (Some other) = bytes_eq (rid_of aid) (rid_of other)
+
+-- AID.RIDEquals: whether the other is an AID of the same provider; false for null
+unfoldable pub aid_rid_equals : List Cell → Packages → MemoryState → NativeProgram
+aid_rid_equals args p m = if_some (reference_argument args 0) (λ own. if_some (reference_argument args 1)
+    (λ other. if_some (aid_at m own) (λ aid. returns_bool (is_of_provider aid (aid_of_object p m other)))))
+
+-- an AID begins with these bytes
+abbrev pub begins_with : List ℕ → List ℕ → Bool
+begins_with aid bytes = nat_le (length bytes) (length aid) && bytes_eq (take (length bytes) aid) bytes
+
+-- AID.partialEquals: whether the AID begins with these bytes; false for null
+unfoldable pub aid_partial_equals : List Cell → Packages → MemoryState → NativeProgram
+aid_partial_equals args p m = if_some (reference_argument args 0) (λ own. if_some (reference_argument args 1)
+    (λ array. if_some (short_argument args 2) (λ start. if_some (short_argument args 3) (λ count.
+    if_some (aid_at m own) (λ aid. if_ok (bytes_argument m array) (λ argument. if array == 0 then returns_bool false else
+    if_ok (elements_of p m array argument start count) (λ e. returns_bool (begins_with aid (bytes_in m e)))))))))
+
+-- so many bytes of an AID from one on, all the rest where none are asked for; none where it has no such part
+abbrev pub part_within : List ℕ → Option ℕ → Option ℕ → Option (List ℕ)
+part_within aid None count = None
+part_within aid (Some start) None = None
+part_within aid (Some start) (Some count) =
+    if nat_le (start + count) (length aid) then Some (if count == 0 then drop start aid else take count (drop start aid)) else None
+
+-- with the part that was asked for; where there is none the call throws
+abbrev pub if_there : Option (List ℕ) → (List ℕ → NativeProgram) → NativeProgram
+if_there None go = throw_exception ArrayIndexOutOfBoundsException
+if_there (Some part) go = go part
+
+-- AID.getPartialBytes: a part of the bytes is copied, as one change; their number is returned
+unfoldable pub aid_get_partial_bytes : List Cell → Packages → MemoryState → NativeProgram
+aid_get_partial_bytes args p m = if_some (reference_argument args 0) (λ own. if_some (short_argument args 1) (λ from.
+    if_some (reference_argument args 2) (λ array. if_some (short_argument args 3) (λ start. if_some (short_argument args 4) (λ count.
+    if_some (aid_at m own) (λ aid. if_ok (bytes_argument m array) (λ argument.
+    if_there (part_within aid (not_negative from) (not_negative count)) (λ part.
+    if_ok (elements_of p m array argument start (pos (length part))) (λ e.
+    unless (cells_refusal m e.array e.start part) (Perform (cells_effect m e.array e.start part) (returns_short (pos (length part)))))))))))))
+
 -- what a call of a method of AID may do
 unfoldable pub aid_call : PlatformMethod → List Cell → Packages → MemoryState → NativeProgram
 aid_call AidInit args p m = aid_init args p m
 aid_call AidEquals args p m = aid_equals args p m
 aid_call AidEqualsBytes args p m = aid_equals_bytes args p m
 aid_call AidGetBytes args p m = aid_get_bytes args p m
+aid_call AidRidEquals args p m = aid_rid_equals args p m
+aid_call AidPartialEquals args p m = aid_partial_equals args p m
+aid_call AidGetPartialBytes args p m = aid_get_partial_bytes args p m
 aid_call _ args p m = code_fault

@@ -1,5 +1,5 @@
 -- AIDs of applets, and sharing (API specification, JCSystem).
-use Rattle.std.specs.Prelude.{ℕ, ℤ, ◌==◌, if◌then◌else◌, List, Option, Some, None, unwrap_or}
+use Rattle.std.specs.Prelude.{ℕ, ℤ, ◌==◌, if◌then◌else◌, Bool, false, List, Option, Some, None, unwrap_or}
 use Rattle.std.specs.Option.{option_and_then}
 use Rattle.jc_heap.specs.declared.object.Facts.{Facts}
 use Rattle.jc_heap.specs.Heap.{HeapState}
@@ -16,6 +16,7 @@ use Rattle.jc_linker.specs.Values.{Packages}
 use Rattle.jc_world.specs.declared.native_result.NativeResult.TheVariants.{ReturnValue, CallServer}
 use Rattle.jc_world.specs.NativeCalls.{NativeProgram, return_value, code_fault, if_some, if_ok}
 use Rattle.jc_world.specs.Objects.{is_instance_of, short_argument, reference_argument}
+use Rattle.jc_world.specs.Answers.{returns_bool}
 use Rattle.jc_registry.specs.Aids.{aid_at}
 use Rattle.jc_registry.specs.Registry.{aid_of_applet, instance_of_applet, applet_with_aid}
 use Rattle.jc_world.specs.declared.arrays.Stretch.{Stretch}
@@ -71,6 +72,22 @@ server_call_if_known m parameter (Some n) = server_call_result m parameter n (in
 abbrev pub server_call_by_aid : Packages → MemoryState → ℕ → ℤ → Facts → NativeProgram
 server_call_by_aid p m aid parameter f = if is_instance_of p f (class_word p.platform Aid) then server_call_if_known m parameter
     (option_and_then (λ bytes. applet_with_aid m bytes) (aid_at m aid)) else code_fault
+
+-- there is such an applet, and it is the other one
+abbrev pub are_one : Option AppletNumber → Option AppletNumber → Bool
+are_one None other = false
+are_one (Some a) None = false
+are_one (Some a) (Some b) = a.0 == b.0
+
+-- whether the applet with the AID that an AID object holds is the selected one; another object is a cell of the wrong kind
+abbrev pub activity_by_aid : Packages → MemoryState → ℕ → Facts → NativeProgram
+activity_by_aid p m aid f = if is_instance_of p f (class_word p.platform Aid) then returns_bool
+    (are_one (option_and_then (λ bytes. applet_with_aid m bytes) (aid_at m aid)) m.registers.selected) else code_fault
+
+-- JCSystem.isAppletActive: whether the selected applet has this AID; false for null
+unfoldable pub jc_system_is_applet_active : List Cell → Packages → MemoryState → NativeProgram
+jc_system_is_applet_active args p m = if_some (reference_argument args 0) (λ aid.
+    if aid == 0 then returns_bool false else if_some (header_at m aid) (activity_by_aid p m aid))
 
 -- JCSystem.getAppletShareableInterfaceObject: the server's method is called, with the client's AID and the
 -- parameter; null where there is no server

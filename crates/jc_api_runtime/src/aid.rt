@@ -1,5 +1,7 @@
 //! `AID` (API specification).
 ghost use Rattle.std.specs.Prelude.{◌≡◌, ◌≤◌, false, length, Some};
+ghost use Rattle.std.specs.Option.{option_copied};
+ghost use Rattle.jc_world.specs.Numbers.{not_negative};
 ghost use Rattle.jc_memory.specs.Programs.{Executes};
 ghost use Rattle.jc_heap.specs.Completions.{after_change};
 ghost use Rattle.jc_memory.specs.Cells.{cells_store};
@@ -9,10 +11,11 @@ ghost use Rattle.jc_world.specs.Arrays.{IsInArray, bytes_in};
 ghost use Rattle.jc_world.specs.Instances.{IsInstanceWith};
 ghost use Rattle.jc_api_runtime.specs.AidCells.{cells_of_aid};
 ghost use Rattle.jc_api_runtime.specs.AidCalls.{aid_of_object, aid_init, aid_equals, aid_equals_bytes, aid_get_bytes, aid_call};
+ghost use Rattle.jc_api_runtime.specs.AidCalls.{aid_get_partial_bytes, aid_partial_equals, aid_rid_equals, begins_with, is_of_provider, part_within, rid_of};
 
 use crate::cells::{cells_of_aid, is_aid_length};
 use jc_frames::reasons::ILLEGAL_VALUE;
-use jc_frames::{Cell, Outcome};
+use jc_frames::{Cell, Exception, Outcome};
 use jc_heap::ChangeRefusal;
 use jc_linker::linked::Linked;
 use jc_memory::Memory;
@@ -173,6 +176,143 @@ fn aid_get_bytes<S: WordStore>(
     Ok(short(count))
 }
 
+// How many bytes of an AID name its provider.
+const RID: usize = 5;
+
+// Whether two AIDs are of one provider, whom the first five bytes name.
+fn have_one_provider(aid: &[u8], other: &[u8]) -> bool
+    ensures { result ≡ is_of_provider aid.now (Some other.now) }
+{
+    provider(aid) == provider(other)
+}
+
+// The provider's part of an AID.
+fn provider(aid: &[u8]) -> &[u8]
+    ensures { result.now ≡ rid_of aid.now }
+{
+    if aid.len() > RID { &aid[..RID] } else { aid }
+}
+
+// `AID.RIDEquals`: whether the other is an AID of the same provider; false for null.
+#[tactic(auto, unfolding(crate::specs::AidCalls::aid_rid_equals))]
+fn aid_rid_equals<S: WordStore>(
+    args: &[Cell],
+    memory: &Memory<S>,
+    linked: &Linked,
+) -> Result<NativeResult, StepExit>
+    requires up { memory.now.heap.down ≡ false }
+    ensures { Executes (aid_rid_equals args.now linked.now memory.now) memory.now
+        (after_call result memory.now) }
+{
+    let own = reference_argument(args, 0)?;
+    let other = reference_argument(args, 1)?;
+    let Some(aid) = aid_at(memory, own) else {
+        return Err(StepExit::End(Outcome::Fault));
+    };
+    let Some(held) = aid_of_object(other, memory, linked) else {
+        return Ok(boolean(false));
+    };
+    Ok(boolean(have_one_provider(aid.bytes(), held.bytes())))
+}
+
+// Whether an AID begins with these bytes.
+fn is_beginning(held: &[u8], aid: &[u8]) -> bool
+    ensures { result ≡ begins_with aid.now held.now }
+{
+    if held.len() > aid.len() {
+        return false;
+    }
+    held == &aid[..held.len()]
+}
+
+// Whether an AID begins with elements of an array.
+fn begins_with<S: WordStore>(aid: &[u8], e: Stretch, memory: &Memory<S>) -> bool
+    requires up { memory.now.heap.down ≡ false }
+    requires there { IsInArray memory.now e }
+    requires few { length aid.now ≤ MOST_AID }
+    ensures { result ≡ begins_with aid.now (bytes_in memory.now e) }
+{
+    let count = e.count as usize;
+    if count > aid.len() {
+        return false;
+    }
+    let mut bytes = [0; MOST_AID];
+    memory.bytes(e.array, e.start, &mut bytes[..count]);
+    let held = &bytes[..count];
+    is_beginning(held, aid)
+}
+
+// `AID.partialEquals`: whether the AID begins with these bytes; false for null.
+#[tactic(auto, unfolding(crate::specs::AidCalls::aid_partial_equals))]
+fn aid_partial_equals<S: WordStore>(
+    args: &[Cell],
+    memory: &Memory<S>,
+    linked: &Linked,
+) -> Result<NativeResult, StepExit>
+    requires up { memory.now.heap.down ≡ false }
+    ensures { Executes (aid_partial_equals args.now linked.now memory.now) memory.now
+        (after_call result memory.now) }
+{
+    let own = reference_argument(args, 0)?;
+    let array = reference_argument(args, 1)?;
+    let start = short_argument(args, 2)?;
+    let count = short_argument(args, 3)?;
+    let Some(aid) = aid_at(memory, own) else {
+        return Err(StepExit::End(Outcome::Fault));
+    };
+    let argument = bytes_argument(array, memory)?;
+    if array.is_null() {
+        return Ok(boolean(false));
+    }
+    let e = elements(array, argument, start, count, memory, linked)?;
+    Ok(boolean(begins_with(aid.bytes(), e, memory)))
+}
+
+// So many bytes of an AID from one on, all the rest where none are asked for.
+fn part_within(aid: &[u8], start: i16, count: i16) -> Option<&[u8]>
+    ensures { option_copied result ≡ part_within aid.now (not_negative start)
+        (not_negative count) }
+{
+    let start = usize::try_from(start).ok()?;
+    let count = usize::try_from(count).ok()?;
+    if start + count > aid.len() {
+        return None;
+    }
+    if count == 0 {
+        return Some(&aid[start..]);
+    }
+    Some(&aid[start..start + count])
+}
+
+// `AID.getPartialBytes`: copies a part of the bytes, as one change; returns their number.
+#[tactic(auto, unfolding(crate::specs::AidCalls::aid_get_partial_bytes))]
+fn aid_get_partial_bytes<S: WordStore>(
+    args: &[Cell],
+    memory: &mut Memory<S>,
+    linked: &Linked,
+) -> Result<NativeResult, StepExit>
+    requires up { memory.old.heap.down ≡ false }
+    ensures { Executes (aid_get_partial_bytes args.now linked.now memory.old) memory.old
+        (after_call result memory.new) }
+{
+    let own = reference_argument(args, 0)?;
+    let from = short_argument(args, 1)?;
+    let array = reference_argument(args, 2)?;
+    let start = short_argument(args, 3)?;
+    let count = short_argument(args, 4)?;
+    let Some(aid) = aid_at(memory, own) else {
+        return Err(StepExit::End(Outcome::Fault));
+    };
+    let argument = bytes_argument(array, memory)?;
+    let Some(part) = part_within(aid.bytes(), from, count) else {
+        return Err(StepExit::Throw(Exception::ArrayIndexOutOfBoundsException));
+    };
+    let taken = part.len() as i16;
+    let e = elements(array, argument, start, taken, memory, linked)?;
+    put(memory, e, part)?;
+    Ok(short(taken))
+}
+
 /// A call of a method of `AID`; a method of another class is a code fault.
 #[tactic(auto, unfolding(crate::specs::AidCalls::aid_call))]
 pub fn call_aid<S: WordStore>(
@@ -190,6 +330,9 @@ pub fn call_aid<S: WordStore>(
         PlatformMethod::AidEquals => aid_equals(args, memory, linked),
         PlatformMethod::AidEqualsBytes => aid_equals_bytes(args, memory, linked),
         PlatformMethod::AidGetBytes => aid_get_bytes(args, memory, linked),
+        PlatformMethod::AidRidEquals => aid_rid_equals(args, memory, linked),
+        PlatformMethod::AidPartialEquals => aid_partial_equals(args, memory, linked),
+        PlatformMethod::AidGetPartialBytes => aid_get_partial_bytes(args, memory, linked),
         _ => Err(StepExit::End(Outcome::Fault)),
     }
 }

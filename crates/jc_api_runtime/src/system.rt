@@ -6,7 +6,7 @@ ghost use Rattle.jc_api_runtime.specs.System.{system_call};
 
 use crate::system_sharing::{
     jc_system_get_aid, jc_system_get_applet_shareable_interface_object,
-    jc_system_get_previous_context_aid, jc_system_lookup_aid,
+    jc_system_get_previous_context_aid, jc_system_is_applet_active, jc_system_lookup_aid,
 };
 use crate::system_transactions::{
     jc_system_abort_transaction, jc_system_begin_transaction, jc_system_commit_transaction,
@@ -14,20 +14,31 @@ use crate::system_transactions::{
     jc_system_get_unused_commit_capacity,
 };
 use crate::system_transient::{jc_system_is_transient, jc_system_make_transient_array};
-use jc_frames::{Cell, Outcome};
+use jc_frames::{Cell, Exception, Outcome};
 use jc_heap::Kind;
 use jc_linker::linked::Linked;
 use jc_memory::Memory;
 use jc_platform::names::PlatformMethod::{
     self, JcSystemAbortTransaction, JcSystemBeginTransaction, JcSystemCommitTransaction,
-    JcSystemGetAid, JcSystemGetAppletShareableInterfaceObject, JcSystemGetMaxCommitCapacity,
-    JcSystemGetPreviousContextAid, JcSystemGetTransactionDepth, JcSystemGetUnusedCommitCapacity,
-    JcSystemIsTransient, JcSystemLookupAid, JcSystemMakeTransientBooleanArray,
-    JcSystemMakeTransientByteArray, JcSystemMakeTransientObjectArray,
-    JcSystemMakeTransientShortArray,
+    JcSystemGetAid, JcSystemGetAppletShareableInterfaceObject, JcSystemGetAssignedChannel,
+    JcSystemGetMaxCommitCapacity, JcSystemGetPreviousContextAid, JcSystemGetTransactionDepth,
+    JcSystemGetUnusedCommitCapacity, JcSystemGetVersion, JcSystemIsAppletActive,
+    JcSystemIsObjectDeletionSupported, JcSystemIsTransient, JcSystemLookupAid,
+    JcSystemMakeTransientBooleanArray, JcSystemMakeTransientByteArray,
+    JcSystemMakeTransientObjectArray, JcSystemMakeTransientShortArray,
+    JcSystemRequestObjectDeletion,
 };
 use jc_words::WordStore;
-use jc_world::{NativeResult, StepExit, short};
+use jc_world::{NativeResult, StepExit, boolean, short};
+
+// The version of the API, 3.1: the major one in the high byte.
+const API_VERSION: i16 = 0x0301;
+
+// The number of the only channel.
+const BASIC_CHANNEL: i16 = 0;
+
+// The call is not there on this card (`SystemException`).
+const ILLEGAL_USE_OF_SYSTEM: Exception = Exception::SystemException(6);
 
 /// A call of a method of `JCSystem`. A method of another class is a code fault.
 #[tactic(auto, unfolding(crate::specs::System::system_call))]
@@ -82,6 +93,11 @@ pub fn call_system<S: WordStore>(
             memory,
             linked,
         ),
+        JcSystemGetVersion => Ok(short(API_VERSION)),
+        JcSystemIsObjectDeletionSupported => Ok(boolean(false)),
+        JcSystemRequestObjectDeletion => Err(StepExit::Throw(ILLEGAL_USE_OF_SYSTEM)),
+        JcSystemIsAppletActive => jc_system_is_applet_active(args, memory, linked),
+        JcSystemGetAssignedChannel => Ok(short(BASIC_CHANNEL)),
         _ => Err(StepExit::End(Outcome::Fault)),
     }
 }

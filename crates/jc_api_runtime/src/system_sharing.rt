@@ -10,6 +10,7 @@ ghost use Rattle.jc_world.specs.NativeCalls.{after_call};
 ghost use Rattle.jc_world.specs.Arrays.{IsInArray};
 ghost use Rattle.jc_api_runtime.specs.SystemSharing.{aid_or_null, applet_of, jc_system_get_aid, jc_system_get_previous_context_aid, aid_of_elements};
 ghost use Rattle.jc_api_runtime.specs.SystemSharing.{jc_system_lookup_aid, server_call_if_known, jc_system_get_applet_shareable_interface_object};
+ghost use Rattle.jc_api_runtime.specs.SystemSharing.{are_one, jc_system_is_applet_active};
 
 use crate::cells::is_aid_length;
 use jc_frames::{Cell, Outcome};
@@ -21,7 +22,7 @@ use jc_transient::Ref;
 use jc_words::WordStore;
 use jc_world::arguments::{reference_argument, short_argument};
 use jc_world::objects::is_instance_of;
-use jc_world::{NativeResult, ServerCall, StepExit, Stretch, bytes_argument, elements};
+use jc_world::{NativeResult, ServerCall, StepExit, Stretch, boolean, bytes_argument, elements};
 
 // A reference, as a method returns it.
 fn reference(value: Ref) -> NativeResult
@@ -165,4 +166,40 @@ pub(crate) fn jc_system_get_applet_shareable_interface_object<S: WordStore>(
         return Err(StepExit::End(Outcome::Fault));
     }
     server_call_if_known(applet_by(aid, memory), parameter, memory)
+}
+
+// Whether there is such an applet, and it is the other one.
+fn are_one(applet: Option<AppletNumber>, other: Option<AppletNumber>) -> bool
+    ensures { result ≡ are_one applet other }
+{
+    match (applet, other) {
+        (Some(a), Some(b)) => a.0 == b.0,
+        _ => false,
+    }
+}
+
+/// `JCSystem.isAppletActive`: whether the selected applet has this AID; false for null.
+#[tactic(auto, unfolding(crate::specs::SystemSharing::jc_system_is_applet_active))]
+pub(crate) fn jc_system_is_applet_active<S: WordStore>(
+    args: &[Cell],
+    memory: &Memory<S>,
+    linked: &Linked,
+) -> Result<NativeResult, StepExit>
+    requires up { memory.now.heap.down ≡ false }
+    ensures { Executes (jc_system_is_applet_active args.now linked.now memory.now) memory.now
+        (after_call result memory.now) }
+{
+    let aid = reference_argument(args, 0)?;
+    if aid.is_null() {
+        return Ok(boolean(false));
+    }
+    let Some(facts) = memory.header(aid) else {
+        return Err(StepExit::End(Outcome::Fault));
+    };
+    let class = linked.platform().class_word(PlatformClass::Aid);
+    if !is_instance_of(facts, class, linked) {
+        return Err(StepExit::End(Outcome::Fault));
+    }
+    let selected = memory.registers().selected;
+    Ok(boolean(are_one(applet_by(aid, memory), selected)))
 }

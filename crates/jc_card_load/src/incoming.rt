@@ -62,6 +62,14 @@ impl IncomingComponent {
         self.tag
     }
 
+    /// The bytes that have come.
+    pub(crate) fn bytes(&self) -> &[u8]
+        ensures bytes { result.now ≡ self.now.bytes }
+        ensures small { length result.now < 65539 }
+    {
+        &self.bytes
+    }
+
     /// The bytes that came.
     pub(crate) fn into_bytes(self) -> Vec<u8>
         ensures bytes { result.items ≡ self.bytes }

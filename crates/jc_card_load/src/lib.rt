@@ -11,6 +11,7 @@ mod load_end;
 mod load_refusal;
 pub mod reading;
 pub mod record_contents;
+mod refusals;
 
 pub use incoming::IncomingComponent;
 pub use load::OpenLoad;

@@ -12,6 +12,7 @@ use crate::linking::link_package;
 use crate::load::OpenLoad;
 use crate::load_refusal::LoadRefusal;
 use crate::record_contents::{RecordContents, record_contents_of};
+use crate::refusals::note_refusal;
 use jc_cap::assembling::Package;
 use jc_cap::texts::LoadedComponents;
 use jc_heap::HeapRefusal;
@@ -78,7 +79,12 @@ fn link_and_add<S: WordStore>(
 {
     match link_package(alloc, linked, whole) {
         Ok(addition) => add(alloc, memory, linked, whole, addition),
-        Err(refusal) => Ok(Err(refusal)),
+        Err(refusal) => {
+            if memory.notes().are_kept() {
+                note_refusal(refusal, whole, memory.notes());
+            }
+            Ok(Err(refusal))
+        }
     }
 }
 

@@ -1,5 +1,5 @@
 -- What the runtime environment does with an applet: it runs a method of it, and ends what is left open.
-use Rattle.std.specs.Prelude.{ℕ, Bool, true, false, pos, List, [], ◌∷◌, Option, Some, None, slice_index, unwrap_or}
+use Rattle.std.specs.Prelude.{ℕ, Bool, true, false, pos, List, [], ◌∷◌, Option, Some, None, unwrap_or}
 use Rattle.std.specs.Option.{option_and_then}
 use Rattle.jc_heap.specs.Moves.{Abort}
 use Rattle.jc_cap_linkage.specs.declared.pool.VirtualToken.TheVariants.{Public}
@@ -21,7 +21,7 @@ use Rattle.jc_linker.specs.Methods.{method_at}
 use Rattle.jc_linker.specs.Values.{Packages}
 use Rattle.jc_platform.specs.declared.names.PlatformMethod.{PlatformMethod}
 use Rattle.jc_platform.specs.declared.names.PlatformMethod.TheVariants.{AppletSelect, AppletDeselect}
-use Rattle.jc_platform.specs.Numbers.{method_number}
+use Rattle.jc_platform.specs.Tokens.{method_token}
 use Rattle.jc_registry.specs.Registry.{instance_of_applet}
 use Rattle.jc_interp_calls.specs.Entering.{first_frames_of}
 use Rattle.jc_interp.specs.Running.{run_methods}
@@ -50,7 +50,7 @@ method_run budget p number offset arguments owner m = method_run_from budget p (
 
 -- the method that an applet's class has under a name of the platform's class Applet
 unfoldable pub method_named : Packages → MemoryState → ℕ → PlatformMethod → Option Method
-method_named p m applet name = option_and_then (λ f. method_at p f.class 0 (Public (slice_index p.platform.method_tokens (method_number name))))
+method_named p m applet name = option_and_then (λ f. method_at p f.class 0 (Public (method_token p.platform name)))
     (header_at m applet)
 
 -- what the platform's class Applet does itself: an applet may be selected, and does nothing as it is deselected. Its

@@ -134,6 +134,17 @@ counted_is xs r sv e order fits stacked =
       length-take r.bottom xs,
     )
 
+pub ceiling_counts : (xs : List Cell) (r : Region) (sv : List SavedFrame) → r.base ≤ r.bottom → r.bottom ≤ length xs → r.bottom ≤ r.ceiling
+    → AreStacked r.base sv → counted_cells (frames_of xs r sv) ≡ r.ceiling
+ceiling_counts xs r sv order fits high stacked =
+    let shorter : length (take r.base xs) ≡ r.base = omega (arith, length-take r.base xs) in
+    omega (
+      arith,
+      calling_is sv (take r.base xs) r.base shorter stacked,
+      length-drop r.base (take r.bottom xs),
+      length-take r.bottom xs,
+    )
+
 -- ---- how a call ends
 
 decided : (e : Entry) (s : Frames) (a b c : Bool) → nat_le e.arguments (length s.current.stack) ≡ a → nat_le (length (frames_in_callee e s).callers) 31 ≡ b

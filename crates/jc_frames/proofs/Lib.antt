@@ -4,3 +4,4 @@ pub mod Entered
 pub mod Buried
 pub mod Arguments
 pub mod Pairs
+pub mod CallSites

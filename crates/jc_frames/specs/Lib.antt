@@ -2,6 +2,7 @@ pub mod Cells
 pub mod Frames
 pub mod Layout
 pub mod Calls
+pub mod CallSites
 pub mod Laws
 pub mod Reasons
 pub mod ConstantOps

@@ -2,7 +2,7 @@
 ghost use Rattle.std.specs.Prelude.{IsNone, ◌≡◌};
 ghost use Rattle.std.specs.Option.{option_map};
 ghost use Rattle.jc_frames.specs.Frames.{in_frame, unless_fault};
-ghost use Rattle.jc_frames.specs.Calls.{call_or_fault, frames_after_return, frames_with_result};
+ghost use Rattle.jc_frames.specs.Calls.{call_or_fault, counted_cells, frames_after_return, frames_with_result};
 
 use crate::cell::Cell;
 use crate::frames::{Frames, MOST_CELLS, MOST_FRAMES, Region, SavedFrame, push_zeros};
@@ -50,6 +50,14 @@ impl Frames {
             origin: entry.origin,
         };
         Ok(())
+    }
+
+    /// How many cells all frames count, of the 512.
+    #[tactic(auto, using(crate::proofs::Entered::ceiling_counts))]
+    pub fn counted_cells(&self) -> usize
+        ensures { result ≡ counted_cells self.now }
+    {
+        self.current.ceiling
     }
 
     /// Ends the frame that runs: its caller's goes on. `None`, and nothing changes, where nothing

@@ -7,6 +7,7 @@
 pub mod arithmetic_ops;
 pub mod branch_ops;
 pub mod call_law;
+mod call_sites;
 mod calls;
 pub mod cell;
 pub mod constant_ops;
@@ -21,6 +22,7 @@ pub mod return_ops;
 mod stack;
 pub mod stack_ops;
 
+pub use call_sites::CallSite;
 pub use cell::Cell;
 pub use frames::{Frames, MOST_CELLS, MOST_FRAMES};
 pub use method::{CallKind, Entry, Origin, ReturnPoint};

@@ -25,6 +25,16 @@ impl Frames {
         self.cells.pop().ok_or(CodeFault)
     }
 
+    // Puts a cell of the wrong kind back to where it was found.
+    #[cold]
+    fn put_back(&mut self, cell: Cell) -> CodeFault
+        requires { length self.old.current.stack < self.old.current.limit }
+        ensures { self.new ≡ with_stack self.old (cell ∷ self.old.current.stack) }
+    {
+        self.push(cell);
+        CodeFault
+    }
+
     /// Takes a short from the top.
     #[inline(always)]
     pub fn pop_short(&mut self) -> Result<i16, CodeFault>
@@ -34,7 +44,7 @@ impl Frames {
     {
         match self.pop()? {
             Cell::Short(x) => Ok(x),
-            _ => Err(CodeFault),
+            other => Err(self.put_back(other)),
         }
     }
 
@@ -47,7 +57,7 @@ impl Frames {
     {
         match self.pop()? {
             Cell::Reference(r) => Ok(r),
-            _ => Err(CodeFault),
+            other => Err(self.put_back(other)),
         }
     }
 
@@ -59,7 +69,7 @@ impl Frames {
         ensures room { OnOk result (length self.new.current.stack < self.new.current.limit) }
     {
         match self.pop()? {
-            Cell::Short(_) => Err(CodeFault),
+            short @ Cell::Short(_) => Err(self.put_back(short)),
             cell => Ok(cell),
         }
     }
@@ -208,8 +218,8 @@ impl Frames {
         }
     }
 
-    // How many more cells fit.
-    fn room(&self) -> usize
+    /// How many more cells fit.
+    pub fn room(&self) -> usize
         ensures { result + length self.now.current.stack ≡ self.now.current.limit }
     {
         self.current.ceiling - self.cells.len()

@@ -26,7 +26,7 @@ native_call_in System method args p m = system_call method args p m
 native_call_in Aids method args p m = aid_call method args p m
 native_call_in Pins method args p m = pin_call method args p m
 native_call_in Applets method args p m = applet_call method args p m
-native_call_in Apdus method args p m = apdu_call method args m
+native_call_in Apdus method args p m = apdu_call method args p m
 
 -- with these arguments, the receiver first
 unfoldable pub native_call : PlatformMethod → List Cell → Packages → MemoryState → NativeProgram

@@ -38,6 +38,6 @@ pub fn call_native<S: WordStore>(
         Part::Aids => call_aid(method, args, memory, linked),
         Part::Pins => call_pin(method, args, memory, linked),
         Part::Applets => call_applet(method, args, memory, linked),
-        Part::Apdus => call_apdu(method, args, memory),
+        Part::Apdus => call_apdu(method, args, memory, linked),
     }
 }

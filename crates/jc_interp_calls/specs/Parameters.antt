@@ -10,6 +10,8 @@ use Rattle.jc_frames.specs.declared.cell.Cell.{Cell}
 use Rattle.jc_frames.specs.Cells.{as_short, as_reference}
 use Rattle.jc_platform.specs.declared.names.PlatformClass.TheVariants.{Aid, Apdu}
 use Rattle.jc_platform.specs.declared.names.PlatformMethod.{PlatformMethod}
+use Rattle.jc_platform.specs.declared.names.PlatformMethod.TheVariants.{AidGetPartialBytes, AidPartialEquals, AidRidEquals, ApduSendBytesLong}
+use Rattle.jc_platform.specs.declared.names.PlatformMethod.TheVariants.{MultiSelectableDeselect, MultiSelectableSelect, OwnerPinSetValidatedFlag}
 use Rattle.jc_platform.specs.declared.names.PlatformMethod.TheVariants.{ObjectEquals, PinCheck, AppletGetShareableInterfaceObject, AppletRegisterBytes}
 use Rattle.jc_platform.specs.declared.names.PlatformMethod.TheVariants.{AppletProcess, ApduReceiveBytes, ApduSendBytes, ApduSetOutgoingAndSend}
 use Rattle.jc_platform.specs.declared.names.PlatformMethod.TheVariants.{ApduSetOutgoingLength, AidInit, AidEquals, AidEqualsBytes, AidGetBytes, OwnerPinInit}
@@ -37,10 +39,12 @@ numbers n = record { reference = None; numbers = n }
 abbrev pub reference_and : ReferenceType → ℕ → Parameters
 reference_and wanted n = record { reference = Some wanted; numbers = n }
 
--- the parameters of a method behind its receiver; a method without a receiver has none here
+-- the parameters of a method behind its receiver; a method without a receiver has none here, and the first number of
+-- getPartialBytes, below its reference, is not told
 unfoldable pub parameters_of : PlatformMethod → Parameters
 parameters_of ObjectEquals = reference_and Anything 0
 parameters_of AidEquals = reference_and Anything 0
+parameters_of AidRidEquals = reference_and Anything 0
 parameters_of AppletProcess = reference_and (Class Apdu) 0
 parameters_of AppletGetShareableInterfaceObject = reference_and (Class Aid) 1
 parameters_of AidGetBytes = reference_and Bytes 1
@@ -50,6 +54,9 @@ parameters_of AidInit = reference_and Bytes 2
 parameters_of AidEqualsBytes = reference_and Bytes 2
 parameters_of OwnerPinCheck = reference_and Bytes 2
 parameters_of OwnerPinUpdate = reference_and Bytes 2
+parameters_of AidPartialEquals = reference_and Bytes 2
+parameters_of AidGetPartialBytes = reference_and Bytes 2
+parameters_of ApduSendBytesLong = reference_and Bytes 2
 parameters_of ApduReceiveBytes = numbers 1
 parameters_of ApduSetOutgoingLength = numbers 1
 parameters_of CardExceptionInit = numbers 1
@@ -62,6 +69,9 @@ parameters_of SystemExceptionInit = numbers 1
 parameters_of TransactionExceptionInit = numbers 1
 parameters_of ApduExceptionInit = numbers 1
 parameters_of UserExceptionInit = numbers 1
+parameters_of OwnerPinSetValidatedFlag = numbers 1
+parameters_of MultiSelectableSelect = numbers 1
+parameters_of MultiSelectableDeselect = numbers 1
 parameters_of ApduSendBytes = numbers 2
 parameters_of ApduSetOutgoingAndSend = numbers 2
 parameters_of OwnerPinInit = numbers 2

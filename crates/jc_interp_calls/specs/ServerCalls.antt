@@ -1,5 +1,5 @@
 -- The runtime environment asks a server for its shareable interface object.
-use Rattle.std.specs.Prelude.{ℕ, ◌+◌, Bool, slice_index, Option, Some, None, if◌then◌else◌}
+use Rattle.std.specs.Prelude.{ℕ, ◌+◌, Bool, Option, Some, None, if◌then◌else◌}
 use Rattle.jc_memory.specs.declared.registers.Owner.TheVariants.{Applet}
 use Rattle.jc_memory.specs.declared.registers.Registers.{Registers}
 use Rattle.jc_memory.specs.State.{MemoryState}
@@ -7,7 +7,7 @@ use Rattle.jc_memory.specs.Programs.{Program, Finish}
 use Rattle.jc_memory.specs.Cells.{header_at}
 use Rattle.jc_cap_linkage.specs.declared.pool.VirtualToken.TheVariants.{Public}
 use Rattle.jc_platform.specs.declared.names.PlatformMethod.TheVariants.{AppletGetShareableInterfaceObject}
-use Rattle.jc_platform.specs.Numbers.{method_number}
+use Rattle.jc_platform.specs.Tokens.{method_token}
 use Rattle.jc_linker.specs.declared.target.Method.{Method}
 use Rattle.jc_linker.specs.declared.target.Method.TheVariants.{Code, Native}
 use Rattle.jc_linker.specs.Values.{Packages}
@@ -29,7 +29,7 @@ use Rattle.jc_interp_calls.specs.MethodComponent.{method_component_of}
 
 -- getShareableInterfaceObject, as the server's class has it
 abbrev pub sharing_method : Packages → ℕ → Option Method
-sharing_method p class = method_at p class 0 (Public (slice_index p.platform.method_tokens (method_number AppletGetShareableInterfaceObject)))
+sharing_method p class = method_at p class 0 (Public (method_token p.platform AppletGetShareableInterfaceObject))
 
 -- a local is set in the frame that has begun
 abbrev pub with_local : ℕ → Cell → Next Frames → Next Frames

@@ -7,6 +7,7 @@ pub mod enter;
 pub mod invoke;
 pub mod method_component;
 pub mod method_return;
+pub mod notes;
 pub mod parameters;
 pub mod server_call;
 pub mod throw;

@@ -56,7 +56,7 @@ pub const fn parameters_of(method: PlatformMethod) -> Parameters
     ensures { result ≡ parameters_of method }
 {
     match method {
-        PlatformMethod::ObjectEquals | PlatformMethod::AidEquals => {
+        PlatformMethod::ObjectEquals | PlatformMethod::AidEquals | PlatformMethod::AidRidEquals => {
             reference_and(ReferenceType::Anything, 0)
         }
         PlatformMethod::AppletProcess => reference_and(
@@ -72,7 +72,10 @@ pub const fn parameters_of(method: PlatformMethod) -> Parameters
         | PlatformMethod::AidInit
         | PlatformMethod::AidEqualsBytes
         | PlatformMethod::OwnerPinCheck
-        | PlatformMethod::OwnerPinUpdate => reference_and(ReferenceType::Bytes, 2),
+        | PlatformMethod::OwnerPinUpdate
+        | PlatformMethod::AidPartialEquals
+        | PlatformMethod::AidGetPartialBytes
+        | PlatformMethod::ApduSendBytesLong => reference_and(ReferenceType::Bytes, 2),
         PlatformMethod::ApduReceiveBytes
         | PlatformMethod::ApduSetOutgoingLength
         | PlatformMethod::CardExceptionInit
@@ -84,7 +87,10 @@ pub const fn parameters_of(method: PlatformMethod) -> Parameters
         | PlatformMethod::SystemExceptionInit
         | PlatformMethod::TransactionExceptionInit
         | PlatformMethod::ApduExceptionInit
-        | PlatformMethod::UserExceptionInit => numbers(1),
+        | PlatformMethod::UserExceptionInit
+        | PlatformMethod::OwnerPinSetValidatedFlag
+        | PlatformMethod::MultiSelectableSelect
+        | PlatformMethod::MultiSelectableDeselect => numbers(1),
         PlatformMethod::ApduSendBytes
         | PlatformMethod::ApduSetOutgoingAndSend
         | PlatformMethod::OwnerPinInit => numbers(2),

@@ -8,11 +8,12 @@ ghost use Rattle.jc_interp_calls.specs.Throwing.{with_reason};
 
 use crate::catch::{HandlerResult, catch_in_method};
 use crate::method_return::registers_of_caller;
+use crate::notes::note_exception;
 use jc_firewall::access::Access;
 use jc_frames::{CallKind, Cell, CodeFault, Exception, Frames, Outcome};
 use jc_heap::Facts;
 use jc_linker::linked::Linked;
-use jc_memory::Memory;
+use jc_memory::{FaultKind, Memory};
 use jc_platform::names::PlatformClass;
 use jc_transient::{CellValue, ClassWord, Ref};
 use jc_words::WordStore;
@@ -45,6 +46,7 @@ fn unwind<S: WordStore>(
 {
     match catch_in_method(class, &frames.origin(), place, linked) {
         HandlerResult::Caught(target) => {
+            memory.notes().forget();
             handle(thrown, target, frames)?;
             Ok(())
         }
@@ -59,6 +61,7 @@ fn unwind<S: WordStore>(
             match call {
                 CallKind::Instruction => unwind(class, thrown, place, frames, memory, linked),
                 CallKind::ShareableRequest => {
+                    memory.notes().forget();
                     frames.try_push(Cell::Reference(Ref::null()))?;
                     Ok(())
                 }
@@ -80,6 +83,7 @@ fn throw_object<S: WordStore>(
     ensures { Executes (object_unwind thrown place linked.now frames.old memory.old) memory.old
         (after_instruction result frames.new memory.new) }
 {
+    note_exception(thrown, place, frames, memory, linked);
     match memory.header(thrown) {
         Some(facts) => unwind(facts.class(), thrown, place, frames, memory, linked),
         None => Err(StepExit::End(Outcome::Fault)),
@@ -103,6 +107,7 @@ pub fn athrow<S: WordStore>(
     let facts = object(thrown, memory)?;
     let throwable = linked.platform().class_word(PlatformClass::Throwable);
     if !is_instance_of(facts, throwable, linked) {
+        memory.notes().fault(FaultKind::WrongClass);
         return Err(StepExit::End(Outcome::Fault));
     }
     allow(Access::Throw, facts, memory, linked)?;

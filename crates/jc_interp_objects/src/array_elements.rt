@@ -9,7 +9,7 @@ use jc_firewall::access::Access;
 use jc_frames::{Exception, FrameExit, Outcome};
 use jc_heap::{Facts, Kind};
 use jc_linker::linked::Linked;
-use jc_memory::Memory;
+use jc_memory::{FaultKind, Memory};
 use jc_opcodes::instr::ValueType;
 use jc_transient::{CellValue, ClassWord, Ref};
 use jc_words::WordStore;
@@ -75,6 +75,7 @@ pub(crate) fn array<S: WordStore>(
 {
     let facts = object(reference, memory)?;
     if !is_array(of_type, facts.kind) {
+        memory.notes().fault(FaultKind::WrongClass);
         return Err(FrameExit::End(Outcome::Fault));
     }
     allow(Access::ArrayElement, facts, memory, linked)?;
@@ -133,6 +134,7 @@ fn allow_element<S: WordStore>(
         return Ok(());
     }
     let Some(facts) = memory.header(reference) else {
+        memory.notes().fault(FaultKind::NoObject);
         return Err(FrameExit::End(Outcome::Fault));
     };
     if is_a(facts, class, linked) {

@@ -10,7 +10,7 @@ use crate::field_names::{FieldOfClass, field_named};
 use jc_firewall::access::Access;
 use jc_frames::{CodeFault, FrameExit, Frames, Outcome};
 use jc_linker::linked::Linked;
-use jc_memory::Memory;
+use jc_memory::{FaultKind, Memory};
 use jc_opcodes::instr::ValueType;
 use jc_transient::{CellValue, Ref};
 use jc_words::WordStore;
@@ -37,6 +37,7 @@ fn field_cell<S: WordStore>(
     let facts = object(reference, memory)?;
     let here = is_instance_of(facts, field.class, linked);
     if !here || field.cell >= u32::from(facts.length) {
+        memory.notes().fault(FaultKind::WrongClass);
         return Err(FrameExit::End(Outcome::Fault));
     }
     allow(Access::InstanceField, facts, memory, linked)?;

@@ -1,9 +1,9 @@
 -- Which packages a package imports.
-use Rattle.std.specs.Prelude.{◌≡◌, ℕ, ◌-◌, ◌==◌, ◌&&◌, nat_le, Bool, List, [], ◌∷◌, Option, Some, None, Result, Ok, Err, if◌then◌else◌, slice_get}
+use Rattle.std.specs.Prelude.{◌≡◌, ℕ, ◌-◌, ◌==◌, ◌&&◌, nat_le, Bool, List, [], ◌∷◌, Option, Some, None, Result, Ok, Err, if◌then◌else◌}
 use Rattle.std.specs.Option.{option_map, option_and_then}
 use Rattle.jc_platform.specs.declared.row.Version.{Version}
-use Rattle.jc_platform.specs.Numbers.{package_number}
 use Rattle.jc_platform.specs.Platform.{package_by_number}
+use Rattle.jc_platform.specs.Tokens.{version_of_package}
 use Rattle.jc_cap_linkage.specs.Packages.{NamedPackage}
 use Rattle.jc_linker.specs.Classes.{package_in}
 use Rattle.jc_linker.specs.Lookups.{package_with_aid}
@@ -15,7 +15,7 @@ use Rattle.jc_linker.specs.Answers.{then_on}
 -- the version of a loaded package, or else of one of the platform
 abbrev pub version_by : Packages → ℕ → Option PackageValue → Option Version
 version_by p number (Some q) = Some (record { major = q.name.major_version; minor = q.name.minor_version })
-version_by p number None = option_and_then (λ named. slice_get p.platform.versions (package_number named)) (package_by_number p.platform number)
+version_by p number None = option_and_then (version_of_package p.platform) (package_by_number p.platform number)
 
 unfoldable pub version_of : Packages → ℕ → Option Version
 version_of p number = version_by p number (package_in p number)

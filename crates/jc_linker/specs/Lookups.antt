@@ -24,6 +24,14 @@ methods_of (Some q) = q.methods
 unfoldable pub code_at : Packages → ℕ → ℕ → List ℕ
 code_at p number offset = drop offset (methods_of (package_in p number))
 
+-- the AID of a package
+abbrev pub aid_of : Option PackageValue → List ℕ
+aid_of None = []
+aid_of (Some q) = q.name.aid
+
+unfoldable pub aid_at : Packages → ℕ → List ℕ
+aid_at p number = aid_of (package_in p number)
+
 -- the size of a package's static image in bytes, and how many references it begins with
 abbrev pub statics_of : Option PackageValue → ℕ × ℕ
 statics_of None = (0, 0)
@@ -54,5 +62,5 @@ entry_with_aid p number aid = option_and_then if_entry (option_and_then (λ q. p
 
 -- the number of the package with this AID, one of the platform or the first that was loaded
 unfoldable pub package_with_aid : Packages → List ℕ → Option ℕ
-package_with_aid p aid = option_or (option_map (number_in p.platform) (package_by_aid aid))
+package_with_aid p aid = option_or (option_map (number_in p.platform) (package_by_aid p.platform aid))
     (option_map (λ i. i + 1) (position (λ q. bytes_eq q.name.aid aid) p.loaded))

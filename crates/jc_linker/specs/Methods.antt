@@ -1,12 +1,12 @@
 -- Methods by class and token.
-use Rattle.std.specs.Prelude.{ℕ, ◌-◌, ◌/◌, ◌==◌, nat_lt, List, [], ◌∷◌, Option, Some, None, if◌then◌else◌, slice_get, slice_index, filter, find}
+use Rattle.std.specs.Prelude.{ℕ, ◌-◌, ◌/◌, ◌==◌, nat_lt, List, [], ◌∷◌, Option, Some, None, if◌then◌else◌, slice_get, filter, find}
 use Rattle.std.specs.Option.{option_and_then, option_map}
 use Rattle.jc_platform.specs.declared.names.PlatformClass.{PlatformClass}
 use Rattle.jc_platform.specs.declared.names.MethodKind.TheVariants as kinds
 use Rattle.jc_platform.specs.declared.names.PlatformMethod.{PlatformMethod}
 use Rattle.jc_platform.specs.Distinct.{class_word}
 use Rattle.jc_platform.specs.Hierarchy.{implementation_of, interface_of}
-use Rattle.jc_platform.specs.Numbers.{method_number}
+use Rattle.jc_platform.specs.Tokens.{method_token}
 use Rattle.jc_platform.specs.Platform.{class_by_word, method_by_token}
 use Rattle.jc_linker.specs.declared.target.Method.{Method}
 use Rattle.jc_linker.specs.declared.target.Method.TheVariants.{Code, Native}
@@ -76,7 +76,7 @@ in_list token (Some i) = by_token (slice_get i.tokens token)
 
 -- the token of a method of the platform
 abbrev pub token_of : Packages → PlatformMethod → ℕ
-token_of p m = slice_index p.platform.method_tokens (method_number m)
+token_of p m = method_token p.platform m
 
 -- the method of the platform's interface with this token, by the platform's class that implements it
 abbrev pub native_implementation : Packages → ℕ → ℕ → Option PlatformClass → Search ℕ

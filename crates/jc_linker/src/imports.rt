@@ -26,7 +26,7 @@ impl Linked {
             });
         }
         let named = self.platform.package(number)?;
-        Some(self.platform.version(named))
+        self.platform.version(named)
     }
 
     /// The number of the package that is imported, if its version fits.

@@ -3,11 +3,10 @@ ghost use Rattle.std.specs.Prelude.{◌≡◌, ◌<◌, ◌≤◌, IfSome, lengt
 ghost use Rattle.std.specs.Option.{option_map};
 ghost use Rattle.std.specs.Str.{bytes_eq};
 ghost use Rattle.jc_linker.specs.Classes.{package_in};
-ghost use Rattle.jc_linker.specs.Lookups.{applet_entry, code_at, entry_at, entry_with_aid, package_with_aid, methods_of, statics_at, target_at};
+ghost use Rattle.jc_linker.specs.Lookups.{aid_at, applet_entry, code_at, entry_at, entry_with_aid, package_with_aid, methods_of, statics_at, target_at};
 
 use crate::linked::Linked;
 use crate::target::Target;
-use jc_platform::names::PlatformPackage;
 
 impl Linked {
     /// What an entry of a package's constant pool resolves to; none only past the pool's end.
@@ -26,6 +25,17 @@ impl Linked {
     {
         match self.package(package_number) {
             Some(package) => &package.methods[offset as usize..],
+            None => &[],
+        }
+    }
+
+    /// The AID of a package that was loaded; no bytes where there is no such package.
+    #[tactic(auto, unfolding(crate::specs::Lookups::aid_at))]
+    pub fn aid_at(&self, package_number: u8) -> &[u8]
+        ensures { result.now ≡ aid_at self.entry.now package_number }
+    {
+        match self.package(package_number) {
+            Some(package) => &package.name.aid,
             None => &[],
         }
     }
@@ -84,7 +94,7 @@ impl Linked {
     pub fn package_with_aid(&self, aid: &[u8]) -> Option<u8>
         ensures { result ≡ package_with_aid self.now aid.now }
     {
-        if let Some(named) = PlatformPackage::with_aid(aid) {
+        if let Some(named) = self.platform.package_with_aid(aid) {
             return Some(self.platform.number(named));
         }
         let place = self.package_index(aid)?;

@@ -9,6 +9,7 @@ ghost use Rattle.jc_memory.specs.Cells.{word_of, bytes_at, words_at, cells_store
 
 use crate::cells::word_of;
 use crate::memory::Memory;
+use crate::shortages::words_from;
 use jc_heap::{ChangeRefusal, Elements};
 use jc_transient::{ClearEvent, Ram, Ref};
 use jc_words::WordStore;
@@ -66,7 +67,13 @@ impl<S: WordStore> Memory<S> {
     {
         let facts = self.facts(object);
         match facts.event {
-            None => self.heap.set_run(object, i, Elements::Words(words)),
+            None => {
+                let done = self.heap.set_run(object, i, Elements::Words(words));
+                if let Err(refusal) = done {
+                    self.note_refused_change(refusal, words_from(facts, i, words.len()));
+                }
+                done
+            }
             Some(event) => {
                 self.ram.put_words(event, facts.place + i, words);
                 Ok(())
@@ -85,7 +92,13 @@ impl<S: WordStore> Memory<S> {
     {
         let facts = self.facts(object);
         match facts.event {
-            None => self.heap.set_run(object, i, Elements::Bytes(bytes)),
+            None => {
+                let done = self.heap.set_run(object, i, Elements::Bytes(bytes));
+                if let Err(refusal) = done {
+                    self.note_refused_change(refusal, words_from(facts, i, bytes.len()));
+                }
+                done
+            }
             Some(event) => {
                 self.ram.put_bytes(event, facts.place + i, bytes);
                 Ok(())

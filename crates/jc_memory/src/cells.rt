@@ -83,7 +83,13 @@ impl<S: WordStore> Memory<S> {
     {
         let facts = self.facts(object);
         match facts.event {
-            None => self.heap.set(object, i, word_of(value)),
+            None => {
+                let done = self.heap.set(object, i, word_of(value));
+                if let Err(refusal) = done {
+                    self.note_refused_change(refusal, 1);
+                }
+                done
+            }
             Some(event) => {
                 self.ram.fill(event, facts.place + i, 1, value);
                 Ok(())

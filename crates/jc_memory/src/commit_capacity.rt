@@ -27,7 +27,11 @@ pub fn has_space<S: WordStore>(memory: &Memory<S>, kind: Kind, cells: u16) -> bo
     requires up { memory.now.heap.down ≡ false }
     ensures { result ≡ has_space memory.now kind cells }
 {
-    memory.heap().has_space(kind, cells)
+    let has_space = memory.heap().has_space(kind, cells);
+    if !has_space {
+        memory.note_no_space(kind, cells);
+    }
+    has_space
 }
 
 /// Whether the open transaction has no room for changes of these words. Outside a transaction there is room for each change.
@@ -36,7 +40,11 @@ pub fn lacks_capacity<S: WordStore>(memory: &Memory<S>, touches: &[Touch]) -> bo
     requires there { All (λ touch. CanTouch memory.now.heap touch) touches.now }
     ensures { result ≡ lacks_capacity memory.now touches.now }
 {
-    memory.heap().is_open() && !memory.heap().fits(touches)
+    let lacks_capacity = memory.heap().is_open() && !memory.heap().fits(touches);
+    if lacks_capacity {
+        memory.note_full_transaction(memory.heap().cost(touches));
+    }
+    lacks_capacity
 }
 
 /// Makes a persistent object, for which there is space and room. All that was there stays as it was.

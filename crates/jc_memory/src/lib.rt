@@ -12,9 +12,11 @@ mod flags;
 mod making;
 mod marks;
 mod memory;
+mod notes;
 mod power;
 mod program_laws;
 mod registers;
+mod shortages;
 mod transaction;
 
 pub use commit_capacity::{
@@ -24,6 +26,10 @@ pub use commit_capacity::{
 pub use making::NewObject;
 pub use marks::{Marks, unset_flags};
 pub use memory::{FIXED_OBJECTS, MOST_COMMAND, MOST_SENT, Memory};
+pub use notes::{
+    Cause, Denial, FaultKind, MOST_AID, MOST_SPOTS, Note, Notes, Phase, RefusedLoad, Shortage,
+    Space, Spot, Step, TopCell,
+};
 pub use power::Volatile;
 pub use program_laws::{
     aborts_null_dead_references, calls_follow_one_another, losses_fall_before_a_move,

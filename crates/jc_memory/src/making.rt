@@ -76,9 +76,16 @@ impl<S: WordStore> Memory<S> {
         requires up { self.old.heap.down ≡ false }
         ensures { Executes (new_object self.old object) self.old (after_making result self.new) }
     {
-        match object.event {
+        if self.notes.are_kept() {
+            self.note_want_of_space(object.event, object.kind, object.length);
+        }
+        let made = match object.event {
             None => self.make_persistent(object),
             Some(event) => self.make_transient(event, object),
+        };
+        if let Err(HeapRefusal::CommitFull) = made {
+            self.note_full_transaction(1);
         }
+        made
     }
 }

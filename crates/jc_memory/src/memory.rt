@@ -8,6 +8,7 @@ ghost use Rattle.jc_memory.specs.Cells.{IsHeaderOf, header_at};
 ghost use Rattle.jc_memory.specs.Marks.{AreObjects};
 
 use crate::marks::Marks;
+use crate::notes::Notes;
 use crate::registers::Registers;
 use arrayvec::ArrayVec;
 use jc_heap::{Facts, Heap};
@@ -37,6 +38,8 @@ pub struct Memory<S: WordStore> {
     pub(crate) registers: Registers,
     pub(crate) command: ArrayVec<u8, MOST_COMMAND>,
     pub(crate) sent: ArrayVec<u8, MOST_SENT>,
+    // What it says is no part of the value.
+    pub(crate) notes: Notes,
 }
 
 impl<S: WordStore> Model for Memory<S> {
@@ -85,6 +88,7 @@ impl<S: WordStore> Memory<S> {
             registers: Registers::at_reset(),
             command: ArrayVec::new(),
             sent: ArrayVec::new(),
+            notes: Notes::nowhere(),
         }
     }
 
@@ -101,8 +105,22 @@ impl<S: WordStore> Memory<S> {
             registers: _,
             command: _,
             sent: _,
+            notes: _,
         } = self;
         (heap, ram)
+    }
+
+    /// Where it is noted from now on what keeps code from going on.
+    pub fn explain(&mut self, notes: Notes)
+        ensures { self.new ≡ self.old }
+    {
+        self.notes = notes;
+    }
+
+    /// Where it is noted what keeps code from going on.
+    #[inline(always)]
+    pub fn notes(&self) -> &Notes {
+        &self.notes
     }
 
     /// The heap, to be read.

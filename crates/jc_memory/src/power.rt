@@ -8,6 +8,7 @@ ghost use Rattle.jc_memory.specs.Power.{resumed_memory, volatile_of};
 
 use crate::marks::Marks;
 use crate::memory::{FIXED_OBJECTS, MOST_COMMAND, MOST_SENT, Memory};
+use crate::notes::Notes;
 use crate::registers::Registers;
 use arrayvec::ArrayVec;
 use jc_heap::Heap;
@@ -24,6 +25,7 @@ pub struct Volatile {
     registers: Registers,
     command: ArrayVec<u8, MOST_COMMAND>,
     sent: ArrayVec<u8, MOST_SENT>,
+    notes: Notes,
 }
 
 impl Model for Volatile {
@@ -59,6 +61,7 @@ impl<S: WordStore> Memory<S> {
             registers,
             command,
             sent,
+            notes,
         } = self;
         let volatile = Volatile {
             ram,
@@ -67,6 +70,7 @@ impl<S: WordStore> Memory<S> {
             registers,
             command,
             sent,
+            notes,
         };
         (heap.into_store(), volatile)
     }
@@ -86,6 +90,7 @@ impl<S: WordStore> Memory<S> {
             registers,
             command,
             sent,
+            notes,
         } = volatile;
         let heap = Heap::resume(store);
         marks.clear();
@@ -94,6 +99,7 @@ impl<S: WordStore> Memory<S> {
         memory.registers = registers;
         memory.command = command;
         memory.sent = sent;
+        memory.notes = notes;
         memory
     }
 }

@@ -58,7 +58,11 @@ impl<S: WordStore> Memory<S> {
         requires reference { IsLegalValue self.old.heap.now place v }
         ensures { Executes (place_write self.old place v) self.old (after_change result self.new) }
     {
-        self.heap.write(place, v)
+        let done = self.heap.write(place, v);
+        if let Err(refusal) = done {
+            self.note_refused_change(refusal, 1);
+        }
+        done
     }
 
     /// Writes several places as one change: none, where the transaction has no room for all of them. Each has a word of
@@ -72,7 +76,11 @@ impl<S: WordStore> Memory<S> {
         ensures { Executes (places_write self.old changes.now) self.old
             (after_change result self.new) }
     {
-        self.heap.set_all(changes)
+        let done = self.heap.set_all(changes);
+        if let Err(refusal) = done {
+            self.note_refused_change(refusal, changes.len());
+        }
+        done
     }
 
     /// Sets cells of a persistent object to bytes from an index on, and places behind them that have words of their own,

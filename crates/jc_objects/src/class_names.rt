@@ -38,5 +38,9 @@ pub const fn class_name(class: PlatformClass) -> &'static [u8]
         PlatformClass::TransactionException => b"TransactionException",
         PlatformClass::ApduException => b"APDUException",
         PlatformClass::UserException => b"UserException",
+        PlatformClass::Iso7816 => b"ISO7816",
+        PlatformClass::MultiSelectable => b"MultiSelectable",
+        PlatformClass::AppletEvent => b"AppletEvent",
+        PlatformClass::ExtendedLength => b"ExtendedLength",
     }
 }

@@ -1,12 +1,12 @@
 -- What is above a line, with one more row.
-use Rattle.std.proofs.Common.{◌≡◌, ◌<◌, ℕ, List, ◌∷◌, Option, Some, None, length, set, ap, subst, ◌∙◌}
+use Rattle.std.proofs.Common.{◌≡◌, ◌<◌, ℕ, true, List, ◌∷◌, Option, Some, None, length, set, ap, subst, ◌∙◌}
 use Rattle.std.specs.Prelude.{unwrap_or, if◌then◌else◌}
 use Rattle.jc_platform.specs.declared.names.PlatformPackage.{PlatformPackage}
 use Rattle.jc_platform.specs.declared.names.PlatformClass.{PlatformClass}
 use Rattle.jc_platform.specs.declared.names.PlatformMethod.{PlatformMethod}
 use Rattle.jc_platform.specs.declared.reading.Reading.{Reading}
 use Rattle.jc_platform.specs.declared.row.Row.{Row}
-use Rattle.jc_platform.specs.declared.row.Row.TheVariants.{Package, Class, Method}
+use Rattle.jc_platform.specs.declared.row.Row.TheVariants.{Extended, Package, Class, Method}
 use Rattle.jc_platform.specs.declared.row.Version.{Version}
 use Rattle.jc_platform.specs.Numbers.{package_number, class_number, method_number, same_package, same_class, same_method}
 use Rattle.jc_platform.specs.Reading.{above_of}
@@ -16,6 +16,7 @@ use Rattle.jc_platform.proofs.Lists.{read_written}
 -- below a package
 abbrev with_package : Above → PlatformPackage → Version → Above
 with_package a p v = record {
+  extended = a.extended;
   home = Some p;
   class = None;
   first = Some (unwrap_or a.first p);
@@ -27,6 +28,7 @@ with_package a p v = record {
 -- below a class
 abbrev with_class : Above → PlatformClass → ℕ → Above
 with_class a c t = record {
+  extended = a.extended;
   home = a.home;
   class = Some c;
   first = a.first;
@@ -38,6 +40,7 @@ with_class a c t = record {
 -- below a method
 abbrev with_method : Above → PlatformMethod → ℕ → Above
 with_method a m t = record {
+  extended = a.extended;
   home = a.home;
   class = a.class;
   first = a.first;
@@ -63,6 +66,7 @@ package_taken : (r : Reading) (p : PlatformPackage) (v : Version) (rows : List R
 package_taken r p v rows h e =
     let written : above_of (package_in r (set r.versions (package_number p) (Some v)) (unwrap_or r.first p) p) ≡ with_package (above_of r) p v =
     λ i. record {
+      extended = r.extended;
       home = Some p;
       class = None;
       first = Some (unwrap_or r.first p);
@@ -77,6 +81,7 @@ class_taken : (r : Reading) (c : PlatformClass) (t : ℕ) (rows : List Row) → 
 class_taken r c t rows h e =
     let written : above_of (class_in r (class_number c) c t) ≡ with_class (above_of r) c t =
     λ i. record {
+      extended = r.extended;
       home = r.home;
       class = Some c;
       first = r.first;
@@ -91,6 +96,7 @@ method_taken : (r : Reading) (m : PlatformMethod) (t : ℕ) (rows : List Row) �
 method_taken r m t rows h e =
     let written : above_of (method_in r (method_number m) t) ≡ with_method (above_of r) m t =
     λ i. record {
+      extended = r.extended;
       home = r.home;
       class = r.class;
       first = r.first;
@@ -99,6 +105,13 @@ method_taken r m t rows h e =
       method_token = λ n. (read_written r.method_tokens (method_number m) (method_number n) (Some t) h) i;
     } in
     written ∙ ap (λ (a : Above). with_method a m t) e
+
+-- a reader that took the first line of an extended table in
+abbrev pub extended_in : Reading → Reading
+extended_in r = record r { extended = true }
+
+pub above-extended_in : (r : Reading) (rows : List Row) → above_of r ≡ above rows → above_of (extended_in r) ≡ above (Extended ∷ rows)
+above-extended_in r rows e = ap (λ (a : Above). record a { extended = true }) e
 
 pub above-package_in : (r : Reading) (vs : List (Option Version)) (f p : PlatformPackage) (v : Version) → vs ≡ set r.versions (package_number p) (Some v)
     → f ≡ unwrap_or r.first p → package_number p < length r.versions → (rows : List Row) → above_of r ≡ above rows

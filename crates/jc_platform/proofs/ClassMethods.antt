@@ -8,7 +8,7 @@ use Rattle.jc_platform.specs.declared.names.PlatformClass.TheVariants.{Arithmeti
 use Rattle.jc_platform.specs.declared.names.PlatformClass.TheVariants.{ClassCastException, NegativeArraySizeException, NullPointerException, SecurityException}
 use Rattle.jc_platform.specs.declared.names.PlatformClass.TheVariants.{Shareable, Pin, Applet, Apdu, Aid, JcSystem, Util, OwnerPin, CardException}
 use Rattle.jc_platform.specs.declared.names.PlatformClass.TheVariants.{CardRuntimeException, IsoException, PinException, SystemException, TransactionException}
-use Rattle.jc_platform.specs.declared.names.PlatformClass.TheVariants.{ApduException, UserException}
+use Rattle.jc_platform.specs.declared.names.PlatformClass.TheVariants.{ApduException, UserException, Iso7816, MultiSelectable, AppletEvent, ExtendedLength}
 use Rattle.jc_platform.specs.Numbers.{class_number}
 use Rattle.jc_platform.specs.declared.names.MethodName.{MethodName}
 use Rattle.jc_platform.specs.Seen.{method_value}
@@ -30,9 +30,9 @@ any-filter p q r (x ∷ xs) =
 
 -- the places of the classes' first methods, and behind them how many methods there are
 abbrev pub firsts : List ℕ
-firsts = 0 ∷ 2 ∷ 3 ∷ 4 ∷ 5 ∷ 6 ∷ 7 ∷ 8 ∷ 9 ∷ 10 ∷ 11 ∷ 12 ∷ 13 ∷ 13 ∷ 17 ∷ 25 ∷ 32 ∷ 36 ∷ 51 ∷ 56 ∷ 63 ∷ 67 ∷ 71 ∷ 73 ∷ 75 ∷ 77 ∷ 79 ∷ 81 ∷ 83 ∷ []
+firsts = 0 ∷ 2 ∷ 3 ∷ 4 ∷ 5 ∷ 6 ∷ 7 ∷ 8 ∷ 9 ∷ 10 ∷ 11 ∷ 12 ∷ 13 ∷ 13 ∷ 17 ∷ 26 ∷ 50 ∷ 57 ∷ 79 ∷ 85 ∷ 94 ∷ 98 ∷ 102 ∷ 104 ∷ 106 ∷ 108 ∷ 110 ∷ 112 ∷ 115 ∷ 115 ∷ 117 ∷ 118 ∷ 118 ∷ []
 
-pub ends_within : (c : PlatformClass) → get_or firsts (class_number c + 1) 0 ≤ 83
+pub ends_within : (c : PlatformClass) → get_or firsts (class_number c + 1) 0 ≤ 118
 ends_within Object = omega arith
 ends_within Throwable = omega arith
 ends_within Exception = omega arith
@@ -61,6 +61,10 @@ ends_within SystemException = omega arith
 ends_within TransactionException = omega arith
 ends_within ApduException = omega arith
 ends_within UserException = omega arith
+ends_within Iso7816 = omega arith
+ends_within MultiSelectable = omega arith
+ends_within AppletEvent = omega arith
+ends_within ExtendedLength = omega arith
 
 -- those of a class stand from its first one to the next class's
 stand_together : (c : PlatformClass) → take (get_or firsts (class_number c + 1) 0 - get_or firsts (class_number c) 0) (drop (get_or firsts (class_number c) 0) methods) ≡ methods_of c
@@ -93,6 +97,10 @@ stand_together SystemException = refl
 stand_together TransactionException = refl
 stand_together ApduException = refl
 stand_together UserException = refl
+stand_together Iso7816 = refl
+stand_together MultiSelectable = refl
+stand_together AppletEvent = refl
+stand_together ExtendedLength = refl
 
 pub are_together : (c : PlatformClass) (n : ℕ) (all : List MethodName) → map method_value all ≡ methods → n ≡ class_number c
     → map method_value (take (get_or firsts (n + 1) 0 - get_or firsts n 0) (drop (get_or firsts n 0) all)) ≡ methods_of c

@@ -1,5 +1,5 @@
 -- The tokens of one place are different.
-use Rattle.std.proofs.Common.{◌≡◌, ◌<◌, ◌==◌, ◌&&◌, cond, not, ℕ, Bool, true, false, List, [], ◌∷◌, Option, Some, None, Ok, length, refl, ap, sym, subst, ◌∙◌}
+use Rattle.std.proofs.Common.{◌≡◌, ◌<◌, ◌==◌, ◌&&◌, ◌||◌, cond, not, ℕ, Bool, true, false, List, [], ◌∷◌, Option, Some, None, Ok, length, refl, ap, sym, subst, ◌∙◌}
 use Rattle.std.proofs.Common.{arith}
 use Rattle.std.specs.Prelude.{find, if◌then◌else◌, is_some, nat_le}
 use Rattle.std.specs.List.{list_all}
@@ -16,7 +16,7 @@ use Rattle.jc_platform.specs.declared.names.PlatformPackage.{PlatformPackage}
 use Rattle.jc_platform.specs.declared.names.PlatformPackage.TheVariants.{JavaLang}
 use Rattle.jc_platform.specs.declared.names.MethodKind.TheVariants.{Static}
 use Rattle.jc_platform.specs.declared.row.Row.{Row}
-use Rattle.jc_platform.specs.declared.row.Row.TheVariants.{Package, Class, Method}
+use Rattle.jc_platform.specs.declared.row.Row.TheVariants.{Extended, Package, Class, Method}
 use Rattle.jc_platform.specs.Distinct.{AreDistinct, class_of, entry_of_class, entry_of_method, home_of, kind_of_method}
 use Rattle.jc_platform.specs.Names.{class_entry, classes, method_entry, methods}
 use Rattle.jc_platform.specs.Numbers.{class_number, method_number, same_class, same_kind, same_package}
@@ -71,11 +71,11 @@ unfolding methods
 method_at_place ObjectInit = refl
 method_at_place _ = refl
 
-pub class_places : length classes ≡ 28
+pub class_places : length classes ≡ 32
 unfolding classes
 class_places = refl
 
-pub method_places : length methods ≡ 83
+pub method_places : length methods ≡ 118
 unfolding methods
 method_places = refl
 
@@ -100,7 +100,7 @@ class_free a b s fit d k token =
     let e = fit.0 in
     let here = found_has (λ f. same_package (home_of f.class) f.home) (λ f. bytes_eq f.name fit.2) classes e homes fit.3 in
     let no : has_class_token a e.home s ≡ false = not_true (has_class_token a e.home s)
-    (and_true (is_package a.home e.home && not (is_some (a.class_token e.class))) (not (has_class_token a e.home s)) fit.4).1 in
+    (and_true ((e.needed || a.extended) && is_package a.home e.home && not (is_some (a.class_token e.class))) (not (has_class_token a e.home s)) fit.4).1 in
     let place : class_number d < length classes = omega (arith, class_below d, class_places) in
     let home : same_package (home_of d) e.home ≡ true = subst (λ (p : PlatformPackage). same_package p e.home ≡ true) (ap home_of fit.1 ∙ k) here in
     let has : is_token (a.class_token (entry_of_class (class_number d)).class) s ≡ true =
@@ -118,7 +118,7 @@ method_free a b s fit d k l token =
     (λ f. same_class f.class fit.2 && same_kind f.kind fit.3 && bytes_eq f.name fit.4) methods e method_homes fit.5 in
     let there = and_true (same_class (class_of e.method) e.class) (same_kind (kind_of_method e.method) e.kind) here in
     let no : has_method_token a e.class e.kind s ≡ false = not_true (has_method_token a e.class e.kind s)
-    (and_true (nat_le s (largest_token e.kind) && not (is_some (a.method_token e.method))) (not (has_method_token a e.class e.kind s)) fit.6).1 in
+    (and_true ((e.needed || a.extended) && nat_le s (largest_token e.kind) && not (is_some (a.method_token e.method))) (not (has_method_token a e.class e.kind s)) fit.6).1 in
     let place : method_number d < length methods = omega (arith, method_below d, method_places) in
     let class : same_class (class_of d) e.class ≡ true = subst (λ (c : PlatformClass). same_class c e.class ≡ true) (ap class_of fit.1 ∙ k) there.0 in
     let kind : same_kind (kind_of_method d) e.kind ≡ true = subst (λ (c : MethodKind). same_kind c e.kind ≡ true) (ap kind_of_method fit.1 ∙ l) there.1 in
@@ -136,6 +136,7 @@ distinct_classes : (lines : List (List ℕ)) (rows : List Row) → Say lines row
 distinct_classes [] [] said c d t k g h = absurd (let e : None ≡ Some t = g in cc)
 distinct_classes [] (row ∷ rows) said c d t k g h = absurd said
 distinct_classes (line ∷ lines) [] said c d t k g h = absurd said
+distinct_classes (line ∷ lines) (Extended ∷ rows) said c d t k g h = distinct_classes lines rows said.1 c d t k g h
 distinct_classes (line ∷ lines) (Package p v ∷ rows) said c d t k g h = distinct_classes lines rows said.1 c d t k g h
 distinct_classes (line ∷ lines) (Method m s ∷ rows) said c d t k g h = distinct_classes lines rows said.1 c d t k g h
 distinct_classes (line ∷ lines) (Class b s ∷ rows) said c d t k g h =
@@ -153,6 +154,7 @@ distinct_methods : (lines : List (List ℕ)) (rows : List Row) → Say lines row
 distinct_methods [] [] said c d t k g h = absurd (let e : None ≡ Some t = g in cc)
 distinct_methods [] (row ∷ rows) said c d t k g h = absurd said
 distinct_methods (line ∷ lines) [] said c d t k g h = absurd said
+distinct_methods (line ∷ lines) (Extended ∷ rows) said c d t k g h = distinct_methods lines rows said.1 c d t k g h
 distinct_methods (line ∷ lines) (Package p v ∷ rows) said c d t k g h = distinct_methods lines rows said.1 c d t k g h
 distinct_methods (line ∷ lines) (Class m s ∷ rows) said c d t k g h = distinct_methods lines rows said.1 c d t k g h
 distinct_methods (line ∷ lines) (Method b s ∷ rows) said c d t k g h =
@@ -169,6 +171,6 @@ distinct text t read =
     let lines = read.1.1.0 in
     let those = read.1.2 in
     record {
-      of_classes = λ c d k e. distinct_classes lines rows said c d _ k (those.class_tokens c) (those.class_tokens d ∙ ap Some (sym e));
-      of_methods = λ m n k l e. distinct_methods lines rows said m n _ (λ i. (k i, l i)) (those.method_tokens m) (those.method_tokens n ∙ ap Some (sym e));
+      of_classes = λ c d token k e f. distinct_classes lines rows said c d token k (those.class_tokens c ∙ e) (those.class_tokens d ∙ f);
+      of_methods = λ m n token k l e f. distinct_methods lines rows said m n token (λ i. (k i, l i)) (those.method_tokens m ∙ e) (those.method_tokens n ∙ f);
     }

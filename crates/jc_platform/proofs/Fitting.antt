@@ -1,19 +1,20 @@
 -- Where a row stands, its name may stand.
-use Rattle.std.proofs.Common.{◌≡◌, Bool, true, false, ℕ, List, [], ◌∷◌, Option, Some, None, refl, subst, codes}
+use Rattle.std.proofs.Common.{◌≡◌, ◌&&◌, Bool, true, false, ℕ, List, [], ◌∷◌, Option, Some, None, refl, subst, codes}
 use Rattle.std.specs.Prelude.{find, if◌then◌else◌}
 use Rattle.std.specs.Option.{option_and_then}
 use Rattle.std.specs.Str.{bytes_eq}
 use Rattle.jc_platform.specs.declared.names.PlatformClass.{PlatformClass}
 use Rattle.jc_platform.specs.declared.names.MethodKind.{MethodKind}
 use Rattle.jc_platform.specs.declared.row.Row.{Row}
-use Rattle.jc_platform.specs.declared.row.Row.TheVariants.{Package, Class, Method}
+use Rattle.jc_platform.specs.declared.row.Row.TheVariants.{Extended, Package, Class, Method}
 use Rattle.jc_platform.specs.Names.{PackageEntry, ClassEntry, MethodEntry, packages, classes}
 use Rattle.jc_platform.specs.Rows.{Above, class_row, kind_of, may_be_class, may_be_method, may_be_package, method_named, method_row, number_of, package_row}
-use Rattle.jc_platform.specs.Rows.{row_of}
+use Rattle.jc_platform.specs.Rows.{extended_row, may_be_extended, row_of}
 
 -- the entry that a row stands for, and that it may stand there
 abbrev pub IsFitting : Above → Row → Type 0
-IsFitting a (Package p v) = Unit {0}
+IsFitting a Extended = Unit {0}
+IsFitting a (Package p v) = may_be_package a p ≡ true
 IsFitting a (Class c t) = (e : ClassEntry) × (e.class ≡ c) × (name : List ℕ) × (find (λ f. bytes_eq f.name name) classes ≡ Some e) × (may_be_class a e t ≡ true)
 IsFitting a (Method m t) = (e : MethodEntry) × (e.method ≡ m) × (c : PlatformClass) × (k : MethodKind) × (name : List ℕ) × (method_named c k name ≡ Some e)
     × (may_be_method a e t ≡ true)
@@ -26,6 +27,11 @@ if_some : (b : Bool) (r s : Row) → (if b then Some r else None) ≡ Some s →
 if_some true r s e = (refl, (let g : Some r ≡ Some s = e in cc))
 if_some false r s e = absurd (let g : None ≡ Some s = e in cc)
 
+extended_fits : (a : Above) (word : List ℕ) (row : Row) → extended_row a word ≡ Some row → IsFitting a row
+extended_fits a word row h =
+    let x = if_some (bytes_eq word (codes "extended") && may_be_extended a) Extended row h in
+    subst (λ (r : Row). IsFitting a r) x.1 tt
+
 package_fits : (a : Above) (aid major minor : List ℕ) (row : Row) → package_row a aid major minor ≡ Some row → IsFitting a row
 package_fits a aid major minor row h =
     let u = then_some (λ (e : PackageEntry). option_and_then (λ j. option_and_then
@@ -36,7 +42,7 @@ package_fits a aid major minor row h =
     let w = then_some (λ (n : ℕ). if may_be_package a u.0.package_id then Some (Package u.0.package_id (record { major = v.0; minor = n })) else None)
     (number_of minor) row v.2 in
     let x = if_some (may_be_package a u.0.package_id) (Package u.0.package_id (record { major = v.0; minor = w.0 })) row w.2 in
-    subst (λ (r : Row). IsFitting a r) x.1 tt
+    subst (λ (r : Row). IsFitting a r) x.1 x.0
 
 class_fits : (a : Above) (token name : List ℕ) (row : Row) → class_row a token name ≡ Some row → IsFitting a row
 class_fits a token name row h =
@@ -69,7 +75,7 @@ no_row G row h = absurd (let g : None ≡ Some row = h in cc)
 
 pub row_fits : (a : Above) (words : List (List ℕ)) (row : Row) → row_of a words ≡ Some row → IsFitting a row
 row_fits a [] row h = no_row (IsFitting a row) row h
-row_fits a (k ∷ []) row h = no_row (IsFitting a row) row h
+row_fits a (k ∷ []) row h = extended_fits a k row h
 row_fits a (k ∷ x ∷ []) row h = no_row (IsFitting a row) row h
 row_fits a (k ∷ x ∷ y ∷ []) row h = either (IsFitting a row) (bytes_eq k (codes "class")) (class_row a x y) (method_row a k x y) row (class_fits a x y row)
     (method_fits a k x y row) h

@@ -1,6 +1,5 @@
 pub mod Above
 pub mod ClassMethods
-pub mod Complete
 pub mod Digits
 pub mod Distinct
 pub mod Fitting

@@ -1,7 +1,7 @@
 -- Look-ups in a list that is seen another way, and reads of a list after a write.
 use Rattle.std.proofs.Common.{◌≡◌, ◌<◌, ◌≤◌, ◌+◌, ◌-◌, ◌==◌, ℕ, zero, suc, Bool, true, false, cond, eqb, ltb, ◌||◌, ◌&&◌, List, [], ◌∷◌, Option, Some, None}
-use Rattle.std.proofs.Common.{length, get_or, set, take, drop, arith, subst, refl, ap, sym, ◌∙◌, map, Decides}
-use Rattle.std.specs.List.{find, list_any, position, position_or_len}
+use Rattle.std.proofs.Common.{length, get_or, set, take, drop, arith, subst, refl, ap, sym, ◌∙◌, map, replicate, Decides}
+use Rattle.std.specs.List.{find, list_all, list_any, position, position_or_len}
 use Rattle.std.specs.Option.{option_map}
 use Rattle.std.proofs.lemmas.Bool.Decides.{Decides-eqb}
 use Rattle.std.proofs.lemmas.Bool.{false≢true, ltb-false, ltb-true}
@@ -84,3 +84,25 @@ numbered_at f (x ∷ xs) n (suc k) e h =
     let b = and_true (f x == n) (numbered f (n + 1) xs) e in
     let w = numbered_at f xs (n + 1) k b.1 (omega arith) in
     (w.0, (let p : f w.0 ≡ (n + 1) + k = w.1 in omega arith))
+
+-- where all elements pass, the one at a place does
+pub all_at : {X : Type 0} (p : X → Bool) (xs : List X) (k : ℕ) (d : X) → list_all p xs ≡ true → k < length xs → p (get_or xs k d) ≡ true
+all_at p [] k d e h = absurd (omega arith)
+all_at p (x ∷ xs) zero d e h = (and_true (p x) (list_all p xs) e).0
+all_at p (x ∷ xs) (suc k) d e h = all_at p xs k d (and_true (p x) (list_all p xs) e).1 (omega arith)
+
+-- whether all elements pass, of a list that f shows
+list_all-map : {X Y : Type 0} (p : Y → Bool) (f : X → Y) (xs : List X) → list_all p (map f xs) ≡ list_all (λ x. p (f x)) xs
+list_all-map p f [] = refl
+list_all-map p f (x ∷ xs) = ap (λ b. p (f x) && b) (list_all-map p f xs)
+
+-- whether all elements of a list pass, seen in the list that f shows
+pub all_through : {X Y : Type 0} (p : Y → Bool) (f : X → Y) (xs : List X) (ys : List Y) (r : Bool) → map f xs ≡ ys → r ≡ list_all (λ x. p (f x)) xs
+    → r ≡ list_all p ys
+all_through p f xs ys r e all = all ∙ sym (list_all-map p f xs) ∙ ap (list_all p) e
+
+-- a list of one element alone has it anywhere, and that behind its end
+pub all_alike : {X : Type 0} (x : X) (n k : ℕ) → get_or (replicate n x) k x ≡ x
+all_alike x zero k = refl
+all_alike x (suc n) zero = refl
+all_alike x (suc n) (suc k) = all_alike x n k

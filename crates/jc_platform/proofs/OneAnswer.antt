@@ -1,25 +1,21 @@
 -- A text has one answer.
 use Rattle.std.proofs.Common.{◌≡◌, ◌+◌, ◌<◌, ◌≤◌, ℕ, List, [], ◌∷◌, ◌++◌, Option, Some, None, Ok, Err, get_or, length, reverse, refl, ap, sym, subst, ◌∙◌}
 use Rattle.std.proofs.Common.{arith, ⊎_elim}
-use Rattle.std.specs.Prelude.{slice_get, slice_index}
-use Rattle.std.proofs.lemmas.Grind.{get_or_default_zero}
-use Rattle.std.proofs.lemmas.List.{same_lists}
-use Rattle.std.proofs.lemmas.Option.{same_Some}
-use Rattle.std.proofs.lemmas.Bool.{cases_lt}
+use Rattle.std.proofs.lemmas.List.{get_or_default, same_lists}
+use Rattle.std.proofs.lemmas.Bool.{cases_lt, false≢true}
 use Rattle.jc_platform.specs.declared.fault.TableFault.{TableFault}
 use Rattle.jc_platform.specs.declared.fault.TableFault.TheVariants.{BadTable}
 use Rattle.jc_platform.specs.declared.names.PlatformClass.{PlatformClass}
 use Rattle.jc_platform.specs.declared.names.PlatformMethod.{PlatformMethod}
-use Rattle.jc_platform.specs.declared.names.PlatformPackage.TheVariants.{JavaLang, JavacardFramework}
+use Rattle.jc_platform.specs.declared.names.PlatformPackage.{PlatformPackage}
 use Rattle.jc_platform.specs.declared.row.Row.{Row}
 use Rattle.jc_platform.specs.declared.row.Version.{Version}
-use Rattle.jc_platform.specs.Numbers.{class_count, class_number, method_count, method_number}
+use Rattle.jc_platform.specs.Numbers.{class_count, class_number, method_count, method_number, package_count, package_number}
 use Rattle.jc_platform.specs.Rows.{Above, above, row_of_line}
 use Rattle.jc_platform.specs.Table.{AreThoseOf, IsBad, IsFirstBad, IsMissing, Reads, Say, Spells, largest_text}
 use Rattle.jc_platform.specs.Tokens.{Tokens}
 use Rattle.jc_platform.proofs.Lines.{reverse-cons}
-use Rattle.jc_platform.proofs.Numbers.{class_at, method_at}
-use Rattle.jc_platform.proofs.Versions.{packages_have_versions}
+use Rattle.jc_platform.proofs.Numbers.{class_at, method_at, package_at}
 
 -- ---- lines say one list of rows
 
@@ -113,14 +109,14 @@ one_first_bad text m n a b =
 not_none : {A : Type 0} (o : Option A) (x : A) → o ≡ Some x → o ≡ None → ⊥
 not_none o x e n = absurd (let g : None ≡ Some x = sym n ∙ e in cc)
 
-not_missing : (lines : List (List ℕ)) (rows : List Row) (t : Tokens) → Say lines rows → AreThoseOf (above rows) t → IsMissing (above rows) → ⊥
-not_missing lines rows t said those = ⊎_elim
+not_missing : (rows : List Row) (t : Tokens) → AreThoseOf (above rows) t → IsMissing (above rows) → ⊥
+not_missing rows t those = ⊎_elim
     (λ e. not_none (above rows).first t.first those.first e)
     (⊎_elim
-    (λ v. packages_have_versions lines rows (λ c. slice_index t.class_tokens (class_number c)) said those.class_tokens v.0 v.1)
+    (λ v. false≢true (sym v ∙ those.needed_packages))
     (⊎_elim
-    (λ c. not_none ((above rows).class_token c.0) _ (those.class_tokens c.0) c.1)
-    (λ m. not_none ((above rows).method_token m.0) _ (those.method_tokens m.0) m.1)))
+    (λ c. false≢true (sym c ∙ those.needed_classes))
+    (λ m. false≢true (sym m ∙ those.needed_methods))))
 
 -- ---- one answer
 
@@ -135,35 +131,29 @@ no_fault text t (BadTable n) read = ⊎_elim
     (λ bad. not_spelt text read.1.0 n read.1.1 bad.1)
     (λ lacks.
     let same : lacks.2.0 ≡ read.1.0 = spelt_once text lacks.2.0 read.1.0 lacks.2.1 read.1.1 in
-    not_missing read.1.1.0 read.1.0 t read.1.1.2 read.1.2 (subst (λ (x : List Row). IsMissing (above x)) same lacks.2.2)))
+    not_missing read.1.0 t read.1.2 (subst (λ (x : List Row). IsMissing (above x)) same lacks.2.2)))
 
 some_once : {A : Type 0} (o : Option A) (x y : A) → o ≡ Some x → o ≡ Some y → x ≡ y
 some_once o x y e f = let g : Some x ≡ Some y = sym e ∙ f in cc
 
 -- lists that agree wherever they have an element
-all_same : (xs ys : List ℕ) (n : ℕ) → length xs ≡ n → length ys ≡ n → ((k : ℕ) → k < n → get_or xs k 0 ≡ get_or ys k 0) → xs ≡ ys
+all_same : {X : Type 0} (xs ys : List (Option X)) (n : ℕ) → length xs ≡ n → length ys ≡ n → ((k : ℕ) → k < n → get_or xs k None ≡ get_or ys k None) → xs ≡ ys
 all_same xs ys n a b each = same_lists xs ys (a ∙ sym b) (λ k d lt.
-    let x : get_or xs k d ≡ get_or xs k 0 = get_or_default_zero xs k d lt in
-    let y : get_or ys k d ≡ get_or ys k 0 = get_or_default_zero ys k d (omega (arith, lt, a, b)) in
+    let x : get_or xs k d ≡ get_or xs k None = get_or_default xs k d None lt in
+    let y : get_or ys k d ≡ get_or ys k None = get_or_default ys k d None (omega (arith, lt, a, b)) in
     x ∙ each k (omega (arith, lt, a)) ∙ sym y)
 
-one_class : (cs ds : List ℕ) → ((c : PlatformClass) → slice_index cs (class_number c) ≡ slice_index ds (class_number c)) → (k : ℕ) → k < class_count
-    → get_or cs k 0 ≡ get_or ds k 0
-one_class cs ds each k lt = let w = class_at k lt in ap (λ (j : ℕ). get_or cs j 0) (sym w.1) ∙ each w.0 ∙ ap (λ (j : ℕ). get_or ds j 0) w.1
+one_package : (vs ws : List (Option Version)) → ((p : PlatformPackage) → get_or vs (package_number p) None ≡ get_or ws (package_number p) None) → (k : ℕ)
+    → k < package_count → get_or vs k None ≡ get_or ws k None
+one_package vs ws each k lt = let w = package_at k lt in ap (λ (j : ℕ). get_or vs j None) (sym w.1) ∙ each w.0 ∙ ap (λ (j : ℕ). get_or ws j None) w.1
 
-one_method : (cs ds : List ℕ) → ((m : PlatformMethod) → slice_index cs (method_number m) ≡ slice_index ds (method_number m)) → (k : ℕ) → k < method_count
-    → get_or cs k 0 ≡ get_or ds k 0
-one_method cs ds each k lt = let w = method_at k lt in ap (λ (j : ℕ). get_or cs j 0) (sym w.1) ∙ each w.0 ∙ ap (λ (j : ℕ). get_or ds j 0) w.1
+one_class : (cs ds : List (Option ℕ)) → ((c : PlatformClass) → get_or cs (class_number c) None ≡ get_or ds (class_number c) None) → (k : ℕ) → k < class_count
+    → get_or cs k None ≡ get_or ds k None
+one_class cs ds each k lt = let w = class_at k lt in ap (λ (j : ℕ). get_or cs j None) (sym w.1) ∙ each w.0 ∙ ap (λ (j : ℕ). get_or ds j None) w.1
 
--- both versions
-two_same : (vs ws : List Version) → length vs ≡ 2 → length ws ≡ 2 → slice_get vs 0 ≡ slice_get ws 0 → slice_get vs 1 ≡ slice_get ws 1 → vs ≡ ws
-two_same (v ∷ w ∷ []) (x ∷ y ∷ []) a b first second = λ t. same_Some v x first t ∷ same_Some w y second t ∷ []
-two_same [] ws a b first second = absurd (omega (arith, a))
-two_same (v ∷ []) ws a b first second = absurd (omega (arith, a))
-two_same (v ∷ w ∷ x ∷ vs) ws a b first second = absurd (omega (arith, a))
-two_same vs [] a b first second = absurd (omega (arith, b))
-two_same vs (x ∷ []) a b first second = absurd (omega (arith, b))
-two_same vs (x ∷ y ∷ z ∷ ws) a b first second = absurd (omega (arith, b))
+one_method : (cs ds : List (Option ℕ)) → ((m : PlatformMethod) → get_or cs (method_number m) None ≡ get_or ds (method_number m) None) → (k : ℕ)
+    → k < method_count → get_or cs k None ≡ get_or ds k None
+one_method cs ds each k lt = let w = method_at k lt in ap (λ (j : ℕ). get_or cs j None) (sym w.1) ∙ each w.0 ∙ ap (λ (j : ℕ). get_or ds j None) w.1
 
 -- two tables of one text are one
 pub one_table : (text : List ℕ) (t u : Tokens) → Reads text (Ok t) → Reads text (Ok u) → t ≡ u
@@ -172,12 +162,12 @@ one_table text t u a b =
     let x = a.1.2 in
     let y : AreThoseOf (above a.1.0) u = subst (λ (rows : List Row). AreThoseOf (above rows) u) same b.1.2 in
     let first = some_once (above a.1.0).first t.first u.first x.first y.first in
-    let versions = two_same t.versions u.versions x.as_many_versions y.as_many_versions (sym (x.versions JavaLang) ∙ y.versions JavaLang)
-    (sym (x.versions JavacardFramework) ∙ y.versions JavacardFramework) in
+    let versions = all_same t.versions u.versions package_count x.as_many_versions y.as_many_versions
+    (one_package t.versions u.versions (λ p. sym (x.versions p) ∙ y.versions p)) in
     let classes = all_same t.class_tokens u.class_tokens class_count x.as_many_classes y.as_many_classes
-    (one_class t.class_tokens u.class_tokens (λ c. some_once ((above a.1.0).class_token c) _ _ (x.class_tokens c) (y.class_tokens c))) in
+    (one_class t.class_tokens u.class_tokens (λ c. sym (x.class_tokens c) ∙ y.class_tokens c)) in
     let methods = all_same t.method_tokens u.method_tokens method_count x.as_many_methods y.as_many_methods
-    (one_method t.method_tokens u.method_tokens (λ m. some_once ((above a.1.0).method_token m) _ _ (x.method_tokens m) (y.method_tokens m))) in
+    (one_method t.method_tokens u.method_tokens (λ m. sym (x.method_tokens m) ∙ y.method_tokens m)) in
     λ i. record { first = first i; versions = versions i; class_tokens = classes i; method_tokens = methods i }
 
 -- two faults of one text are one

@@ -1,85 +1,78 @@
--- Where a class stands, its package has a version.
-use Rattle.std.proofs.Common.{◌≡◌, ◌&&◌, not, ℕ, Bool, true, false, List, [], ◌∷◌, Option, Some, None, refl, ap, sym, subst, ◌∙◌, arith}
-use Rattle.std.specs.Prelude.{if◌then◌else◌, is_some}
-use Rattle.std.specs.Str.{bytes_eq}
+-- What stands in a table: names that each table has, and javacardx.apdu below others.
+use Rattle.std.proofs.Common.{◌≡◌, ◌<◌, ◌&&◌, ◌||◌, length, not, ℕ, Bool, true, false, List, [], ◌∷◌, Option, Some, None, refl, ap, sym, ◌∙◌, arith}
+use Rattle.std.specs.Prelude.{is_some, unwrap_or}
 use Rattle.std.proofs.lemmas.Bool.{false≢true}
-use Rattle.std.proofs.lemmas.Bool.Decides.{Decides-eqb}
+use Rattle.std.proofs.lemmas.Option.{same_Some}
 use Rattle.jc_platform.specs.declared.names.PlatformClass.{PlatformClass}
-use Rattle.jc_platform.specs.declared.names.PlatformClass.TheVariants.{Object, Shareable}
+use Rattle.jc_platform.specs.declared.names.PlatformClass.TheVariants.{Object}
+use Rattle.jc_platform.specs.declared.names.MethodKind.TheVariants.{Static}
+use Rattle.jc_platform.specs.declared.names.PlatformMethod.{PlatformMethod}
+use Rattle.jc_platform.specs.declared.names.PlatformMethod.TheVariants.{ObjectInit}
 use Rattle.jc_platform.specs.declared.names.PlatformPackage.{PlatformPackage}
-use Rattle.jc_platform.specs.declared.names.PlatformPackage.TheVariants.{JavaLang, JavacardFramework}
+use Rattle.jc_platform.specs.declared.names.PlatformPackage.TheVariants.{JavaLang, JavacardFramework, JavacardxApdu}
 use Rattle.jc_platform.specs.declared.row.Row.{Row}
-use Rattle.jc_platform.specs.declared.row.Row.TheVariants.{Package, Class, Method}
-use Rattle.jc_platform.specs.declared.row.Version.{Version}
-use Rattle.jc_platform.specs.Distinct.{home_of}
-use Rattle.jc_platform.specs.Names.{classes}
-use Rattle.jc_platform.specs.Numbers.{class_number, package_number, same_class, same_package}
-use Rattle.jc_platform.specs.Rows.{above, class_token_in, has_class_token, is_package, package_above, parts_at, version_in}
-use Rattle.jc_platform.specs.Table.{Say}
-use Rattle.jc_platform.proofs.Distinct.{class_by_number, found_has, homes}
-use Rattle.jc_platform.proofs.Fitting.{IsFitting, row_fits}
-use Rattle.jc_platform.proofs.Lists.{and_true}
+use Rattle.jc_platform.specs.declared.row.Row.TheVariants.{Extended, Package, Class, Method}
+use Rattle.jc_platform.specs.Distinct.{entry_of_class, entry_of_method, is_needed_class, is_needed_method}
+use Rattle.jc_platform.specs.Names.{class_entry, classes, method_entry, methods}
+use Rattle.jc_platform.specs.Numbers.{class_number, method_number, package_number}
+use Rattle.jc_platform.specs.Rows.{Above, above, first_package, has_needed_packages, is_extended, may_be_package, parts_at, version_in}
+use Rattle.jc_platform.specs.Table.{Say, has_needed_classes, has_needed_methods}
+use Rattle.jc_platform.proofs.Distinct.{class_at_place, class_places, method_at_place, method_places}
+use Rattle.jc_platform.proofs.Fitting.{row_fits}
+use Rattle.jc_platform.proofs.Numbers.{class_below, method_below}
+use Rattle.jc_platform.proofs.Lists.{all_at, and_true}
 
-package_by_number : (p q : PlatformPackage) → package_number p ≡ package_number q → p ≡ q
-package_by_number JavaLang JavaLang e = refl
-package_by_number JavaLang JavacardFramework e = absurd (omega (arith, e))
-package_by_number JavacardFramework JavaLang e = absurd (omega (arith, e))
-package_by_number JavacardFramework JavacardFramework e = refl
+-- where a package has a version, some package stands first
+version_first : (rows : List Row) (p : PlatformPackage) → is_some (version_in rows p) ≡ true → first_package rows ≡ None → ⊥
+version_first [] p h e = false≢true h
+version_first (Extended ∷ rows) p h e = version_first rows p h e
+version_first (Package q v ∷ rows) p h e = let g : Some (unwrap_or (first_package rows) q) ≡ None = e in absurd (let w : Some (unwrap_or (first_package rows) q) ≡ None = g in cc)
+version_first (Class c t ∷ rows) p h e = version_first rows p h e
+version_first (Method m t ∷ rows) p h e = version_first rows p h e
 
--- a class of the package
-class_in : (p : PlatformPackage) → (c : PlatformClass) × (home_of c ≡ p)
-unfolding classes
-class_in JavaLang = (Object, refl)
-class_in JavacardFramework = (Shareable, refl)
+-- javacardx.apdu stands below others
+stands_below : (rows : List Row) (p : PlatformPackage) → p ≡ JavacardxApdu → may_be_package (above rows) p ≡ true → first_package rows ≡ None → ⊥
+stands_below rows JavaLang e h none = absurd (omega (arith, ap package_number e))
+stands_below rows JavacardFramework e h none = absurd (omega (arith, ap package_number e))
+stands_below rows JavacardxApdu e h none =
+    let allowed = (and_true (not (is_some (version_in rows JavacardxApdu))) (is_extended rows && has_needed_packages (above rows)) h).1 in
+    let both = (and_true (is_extended rows) (has_needed_packages (above rows)) allowed).1 in
+    version_first rows JavaLang (and_true (is_some (version_in rows JavaLang)) (is_some (version_in rows JavacardFramework)) both).0 none
 
--- where there is no version, it is not the first of two
-none_first : (b : Bool) (v : Version) (o : Option Version) → (if b then Some v else o) ≡ None → (b ≡ false) × (o ≡ None)
-none_first true v o e = absurd (let g : Some v ≡ None = e in cc)
-none_first false v o e = (refl, e)
+first_new : (o : Option PlatformPackage) (p : PlatformPackage) → (o ≡ None → p ≡ JavacardxApdu → ⊥) → (o ≡ Some JavacardxApdu → ⊥)
+    → Some (unwrap_or o p) ≡ Some JavacardxApdu → ⊥
+first_new None p new old e = new refl (same_Some p JavacardxApdu e)
+first_new (Some q) p new old e = old e
 
--- the package that stands nearest above has a version
-nearest : (rows : List Row) (p : PlatformPackage) → is_package (package_above rows) p ≡ true → version_in rows p ≡ None → ⊥
-nearest [] p h e = false≢true h
-nearest (Package q v ∷ rows) p h e = false≢true (sym (none_first (same_package q p) v (version_in rows p) e).0 ∙ h)
-nearest (Class c t ∷ rows) p h e = nearest rows p h e
-nearest (Method m t ∷ rows) p h e = nearest rows p h e
+-- it never stands first
+pub never_first : (lines : List (List ℕ)) (rows : List Row) → Say lines rows → first_package rows ≡ Some JavacardxApdu → ⊥
+never_first [] [] said e = absurd (let g : None ≡ Some JavacardxApdu = e in cc)
+never_first [] (row ∷ rows) said e = said
+never_first (line ∷ lines) [] said e = said
+never_first (line ∷ lines) (Extended ∷ rows) said e = never_first lines rows said.1 e
+never_first (line ∷ lines) (Class c t ∷ rows) said e = never_first lines rows said.1 e
+never_first (line ∷ lines) (Method m t ∷ rows) said e = never_first lines rows said.1 e
+never_first (line ∷ lines) (Package p v ∷ rows) said e =
+    let fit : may_be_package (above rows) p ≡ true = row_fits (above rows) (parts_at 32 line) (Package p v) said.0 in
+    first_new (first_package rows) p (λ none is. stands_below rows p is fit none) (never_first lines rows said.1) e
 
--- so has the package of a class that may stand below it
-of_new_class : (rows : List Row) (b : PlatformClass) (s : ℕ) → IsFitting (above rows) (Class b s) → version_in rows (home_of b) ≡ None → ⊥
-of_new_class rows b s fit none =
-    let e = fit.0 in
-    let here : same_package (home_of e.class) e.home ≡ true = found_has (λ f. same_package (home_of f.class) f.home)
-    (λ f. bytes_eq f.name fit.2) classes e homes fit.3 in
-    let home : home_of e.class ≡ e.home = package_by_number (home_of e.class) e.home
-    ((Decides-eqb (package_number (home_of e.class)) (package_number e.home)).0 here) in
-    let free = (and_true (is_package (package_above rows) e.home && not (is_some (class_token_in rows e.class)))
-    (not (has_class_token (above rows) e.home s)) fit.4).0 in
-    let stands = (and_true (is_package (package_above rows) e.home) (not (is_some (class_token_in rows e.class))) free).0 in
-    nearest rows e.home stands (subst (λ (p : PlatformPackage). version_in rows p ≡ None) (ap home_of (sym fit.1) ∙ home) none)
+of_needed : (b : Bool) (o : Option ℕ) → (not b || is_some o) ≡ true → b ≡ true → (k : ℕ) × (o ≡ Some k)
+of_needed true None all e = absurd (false≢true all)
+of_needed true (Some k) all e = (k, refl)
+of_needed false o all e = absurd (false≢true e)
 
-new_or_above : (b : Bool) (s t : ℕ) (o : Option ℕ) → (b ≡ true → ⊥) → (o ≡ Some t → ⊥) → (if b then Some s else o) ≡ Some t → ⊥
-new_or_above true s t o new old e = new refl
-new_or_above false s t o new old e = old e
+-- a class that each table has stands
+pub class_stands : (a : Above) → has_needed_classes a ≡ true → (c : PlatformClass) → is_needed_class c ≡ true → (k : ℕ) × (a.class_token c ≡ Some k)
+class_stands a has c e =
+    let place : class_number c < length classes = omega (arith, class_below c, class_places) in
+    let all = all_at (λ f. not f.needed || is_some (a.class_token f.class)) classes (class_number c) (class_entry JavaLang Object []) has place in
+    let own = of_needed (is_needed_class c) (a.class_token (entry_of_class (class_number c)).class) all e in
+    (own.0, ap a.class_token (sym (class_at_place c)) ∙ own.1)
 
-pub class_has_version : (lines : List (List ℕ)) (rows : List Row) → Say lines rows → (c : PlatformClass) (t : ℕ) → class_token_in rows c ≡ Some t
-    → version_in rows (home_of c) ≡ None → ⊥
-class_has_version [] [] said c t h e = absurd (let g : None ≡ Some t = h in cc)
-class_has_version [] (row ∷ rows) said c t h e = said
-class_has_version (line ∷ lines) [] said c t h e = said
-class_has_version (line ∷ lines) (Package p v ∷ rows) said c t h e = class_has_version lines rows said.1 c t h
-    (none_first (same_package p (home_of c)) v (version_in rows (home_of c)) e).1
-class_has_version (line ∷ lines) (Method m s ∷ rows) said c t h e = class_has_version lines rows said.1 c t h e
-class_has_version (line ∷ lines) (Class b s ∷ rows) said c t h e =
-    let fit = row_fits (above rows) (parts_at 32 line) (Class b s) said.0 in
-    new_or_above (same_class b c) s t (class_token_in rows c)
-    (λ i. let same : b ≡ c = class_by_number b c ((Decides-eqb (class_number b) (class_number c)).0 i) in of_new_class rows b s fit
-    (subst (λ (d : PlatformClass). version_in rows (home_of d) ≡ None) (sym same) e))
-    (λ i. class_has_version lines rows said.1 c t i e)
-    h
-
--- where every class stands, every package has a version
-pub packages_have_versions : (lines : List (List ℕ)) (rows : List Row) (token : PlatformClass → ℕ) → Say lines rows
-    → ((c : PlatformClass) → class_token_in rows c ≡ Some (token c)) → (p : PlatformPackage) → version_in rows p ≡ None → ⊥
-packages_have_versions lines rows token said all p none =
-    let c = class_in p in
-    class_has_version lines rows said c.0 (token c.0) (all c.0) (subst (λ (q : PlatformPackage). version_in rows q ≡ None) (sym c.1) none)
+-- so does a method
+pub method_stands : (a : Above) → has_needed_methods a ≡ true → (m : PlatformMethod) → is_needed_method m ≡ true → (k : ℕ) × (a.method_token m ≡ Some k)
+method_stands a has m e =
+    let place : method_number m < length methods = omega (arith, method_below m, method_places) in
+    let all = all_at (λ f. not f.needed || is_some (a.method_token f.method)) methods (method_number m) (method_entry Object Static ObjectInit 1 []) has place in
+    let own = of_needed (is_needed_method m) (a.method_token (entry_of_method (method_number m)).method) all e in
+    (own.0, ap a.method_token (sym (method_at_place m)) ∙ own.1)

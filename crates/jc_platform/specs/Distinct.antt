@@ -1,5 +1,5 @@
 -- Where names stand, and tokens that tell them apart.
-use Rattle.std.specs.Prelude.{ℕ, ◌≡◌, ◌+◌, ◌*◌, [], slice_index, slice_index_or}
+use Rattle.std.specs.Prelude.{ℕ, ◌≡◌, ◌+◌, ◌*◌, Bool, [], Some, slice_index_or}
 use Rattle.jc_platform.specs.declared.names.PlatformPackage.{PlatformPackage}
 use Rattle.jc_platform.specs.declared.names.PlatformPackage.TheVariants.{JavaLang}
 use Rattle.jc_platform.specs.declared.names.PlatformClass.{PlatformClass}
@@ -10,7 +10,7 @@ use Rattle.jc_platform.specs.declared.names.PlatformMethod.{PlatformMethod}
 use Rattle.jc_platform.specs.declared.names.PlatformMethod.TheVariants.{ObjectInit}
 use Rattle.jc_platform.specs.Names.{ClassEntry, MethodEntry, class_entry, method_entry, classes, methods}
 use Rattle.jc_platform.specs.Numbers.{class_number, method_number}
-use Rattle.jc_platform.specs.Tokens.{Tokens, number_in}
+use Rattle.jc_platform.specs.Tokens.{Tokens, class_token, number_in, token_of_class, token_of_method}
 
 -- the entry of a class
 abbrev pub entry_of_class : ℕ → ClassEntry
@@ -24,9 +24,13 @@ entry_of_method n = slice_index_or methods n (method_entry Object Static ObjectI
 abbrev pub home_of : PlatformClass → PlatformPackage
 home_of c = (entry_of_class (class_number c)).home
 
+-- each table has the class
+abbrev pub is_needed_class : PlatformClass → Bool
+is_needed_class c = (entry_of_class (class_number c)).needed
+
 -- a class as an object's header names it: the number of its package times 256, and its token
 abbrev pub class_word : Tokens → PlatformClass → ℕ
-class_word t c = 256 * number_in t (home_of c) + slice_index t.class_tokens (class_number c)
+class_word t c = 256 * number_in t (home_of c) + class_token t c
 
 -- the class that a method is in
 abbrev pub class_of : PlatformMethod → PlatformClass
@@ -36,9 +40,12 @@ class_of m = (entry_of_method (method_number m)).class
 abbrev pub kind_of_method : PlatformMethod → MethodKind
 kind_of_method m = (entry_of_method (method_number m)).kind
 
+-- each table has the method
+abbrev pub is_needed_method : PlatformMethod → Bool
+is_needed_method m = (entry_of_method (method_number m)).needed
+
 -- a token tells a class among those of its package, and a method among those of its class and kind
 pub record AreDistinct (t : Tokens) : Type 0 where
-  pub of_classes : (c d : PlatformClass) → home_of c ≡ home_of d → slice_index t.class_tokens (class_number c) ≡ slice_index t.class_tokens (class_number d)
-      → c ≡ d
-  pub of_methods : (m n : PlatformMethod) → class_of m ≡ class_of n → kind_of_method m ≡ kind_of_method n
-      → slice_index t.method_tokens (method_number m) ≡ slice_index t.method_tokens (method_number n) → m ≡ n
+  pub of_classes : (c d : PlatformClass) (k : ℕ) → home_of c ≡ home_of d → token_of_class t c ≡ Some k → token_of_class t d ≡ Some k → c ≡ d
+  pub of_methods : (m n : PlatformMethod) (k : ℕ) → class_of m ≡ class_of n → kind_of_method m ≡ kind_of_method n
+      → token_of_method t m ≡ Some k → token_of_method t n ≡ Some k → m ≡ n

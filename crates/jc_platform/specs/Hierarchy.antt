@@ -6,7 +6,7 @@ use Rattle.jc_platform.specs.declared.names.PlatformClass.TheVariants.{Arithmeti
 use Rattle.jc_platform.specs.declared.names.PlatformClass.TheVariants.{ClassCastException, NegativeArraySizeException, NullPointerException, SecurityException}
 use Rattle.jc_platform.specs.declared.names.PlatformClass.TheVariants.{Shareable, Pin, Applet, Apdu, Aid, JcSystem, Util, OwnerPin, CardException}
 use Rattle.jc_platform.specs.declared.names.PlatformClass.TheVariants.{CardRuntimeException, IsoException, PinException, SystemException, TransactionException}
-use Rattle.jc_platform.specs.declared.names.PlatformClass.TheVariants.{ApduException, UserException}
+use Rattle.jc_platform.specs.declared.names.PlatformClass.TheVariants.{ApduException, UserException, Iso7816, MultiSelectable, AppletEvent, ExtendedLength}
 use Rattle.jc_platform.specs.declared.names.PlatformMethod.{PlatformMethod}
 use Rattle.jc_platform.specs.declared.names.PlatformMethod.TheVariants.{PinCheck, PinGetTriesRemaining, PinIsValidated, PinReset, OwnerPinCheck}
 use Rattle.jc_platform.specs.declared.names.PlatformMethod.TheVariants.{OwnerPinGetTriesRemaining, OwnerPinIsValidated, OwnerPinReset}
@@ -16,6 +16,10 @@ unfoldable pub superclass_of : PlatformClass → Option PlatformClass
 superclass_of Object = None
 superclass_of Shareable = None
 superclass_of Pin = None
+superclass_of Iso7816 = None
+superclass_of MultiSelectable = None
+superclass_of AppletEvent = None
+superclass_of ExtendedLength = None
 superclass_of Exception = Some Throwable
 superclass_of RuntimeException = Some Exception
 superclass_of IndexOutOfBoundsException = Some RuntimeException
@@ -40,12 +44,20 @@ superclass_of _ = Some Object
 unfoldable pub is_interface : PlatformClass → Bool
 is_interface Shareable = true
 is_interface Pin = true
+is_interface Iso7816 = true
+is_interface MultiSelectable = true
+is_interface AppletEvent = true
+is_interface ExtendedLength = true
 is_interface _ = false
 
 -- applets may make instances of it by `new`: a class, and none of those that the platform makes or has methods of alone
 unfoldable pub is_instantiable : PlatformClass → Bool
 is_instantiable Shareable = false
 is_instantiable Pin = false
+is_instantiable Iso7816 = false
+is_instantiable MultiSelectable = false
+is_instantiable AppletEvent = false
+is_instantiable ExtendedLength = false
 is_instantiable Applet = false
 is_instantiable Apdu = false
 is_instantiable JcSystem = false

@@ -1,15 +1,15 @@
 -- The names of the platform: its packages, classes and methods.
-use Rattle.std.specs.Prelude.{ℕ, List, [], ◌∷◌, codes}
+use Rattle.std.specs.Prelude.{ℕ, Bool, true, false, List, [], ◌∷◌, codes}
 use Rattle.hex.specs.Hex.{encode_upper}
 use Rattle.jc_platform.specs.declared.names.PlatformPackage.{PlatformPackage}
-use Rattle.jc_platform.specs.declared.names.PlatformPackage.TheVariants.{JavaLang, JavacardFramework}
+use Rattle.jc_platform.specs.declared.names.PlatformPackage.TheVariants.{JavaLang, JavacardFramework, JavacardxApdu}
 use Rattle.jc_platform.specs.declared.names.PlatformClass.{PlatformClass}
 use Rattle.jc_platform.specs.declared.names.PlatformClass.TheVariants.{Object, Throwable, Exception, RuntimeException, IndexOutOfBoundsException}
 use Rattle.jc_platform.specs.declared.names.PlatformClass.TheVariants.{ArithmeticException, ArrayIndexOutOfBoundsException, ArrayStoreException}
 use Rattle.jc_platform.specs.declared.names.PlatformClass.TheVariants.{ClassCastException, NegativeArraySizeException, NullPointerException, SecurityException}
 use Rattle.jc_platform.specs.declared.names.PlatformClass.TheVariants.{Shareable, Pin, Applet, Apdu, Aid, JcSystem, Util, OwnerPin, CardException}
 use Rattle.jc_platform.specs.declared.names.PlatformClass.TheVariants.{CardRuntimeException, IsoException, PinException, SystemException, TransactionException}
-use Rattle.jc_platform.specs.declared.names.PlatformClass.TheVariants.{ApduException, UserException}
+use Rattle.jc_platform.specs.declared.names.PlatformClass.TheVariants.{ApduException, UserException, Iso7816, MultiSelectable, AppletEvent, ExtendedLength}
 use Rattle.jc_platform.specs.declared.names.MethodKind.{MethodKind}
 use Rattle.jc_platform.specs.declared.names.MethodKind.TheVariants.{Static, Virtual, Interface}
 use Rattle.jc_platform.specs.declared.names.PlatformMethod.{PlatformMethod}
@@ -19,56 +19,79 @@ use Rattle.jc_platform.specs.declared.names.PlatformMethod.TheVariants.{ArrayInd
 use Rattle.jc_platform.specs.declared.names.PlatformMethod.TheVariants.{NegativeArraySizeExceptionInit, NullPointerExceptionInit, SecurityExceptionInit}
 use Rattle.jc_platform.specs.declared.names.PlatformMethod.TheVariants.{PinCheck, PinGetTriesRemaining, PinIsValidated, PinReset, AppletInit, AppletDeselect}
 use Rattle.jc_platform.specs.declared.names.PlatformMethod.TheVariants.{AppletGetShareableInterfaceObject, AppletRegister, AppletRegisterBytes, AppletSelect}
-use Rattle.jc_platform.specs.declared.names.PlatformMethod.TheVariants.{AppletSelectingApplet, AppletProcess, ApduGetBuffer, ApduReceiveBytes, ApduSendBytes}
-use Rattle.jc_platform.specs.declared.names.PlatformMethod.TheVariants.{ApduSetIncomingAndReceive, ApduSetOutgoing, ApduSetOutgoingAndSend}
-use Rattle.jc_platform.specs.declared.names.PlatformMethod.TheVariants.{ApduSetOutgoingLength, AidInit, AidEquals, AidEqualsBytes, AidGetBytes}
-use Rattle.jc_platform.specs.declared.names.PlatformMethod.TheVariants.{JcSystemAbortTransaction, JcSystemBeginTransaction, JcSystemCommitTransaction}
-use Rattle.jc_platform.specs.declared.names.PlatformMethod.TheVariants.{JcSystemGetAid, JcSystemGetAppletShareableInterfaceObject, JcSystemGetMaxCommitCapacity}
+use Rattle.jc_platform.specs.declared.names.PlatformMethod.TheVariants.{AppletSelectingApplet, AppletProcess, AppletReSelectingApplet, ApduGetBuffer}
+use Rattle.jc_platform.specs.declared.names.PlatformMethod.TheVariants.{ApduReceiveBytes, ApduSendBytes, ApduSetIncomingAndReceive, ApduSetOutgoing}
+use Rattle.jc_platform.specs.declared.names.PlatformMethod.TheVariants.{ApduSetOutgoingAndSend, ApduSetOutgoingLength, ApduGetIncomingLength}
+use Rattle.jc_platform.specs.declared.names.PlatformMethod.TheVariants.{ApduGetOffsetCdata, ApduSendBytesLong, ApduGetCurrentState, ApduGetProtocol, ApduGetNad}
+use Rattle.jc_platform.specs.declared.names.PlatformMethod.TheVariants.{ApduGetClaChannel, ApduGetInBlockSize, ApduGetOutBlockSize, ApduIsIsoInterindustryCla}
+use Rattle.jc_platform.specs.declared.names.PlatformMethod.TheVariants.{ApduIsCommandChainingCla, ApduIsSecureMessagingCla, ApduIsValidCla}
+use Rattle.jc_platform.specs.declared.names.PlatformMethod.TheVariants.{ApduSetOutgoingNoChaining, ApduWaitExtension, ApduGetCurrentApdu}
+use Rattle.jc_platform.specs.declared.names.PlatformMethod.TheVariants.{ApduGetCurrentApduBuffer, AidInit, AidEquals, AidEqualsBytes, AidGetBytes, AidRidEquals}
+use Rattle.jc_platform.specs.declared.names.PlatformMethod.TheVariants.{AidPartialEquals, AidGetPartialBytes, JcSystemAbortTransaction}
+use Rattle.jc_platform.specs.declared.names.PlatformMethod.TheVariants.{JcSystemBeginTransaction, JcSystemCommitTransaction, JcSystemGetAid}
+use Rattle.jc_platform.specs.declared.names.PlatformMethod.TheVariants.{JcSystemGetAppletShareableInterfaceObject, JcSystemGetMaxCommitCapacity}
 use Rattle.jc_platform.specs.declared.names.PlatformMethod.TheVariants.{JcSystemGetPreviousContextAid, JcSystemGetTransactionDepth}
 use Rattle.jc_platform.specs.declared.names.PlatformMethod.TheVariants.{JcSystemGetUnusedCommitCapacity, JcSystemIsTransient, JcSystemLookupAid}
 use Rattle.jc_platform.specs.declared.names.PlatformMethod.TheVariants.{JcSystemMakeTransientBooleanArray, JcSystemMakeTransientByteArray}
-use Rattle.jc_platform.specs.declared.names.PlatformMethod.TheVariants.{JcSystemMakeTransientObjectArray, JcSystemMakeTransientShortArray, UtilArrayCompare}
-use Rattle.jc_platform.specs.declared.names.PlatformMethod.TheVariants.{UtilArrayCopy, UtilGetShort, UtilMakeShort, UtilSetShort, OwnerPinInit, OwnerPinCheck}
+use Rattle.jc_platform.specs.declared.names.PlatformMethod.TheVariants.{JcSystemMakeTransientObjectArray, JcSystemMakeTransientShortArray, JcSystemGetVersion}
+use Rattle.jc_platform.specs.declared.names.PlatformMethod.TheVariants.{JcSystemGetAvailableMemory, JcSystemGetAvailableMemoryShorts}
+use Rattle.jc_platform.specs.declared.names.PlatformMethod.TheVariants.{JcSystemRequestObjectDeletion, JcSystemIsObjectDeletionSupported}
+use Rattle.jc_platform.specs.declared.names.PlatformMethod.TheVariants.{JcSystemIsAppletActive, JcSystemGetAssignedChannel, UtilArrayCompare, UtilArrayCopy}
+use Rattle.jc_platform.specs.declared.names.PlatformMethod.TheVariants.{UtilGetShort, UtilMakeShort, UtilSetShort, UtilArrayFill, OwnerPinInit, OwnerPinCheck}
 use Rattle.jc_platform.specs.declared.names.PlatformMethod.TheVariants.{OwnerPinGetTriesRemaining, OwnerPinIsValidated, OwnerPinReset, OwnerPinResetAndUnblock}
-use Rattle.jc_platform.specs.declared.names.PlatformMethod.TheVariants.{OwnerPinUpdate, CardExceptionInit, CardExceptionThrowIt, CardExceptionGetReason}
-use Rattle.jc_platform.specs.declared.names.PlatformMethod.TheVariants.{CardExceptionSetReason, CardRuntimeExceptionInit, CardRuntimeExceptionThrowIt}
-use Rattle.jc_platform.specs.declared.names.PlatformMethod.TheVariants.{CardRuntimeExceptionGetReason, CardRuntimeExceptionSetReason, IsoExceptionInit}
-use Rattle.jc_platform.specs.declared.names.PlatformMethod.TheVariants.{IsoExceptionThrowIt, PinExceptionInit, PinExceptionThrowIt, SystemExceptionInit}
-use Rattle.jc_platform.specs.declared.names.PlatformMethod.TheVariants.{SystemExceptionThrowIt, TransactionExceptionInit, TransactionExceptionThrowIt}
-use Rattle.jc_platform.specs.declared.names.PlatformMethod.TheVariants.{ApduExceptionInit, ApduExceptionThrowIt, UserExceptionInit, UserExceptionThrowIt}
+use Rattle.jc_platform.specs.declared.names.PlatformMethod.TheVariants.{OwnerPinUpdate, OwnerPinGetValidatedFlag, OwnerPinSetValidatedFlag, CardExceptionInit}
+use Rattle.jc_platform.specs.declared.names.PlatformMethod.TheVariants.{CardExceptionThrowIt, CardExceptionGetReason, CardExceptionSetReason}
+use Rattle.jc_platform.specs.declared.names.PlatformMethod.TheVariants.{CardRuntimeExceptionInit, CardRuntimeExceptionThrowIt, CardRuntimeExceptionGetReason}
+use Rattle.jc_platform.specs.declared.names.PlatformMethod.TheVariants.{CardRuntimeExceptionSetReason, IsoExceptionInit, IsoExceptionThrowIt, PinExceptionInit}
+use Rattle.jc_platform.specs.declared.names.PlatformMethod.TheVariants.{PinExceptionThrowIt, SystemExceptionInit, SystemExceptionThrowIt}
+use Rattle.jc_platform.specs.declared.names.PlatformMethod.TheVariants.{TransactionExceptionInit, TransactionExceptionThrowIt, ApduExceptionInit}
+use Rattle.jc_platform.specs.declared.names.PlatformMethod.TheVariants.{ApduExceptionThrowIt, UserExceptionInit, UserExceptionThrowIt}
+use Rattle.jc_platform.specs.declared.names.PlatformMethod.TheVariants.{UserExceptionInitWithoutReason, MultiSelectableSelect, MultiSelectableDeselect}
+use Rattle.jc_platform.specs.declared.names.PlatformMethod.TheVariants.{AppletEventUninstall}
 
 -- a package and its AID in upper case hexadecimal
 pub record PackageEntry : Type 0 where
   pub package_id : PlatformPackage
   pub aid_text : List ℕ
 
--- a class, the package that it is in, and its name
+-- a class, the package that it is in, its name, and whether each table has it
 pub record ClassEntry : Type 0 where
   pub class : PlatformClass
   pub home : PlatformPackage
   pub name : List ℕ
+  pub needed : Bool
 
--- a method, the class that it is in, its kind, how many cells its arguments have with its receiver, and its name
+-- a method, the class that it is in, its kind, how many cells its arguments have with its receiver, its name, and whether each table has it
 pub record MethodEntry : Type 0 where
   pub method : PlatformMethod
   pub class : PlatformClass
   pub kind : MethodKind
   pub arguments : ℕ
   pub name : List ℕ
+  pub needed : Bool
 
--- the entry of a class
+-- the entry of a class that each table has
 abbrev pub class_entry : PlatformPackage → PlatformClass → List ℕ → ClassEntry
-class_entry p c n = record { class = c; home = p; name = n }
+class_entry p c n = record { class = c; home = p; name = n; needed = true }
 
--- the entry of a method
+-- the entry of a class that an extended table may have
+abbrev pub optional_class : PlatformPackage → PlatformClass → List ℕ → ClassEntry
+optional_class p c n = record { class = c; home = p; name = n; needed = false }
+
+-- the entry of a method that each table has
 abbrev pub method_entry : PlatformClass → MethodKind → PlatformMethod → ℕ → List ℕ → MethodEntry
-method_entry c k m a n = record { method = m; class = c; kind = k; arguments = a; name = n }
+method_entry c k m a n = record { method = m; class = c; kind = k; arguments = a; name = n; needed = true }
+
+-- the entry of a method that an extended table may have
+abbrev pub optional_method : PlatformClass → MethodKind → PlatformMethod → ℕ → List ℕ → MethodEntry
+optional_method c k m a n = record { method = m; class = c; kind = k; arguments = a; name = n; needed = false }
 
 -- every package
 unfoldable pub packages : List PackageEntry
 packages =
     record { package_id = JavaLang; aid_text = encode_upper (160 ∷ 0 ∷ 0 ∷ 0 ∷ 98 ∷ 0 ∷ 1 ∷ []) } ∷
     record { package_id = JavacardFramework; aid_text = encode_upper (160 ∷ 0 ∷ 0 ∷ 0 ∷ 98 ∷ 1 ∷ 1 ∷ []) } ∷
+    record { package_id = JavacardxApdu; aid_text = encode_upper (160 ∷ 0 ∷ 0 ∷ 0 ∷ 98 ∷ 2 ∷ 9 ∷ []) } ∷
     []
 
 -- every class
@@ -102,6 +125,10 @@ classes =
     class_entry JavacardFramework TransactionException (codes "TransactionException") ∷
     class_entry JavacardFramework ApduException (codes "APDUException") ∷
     class_entry JavacardFramework UserException (codes "UserException") ∷
+    optional_class JavacardFramework Iso7816 (codes "ISO7816") ∷
+    optional_class JavacardFramework MultiSelectable (codes "MultiSelectable") ∷
+    optional_class JavacardFramework AppletEvent (codes "AppletEvent") ∷
+    optional_class JavacardxApdu ExtendedLength (codes "ExtendedLength") ∷
     []
 
 -- every method
@@ -132,6 +159,7 @@ methods =
     method_entry Applet Virtual AppletSelect 1 (codes "select") ∷
     method_entry Applet Virtual AppletSelectingApplet 1 (codes "selectingApplet") ∷
     method_entry Applet Virtual AppletProcess 2 (codes "process") ∷
+    optional_method Applet Virtual AppletReSelectingApplet 1 (codes "reSelectingApplet") ∷
     method_entry Apdu Virtual ApduGetBuffer 1 (codes "getBuffer") ∷
     method_entry Apdu Virtual ApduReceiveBytes 2 (codes "receiveBytes") ∷
     method_entry Apdu Virtual ApduSendBytes 3 (codes "sendBytes") ∷
@@ -139,10 +167,30 @@ methods =
     method_entry Apdu Virtual ApduSetOutgoing 1 (codes "setOutgoing") ∷
     method_entry Apdu Virtual ApduSetOutgoingAndSend 3 (codes "setOutgoingAndSend") ∷
     method_entry Apdu Virtual ApduSetOutgoingLength 2 (codes "setOutgoingLength") ∷
+    optional_method Apdu Virtual ApduGetIncomingLength 1 (codes "getIncomingLength") ∷
+    optional_method Apdu Virtual ApduGetOffsetCdata 1 (codes "getOffsetCdata") ∷
+    optional_method Apdu Virtual ApduSendBytesLong 4 (codes "sendBytesLong") ∷
+    optional_method Apdu Virtual ApduGetCurrentState 1 (codes "getCurrentState") ∷
+    optional_method Apdu Static ApduGetProtocol 0 (codes "getProtocol") ∷
+    optional_method Apdu Virtual ApduGetNad 1 (codes "getNAD") ∷
+    optional_method Apdu Static ApduGetClaChannel 0 (codes "getCLAChannel") ∷
+    optional_method Apdu Static ApduGetInBlockSize 0 (codes "getInBlockSize") ∷
+    optional_method Apdu Static ApduGetOutBlockSize 0 (codes "getOutBlockSize") ∷
+    optional_method Apdu Virtual ApduIsIsoInterindustryCla 1 (codes "isISOInterindustryCLA") ∷
+    optional_method Apdu Virtual ApduIsCommandChainingCla 1 (codes "isCommandChainingCLA") ∷
+    optional_method Apdu Virtual ApduIsSecureMessagingCla 1 (codes "isSecureMessagingCLA") ∷
+    optional_method Apdu Virtual ApduIsValidCla 1 (codes "isValidCLA") ∷
+    optional_method Apdu Virtual ApduSetOutgoingNoChaining 1 (codes "setOutgoingNoChaining") ∷
+    optional_method Apdu Static ApduWaitExtension 0 (codes "waitExtension") ∷
+    optional_method Apdu Static ApduGetCurrentApdu 0 (codes "getCurrentAPDU") ∷
+    optional_method Apdu Static ApduGetCurrentApduBuffer 0 (codes "getCurrentAPDUBuffer") ∷
     method_entry Aid Static AidInit 4 (codes "<init>") ∷
     method_entry Aid Virtual AidEquals 2 (codes "equals") ∷
     method_entry Aid Virtual AidEqualsBytes 4 (codes "equalsBytes") ∷
     method_entry Aid Virtual AidGetBytes 3 (codes "getBytes") ∷
+    optional_method Aid Virtual AidRidEquals 2 (codes "RIDEquals") ∷
+    optional_method Aid Virtual AidPartialEquals 4 (codes "partialEquals") ∷
+    optional_method Aid Virtual AidGetPartialBytes 5 (codes "getPartialBytes") ∷
     method_entry JcSystem Static JcSystemAbortTransaction 0 (codes "abortTransaction") ∷
     method_entry JcSystem Static JcSystemBeginTransaction 0 (codes "beginTransaction") ∷
     method_entry JcSystem Static JcSystemCommitTransaction 0 (codes "commitTransaction") ∷
@@ -158,11 +206,19 @@ methods =
     method_entry JcSystem Static JcSystemMakeTransientByteArray 2 (codes "makeTransientByteArray") ∷
     method_entry JcSystem Static JcSystemMakeTransientObjectArray 2 (codes "makeTransientObjectArray") ∷
     method_entry JcSystem Static JcSystemMakeTransientShortArray 2 (codes "makeTransientShortArray") ∷
+    optional_method JcSystem Static JcSystemGetVersion 0 (codes "getVersion") ∷
+    optional_method JcSystem Static JcSystemGetAvailableMemory 1 (codes "getAvailableMemory") ∷
+    optional_method JcSystem Static JcSystemGetAvailableMemoryShorts 3 (codes "getAvailableMemoryShorts") ∷
+    optional_method JcSystem Static JcSystemRequestObjectDeletion 0 (codes "requestObjectDeletion") ∷
+    optional_method JcSystem Static JcSystemIsObjectDeletionSupported 0 (codes "isObjectDeletionSupported") ∷
+    optional_method JcSystem Static JcSystemIsAppletActive 1 (codes "isAppletActive") ∷
+    optional_method JcSystem Static JcSystemGetAssignedChannel 0 (codes "getAssignedChannel") ∷
     method_entry Util Static UtilArrayCompare 5 (codes "arrayCompare") ∷
     method_entry Util Static UtilArrayCopy 5 (codes "arrayCopy") ∷
     method_entry Util Static UtilGetShort 2 (codes "getShort") ∷
     method_entry Util Static UtilMakeShort 2 (codes "makeShort") ∷
     method_entry Util Static UtilSetShort 3 (codes "setShort") ∷
+    optional_method Util Static UtilArrayFill 4 (codes "arrayFill") ∷
     method_entry OwnerPin Static OwnerPinInit 3 (codes "<init>") ∷
     method_entry OwnerPin Virtual OwnerPinCheck 4 (codes "check") ∷
     method_entry OwnerPin Virtual OwnerPinGetTriesRemaining 1 (codes "getTriesRemaining") ∷
@@ -170,6 +226,8 @@ methods =
     method_entry OwnerPin Virtual OwnerPinReset 1 (codes "reset") ∷
     method_entry OwnerPin Virtual OwnerPinResetAndUnblock 1 (codes "resetAndUnblock") ∷
     method_entry OwnerPin Virtual OwnerPinUpdate 4 (codes "update") ∷
+    optional_method OwnerPin Virtual OwnerPinGetValidatedFlag 1 (codes "getValidatedFlag") ∷
+    optional_method OwnerPin Virtual OwnerPinSetValidatedFlag 2 (codes "setValidatedFlag") ∷
     method_entry CardException Static CardExceptionInit 2 (codes "<init>") ∷
     method_entry CardException Static CardExceptionThrowIt 1 (codes "throwIt") ∷
     method_entry CardException Virtual CardExceptionGetReason 1 (codes "getReason") ∷
@@ -190,4 +248,8 @@ methods =
     method_entry ApduException Static ApduExceptionThrowIt 1 (codes "throwIt") ∷
     method_entry UserException Static UserExceptionInit 2 (codes "<init>") ∷
     method_entry UserException Static UserExceptionThrowIt 1 (codes "throwIt") ∷
+    optional_method UserException Static UserExceptionInitWithoutReason 1 (codes "<init>WithoutReason") ∷
+    optional_method MultiSelectable Interface MultiSelectableSelect 2 (codes "select") ∷
+    optional_method MultiSelectable Interface MultiSelectableDeselect 2 (codes "deselect") ∷
+    optional_method AppletEvent Interface AppletEventUninstall 1 (codes "uninstall") ∷
     []

@@ -1,14 +1,14 @@
 -- The numbers of the platform's names: their places in the lists of all.
 use Rattle.std.specs.Prelude.{ℕ, Bool, ◌==◌}
 use Rattle.jc_platform.specs.declared.names.PlatformPackage.{PlatformPackage}
-use Rattle.jc_platform.specs.declared.names.PlatformPackage.TheVariants.{JavaLang, JavacardFramework}
+use Rattle.jc_platform.specs.declared.names.PlatformPackage.TheVariants.{JavaLang, JavacardFramework, JavacardxApdu}
 use Rattle.jc_platform.specs.declared.names.PlatformClass.{PlatformClass}
 use Rattle.jc_platform.specs.declared.names.PlatformClass.TheVariants.{Object, Throwable, Exception, RuntimeException, IndexOutOfBoundsException}
 use Rattle.jc_platform.specs.declared.names.PlatformClass.TheVariants.{ArithmeticException, ArrayIndexOutOfBoundsException, ArrayStoreException}
 use Rattle.jc_platform.specs.declared.names.PlatformClass.TheVariants.{ClassCastException, NegativeArraySizeException, NullPointerException, SecurityException}
 use Rattle.jc_platform.specs.declared.names.PlatformClass.TheVariants.{Shareable, Pin, Applet, Apdu, Aid, JcSystem, Util, OwnerPin, CardException}
 use Rattle.jc_platform.specs.declared.names.PlatformClass.TheVariants.{CardRuntimeException, IsoException, PinException, SystemException, TransactionException}
-use Rattle.jc_platform.specs.declared.names.PlatformClass.TheVariants.{ApduException, UserException}
+use Rattle.jc_platform.specs.declared.names.PlatformClass.TheVariants.{ApduException, UserException, Iso7816, MultiSelectable, AppletEvent, ExtendedLength}
 use Rattle.jc_platform.specs.declared.names.MethodKind.{MethodKind}
 use Rattle.jc_platform.specs.declared.names.MethodKind.TheVariants.{Static, Virtual, Interface}
 use Rattle.jc_platform.specs.declared.names.PlatformMethod.{PlatformMethod}
@@ -18,38 +18,51 @@ use Rattle.jc_platform.specs.declared.names.PlatformMethod.TheVariants.{ArrayInd
 use Rattle.jc_platform.specs.declared.names.PlatformMethod.TheVariants.{NegativeArraySizeExceptionInit, NullPointerExceptionInit, SecurityExceptionInit}
 use Rattle.jc_platform.specs.declared.names.PlatformMethod.TheVariants.{PinCheck, PinGetTriesRemaining, PinIsValidated, PinReset, AppletInit, AppletDeselect}
 use Rattle.jc_platform.specs.declared.names.PlatformMethod.TheVariants.{AppletGetShareableInterfaceObject, AppletRegister, AppletRegisterBytes, AppletSelect}
-use Rattle.jc_platform.specs.declared.names.PlatformMethod.TheVariants.{AppletSelectingApplet, AppletProcess, ApduGetBuffer, ApduReceiveBytes, ApduSendBytes}
-use Rattle.jc_platform.specs.declared.names.PlatformMethod.TheVariants.{ApduSetIncomingAndReceive, ApduSetOutgoing, ApduSetOutgoingAndSend}
-use Rattle.jc_platform.specs.declared.names.PlatformMethod.TheVariants.{ApduSetOutgoingLength, AidInit, AidEquals, AidEqualsBytes, AidGetBytes}
-use Rattle.jc_platform.specs.declared.names.PlatformMethod.TheVariants.{JcSystemAbortTransaction, JcSystemBeginTransaction, JcSystemCommitTransaction}
-use Rattle.jc_platform.specs.declared.names.PlatformMethod.TheVariants.{JcSystemGetAid, JcSystemGetAppletShareableInterfaceObject, JcSystemGetMaxCommitCapacity}
+use Rattle.jc_platform.specs.declared.names.PlatformMethod.TheVariants.{AppletSelectingApplet, AppletProcess, AppletReSelectingApplet, ApduGetBuffer}
+use Rattle.jc_platform.specs.declared.names.PlatformMethod.TheVariants.{ApduReceiveBytes, ApduSendBytes, ApduSetIncomingAndReceive, ApduSetOutgoing}
+use Rattle.jc_platform.specs.declared.names.PlatformMethod.TheVariants.{ApduSetOutgoingAndSend, ApduSetOutgoingLength, ApduGetIncomingLength}
+use Rattle.jc_platform.specs.declared.names.PlatformMethod.TheVariants.{ApduGetOffsetCdata, ApduSendBytesLong, ApduGetCurrentState, ApduGetProtocol, ApduGetNad}
+use Rattle.jc_platform.specs.declared.names.PlatformMethod.TheVariants.{ApduGetClaChannel, ApduGetInBlockSize, ApduGetOutBlockSize, ApduIsIsoInterindustryCla}
+use Rattle.jc_platform.specs.declared.names.PlatformMethod.TheVariants.{ApduIsCommandChainingCla, ApduIsSecureMessagingCla, ApduIsValidCla}
+use Rattle.jc_platform.specs.declared.names.PlatformMethod.TheVariants.{ApduSetOutgoingNoChaining, ApduWaitExtension, ApduGetCurrentApdu}
+use Rattle.jc_platform.specs.declared.names.PlatformMethod.TheVariants.{ApduGetCurrentApduBuffer, AidInit, AidEquals, AidEqualsBytes, AidGetBytes, AidRidEquals}
+use Rattle.jc_platform.specs.declared.names.PlatformMethod.TheVariants.{AidPartialEquals, AidGetPartialBytes, JcSystemAbortTransaction}
+use Rattle.jc_platform.specs.declared.names.PlatformMethod.TheVariants.{JcSystemBeginTransaction, JcSystemCommitTransaction, JcSystemGetAid}
+use Rattle.jc_platform.specs.declared.names.PlatformMethod.TheVariants.{JcSystemGetAppletShareableInterfaceObject, JcSystemGetMaxCommitCapacity}
 use Rattle.jc_platform.specs.declared.names.PlatformMethod.TheVariants.{JcSystemGetPreviousContextAid, JcSystemGetTransactionDepth}
 use Rattle.jc_platform.specs.declared.names.PlatformMethod.TheVariants.{JcSystemGetUnusedCommitCapacity, JcSystemIsTransient, JcSystemLookupAid}
 use Rattle.jc_platform.specs.declared.names.PlatformMethod.TheVariants.{JcSystemMakeTransientBooleanArray, JcSystemMakeTransientByteArray}
-use Rattle.jc_platform.specs.declared.names.PlatformMethod.TheVariants.{JcSystemMakeTransientObjectArray, JcSystemMakeTransientShortArray, UtilArrayCompare}
-use Rattle.jc_platform.specs.declared.names.PlatformMethod.TheVariants.{UtilArrayCopy, UtilGetShort, UtilMakeShort, UtilSetShort, OwnerPinInit, OwnerPinCheck}
+use Rattle.jc_platform.specs.declared.names.PlatformMethod.TheVariants.{JcSystemMakeTransientObjectArray, JcSystemMakeTransientShortArray, JcSystemGetVersion}
+use Rattle.jc_platform.specs.declared.names.PlatformMethod.TheVariants.{JcSystemGetAvailableMemory, JcSystemGetAvailableMemoryShorts}
+use Rattle.jc_platform.specs.declared.names.PlatformMethod.TheVariants.{JcSystemRequestObjectDeletion, JcSystemIsObjectDeletionSupported}
+use Rattle.jc_platform.specs.declared.names.PlatformMethod.TheVariants.{JcSystemIsAppletActive, JcSystemGetAssignedChannel, UtilArrayCompare, UtilArrayCopy}
+use Rattle.jc_platform.specs.declared.names.PlatformMethod.TheVariants.{UtilGetShort, UtilMakeShort, UtilSetShort, UtilArrayFill, OwnerPinInit, OwnerPinCheck}
 use Rattle.jc_platform.specs.declared.names.PlatformMethod.TheVariants.{OwnerPinGetTriesRemaining, OwnerPinIsValidated, OwnerPinReset, OwnerPinResetAndUnblock}
-use Rattle.jc_platform.specs.declared.names.PlatformMethod.TheVariants.{OwnerPinUpdate, CardExceptionInit, CardExceptionThrowIt, CardExceptionGetReason}
-use Rattle.jc_platform.specs.declared.names.PlatformMethod.TheVariants.{CardExceptionSetReason, CardRuntimeExceptionInit, CardRuntimeExceptionThrowIt}
-use Rattle.jc_platform.specs.declared.names.PlatformMethod.TheVariants.{CardRuntimeExceptionGetReason, CardRuntimeExceptionSetReason, IsoExceptionInit}
-use Rattle.jc_platform.specs.declared.names.PlatformMethod.TheVariants.{IsoExceptionThrowIt, PinExceptionInit, PinExceptionThrowIt, SystemExceptionInit}
-use Rattle.jc_platform.specs.declared.names.PlatformMethod.TheVariants.{SystemExceptionThrowIt, TransactionExceptionInit, TransactionExceptionThrowIt}
-use Rattle.jc_platform.specs.declared.names.PlatformMethod.TheVariants.{ApduExceptionInit, ApduExceptionThrowIt, UserExceptionInit, UserExceptionThrowIt}
+use Rattle.jc_platform.specs.declared.names.PlatformMethod.TheVariants.{OwnerPinUpdate, OwnerPinGetValidatedFlag, OwnerPinSetValidatedFlag, CardExceptionInit}
+use Rattle.jc_platform.specs.declared.names.PlatformMethod.TheVariants.{CardExceptionThrowIt, CardExceptionGetReason, CardExceptionSetReason}
+use Rattle.jc_platform.specs.declared.names.PlatformMethod.TheVariants.{CardRuntimeExceptionInit, CardRuntimeExceptionThrowIt, CardRuntimeExceptionGetReason}
+use Rattle.jc_platform.specs.declared.names.PlatformMethod.TheVariants.{CardRuntimeExceptionSetReason, IsoExceptionInit, IsoExceptionThrowIt, PinExceptionInit}
+use Rattle.jc_platform.specs.declared.names.PlatformMethod.TheVariants.{PinExceptionThrowIt, SystemExceptionInit, SystemExceptionThrowIt}
+use Rattle.jc_platform.specs.declared.names.PlatformMethod.TheVariants.{TransactionExceptionInit, TransactionExceptionThrowIt, ApduExceptionInit}
+use Rattle.jc_platform.specs.declared.names.PlatformMethod.TheVariants.{ApduExceptionThrowIt, UserExceptionInit, UserExceptionThrowIt}
+use Rattle.jc_platform.specs.declared.names.PlatformMethod.TheVariants.{UserExceptionInitWithoutReason, MultiSelectableSelect, MultiSelectableDeselect}
+use Rattle.jc_platform.specs.declared.names.PlatformMethod.TheVariants.{AppletEventUninstall}
 
 -- how many packages, classes and methods there are
 abbrev pub package_count : ℕ
-package_count = 2
+package_count = 3
 
 abbrev pub class_count : ℕ
-class_count = 28
+class_count = 32
 
 abbrev pub method_count : ℕ
-method_count = 83
+method_count = 118
 
 -- the place of a package
 abbrev pub package_number : PlatformPackage → ℕ
 package_number JavaLang = 0
 package_number JavacardFramework = 1
+package_number JavacardxApdu = 2
 
 -- the two are one
 abbrev pub same_package : PlatformPackage → PlatformPackage → Bool
@@ -85,6 +98,10 @@ class_number SystemException = 24
 class_number TransactionException = 25
 class_number ApduException = 26
 class_number UserException = 27
+class_number Iso7816 = 28
+class_number MultiSelectable = 29
+class_number AppletEvent = 30
+class_number ExtendedLength = 31
 
 -- the two are one
 abbrev pub same_class : PlatformClass → PlatformClass → Bool
@@ -127,64 +144,99 @@ method_number AppletRegisterBytes = 21
 method_number AppletSelect = 22
 method_number AppletSelectingApplet = 23
 method_number AppletProcess = 24
-method_number ApduGetBuffer = 25
-method_number ApduReceiveBytes = 26
-method_number ApduSendBytes = 27
-method_number ApduSetIncomingAndReceive = 28
-method_number ApduSetOutgoing = 29
-method_number ApduSetOutgoingAndSend = 30
-method_number ApduSetOutgoingLength = 31
-method_number AidInit = 32
-method_number AidEquals = 33
-method_number AidEqualsBytes = 34
-method_number AidGetBytes = 35
-method_number JcSystemAbortTransaction = 36
-method_number JcSystemBeginTransaction = 37
-method_number JcSystemCommitTransaction = 38
-method_number JcSystemGetAid = 39
-method_number JcSystemGetAppletShareableInterfaceObject = 40
-method_number JcSystemGetMaxCommitCapacity = 41
-method_number JcSystemGetPreviousContextAid = 42
-method_number JcSystemGetTransactionDepth = 43
-method_number JcSystemGetUnusedCommitCapacity = 44
-method_number JcSystemIsTransient = 45
-method_number JcSystemLookupAid = 46
-method_number JcSystemMakeTransientBooleanArray = 47
-method_number JcSystemMakeTransientByteArray = 48
-method_number JcSystemMakeTransientObjectArray = 49
-method_number JcSystemMakeTransientShortArray = 50
-method_number UtilArrayCompare = 51
-method_number UtilArrayCopy = 52
-method_number UtilGetShort = 53
-method_number UtilMakeShort = 54
-method_number UtilSetShort = 55
-method_number OwnerPinInit = 56
-method_number OwnerPinCheck = 57
-method_number OwnerPinGetTriesRemaining = 58
-method_number OwnerPinIsValidated = 59
-method_number OwnerPinReset = 60
-method_number OwnerPinResetAndUnblock = 61
-method_number OwnerPinUpdate = 62
-method_number CardExceptionInit = 63
-method_number CardExceptionThrowIt = 64
-method_number CardExceptionGetReason = 65
-method_number CardExceptionSetReason = 66
-method_number CardRuntimeExceptionInit = 67
-method_number CardRuntimeExceptionThrowIt = 68
-method_number CardRuntimeExceptionGetReason = 69
-method_number CardRuntimeExceptionSetReason = 70
-method_number IsoExceptionInit = 71
-method_number IsoExceptionThrowIt = 72
-method_number PinExceptionInit = 73
-method_number PinExceptionThrowIt = 74
-method_number SystemExceptionInit = 75
-method_number SystemExceptionThrowIt = 76
-method_number TransactionExceptionInit = 77
-method_number TransactionExceptionThrowIt = 78
-method_number ApduExceptionInit = 79
-method_number ApduExceptionThrowIt = 80
-method_number UserExceptionInit = 81
-method_number UserExceptionThrowIt = 82
+method_number AppletReSelectingApplet = 25
+method_number ApduGetBuffer = 26
+method_number ApduReceiveBytes = 27
+method_number ApduSendBytes = 28
+method_number ApduSetIncomingAndReceive = 29
+method_number ApduSetOutgoing = 30
+method_number ApduSetOutgoingAndSend = 31
+method_number ApduSetOutgoingLength = 32
+method_number ApduGetIncomingLength = 33
+method_number ApduGetOffsetCdata = 34
+method_number ApduSendBytesLong = 35
+method_number ApduGetCurrentState = 36
+method_number ApduGetProtocol = 37
+method_number ApduGetNad = 38
+method_number ApduGetClaChannel = 39
+method_number ApduGetInBlockSize = 40
+method_number ApduGetOutBlockSize = 41
+method_number ApduIsIsoInterindustryCla = 42
+method_number ApduIsCommandChainingCla = 43
+method_number ApduIsSecureMessagingCla = 44
+method_number ApduIsValidCla = 45
+method_number ApduSetOutgoingNoChaining = 46
+method_number ApduWaitExtension = 47
+method_number ApduGetCurrentApdu = 48
+method_number ApduGetCurrentApduBuffer = 49
+method_number AidInit = 50
+method_number AidEquals = 51
+method_number AidEqualsBytes = 52
+method_number AidGetBytes = 53
+method_number AidRidEquals = 54
+method_number AidPartialEquals = 55
+method_number AidGetPartialBytes = 56
+method_number JcSystemAbortTransaction = 57
+method_number JcSystemBeginTransaction = 58
+method_number JcSystemCommitTransaction = 59
+method_number JcSystemGetAid = 60
+method_number JcSystemGetAppletShareableInterfaceObject = 61
+method_number JcSystemGetMaxCommitCapacity = 62
+method_number JcSystemGetPreviousContextAid = 63
+method_number JcSystemGetTransactionDepth = 64
+method_number JcSystemGetUnusedCommitCapacity = 65
+method_number JcSystemIsTransient = 66
+method_number JcSystemLookupAid = 67
+method_number JcSystemMakeTransientBooleanArray = 68
+method_number JcSystemMakeTransientByteArray = 69
+method_number JcSystemMakeTransientObjectArray = 70
+method_number JcSystemMakeTransientShortArray = 71
+method_number JcSystemGetVersion = 72
+method_number JcSystemGetAvailableMemory = 73
+method_number JcSystemGetAvailableMemoryShorts = 74
+method_number JcSystemRequestObjectDeletion = 75
+method_number JcSystemIsObjectDeletionSupported = 76
+method_number JcSystemIsAppletActive = 77
+method_number JcSystemGetAssignedChannel = 78
+method_number UtilArrayCompare = 79
+method_number UtilArrayCopy = 80
+method_number UtilGetShort = 81
+method_number UtilMakeShort = 82
+method_number UtilSetShort = 83
+method_number UtilArrayFill = 84
+method_number OwnerPinInit = 85
+method_number OwnerPinCheck = 86
+method_number OwnerPinGetTriesRemaining = 87
+method_number OwnerPinIsValidated = 88
+method_number OwnerPinReset = 89
+method_number OwnerPinResetAndUnblock = 90
+method_number OwnerPinUpdate = 91
+method_number OwnerPinGetValidatedFlag = 92
+method_number OwnerPinSetValidatedFlag = 93
+method_number CardExceptionInit = 94
+method_number CardExceptionThrowIt = 95
+method_number CardExceptionGetReason = 96
+method_number CardExceptionSetReason = 97
+method_number CardRuntimeExceptionInit = 98
+method_number CardRuntimeExceptionThrowIt = 99
+method_number CardRuntimeExceptionGetReason = 100
+method_number CardRuntimeExceptionSetReason = 101
+method_number IsoExceptionInit = 102
+method_number IsoExceptionThrowIt = 103
+method_number PinExceptionInit = 104
+method_number PinExceptionThrowIt = 105
+method_number SystemExceptionInit = 106
+method_number SystemExceptionThrowIt = 107
+method_number TransactionExceptionInit = 108
+method_number TransactionExceptionThrowIt = 109
+method_number ApduExceptionInit = 110
+method_number ApduExceptionThrowIt = 111
+method_number UserExceptionInit = 112
+method_number UserExceptionThrowIt = 113
+method_number UserExceptionInitWithoutReason = 114
+method_number MultiSelectableSelect = 115
+method_number MultiSelectableDeselect = 116
+method_number AppletEventUninstall = 117
 
 -- the two are one
 abbrev pub same_method : PlatformMethod → PlatformMethod → Bool

@@ -1,34 +1,37 @@
 -- What AIDs, numbers and tokens stand for on the platform.
-use Rattle.std.specs.Prelude.{ℕ, ◌≡◌, ◌&&◌, ◌==◌, ◌/◌, ◌%◌, if◌then◌else◌, List, [], ◌∷◌, Option, None, Some, find, slice_index}
+use Rattle.std.specs.Prelude.{ℕ, ◌≡◌, ◌&&◌, ◌==◌, ◌/◌, ◌%◌, true, if◌then◌else◌, List, [], ◌∷◌, Option, None, Some, is_some, find}
 use Rattle.std.specs.Option.{option_map, option_and_then}
 use Rattle.std.specs.Str.{bytes_eq}
 use Rattle.jc_platform.specs.declared.names.PlatformPackage.{PlatformPackage}
-use Rattle.jc_platform.specs.declared.names.PlatformPackage.TheVariants.{JavaLang, JavacardFramework}
+use Rattle.jc_platform.specs.declared.names.PlatformPackage.TheVariants.{JavaLang, JavacardFramework, JavacardxApdu}
 use Rattle.jc_platform.specs.declared.names.PlatformClass.{PlatformClass}
 use Rattle.jc_platform.specs.declared.names.MethodKind.{MethodKind}
 use Rattle.jc_platform.specs.declared.names.PlatformMethod.{PlatformMethod}
-use Rattle.jc_platform.specs.Distinct.{class_of, home_of, kind_of_method}
+use Rattle.jc_platform.specs.Distinct.{class_of, home_of, is_needed_class, is_needed_method, kind_of_method}
 use Rattle.jc_platform.specs.Names.{classes, methods}
-use Rattle.jc_platform.specs.Numbers.{class_number, method_number, same_class, same_kind, same_package}
-use Rattle.jc_platform.specs.Tokens.{Tokens, number_in}
+use Rattle.jc_platform.specs.Numbers.{same_class, same_kind, same_package}
+use Rattle.jc_platform.specs.Rows.{is_token}
+use Rattle.jc_platform.specs.Tokens.{Tokens, number_in, token_of_class, token_of_method, version_of_package}
 
 -- a package's AID
 unfoldable pub aid_of : PlatformPackage → List ℕ
 aid_of JavaLang = 160 ∷ 0 ∷ 0 ∷ 0 ∷ 98 ∷ 0 ∷ 1 ∷ []
 aid_of JavacardFramework = 160 ∷ 0 ∷ 0 ∷ 0 ∷ 98 ∷ 1 ∷ 1 ∷ []
+aid_of JavacardxApdu = 160 ∷ 0 ∷ 0 ∷ 0 ∷ 98 ∷ 2 ∷ 9 ∷ []
 
--- the package with this AID
-unfoldable pub package_by_aid : List ℕ → Option PlatformPackage
-package_by_aid aid = if bytes_eq aid (aid_of JavaLang) then Some JavaLang else (if bytes_eq aid
-    (aid_of JavacardFramework) then Some JavacardFramework else None)
+-- the package with this AID, of those that the table has
+unfoldable pub package_by_aid : Tokens → List ℕ → Option PlatformPackage
+package_by_aid t aid = if bytes_eq aid (aid_of JavaLang) then Some JavaLang else (if bytes_eq aid (aid_of JavacardFramework) then Some JavacardFramework else
+    (if bytes_eq aid (aid_of JavacardxApdu) && is_some (version_of_package t JavacardxApdu) then Some JavacardxApdu else None))
 
 -- the package with this number
 unfoldable pub package_by_number : Tokens → ℕ → Option PlatformPackage
-package_by_number t n = if n == number_in t JavaLang then Some JavaLang else (if n == number_in t JavacardFramework then Some JavacardFramework else None)
+package_by_number t n = if n == number_in t JavaLang then Some JavaLang else (if n == number_in t JavacardFramework then Some JavacardFramework else
+    (if n == number_in t JavacardxApdu then Some JavacardxApdu else None))
 
 -- the class of a package with this token
 unfoldable pub class_by_token : Tokens → PlatformPackage → ℕ → Option PlatformClass
-class_by_token t home token = option_map (λ e. e.class) (find (λ e. same_package e.home home && slice_index t.class_tokens (class_number e.class) == token)
+class_by_token t home token = option_map (λ e. e.class) (find (λ e. same_package e.home home && is_token (token_of_class t e.class) token)
     classes)
 
 -- the class that an object's header names so
@@ -37,11 +40,13 @@ class_by_word t word = option_and_then (λ home. class_by_token t home (word % 2
 
 -- the method of a class with this kind and token
 unfoldable pub method_by_token : Tokens → PlatformClass → MethodKind → ℕ → Option PlatformMethod
-method_by_token t class kind token = option_map (λ e. e.method) (find (λ e. same_class e.class class && same_kind e.kind kind && slice_index t.method_tokens
-    (method_number e.method) == token) methods)
+method_by_token t class kind token = option_map (λ e. e.method) (find (λ e. same_class e.class class && same_kind e.kind kind && is_token
+    (token_of_method t e.method) token) methods)
 
--- tokens stand for one class and one method: what has a token is what the token stands for
+-- tokens stand for one class and one method: what has a token is what the token stands for, and what each table has has one
 pub record TellNames (t : Tokens) : Type 0 where
   pub packages : (p : PlatformPackage) → package_by_number t (number_in t p) ≡ Some p
-  pub classes : (c : PlatformClass) → class_by_token t (home_of c) (slice_index t.class_tokens (class_number c)) ≡ Some c
-  pub methods : (m : PlatformMethod) → method_by_token t (class_of m) (kind_of_method m) (slice_index t.method_tokens (method_number m)) ≡ Some m
+  pub classes : (c : PlatformClass) (k : ℕ) → token_of_class t c ≡ Some k → class_by_token t (home_of c) k ≡ Some c
+  pub methods : (m : PlatformMethod) (k : ℕ) → token_of_method t m ≡ Some k → method_by_token t (class_of m) (kind_of_method m) k ≡ Some m
+  pub needed_classes : (c : PlatformClass) → is_needed_class c ≡ true → (k : ℕ) × (token_of_class t c ≡ Some k)
+  pub needed_methods : (m : PlatformMethod) → is_needed_method m ≡ true → (k : ℕ) × (token_of_method t m ≡ Some k)

@@ -1,26 +1,36 @@
 -- What the lines of a platform table say.
-use Rattle.std.specs.Prelude.{ℕ, Bool, false, not, ◌&&◌, ◌==◌, nat_le, nat_lt, if◌then◌else◌, List, [], ◌∷◌, length, codes, Option, None, Some, is_some}
+use Rattle.std.specs.Prelude.{ℕ, Bool, true, false, not, ◌&&◌, ◌||◌, ◌==◌, nat_le, nat_lt, if◌then◌else◌, List, [], ◌∷◌, length, codes, Option, None, Some, is_some}
 use Rattle.std.specs.Prelude.{unwrap_or, filter, find}
 use Rattle.std.specs.List.{list_any, slice_split}
 use Rattle.std.specs.Option.{option_and_then}
 use Rattle.std.specs.Str.{bytes_eq, all_ascii_digits}
 use Rattle.std.specs.Str.Parse.{digits_value}
 use Rattle.jc_platform.specs.declared.names.PlatformPackage.{PlatformPackage}
+use Rattle.jc_platform.specs.declared.names.PlatformPackage.TheVariants.{JavaLang, JavacardFramework, JavacardxApdu}
 use Rattle.jc_platform.specs.declared.names.PlatformClass.{PlatformClass}
 use Rattle.jc_platform.specs.declared.names.MethodKind.{MethodKind}
 use Rattle.jc_platform.specs.declared.names.MethodKind.TheVariants.{Static, Virtual, Interface}
 use Rattle.jc_platform.specs.declared.names.PlatformMethod.{PlatformMethod}
 use Rattle.jc_platform.specs.declared.row.Version.{Version}
 use Rattle.jc_platform.specs.declared.row.Row.{Row}
-use Rattle.jc_platform.specs.declared.row.Row.TheVariants.{Package, Class, Method}
+use Rattle.jc_platform.specs.declared.row.Row.TheVariants.{Extended, Package, Class, Method}
 use Rattle.jc_platform.specs.Names.{ClassEntry, MethodEntry, packages, classes, methods}
 use Rattle.jc_platform.specs.Numbers.{same_package, same_class, same_kind, same_method}
 
 -- ---- what stands above a line: rows from the nearest up
 
+-- the line that allows names of the second list stands above
+abbrev pub is_extended : List Row → Bool
+is_extended [] = false
+is_extended (Extended ∷ rows) = true
+is_extended (Package p version ∷ rows) = is_extended rows
+is_extended (Class c token ∷ rows) = is_extended rows
+is_extended (Method m token ∷ rows) = is_extended rows
+
 -- the package that stands nearest above
 abbrev pub package_above : List Row → Option PlatformPackage
 package_above [] = None
+package_above (Extended ∷ rows) = package_above rows
 package_above (Package p version ∷ rows) = Some p
 package_above (Class c token ∷ rows) = package_above rows
 package_above (Method m token ∷ rows) = package_above rows
@@ -28,6 +38,7 @@ package_above (Method m token ∷ rows) = package_above rows
 -- the class that stands nearest above, in the package that does
 abbrev pub class_above : List Row → Option PlatformClass
 class_above [] = None
+class_above (Extended ∷ rows) = class_above rows
 class_above (Package p version ∷ rows) = None
 class_above (Class c token ∷ rows) = Some c
 class_above (Method m token ∷ rows) = class_above rows
@@ -35,6 +46,7 @@ class_above (Method m token ∷ rows) = class_above rows
 -- the package that stands first of all
 abbrev pub first_package : List Row → Option PlatformPackage
 first_package [] = None
+first_package (Extended ∷ rows) = first_package rows
 first_package (Package p version ∷ rows) = Some (unwrap_or (first_package rows) p)
 first_package (Class c token ∷ rows) = first_package rows
 first_package (Method m token ∷ rows) = first_package rows
@@ -42,6 +54,7 @@ first_package (Method m token ∷ rows) = first_package rows
 -- the version of a package that stands above
 abbrev pub version_in : List Row → PlatformPackage → Option Version
 version_in [] q = None
+version_in (Extended ∷ rows) q = version_in rows q
 version_in (Package p version ∷ rows) q = if same_package p q then Some version else version_in rows q
 version_in (Class c token ∷ rows) q = version_in rows q
 version_in (Method m token ∷ rows) q = version_in rows q
@@ -49,6 +62,7 @@ version_in (Method m token ∷ rows) q = version_in rows q
 -- the token of a class that stands above
 abbrev pub class_token_in : List Row → PlatformClass → Option ℕ
 class_token_in [] d = None
+class_token_in (Extended ∷ rows) d = class_token_in rows d
 class_token_in (Package p version ∷ rows) d = class_token_in rows d
 class_token_in (Class c token ∷ rows) d = if same_class c d then Some token else class_token_in rows d
 class_token_in (Method m token ∷ rows) d = class_token_in rows d
@@ -56,12 +70,14 @@ class_token_in (Method m token ∷ rows) d = class_token_in rows d
 -- the token of a method that stands above
 abbrev pub method_token_in : List Row → PlatformMethod → Option ℕ
 method_token_in [] n = None
+method_token_in (Extended ∷ rows) n = method_token_in rows n
 method_token_in (Package p version ∷ rows) n = method_token_in rows n
 method_token_in (Class c token ∷ rows) n = method_token_in rows n
 method_token_in (Method m token ∷ rows) n = if same_method m n then Some token else method_token_in rows n
 
 -- what a line has to fit
 pub record Above : Type 0 where
+  pub extended : Bool
   pub home : Option PlatformPackage
   pub class : Option PlatformClass
   pub first : Option PlatformPackage
@@ -72,6 +88,7 @@ pub record Above : Type 0 where
 -- what is above a line that stands below these rows
 abbrev pub above : List Row → Above
 above rows = record {
+  extended = is_extended rows;
   home = package_above rows;
   class = class_above rows;
   first = first_package rows;
@@ -119,17 +136,34 @@ has_class_token a p token = list_any (λ e. same_package e.home p && is_token (a
 abbrev pub has_method_token : Above → PlatformClass → MethodKind → ℕ → Bool
 has_method_token a c kind token = list_any (λ e. same_class e.class c && same_kind e.kind kind && is_token (a.method_token e.method) token) methods
 
--- a package may stand here: it stands nowhere above
+-- the line `extended` may stand here: nothing stands above
+abbrev pub may_be_extended : Above → Bool
+may_be_extended a = not a.extended && not (is_some a.first)
+
+-- both packages that each table has stand above
+abbrev pub has_needed_packages : Above → Bool
+has_needed_packages a = is_some (a.version JavaLang) && is_some (a.version JavacardFramework)
+
+-- a package may stand here: it stands nowhere above, and javacardx.apdu stands in an extended table, behind both others
 abbrev pub may_be_package : Above → PlatformPackage → Bool
-may_be_package a p = not (is_some (a.version p))
+may_be_package a p = not (is_some (a.version p)) && (not (same_package p JavacardxApdu) || (a.extended && has_needed_packages a))
 
--- a class may stand here: in its own package, nowhere above, and with a token of its own
+-- a table may have a name that each table has, or, where it is extended, another
+abbrev pub allows : Above → Bool → Bool
+allows a needed = needed || a.extended
+
+-- a class may stand here: in a table that may have it, in its own package, nowhere above, and with a token of its own
 abbrev pub may_be_class : Above → ClassEntry → ℕ → Bool
-may_be_class a e token = is_package a.home e.home && not (is_some (a.class_token e.class)) && not (has_class_token a e.home token)
+may_be_class a e token = allows a e.needed && is_package a.home e.home && not (is_some (a.class_token e.class)) && not (has_class_token a e.home token)
 
--- a method may stand here, in its own class: nowhere above, and with a token of its own that its kind may have
+-- a method may stand here, in its own class: in a table that may have it, nowhere above, and with a token of its own that its kind may have
 abbrev pub may_be_method : Above → MethodEntry → ℕ → Bool
-may_be_method a e token = nat_le token (largest_token e.kind) && not (is_some (a.method_token e.method)) && not (has_method_token a e.class e.kind token)
+may_be_method a e token = allows a e.needed && nat_le token (largest_token e.kind) && not (is_some (a.method_token e.method))
+    && not (has_method_token a e.class e.kind token)
+
+-- the row of a line that is one word
+abbrev pub extended_row : Above → List ℕ → Option Row
+extended_row a word = if bytes_eq word (codes "extended") && may_be_extended a then Some Extended else None
 
 -- the row of a package with this AID and version
 abbrev pub package_row : Above → List ℕ → List ℕ → List ℕ → Option Row
@@ -169,7 +203,7 @@ method_row a keyword token name =
 -- the row that a line of these words is; none where it may not stand there
 abbrev pub row_of : Above → List (List ℕ) → Option Row
 row_of a [] = None
-row_of a (keyword ∷ []) = None
+row_of a (keyword ∷ []) = extended_row a keyword
 row_of a (keyword ∷ x ∷ []) = None
 row_of a (keyword ∷ x ∷ y ∷ []) = if bytes_eq keyword (codes "class") then class_row a x y else method_row a keyword x y
 row_of a (keyword ∷ x ∷ y ∷ z ∷ []) = if bytes_eq keyword (codes "package") then package_row a x y z else None

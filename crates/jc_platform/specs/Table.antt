@@ -1,14 +1,17 @@
 -- The platform table: its text, and what it says.
-use Rattle.std.specs.Prelude.{ℕ, ◌≡◌, ◌≢◌, ◌+◌, ◌<◌, ◌≤◌, ◌⊎◌, List, [], ◌∷◌, ◌++◌, length, reverse, None, Some, Result, Ok, Err, slice_get, slice_index}
+use Rattle.std.specs.Prelude.{ℕ, ◌≡◌, ◌≢◌, ◌+◌, ◌<◌, ◌≤◌, ◌⊎◌, ◌||◌, not, Bool, true, false, is_some, List, [], ◌∷◌, ◌++◌, length, reverse, None, Some}
+use Rattle.std.specs.Prelude.{Result, Ok, Err}
+use Rattle.std.specs.List.{list_all}
 use Rattle.jc_platform.specs.declared.names.PlatformPackage.{PlatformPackage}
 use Rattle.jc_platform.specs.declared.names.PlatformClass.{PlatformClass}
 use Rattle.jc_platform.specs.declared.names.PlatformMethod.{PlatformMethod}
 use Rattle.jc_platform.specs.declared.row.Row.{Row}
 use Rattle.jc_platform.specs.declared.fault.TableFault.{TableFault}
 use Rattle.jc_platform.specs.declared.fault.TableFault.TheVariants.{BadTable}
-use Rattle.jc_platform.specs.Numbers.{class_count, class_number, method_count, method_number, package_count, package_number}
-use Rattle.jc_platform.specs.Rows.{Above, above, parts_at, row_of_line}
-use Rattle.jc_platform.specs.Tokens.{Tokens}
+use Rattle.jc_platform.specs.Names.{classes, methods}
+use Rattle.jc_platform.specs.Numbers.{class_count, method_count, package_count}
+use Rattle.jc_platform.specs.Rows.{Above, above, has_needed_packages, parts_at, row_of_line}
+use Rattle.jc_platform.specs.Tokens.{Tokens, token_of_class, token_of_method, version_of_package}
 
 -- each line is its row below the rows above it; lines and rows from the last one up
 abbrev pub Say : List (List ℕ) → List Row → Type 0
@@ -31,17 +34,27 @@ abbrev pub IsFirstBad : List ℕ → ℕ → Type 0
 IsFirstBad text n = (lines : List (List ℕ)) × (rows : List Row) × (part : List ℕ) × (more : List (List ℕ))
     × (parts_at 10 text ≡ reverse lines ++ part ∷ more) × Say lines rows × (n ≡ length lines + 1) × IsBad (above rows) part more
 
--- no package stands, or some name is missing
-abbrev pub IsMissing : Above → Type 0
-IsMissing a = (a.first ≡ None) ⊎ ((p : PlatformPackage) × (a.version p ≡ None)) ⊎ ((c : PlatformClass) × (a.class_token c ≡ None))
-    ⊎ ((m : PlatformMethod) × (a.method_token m ≡ None))
+-- each class that each table has stands above
+abbrev pub has_needed_classes : Above → Bool
+has_needed_classes a = list_all (λ e. not e.needed || is_some (a.class_token e.class)) classes
 
--- the tokens and versions are those that stand above, all stand there, and there are no more
+-- each method that each table has stands above
+abbrev pub has_needed_methods : Above → Bool
+has_needed_methods a = list_all (λ e. not e.needed || is_some (a.method_token e.method)) methods
+
+-- no package stands, or some package or name that each table has is missing
+abbrev pub IsMissing : Above → Type 0
+IsMissing a = (a.first ≡ None) ⊎ (has_needed_packages a ≡ false) ⊎ (has_needed_classes a ≡ false) ⊎ (has_needed_methods a ≡ false)
+
+-- the tokens and versions are those that stand above, all that each table has stand there, and there are no more
 pub record AreThoseOf (a : Above) (t : Tokens) : Type 0 where
   pub first : a.first ≡ Some t.first
-  pub versions : (p : PlatformPackage) → a.version p ≡ slice_get t.versions (package_number p)
-  pub class_tokens : (c : PlatformClass) → a.class_token c ≡ Some (slice_index t.class_tokens (class_number c))
-  pub method_tokens : (m : PlatformMethod) → a.method_token m ≡ Some (slice_index t.method_tokens (method_number m))
+  pub versions : (p : PlatformPackage) → a.version p ≡ version_of_package t p
+  pub class_tokens : (c : PlatformClass) → a.class_token c ≡ token_of_class t c
+  pub method_tokens : (m : PlatformMethod) → a.method_token m ≡ token_of_method t m
+  pub needed_packages : has_needed_packages a ≡ true
+  pub needed_classes : has_needed_classes a ≡ true
+  pub needed_methods : has_needed_methods a ≡ true
   pub as_many_versions : length t.versions ≡ package_count
   pub as_many_classes : length t.class_tokens ≡ class_count
   pub as_many_methods : length t.method_tokens ≡ method_count

@@ -12,7 +12,13 @@ impl PlatformClass {
         ensures { result ≡ superclass_of self }
     {
         match self {
-            PlatformClass::Object | PlatformClass::Shareable | PlatformClass::Pin => None,
+            PlatformClass::Object
+            | PlatformClass::Shareable
+            | PlatformClass::Pin
+            | PlatformClass::Iso7816
+            | PlatformClass::MultiSelectable
+            | PlatformClass::AppletEvent
+            | PlatformClass::ExtendedLength => None,
             PlatformClass::Exception => Some(PlatformClass::Throwable),
             PlatformClass::RuntimeException | PlatformClass::CardException => Some(
                 PlatformClass::Exception,
@@ -44,7 +50,12 @@ impl PlatformClass {
         ensures { result ≡ is_interface self }
     {
         match self {
-            PlatformClass::Shareable | PlatformClass::Pin => true,
+            PlatformClass::Shareable
+            | PlatformClass::Pin
+            | PlatformClass::Iso7816
+            | PlatformClass::MultiSelectable
+            | PlatformClass::AppletEvent
+            | PlatformClass::ExtendedLength => true,
             _ => false,
         }
     }
@@ -57,10 +68,14 @@ impl PlatformClass {
         match self {
             PlatformClass::Shareable
             | PlatformClass::Pin
-            | PlatformClass::Applet
+            | PlatformClass::Iso7816
+            | PlatformClass::MultiSelectable
+            | PlatformClass::AppletEvent
+            | PlatformClass::ExtendedLength
             | PlatformClass::Apdu
             | PlatformClass::JcSystem
-            | PlatformClass::Util => false,
+            | PlatformClass::Util
+            | PlatformClass::Applet => false,
             _ => true,
         }
     }

@@ -12,6 +12,8 @@ pub enum PlatformPackage {
     JavaLang,
     /// `javacard.framework`
     JavacardFramework,
+    /// `javacardx.apdu`, which an extended table may have
+    JavacardxApdu,
 }
 
 /// A class or an interface of the platform, in Rust's spelling of its name: `Pin` is `PIN`.
@@ -45,6 +47,10 @@ pub enum PlatformClass {
     TransactionException,
     ApduException,
     UserException,
+    Iso7816,
+    MultiSelectable,
+    AppletEvent,
+    ExtendedLength,
 }
 
 /// What kind of method a name stands for. Constructors are static here, as their tokens are.
@@ -84,6 +90,7 @@ pub enum PlatformMethod {
     AppletSelect,
     AppletSelectingApplet,
     AppletProcess,
+    AppletReSelectingApplet,
     ApduGetBuffer,
     ApduReceiveBytes,
     ApduSendBytes,
@@ -91,10 +98,30 @@ pub enum PlatformMethod {
     ApduSetOutgoing,
     ApduSetOutgoingAndSend,
     ApduSetOutgoingLength,
+    ApduGetIncomingLength,
+    ApduGetOffsetCdata,
+    ApduSendBytesLong,
+    ApduGetCurrentState,
+    ApduGetProtocol,
+    ApduGetNad,
+    ApduGetClaChannel,
+    ApduGetInBlockSize,
+    ApduGetOutBlockSize,
+    ApduIsIsoInterindustryCla,
+    ApduIsCommandChainingCla,
+    ApduIsSecureMessagingCla,
+    ApduIsValidCla,
+    ApduSetOutgoingNoChaining,
+    ApduWaitExtension,
+    ApduGetCurrentApdu,
+    ApduGetCurrentApduBuffer,
     AidInit,
     AidEquals,
     AidEqualsBytes,
     AidGetBytes,
+    AidRidEquals,
+    AidPartialEquals,
+    AidGetPartialBytes,
     JcSystemAbortTransaction,
     JcSystemBeginTransaction,
     JcSystemCommitTransaction,
@@ -110,11 +137,19 @@ pub enum PlatformMethod {
     JcSystemMakeTransientByteArray,
     JcSystemMakeTransientObjectArray,
     JcSystemMakeTransientShortArray,
+    JcSystemGetVersion,
+    JcSystemGetAvailableMemory,
+    JcSystemGetAvailableMemoryShorts,
+    JcSystemRequestObjectDeletion,
+    JcSystemIsObjectDeletionSupported,
+    JcSystemIsAppletActive,
+    JcSystemGetAssignedChannel,
     UtilArrayCompare,
     UtilArrayCopy,
     UtilGetShort,
     UtilMakeShort,
     UtilSetShort,
+    UtilArrayFill,
     OwnerPinInit,
     OwnerPinCheck,
     OwnerPinGetTriesRemaining,
@@ -122,6 +157,8 @@ pub enum PlatformMethod {
     OwnerPinReset,
     OwnerPinResetAndUnblock,
     OwnerPinUpdate,
+    OwnerPinGetValidatedFlag,
+    OwnerPinSetValidatedFlag,
     CardExceptionInit,
     CardExceptionThrowIt,
     CardExceptionGetReason,
@@ -142,16 +179,20 @@ pub enum PlatformMethod {
     ApduExceptionThrowIt,
     UserExceptionInit,
     UserExceptionThrowIt,
+    UserExceptionInitWithoutReason,
+    MultiSelectableSelect,
+    MultiSelectableDeselect,
+    AppletEventUninstall,
 }
 
 /// How many packages there are.
-pub(crate) const PACKAGE_COUNT: usize = 2;
+pub(crate) const PACKAGE_COUNT: usize = 3;
 
 /// How many classes and interfaces there are.
-pub(crate) const CLASS_COUNT: usize = 28;
+pub(crate) const CLASS_COUNT: usize = 32;
 
 /// How many methods there are.
-pub(crate) const METHOD_COUNT: usize = 83;
+pub(crate) const METHOD_COUNT: usize = 118;
 
 impl PlatformPackage {
     /// The two are one, told by their places.
@@ -189,6 +230,7 @@ impl PlatformClass {
             | PlatformClass::NegativeArraySizeException
             | PlatformClass::NullPointerException
             | PlatformClass::SecurityException => PlatformPackage::JavaLang,
+            PlatformClass::ExtendedLength => PlatformPackage::JavacardxApdu,
             _ => PlatformPackage::JavacardFramework,
         }
     }
@@ -252,15 +294,17 @@ pub(crate) struct PackageName {
     pub(crate) aid_text: &'static [u8],
 }
 
-/// A class with its package and its name.
+/// A class with its package, its name, and whether each table has it.
 #[derive(Clone, Copy)]
 pub(crate) struct ClassName {
     pub(crate) class: PlatformClass,
     pub(crate) home: PlatformPackage,
     pub(crate) name: &'static [u8],
+    pub(crate) needed: bool,
 }
 
-/// A method with its class, its kind, how many cells its arguments have with its receiver, and its name.
+/// A method with its class, its kind, how many cells its arguments have with its receiver, its name, and whether
+/// each table has it.
 #[derive(Clone, Copy)]
 pub(crate) struct MethodName {
     pub(crate) method: PlatformMethod,
@@ -268,6 +312,7 @@ pub(crate) struct MethodName {
     pub(crate) kind: MethodKind,
     pub(crate) arguments: u8,
     pub(crate) name: &'static [u8],
+    pub(crate) needed: bool,
 }
 
 macro_rules! class {
@@ -276,6 +321,18 @@ macro_rules! class {
             class: PlatformClass::$class,
             home: PlatformPackage::$package,
             name: $name,
+            needed: true,
+        }
+    };
+}
+
+macro_rules! optional_class {
+    ($package:ident $class:ident $name:literal) => {
+        ClassName {
+            class: PlatformClass::$class,
+            home: PlatformPackage::$package,
+            name: $name,
+            needed: false,
         }
     };
 }
@@ -288,6 +345,20 @@ macro_rules! method {
             kind: MethodKind::$kind,
             arguments: $arguments,
             name: $name,
+            needed: true,
+        }
+    };
+}
+
+macro_rules! optional_method {
+    ($class:ident $kind:ident $method:ident $arguments:literal $name:literal) => {
+        MethodName {
+            method: PlatformMethod::$method,
+            class: PlatformClass::$class,
+            kind: MethodKind::$kind,
+            arguments: $arguments,
+            name: $name,
+            needed: false,
         }
     };
 }
@@ -301,6 +372,10 @@ pub(crate) static PACKAGES: [PackageName; PACKAGE_COUNT] = [
     PackageName {
         package_id: PlatformPackage::JavacardFramework,
         aid_text: b"A0000000620101",
+    },
+    PackageName {
+        package_id: PlatformPackage::JavacardxApdu,
+        aid_text: b"A0000000620209",
     },
 ];
 
@@ -334,6 +409,10 @@ pub(crate) static CLASSES: [ClassName; CLASS_COUNT] = [
     class!(JavacardFramework TransactionException b"TransactionException"),
     class!(JavacardFramework ApduException b"APDUException"),
     class!(JavacardFramework UserException b"UserException"),
+    optional_class!(JavacardFramework Iso7816 b"ISO7816"),
+    optional_class!(JavacardFramework MultiSelectable b"MultiSelectable"),
+    optional_class!(JavacardFramework AppletEvent b"AppletEvent"),
+    optional_class!(JavacardxApdu ExtendedLength b"ExtendedLength"),
 ];
 
 /// The place of each class's first method, in the order of `PlatformClass`; behind them how many methods there are.
@@ -353,19 +432,23 @@ pub(crate) static FIRST_METHODS: [usize; CLASS_COUNT + 1] = [
     13,
     13,
     17,
-    25,
-    32,
-    36,
-    51,
-    56,
-    63,
-    67,
-    71,
-    73,
-    75,
-    77,
+    26,
+    50,
+    57,
     79,
-    81,
+    85,
+    94,
+    98,
+    102,
+    104,
+    106,
+    108,
+    110,
+    112,
+    115,
+    115,
+    117,
+    118,
     METHOD_COUNT,
 ];
 
@@ -396,6 +479,7 @@ pub(crate) static METHODS: [MethodName; METHOD_COUNT] = [
     method!(Applet Virtual AppletSelect 1 b"select"),
     method!(Applet Virtual AppletSelectingApplet 1 b"selectingApplet"),
     method!(Applet Virtual AppletProcess 2 b"process"),
+    optional_method!(Applet Virtual AppletReSelectingApplet 1 b"reSelectingApplet"),
     method!(Apdu Virtual ApduGetBuffer 1 b"getBuffer"),
     method!(Apdu Virtual ApduReceiveBytes 2 b"receiveBytes"),
     method!(Apdu Virtual ApduSendBytes 3 b"sendBytes"),
@@ -403,10 +487,30 @@ pub(crate) static METHODS: [MethodName; METHOD_COUNT] = [
     method!(Apdu Virtual ApduSetOutgoing 1 b"setOutgoing"),
     method!(Apdu Virtual ApduSetOutgoingAndSend 3 b"setOutgoingAndSend"),
     method!(Apdu Virtual ApduSetOutgoingLength 2 b"setOutgoingLength"),
+    optional_method!(Apdu Virtual ApduGetIncomingLength 1 b"getIncomingLength"),
+    optional_method!(Apdu Virtual ApduGetOffsetCdata 1 b"getOffsetCdata"),
+    optional_method!(Apdu Virtual ApduSendBytesLong 4 b"sendBytesLong"),
+    optional_method!(Apdu Virtual ApduGetCurrentState 1 b"getCurrentState"),
+    optional_method!(Apdu Static ApduGetProtocol 0 b"getProtocol"),
+    optional_method!(Apdu Virtual ApduGetNad 1 b"getNAD"),
+    optional_method!(Apdu Static ApduGetClaChannel 0 b"getCLAChannel"),
+    optional_method!(Apdu Static ApduGetInBlockSize 0 b"getInBlockSize"),
+    optional_method!(Apdu Static ApduGetOutBlockSize 0 b"getOutBlockSize"),
+    optional_method!(Apdu Virtual ApduIsIsoInterindustryCla 1 b"isISOInterindustryCLA"),
+    optional_method!(Apdu Virtual ApduIsCommandChainingCla 1 b"isCommandChainingCLA"),
+    optional_method!(Apdu Virtual ApduIsSecureMessagingCla 1 b"isSecureMessagingCLA"),
+    optional_method!(Apdu Virtual ApduIsValidCla 1 b"isValidCLA"),
+    optional_method!(Apdu Virtual ApduSetOutgoingNoChaining 1 b"setOutgoingNoChaining"),
+    optional_method!(Apdu Static ApduWaitExtension 0 b"waitExtension"),
+    optional_method!(Apdu Static ApduGetCurrentApdu 0 b"getCurrentAPDU"),
+    optional_method!(Apdu Static ApduGetCurrentApduBuffer 0 b"getCurrentAPDUBuffer"),
     method!(Aid Static AidInit 4 b"<init>"),
     method!(Aid Virtual AidEquals 2 b"equals"),
     method!(Aid Virtual AidEqualsBytes 4 b"equalsBytes"),
     method!(Aid Virtual AidGetBytes 3 b"getBytes"),
+    optional_method!(Aid Virtual AidRidEquals 2 b"RIDEquals"),
+    optional_method!(Aid Virtual AidPartialEquals 4 b"partialEquals"),
+    optional_method!(Aid Virtual AidGetPartialBytes 5 b"getPartialBytes"),
     method!(JcSystem Static JcSystemAbortTransaction 0 b"abortTransaction"),
     method!(JcSystem Static JcSystemBeginTransaction 0 b"beginTransaction"),
     method!(JcSystem Static JcSystemCommitTransaction 0 b"commitTransaction"),
@@ -422,11 +526,19 @@ pub(crate) static METHODS: [MethodName; METHOD_COUNT] = [
     method!(JcSystem Static JcSystemMakeTransientByteArray 2 b"makeTransientByteArray"),
     method!(JcSystem Static JcSystemMakeTransientObjectArray 2 b"makeTransientObjectArray"),
     method!(JcSystem Static JcSystemMakeTransientShortArray 2 b"makeTransientShortArray"),
+    optional_method!(JcSystem Static JcSystemGetVersion 0 b"getVersion"),
+    optional_method!(JcSystem Static JcSystemGetAvailableMemory 1 b"getAvailableMemory"),
+    optional_method!(JcSystem Static JcSystemGetAvailableMemoryShorts 3 b"getAvailableMemoryShorts"),
+    optional_method!(JcSystem Static JcSystemRequestObjectDeletion 0 b"requestObjectDeletion"),
+    optional_method!(JcSystem Static JcSystemIsObjectDeletionSupported 0 b"isObjectDeletionSupported"),
+    optional_method!(JcSystem Static JcSystemIsAppletActive 1 b"isAppletActive"),
+    optional_method!(JcSystem Static JcSystemGetAssignedChannel 0 b"getAssignedChannel"),
     method!(Util Static UtilArrayCompare 5 b"arrayCompare"),
     method!(Util Static UtilArrayCopy 5 b"arrayCopy"),
     method!(Util Static UtilGetShort 2 b"getShort"),
     method!(Util Static UtilMakeShort 2 b"makeShort"),
     method!(Util Static UtilSetShort 3 b"setShort"),
+    optional_method!(Util Static UtilArrayFill 4 b"arrayFill"),
     method!(OwnerPin Static OwnerPinInit 3 b"<init>"),
     method!(OwnerPin Virtual OwnerPinCheck 4 b"check"),
     method!(OwnerPin Virtual OwnerPinGetTriesRemaining 1 b"getTriesRemaining"),
@@ -434,6 +546,8 @@ pub(crate) static METHODS: [MethodName; METHOD_COUNT] = [
     method!(OwnerPin Virtual OwnerPinReset 1 b"reset"),
     method!(OwnerPin Virtual OwnerPinResetAndUnblock 1 b"resetAndUnblock"),
     method!(OwnerPin Virtual OwnerPinUpdate 4 b"update"),
+    optional_method!(OwnerPin Virtual OwnerPinGetValidatedFlag 1 b"getValidatedFlag"),
+    optional_method!(OwnerPin Virtual OwnerPinSetValidatedFlag 2 b"setValidatedFlag"),
     method!(CardException Static CardExceptionInit 2 b"<init>"),
     method!(CardException Static CardExceptionThrowIt 1 b"throwIt"),
     method!(CardException Virtual CardExceptionGetReason 1 b"getReason"),
@@ -454,4 +568,8 @@ pub(crate) static METHODS: [MethodName; METHOD_COUNT] = [
     method!(ApduException Static ApduExceptionThrowIt 1 b"throwIt"),
     method!(UserException Static UserExceptionInit 2 b"<init>"),
     method!(UserException Static UserExceptionThrowIt 1 b"throwIt"),
+    optional_method!(UserException Static UserExceptionInitWithoutReason 1 b"<init>WithoutReason"),
+    optional_method!(MultiSelectable Interface MultiSelectableSelect 2 b"select"),
+    optional_method!(MultiSelectable Interface MultiSelectableDeselect 2 b"deselect"),
+    optional_method!(AppletEvent Interface AppletEventUninstall 1 b"uninstall"),
 ];

@@ -1,13 +1,14 @@
 //! The platform's packages as other packages name them: what AIDs, numbers and tokens stand for.
 
-ghost use Rattle.std.specs.Prelude.{◌≡◌, ◌&&◌, ◌==◌, find, slice_get, slice_index};
+ghost use Rattle.std.specs.Prelude.{◌≡◌, ◌&&◌, find};
 ghost use Rattle.std.specs.Option.{option_map};
 ghost use Rattle.jc_platform.specs.Distinct.{class_word};
 ghost use Rattle.jc_platform.specs.Names.{classes, methods};
-ghost use Rattle.jc_platform.specs.Numbers.{class_number, method_number, package_number, same_class, same_kind, same_package};
+ghost use Rattle.jc_platform.specs.Numbers.{same_class, same_kind, same_package};
 ghost use Rattle.jc_platform.specs.Platform.{aid_of, class_by_token, class_by_word, method_by_token, package_by_aid, package_by_number};
+ghost use Rattle.jc_platform.specs.Rows.{is_token};
 ghost use Rattle.jc_platform.specs.Seen.{class_value, method_value};
-ghost use Rattle.jc_platform.specs.Tokens.{number_in};
+ghost use Rattle.jc_platform.specs.Tokens.{method_token, number_in, token_of_class, token_of_method, version_of_package};
 
 use crate::lookup::{all_classes, methods_of};
 use crate::names::{
@@ -15,6 +16,7 @@ use crate::names::{
 };
 use crate::row::Version;
 use crate::table::Table;
+use crate::words::is_token;
 use jc_transient::ClassWord;
 use std::marker::Model;
 
@@ -41,20 +43,7 @@ impl PlatformPackage {
         match self {
             PlatformPackage::JavaLang => &[0xA0, 0, 0, 0, 0x62, 0, 1],
             PlatformPackage::JavacardFramework => &[0xA0, 0, 0, 0, 0x62, 1, 1],
-        }
-    }
-
-    /// The package with this AID.
-    #[tactic(auto, unfolding(crate::specs::Platform::package_by_aid))]
-    pub fn with_aid(aid: &[u8]) -> Option<PlatformPackage>
-        ensures { result ≡ package_by_aid aid.now }
-    {
-        if aid == PlatformPackage::JavaLang.aid() {
-            Some(PlatformPackage::JavaLang)
-        } else if aid == PlatformPackage::JavacardFramework.aid() {
-            Some(PlatformPackage::JavacardFramework)
-        } else {
-            None
+            PlatformPackage::JavacardxApdu => &[0xA0, 0, 0, 0, 0x62, 2, 9],
         }
     }
 }
@@ -66,14 +55,32 @@ impl Platform {
         Platform { table }
     }
 
-    /// The version of a package.
-    pub fn version(&self, named: PlatformPackage) -> Version
-        ensures { slice_get self.now.versions (package_number named) ≡ Some result }
+    /// The version of a package that the table has.
+    pub fn version(&self, named: PlatformPackage) -> Option<Version>
+        ensures { result ≡ version_of_package self.now named }
     {
         self.table.version(named)
     }
 
-    /// The number of a package, from 64 on in the table's order.
+    /// The package with this AID, of those that the table has.
+    #[tactic(auto, unfolding(crate::specs::Platform::package_by_aid))]
+    pub fn package_with_aid(&self, aid: &[u8]) -> Option<PlatformPackage>
+        ensures { result ≡ package_by_aid self.now aid.now }
+    {
+        if aid == PlatformPackage::JavaLang.aid() {
+            Some(PlatformPackage::JavaLang)
+        } else if aid == PlatformPackage::JavacardFramework.aid() {
+            Some(PlatformPackage::JavacardFramework)
+        } else if aid == PlatformPackage::JavacardxApdu.aid()
+            && self.version(PlatformPackage::JavacardxApdu).is_some()
+        {
+            Some(PlatformPackage::JavacardxApdu)
+        } else {
+            None
+        }
+    }
+
+    /// The number of a package, from 64 on in the table's order; 66 of `javacardx.apdu`, which stands last if it does.
     pub fn number(&self, named: PlatformPackage) -> u8
         ensures { result ≡ number_in self.now named }
     {
@@ -89,6 +96,8 @@ impl Platform {
             Some(PlatformPackage::JavaLang)
         } else if number == self.number(PlatformPackage::JavacardFramework) {
             Some(PlatformPackage::JavacardFramework)
+        } else if number == self.number(PlatformPackage::JavacardxApdu) {
+            Some(PlatformPackage::JavacardxApdu)
         } else {
             None
         }
@@ -101,9 +110,9 @@ impl Platform {
         self.table.class_word(class)
     }
 
-    /// The token of a method in its class.
+    /// The token of a method in its class, of those that each table has; 0 for another that the table lacks.
     pub fn method_token(&self, named: PlatformMethod) -> u8
-        ensures { result ≡ slice_index self.now.method_tokens (method_number named) }
+        ensures { result ≡ method_token self.now named }
     {
         self.table.method_token(named)
     }
@@ -140,23 +149,25 @@ impl Platform {
 
     fn class_entry(&self, home: PlatformPackage, token: u8) -> Option<ClassName>
         ensures { option_map class_value result ≡ find
-            (λ e. same_package e.home home && slice_index self.now.class_tokens
-            (class_number e.class) == token) classes }
+            (λ e. same_package e.home home && is_token
+            (token_of_class self.now e.class) token) classes }
     {
         all_classes()
             .iter()
-            .find(|entry| entry.home.is(home) && self.table.class_token(entry.class) == token)
+            .find(|entry| entry.home.is(home)
+                && is_token(self.table.token_of_class(entry.class), token))
             .copied()
     }
 
     fn method_entry(&self, class: PlatformClass, kind: MethodKind, token: u8) -> Option<MethodName>
         ensures { option_map method_value result ≡ find
-            (λ e. same_class e.class class && same_kind e.kind kind && slice_index
-            self.now.method_tokens (method_number e.method) == token) methods }
+            (λ e. same_class e.class class && same_kind e.kind kind && is_token
+            (token_of_method self.now e.method) token) methods }
     {
         methods_of(class)
             .iter()
-            .find(|entry| entry.kind.is(kind) && self.table.method_token(entry.method) == token)
+            .find(|entry| entry.kind.is(kind)
+                && is_token(self.table.token_of_method(entry.method), token))
             .copied()
     }
 }

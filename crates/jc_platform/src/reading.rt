@@ -1,26 +1,31 @@
 //! What the lines so far say.
 
-ghost use Rattle.std.specs.Prelude.{◌≡◌, [], ◌∷◌, List, MatchOption, Some, length, slice_set, unwrap_or};
-ghost use Rattle.jc_platform.specs.Rows.{above, class_row, has_class_token, has_method_token, is_package, is_token, may_be_class, may_be_method, method_row};
-ghost use Rattle.jc_platform.specs.Rows.{package_row, row_of_line};
+ghost use Rattle.std.specs.Prelude.{◌≡◌, [], ◌∷◌, List, MatchOption, Some, slice_set, unwrap_or};
+ghost use Rattle.jc_platform.specs.Rows.{above, class_row, has_class_token, has_method_token, is_package, may_be_class, may_be_extended, may_be_method, method_row};
+ghost use Rattle.jc_platform.specs.Rows.{has_needed_packages, may_be_package};
+ghost use Rattle.jc_platform.specs.Rows.{allows, extended_row, package_row, row_of_line};
 ghost use Rattle.jc_platform.specs.Numbers.{package_number};
-ghost use Rattle.jc_platform.specs.Table.{AreThoseOf, IsMissing};
-ghost use Rattle.jc_platform.specs.Reading.{AreCopied, IsLacking, above_of};
+ghost use Rattle.jc_platform.specs.Table.{AreThoseOf, IsMissing, has_needed_classes, has_needed_methods};
+ghost use Rattle.jc_platform.specs.Reading.{above_of};
 ghost use Rattle.jc_platform.specs.Seen.{class_value, method_value};
 ghost use Rattle.jc_platform.specs.declared.row.Row.{Row};
 
-use crate::lookup::{all_classes, class_named, method_named, methods_of, package_with};
+use crate::lookup::{
+    all_classes, all_methods, class_named, method_named, methods_of, package_with,
+};
 use crate::names::{
     CLASS_COUNT, ClassName, METHOD_COUNT, MethodKind, MethodName, PACKAGE_COUNT, PlatformClass,
     PlatformMethod, PlatformPackage,
 };
 use crate::row::{Row, Version};
 use crate::table::Table;
-use crate::words::{kind, number, split_once};
+use crate::words::{is_token, kind, number, split_once};
 
 /// What stands above the next line.
 #[derive(Drop)]
 pub(crate) struct Reading {
+    /// The first line allows names of the second list.
+    extended: bool,
     /// The package that the next class stands in.
     home: Option<PlatformPackage>,
     /// The class that the next method stands in.
@@ -38,6 +43,7 @@ impl Reading {
         ensures { above_of result ≡ above [] }
     {
         Reading {
+            extended: false,
             home: None,
             class: None,
             first: None,
@@ -51,7 +57,9 @@ impl Reading {
     pub(crate) fn row(&self, line: &[u8]) -> Option<Row>
         ensures { result ≡ row_of_line (above_of self.now) line.now }
     {
-        let (keyword, rest) = split_once(line, b' ')?;
+        let Some((keyword, rest)) = split_once(line, b' ') else {
+            return self.extended_row(line);
+        };
         let (second, rest) = split_once(rest, b' ')?;
         let Some((third, fourth)) = split_once(rest, b' ') else {
             if keyword == b"class".as_slice() {
@@ -89,13 +97,22 @@ impl Reading {
         self.method_tokens[method.index()]
     }
 
+    fn extended_row(&self, word: &[u8]) -> Option<Row>
+        ensures { result ≡ extended_row (above_of self.now) word.now }
+    {
+        if word == b"extended".as_slice() && self.may_be_extended() {
+            return Some(Row::Extended);
+        }
+        None
+    }
+
     fn package_row(&self, aid: &[u8], major: &[u8], minor: &[u8]) -> Option<Row>
         ensures { result ≡ package_row (above_of self.now) aid.now major.now minor.now }
     {
         let entry = package_with(aid)?;
         let major = number(major)?;
         let minor = number(minor)?;
-        if self.version(entry.package_id).is_some() {
+        if !self.may_be_package(entry.package_id) {
             return None;
         }
         Some(Row::Package(entry.package_id, Version { major, minor }))
@@ -125,21 +142,56 @@ impl Reading {
         Some(Row::Method(entry.method, token))
     }
 
-    /// A class may stand here: in its own package, nowhere above, and with a token of its own.
+    /// The line `extended` may stand here: nothing stands above.
+    fn may_be_extended(&self) -> bool
+        ensures { result ≡ may_be_extended (above_of self.now) }
+    {
+        !self.extended && self.first.is_none()
+    }
+
+    /// Both packages that each table has stand above.
+    fn has_needed_packages(&self) -> bool
+        ensures { result ≡ has_needed_packages (above_of self.now) }
+    {
+        self.version(PlatformPackage::JavaLang).is_some()
+            && self.version(PlatformPackage::JavacardFramework).is_some()
+    }
+
+    /// A package may stand here: it stands nowhere above, and `javacardx.apdu` stands in an extended table, behind
+    /// both others.
+    fn may_be_package(&self, named: PlatformPackage) -> bool
+        ensures { result ≡ may_be_package (above_of self.now) named }
+    {
+        self.version(named).is_none()
+            && (!named.is(PlatformPackage::JavacardxApdu)
+                || self.extended && self.has_needed_packages())
+    }
+
+    /// The table may have a name that each table has, or, where it is extended, another.
+    fn allows(&self, needed: bool) -> bool
+        ensures { result ≡ allows (above_of self.now) needed }
+    {
+        needed || self.extended
+    }
+
+    /// A class may stand here: in a table that may have it, in its own package, nowhere above, and with a token of
+    /// its own.
     fn may_be_class(&self, entry: &ClassName, token: u8) -> bool
         ensures { result ≡ may_be_class (above_of self.now) (class_value entry.now) token }
     {
-        is_package(self.home, entry.home)
+        self.allows(entry.needed)
+            && is_package(self.home, entry.home)
             && self.class_token(entry.class).is_none()
             && !self.has_class_token(entry.home, token)
     }
 
-    /// A method may stand here, in its own class: nowhere above, and with a token of its own that its kind
-    /// may have.
+    /// A method may stand here, in its own class: in a table that may have it, nowhere above, and with a token of its
+    /// own that its kind may have.
     fn may_be_method(&self, entry: &MethodName, token: u8) -> bool
         ensures { result ≡ may_be_method (above_of self.now) (method_value entry.now) token }
     {
-        token <= entry.kind.largest_token()
+        self.allows(entry.needed)
+            && token <= entry.kind.largest_token()
             && self.method_token(entry.method).is_none()
             && !self.has_method_token(entry.class, entry.kind, token)
     }
@@ -168,10 +220,18 @@ impl Reading {
             → above_of self.new ≡ above (row ∷ rows) }
     {
         match row {
+            Row::Extended => self.put_extended(),
             Row::Package(named, version) => self.put_package(named, version),
             Row::Class(class, token) => self.put_class(class, token),
             Row::Method(method, token) => self.put_method(method, token),
         }
+    }
+
+    fn put_extended(&mut self)
+        ensures { (rows : List Row) → above_of self.old ≡ above rows
+            → above_of self.new ≡ above (Row.Extended ∷ rows) }
+    {
+        self.extended = true;
     }
 
     fn put_package(&mut self, named: PlatformPackage, version: Version)
@@ -199,19 +259,36 @@ impl Reading {
         self.method_tokens[method.index()] = Some(token);
     }
 
-    /// The table, if every name stands above.
+    /// Each class that each table has stands above.
+    fn has_needed_classes(&self) -> bool
+        ensures { result ≡ has_needed_classes (above_of self.now) }
+    {
+        all_classes().iter().all(|entry| !entry.needed || self.class_token(entry.class).is_some())
+    }
+
+    /// Each method that each table has stands above.
+    fn has_needed_methods(&self) -> bool
+        ensures { result ≡ has_needed_methods (above_of self.now) }
+    {
+        all_methods().iter().all(|entry| !entry.needed || self.method_token(entry.method).is_some())
+    }
+
+    /// The table, if every package and name that each table has stands above.
     pub(crate) fn finish(&self) -> Option<Table>
         ensures { MatchOption result (IsMissing (above_of self.now))
             (λ t. AreThoseOf (above_of self.now) t) }
     {
         let first = self.first?;
-        let java_lang = self.version(PlatformPackage::JavaLang)?;
-        let framework = self.version(PlatformPackage::JavacardFramework)?;
-        let mut class_tokens = [0; CLASS_COUNT];
-        copy_tokens(&self.class_tokens, &mut class_tokens)?;
-        let mut method_tokens = [0; METHOD_COUNT];
-        copy_tokens(&self.method_tokens, &mut method_tokens)?;
-        Some(Table::new(first, [java_lang, framework], class_tokens, method_tokens))
+        if !self.has_needed_packages() {
+            return None;
+        }
+        if !self.has_needed_classes() {
+            return None;
+        }
+        if !self.has_needed_methods() {
+            return None;
+        }
+        Some(Table::new(first, self.versions, self.class_tokens, self.method_tokens))
     }
 }
 
@@ -236,16 +313,6 @@ fn first_of(first: Option<PlatformPackage>, named: PlatformPackage) -> PlatformP
     }
 }
 
-/// The token is there, and it is this one.
-fn is_token(found: Option<u8>, token: u8) -> bool
-    ensures { result ≡ is_token found token }
-{
-    match found {
-        Some(other) => other == token,
-        None => false,
-    }
-}
-
 /// The package is there, and it is this one.
 fn is_package(found: Option<PlatformPackage>, wanted: PlatformPackage) -> bool
     ensures { result ≡ is_package found wanted }
@@ -254,15 +321,4 @@ fn is_package(found: Option<PlatformPackage>, wanted: PlatformPackage) -> bool
         Some(other) => other == wanted,
         None => false,
     }
-}
-
-/// Copies the tokens, if all are there.
-fn copy_tokens(tokens: &[Option<u8>], all: &mut [u8]) -> Option<()>
-    requires { length tokens.now ≡ length all.old }
-    ensures { MatchOption result (IsLacking tokens.now) (λ done. AreCopied tokens.now all.new) }
-{
-    for (i, token) in tokens.iter().enumerate() {
-        all[i] = (*token)?;
-    }
-    Some(())
 }

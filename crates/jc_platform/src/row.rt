@@ -12,6 +12,8 @@ pub struct Version {
 /// A line that says where a name of the platform stands.
 #[derive(Clone, Copy)]
 pub(crate) enum Row {
+    /// The first line of a table that may have names of the second list.
+    Extended,
     /// A package with its version.
     Package(PlatformPackage, Version),
     /// A class with its token.

@@ -41,6 +41,7 @@ impl PlatformMethod {
     pub fn is_constructor(self) -> bool
         ensures { result ≡ is_constructor self }
     {
-        self.entry().name == b"<init>".as_slice()
+        let name = self.entry().name;
+        name == b"<init>".as_slice() || name == b"<init>WithoutReason".as_slice()
     }
 }

@@ -1,9 +1,8 @@
 //! The platform table.
 
-ghost use Rattle.std.specs.Prelude.{◌≡◌, Some, slice_get, slice_index};
+ghost use Rattle.std.specs.Prelude.{◌≡◌};
 ghost use Rattle.jc_platform.specs.Distinct.{class_word};
-ghost use Rattle.jc_platform.specs.Numbers.{class_number, method_number, package_number};
-ghost use Rattle.jc_platform.specs.Tokens.{Tokens, number_in};
+ghost use Rattle.jc_platform.specs.Tokens.{Tokens, class_token, method_token, number_in, token_of_class, token_of_method, version_of_package};
 
 use crate::names::{
     CLASS_COUNT, METHOD_COUNT, PACKAGE_COUNT, PlatformClass, PlatformMethod, PlatformPackage,
@@ -13,14 +12,14 @@ use crate::row::Version;
 use jc_transient::ClassWord;
 use std::marker::Model;
 
-/// The tokens of the platform's classes and methods, and its packages' versions and order.
+/// The tokens of the platform's classes and methods that stand in it, and its packages' versions and order.
 #[derive(Drop)]
 pub struct Table {
     /// The package that stands first.
     first: PlatformPackage,
-    versions: [Version; PACKAGE_COUNT],
-    class_tokens: [u8; CLASS_COUNT],
-    method_tokens: [u8; METHOD_COUNT],
+    versions: [Option<Version>; PACKAGE_COUNT],
+    class_tokens: [Option<u8>; CLASS_COUNT],
+    method_tokens: [Option<u8>; METHOD_COUNT],
 }
 
 impl Model for Table {
@@ -40,9 +39,9 @@ impl Table {
 
     pub(crate) fn new(
         first: PlatformPackage,
-        versions: [Version; PACKAGE_COUNT],
-        class_tokens: [u8; CLASS_COUNT],
-        method_tokens: [u8; METHOD_COUNT],
+        versions: [Option<Version>; PACKAGE_COUNT],
+        class_tokens: [Option<u8>; CLASS_COUNT],
+        method_tokens: [Option<u8>; METHOD_COUNT],
     ) -> Self
         ensures { result ≡ record {
           first = first;
@@ -59,32 +58,49 @@ impl Table {
         }
     }
 
-    /// The token of a class, by which packages name it. It is the class's number in its package too.
-    pub fn class_token(&self, class: PlatformClass) -> u8
-        ensures { result ≡ slice_index self.now.class_tokens (class_number class) }
+    /// The token of a class that the table has, by which packages name it.
+    pub fn token_of_class(&self, class: PlatformClass) -> Option<u8>
+        ensures { result ≡ token_of_class self.now class }
     {
         self.class_tokens[class.index()]
     }
 
-    /// The token of a method among those of its class and kind.
-    pub fn method_token(&self, method: PlatformMethod) -> u8
-        ensures { result ≡ slice_index self.now.method_tokens (method_number method) }
+    /// The token of a method that the table has, among those of its class and kind.
+    pub fn token_of_method(&self, method: PlatformMethod) -> Option<u8>
+        ensures { result ≡ token_of_method self.now method }
     {
         self.method_tokens[method.index()]
     }
 
-    /// The version of a package.
-    pub fn version(&self, named: PlatformPackage) -> Version
-        ensures { slice_get self.now.versions (package_number named) ≡ Some result }
+    /// The token of a class, of those that each table has; 0 for another that the table lacks. It is the class's number
+    /// in its package too.
+    pub fn class_token(&self, class: PlatformClass) -> u8
+        ensures { result ≡ class_token self.now class }
+    {
+        self.token_of_class(class).unwrap_or(0)
+    }
+
+    /// The token of a method, of those that each table has; 0 for another that the table lacks.
+    pub fn method_token(&self, method: PlatformMethod) -> u8
+        ensures { result ≡ method_token self.now method }
+    {
+        self.token_of_method(method).unwrap_or(0)
+    }
+
+    /// The version of a package that the table has.
+    pub fn version(&self, named: PlatformPackage) -> Option<Version>
+        ensures { result ≡ version_of_package self.now named }
     {
         self.versions[named.index()]
     }
 
-    /// The number of a package, from 64 on in the table's order.
+    /// The number of a package, from 64 on in the table's order; 66 of `javacardx.apdu`, which stands last if it does.
     pub fn package_number(&self, named: PlatformPackage) -> u8
         ensures { result ≡ number_in self.now named }
     {
-        if named == self.first {
+        if named == PlatformPackage::JavacardxApdu {
+            Self::FIRST_PACKAGE + 2
+        } else if named == self.first {
             Self::FIRST_PACKAGE
         } else {
             Self::FIRST_PACKAGE + 1

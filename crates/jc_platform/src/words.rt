@@ -1,7 +1,7 @@
 //! The words of a line.
 
 ghost use Rattle.std.specs.Prelude.{◌≡◌, ◌<◌, [], ◌∷◌, length, MatchOption, IfSome};
-ghost use Rattle.jc_platform.specs.Rows.{kind_of, number_of, parts_at};
+ghost use Rattle.jc_platform.specs.Rows.{is_token, kind_of, number_of, parts_at};
 
 use crate::names::MethodKind;
 
@@ -46,4 +46,14 @@ pub(crate) fn kind(keyword: &[u8]) -> Option<MethodKind>
         return Some(MethodKind::Interface);
     }
     None
+}
+
+/// The token is there, and it is this one.
+pub(crate) fn is_token(found: Option<u8>, token: u8) -> bool
+    ensures { result ≡ is_token found token }
+{
+    match found {
+        Some(other) => other == token,
+        None => false,
+    }
 }

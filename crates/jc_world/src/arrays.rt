@@ -12,7 +12,7 @@ use jc_firewall::access::Access;
 use jc_frames::{Exception, FrameExit, Outcome};
 use jc_heap::{ChangeRefusal, Facts, Kind};
 use jc_linker::linked::Linked;
-use jc_memory::Memory;
+use jc_memory::{FaultKind, Memory};
 use jc_transient::Ref;
 use jc_words::WordStore;
 
@@ -40,11 +40,15 @@ pub fn bytes_argument<S: WordStore>(
         return Ok(None);
     }
     let Some(facts) = memory.header(reference) else {
+        memory.notes().fault(FaultKind::NoObject);
         return Err(FrameExit::End(Outcome::Fault));
     };
     match facts.kind {
         Kind::ByteArray => Ok(Some(facts)),
-        _ => Err(FrameExit::End(Outcome::Fault)),
+        _ => {
+            memory.notes().fault(FaultKind::WrongClass);
+            Err(FrameExit::End(Outcome::Fault))
+        }
     }
 }
 

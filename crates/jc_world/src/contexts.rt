@@ -18,7 +18,7 @@ use jc_frames::{Exception, FrameExit};
 use jc_heap::registry_layout::{ENTRY_PACKAGE, entry_start};
 use jc_heap::{Facts, Kind};
 use jc_linker::linked::Linked;
-use jc_memory::{Installation, Memory, Owner, Registers};
+use jc_memory::{Denial, Installation, Memory, Owner, Registers};
 use jc_platform::names::PlatformClass;
 use jc_transient::{ClassWord, ClearEvent, OwnerWord, RUNTIME_ENVIRONMENT};
 use jc_words::WordStore;
@@ -248,14 +248,34 @@ fn judgement<S: WordStore>(
     let active = context_of(memory.registers().active, memory);
     let selected = selected_context(memory);
     if !needs_shareable(access) {
-        return decide(
-            access,
-            active,
-            selected,
-            subject_with(false, facts, memory, linked),
-        );
+        let object = subject_with(false, facts, memory, linked);
+        let decision = decide(access, active, selected, object);
+        return noted(decision, access, active, object.owner, memory);
     }
-    decide(access, active, selected, subject_of(facts, memory, linked))
+    let object = subject_of(facts, memory, linked);
+    let decision = decide(access, active, selected, object);
+    noted(decision, access, active, object.owner, memory)
+}
+
+// The decision; a refusal is noted.
+fn noted<S: WordStore>(
+    decision: Decision,
+    access: Access,
+    active: Context,
+    owner: Context,
+    memory: &Memory<S>,
+) -> Decision
+    ensures { result ≡ decision }
+{
+    if let Decision::Deny(rule) = decision {
+        memory.notes().denial(Denial {
+            access,
+            rule,
+            active,
+            owner,
+        });
+    }
+    decision
 }
 
 /// What the firewall answers to an access of the code that runs to an object with this header.

@@ -5,7 +5,7 @@ ghost use Rattle.jc_world.specs.Instances.{instance_at, IsInstanceWith};
 use crate::objects::object;
 use jc_frames::{FrameExit, Outcome};
 use jc_heap::{Facts, Kind};
-use jc_memory::Memory;
+use jc_memory::{FaultKind, Memory};
 use jc_transient::Ref;
 use jc_words::WordStore;
 
@@ -24,6 +24,9 @@ pub fn instance<S: WordStore>(
     let facts = object(reference, memory)?;
     match facts.kind {
         Kind::Instance if cells <= facts.length => Ok(facts),
-        _ => Err(FrameExit::End(Outcome::Fault)),
+        _ => {
+            memory.notes().fault(FaultKind::WrongClass);
+            Err(FrameExit::End(Outcome::Fault))
+        }
     }
 }

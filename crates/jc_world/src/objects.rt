@@ -9,7 +9,7 @@ use jc_firewall::access::Access;
 use jc_frames::{Exception, FrameExit, Outcome};
 use jc_heap::{Facts, Kind};
 use jc_linker::linked::Linked;
-use jc_memory::Memory;
+use jc_memory::{FaultKind, Memory};
 use jc_transient::{ClassWord, Ref};
 use jc_words::WordStore;
 
@@ -27,7 +27,10 @@ pub fn object<S: WordStore>(reference: Ref, memory: &Memory<S>) -> Result<Facts,
     }
     match memory.header(reference) {
         Some(facts) => Ok(facts),
-        None => Err(FrameExit::End(Outcome::Fault)),
+        None => {
+            memory.notes().fault(FaultKind::NoObject);
+            Err(FrameExit::End(Outcome::Fault))
+        }
     }
 }
 
@@ -68,6 +71,9 @@ pub fn allow_store<S: WordStore>(
     }
     match memory.header(reference) {
         Some(facts) => allow(Access::StoreReference, facts, memory, linked),
-        None => Err(FrameExit::End(Outcome::Fault)),
+        None => {
+            memory.notes().fault(FaultKind::NoObject);
+            Err(FrameExit::End(Outcome::Fault))
+        }
     }
 }

@@ -31,7 +31,7 @@ use Rattle.jc_world.specs.Arrays.{bytes_argument, bytes_in, elements_of, if_arra
 use Rattle.jc_world.specs.Instances.{IsInstanceWith, instance_at, with_cells}
 use Rattle.jc_world.specs.Numbers.{not_negative}
 use Rattle.jc_api_data.specs.ApduBuffer.{buffer_of, is_buffer, is_buffer_of}
-use Rattle.jc_api_data.specs.UtilArguments.{pair_of, two_of}
+use Rattle.jc_api_data.specs.UtilArguments.{counted_of, pair_of, two_of}
 use Rattle.law_isolation.proofs.Reaching.{element_allowed, err_not_ok, header_is, object_is, same_Ok}
 
 -- a check and then another one: both let it go on
@@ -126,6 +126,15 @@ two_is args p m e fine =
     let two = both_ok (some_or_fault (short_argument args 1)) _ e one.2 in
     let three = both_ok (bytes_argument m one.0) _ e two.2 in
     (one.0, stretch_is p m one.0 two.0 (pos 2) e three.0 three.1 three.2)
+
+-- those that a call of one array with an offset and a length writes
+pub counted_is : (args : List Cell) (p : Packages) (m : MemoryState) (e : Stretch) → counted_of args p m ≡ Ok e → (r : ℕ) × (count : ℤ) × IsStretch p m r count e
+counted_is args p m e fine =
+    let one = both_ok (some_or_fault (reference_argument args 0)) _ e fine in
+    let two = both_ok (some_or_fault (short_argument args 1)) _ e one.2 in
+    let three = both_ok (some_or_fault (short_argument args 2)) _ e two.2 in
+    let four = both_ok (bytes_argument m one.0) _ e three.2 in
+    (one.0, three.0, stretch_is p m one.0 two.0 three.0 e four.0 four.1 four.2)
 
 pub length_bytes : (m : MemoryState) (e : Stretch) → length (bytes_in m e) ≡ e.count
 length_bytes m e = length-map (range_with_len e.start e.count) (byte_at m e.array) ∙ length-range_with_len e.start e.count

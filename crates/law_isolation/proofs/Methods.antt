@@ -3,7 +3,9 @@ use Rattle.std.proofs.Common.{◌≡◌, ℕ, true, false, if◌then◌else◌, 
 use Rattle.std.proofs.lemmas.Bool.{ltb-false}
 use Rattle.std.proofs.lemmas.Option.{cond_some, option_and_then_some, same_Some}
 use Rattle.std.specs.Option.{option_and_then}
-use Rattle.std.specs.Prelude.{ℤ, pos, not, nat_le, nat_lt, ◌==◌}
+use Rattle.std.specs.Prelude.{ℤ, pos, not, nat_le, nat_lt, ◌%◌, ◌==◌}
+use Rattle.std.specs.Int.{w16, cast_signed, cast_unsigned}
+use Rattle.std.proofs.lemmas.List.{length-replicate}
 use Rattle.jc_transient.specs.declared.cell.ClearEvent.{ClearEvent}
 use Rattle.jc_transient.specs.State.{flag_of}
 use Rattle.jc_heap.specs.declared.object.Facts.{Facts}
@@ -49,7 +51,9 @@ use Rattle.jc_platform.specs.declared.names.PlatformMethod.TheVariants.{OwnerPin
 use Rattle.jc_platform.specs.declared.names.PlatformMethod.TheVariants.{PinExceptionThrowIt, SystemExceptionInit, SystemExceptionThrowIt}
 use Rattle.jc_platform.specs.declared.names.PlatformMethod.TheVariants.{TransactionExceptionInit, TransactionExceptionThrowIt, UserExceptionInit}
 use Rattle.jc_platform.specs.declared.names.PlatformMethod.TheVariants.{UserExceptionThrowIt, UtilArrayCompare, UtilArrayCopy, UtilGetShort, UtilMakeShort}
-use Rattle.jc_platform.specs.declared.names.PlatformMethod.TheVariants.{UtilSetShort}
+use Rattle.jc_platform.specs.declared.names.PlatformMethod.TheVariants.{UtilArrayFill, UtilSetShort, UserExceptionInitWithoutReason, OwnerPinGetValidatedFlag, OwnerPinSetValidatedFlag}
+use Rattle.jc_platform.specs.declared.names.PlatformMethod.TheVariants.{AidRidEquals, AidPartialEquals, AidGetPartialBytes, JcSystemIsAppletActive, ApduGetIncomingLength, ApduGetOffsetCdata}
+use Rattle.jc_platform.specs.declared.names.PlatformMethod.TheVariants.{ApduSendBytesLong, ApduSetOutgoingNoChaining, ApduGetCurrentApdu, ApduGetCurrentApduBuffer}
 use Rattle.jc_platform.specs.Distinct.{class_of, class_word}
 use Rattle.jc_platform.specs.Names.{methods}
 use Rattle.jc_pin.specs.declared.updating.PinRefusal.{PinRefusal}
@@ -66,32 +70,40 @@ use Rattle.jc_world.specs.declared.arrays.Stretch.{Stretch}
 use Rattle.jc_world.specs.Arrays.{bytes_argument, bytes_in, elements_of}
 use Rattle.jc_world.specs.Instances.{instance_at}
 use Rattle.jc_api_runtime.specs.AidCalls.{aid_call, aid_equals, aid_equals_bytes, aid_get_bytes, aid_init}
+use Rattle.jc_api_runtime.specs.AidCalls.{aid_get_partial_bytes, aid_partial_equals, aid_rid_equals, if_there, part_within}
 use Rattle.jc_api_runtime.specs.AidCells.{cells_of_aid, is_aid_length}
 use Rattle.jc_api_data.specs.Apdu.{apdu_set_outgoing_and_send, apdu_call, apdu_send_bytes, send_in_phase, apdu_get_buffer, length_of, apdu_set_outgoing_length}
 use Rattle.jc_api_data.specs.Apdu.{set_length_in_phase, apdu_set_outgoing, set_outgoing_in_phase, phase_of, piece_of, apdu_set_incoming_and_receive}
-use Rattle.jc_api_data.specs.Apdu.{receive_in_phase, apdu_receive_bytes}
+use Rattle.jc_api_data.specs.Apdu.{receive_in_phase, apdu_receive_bytes, apdu_send_bytes_long, is_too_much, send_elements_in_phase}
+use Rattle.jc_api_data.specs.Apdu.{apdu_get_current_apdu, apdu_get_current_apdu_buffer}
+use Rattle.jc_api_data.specs.ApduCurrent.{apdu_object, has_command}
+use Rattle.jc_api_data.specs.ApduQueries.{while_received}
 use Rattle.jc_api_data.specs.ApduBuffer.{buffer_of, data_of}
 use Rattle.jc_api_runtime.specs.Applet.{applet_call, applet_register_bytes, install_aid, applet_register, register_with}
 use Rattle.jc_api_runtime.specs.Register.{open_installation}
 use Rattle.jc_api_data.specs.OwnerPinArguments.{at_least_1, array_arguments, argument_bytes, receiver, is_own_value}
 use Rattle.jc_api_data.specs.OwnerPin.{pin_comparison, owner_pin_init, guess_of, pin_call, owner_pin_check, changed_or_thrown, owner_pin_get_tries_remaining}
 use Rattle.jc_api_data.specs.OwnerPin.{return_unless_refused, owner_pin_is_validated, owner_pin_update, owner_pin_reset, owner_pin_reset_and_unblock}
+use Rattle.jc_api_data.specs.OwnerPin.{owner_pin_set_validated_flag}
 use Rattle.jc_api_runtime.specs.SystemSharing.{jc_system_lookup_aid, server_call_result, server_call_by_aid, server_call_if_known}
-use Rattle.jc_api_runtime.specs.SystemSharing.{jc_system_get_applet_shareable_interface_object}
+use Rattle.jc_api_runtime.specs.SystemSharing.{jc_system_get_applet_shareable_interface_object, jc_system_is_applet_active}
 use Rattle.jc_api_runtime.specs.System.{system_call}
 use Rattle.jc_api_runtime.specs.SystemTransactions.{jc_system_abort_transaction, after_abort, jc_system_begin_transaction, jc_system_commit_transaction}
 use Rattle.jc_api_runtime.specs.SystemTransactions.{commit_of_applet}
 use Rattle.jc_api_runtime.specs.SystemTransient.{jc_system_make_transient_array, jc_system_is_transient, requested_array}
-use Rattle.jc_api_data.specs.Exceptions.{exception_call, exception_get_reason, exception_set_reason, exception_throw_it}
+use Rattle.jc_api_data.specs.Exceptions.{exception_call, exception_get_reason, exception_set_no_reason, exception_set_reason, exception_throw_it}
 use Rattle.jc_api_data.specs.Objects.{object_call, object_equals}
-use Rattle.jc_api_data.specs.UtilArguments.{pair_arguments, pair_of, two_of}
+use Rattle.jc_api_data.specs.UtilArguments.{counted_of, pair_arguments, pair_of, two_of}
 use Rattle.jc_api_data.specs.Util.{util_array_compare, util_array_copy, bytes_of_short, util_get_short, util_make_short, util_set_short, util_call}
+use Rattle.jc_api_data.specs.Util.{filling_of, util_array_fill}
 use Rattle.jc_interp.specs.declared.parts.Part.{Part}
 use Rattle.jc_interp.specs.declared.parts.Part.TheVariants.{Objects, CardExceptions, Utilities, System, Aids, Pins, Applets, Apdus}
 use Rattle.jc_interp.specs.Natives.{native_call, native_call_in}
 use Rattle.jc_interp.specs.Parts.{part_of}
 use Rattle.law_isolation.specs.Natives.{sets_receiver}
-use Rattle.law_isolation.proofs.Arguments.{buffer_is, instance_is, length_bytes, pair_is, stretch_is, two_is}
+use Rattle.jc_world.specs.NativeCalls.{NativeProgram}
+use Rattle.jc_world.specs.Numbers.{not_negative}
+use Rattle.law_isolation.proofs.Arguments.{buffer_is, counted_is, instance_is, length_bytes, pair_is, stretch_is, two_is}
 use Rattle.law_isolation.proofs.Due.{call_ok, call_some, call_unless, due_if, kept_each}
 use Rattle.law_isolation.proofs.Passing.{Bears, IsPinCall, MethodPasses}
 
@@ -139,6 +151,11 @@ module _ (P : Effect → MemoryState → Type 0) (args : List Cell) (p : Package
   unfolding jc_system_is_transient
   event_due = call_some P m (reference_argument args 0) _ (λ r is. due_if P m (r == 0) _ _ (λ on. tt) (λ off. call_some P m (header_at m r) _ (λ f found. tt)))
 
+  active_due : AllDue P (jc_system_is_applet_active args p m) m
+  unfolding jc_system_is_applet_active
+  active_due = call_some P m (reference_argument args 0) _ (λ aid is. due_if P m (aid == 0) _ _ (λ on. tt) (λ off.
+      call_some P m (header_at m aid) _ (λ f found. due_if P m (is_instance_of p f (class_word p.platform Aid)) _ _ (λ on. tt) (λ other. tt))))
+
   -- Util and AID
   arrays_compared_due : AllDue P (util_array_compare args p m) m
   unfolding util_array_compare
@@ -164,6 +181,22 @@ module _ (P : Effect → MemoryState → Type 0) (args : List Cell) (p : Package
       call_some P m (aid_at m own) _ (λ aid found. call_ok P m (bytes_argument m array) _ (λ argument there. due_if P m (array == 0) _ _ (λ on. tt) (λ off.
       call_ok P m (elements_of p m array argument start count) _ (λ e fine. tt))))))))
 
+  aid_rid_equals_due : AllDue P (aid_rid_equals args p m) m
+  unfolding aid_rid_equals
+  aid_rid_equals_due = call_some P m (reference_argument args 0) _ (λ own is. call_some P m (reference_argument args 1) _
+      (λ other there. call_some P m (aid_at m own) _ (λ aid found. tt)))
+
+  aid_partial_equals_due : AllDue P (aid_partial_equals args p m) m
+  unfolding aid_partial_equals
+  aid_partial_equals_due = call_some P m (reference_argument args 0) _ (λ own is. call_some P m (reference_argument args 1) _
+      (λ array a. call_some P m (short_argument args 2) _ (λ start s. call_some P m (short_argument args 3) _ (λ count c.
+      call_some P m (aid_at m own) _ (λ aid found. call_ok P m (bytes_argument m array) _ (λ argument there. due_if P m (array == 0) _ _ (λ on. tt) (λ off.
+      call_ok P m (elements_of p m array argument start count) _ (λ e fine. tt))))))))
+
+  there_due : (part : Option (List ℕ)) (go : List ℕ → NativeProgram) → ((bytes : List ℕ) → AllDue P (go bytes) m) → AllDue P (if_there part go) m
+  there_due None go each = tt
+  there_due (Some bytes) go each = each bytes
+
   -- OwnerPIN
   tries_due : AllDue P (owner_pin_get_tries_remaining args m) m
   unfolding owner_pin_get_tries_remaining
@@ -180,6 +213,18 @@ module _ (P : Effect → MemoryState → Type 0) (args : List Cell) (p : Package
   received_more_due : (phase : ApduPhase) → AllDue P (apdu_receive_bytes phase) m
   received_more_due Waiting = tt
   received_more_due _ = tt
+
+  while_received_due : (phase : ApduPhase) (answer : ℤ) → AllDue P (while_received phase answer) m
+  while_received_due Received answer = tt
+  while_received_due _ answer = tt
+
+  current_apdu_due : AllDue P (apdu_get_current_apdu m) m
+  unfolding apdu_get_current_apdu
+  current_apdu_due = due_if P m (has_command m) _ _ (λ on. call_some P m (apdu_object m) _ (λ apdu is. tt)) (λ off. tt)
+
+  current_buffer_due : AllDue P (apdu_get_current_apdu_buffer m) m
+  unfolding apdu_get_current_apdu_buffer
+  current_buffer_due = due_if P m (has_command m) _ _ (λ on. buffer_got_due) (λ off. tt)
 
 -- ---- what sets registers, and begins and ends transactions
 
@@ -251,6 +296,17 @@ module _ (P : Effect → MemoryState → Type 0) (Q : MemoryState → Type 0) (b
   unfolding apdu_send_bytes
   sent_due m so start count = sent_in_due m so (phase_of m) start count
 
+  elements_sent_due : (m : MemoryState) → Q m → (phase : ApduPhase) (e : Stretch) → AllDue P (send_elements_in_phase m phase e) m
+  elements_sent_due m so (Sending left) e = due_if P m (is_too_much m left (pos e.count)) _ _ (λ on. tt) (λ off.
+      let sends = bears.sends (bytes_in m e) m in
+      (sends, (bears.turns _ _ (bears.keeps (SendBytes (bytes_in m e)) m sends so) refl refl refl, tt)))
+  elements_sent_due m so _ e = tt
+
+  sent_long_due : (args : List Cell) (p : Packages) (m : MemoryState) → Q m → AllDue P (apdu_send_bytes_long args p m) m
+  unfolding apdu_send_bytes_long
+  sent_long_due args p m so = call_ok P m (array_arguments args m) _ (λ given fine. call_ok P m (argument_bytes given p m) _
+      (λ e there. elements_sent_due m so (phase_of m) e))
+
   all_sent_due : (m : MemoryState) → Q m → (start count : ℤ) → AllDue P (apdu_set_outgoing_and_send start count m) m
   unfolding apdu_set_outgoing_and_send
   all_sent_due m so start count =
@@ -277,6 +333,11 @@ module _ (P : Effect → MemoryState → Type 0) (Q : MemoryState → Type 0) (b
       (λ reason there. call_ok P m (instance_at m own 1) _ (λ f long.
       call_unless P m (cell_refusal m own 0) _ (λ room. (pass.reason part sets own reason is (instance_is m own 1 f long), tt)))))
 
+  no_reason_due : part_of method ≡ CardExceptions → sets_receiver method ≡ true → AllDue P (exception_set_no_reason args m) m
+  unfolding exception_set_no_reason
+  no_reason_due part sets = call_some P m (reference_argument args 0) _ (λ own is. call_ok P m (instance_at m own 1) _ (λ f long.
+      call_unless P m (cell_refusal m own 0) _ (λ room. (pass.reason part sets own (pos 0) is (instance_is m own 1 f long), tt))))
+
   -- transient arrays
   transient_due : (kind : Kind) → (kind ≡ Instance → ⊥) → AllDue P (jc_system_make_transient_array kind args p m) m
   unfolding jc_system_make_transient_array
@@ -296,6 +357,12 @@ module _ (P : Effect → MemoryState → Type 0) (Q : MemoryState → Type 0) (b
   short_set_due = call_some P m (short_argument args 2) _ (λ v is. call_ok P m (two_of args p m) _ (λ e fine. let two = two_is args p m e fine in
       call_unless P m (cells_refusal m e.array e.start (bytes_of_short v)) _ (λ room.
       (pass.stretch two.0 (pos 2) e (bytes_of_short v) two.1 (same_Some 2 e.count two.1.counted), tt))))
+
+  filled_due : AllDue P (util_array_fill args p m) m
+  unfolding util_array_fill
+  filled_due = call_some P m (short_argument args 3) _ (λ v is. call_ok P m (counted_of args p m) _ (λ e fine. let counted = counted_is args p m e fine in
+      call_unless P m (cells_refusal m e.array e.start (filling_of v e)) _ (λ room.
+      (pass.stretch counted.0 counted.1 e (filling_of v e) counted.2 (length-replicate e.count (cast_unsigned w16 v % 256)), tt))))
 
   -- AID
   aid_made_due : method ≡ AidInit → AllDue P (aid_init args p m) m
@@ -319,6 +386,20 @@ module _ (P : Effect → MemoryState → Type 0) (Q : MemoryState → Type 0) (b
             (same_Some (length aid) e.count is.counted),
         tt,
       ))))))))
+
+  aid_part_got_due : AllDue P (aid_get_partial_bytes args p m) m
+  unfolding aid_get_partial_bytes
+  aid_part_got_due = call_some P m (reference_argument args 0) _ (λ own is. call_some P m (short_argument args 1) _
+      (λ from f. call_some P m (reference_argument args 2) _ (λ array a. call_some P m (short_argument args 3) _ (λ start s.
+      call_some P m (short_argument args 4) _ (λ count c. call_some P m (aid_at m own) _ (λ aid found. call_ok P m (bytes_argument m array) _
+      (λ argument there. there_due P args p m (part_within aid (not_negative from) (not_negative count)) _ (λ part.
+      call_ok P m (elements_of p m array argument start (pos (length part))) _ (λ e fine.
+      let is = stretch_is p m array start (pos (length part)) e argument there fine in
+      call_unless P m (cells_refusal m e.array e.start part) _ (λ room. (
+        pass.stretch array (pos (length part)) e part is
+            (same_Some (length part) e.count is.counted),
+        tt,
+      )))))))))))
 
   -- APDU
   received_in_due : (phase : ApduPhase) → AllDue P (receive_in_phase m phase) m
@@ -421,6 +502,11 @@ module _ (P : Effect → MemoryState → Type 0) (Q : MemoryState → Type 0) (b
     was_unblocked_due = call_some P m (receiver m args) _ (λ pin is.
         (pass.flags pin (called_pin pin is) false m, (pass.counts pin (called_pin pin is) _, tt)))
 
+    flag_set_due : AllDue P (owner_pin_set_validated_flag args m) m
+    unfolding owner_pin_set_validated_flag
+    flag_set_due = call_some P m (receiver m args) _ (λ pin is. call_some P m (short_argument args 1) _
+        (λ value there. (pass.flags pin (called_pin pin is) _ m, tt)))
+
     updated_due : (pin : ℕ) (bytes : List ℕ) → IsPinCall method args m pin → is_own_value m pin ≡ Ok tt → AllDue P (pin_update m pin bytes) m
     unfolding pin_update
     updated_due pin bytes is owned = due_if P m (nat_lt (record_of m pin).maximum (length bytes)) _ _ (λ on. tt) (λ off.
@@ -463,6 +549,7 @@ module _ (P : Effect → MemoryState → Type 0) (Q : MemoryState → Type 0) (b
   exceptions_due ApduExceptionInit part pass = reason_due P Q bears ApduExceptionInit args p m so pass part refl
   exceptions_due ApduExceptionThrowIt part pass = thrown_due P args p m exception.APDUException
   exceptions_due UserExceptionInit part pass = reason_due P Q bears UserExceptionInit args p m so pass part refl
+  exceptions_due UserExceptionInitWithoutReason part pass = no_reason_due P Q bears UserExceptionInitWithoutReason args p m so pass part refl
   exceptions_due UserExceptionThrowIt part pass = thrown_due P args p m exception.UserException
   exceptions_due _ part pass = tt
 
@@ -470,6 +557,7 @@ module _ (P : Effect → MemoryState → Type 0) (Q : MemoryState → Type 0) (b
   unfolding util_call
   util_due UtilArrayCompare pass = arrays_compared_due P args p m
   util_due UtilArrayCopy pass = copied_due P Q bears UtilArrayCopy args p m so pass
+  util_due UtilArrayFill pass = filled_due P Q bears UtilArrayFill args p m so pass
   util_due UtilGetShort pass = short_got_due P args p m
   util_due UtilMakeShort pass = short_made_due P args p m
   util_due UtilSetShort pass = short_set_due P Q bears UtilSetShort args p m so pass
@@ -481,6 +569,7 @@ module _ (P : Effect → MemoryState → Type 0) (Q : MemoryState → Type 0) (b
   system_due JcSystemBeginTransaction pass = begun_due P Q bears m so m.registers.depth
   system_due JcSystemCommitTransaction pass = committed_due P Q bears m so m.registers.depth
   system_due JcSystemGetAppletShareableInterfaceObject pass = server_due P args p m
+  system_due JcSystemIsAppletActive pass = active_due P args p m
   system_due JcSystemIsTransient pass = event_due P args p m
   system_due JcSystemLookupAid pass = looked_up_due P args p m
   system_due JcSystemMakeTransientBooleanArray pass = transient_due P Q bears JcSystemMakeTransientBooleanArray args p m so pass BooleanArray (λ e. cc)
@@ -495,6 +584,9 @@ module _ (P : Effect → MemoryState → Type 0) (Q : MemoryState → Type 0) (b
   aids_due AidEquals pass = aid_equals_due P args p m
   aids_due AidEqualsBytes pass = aid_equals_bytes_due P args p m
   aids_due AidGetBytes pass = aid_got_due P Q bears AidGetBytes args p m so pass
+  aids_due AidRidEquals pass = aid_rid_equals_due P args p m
+  aids_due AidPartialEquals pass = aid_partial_equals_due P args p m
+  aids_due AidGetPartialBytes pass = aid_part_got_due P Q bears AidGetPartialBytes args p m so pass
   aids_due _ pass = tt
 
   pins_due : (method : PlatformMethod) → MethodPasses P method args p m → AllDue P (pin_call method args p m) m
@@ -506,6 +598,8 @@ module _ (P : Effect → MemoryState → Type 0) (Q : MemoryState → Type 0) (b
   pins_due OwnerPinReset pass = was_reset_due P Q bears OwnerPinReset args p m so pass refl refl
   pins_due OwnerPinResetAndUnblock pass = was_unblocked_due P Q bears OwnerPinResetAndUnblock args p m so pass refl refl
   pins_due OwnerPinUpdate pass = value_set_due P Q bears OwnerPinUpdate args p m so pass refl refl
+  pins_due OwnerPinGetValidatedFlag pass = validated_due P args p m
+  pins_due OwnerPinSetValidatedFlag pass = flag_set_due P Q bears OwnerPinSetValidatedFlag args p m so pass refl refl
   pins_due _ pass = tt
 
   applets_due : (method : PlatformMethod) → MethodPasses P method args p m → AllDue P (applet_call method args p m) m
@@ -514,7 +608,7 @@ module _ (P : Effect → MemoryState → Type 0) (Q : MemoryState → Type 0) (b
   applets_due AppletRegisterBytes pass = given_registered_due P Q bears AppletRegisterBytes args p m so pass refl
   applets_due _ pass = tt
 
-  apdus_due : (method : PlatformMethod) → MethodPasses P method args p m → AllDue P (apdu_call method args m) m
+  apdus_due : (method : PlatformMethod) → MethodPasses P method args p m → AllDue P (apdu_call method args p m) m
   unfolding apdu_call
   apdus_due ApduGetBuffer pass = buffer_got_due P args p m
   apdus_due ApduReceiveBytes pass = call_some P m (short_argument args 1) _ (λ start is. received_more_due P args p m (phase_of m))
@@ -525,6 +619,12 @@ module _ (P : Effect → MemoryState → Type 0) (Q : MemoryState → Type 0) (b
   apdus_due ApduSetOutgoingAndSend pass = call_some P m (short_argument args 1) _
       (λ start is. call_some P m (short_argument args 2) _ (λ count there. all_sent_due P Q bears m so start count))
   apdus_due ApduSetOutgoingLength pass = call_some P m (short_argument args 1) _ (λ count is. length_due P Q bears m so count)
+  apdus_due ApduGetIncomingLength pass = while_received_due P args p m (phase_of m) (cast_signed w16 (length (data_of m.command)))
+  apdus_due ApduGetOffsetCdata pass = while_received_due P args p m (phase_of m) (pos 5)
+  apdus_due ApduSendBytesLong pass = sent_long_due P Q bears args p m so
+  apdus_due ApduSetOutgoingNoChaining pass = outgoing_due P Q bears m so
+  apdus_due ApduGetCurrentApdu pass = current_apdu_due P args p m
+  apdus_due ApduGetCurrentApduBuffer pass = current_buffer_due P args p m
   apdus_due _ pass = tt
 
   part_due : (part : Part) (method : PlatformMethod) → part_of method ≡ part → MethodPasses P method args p m → AllDue P (native_call_in part method args p m) m

@@ -13,9 +13,10 @@ use Rattle.jc_platform.specs.declared.names.PlatformClass.{PlatformClass}
 use Rattle.jc_platform.specs.declared.names.PlatformMethod.{PlatformMethod}
 use Rattle.jc_platform.specs.Distinct.{kind_of_method}
 use Rattle.jc_platform.specs.Names.{MethodEntry, methods}
-use Rattle.jc_platform.specs.Numbers.{method_number, same_class, same_kind}
+use Rattle.jc_platform.specs.Numbers.{same_class, same_kind}
 use Rattle.jc_platform.specs.Platform.{class_by_word, method_by_token}
-use Rattle.jc_platform.specs.Tokens.{Tokens}
+use Rattle.jc_platform.specs.Rows.{is_token}
+use Rattle.jc_platform.specs.Tokens.{Tokens, token_of_method}
 use Rattle.jc_linker.specs.declared.target.Method.{Method}
 use Rattle.jc_linker.specs.declared.target.Method.TheVariants.{Code, Native}
 use Rattle.jc_linker.specs.declared.target.Target.{Target}
@@ -64,12 +65,12 @@ mapped (Some x) m e = (x, refl, same_Some x.method m e)
 token_static : (t : Tokens) (c : PlatformClass) (token : ℕ) (m : PlatformMethod) → method_by_token t c Static token ≡ Some m → kind_of_method m ≡ Static
 unfolding method_by_token holds
 token_static t c token m e =
-    let one = mapped (find (λ x. same_class x.class c && same_kind x.kind Static && slice_index t.method_tokens (method_number x.method) == token)
+    let one = mapped (find (λ x. same_class x.class c && same_kind x.kind Static && is_token (token_of_method t x.method) token)
     methods) m e in
-    let row = row_found (λ x. same_class x.class c && same_kind x.kind Static && slice_index t.method_tokens (method_number x.method) == token) methods one.0
+    let row = row_found (λ x. same_class x.class c && same_kind x.kind Static && is_token (token_of_method t x.method) token) methods one.0
     all_hold one.1 in
     let both = and_parts (same_class (one.0).class c && same_kind (one.0).kind Static)
-    (slice_index t.method_tokens (method_number (one.0).method) == token) row.0 in
+    (is_token (token_of_method t (one.0).method) token) row.0 in
     let kind : (one.0).kind ≡ Static = kind_is (one.0).kind (and_parts (same_class (one.0).class c) (same_kind (one.0).kind Static) both.0).1 in
     kind_is (kind_of_method m) (subst (λ k. same_kind (kind_of_method m) k ≡ true) kind
     (subst (λ y. same_kind (kind_of_method y) (one.0).kind ≡ true) one.2 row.1))

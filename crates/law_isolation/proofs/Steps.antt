@@ -10,6 +10,7 @@ use Rattle.jc_platform.specs.declared.names.PlatformMethod.TheVariants.{CardExce
 use Rattle.jc_platform.specs.declared.names.PlatformMethod.TheVariants.{CardRuntimeExceptionSetReason, IsoExceptionInit, PinExceptionInit, SystemExceptionInit}
 use Rattle.jc_platform.specs.declared.names.PlatformMethod.TheVariants.{TransactionExceptionInit, ApduExceptionInit, UserExceptionInit, AidInit, OwnerPinInit}
 use Rattle.jc_platform.specs.declared.names.PlatformMethod.TheVariants.{OwnerPinCheck, OwnerPinReset, OwnerPinResetAndUnblock, OwnerPinUpdate}
+use Rattle.jc_platform.specs.declared.names.PlatformMethod.TheVariants.{OwnerPinSetValidatedFlag, UserExceptionInitWithoutReason}
 use Rattle.jc_platform.specs.Distinct.{kind_of_method}
 use Rattle.jc_platform.specs.Names.{methods}
 use Rattle.jc_platform.specs.Signatures.{is_constructor}
@@ -44,6 +45,7 @@ statics_spare SystemExceptionInit static plain e = true≢false plain
 statics_spare TransactionExceptionInit static plain e = true≢false plain
 statics_spare ApduExceptionInit static plain e = true≢false plain
 statics_spare UserExceptionInit static plain e = true≢false plain
+statics_spare UserExceptionInitWithoutReason static plain e = true≢false plain
 statics_spare AidInit static plain e = true≢false plain
 statics_spare OwnerPinInit static plain e = true≢false plain
 statics_spare CardExceptionSetReason static plain e = virtual_not_static static
@@ -52,6 +54,7 @@ statics_spare OwnerPinCheck static plain e = virtual_not_static static
 statics_spare OwnerPinReset static plain e = virtual_not_static static
 statics_spare OwnerPinResetAndUnblock static plain e = virtual_not_static static
 statics_spare OwnerPinUpdate static plain e = virtual_not_static static
+statics_spare OwnerPinSetValidatedFlag static plain e = virtual_not_static static
 statics_spare _ static plain e = false≢true e
 
 -- what sets cells of its receiver is called on an object within reach

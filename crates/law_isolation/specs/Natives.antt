@@ -9,6 +9,7 @@ use Rattle.jc_platform.specs.declared.names.PlatformMethod.TheVariants.{CardExce
 use Rattle.jc_platform.specs.declared.names.PlatformMethod.TheVariants.{CardRuntimeExceptionSetReason, IsoExceptionInit, PinExceptionInit, SystemExceptionInit}
 use Rattle.jc_platform.specs.declared.names.PlatformMethod.TheVariants.{TransactionExceptionInit, ApduExceptionInit, UserExceptionInit, AidInit, OwnerPinInit}
 use Rattle.jc_platform.specs.declared.names.PlatformMethod.TheVariants.{OwnerPinCheck, OwnerPinReset, OwnerPinResetAndUnblock, OwnerPinUpdate}
+use Rattle.jc_platform.specs.declared.names.PlatformMethod.TheVariants.{OwnerPinSetValidatedFlag, UserExceptionInitWithoutReason}
 use Rattle.jc_linker.specs.Values.{Packages}
 use Rattle.jc_firewall.specs.Reach.{IsInReach}
 use Rattle.jc_world.specs.Contexts.{situation_of}
@@ -29,12 +30,14 @@ sets_receiver SystemExceptionInit = true
 sets_receiver TransactionExceptionInit = true
 sets_receiver ApduExceptionInit = true
 sets_receiver UserExceptionInit = true
+sets_receiver UserExceptionInitWithoutReason = true
 sets_receiver AidInit = true
 sets_receiver OwnerPinInit = true
 sets_receiver OwnerPinCheck = true
 sets_receiver OwnerPinReset = true
 sets_receiver OwnerPinResetAndUnblock = true
 sets_receiver OwnerPinUpdate = true
+sets_receiver OwnerPinSetValidatedFlag = true
 sets_receiver _ = false
 
 -- an object is not the one that a method is called on

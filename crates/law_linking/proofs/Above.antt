@@ -3,7 +3,7 @@ use Rattle.std.proofs.Common.{◌≡◌, ℕ, ◌/◌, Bool, true, false, List, 
 use Rattle.std.specs.Option.{option_and_then, option_map}
 use Rattle.std.proofs.lemmas.Option.{none-some}
 use Rattle.jc_platform.specs.declared.names.PlatformClass.{PlatformClass}
-use Rattle.jc_platform.specs.declared.names.PlatformClass.TheVariants.{Object, Pin, Shareable}
+use Rattle.jc_platform.specs.declared.names.PlatformClass.TheVariants.{AppletEvent, ExtendedLength, Iso7816, MultiSelectable, Object, Pin, Shareable}
 use Rattle.jc_platform.specs.Distinct.{class_word}
 use Rattle.jc_platform.specs.Hierarchy.{is_interface, superclass_of}
 use Rattle.jc_platform.specs.Platform.{class_by_word}
@@ -53,6 +53,10 @@ module _ (p : Packages) where
   unfolding superclass_of is_interface
   platform_class Shareable above is = absurd (none-some above is)
   platform_class Pin above is = absurd (none-some above is)
+  platform_class Iso7816 above is = absurd (none-some above is)
+  platform_class MultiSelectable above is = absurd (none-some above is)
+  platform_class AppletEvent above is = absurd (none-some above is)
+  platform_class ExtendedLength above is = absurd (none-some above is)
   platform_class Object above is = refl
   platform_class _ above is = refl
 

@@ -1,15 +1,16 @@
 -- The tokens of a platform table that was read are bytes.
-use Rattle.std.proofs.Common.{◌≡◌, ◌<◌, ℕ, Bool, true, false, List, [], ◌∷◌, ◌&&◌, Option, Some, None, length, refl, subst, if◌then◌else◌}
-use Rattle.std.specs.Prelude.{codes, find, nat_lt}
+use Rattle.std.proofs.Common.{◌≡◌, ◌<◌, ℕ, Bool, true, false, List, [], ◌∷◌, ◌&&◌, Option, Some, None, length, refl, subst, arith, if◌then◌else◌}
+use Rattle.std.specs.Prelude.{codes, find, nat_lt, unwrap_or}
 use Rattle.std.specs.Str.{all_ascii_digits, bytes_eq}
 use Rattle.std.specs.Str.Parse.{digits_value}
 use Rattle.std.proofs.lemmas.Bool.{and_parts, ltb-true}
 use Rattle.jc_platform.specs.declared.names.PlatformClass.{PlatformClass}
 use Rattle.jc_platform.specs.Names.{classes, packages}
 use Rattle.jc_platform.specs.Numbers.{same_class}
-use Rattle.jc_platform.specs.Rows.{Above, above, class_row, class_token_in, kind_of, may_be_class, may_be_method, may_be_package, method_named, method_row}
+use Rattle.jc_platform.specs.Rows.{Above, above, class_row, class_token_in, kind_of, may_be_class, may_be_extended, may_be_method, may_be_package, method_named, method_row}
 use Rattle.jc_platform.specs.Rows.{number_of, package_row, parts_at, row_of}
 use Rattle.jc_platform.specs.Table.{Say}
+use Rattle.jc_platform.specs.Tokens.{token_of_class}
 use Rattle.law_linking.proofs.Fields.{some_there}
 use Rattle.law_linking.proofs.Lists.{IfThere, then_there}
 use Rattle.law_linking.specs.MethodLaws.{HaveBytes}
@@ -17,11 +18,11 @@ use Rattle.law_linking.specs.MethodLaws.{HaveBytes}
 abbrev IsByte : ℕ → Type 0
 IsByte n = n < 256
 
-where_so : {A : Type 0} (P : A → Type 0) (b : Bool) (x : A) → (b ≡ true → P x) → IfThere P (if b then Some x else None)
+pub where_so : {A : Type 0} (P : A → Type 0) (b : Bool) (x : A) → (b ≡ true → P x) → IfThere P (if b then Some x else None)
 where_so P true x is = is refl
 where_so P false x is = tt
 
-one_of_two : {A : Type 0} (P : A → Type 0) (b : Bool) (x y : Option A) → IfThere P x → IfThere P y → IfThere P (if b then x else y)
+pub one_of_two : {A : Type 0} (P : A → Type 0) (b : Bool) (x y : Option A) → IfThere P x → IfThere P y → IfThere P (if b then x else y)
 one_of_two P true x y first second = first
 one_of_two P false x y first second = second
 
@@ -54,7 +55,7 @@ module _ (c : PlatformClass) where
 
   row_low : (a : Above) (words : List (List ℕ)) → IfThere (KeepsByte (λ rows. class_token_in rows c)) (row_of a words)
   row_low a [] = tt
-  row_low a (keyword ∷ []) = tt
+  row_low a (keyword ∷ []) = where_so _ (bytes_eq keyword (codes "extended") && may_be_extended a) _ (λ may rest is. is)
   row_low a (keyword ∷ x ∷ []) = tt
   row_low a (keyword ∷ x ∷ y ∷ []) = one_of_two _ (bytes_eq keyword (codes "class")) (class_row a x y) (method_row a keyword x y) (class_low a x y)
       (method_low a keyword x y)
@@ -71,4 +72,8 @@ module _ (c : PlatformClass) where
 pub have_bytes : HaveBytes
 have_bytes text t reads c =
     let (rows, spells, are) = reads.1 in
-    subst (IfThere IsByte) (are.class_tokens c) (rows_low c spells.0 rows spells.2)
+    or_zero (token_of_class t c) (subst (IfThere IsByte) (are.class_tokens c) (rows_low c spells.0 rows spells.2))
+  where
+    or_zero : (o : Option ℕ) → IfThere IsByte o → unwrap_or o 0 < 256
+    or_zero None low = omega arith
+    or_zero (Some k) low = low

@@ -20,8 +20,9 @@ use Rattle.law_linking.proofs.Lists.{IfThere}
 use Rattle.law_linking.specs.Given.{HasByteTokens}
 use Rattle.law_linking.proofs.Chains.{Fits, Reaches, below_reached, cell_of_reached, none_behind, one_first, own, reached_size}
 use Rattle.law_linking.proofs.Good.{AllGood}
-use Rattle.law_linking.proofs.Ordered.{above_bare, few_cells, inherited_size, listed, named, not_loaded, ordered, platform_above, platform_interface}
-use Rattle.law_linking.proofs.Ordered.{platform_own, platform_size}
+use Rattle.law_linking.proofs.Ordered.{above_bare, class_stands, few_cells, inherited_size, listed, named, not_loaded, ordered, platform_above, platform_interface}
+use Rattle.law_linking.proofs.Ordered.{platform_own, platform_size, superclass_stands}
+use Rattle.law_linking.proofs.Tokens.{HasToken}
 
 module _ (p : Packages) (few : length p.loaded ≤ 32) (names : TellNames p.platform) (bytes : HasByteTokens p.platform) (good : AllGood p) where
   abbrev word : PlatformClass → ℕ
@@ -32,41 +33,47 @@ module _ (p : Packages) (few : length p.loaded ≤ 32) (names : TellNames p.plat
       let a = and_parts (is_class p class) (not (names_interface p class) && nat_lt (size_of p class) 65536) has in
       ltb-true (size_of p class) 65536 (and_parts (not (names_interface p class)) (nat_lt (size_of p class) 65536) a.1).1
 
+  stands : (of : PlatformClass) → is_interface of ≡ false → HasToken p.platform of
+  stands of class_of = class_stands p few names bytes of class_of
+
   reached : (class : ℕ) (of : PlatformClass) → is_interface of ≡ false → is_a p class of ≡ true → Reaches p (word of) most_classes (Some class)
-  reached class of class_of below = below_reached p (listed p few names bytes good) (word of) (platform_interface p few names bytes of ∙ class_of) class below
+  reached class of class_of below = below_reached p (listed p few names bytes good) (word of) (platform_interface p few names bytes of (stands of class_of) ∙ class_of) class below
 
   -- ---- what the platform's classes reach
 
-  same_class : (c d : PlatformClass) → word c ≡ word d → c ≡ d
-  same_class c d e = same_Some c d (sym (named p few names bytes c) ∙ ap (class_by_word p.platform) e ∙ named p few names bytes d)
+  same_class : (c d : PlatformClass) → HasToken p.platform c → HasToken p.platform d → word c ≡ word d → c ≡ d
+  same_class c d first second e =
+      same_Some c d (sym (named p few names bytes c first) ∙ ap (class_by_word p.platform) e ∙ named p few names bytes d second)
 
   abbrev IsAbove : ℕ → PlatformClass → Type 0
-  IsAbove w c = (d : PlatformClass) × (w ≡ word d) × IsPlatformBelow d c
+  IsAbove w c = (d : PlatformClass) × (w ≡ word d) × IsPlatformBelow d c × HasToken p.platform d
 
-  further : (w n : ℕ) (c : PlatformClass) (o : Option PlatformClass) → superclass_of c ≡ o → ((d : PlatformClass) → Reaches p w n (Some (word d)) → IsAbove w d)
+  further : (w n : ℕ) (c : PlatformClass) (o : Option PlatformClass) → superclass_of c ≡ o → ((d : PlatformClass) → superclass_of c ≡ Some d → Reaches p w n (Some (word d)) → IsAbove w d)
       → Reaches p w n (option_map (class_word p.platform) o) → IsAbove w c
   unfolding Reaches
   further w zero c o is each reaches = absurd reaches
   further w (suc n) c None is each reaches = absurd reaches
-  further w (suc n) c (Some d) is each reaches = let more = each d reaches in (more.0, more.1, Above c d is more.2)
+  further w (suc n) c (Some d) is each reaches = let more = each d is reaches in (more.0, more.1, Above c d is more.2, more.3)
 
-  from_platform : (w n : ℕ) (c : PlatformClass) → Reaches p w n (Some (word c)) → IsAbove w c
+  from_platform : (w n : ℕ) (c : PlatformClass) → HasToken p.platform c → Reaches p w n (Some (word c)) → IsAbove w c
   unfolding Reaches
-  from_platform w zero c reaches = absurd reaches
-  from_platform w (suc n) c (inl e) = (c, sym e, Itself)
-  from_platform w (suc n) c (inr more) = further w n c (superclass_of c) refl (λ d. from_platform w n d)
-      (subst (Reaches p w n) (platform_above p few names bytes c) more)
+  from_platform w zero c there reaches = absurd reaches
+  from_platform w (suc n) c there (inl e) = (c, sym e, Itself, there)
+  from_platform w (suc n) c there (inr more) = further w n c (superclass_of c) refl
+      (λ d is. from_platform w n d (subst (IfThere (HasToken p.platform)) is (superclass_stands p few names bytes c)))
+      (subst (Reaches p w n) (platform_above p few names bytes c there) more)
 
   -- ---- cells of the platform
 
   bare_from : (m k : ℕ) (o : Option PlatformClass) → IfThere (λ d. (j : ℕ) → holds_reference d j ≡ false) o
-      → any_reference p k (lineage_from p m (option_map (class_word p.platform) o)) ≡ false
+      → IfThere (HasToken p.platform) o → any_reference p k (lineage_from p m (option_map (class_word p.platform) o)) ≡ false
   unfolding any_reference lineage_from
-  bare_from zero k o bare = refl
-  bare_from (suc m) k None bare = refl
-  bare_from (suc m) k (Some d) bare =
-      or_from (own p (word d) k) (any_reference p k (lineage_from p m (superclass_in p (word d)))) (platform_own p few names bytes d k ∙ bare k)
-      (ap (λ o. any_reference p k (lineage_from p m o)) (platform_above p few names bytes d) ∙ bare_from m k (superclass_of d) (above_bare d))
+  bare_from zero k o bare there = refl
+  bare_from (suc m) k None bare there = refl
+  bare_from (suc m) k (Some d) bare there =
+      or_from (own p (word d) k) (any_reference p k (lineage_from p m (superclass_in p (word d)))) (platform_own p few names bytes d there k ∙ bare k)
+      (ap (λ o. any_reference p k (lineage_from p m o)) (platform_above p few names bytes d there)
+      ∙ bare_from m k (superclass_of d) (above_bare d) (superclass_stands p few names bytes d))
 
   or_none : (a b : Bool) → b ≡ false → (a || b) ≡ a
   or_none true b e = refl
@@ -76,41 +83,51 @@ module _ (p : Packages) (few : length p.loaded ≤ 32) (names : TellNames p.plat
       → reference_cell p class k ≡ holds_reference of k
   unfolding reference_cell
   cells_are class k of has class_of below less =
-      let size = platform_size p few names bytes of in
+      let there = stands of class_of in
+      let size = platform_size p few names bytes of there in
       let found = cell_of_reached p (ordered p few names bytes good) most_classes (word of) k (Some class) (fits_of class has) (reached class of class_of below)
       (omega (arith, less, size)) in
       let none : any_reference p k (lineage_from p found.0 (superclass_in p (word of))) ≡ false =
-      ap (λ o. any_reference p k (lineage_from p found.0 o)) (platform_above p few names bytes of) ∙ bare_from found.0 k (superclass_of of) (above_bare of) in
-      found.1 ∙ or_none (own p (word of) k) (any_reference p k (lineage_from p found.0 (superclass_in p (word of)))) none ∙ platform_own p few names bytes of k
+      ap (λ o. any_reference p k (lineage_from p found.0 o)) (platform_above p few names bytes of there)
+      ∙ bare_from found.0 k (superclass_of of) (above_bare of) (superclass_stands p few names bytes of) in
+      found.1 ∙ or_none (own p (word of) k) (any_reference p k (lineage_from p found.0 (superclass_in p (word of)))) none
+      ∙ platform_own p few names bytes of there k
 
   pub sizes_are : (class : ℕ) (of : PlatformClass) → has_instances p class ≡ true → is_interface of ≡ false → is_a p class of ≡ true
       → cells_of of ≤ size_of p class
   sizes_are class of has class_of below =
-      let size = platform_size p few names bytes of in
+      let size = platform_size p few names bytes of (stands of class_of) in
       let le = reached_size p (ordered p few names bytes good) most_classes (word of) (Some class) (fits_of class has) (reached class of class_of below) in
       omega (arith, size, le)
 
-  below_of : (c d : PlatformClass) → IsAbove (word c) d → IsPlatformBelow c d
-  below_of c d above = subst (λ x. IsPlatformBelow x d) (sym (same_class c above.0 above.1)) above.2
+  below_of : (c d : PlatformClass) → HasToken p.platform c → IsAbove (word c) d → IsPlatformBelow c d
+  below_of c d there above = subst (λ x. IsPlatformBelow x d) (sym (same_class c above.0 there above.3 above.1)) above.2
 
   pub in_line : (class : ℕ) (of other : PlatformClass) → has_instances p class ≡ true → is_interface of ≡ false → is_interface other ≡ false
       → is_a p class of ≡ true → is_a p class other ≡ true → IsPlatformBelow of other ⊎ IsPlatformBelow other of
   in_line class of other has class_of class_other below also = elim (one_first p (word of) (word other) most_classes (Some class)
       (reached class of class_of below) (reached class other class_other also)) [
-        | inl first ↦ inr (below_of other of (from_platform (word other) first.0 of first.1))
-        | inr second ↦ inl (below_of of other (from_platform (word of) second.0 other second.1))
+        | inl first ↦ inr (below_of other of (stands other class_other) (from_platform (word other) first.0 of (stands of class_of) first.1))
+        | inr second ↦ inl (below_of of other (stands of class_of) (from_platform (word of) second.0 other (stands other class_other) second.1))
       ]
 
   pub own_are : (of : PlatformClass) → is_interface of ≡ false → has_instances p (word of) ≡ true
   unfolding is_class
   own_are of class =
       and_from (is_class p (word of)) (not (names_interface p (word of)) && nat_lt (size_of p (word of)) 65536)
-      (rw (not_loaded p few names bytes of, named p few names bytes of) refl)
+      (rw (not_loaded p few names bytes of, named p few names bytes of (stands of class)) refl)
       (and_from (not (names_interface p (word of))) (nat_lt (size_of p (word of)) 65536)
-      (ap not (platform_interface p few names bytes of ∙ class)) (ap (λ n. nat_lt n 65536) (platform_size p few names bytes of) ∙ few_cells of))
+      (ap not (platform_interface p few names bytes of (stands of class) ∙ class))
+      (ap (λ n. nat_lt n 65536) (platform_size p few names bytes of (stands of class)) ∙ few_cells of))
 
   pub platform_cells : HasPlatformCells p
-  platform_cells = record { kinds = cells_are; sizes = sizes_are; line = in_line; own = own_are; exact = λ of class. platform_size p few names bytes of }
+  platform_cells = record {
+    kinds = cells_are;
+    sizes = sizes_are;
+    line = in_line;
+    own = own_are;
+    exact = λ of class. platform_size p few names bytes of (stands of class);
+  }
 
   -- ---- cells of fields
 
@@ -174,25 +191,25 @@ module _ (p : Packages) (few : length p.loaded ≤ 32) (names : TellNames p.plat
       ∙ loaded_own of token c is
 
   -- what a loaded class reaches of the platform has no more cells than it inherits
-  above_loaded : (n of token : ℕ) (c : ClassValue) (platform : PlatformClass) → class_in p of ≡ Some c → c.is_interface ≡ false
+  above_loaded : (n of token : ℕ) (c : ClassValue) (platform : PlatformClass) → HasToken p.platform platform → class_in p of ≡ Some c → c.is_interface ≡ false
       → c.inherited_cells ≡ size_of p c.superclass → Fits p c.superclass → Reaches p (word platform) n (Some of) → cells_of platform ≤ c.inherited_cells + token
   unfolding Reaches
-  above_loaded zero of token c platform is plain inherited fits reaches = absurd reaches
-  above_loaded (suc n) of token c platform is plain inherited fits (inl e) = absurd
+  above_loaded zero of token c platform there is plain inherited fits reaches = absurd reaches
+  above_loaded (suc n) of token c platform there is plain inherited fits (inl e) = absurd
       (none-some c (sym (ap (class_in p) e ∙ not_loaded p few names bytes platform) ∙ is))
-  above_loaded (suc n) of token c platform is plain inherited fits (inr more) =
+  above_loaded (suc n) of token c platform there is plain inherited fits (inr more) =
       let le = reached_size p (ordered p few names bytes good) n (word platform) (Some c.superclass) fits
       (subst (Reaches p (word platform) n) (loaded_above of c is plain) more) in
-      let size = platform_size p few names bytes platform in
+      let size = platform_size p few names bytes platform there in
       omega (arith, le, size, inherited)
 
   -- and none of the platform reaches it
-  behind_platform : (of token : ℕ) (c : ClassValue) (platform : PlatformClass) → class_in p of ≡ Some c → c.is_interface ≡ false
+  behind_platform : (of token : ℕ) (c : ClassValue) (platform : PlatformClass) → HasToken p.platform platform → class_in p of ≡ Some c → c.is_interface ≡ false
       → c.inherited_cells ≡ size_of p c.superclass → Fits p c.superclass →
       ((m : ℕ) × Reaches p (word platform) m (Some of)) ⊎ ((m : ℕ) × Reaches p of m (Some (word platform))) → cells_of platform ≤ c.inherited_cells + token
-  behind_platform of token c platform is plain inherited fits (inl first) = above_loaded first.0 of token c platform is plain inherited fits first.1
-  behind_platform of token c platform is plain inherited fits (inr above) =
-      let other = from_platform of above.0 platform above.1 in
+  behind_platform of token c platform there is plain inherited fits (inl first) = above_loaded first.0 of token c platform there is plain inherited fits first.1
+  behind_platform of token c platform there is plain inherited fits (inr above) =
+      let other = from_platform of above.0 platform there above.1 in
       absurd (none-some c (sym (ap (class_in p) other.1 ∙ not_loaded p few names bytes other.0) ∙ is))
 
   pub field_behind : (of token class : ℕ) (c : ClassValue) (platform : PlatformClass) → class_in p of ≡ Some c → token < c.declared_cells
@@ -205,5 +222,5 @@ module _ (p : Packages) (few : length p.loaded ≤ 32) (names : TellNames p.plat
       let size = loaded_size of c is in
       let le = reached_size p (ordered p few names bytes good) most_classes of (Some class) (fits_of class has) reaches in
       let few_above = fits_of class has in
-      behind_platform of token c platform is plain inherited (omega (arith, inherited, le, size, few_above))
+      behind_platform of token c platform (stands platform class_platform) is plain inherited (omega (arith, inherited, le, size, few_above))
       (one_first p of (word platform) most_classes (Some class) reaches (reached class platform class_platform also))

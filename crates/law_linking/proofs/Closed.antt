@@ -48,7 +48,7 @@ package_more bound more le q closed = record {
 
 -- ---- options
 
-if_each : {A : Type 0} (P : A → Type 0) (o : Option A) → ((x : A) → o ≡ Some x → P x) → IfThere P o
+pub if_each : {A : Type 0} (P : A → Type 0) (o : Option A) → ((x : A) → o ≡ Some x → P x) → IfThere P o
 if_each P None each = tt
 if_each P (Some x) each = each x refl
 

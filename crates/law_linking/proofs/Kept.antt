@@ -1,5 +1,6 @@
 -- The platform's classes: what stands above them, and that calls on their instances find no method in bytecode.
-use Rattle.std.proofs.Common.{◌≡◌, ℕ, zero, suc, ◌/◌, ◌≤◌, ◌==◌, inl, inr, ◌||◌, true, List, [], Option, Some, None, length, refl, sym, subst, ap, ◌∙◌}
+use Rattle.std.proofs.Common.{◌≡◌, ℕ, zero, suc, ◌+◌, ◌*◌, ◌/◌, ◌<◌, ◌≤◌, ◌==◌, inl, inr, ◌||◌, true, List, [], Option, Some, None, length, refl, sym, subst, ap, ◌∙◌}
+use Rattle.std.proofs.Common.{arith}
 use Rattle.std.proofs.lemmas.Bool.{eqb-true, false≢true, or_cases}
 use Rattle.std.proofs.lemmas.Option.{option_and_then_some, same_Some}
 use Rattle.std.specs.List.{list_any}
@@ -7,9 +8,13 @@ use Rattle.jc_platform.specs.declared.names.MethodKind.TheVariants as kinds
 use Rattle.jc_platform.specs.declared.names.PlatformClass.{PlatformClass}
 use Rattle.jc_platform.specs.declared.names.PlatformClass.TheVariants.{Object}
 use Rattle.jc_platform.specs.declared.names.PlatformMethod.{PlatformMethod}
-use Rattle.jc_platform.specs.Distinct.{class_word}
+use Rattle.jc_platform.specs.declared.names.PlatformPackage.{PlatformPackage}
+use Rattle.jc_platform.specs.declared.names.PlatformPackage.TheVariants.{JavaLang}
+use Rattle.jc_platform.specs.Distinct.{class_word, home_of}
+use Rattle.jc_platform.specs.Names.{classes}
 use Rattle.jc_platform.specs.Hierarchy.{interface_of, superclass_of}
-use Rattle.jc_platform.specs.Platform.{TellNames, class_by_word, method_by_token}
+use Rattle.jc_platform.specs.Platform.{TellNames, class_by_word, method_by_token, package_by_number}
+use Rattle.jc_platform.specs.Tokens.{class_token, number_in}
 use Rattle.jc_cap_linkage.specs.declared.pool.VirtualToken.{VirtualToken}
 use Rattle.jc_cap_linkage.specs.declared.pool.VirtualToken.TheVariants.{PackageVisible, Public}
 use Rattle.jc_linker.specs.declared.search.Search.{Search}
@@ -26,6 +31,7 @@ use Rattle.law_linking.proofs.Lists.{AllOf, all_filtered}
 use Rattle.law_linking.proofs.Numbers.{word_high}
 use Rattle.law_linking.specs.Given.{HasByteTokens}
 use Rattle.law_linking.proofs.Ordered.{named, not_loaded, platform_above}
+use Rattle.law_linking.proofs.Tokens.{HasToken, language_needed}
 use Rattle.law_soundness.specs.Platform.{KeepsPlatform}
 use Rattle.law_linking.proofs.Found.{found_in, one_and_all}
 
@@ -83,14 +89,21 @@ module _ (p : Packages) (few : length p.loaded ≤ 32) (names : TellNames p.plat
   abbrev top : ℕ
   top = class_word p.platform Object
 
+  object_home : home_of Object ≡ JavaLang
+  unfolding classes
+  object_home = refl
+
+  object_stands : HasToken p.platform Object
+  object_stands = names.needed_classes Object (language_needed Object object_home)
+
   top_alone : superclass_in p top ≡ None
   unfolding superclass_of
-  top_alone = platform_above p few names bytes Object
+  top_alone = platform_above p few names bytes Object object_stands
 
   top_lists_none : interfaces_in p top ≡ []
   unfolding interfaces_in interface_of
   top_lists_none = ap (λ o. interfaces_by p o (class_by_word p.platform top)) (not_loaded p few names bytes Object)
-      ∙ ap (interfaces_by p None) (named p few names bytes Object)
+      ∙ ap (interfaces_by p None) (named p few names bytes Object object_stands)
 
   top_implements_none : (of : ℕ) → implements p top of ≡ true → ⊥
   unfolding implements
@@ -115,7 +128,21 @@ module _ (p : Packages) (few : length p.loaded ≤ 32) (names : TellNames p.plat
     | inr more ↦ absurd (nothing_above of n more)
   ]
 
+  -- a class whose word is Object's is in java.lang, so it stands, and is Object
+  its_package : (c : PlatformClass) → package_by_number p.platform (class_word p.platform c / 256) ≡ Some (home_of c)
+  its_package c = ap (package_by_number p.platform) (high_of (number_in p.platform (home_of c)) (class_token p.platform c) (bytes c))
+      ∙ names.packages (home_of c)
+    where
+      high_of : (n token : ℕ) → token < 256 → (256 * n + token) / 256 ≡ n
+      high_of n token small = omega (arith, small)
+
+  its_home : (of : PlatformClass) → top ≡ class_word p.platform of → home_of of ≡ JavaLang
+  its_home of e = same_Some (home_of of) JavaLang (sym (its_package of) ∙ ap (λ w. package_by_number p.platform (w / 256)) (sym e) ∙ its_package Object
+      ∙ ap Some object_home)
+
   pub above_none : (of : PlatformClass) → is_a p top of ≡ true → of ≡ Object
   unfolding is_below
-  above_none of e = same_Some of Object (sym (named p few names bytes of) ∙ ap (class_by_word p.platform)
-      (sym (top_is (class_word p.platform of) most_classes e)) ∙ named p few names bytes Object)
+  above_none of e =
+      let same : top ≡ class_word p.platform of = top_is (class_word p.platform of) most_classes e in
+      let stands : HasToken p.platform of = names.needed_classes of (language_needed of (its_home of same)) in
+      same_Some of Object (sym (named p few names bytes of stands) ∙ ap (class_by_word p.platform) (sym same) ∙ named p few names bytes Object object_stands)

@@ -18,6 +18,7 @@ pub mod Named
 pub mod Aids
 pub mod ClassLaws
 pub mod Bytes
+pub mod Plain
 pub mod Found
 pub mod Kept
 pub mod Behind

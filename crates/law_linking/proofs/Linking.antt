@@ -141,9 +141,9 @@ position_low test (x ∷ xs) i is = (position-Some test (x ∷ xs) i x is).0
 found_stands : (p : Packages) (aid : List ℕ) → IfThere (Stands (length p.loaded)) (package_with_aid p aid)
 unfolding package_with_aid
 found_stands p aid =
-    or_there (Stands (length p.loaded)) (option_map (number_in p.platform) (package_by_aid aid))
+    or_there (Stands (length p.loaded)) (option_map (number_in p.platform) (package_by_aid p.platform aid))
     (option_map (λ i. i + 1) (position (λ q. bytes_eq q.name.aid aid) p.loaded))
-    (map_there (λ c. Unit {0}) (Stands (length p.loaded)) (number_in p.platform) (package_by_aid aid) (anything (package_by_aid aid))
+    (map_there (λ c. Unit {0}) (Stands (length p.loaded)) (number_in p.platform) (package_by_aid p.platform aid) (anything (package_by_aid p.platform aid))
     (λ c none. inr (platform_high p.platform c)))
     (place_stands p aid (position (λ q. bytes_eq q.name.aid aid) p.loaded) (position_low (λ q. bytes_eq q.name.aid aid) p.loaded))
 

@@ -72,3 +72,7 @@ pub map_there : {A B : Type 0} (P : A → Type 0) (Q : B → Type 0) (f : A → 
     → IfThere Q (option_map f o)
 map_there P Q f None there each = tt
 map_there P Q f (Some x) there each = each x there
+
+pub both_there : {A : Type 0} (P Q : A → Type 0) (o : Option A) → IfThere P o → IfThere Q o → IfThere (λ x. P x × Q x) o
+both_there P Q None first second = tt
+both_there P Q (Some x) first second = (first, second)

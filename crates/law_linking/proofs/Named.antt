@@ -19,13 +19,13 @@ use Rattle.jc_linker.specs.Resolves.{class_at_offset, class_by, class_named, cla
 use Rattle.jc_linker.specs.Values.{PackageValue, Packages}
 use Rattle.jc_linker.specs.Values.{LinkerComponents}
 use Rattle.jc_linker.specs.Outlines.{outline_of}
-use Rattle.law_linking.proofs.Closed.{IsClosed, IsClosedPackage}
+use Rattle.law_linking.proofs.Closed.{IsClosed, IsClosedPackage, if_each}
 use Rattle.law_linking.proofs.Entered.{entered, there as some_at}
-use Rattle.law_linking.proofs.Fields.{any_field, any_foreign, any_super, mapped_there, of_entry, some_there}
+use Rattle.law_linking.proofs.Fields.{any_field, any_foreign, any_super, of_entry, some_there}
 use Rattle.law_linking.proofs.ResolutionLaws.{linked_closed}
-use Rattle.law_linking.proofs.Lists.{IfThere, all_at}
+use Rattle.law_linking.proofs.Lists.{IfThere, all_at, map_there}
 use Rattle.law_linking.specs.Given.{AreRead, HasByteTokens}
-use Rattle.law_linking.proofs.Tokens.{word_told}
+use Rattle.law_linking.proofs.Tokens.{HasToken, class_is, word_told}
 
 abbrev IsThere : Packages → ℕ → Type 0
 IsThere p w = is_class p w ≡ true
@@ -61,15 +61,16 @@ few_in p number q closed is = by_none (number == 0) is
     by_none false e = (subst (IfThere (IsClosedPackage (length p.loaded))) e (all_at (IsClosedPackage (length p.loaded)) p.loaded (number - 1) closed)).few
 
 module _ (p : Packages) (names : TellNames p.platform) (bytes : HasByteTokens p.platform) (closed : IsClosed p) where
-  platform_there : (c : PlatformClass) → IsThere p (class_word p.platform c)
+  platform_there : (c : PlatformClass) → HasToken p.platform c → IsThere p (class_word p.platform c)
   unfolding is_class
-  platform_there c = or_right (is_some (class_in p (class_word p.platform c))) (is_some (class_by_word p.platform (class_word p.platform c)))
-      (ap is_some (word_told p.platform names bytes c))
+  platform_there c stands = or_right (is_some (class_in p (class_word p.platform c))) (is_some (class_by_word p.platform (class_word p.platform c)))
+      (ap is_some (word_told p.platform names bytes c stands))
 
   token_there : (n token : ℕ) (o : Option PackageValue) → package_in p n ≡ o → IfThere (IsThere p) (class_by p n token o)
   token_there n token None is = some_there (IsThere p) (λ home. option_map (class_word p.platform) (class_by_token p.platform home token))
       (package_by_number p.platform n)
-      (λ home. mapped_there (IsThere p) (class_word p.platform) (class_by_token p.platform home token) platform_there)
+      (λ home. map_there (HasToken p.platform) (IsThere p) (class_word p.platform) (class_by_token p.platform home token)
+      (if_each (HasToken p.platform) (class_by_token p.platform home token) (λ c at. (token, (class_is p.platform home token c at).1))) platform_there)
   token_there n token (Some q) is = some_there (IsThere p) (exported_class n q) (slice_get q.exports token)
       (λ e. offset_there p n e.class_offset q is (few_in p n q closed is) (class_index e.class_offset q.classes) refl)
 

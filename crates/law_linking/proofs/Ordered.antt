@@ -6,8 +6,8 @@ use Rattle.std.specs.Option.{option_map}
 use Rattle.std.proofs.lemmas.Bool.{and_parts, cases_lt, eqb-true, false≢true, leb-true, ltb-true}
 use Rattle.std.proofs.Math.Nat.{min-eq_left, min-eq_right}
 use Rattle.jc_platform.specs.declared.names.PlatformClass.{PlatformClass}
-use Rattle.jc_platform.specs.declared.names.PlatformClass.TheVariants.{Object, OwnerPin, Pin, Shareable}
-use Rattle.jc_platform.specs.Distinct.{class_word}
+use Rattle.jc_platform.specs.declared.names.PlatformClass.TheVariants.{AppletEvent, ExtendedLength, Iso7816, MultiSelectable, Object, OwnerPin, Pin, Shareable}
+use Rattle.jc_platform.specs.Distinct.{class_word, is_needed_class}
 use Rattle.jc_platform.specs.Hierarchy.{cells_of, holds_reference, interface_of, is_interface, superclass_of}
 use Rattle.jc_platform.specs.Platform.{TellNames, class_by_word}
 use Rattle.jc_linker.specs.Classes.{class_in, declares_reference, interfaces_by, interfaces_in, platform_interfaces, own_reference, size_by, size_of}
@@ -15,12 +15,13 @@ use Rattle.jc_linker.specs.Classes.{superclass_by, superclass_in}
 use Rattle.jc_linker.specs.Resolves.{interface_by, names_interface}
 use Rattle.jc_linker.specs.Values.{ClassValue, Packages}
 use Rattle.law_linking.proofs.Fields.{no_class}
-use Rattle.law_linking.proofs.Lists.{IfThere, map_there}
+use Rattle.law_linking.proofs.Closed.{if_more}
+use Rattle.law_linking.proofs.Lists.{IfThere, both_there, map_there}
 use Rattle.law_linking.proofs.Numbers.{word_high}
 use Rattle.law_linking.specs.Given.{HasByteTokens}
 use Rattle.law_linking.proofs.Chains.{Fits, IsOrdered, own}
 use Rattle.law_linking.proofs.Good.{AllGood, AreInterfaces, IsGood}
-use Rattle.law_linking.proofs.Tokens.{word_told}
+use Rattle.law_linking.proofs.Tokens.{HasToken, class_needed, interface_needed, superclass_needed, word_told}
 
 -- ---- the platform's classes among each other
 
@@ -30,6 +31,10 @@ unfolding superclass_of holds_reference
 above_bare Object = tt
 above_bare Shareable = tt
 above_bare Pin = tt
+above_bare Iso7816 = tt
+above_bare MultiSelectable = tt
+above_bare AppletEvent = tt
+above_bare ExtendedLength = tt
 above_bare _ = λ k. refl
 
 fewer_above : (c : PlatformClass) → IfThere (λ d. nat_le (cells_of d) (cells_of c) ≡ true) (superclass_of c)
@@ -37,6 +42,10 @@ unfolding superclass_of cells_of
 fewer_above Object = tt
 fewer_above Shareable = tt
 fewer_above Pin = tt
+fewer_above Iso7816 = tt
+fewer_above MultiSelectable = tt
+fewer_above AppletEvent = tt
+fewer_above ExtendedLength = tt
 fewer_above _ = refl
 
 reference_within : (c : PlatformClass) (k : ℕ) → holds_reference c k ≡ true → k < cells_of c
@@ -67,32 +76,43 @@ module _ (p : Packages) (few : length p.loaded ≤ 32) (names : TellNames p.plat
   pub not_loaded : (c : PlatformClass) → class_in p (word c) ≡ None
   not_loaded c = no_value (class_in p (word c)) (λ x is. no_class p (word c) few (word_high p.platform c) x is)
 
-  pub named : (c : PlatformClass) → class_by_word p.platform (word c) ≡ Some c
-  named c = word_told p.platform names bytes c
+  -- what is no interface stands, and so do superclasses and the interface that a class lists
+  pub class_stands : (c : PlatformClass) → is_interface c ≡ false → HasToken p.platform c
+  class_stands c class = names.needed_classes c (class_needed c class)
 
-  by_both : {A : Type 0} (f : Option ClassValue → Option PlatformClass → A) (c : PlatformClass)
+  pub superclass_stands : (c : PlatformClass) → IfThere (HasToken p.platform) (superclass_of c)
+  superclass_stands c = if_more (λ d. is_needed_class d ≡ true) (HasToken p.platform) (superclass_of c) names.needed_classes (superclass_needed c)
+
+  interface_stands : (c : PlatformClass) → IfThere (HasToken p.platform) (interface_of c)
+  interface_stands c = if_more (λ d. is_needed_class d ≡ true) (HasToken p.platform) (interface_of c) names.needed_classes (interface_needed c)
+
+  pub named : (c : PlatformClass) → HasToken p.platform c → class_by_word p.platform (word c) ≡ Some c
+  named c stands = word_told p.platform names bytes c stands
+
+  by_both : {A : Type 0} (f : Option ClassValue → Option PlatformClass → A) (c : PlatformClass) → HasToken p.platform c
       → f (class_in p (word c)) (class_by_word p.platform (word c)) ≡ f None (Some c)
-  by_both f c = ap (λ o. f o (class_by_word p.platform (word c))) (not_loaded c) ∙ ap (f None) (named c)
+  by_both f c stands = ap (λ o. f o (class_by_word p.platform (word c))) (not_loaded c) ∙ ap (f None) (named c stands)
 
-  pub platform_size : (c : PlatformClass) → size_of p (word c) ≡ cells_of c
+  pub platform_size : (c : PlatformClass) → HasToken p.platform c → size_of p (word c) ≡ cells_of c
   unfolding size_of
-  platform_size c = by_both size_by c
+  platform_size c stands = by_both size_by c stands
 
-  pub platform_above : (c : PlatformClass) → superclass_in p (word c) ≡ option_map (class_word p.platform) (superclass_of c)
+  pub platform_above : (c : PlatformClass) → HasToken p.platform c → superclass_in p (word c) ≡ option_map (class_word p.platform) (superclass_of c)
   unfolding superclass_in
-  platform_above c = by_both (superclass_by p) c
+  platform_above c stands = by_both (superclass_by p) c stands
 
-  pub platform_own : (c : PlatformClass) (k : ℕ) → own p (word c) k ≡ holds_reference c k
-  platform_own c k = by_both (λ o other. own_reference o other k) c
+  pub platform_own : (c : PlatformClass) → HasToken p.platform c → (k : ℕ) → own p (word c) k ≡ holds_reference c k
+  platform_own c stands k = by_both (λ o other. own_reference o other k) c stands
 
-  pub platform_interface : (c : PlatformClass) → names_interface p (word c) ≡ is_interface c
+  pub platform_interface : (c : PlatformClass) → HasToken p.platform c → names_interface p (word c) ≡ is_interface c
   unfolding names_interface
-  platform_interface c = by_both interface_by c
+  platform_interface c stands = by_both interface_by c stands
 
   -- the one interface that a class of the platform lists is one
-  named_interface : (o : Option PlatformClass) → IfThere (λ c. is_interface c ≡ true) o → AreInterfaces p (platform_interfaces p o)
-  named_interface None is = tt
-  named_interface (Some c) is = (platform_interface c ∙ is, tt)
+  named_interface : (o : Option PlatformClass) → IfThere (λ c. is_interface c ≡ true) o → IfThere (HasToken p.platform) o
+      → AreInterfaces p (platform_interfaces p o)
+  named_interface None is stands = tt
+  named_interface (Some c) is stands = (platform_interface c stands ∙ is, tt)
 
   interface_is : (c : PlatformClass) → IfThere (λ d. is_interface d ≡ true) (interface_of c)
   unfolding interface_of is_interface
@@ -136,9 +156,11 @@ module _ (p : Packages) (few : length p.loaded ≤ 32) (names : TellNames p.plat
   sizes_by w (Some c) is other fits = loaded_above (λ s. size_of p s ≤ c.inherited_cells + c.declared_cells) c c.is_interface refl
       (λ class. let same = inherited_size p c (good w c is) class fits in omega (arith, same))
   sizes_by w None is None fits = tt
-  sizes_by w None is (Some d) fits = map_there (λ e. nat_le (cells_of e) (cells_of d) ≡ true) (λ s. size_of p s ≤ cells_of d) (class_word p.platform)
-      (superclass_of d) (fewer_above d)
-      (λ e le. let same = platform_size p few names bytes e in let less = leb-true (cells_of e) (cells_of d) le in omega (arith, same, less))
+  sizes_by w None is (Some d) fits = map_there (λ e. (nat_le (cells_of e) (cells_of d) ≡ true) × HasToken p.platform e) (λ s. size_of p s ≤ cells_of d)
+      (class_word p.platform) (superclass_of d)
+      (both_there (λ e. nat_le (cells_of e) (cells_of d) ≡ true) (HasToken p.platform) (superclass_of d) (fewer_above d)
+      (superclass_stands p few names bytes d))
+      (λ e both. let same = platform_size p few names bytes e both.1 in let less = leb-true (cells_of e) (cells_of d) both.0 in omega (arith, same, less))
 
   sizes : (w : ℕ) → Fits p w → IfThere (λ s. size_of p s ≤ size_of p w) (superclass_in p w)
   unfolding size_of superclass_in
@@ -169,9 +191,10 @@ module _ (p : Packages) (few : length p.loaded ≤ 32) (names : TellNames p.plat
       (λ class. let same = inherited_size p c (good w c is) class fits in let parts = own_parts c k (good w c is) e in let low = parts.0 in omega
       (arith, same, low))
   behind_by w k None is None fits e = tt
-  behind_by w k None is (Some d) fits e = map_there (λ x. cells_of x ≤ k) (λ s. size_of p s ≤ k) (class_word p.platform) (superclass_of d)
-      (reference_behind d k e)
-      (λ x le. let same = platform_size p few names bytes x in omega (arith, same, le))
+  behind_by w k None is (Some d) fits e = map_there (λ x. (cells_of x ≤ k) × HasToken p.platform x) (λ s. size_of p s ≤ k) (class_word p.platform)
+      (superclass_of d)
+      (both_there (λ x. cells_of x ≤ k) (HasToken p.platform) (superclass_of d) (reference_behind d k e) (superclass_stands p few names bytes d))
+      (λ x both. let same = platform_size p few names bytes x both.1 in let le = both.0 in omega (arith, same, le))
 
   behind : (w k : ℕ) → Fits p w → own p w k ≡ true → IfThere (λ s. size_of p s ≤ k) (superclass_in p w)
   unfolding size_of superclass_in
@@ -185,7 +208,7 @@ module _ (p : Packages) (few : length p.loaded ≤ 32) (names : TellNames p.plat
   listed_by : (w : ℕ) (o : Option ClassValue) → class_in p w ≡ o → (other : Option PlatformClass) → AreInterfaces p (interfaces_by p o other)
   listed_by w (Some c) is other = (good w c is).interfaces
   listed_by w None is None = tt
-  listed_by w None is (Some d) = named_interface p few names bytes (interface_of d) (interface_is p few names bytes d)
+  listed_by w None is (Some d) = named_interface p few names bytes (interface_of d) (interface_is p few names bytes d) (interface_stands p few names bytes d)
 
   pub listed : (w : ℕ) → AreInterfaces p (interfaces_in p w)
   unfolding interfaces_in

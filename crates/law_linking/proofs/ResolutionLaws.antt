@@ -55,7 +55,7 @@ counted (Some i) r n more is = ap (option_map (λ j. j + 1)) (more i refl) ∙ i
 found_still : (p : Packages) (q : PackageValue) (aid : List ℕ) (n : ℕ) → package_with_aid p aid ≡ Some n → package_with_aid (with_package p q) aid ≡ Some n
 unfolding package_with_aid
 found_still p q aid n is =
-    found_first (option_map (number_in p.platform) (package_by_aid aid)) (option_map (λ i. i + 1) (position (λ r. bytes_eq r.name.aid aid) p.loaded))
+    found_first (option_map (number_in p.platform) (package_by_aid p.platform aid)) (option_map (λ i. i + 1) (position (λ r. bytes_eq r.name.aid aid) p.loaded))
     (option_map (λ i. i + 1) (position (λ r. bytes_eq r.name.aid aid) (p.loaded ++ q ∷ []))) n
     (counted (position (λ r. bytes_eq r.name.aid aid) p.loaded) (position (λ r. bytes_eq r.name.aid aid) (p.loaded ++ q ∷ [])) n
     (from_front (λ r. bytes_eq r.name.aid aid) p.loaded q)) is

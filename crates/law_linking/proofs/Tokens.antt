@@ -1,21 +1,25 @@
 -- Words of the platform's classes, and what stands behind them.
 use Rattle.std.proofs.Common.{◌≡◌, ◌<◌, ◌+◌, ◌*◌, ◌/◌, ◌%◌, ◌==◌, ◌&&◌, ℕ, Bool, true, false, List, [], ◌∷◌, Option, Some, None, refl, ap, sym, subst, ◌∙◌}
 use Rattle.std.proofs.Common.{arith, if◌then◌else◌}
-use Rattle.std.specs.Prelude.{find, slice_index}
+use Rattle.std.specs.Prelude.{find, unwrap_or}
 use Rattle.std.specs.Option.{option_map, option_and_then}
-use Rattle.std.proofs.lemmas.Bool.{and_parts, eqb-true}
+use Rattle.std.proofs.lemmas.Bool.{and_parts, eqb-true, false≢true}
 use Rattle.std.proofs.lemmas.Option.{none-some, option_and_then_some, same_Some}
 use Rattle.jc_platform.specs.declared.names.PlatformPackage.{PlatformPackage}
-use Rattle.jc_platform.specs.declared.names.PlatformPackage.TheVariants.{JavaLang, JavacardFramework}
+use Rattle.jc_platform.specs.declared.names.PlatformPackage.TheVariants.{JavaLang, JavacardFramework, JavacardxApdu}
 use Rattle.jc_platform.specs.declared.names.PlatformClass.{PlatformClass}
+use Rattle.jc_platform.specs.declared.names.PlatformClass.TheVariants.{AppletEvent, ExtendedLength, Iso7816, MultiSelectable, Object, OwnerPin, Pin, Shareable}
 use Rattle.jc_platform.specs.declared.names.MethodKind.{MethodKind}
 use Rattle.jc_platform.specs.declared.names.PlatformMethod.{PlatformMethod}
-use Rattle.jc_platform.specs.Distinct.{class_of, class_word, home_of, kind_of_method}
+use Rattle.jc_platform.specs.Distinct.{class_of, class_word, home_of, is_needed_class, kind_of_method}
+use Rattle.jc_platform.specs.Hierarchy.{interface_of, is_interface, superclass_of}
 use Rattle.jc_platform.specs.Names.{ClassEntry, MethodEntry, classes, methods}
 use Rattle.jc_platform.specs.Numbers.{class_number, kind_number, method_number, package_number, same_class, same_kind, same_package}
 use Rattle.jc_platform.specs.Platform.{TellNames, class_by_token, class_by_word, method_by_token, package_by_number}
-use Rattle.jc_platform.specs.Tokens.{Tokens, number_in}
+use Rattle.jc_platform.specs.Tokens.{Tokens, class_token, number_in, token_of_class, token_of_method}
+use Rattle.jc_platform.specs.Rows.{is_token}
 use Rattle.law_linking.specs.Given.{HasByteTokens}
+use Rattle.law_linking.proofs.Lists.{IfThere}
 use Rattle.jc_platform.proofs.Distinct.{class_by_number, found_has, homes, method_homes}
 
 -- ---- a class by its word
@@ -23,26 +27,66 @@ use Rattle.jc_platform.proofs.Distinct.{class_by_number, found_has, homes, metho
 word_parts : (n token : ℕ) → token < 256 → ((256 * n + token) / 256 ≡ n) × ((256 * n + token) % 256 ≡ token)
 word_parts n token small = (omega (arith, small), omega (arith, small))
 
-pub word_told : (t : Tokens) → TellNames t → HasByteTokens t → (c : PlatformClass) → class_by_word t (class_word t c) ≡ Some c
+-- the platform has the class
+abbrev pub HasToken : Tokens → PlatformClass → Type 0
+HasToken t c = (k : ℕ) × (token_of_class t c ≡ Some k)
+
+pub word_told : (t : Tokens) → TellNames t → HasByteTokens t → (c : PlatformClass) → HasToken t c → class_by_word t (class_word t c) ≡ Some c
 unfolding class_by_word
-word_told t told bytes c =
-    let parts = word_parts (number_in t (home_of c)) (slice_index t.class_tokens (class_number c)) (bytes c) in
+word_told t told bytes c stands =
+    let parts = word_parts (number_in t (home_of c)) (class_token t c) (bytes c) in
+    let own : class_token t c ≡ stands.0 = ap (λ o. unwrap_or o 0) stands.1 in
     ap (λ w. option_and_then (λ home. class_by_token t home (class_word t c % 256)) (package_by_number t w)) parts.0
     ∙ ap (option_and_then (λ home. class_by_token t home (class_word t c % 256))) (told.packages (home_of c))
-    ∙ ap (class_by_token t (home_of c)) parts.1 ∙ told.classes c
+    ∙ ap (class_by_token t (home_of c)) (parts.1 ∙ own) ∙ told.classes c stands.0 stands.1
+
+-- a class that is no interface is one that each table has, and so are superclasses, listed interfaces and what java.lang has
+pub class_needed : (c : PlatformClass) → is_interface c ≡ false → is_needed_class c ≡ true
+unfolding classes is_interface
+class_needed Iso7816 class = absurd (false≢true (sym class))
+class_needed MultiSelectable class = absurd (false≢true (sym class))
+class_needed AppletEvent class = absurd (false≢true (sym class))
+class_needed ExtendedLength class = absurd (false≢true (sym class))
+class_needed _ class = refl
+
+pub superclass_needed : (c : PlatformClass) → IfThere (λ d. is_needed_class d ≡ true) (superclass_of c)
+unfolding classes superclass_of
+superclass_needed Object = tt
+superclass_needed Shareable = tt
+superclass_needed Pin = tt
+superclass_needed Iso7816 = tt
+superclass_needed MultiSelectable = tt
+superclass_needed AppletEvent = tt
+superclass_needed ExtendedLength = tt
+superclass_needed _ = refl
+
+pub interface_needed : (c : PlatformClass) → IfThere (λ d. is_needed_class d ≡ true) (interface_of c)
+unfolding classes interface_of
+interface_needed OwnerPin = refl
+interface_needed _ = tt
+
+pub language_needed : (c : PlatformClass) → home_of c ≡ JavaLang → is_needed_class c ≡ true
+unfolding classes
+language_needed Iso7816 home = absurd (omega (arith, ap package_number home))
+language_needed MultiSelectable home = absurd (omega (arith, ap package_number home))
+language_needed AppletEvent home = absurd (omega (arith, ap package_number home))
+language_needed ExtendedLength home = absurd (omega (arith, ap package_number home))
+language_needed _ home = refl
 
 -- ---- the word of a class that a word names
 
-by_numbers : (a b : Bool) (home : PlatformPackage) (P : PlatformPackage → Type 0) → (a ≡ true → P JavaLang) → (b ≡ true → P JavacardFramework)
-    → (if a then Some JavaLang else (if b then Some JavacardFramework else None)) ≡ Some home → P home
-by_numbers true b home P first second is = subst P (same_Some JavaLang home is) (first refl)
-by_numbers false true home P first second is = subst P (same_Some JavacardFramework home is) (second refl)
-by_numbers false false home P first second is = absurd (none-some home is)
+by_numbers : (a b c : Bool) (home : PlatformPackage) (P : PlatformPackage → Type 0) → (a ≡ true → P JavaLang) → (b ≡ true → P JavacardFramework)
+    → (c ≡ true → P JavacardxApdu)
+    → (if a then Some JavaLang else (if b then Some JavacardFramework else (if c then Some JavacardxApdu else None))) ≡ Some home → P home
+by_numbers true b c home P first second third is = subst P (same_Some JavaLang home is) (first refl)
+by_numbers false true c home P first second third is = subst P (same_Some JavacardFramework home is) (second refl)
+by_numbers false false true home P first second third is = subst P (same_Some JavacardxApdu home is) (third refl)
+by_numbers false false false home P first second third is = absurd (none-some home is)
 
 package_is : (t : Tokens) (n : ℕ) (home : PlatformPackage) → package_by_number t n ≡ Some home → n ≡ number_in t home
 unfolding package_by_number
-package_is t n home is = by_numbers (n == number_in t JavaLang) (n == number_in t JavacardFramework) home (λ q. n ≡ number_in t q)
-    (eqb-true n (number_in t JavaLang)) (eqb-true n (number_in t JavacardFramework)) is
+package_is t n home is = by_numbers (n == number_in t JavaLang) (n == number_in t JavacardFramework) (n == number_in t JavacardxApdu) home
+    (λ q. n ≡ number_in t q) (eqb-true n (number_in t JavaLang)) (eqb-true n (number_in t JavacardFramework)) (eqb-true n (number_in t JavacardxApdu)) is
 
 passing : {X : Type 0} (test : X → Bool) (x e : X) (xs : List X) (b : Bool) → test x ≡ b → (find test xs ≡ Some e → test e ≡ true)
     → (if b then Some x else find test xs) ≡ Some e → test e ≡ true
@@ -57,24 +101,27 @@ mapped : {X Y : Type 0} (f : X → Y) (o : Option X) (y : Y) → option_map f o 
 mapped f None y is = absurd (none-some y is)
 mapped f (Some x) y is = (x, refl, same_Some (f x) y is)
 
-class_is : (t : Tokens) (home : PlatformPackage) (token : ℕ) (c : PlatformClass) → class_by_token t home token ≡ Some c
-    → (number_in t home ≡ number_in t (home_of c)) × (slice_index t.class_tokens (class_number c) ≡ token)
+token_is : (o : Option ℕ) (token : ℕ) → is_token o token ≡ true → o ≡ Some token
+token_is None token is = absurd (false≢true is)
+token_is (Some n) token is = ap Some (eqb-true n token is)
+
+pub class_is : (t : Tokens) (home : PlatformPackage) (token : ℕ) (c : PlatformClass) → class_by_token t home token ≡ Some c
+    → (number_in t home ≡ number_in t (home_of c)) × (token_of_class t c ≡ Some token)
 unfolding class_by_token
 class_is t home token c is =
-    let test : ClassEntry → Bool = λ e. same_package e.home home && slice_index t.class_tokens (class_number e.class) == token in
+    let test : ClassEntry → Bool = λ e. same_package e.home home && is_token (token_of_class t e.class) token in
     let one = mapped (λ (e : ClassEntry). e.class) (find test classes) c is in
-    let row = and_parts (same_package (one.0).home home) (slice_index t.class_tokens (class_number (one.0).class) == token)
+    let row = and_parts (same_package (one.0).home home) (is_token (token_of_class t (one.0).class) token)
     (found_passes test classes one.0 one.1) in
     let its = found_has (λ g. same_package (home_of g.class) g.home) test classes one.0 homes one.1 in
     let first : number_in t (one.0).home ≡ number_in t home = number_same t (one.0).home home row.0 in
     let second : number_in t (home_of (one.0).class) ≡ number_in t (one.0).home = number_same t (home_of (one.0).class) (one.0).home its in (
       sym first ∙ sym second ∙ ap (λ d. number_in t (home_of d)) one.2,
-      ap (λ d. slice_index t.class_tokens (class_number d)) (sym one.2)
-          ∙ eqb-true (slice_index t.class_tokens (class_number (one.0).class)) token row.1,
+      ap (token_of_class t) (sym one.2) ∙ token_is (token_of_class t (one.0).class) token row.1,
     )
   where
     number_same : (u : Tokens) (p q : PlatformPackage) → same_package p q ≡ true → number_in u p ≡ number_in u q
-    number_same u p q same = ap (λ n. if n == package_number u.first then 64 else 65) (eqb-true (package_number p) (package_number q) same)
+    number_same u p q same = ap (λ n. if n == 2 then 66 else (if n == package_number u.first then 64 else 65)) (eqb-true (package_number p) (package_number q) same)
 
 back_again : (w n token : ℕ) → w / 256 ≡ n → token ≡ w % 256 → w ≡ 256 * n + token
 back_again w n token high low = omega (arith, high, low)
@@ -83,8 +130,15 @@ pub word_of_class : (t : Tokens) (w : ℕ) (c : PlatformClass) → class_by_word
 unfolding class_by_word
 word_of_class t w c is =
     option_and_then_some (λ home. class_by_token t home (w % 256)) (package_by_number t (w / 256)) c is
-    (λ home at more. let a = class_is t home (w % 256) c more in back_again w (number_in t (home_of c)) (slice_index t.class_tokens (class_number c))
-    (package_is t (w / 256) home at ∙ a.0) a.1)
+    (λ home at more. let a = class_is t home (w % 256) c more in back_again w (number_in t (home_of c)) (class_token t c)
+    (package_is t (w / 256) home at ∙ a.0) (ap (λ o. unwrap_or o 0) a.1))
+
+-- a class that a word names stands
+pub word_stands : (t : Tokens) (w : ℕ) (c : PlatformClass) → class_by_word t w ≡ Some c → HasToken t c
+unfolding class_by_word
+word_stands t w c is =
+    option_and_then_some (λ home. class_by_token t home (w % 256)) (package_by_number t (w / 256)) c is
+    (λ home at more. (w % 256, (class_is t home (w % 256) c more).1))
 
 -- ---- the class and the kind of a method
 
@@ -92,10 +146,10 @@ pub place_of_method : (t : Tokens) (c : PlatformClass) (kind : MethodKind) (toke
     → (class_of m ≡ c) × (kind_number (kind_of_method m) ≡ kind_number kind)
 unfolding method_by_token
 place_of_method t c kind token m is =
-    let test : MethodEntry → Bool = λ e. same_class e.class c && same_kind e.kind kind && slice_index t.method_tokens (method_number e.method) == token in
+    let test : MethodEntry → Bool = λ e. same_class e.class c && same_kind e.kind kind && is_token (token_of_method t e.method) token in
     let one = mapped (λ (e : MethodEntry). e.method) (find test methods) m is in
     let e : MethodEntry = one.0 in
-    let row = and_parts (same_class e.class c && same_kind e.kind kind) (slice_index t.method_tokens (method_number e.method) == token)
+    let row = and_parts (same_class e.class c && same_kind e.kind kind) (is_token (token_of_method t e.method) token)
     (found_passes test methods e one.1) in
     let wanted = and_parts (same_class e.class c) (same_kind e.kind kind) row.0 in
     let its = and_parts (same_class (class_of e.method) e.class) (same_kind (kind_of_method e.method) e.kind)

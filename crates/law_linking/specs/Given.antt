@@ -1,19 +1,18 @@
 -- Packages that were read and linked.
-use Rattle.std.specs.Prelude.{ℕ, ◌≡◌, ◌<◌, All, List, Option, Some, None, slice_get, slice_index}
+use Rattle.std.specs.Prelude.{ℕ, ◌≡◌, ◌<◌, All, List, Option, Some, None, slice_get}
 use Rattle.jc_cap_linkage.specs.declared.formats.Format.{Format}
 use Rattle.jc_cap_linkage.specs.Applets.{AppletNamed, IsApplets}
 use Rattle.jc_cap_code.specs.ClassGrammar.{AreClasses}
 use Rattle.jc_platform.specs.declared.names.PlatformClass.{PlatformClass}
-use Rattle.jc_platform.specs.Numbers.{class_number}
 use Rattle.jc_platform.specs.Platform.{TellNames}
-use Rattle.jc_platform.specs.Tokens.{Tokens}
+use Rattle.jc_platform.specs.Tokens.{Tokens, class_token}
 use Rattle.jc_linker.specs.Values.{Packages}
 use Rattle.jc_linker.specs.Values.{LinkerComponents}
 use Rattle.law_linking.specs.Linked.{AreLinked}
 
--- the token of each class of the platform is one byte
+-- the token of each class that the platform has is one byte
 abbrev pub HasByteTokens : Tokens → Type 0
-HasByteTokens t = (c : PlatformClass) → slice_index t.class_tokens (class_number c) < 256
+HasByteTokens t = (c : PlatformClass) → class_token t c < 256
 
 -- the class records of these components are those of a Class component
 abbrev pub HasClassComponent : LinkerComponents → Type 0

@@ -5,3 +5,4 @@ pub mod Fields
 pub mod Given
 pub mod ClassLaws
 pub mod MethodLaws
+pub mod Plain

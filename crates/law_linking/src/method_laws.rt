@@ -1,5 +1,6 @@
 //! Laws of the definitions of methods, and of the platform's tokens.
 ghost use Rattle.law_linking.specs.MethodLaws.{HaveBytes, HaveMethods, HaveNoCode};
+ghost use Rattle.law_linking.specs.Plain.{ArePlain};
 
 /// Among packages that were linked, each onto those before it, what a call by token, one by interface and one
 /// of a superclass's method find of the platform is a method of the receiver's class, by the first two no
@@ -17,4 +18,10 @@ pub fn classes_of_the_platform_have_no_code()
 /// Where reading a text answers a platform table, the token of each class is one byte.
 pub fn platform_tokens_are_bytes()
     ensures { HaveBytes }
+{}
+
+/// Where a text without the line `extended` is read as a platform table, the table has no name but those that each
+/// table has: no class and no method of the second list, nor the package `javacardx.apdu`.
+pub fn tables_without_the_line_have_no_further_names()
+    ensures { ArePlain }
 {}

@@ -4,6 +4,7 @@ use Rattle.std.proofs.lemmas.Bool.{and_parts, both_ways, ltb-true, not-true, tru
 use Rattle.std.specs.Prelude.{◌&&◌, nat_lt, not}
 use Rattle.jc_platform.specs.declared.names.PlatformClass.{PlatformClass}
 use Rattle.jc_platform.specs.declared.names.PlatformClass.TheVariants.{Object, Shareable, Pin, Applet, Apdu, Aid, JcSystem, Util, OwnerPin}
+use Rattle.jc_platform.specs.declared.names.PlatformClass.TheVariants.{AppletEvent, ExtendedLength, Iso7816, MultiSelectable}
 use Rattle.jc_platform.specs.Hierarchy.{cells_of, holds_reference, is_interface, superclass_of}
 use Rattle.jc_linker.specs.Values.{Packages}
 use Rattle.jc_card_checks.specs.Objects.{is_a}
@@ -28,6 +29,10 @@ is_throwable Aid = false
 is_throwable JcSystem = false
 is_throwable Util = false
 is_throwable OwnerPin = false
+is_throwable Iso7816 = false
+is_throwable MultiSelectable = false
+is_throwable AppletEvent = false
+is_throwable ExtendedLength = false
 is_throwable _ = true
 
 -- of the superclass, if there is one
@@ -57,6 +62,10 @@ throwable_super Aid e = e
 throwable_super JcSystem e = e
 throwable_super Util e = e
 throwable_super OwnerPin e = e
+throwable_super Iso7816 e = e
+throwable_super MultiSelectable e = e
+throwable_super AppletEvent e = e
+throwable_super ExtendedLength e = e
 throwable_super _ e = refl
 
 -- what is below stays so

@@ -13,7 +13,7 @@ use Rattle.jc_memory.specs.State.{MemoryState, HeapMove, SetFlag}
 use Rattle.jc_memory.specs.Programs.{Program, Finish, Perform}
 use Rattle.jc_platform.specs.declared.names.PlatformMethod.{PlatformMethod}
 use Rattle.jc_platform.specs.declared.names.PlatformMethod.TheVariants.{OwnerPinInit, OwnerPinCheck, OwnerPinGetTriesRemaining, OwnerPinIsValidated}
-use Rattle.jc_platform.specs.declared.names.PlatformMethod.TheVariants.{OwnerPinReset, OwnerPinResetAndUnblock, OwnerPinUpdate}
+use Rattle.jc_platform.specs.declared.names.PlatformMethod.TheVariants.{OwnerPinReset, OwnerPinResetAndUnblock, OwnerPinUpdate, OwnerPinGetValidatedFlag, OwnerPinSetValidatedFlag}
 use Rattle.jc_linker.specs.Values.{Packages}
 use Rattle.jc_memory.specs.Room.{has_space, lacks_capacity}
 use Rattle.jc_pin.specs.declared.updating.PinRefusal.{PinRefusal}
@@ -29,7 +29,7 @@ use Rattle.jc_world.specs.declared.arrays.Stretch.{Stretch}
 use Rattle.jc_api_data.specs.OwnerPinArguments.{at_least_1, array_arguments, argument_bytes, receiver, is_own_value}
 use Rattle.jc_api_data.specs.OwnerPin.{bytes_in, pin_comparison, owner_pin_init, guess_of, pin_call, owner_pin_check, changed_or_thrown}
 use Rattle.jc_api_data.specs.OwnerPin.{owner_pin_get_tries_remaining, return_unless_refused, owner_pin_is_validated, owner_pin_update, owner_pin_reset}
-use Rattle.jc_api_data.specs.OwnerPin.{owner_pin_reset_and_unblock}
+use Rattle.jc_api_data.specs.OwnerPin.{owner_pin_reset_and_unblock, owner_pin_set_validated_flag}
 use Rattle.law_soundness.specs.LocalEffects.{AreElsewhere}
 use Rattle.law_soundness.proofs.Still.{AllStill, Any, IsLike, IsStillAnswer, IsStillCall, still_bind, still_if, still_makes_new, still_ok, still_some}
 
@@ -120,6 +120,10 @@ module _ (g : MemoryState) where
     unfolding owner_pin_is_validated
     validated_still = still_some g (receiver m args) _ (λ pin. tt)
 
+    flag_still : IsStillCall g (owner_pin_set_validated_flag args m)
+    unfolding owner_pin_set_validated_flag
+    flag_still = still_some g (receiver m args) _ (λ pin. still_some g (short_argument args 1) _ (λ value. (tt, tt)))
+
     pub pin_still : (method : PlatformMethod) → IsStillCall g (pin_call method args p m)
     unfolding pin_call
     pin_still OwnerPinInit = constructed_still
@@ -129,4 +133,6 @@ module _ (g : MemoryState) where
     pin_still OwnerPinReset = was_reset_still
     pin_still OwnerPinResetAndUnblock = was_unblocked_still
     pin_still OwnerPinUpdate = value_still
+    pin_still OwnerPinGetValidatedFlag = validated_still
+    pin_still OwnerPinSetValidatedFlag = flag_still
     pin_still _ = tt

@@ -32,6 +32,10 @@ no_interface : (c : PlatformClass) → is_instantiable c ≡ true → is_interfa
 unfolding is_instantiable is_interface
 no_interface classes.Shareable e = absurd cc
 no_interface classes.Pin e = absurd cc
+no_interface classes.Iso7816 e = absurd cc
+no_interface classes.MultiSelectable e = absurd cc
+no_interface classes.AppletEvent e = absurd cc
+no_interface classes.ExtendedLength e = absurd cc
 no_interface c e = refl
 
 made_by : (c : Option ClassValue) (other : Option PlatformClass) → is_instantiable_class_by c other ≡ true

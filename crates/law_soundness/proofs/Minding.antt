@@ -8,7 +8,7 @@ use Rattle.jc_platform.specs.declared.names.PlatformMethod.TheVariants.{AppletRe
 use Rattle.jc_platform.specs.declared.names.PlatformMethod.TheVariants.{CardRuntimeExceptionInit, CardRuntimeExceptionSetReason, IsoExceptionInit}
 use Rattle.jc_platform.specs.declared.names.PlatformMethod.TheVariants.{PinExceptionInit, SystemExceptionInit, TransactionExceptionInit, ApduExceptionInit}
 use Rattle.jc_platform.specs.declared.names.PlatformMethod.TheVariants.{UserExceptionInit, AidInit, OwnerPinInit, OwnerPinCheck, OwnerPinReset}
-use Rattle.jc_platform.specs.declared.names.PlatformMethod.TheVariants.{OwnerPinResetAndUnblock, OwnerPinUpdate}
+use Rattle.jc_platform.specs.declared.names.PlatformMethod.TheVariants.{OwnerPinResetAndUnblock, OwnerPinUpdate, OwnerPinSetValidatedFlag, UserExceptionInitWithoutReason}
 use Rattle.jc_platform.specs.Distinct.{class_of, kind_of_method}
 use Rattle.jc_platform.specs.Names.{methods}
 use Rattle.jc_platform.specs.Signatures.{is_constructor}
@@ -30,12 +30,14 @@ minds_below SystemExceptionInit e is = cc
 minds_below TransactionExceptionInit e is = cc
 minds_below ApduExceptionInit e is = cc
 minds_below UserExceptionInit e is = cc
+minds_below UserExceptionInitWithoutReason e is = cc
 minds_below AidInit e is = cc
 minds_below OwnerPinInit e is = cc
 minds_below OwnerPinCheck e is = cc
 minds_below OwnerPinReset e is = cc
 minds_below OwnerPinResetAndUnblock e is = cc
 minds_below OwnerPinUpdate e is = cc
+minds_below OwnerPinSetValidatedFlag e is = cc
 minds_below _ e is = false≢true e
 
 pub minds_no_static : (method : PlatformMethod) → minds_receiver method ≡ true → kind_of_method method ≡ Static → is_constructor method ≡ false → ⊥
@@ -52,12 +54,14 @@ minds_no_static SystemExceptionInit e static plain = true≢false plain
 minds_no_static TransactionExceptionInit e static plain = true≢false plain
 minds_no_static ApduExceptionInit e static plain = true≢false plain
 minds_no_static UserExceptionInit e static plain = true≢false plain
+minds_no_static UserExceptionInitWithoutReason e static plain = true≢false plain
 minds_no_static AidInit e static plain = true≢false plain
 minds_no_static OwnerPinInit e static plain = true≢false plain
 minds_no_static OwnerPinCheck e static plain = virtual_not_static static
 minds_no_static OwnerPinReset e static plain = virtual_not_static static
 minds_no_static OwnerPinResetAndUnblock e static plain = virtual_not_static static
 minds_no_static OwnerPinUpdate e static plain = virtual_not_static static
+minds_no_static OwnerPinSetValidatedFlag e static plain = virtual_not_static static
 minds_no_static _ e static plain = false≢true e
 
 pub aid_static : kind_of_method AidInit ≡ Static

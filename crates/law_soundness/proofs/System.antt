@@ -24,7 +24,7 @@ use Rattle.jc_world.specs.Objects.{is_instance_of, reference_argument, short_arg
 use Rattle.jc_world.specs.Arrays.{bytes_argument, bytes_in, elements_of}
 use Rattle.jc_api_runtime.specs.AidCells.{is_aid_length}
 use Rattle.jc_api_runtime.specs.SystemSharing.{aid_or_null, applet_of, jc_system_lookup_aid, server_call_result, server_call_by_aid, server_call_if_known}
-use Rattle.jc_api_runtime.specs.SystemSharing.{jc_system_get_applet_shareable_interface_object}
+use Rattle.jc_api_runtime.specs.SystemSharing.{jc_system_get_applet_shareable_interface_object, jc_system_is_applet_active}
 use Rattle.jc_api_runtime.specs.SystemTransient.{jc_system_make_transient_array, jc_system_is_transient, requested_array}
 use Rattle.jc_frames.specs.declared.cell.Cell.TheVariants.{Reference}
 use Rattle.jc_world.specs.declared.native_result.NativeResult.TheVariants.{ReturnValue}
@@ -41,6 +41,11 @@ module _ (args : List Cell) (p : Packages) (m : MemoryState) (sound : IsSoundMem
   pub event_still : IsStillCall m (jc_system_is_transient args m)
   unfolding jc_system_is_transient
   event_still = still_some m (reference_argument args 0) _ (λ r. still_if m (IsStillAnswer m) (r == 0) _ _ tt (still_some m (header_at m r) _ (λ f. tt)))
+
+  pub active_still : IsStillCall m (jc_system_is_applet_active args p m)
+  unfolding jc_system_is_applet_active
+  active_still = still_some m (reference_argument args 0) _ (λ aid. still_if m (IsStillAnswer m) (aid == 0) _ _ tt
+      (still_some m (header_at m aid) _ (λ f. still_if m (IsStillAnswer m) (is_instance_of p f (class_word p.platform Aid)) _ _ tt tt)))
 
   found_refers : (b : Bool) (o : Option AppletNumber) → IsReference m.heap.now (if b then aid_or_null m.heap.now o else 0)
   found_refers true o = or_null_refers p m sound o

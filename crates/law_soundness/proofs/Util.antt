@@ -1,5 +1,5 @@
 -- Calls of Object, of exceptions and of Util are still.
-use Rattle.std.specs.Prelude.{ℤ, List}
+use Rattle.std.specs.Prelude.{ℤ, pos, List}
 use Rattle.jc_transient.specs.declared.cell.CellValue.TheVariants as cell
 use Rattle.jc_frames.specs.declared.cell.Cell.{Cell}
 use Rattle.jc_frames.specs.declared.outcome.Exception.{Exception}
@@ -12,15 +12,17 @@ use Rattle.jc_platform.specs.declared.names.PlatformMethod.TheVariants.{CardRunt
 use Rattle.jc_platform.specs.declared.names.PlatformMethod.TheVariants.{IsoExceptionThrowIt, PinExceptionInit, PinExceptionThrowIt, SystemExceptionInit}
 use Rattle.jc_platform.specs.declared.names.PlatformMethod.TheVariants.{SystemExceptionThrowIt, TransactionExceptionInit, TransactionExceptionThrowIt}
 use Rattle.jc_platform.specs.declared.names.PlatformMethod.TheVariants.{ApduExceptionInit, ApduExceptionThrowIt, UserExceptionInit, UserExceptionThrowIt}
-use Rattle.jc_platform.specs.declared.names.PlatformMethod.TheVariants.{UtilArrayCompare, UtilArrayCopy, UtilGetShort, UtilMakeShort, UtilSetShort}
+use Rattle.jc_platform.specs.declared.names.PlatformMethod.TheVariants.{UtilArrayCompare, UtilArrayCopy, UtilArrayFill, UtilGetShort, UtilMakeShort, UtilSetShort}
+use Rattle.jc_platform.specs.declared.names.PlatformMethod.TheVariants.{UserExceptionInitWithoutReason}
 use Rattle.jc_linker.specs.Values.{Packages}
 use Rattle.jc_world.specs.Objects.{short_argument, reference_argument}
 use Rattle.jc_world.specs.Arrays.{bytes_in}
 use Rattle.jc_world.specs.Instances.{instance_at}
 use Rattle.jc_api_data.specs.Objects.{object_equals, object_call}
-use Rattle.jc_api_data.specs.Exceptions.{exception_set_reason, exception_get_reason, exception_throw_it, exception_call}
-use Rattle.jc_api_data.specs.UtilArguments.{pair_arguments, pair_of, two_of}
+use Rattle.jc_api_data.specs.Exceptions.{exception_set_no_reason, exception_set_reason, exception_get_reason, exception_throw_it, exception_call}
+use Rattle.jc_api_data.specs.UtilArguments.{counted_of, pair_arguments, pair_of, two_of}
 use Rattle.jc_api_data.specs.Util.{util_array_copy, util_array_compare, bytes_of_short, util_get_short, util_set_short, util_make_short, util_call}
+use Rattle.jc_api_data.specs.Util.{filling_of, util_array_fill}
 use Rattle.law_soundness.proofs.Still.{IsStillCall, still_ok, still_sets, still_sets_run, still_some, still_unless}
 
 module _ (g : MemoryState) where
@@ -40,6 +42,11 @@ module _ (g : MemoryState) where
   set_still args m =
       still_some g (reference_argument args 0) _ (λ own. still_some g (short_argument args 1) _ (λ reason. still_ok g (instance_at m own 1) _ (λ f.
       still_unless g (cell_refusal m own 0) _ (still_sets g m own 0 (cell.Short reason), tt))))
+
+  set_none_still : (args : List Cell) (m : MemoryState) → IsStillCall g (exception_set_no_reason args m)
+  unfolding exception_set_no_reason
+  set_none_still args m = still_some g (reference_argument args 0) _ (λ own. still_ok g (instance_at m own 1) _ (λ f.
+      still_unless g (cell_refusal m own 0) _ (still_sets g m own 0 (cell.Short (pos 0)), tt)))
 
   got_still : (args : List Cell) (m : MemoryState) → IsStillCall g (exception_get_reason args m)
   unfolding exception_get_reason
@@ -70,6 +77,7 @@ module _ (g : MemoryState) where
   exception_still ApduExceptionInit args m = set_still args m
   exception_still ApduExceptionThrowIt args m = thrown_still _ args
   exception_still UserExceptionInit args m = set_still args m
+  exception_still UserExceptionInitWithoutReason args m = set_none_still args m
   exception_still UserExceptionThrowIt args m = thrown_still _ args
   exception_still _ args m = tt
 
@@ -93,6 +101,11 @@ module _ (g : MemoryState) where
   short_set_still args p m = still_some g (short_argument args 2) _ (λ v. still_ok g (two_of args p m) _ (λ e.
       still_unless g (cells_refusal m e.array e.start (bytes_of_short v)) _ (still_sets_run g m e.array e.start (bytes_of_short v), tt)))
 
+  filled_still : (args : List Cell) (p : Packages) (m : MemoryState) → IsStillCall g (util_array_fill args p m)
+  unfolding util_array_fill
+  filled_still args p m = still_some g (short_argument args 3) _ (λ v. still_ok g (counted_of args p m) _ (λ e.
+      still_unless g (cells_refusal m e.array e.start (filling_of v e)) _ (still_sets_run g m e.array e.start (filling_of v e), tt)))
+
   short_made_still : (args : List Cell) → IsStillCall g (util_make_short args)
   unfolding util_make_short
   short_made_still args = still_some g (short_argument args 0) _ (λ high. still_some g (short_argument args 1) _ (λ low. tt))
@@ -101,6 +114,7 @@ module _ (g : MemoryState) where
   unfolding util_call
   util_still UtilArrayCompare args p m = compared_still args p m
   util_still UtilArrayCopy args p m = copied_still args p m
+  util_still UtilArrayFill args p m = filled_still args p m
   util_still UtilGetShort args p m = short_got_still args p m
   util_still UtilMakeShort args p m = short_made_still args
   util_still UtilSetShort args p m = short_set_still args p m

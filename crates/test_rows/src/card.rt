@@ -4,6 +4,7 @@ use crate::image::Image;
 use crate::order::{Order, read_order};
 use crate::piece::Piece;
 use crate::words::no_store;
+use jc_platform::example::EXAMPLE;
 use jc_words::layout::USUAL_CAPACITY;
 use jcard_rows::line::{Line, read_line};
 use jcard_rows::numbered::Numbered;
@@ -11,10 +12,11 @@ use std::alloc::{AllocError, Global};
 use std::mem;
 use test_row_files::report::Wrong;
 
-/// An image, the lines of a script for its card that are not run yet, the last ones that were cut, and how many rows were
-/// run.
+/// The platform table that was given, none for the example; an image, the lines of a script for its card that are not run
+/// yet, the last ones that were cut, and how many rows were run.
 #[derive(Drop)]
 pub(crate) struct Card {
+    table: String,
     image: Image,
     piece: Piece,
     cuts: Cuts,
@@ -25,7 +27,8 @@ impl Card {
     /// A new card of so many words, with the usual journal.
     pub(crate) fn new(alloc: Global, words: u16) -> Result<Card, AllocError> {
         Ok(Card {
-            image: Image::formatted(alloc, words, USUAL_CAPACITY)?,
+            table: String::new(alloc),
+            image: Image::formatted(alloc, words, USUAL_CAPACITY, EXAMPLE)?,
             piece: Piece::new(alloc),
             cuts: Cuts::new(alloc),
             rows: 0,
@@ -55,6 +58,11 @@ impl Card {
         }
         if let Order::Session(command) = order {
             self.piece.tell_session(command)?;
+            return Ok(None);
+        }
+        if let Order::Table(text) = order {
+            self.table.push_str(text)?;
+            self.table.push('\n')?;
             return Ok(None);
         }
         if let Order::Moves(moves) = order {
@@ -87,13 +95,19 @@ impl Card {
         order: Order,
     ) -> Result<Option<String>, AllocError> {
         match order {
-            Order::Card(words, capacity) => self.image = Image::formatted(alloc, words, capacity)?,
+            Order::Card(words, capacity) => {
+                let table = table_of(self.table.as_str());
+                self.image = Image::formatted(alloc, words, capacity, table)?;
+            }
             Order::Zeros(words) => self.image = Image::zeros(alloc, words)?,
             Order::Random(seed, count) => self.piece.add_random(alloc, number, seed, count)?,
             Order::Cut(depth) => return Ok(Some(self.cuts.cut(alloc, depth)?)),
             Order::Recoveries => return Ok(Some(self.cuts.told_recoveries(alloc)?)),
-            Order::Image(order) => return Ok(Some(self.image.answer(alloc, order)?)),
-            Order::Session(_) | Order::Moves(_) | Order::Script => {}
+            Order::Image(order) => {
+                let table = table_of(self.table.as_str());
+                return Ok(Some(self.image.answer(alloc, order, table)?));
+            }
+            Order::Table(_) | Order::Session(_) | Order::Moves(_) | Order::Script => {}
         }
         Ok(None)
     }
@@ -110,4 +124,9 @@ impl Card {
         self.rows = self.rows.saturating_add(piece.rows());
         Ok(wrong)
     }
+}
+
+/// The table that was given, or the one of the example.
+fn table_of(given: &str) -> &str {
+    if given.is_empty() { EXAMPLE } else { given }
 }

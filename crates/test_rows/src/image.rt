@@ -1,7 +1,6 @@
 //! A card's image while its power is off.
 use crate::order::ImageOrder;
 use crate::words::{Store, is_of_journal, no_store, read_word, store_of, words_of, zeros};
-use jc_platform::example::EXAMPLE;
 use jc_session::card::card::Card;
 use jc_session::card::formatting::{FormatFault, format};
 use jc_session::card::power_up::PowerFault;
@@ -24,9 +23,14 @@ impl Image {
         Image::of(alloc, zeros(alloc, count)?)
     }
 
-    /// A new image of so many words, with a journal of so many entries; its words are kept.
-    pub(crate) fn formatted(alloc: Global, count: u16, capacity: u16) -> Result<Image, AllocError> {
-        let (store, _) = format(MemStore::new(alloc, count)?, EXAMPLE.as_bytes(), capacity);
+    /// A new image of so many words, with a journal of so many entries and this platform table; its words are kept.
+    pub(crate) fn formatted(
+        alloc: Global,
+        count: u16,
+        capacity: u16,
+        table: &str,
+    ) -> Result<Image, AllocError> {
+        let (store, _) = format(MemStore::new(alloc, count)?, table.as_bytes(), capacity);
         Image::of(alloc, FuseStore::new(store))
     }
 
@@ -38,14 +42,15 @@ impl Image {
         })
     }
 
-    /// Carries an order out, and tells what came of it.
+    /// Carries an order out, and tells what came of it. A new image has this platform table.
     pub(crate) fn answer(
         &mut self,
         alloc: Global,
         order: ImageOrder,
+        table: &str,
     ) -> Result<String, AllocError> {
         match order {
-            ImageOrder::Format(writes, capacity) => self.format(alloc, writes, capacity),
+            ImageOrder::Format(writes, capacity) => self.format(alloc, writes, capacity, table),
             ImageOrder::Power(writes) => self.power_up(alloc, writes),
             ImageOrder::Words(first, count) => self.told_words(alloc, first, count),
             ImageOrder::Put(first, words) => self.put(alloc, first, words),
@@ -68,10 +73,16 @@ impl Image {
         store
     }
 
-    /// Makes an image of it: `ok`, `down` or a fault.
-    fn format(&mut self, alloc: Global, writes: u64, capacity: u16) -> Result<String, AllocError> {
+    /// Makes an image of it, with this platform table: `ok`, `down` or a fault.
+    fn format(
+        &mut self,
+        alloc: Global,
+        writes: u64,
+        capacity: u16,
+        table: &str,
+    ) -> Result<String, AllocError> {
         let store = self.take_store(alloc, writes);
-        let (store, result) = format(store, EXAMPLE.as_bytes(), capacity);
+        let (store, result) = format(store, table.as_bytes(), capacity);
         self.store = store;
         match result {
             Ok(()) => String::from_str(alloc, "ok"),

@@ -6,6 +6,8 @@ use jc_words::layout::USUAL_CAPACITY;
 pub(crate) enum Order<'a> {
     /// A new card of so many words, with a journal of so many entries.
     Card(u16, u16),
+    /// A line of the platform table that new cards have from now on.
+    Table(&'a str),
     /// A card of so many words, all of them 0.
     Zeros(u16),
     /// So many random commands from this seed.
@@ -67,6 +69,9 @@ fn read_card_order<'a>(name: &str, words: &'a str) -> Option<Order<'a>> {
     if name == "card" {
         let (words, capacity) = split_journal(words)?;
         return Some(Order::Card(words.parse::<u16>().ok()?, capacity));
+    }
+    if name == "table" {
+        return Some(Order::Table(words));
     }
     if name == "zeros" {
         return Some(Order::Zeros(words.parse::<u16>().ok()?));

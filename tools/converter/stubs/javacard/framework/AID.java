@@ -13,8 +13,20 @@ public final class AID {
         return false;
     }
 
+    public boolean RIDEquals(AID otherAID) {
+        return false;
+    }
+
     /** Copies the bytes, and returns their number. */
     public byte getBytes(byte[] dest, short offset) {
         return 0;
+    }
+
+    public byte getPartialBytes(short aidOffset, byte[] dest, short oOffset, byte oLength) {
+        return 0;
+    }
+
+    public boolean partialEquals(byte[] bArray, short offset, byte length) {
+        return false;
     }
 }

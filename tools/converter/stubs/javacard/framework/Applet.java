@@ -14,6 +14,10 @@ public abstract class Applet {
 
     public abstract void process(APDU apdu);
 
+    protected final boolean reSelectingApplet() {
+        return false;
+    }
+
     protected final void register() {
     }
 

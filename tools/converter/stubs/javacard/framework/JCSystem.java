@@ -5,6 +5,9 @@ public final class JCSystem {
     public static final byte NOT_A_TRANSIENT_OBJECT = 0;
     public static final byte CLEAR_ON_RESET = 1;
     public static final byte CLEAR_ON_DESELECT = 2;
+    public static final byte MEMORY_TYPE_PERSISTENT = 0;
+    public static final byte MEMORY_TYPE_TRANSIENT_RESET = 1;
+    public static final byte MEMORY_TYPE_TRANSIENT_DESELECT = 2;
 
     private JCSystem() {
     }
@@ -26,6 +29,18 @@ public final class JCSystem {
         return null;
     }
 
+    public static byte getAssignedChannel() {
+        return 0;
+    }
+
+    public static short getAvailableMemory(byte memoryType) {
+        return 0;
+    }
+
+    /** Puts the number of bytes, whose upper half comes first, into two elements. */
+    public static void getAvailableMemory(short[] buffer, short offset, byte memoryType) {
+    }
+
     public static short getMaxCommitCapacity() {
         return 0;
     }
@@ -40,6 +55,18 @@ public final class JCSystem {
 
     public static short getUnusedCommitCapacity() {
         return 0;
+    }
+
+    public static short getVersion() {
+        return 0;
+    }
+
+    public static boolean isAppletActive(AID theApplet) {
+        return false;
+    }
+
+    public static boolean isObjectDeletionSupported() {
+        return false;
     }
 
     public static byte isTransient(Object theObj) {
@@ -64,5 +91,8 @@ public final class JCSystem {
 
     public static short[] makeTransientShortArray(short length, byte event) {
         return null;
+    }
+
+    public static void requestObjectDeletion() {
     }
 }

@@ -14,6 +14,10 @@ public class OwnerPIN implements PIN {
         return 0;
     }
 
+    protected boolean getValidatedFlag() {
+        return false;
+    }
+
     public boolean isValidated() {
         return false;
     }
@@ -22,6 +26,9 @@ public class OwnerPIN implements PIN {
     }
 
     public void resetAndUnblock() {
+    }
+
+    protected void setValidatedFlag(boolean value) {
     }
 
     public void update(byte[] pin, short offset, byte length) {

@@ -2,6 +2,10 @@ package javacard.framework;
 
 /** A checked exception for applets. */
 public class UserException extends CardException {
+    public UserException() {
+        super((short) 0);
+    }
+
     public UserException(short reason) {
         super(reason);
     }

@@ -13,6 +13,10 @@ public class Util {
         return 0;
     }
 
+    public static short arrayFill(byte[] bArray, short bOff, short bLen, byte bValue) {
+        return 0;
+    }
+
     public static short getShort(byte[] bArray, short bOff) {
         return 0;
     }

@@ -5,7 +5,17 @@ use Rattle.jc_memory.proofs.memory.Memory.set_bytes.Goals as goal
 
 pub invariant_of-self : goal.invariant_of-self
 invariant_of-self g c =
-    let k = known_change c.self.inside.marks _ c.self.inside.heap c.set_run.new.self c.set_run.result _ _ c.set_run.ensures
+    let k = known_change c.self.inside.marks _ c.self.inside.heap c.set_run-done.new.self c.set_run-done.result _ _ c.set_run-done.ensures
+    (λ none kind. absurd (c.requires.values.numbers (ap (λ s. (facts s.heap.now c.args.object).kind) (sym c.self.view_is) ∙ kind)))
+    tt (
+      c.self.invariant.0.heap (ap (λ s. s.heap.down) c.self.view_is ∙ c.requires.up),
+      c.self.invariant.1 (ap (λ s. s.heap.down) c.self.view_is ∙ c.requires.up),
+    ) in
+    (record { heap = k.0; ram = c.self.invariant.0.ram }, k.1)
+
+pub invariant_of-self-in_default : goal.invariant_of-self-in_default
+invariant_of-self-in_default g c =
+    let k = known_change c.self.inside.marks _ c.self.inside.heap c.set_run-done.new.self c.set_run-done.result _ _ c.set_run-done.ensures
     (λ none kind. absurd (c.requires.values.numbers (ap (λ s. (facts s.heap.now c.args.object).kind) (sym c.self.view_is) ∙ kind)))
     tt (
       c.self.invariant.0.heap (ap (λ s. s.heap.down) c.self.view_is ∙ c.requires.up),

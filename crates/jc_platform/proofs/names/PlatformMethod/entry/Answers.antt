@@ -11,7 +11,7 @@ use Rattle.jc_platform.proofs.names.PlatformMethod.entry.Goals as goal
 pub bounds-all_methods-index : goal.bounds-all_methods-index
 bounds-all_methods-index c =
     let names = c.all_methods.result.now in
-    let many : length names ≡ 83 = sym (length-map names method_value) ∙ ap length c.all_methods.ensures ∙ method_places in
+    let many : length names ≡ 118 = sym (length-map names method_value) ∙ ap length c.all_methods.ensures ∙ method_places in
     omega (arith, c.index.ensures.bound, many)
 
 pub returns : goal.returns

@@ -1,24 +1,24 @@
-use Rattle.std.proofs.Common.{◌≡◌, ◌&&◌, ◌==◌, sym, ◌∙◌, rules, tests}
-use Rattle.std.specs.Prelude.{slice_index}
+use Rattle.std.proofs.Common.{◌≡◌, ◌&&◌, sym, ◌∙◌, rules, tests}
 use Rattle.std.specs.List.{find}
 use Rattle.std.proofs.lemmas.Iterator.{YieldsList-from_slice}
 use Rattle.std.proofs.lemmas.Iterator.Search.{find_from_yields_List}
 use Rattle.jc_platform.specs.Names.{methods}
-use Rattle.jc_platform.specs.Numbers.{method_number, same_class, same_kind}
-use Rattle.jc_platform.specs.Rows.{methods_of}
+use Rattle.jc_platform.specs.Numbers.{same_class, same_kind}
+use Rattle.jc_platform.specs.Rows.{is_token, methods_of}
 use Rattle.jc_platform.specs.Seen.{method_value}
+use Rattle.jc_platform.specs.Tokens.{token_of_method}
 use Rattle.jc_platform.proofs.ClassMethods.{find-filter}
 use Rattle.jc_platform.proofs.Lists.{found_through}
 use Rattle.jc_platform.proofs.platform.Platform.method_entry.Goals as goal
 
 pub returns : goal.returns
 returns c =
-    let tokens = c.args.self.now.method_tokens in
+    let tokens = c.args.self.now in
     let own = c.methods_of.result.now in
-    let found : c.copied.result ≡ find (λ e. same_kind e.kind c.args.kind && slice_index tokens (method_number e.method) == c.args.token) own =
-    cc (find_from_yields_List (λ e. same_kind e.kind c.args.kind && slice_index tokens (method_number e.method) == c.args.token) _ _ c.find.result
+    let found : c.copied.result ≡ find (λ e. same_kind e.kind c.args.kind && is_token (token_of_method tokens e.method) c.args.token) own =
+    cc (find_from_yields_List (λ e. same_kind e.kind c.args.kind && is_token (token_of_method tokens e.method) c.args.token) _ _ c.find.result
     c.find.ensures.ran (YieldsList-from_slice own cc) (λ x b q k. search (rules, tests))) in
-    found_through (λ e. same_kind e.kind c.args.kind && slice_index tokens (method_number e.method) == c.args.token) method_value own
+    found_through (λ e. same_kind e.kind c.args.kind && is_token (token_of_method tokens e.method) c.args.token) method_value own
     (methods_of c.args.class) c.copied.result c.methods_of.ensures found
     ∙ sym (find-filter (λ e. same_class e.class c.args.class) (λ e. same_kind e.kind c.args.kind)
-    (λ e. slice_index tokens (method_number e.method) == c.args.token) methods)
+    (λ e. is_token (token_of_method tokens e.method) c.args.token) methods)

@@ -1,0 +1,136 @@
+//! Notes of what was asked for where room was not there.
+ghost use Rattle.std.specs.Prelude.{◌≡◌, false};
+
+use crate::memory::Memory;
+use crate::notes::{Shortage, Space};
+use jc_heap::layout::{HEADER, TRANSIENT};
+use jc_heap::{ChangeRefusal, Facts, Kind};
+use jc_transient::{AREA_CELLS, ClearEvent, Ref};
+use jc_words::WordStore;
+
+// How many words an object of a kind takes, with so many cells.
+fn words_of(kind: Kind, cells: u16) -> u32 {
+    let words = match kind {
+        Kind::BooleanArray | Kind::ByteArray => u32::from(cells).div_ceil(2),
+        _ => u32::from(cells),
+    };
+    u32::from(HEADER) + words
+}
+
+// How many words so many cells stand in, from an index on.
+pub(crate) fn words_from(facts: Facts, i: u16, cells: usize) -> usize {
+    if facts.packed && cells > 0 {
+        let first = usize::from(i % 2);
+        return cells.saturating_add(first).div_ceil(2);
+    }
+    cells
+}
+
+// The area that an event clears.
+fn space_of(event: ClearEvent) -> Space {
+    match event {
+        ClearEvent::Reset => Space::ResetArea,
+        ClearEvent::Deselect => Space::DeselectArea,
+    }
+}
+
+impl<S: WordStore> Memory<S> {
+    // How many words the heap has left, if an object fits; else at most so many.
+    fn heap_left(&self) -> u32
+        requires { self.now.heap.down ≡ false }
+    {
+        let mut bit = 0x8000;
+        let mut cells = 0;
+        for _bits in 0..16 {
+            if self.heap.has_space(Kind::Instance, cells | bit) {
+                cells |= bit;
+            }
+            bit /= 2;
+        }
+        if self.heap.has_space(Kind::Instance, 0) {
+            u32::from(HEADER) + u32::from(cells)
+        } else {
+            u32::from(HEADER) - 1
+        }
+    }
+
+    // How many cells the area of an event has left.
+    fn area_left(&self, event: ClearEvent) -> u32
+        requires { self.now.heap.down ≡ false }
+    {
+        let mut end = 0;
+        for address in 0..self.heap.top() {
+            let reference = Ref::at(address);
+            if self.marks.has(reference) {
+                let facts = self.heap.facts(reference);
+                if facts.event == Some(event) {
+                    end = u32::from(facts.place) + u32::from(facts.length);
+                }
+            }
+        }
+        u32::from(AREA_CELLS).saturating_sub(end)
+    }
+
+    // Notes that the heap has not so many words left.
+    #[cold]
+    fn note_full_heap(&self, asked: u32)
+        requires { self.now.heap.down ≡ false }
+    {
+        if self.notes.are_kept() {
+            self.notes.shortage(Shortage {
+                space: Space::Heap,
+                asked,
+                left: self.heap_left(),
+            });
+        }
+    }
+
+    // Notes that there is no space for a persistent object of a kind, with so many cells.
+    #[cold]
+    pub(crate) fn note_no_space(&self, kind: Kind, cells: u16)
+        requires { self.now.heap.down ≡ false }
+    {
+        self.note_full_heap(words_of(kind, cells));
+    }
+
+    // Notes what of a new object there is no space for, if there is not.
+    #[cold]
+    pub(crate) fn note_want_of_space(&self, event: Option<ClearEvent>, kind: Kind, cells: u16)
+        requires { self.now.heap.down ≡ false }
+    {
+        let Some(event) = event else {
+            if !self.heap.has_space(kind, cells) {
+                self.note_no_space(kind, cells);
+            }
+            return;
+        };
+        let left = self.area_left(event);
+        if u32::from(cells) > left {
+            self.notes.shortage(Shortage {
+                space: space_of(event),
+                asked: u32::from(cells),
+                left,
+            });
+        } else if !self.heap.has_space(Kind::Instance, TRANSIENT - HEADER) {
+            self.note_full_heap(u32::from(TRANSIENT));
+        }
+    }
+
+    // Notes that the transaction has not so many places left.
+    #[cold]
+    pub(crate) fn note_full_transaction(&self, asked: usize) {
+        self.notes.shortage(Shortage {
+            space: Space::Transaction,
+            asked: u32::try_from(asked).unwrap_or(u32::MAX),
+            left: u32::from(self.heap.room()),
+        });
+    }
+
+    // Notes why changes of so many words were not made.
+    #[cold]
+    pub(crate) fn note_refused_change(&self, refusal: ChangeRefusal, asked: usize) {
+        if refusal == ChangeRefusal::CommitFull {
+            self.note_full_transaction(asked);
+        }
+    }
+}

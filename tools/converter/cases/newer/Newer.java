@@ -1,0 +1,126 @@
+package newer;
+
+import javacard.framework.AID;
+import javacard.framework.APDU;
+import javacard.framework.Applet;
+import javacard.framework.AppletEvent;
+import javacard.framework.ISO7816;
+import javacard.framework.ISOException;
+import javacard.framework.JCSystem;
+import javacard.framework.MultiSelectable;
+import javacard.framework.OwnerPIN;
+import javacard.framework.SystemException;
+import javacard.framework.UserException;
+import javacard.framework.Util;
+import javacardx.apdu.ExtendedLength;
+
+/** Calls what extended tables alone name. The instruction byte says which. */
+public class Newer extends Applet implements MultiSelectable, AppletEvent, ExtendedLength {
+    /** A PIN that is validated without its value. */
+    static class OpenPIN extends OwnerPIN {
+        OpenPIN() {
+            super((byte) 3, (byte) 4);
+        }
+
+        void open(boolean flag) {
+            setValidatedFlag(flag);
+        }
+
+        boolean isOpen() {
+            return getValidatedFlag();
+        }
+    }
+
+    private final byte[] bytes = new byte[8];
+    private final OpenPIN pin = new OpenPIN();
+
+    public static void install(byte[] array, short offset, byte length) {
+        new Newer().register();
+    }
+
+    public boolean select(boolean isActive) {
+        return false;
+    }
+
+    public void deselect(boolean isActive) {
+    }
+
+    public void uninstall() {
+    }
+
+    public void process(APDU apdu) {
+        if (selectingApplet()) {
+            return;
+        }
+        byte[] buffer = apdu.getBuffer();
+        short first = buffer[ISO7816.OFFSET_P1];
+        switch (buffer[ISO7816.OFFSET_INS]) {
+            case 0:
+                answer(apdu, JCSystem.getVersion(), Util.makeShort(JCSystem.getAssignedChannel(), APDU.getCLAChannel()));
+                break;
+            case 1:
+                apdu.setIncomingAndReceive();
+                answer(apdu, apdu.getIncomingLength(), apdu.getOffsetCdata());
+                break;
+            case 2:
+                Util.arrayFill(bytes, (short) 1, (short) 6, (byte) first);
+                apdu.setOutgoing();
+                apdu.setOutgoingLength((short) 8);
+                apdu.sendBytesLong(bytes, (short) 0, (short) 8);
+                break;
+            case 3:
+                answer(apdu, states(apdu), apdu.getCurrentState());
+                break;
+            case 4:
+                AID own = JCSystem.getAID();
+                byte length = own.getPartialBytes((short) 5, bytes, (short) 0, (byte) 0);
+                answer(apdu, told(own.partialEquals(buffer, ISO7816.OFFSET_CDATA, (byte) apdu.setIncomingAndReceive())), length);
+                break;
+            case 5:
+                pin.open(first != 0);
+                answer(apdu, told(pin.isOpen()), told(pin.isValidated()));
+                break;
+            case 6:
+                answer(apdu, reason(), told(JCSystem.isObjectDeletionSupported()));
+                break;
+            case 7:
+                answer(apdu, told(apdu.isISOInterindustryCLA()), told(apdu.isValidCLA()));
+                break;
+            case 8:
+                answer(apdu, told(APDU.getCurrentAPDU() == apdu), told(APDU.getCurrentAPDUBuffer() == buffer));
+                break;
+            case 9:
+                JCSystem.requestObjectDeletion();
+                break;
+            default:
+                ISOException.throwIt(ISO7816.SW_INS_NOT_SUPPORTED);
+        }
+    }
+
+    /** The states before and behind the data. */
+    private short states(APDU apdu) {
+        byte before = apdu.getCurrentState();
+        apdu.setIncomingAndReceive();
+        return Util.makeShort(before, apdu.getCurrentState());
+    }
+
+    /** The reason of an exception that has none. */
+    private short reason() {
+        try {
+            throw new UserException();
+        } catch (UserException exception) {
+            return exception.getReason();
+        }
+    }
+
+    private static short told(boolean flag) {
+        return flag ? (short) 1 : (short) 0;
+    }
+
+    private static void answer(APDU apdu, short one, short other) {
+        byte[] buffer = apdu.getBuffer();
+        Util.setShort(buffer, (short) 0, one);
+        Util.setShort(buffer, (short) 2, other);
+        apdu.setOutgoingAndSend((short) 0, (short) 4);
+    }
+}

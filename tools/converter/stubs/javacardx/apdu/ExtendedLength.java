@@ -1,0 +1,5 @@
+package javacardx.apdu;
+
+/** What an applet implements that takes commands of extended length. */
+public interface ExtendedLength {
+}
