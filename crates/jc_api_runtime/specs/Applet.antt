@@ -11,7 +11,7 @@ use Rattle.jc_linker.specs.Values.{Packages}
 use Rattle.jc_linker.specs.Lookups.{applet_entry}
 use Rattle.jc_platform.specs.declared.names.PlatformMethod.{PlatformMethod}
 use Rattle.jc_platform.specs.declared.names.PlatformMethod.TheVariants.{AppletDeselect, AppletGetShareableInterfaceObject, AppletRegister, AppletRegisterBytes}
-use Rattle.jc_platform.specs.declared.names.PlatformMethod.TheVariants.{AppletSelect, AppletSelectingApplet}
+use Rattle.jc_platform.specs.declared.names.PlatformMethod.TheVariants.{AppletSelect, AppletSelectingApplet, AppletReSelectingApplet}
 use Rattle.jc_world.specs.declared.native_result.NativeResult.TheVariants.{ReturnVoid, ReturnValue}
 use Rattle.jc_world.specs.NativeCalls.{NativeProgram, return_value, throw_exception, code_fault, if_some, if_ok}
 use Rattle.jc_world.specs.Objects.{short_argument, reference_argument}
@@ -50,6 +50,7 @@ applet_call AppletSelect args p m = returns_bool true
 applet_call AppletDeselect args p m = return_value ReturnVoid
 applet_call AppletGetShareableInterfaceObject args p m = return_value (ReturnValue (Reference 0))
 applet_call AppletSelectingApplet args p m = returns_bool m.registers.selecting
+applet_call AppletReSelectingApplet args p m = returns_bool m.registers.reselecting
 applet_call AppletRegister args p m = applet_register args p m
 applet_call AppletRegisterBytes args p m = applet_register_bytes args p m
 applet_call _ args p m = code_fault

@@ -13,6 +13,7 @@ use Rattle.jc_platform.specs.declared.names.PlatformMethod.TheVariants.{JcSystem
 use Rattle.jc_platform.specs.declared.names.PlatformMethod.TheVariants.{JcSystemMakeTransientObjectArray, JcSystemMakeTransientShortArray}
 use Rattle.jc_platform.specs.declared.names.PlatformMethod.TheVariants.{JcSystemGetVersion, JcSystemIsObjectDeletionSupported}
 use Rattle.jc_platform.specs.declared.names.PlatformMethod.TheVariants.{JcSystemRequestObjectDeletion, JcSystemIsAppletActive, JcSystemGetAssignedChannel}
+use Rattle.jc_platform.specs.declared.names.PlatformMethod.TheVariants.{JcSystemGetAvailableMemory, JcSystemGetAvailableMemoryShorts}
 use Rattle.jc_frames.specs.declared.outcome.Exception.{Exception}
 use Rattle.jc_frames.specs.declared.outcome.Exception.TheVariants.{SystemException}
 use Rattle.jc_world.specs.NativeCalls.{NativeProgram, code_fault, throw_exception}
@@ -20,6 +21,7 @@ use Rattle.jc_world.specs.Answers.{returns_bool, returns_short}
 use Rattle.jc_api_runtime.specs.SystemTransactions.{jc_system_begin_transaction, jc_system_commit_transaction, jc_system_abort_transaction}
 use Rattle.jc_api_runtime.specs.SystemTransactions.{jc_system_get_transaction_depth, jc_system_get_max_commit_capacity, jc_system_get_unused_commit_capacity}
 use Rattle.jc_api_runtime.specs.SystemTransient.{jc_system_make_transient_array, jc_system_is_transient}
+use Rattle.jc_api_runtime.specs.SystemMemory.{jc_system_get_available_memory, jc_system_get_available_memory_shorts}
 use Rattle.jc_api_runtime.specs.SystemSharing.{returns_reference, jc_system_get_aid, jc_system_get_previous_context_aid, jc_system_lookup_aid}
 use Rattle.jc_api_runtime.specs.SystemSharing.{jc_system_get_applet_shareable_interface_object, jc_system_is_applet_active}
 
@@ -65,4 +67,6 @@ system_call JcSystemIsObjectDeletionSupported args p m = jc_system_is_object_del
 system_call JcSystemRequestObjectDeletion args p m = jc_system_request_object_deletion
 system_call JcSystemIsAppletActive args p m = jc_system_is_applet_active args p m
 system_call JcSystemGetAssignedChannel args p m = jc_system_get_assigned_channel
+system_call JcSystemGetAvailableMemory args p m = jc_system_get_available_memory args m
+system_call JcSystemGetAvailableMemoryShorts args p m = jc_system_get_available_memory_shorts args p m
 system_call _ args p m = code_fault

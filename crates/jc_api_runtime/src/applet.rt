@@ -105,8 +105,8 @@ fn applet_register_bytes<S: WordStore>(
     register_bytes(bytes, instance, memory, linked)
 }
 
-/// `Applet.select`, `Applet.deselect`, `Applet.getShareableInterfaceObject`, `Applet.selectingApplet`: what
-/// class `Applet` does itself, where no class below overrides it; its `register` methods are called here too.
+/// `Applet.select`, `Applet.deselect`, `Applet.getShareableInterfaceObject`, `Applet.selectingApplet`,
+/// `Applet.reSelectingApplet`: what class `Applet` does itself, where no class below overrides it; its `register` methods are called here too.
 /// `process`, which is abstract, and a method of another class are code faults.
 #[tactic(auto, unfolding(crate::specs::Applet::applet_call))]
 pub fn call_applet<S: WordStore>(
@@ -126,6 +126,7 @@ pub fn call_applet<S: WordStore>(
             Ok(NativeResult::ReturnValue(Cell::Reference(Ref::null())))
         }
         PlatformMethod::AppletSelectingApplet => Ok(boolean(memory.registers().selecting)),
+        PlatformMethod::AppletReSelectingApplet => Ok(boolean(memory.registers().reselecting)),
         PlatformMethod::AppletRegister => applet_register(args, memory, linked),
         PlatformMethod::AppletRegisterBytes => applet_register_bytes(args, memory, linked),
         _ => Err(StepExit::End(Outcome::Fault)),

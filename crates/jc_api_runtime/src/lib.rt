@@ -10,6 +10,7 @@ pub mod cells;
 mod register;
 mod register_checks;
 pub mod system;
+mod system_memory;
 pub mod system_sharing;
 pub mod system_transactions;
 pub mod system_transient;

@@ -4,6 +4,7 @@ ghost use Rattle.jc_memory.specs.Programs.{Executes};
 ghost use Rattle.jc_world.specs.NativeCalls.{after_call};
 ghost use Rattle.jc_api_runtime.specs.System.{system_call};
 
+use crate::system_memory::{jc_system_get_available_memory, jc_system_get_available_memory_shorts};
 use crate::system_sharing::{
     jc_system_get_aid, jc_system_get_applet_shareable_interface_object,
     jc_system_get_previous_context_aid, jc_system_is_applet_active, jc_system_lookup_aid,
@@ -21,12 +22,12 @@ use jc_memory::Memory;
 use jc_platform::names::PlatformMethod::{
     self, JcSystemAbortTransaction, JcSystemBeginTransaction, JcSystemCommitTransaction,
     JcSystemGetAid, JcSystemGetAppletShareableInterfaceObject, JcSystemGetAssignedChannel,
-    JcSystemGetMaxCommitCapacity, JcSystemGetPreviousContextAid, JcSystemGetTransactionDepth,
-    JcSystemGetUnusedCommitCapacity, JcSystemGetVersion, JcSystemIsAppletActive,
-    JcSystemIsObjectDeletionSupported, JcSystemIsTransient, JcSystemLookupAid,
-    JcSystemMakeTransientBooleanArray, JcSystemMakeTransientByteArray,
-    JcSystemMakeTransientObjectArray, JcSystemMakeTransientShortArray,
-    JcSystemRequestObjectDeletion,
+    JcSystemGetAvailableMemory, JcSystemGetAvailableMemoryShorts, JcSystemGetMaxCommitCapacity,
+    JcSystemGetPreviousContextAid, JcSystemGetTransactionDepth, JcSystemGetUnusedCommitCapacity,
+    JcSystemGetVersion, JcSystemIsAppletActive, JcSystemIsObjectDeletionSupported,
+    JcSystemIsTransient, JcSystemLookupAid, JcSystemMakeTransientBooleanArray,
+    JcSystemMakeTransientByteArray, JcSystemMakeTransientObjectArray,
+    JcSystemMakeTransientShortArray, JcSystemRequestObjectDeletion,
 };
 use jc_words::WordStore;
 use jc_world::{NativeResult, StepExit, boolean, short};
@@ -98,6 +99,10 @@ pub fn call_system<S: WordStore>(
         JcSystemRequestObjectDeletion => Err(StepExit::Throw(ILLEGAL_USE_OF_SYSTEM)),
         JcSystemIsAppletActive => jc_system_is_applet_active(args, memory, linked),
         JcSystemGetAssignedChannel => Ok(short(BASIC_CHANNEL)),
+        JcSystemGetAvailableMemory => jc_system_get_available_memory(args, memory),
+        JcSystemGetAvailableMemoryShorts => {
+            jc_system_get_available_memory_shorts(args, memory, linked)
+        }
         _ => Err(StepExit::End(Outcome::Fault)),
     }
 }

@@ -22,7 +22,7 @@ use jc_world::contexts::{context_of, selected_context};
 use jc_world::{NativeResult, StepExit, not_negative, short};
 
 // CLEAR_ON_RESET or CLEAR_ON_DESELECT by its number; ILLEGAL_VALUE for another.
-fn event_named(number: i16) -> Result<ClearEvent, FrameExit>
+pub(crate) fn event_named(number: i16) -> Result<ClearEvent, FrameExit>
     ensures { result ≡ event_named number }
 {
     if number == 1 {

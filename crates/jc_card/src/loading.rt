@@ -62,6 +62,16 @@ fn response_of_end(ended: Result<Result<(), LoadRefusal>, StoreDown>) -> Result<
 }
 
 impl<S: WordStore> Card<S> {
+    // Notes where the component that ends can no longer be right, if somebody asks why.
+    fn note_component(&self) {
+        let notes = self.memory.notes();
+        if notes.are_kept() {
+            if let Some(load) = &self.load {
+                load.note_component(self.alloc, notes);
+            }
+        }
+    }
+
     /// Command 80 B0 begin load: opens a load; one that was open is dropped.
     pub(crate) fn begin_load(&mut self) -> Response
         requires up { self.old.memory.heap.down ≡ false }
@@ -104,6 +114,7 @@ impl<S: WordStore> Card<S> {
         ensures { Executes (end_component self.old) self.old.memory
             (after_response result self.new) }
     {
+        self.note_component();
         match &mut self.load {
             Some(load) => response_to(load.end_component()),
             None => response_to(Err(LoadRefusal::OutOfSequence)),

@@ -24,7 +24,7 @@ use Rattle.jc_dispatch.specs.Phases.{then_with, close, method_run}
 
 -- an applet of a package is being installed, by the entry of its Applet component with this number
 abbrev pub with_installation : Installation → Registers → Registers
-with_installation installation g = record g { installation = installation; depth = Outside; selecting = false; apdu = record { expected = 0; phase = Waiting } }
+with_installation installation g = record g { installation = installation; depth = Outside; selecting = false; reselecting = false; apdu = record { expected = 0; phase = Waiting } }
 
 -- the number that the next applet gets
 abbrev pub next_applet : MemoryState → AppletNumber

@@ -1,6 +1,6 @@
 -- Selecting an applet, and the commands that it answers (runtime environment specification, applet selection and
 -- processing).
-use Rattle.std.specs.Prelude.{ℕ, Bool, true, false, List, [], ◌∷◌, take, Option, Some, None, if◌then◌else◌}
+use Rattle.std.specs.Prelude.{ℕ, ◌==◌, Bool, true, false, ◌&&◌, List, [], ◌∷◌, take, Option, Some, None, if◌then◌else◌}
 use Rattle.jc_transient.specs.declared.cell.ClearEvent.TheVariants.{Deselect}
 use Rattle.jc_frames.specs.declared.cell.Cell.TheVariants.{Reference}
 use Rattle.jc_memory.specs.declared.registers.ApduPhase.TheVariants.{Waiting}
@@ -24,19 +24,32 @@ with_selected applet_selection g = record g { selected = applet_selection }
 
 -- a command that expects so many bytes comes to the selected applet; it may be the one that selected it
 abbrev pub with_command : ℕ → Bool → Registers → Registers
-with_command expected selecting g = record g { selecting = selecting; apdu = record { expected = expected; phase = Waiting } }
+with_command expected selecting g = record g { selecting = selecting; reselecting = selecting && g.reselecting; apdu = record { expected = expected; phase = Waiting } }
+
+-- both are the same applet
+abbrev pub is_same_applet : Option AppletNumber → Option AppletNumber → Bool
+is_same_applet (Some a) (Some b) = a.0 == b.0
+is_same_applet _ _ = false
+
+-- another applet, or none, is about to be selected: whether it is the one that is
+abbrev pub with_next : Option AppletNumber → Registers → Registers
+with_next next g = record g { reselecting = is_same_applet next g.selected }
 
 -- the first five bytes of a command, of which the fifth may be missing
 abbrev pub header_of : List ℕ → List ℕ
 header_of bytes = take 5 bytes
 
--- the selected applet is left: its deselect runs, however it ends, and then what is cleared at a deselection is
-unfoldable pub deselection : ℕ → Packages → Option AppletNumber → MemoryState → Program ℕ
-deselection budget p None m = then_with (ClearTransient Deselect) m (λ v. Finish budget)
-deselection budget p (Some a) m =
+-- an applet is left: its deselect runs, however it ends, and then what is cleared at a deselection is
+unfoldable pub applet_left : ℕ → Packages → Option AppletNumber → MemoryState → Program ℕ
+applet_left budget p None m = then_with (ClearTransient Deselect) m (λ v. Finish budget)
+applet_left budget p (Some a) m =
     bind (applet_method_call budget p AppletDeselect (instance_of m a.0) (Reference (instance_of m a.0) ∷ []) (Applet a) m) m (λ end v.
     bind (close v) v (λ u w.
     then_with (ClearTransient Deselect) w (λ x. Finish end.0)))
+
+-- the selected applet is left for the next one, or for the manager
+unfoldable pub deselection : ℕ → Packages → Option AppletNumber → MemoryState → Program ℕ
+deselection budget p next m = then_with (SetRegisters (with_next next m.registers)) m (λ v. applet_left budget p v.registers.selected v)
 
 -- an applet answers a command: the header lies in the buffer, process runs, and what it leaves open ends. Its status is
 -- read before
@@ -57,12 +70,12 @@ after_select false budget p a expected m = then_with (SetRegisters (with_selecte
 -- command
 unfoldable pub applet_selection : ℕ → Packages → AppletNumber → ℕ → MemoryState → Program AppletResult
 applet_selection budget p a expected m =
-    bind (deselection budget p m.registers.selected m) m (λ rest v.
+    bind (deselection budget p (Some a) m) m (λ rest v.
     then_with (SetRegisters (with_selected (Some a) v.registers)) v (λ w.
     bind (applet_method_call rest p AppletSelect (instance_of w a.0) (Reference (instance_of w a.0) ∷ []) (Applet a) w) w (λ end x.
     bind (close x) x (λ u y. after_select (is_select_accepted end.1) end.0 p a expected y))))
 
 -- the manager is selected: the applet that was is left, and none is
 unfoldable pub manager_selection : ℕ → Packages → MemoryState → Program AppletResult
-manager_selection budget p m = bind (deselection budget p m.registers.selected m) m
+manager_selection budget p m = bind (deselection budget p None m) m
     (λ rest v. then_with (SetRegisters (with_selected None v.registers)) v (λ w. Finish Done))

@@ -8,7 +8,7 @@ use crate::closing::close;
 use jc_frames::Outcome;
 use jc_interp::run;
 use jc_linker::linked::Linked;
-use jc_memory::Memory;
+use jc_memory::{Memory, Phase};
 use jc_words::{StoreDown, WordStore};
 
 /// Runs such code, with a stack of at most `max_stack` cells and so many locals, and ends what it leaves
@@ -28,6 +28,7 @@ pub fn run_command_code<S: WordStore>(
         memory.old (after_step result memory.new) }
     ensures outside { OnOk result (memory.new.heap.begun ≡ false) }
 {
+    memory.notes().phase(Phase::RunCode);
     let (_, outcome) = run::run_ad_hoc(max_stack, locals, code, budget, memory, linked)?;
     close(memory)?;
     Ok(outcome)

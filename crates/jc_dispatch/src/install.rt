@@ -12,7 +12,7 @@ use crate::phase::run_for;
 use jc_frames::{Cell, Outcome};
 use jc_linker::linked::Linked;
 use jc_memory::{
-    ApduPhase, ApduState, AppletNumber, Depth, Installation, Memory, Owner, PackageNumber,
+    ApduPhase, ApduState, AppletNumber, Depth, Installation, Memory, Owner, PackageNumber, Phase,
     Registers,
 };
 use jc_transient::ClearEvent;
@@ -25,6 +25,7 @@ fn with_installation(installation: Installation, registers: Registers) -> Regist
         installation,
         depth: Depth::Outside,
         selecting: false,
+        reselecting: false,
         apdu: ApduState {
             expected: 0,
             phase: ApduPhase::Waiting,
@@ -82,6 +83,7 @@ pub fn install<S: WordStore>(
         memory.old) memory.old (after_step result memory.new) }
     ensures outside { OnOk result (memory.new.heap.begun ≡ false) }
 {
+    memory.notes().phase(Phase::Install);
     let owner = Owner::Applet(next_applet(memory));
     memory.begin();
     let registers = memory.registers();

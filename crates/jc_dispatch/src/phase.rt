@@ -10,7 +10,7 @@ use jc_interp::begin;
 use jc_interp::run::run_methods;
 use jc_linker::linked::Linked;
 use jc_linker::target::Method;
-use jc_memory::{AppletNumber, Memory, Owner, Registers};
+use jc_memory::{AppletNumber, Memory, Notes, Owner, Phase, Registers};
 use jc_platform::names::PlatformMethod;
 use jc_registry::instance_of_applet;
 use jc_transient::Ref;
@@ -92,6 +92,17 @@ fn method_named<S: WordStore>(
     linked.method_at(facts.class(), 0, VirtualToken::Public(token))
 }
 
+// Notes which method of an applet begins. Of the one before nothing is said any more.
+fn note_phase(name: PlatformMethod, notes: &Notes) {
+    notes.forget();
+    match name {
+        PlatformMethod::AppletSelect => notes.phase(Phase::Select),
+        PlatformMethod::AppletDeselect => notes.phase(Phase::Deselect),
+        PlatformMethod::AppletProcess => notes.phase(Phase::Process),
+        _ => {}
+    }
+}
+
 // What the platform's class Applet does itself.
 fn default_of(name: PlatformMethod) -> Outcome
     ensures { result ≡ default_of name }
@@ -118,6 +129,7 @@ pub(crate) fn call_applet_method<S: WordStore>(
     ensures { Executes (applet_method_call budget linked.now name applet arguments.now owner
         memory.old) memory.old (after_step result memory.new) }
 {
+    note_phase(name, memory.notes());
     match method_named(name, applet, memory, linked) {
         None => Ok((budget, Outcome::Fault)),
         Some(Method::Native(native)) => Ok((budget, default_of(native))),

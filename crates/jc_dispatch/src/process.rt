@@ -20,6 +20,7 @@ fn with_command(expected: u16, selecting: bool, registers: Registers) -> Registe
 {
     Registers {
         selecting,
+        reselecting: selecting && registers.reselecting,
         apdu: ApduState {
             expected,
             phase: ApduPhase::Waiting,

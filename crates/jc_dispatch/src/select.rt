@@ -2,7 +2,7 @@
 ghost use Rattle.std.specs.Prelude.{OnOk, ◌≡◌, false};
 ghost use Rattle.jc_memory.specs.Programs.{Executes};
 ghost use Rattle.jc_heap.specs.Completions.{after_step};
-ghost use Rattle.jc_dispatch.specs.Selecting.{deselection, manager_selection, applet_selection};
+ghost use Rattle.jc_dispatch.specs.Selecting.{applet_left, deselection, is_same_applet, manager_selection, applet_selection, with_next};
 
 use crate::applet_result::{AppletResult, is_select_accepted};
 use crate::closing::close;
@@ -15,10 +15,28 @@ use jc_platform::names::PlatformMethod;
 use jc_transient::ClearEvent;
 use jc_words::{StoreDown, WordStore};
 
-// The selected applet is left: its `deselect` runs, and what is cleared at a deselection is. The answer
-// is what is left of the command's instructions.
-#[tactic(auto, unfolding(crate::specs::Selecting::deselection), using(jc_memory::proofs::ProgramLemmas::in_two_steps))]
-fn leave<S: WordStore>(
+fn is_same_applet(next: Option<AppletNumber>, selected: Option<AppletNumber>) -> bool
+    ensures { result ≡ is_same_applet next selected }
+{
+    match (next, selected) {
+        (Some(next), Some(selected)) => next.0 == selected.0,
+        _ => false,
+    }
+}
+
+fn with_next(next: Option<AppletNumber>, registers: Registers) -> Registers
+    ensures { result ≡ with_next next registers }
+{
+    Registers {
+        reselecting: is_same_applet(next, registers.selected),
+        ..registers
+    }
+}
+
+// An applet is left: its `deselect` runs, and what is cleared at a deselection is. The answer is what is left of the
+// command's instructions.
+#[tactic(auto, unfolding(crate::specs::Selecting::applet_left), using(jc_memory::proofs::ProgramLemmas::in_two_steps))]
+fn leave_applet<S: WordStore>(
     budget: u32,
     applet: Option<AppletNumber>,
     memory: &mut Memory<S>,
@@ -26,7 +44,7 @@ fn leave<S: WordStore>(
 ) -> Result<u32, StoreDown>
     requires up { memory.old.heap.down ≡ false }
     requires outside { memory.old.heap.begun ≡ false }
-    ensures does { Executes (deselection budget linked.now applet memory.old) memory.old
+    ensures does { Executes (applet_left budget linked.now applet memory.old) memory.old
         (after_step result memory.new) }
     ensures outside { OnOk result (memory.new.heap.begun ≡ false) }
 {
@@ -42,6 +60,26 @@ fn leave<S: WordStore>(
     close(memory)?;
     memory.clear(ClearEvent::Deselect);
     Ok(rest)
+}
+
+// The selected applet is left for the next one, or for the manager. The answer is what is left of the command's
+// instructions.
+#[tactic(auto, unfolding(crate::specs::Selecting::deselection))]
+fn leave<S: WordStore>(
+    budget: u32,
+    next: Option<AppletNumber>,
+    memory: &mut Memory<S>,
+    linked: &Linked,
+) -> Result<u32, StoreDown>
+    requires up { memory.old.heap.down ≡ false }
+    requires outside { memory.old.heap.begun ≡ false }
+    ensures does { Executes (deselection budget linked.now next memory.old) memory.old
+        (after_step result memory.new) }
+    ensures outside { OnOk result (memory.new.heap.begun ≡ false) }
+{
+    let registers = with_next(next, memory.registers());
+    memory.set_registers(registers);
+    leave_applet(budget, registers.selected, memory, linked)
 }
 
 /// SELECT of an applet by a command that expects so many bytes: the selected one is deselected, the new one's
@@ -60,8 +98,7 @@ pub fn select<S: WordStore>(
         memory.old (after_step result memory.new) }
     ensures outside { OnOk result (memory.new.heap.begun ≡ false) }
 {
-    let before = memory.registers().selected;
-    let rest = leave(budget, before, memory, linked)?;
+    let rest = leave(budget, Some(applet), memory, linked)?;
     let registers = memory.registers();
     memory.set_registers(Registers {
         selected: Some(applet),
@@ -99,8 +136,7 @@ pub fn select_manager<S: WordStore>(
         (after_step result memory.new) }
     ensures outside { OnOk result (memory.new.heap.begun ≡ false) }
 {
-    let before = memory.registers().selected;
-    leave(budget, before, memory, linked)?;
+    leave(budget, None, memory, linked)?;
     let registers = memory.registers();
     memory.set_registers(Registers {
         selected: None,

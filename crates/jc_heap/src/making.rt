@@ -1,5 +1,6 @@
 //! New objects.
-ghost use Rattle.std.specs.Prelude.{nat_le, ◌≡◌, [], ◌∷◌, false, IfOk, Some, ◌+◌};
+ghost use Rattle.std.specs.Prelude.{nat_le, ◌≡◌, [], ◌∷◌, false, IfOk, Some, ◌+◌, ◌-◌};
+ghost use Rattle.jc_transient.specs.State.{area_size};
 ghost use Rattle.jc_heap.specs.Object.{AnObject, new_object, object_size, new_transient, header_word};
 ghost use Rattle.jc_heap.specs.Heap.{is_allocated, heap_item_at, area_end, limit};
 ghost use Rattle.jc_heap.specs.Moves.{AddTransient, PerformsMovesUnless, new_move, refusal_of_object, refusal_of_transient};
@@ -15,6 +16,22 @@ use jc_words::WordStore;
 use jc_words::layout::TOP;
 
 impl<S: WordStore> Heap<S> {
+    /// How many words new objects can still take.
+    pub fn free_words(&self) -> u16
+        requires { self.now.down ≡ false }
+        ensures { result ≡ limit self.now - self.now.now.top }
+    {
+        self.size.saturating_sub(self.top())
+    }
+
+    /// How many cells of an event's area new objects can still take, of 2048.
+    pub fn free_cells(&self, event: ClearEvent) -> u16
+        requires { self.now.down ≡ false }
+        ensures { result ≡ area_size - area_end self.now.now event }
+    {
+        AREA_CELLS.saturating_sub(self.journal.read(area_word(event)))
+    }
+
     /// Whether there is space for a new persistent object of a kind, with so many cells.
     pub fn has_space(&self, kind: Kind, length: u16) -> bool
         requires { self.now.down ≡ false }

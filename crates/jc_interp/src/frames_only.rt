@@ -8,12 +8,14 @@ ghost use Rattle.jc_interp.specs.Stepping.{code_of, instruction_at, instruction_
 ghost use Rattle.jc_interp.specs.Running.{run_of};
 ghost use Rattle.jc_interp.specs.PausedSteps.{after_part, after_frames_step, run_rest};
 
+use crate::explain::note_step;
 use jc_frames::arithmetic_ops::arithmetic_instruction;
 use jc_frames::branch_ops::branch_instruction;
 use jc_frames::constant_ops::constant_instruction;
 use jc_frames::local_ops::local_instruction;
 use jc_frames::stack_ops::stack_instruction;
 use jc_frames::{CodeFault, FrameExit, Frames, Outcome};
+use jc_memory::Notes;
 use jc_opcodes::decode::decode;
 use jc_opcodes::instr::{ArrayOp, FieldOp, Instr, InvokeOp, ObjectOp, ReturnOp};
 
@@ -70,7 +72,7 @@ pub(crate) struct PausedStep {
 }
 
 // Whether code that was lent has the instruction.
-const fn is_plain(instr: Instr) -> bool
+pub(crate) const fn is_plain(instr: Instr) -> bool
     ensures { result ≡ is_plain instr }
 {
     match instr {
@@ -160,4 +162,48 @@ pub(crate) fn run_in_frames(
         }
     }
     None
+}
+
+/// The same, and notes each instruction before it is carried out.
+pub(crate) fn run_with_notes(
+    code: &[u8],
+    budget: u32,
+    frames: &mut Frames,
+    notes: &Notes,
+) -> Option<(u32, PausedStep)>
+    requires short { length code.now < 2 ^ 16 }
+    ensures same { (lent : List ℕ) (p : Packages) (m : MemoryState)
+        → code.now ≡ code_of lent p frames.old.current.origin.package_number
+        → run_of budget lent p frames.old m ≡ run_rest result lent p frames.new m }
+    ensures fewer { IfSome result (λ r. r.0 < budget) }
+{
+    for turns in 0..budget {
+        let left = budget - (turns + 1);
+        note_step(frames, notes);
+        if let Err(pause) = step_in_frames(code, frames) {
+            return Some((left, pause));
+        }
+    }
+    None
+}
+
+/// The same, with notes where somebody asks for each instruction.
+#[inline(always)]
+pub(crate) fn run_turn(
+    code: &[u8],
+    budget: u32,
+    frames: &mut Frames,
+    notes: &Notes,
+) -> Option<(u32, PausedStep)>
+    requires short { length code.now < 2 ^ 16 }
+    ensures same { (lent : List ℕ) (p : Packages) (m : MemoryState)
+        → code.now ≡ code_of lent p frames.old.current.origin.package_number
+        → run_of budget lent p frames.old m ≡ run_rest result lent p frames.new m }
+    ensures fewer { IfSome result (λ r. r.0 < budget) }
+{
+    if notes.keep_steps() {
+        run_with_notes(code, budget, frames, notes)
+    } else {
+        run_in_frames(code, budget, frames)
+    }
 }

@@ -4,7 +4,8 @@ ghost use Rattle.jc_memory.specs.Programs.{Executes};
 ghost use Rattle.jc_heap.specs.Completions.{after_step};
 ghost use Rattle.jc_interp.specs.Running.{run_methods, run_of, run_ad_hoc};
 
-use crate::frames_only::run_in_frames;
+use crate::explain::{note_budget, note_end};
+use crate::frames_only::run_turn;
 use crate::step::{code_of, finish};
 use jc_frames::{Frames, Origin, Outcome};
 use jc_linker::linked::Linked;
@@ -31,11 +32,15 @@ pub fn run_of<S: WordStore>(
     let mut left = budget;
     let mut number = frames.origin().package_number;
     let mut code = code_of(lent, number, linked);
-    while let Some((rest, pause)) = run_in_frames(code, left, frames) {
+    while let Some((rest, pause)) = run_turn(code, left, frames, memory.notes()) {
         left = rest;
+        let place = pause.place;
         match finish(pause, frames, memory, linked) {
             Ok(()) => {}
-            Err(StepExit::End(outcome)) => return Ok((left, outcome)),
+            Err(StepExit::End(outcome)) => {
+                note_end(&outcome, left, code, place, frames, memory, linked);
+                return Ok((left, outcome));
+            }
             Err(StepExit::Throw(_)) => return Ok((left, Outcome::Fault)),
             Err(StepExit::Down) => return Err(StoreDown),
         }
@@ -44,6 +49,7 @@ pub fn run_of<S: WordStore>(
             code = code_of(lent, number, linked);
         }
     }
+    note_budget(frames, memory);
     Ok((0, Outcome::Fault))
 }
 

@@ -24,6 +24,7 @@ at_reset = record {
   previous = Runtime;
   selected = None;
   selecting = false;
+  reselecting = false;
   depth = Outside;
   installation = Idle;
   apdu = record { expected = 0; phase = Waiting };

@@ -103,6 +103,8 @@ pub struct Registers {
     pub selected: Option<AppletNumber>,
     /// The command is the one that selected the applet.
     pub selecting: bool,
+    /// The command selects the applet that was selected before it.
+    pub reselecting: bool,
     pub depth: Depth,
     pub installation: Installation,
     pub apdu: ApduState,
@@ -118,6 +120,7 @@ impl Registers {
             previous: Owner::Runtime,
             selected: None,
             selecting: false,
+            reselecting: false,
             depth: Depth::Outside,
             installation: Installation::Idle,
             apdu: ApduState {

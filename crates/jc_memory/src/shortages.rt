@@ -5,7 +5,7 @@ use crate::memory::Memory;
 use crate::notes::{Shortage, Space};
 use jc_heap::layout::{HEADER, TRANSIENT};
 use jc_heap::{ChangeRefusal, Facts, Kind};
-use jc_transient::{AREA_CELLS, ClearEvent, Ref};
+use jc_transient::ClearEvent;
 use jc_words::WordStore;
 
 // How many words an object of a kind takes, with so many cells.
@@ -35,42 +35,6 @@ fn space_of(event: ClearEvent) -> Space {
 }
 
 impl<S: WordStore> Memory<S> {
-    // How many words the heap has left, if an object fits; else at most so many.
-    fn heap_left(&self) -> u32
-        requires { self.now.heap.down ≡ false }
-    {
-        let mut bit = 0x8000;
-        let mut cells = 0;
-        for _bits in 0..16 {
-            if self.heap.has_space(Kind::Instance, cells | bit) {
-                cells |= bit;
-            }
-            bit /= 2;
-        }
-        if self.heap.has_space(Kind::Instance, 0) {
-            u32::from(HEADER) + u32::from(cells)
-        } else {
-            u32::from(HEADER) - 1
-        }
-    }
-
-    // How many cells the area of an event has left.
-    fn area_left(&self, event: ClearEvent) -> u32
-        requires { self.now.heap.down ≡ false }
-    {
-        let mut end = 0;
-        for address in 0..self.heap.top() {
-            let reference = Ref::at(address);
-            if self.marks.has(reference) {
-                let facts = self.heap.facts(reference);
-                if facts.event == Some(event) {
-                    end = u32::from(facts.place) + u32::from(facts.length);
-                }
-            }
-        }
-        u32::from(AREA_CELLS).saturating_sub(end)
-    }
-
     // Notes that the heap has not so many words left.
     #[cold]
     fn note_full_heap(&self, asked: u32)
@@ -80,7 +44,7 @@ impl<S: WordStore> Memory<S> {
             self.notes.shortage(Shortage {
                 space: Space::Heap,
                 asked,
-                left: self.heap_left(),
+                left: u32::from(self.heap.free_words()),
             });
         }
     }
@@ -104,7 +68,7 @@ impl<S: WordStore> Memory<S> {
             }
             return;
         };
-        let left = self.area_left(event);
+        let left = u32::from(self.heap.free_cells(event));
         if u32::from(cells) > left {
             self.notes.shortage(Shortage {
                 space: space_of(event),

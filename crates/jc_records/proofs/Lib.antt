@@ -1,5 +1,6 @@
 pub mod HeapBounds
 pub mod Holding
 pub mod ItemWords
+pub mod PlaceSteps
 pub mod Sizes
 pub mod Standing

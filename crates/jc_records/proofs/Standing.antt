@@ -6,12 +6,12 @@ use Rattle.std.proofs.lemmas.List.{drop-drop, drop_all, length-drop, length-take
 use Rattle.jc_commit.specs.Image.{top_of}
 use Rattle.jc_heap.specs.Cut.{Sizes, missing_words, records_from}
 use Rattle.jc_heap.specs.Heap.{read_image}
-use Rattle.jc_heap.specs.Image.{base, image, item_entry, missing_words_of_image, package_addresses, sizes}
+use Rattle.jc_heap.specs.Image.{base, image, item_entry, missing_words_of_image, package_addresses}
 use Rattle.jc_heap.specs.Object.{Item}
 use Rattle.jc_heap.proofs.Following.{records_from-step}
 use Rattle.jc_heap.proofs.Walks.{walk_short, walk_step}
 use Rattle.jc_records.specs.Bounds.{first_record, has_bounds}
-use Rattle.jc_records.specs.Records.{are_whole, item_at, record_size, standing_items, whole_among}
+use Rattle.jc_records.specs.Records.{are_whole, are_whole_from, is_whole_from, item_at, items_from, record_size, sizes_in, standing_items, whole_among, whole_from}
 use Rattle.jc_records.proofs.HeapBounds.{Bounds, base-first, bounds}
 
 -- one before others, of which the last may lack words
@@ -25,14 +25,6 @@ among-more false x (y ∷ ys) some =
 whole-map : {A B : Type 0} (f : A → B) (whole : Bool) (xs : List A) → map f (whole_among whole xs) ≡ whole_among whole (map f xs)
 whole-map f true xs = refl
 whole-map f false xs = sym (take-map f (length xs - 1) xs) ∙ ap (λ (n : ℕ). take (n - 1) (map f xs)) (sym (length-map xs f))
-
--- no record from an address on lacks words
-abbrev pub are_whole_from : Sizes → ℕ → List ℕ → Bool
-are_whole_from more at ws = missing_words more 0 at ws == 0
-
--- the records from an address on, but for a last one that lacks words
-abbrev pub whole_from : Sizes → ℕ → List ℕ → List (ℕ × List ℕ)
-whole_from more at ws = whole_among (are_whole_from more at ws) (records_from more 0 at ws)
 
 some_behind : (more : Sizes) (at : ℕ) (ws : List ℕ) → are_whole_from more at ws ≡ false → 0 < length (records_from more 0 at ws)
 some_behind more at [] lacks = absurd (false≢true (sym lacks))
@@ -69,16 +61,6 @@ whole_short more at ws some short =
 pub whole_end : (more : Sizes) (at : ℕ) (ws : List ℕ) → length ws ≡ 0 → (whole_from more at ws ≡ []) × (are_whole_from more at ws ≡ true)
 whole_end more at [] e = (refl, refl)
 whole_end more at (w ∷ ws) e = absurd (omega (arith, e))
-
--- the same of an image's items
-abbrev pub sizes_in : List ℕ → Sizes
-sizes_in w = sizes (package_addresses (image w))
-
-abbrev pub items_from : List ℕ → ℕ → List (ℕ × Item)
-items_from w at = map (item_entry (package_addresses (image w))) (whole_from (sizes_in w) at (drop at (image w)))
-
-abbrev pub is_whole_from : List ℕ → ℕ → Bool
-is_whole_from w at = are_whole_from (sizes_in w) at (drop at (image w))
 
 module _ (w : List ℕ) (h : has_bounds w ≡ true) where
   b : Bounds w

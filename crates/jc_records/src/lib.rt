@@ -3,4 +3,5 @@
 
 pub mod bounds;
 pub mod holders;
+pub mod places;
 pub mod records;

@@ -33,7 +33,7 @@ managed_none : (p : Packages) (m new : MemoryState) (ending : AppletResult) → 
 unfolding manager_selection
 managed_none p m new ending did =
     let last = did_bind (λ rest v. Perform (SetRegisters (with_selected None v.registers)) (Finish Done))
-    (deselection most_instructions p m.registers.selected m) m new ending did in
+    (deselection most_instructions p None m) m new ending did in
     ap (λ (s : MemoryState). s.registers.selected) last.3.1
 
 routed_none : (c : Apdu) (n : ℕ) (p : Packages) (m new : MemoryState) (ending : AppletResult) → is_select c ≡ true → c.content ≡ manager_aid

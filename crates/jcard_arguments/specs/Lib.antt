@@ -1,2 +1,3 @@
 pub mod CommandLine
 pub mod JoinLines
+pub mod WhyLines

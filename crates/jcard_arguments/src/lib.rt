@@ -3,3 +3,4 @@
 
 pub mod arguments;
 pub mod join_line;
+pub mod why_line;

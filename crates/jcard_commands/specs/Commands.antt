@@ -1,12 +1,15 @@
 -- What the program does for the words of its command line.
-use Rattle.std.specs.Prelude.{ℕ, ◌≡◌, ◌⊎◌, Bool, List, [], codes, Result, Err, Option, Some, None}
+use Rattle.std.specs.Prelude.{ℕ, ◌≡◌, ◌⊎◌, Bool, List, [], ◌++◌, codes, Result, Err, Option, Some, None}
 use Rattle.jcard_arguments.specs.CommandLine.{CommandLineRequest, ToMake, ToRun, ToTear, ToTell, ToTest, ToTry, request_of_words}
 use Rattle.jcard_images.specs.Dumps.{IsDump}
 use Rattle.jcard_files.specs.FileDeeds.{FileDeed}
+use Rattle.jcard_files.specs.Readings.{IsScriptRead, IsUnread}
 use Rattle.jcard_sweeps.specs.Joinings.{IsJoining}
 use Rattle.jcard_arguments.specs.JoinLines.{files_of}
+use Rattle.jcard_arguments.specs.WhyLines.{without_why, words_before_map, words_before_why}
 use Rattle.jcard_images.specs.NewImages.{IsNew}
-use Rattle.jcard_listing.specs.Asked.{asked_of}
+use Rattle.jcard_listing.specs.Asked.{against_of, asked_of}
+use Rattle.jcard_listing.specs.Comparisons.{IsComparison}
 use Rattle.jcard_listing.specs.Told.{IsObjectsDump}
 use Rattle.jcard_sweeps.specs.Tears.{IsTear}
 use Rattle.jcard_tests.specs.Tests.{IsTest}
@@ -31,19 +34,35 @@ IsDone (Some (ToTest names junit)) ended text deeds = IsTest names junit ended t
 abbrev pub IsDoneOrNoMemory : List (List ℕ) → Result Unit Fault → List ℕ → List FileDeed → Type 0
 IsDoneOrNoMemory words ended text deeds = ((ended ≡ Err NoMemory) × (text ≡ []) × (deeds ≡ [])) ⊎ IsDone (request_of_words words) ended text deeds
 
--- the files that they name were joined; or, where they name none to join, that was done
+-- the map could not be read, and nothing else was done; or it was read, and behind that was done what the words before it ask for
+abbrev pub IsMapped : List (List ℕ) → List ℕ → Result Unit Fault → List ℕ → List FileDeed → Type 0
+IsMapped front map ended text deeds = ((fault : Fault) × (ended ≡ Err fault) × (text ≡ []) × IsUnread map fault deeds)
+    ⊎ ((names : List ℕ) × (reads others : List FileDeed) × IsScriptRead map names reads × IsDoneOrNoMemory front ended text others
+    × (deeds ≡ reads ++ others))
+
+-- what was done does not depend on `--why`, but that a map is read first where the words name one
+abbrev pub IsExplainedBy : Option (List (List ℕ) × List ℕ) → List (List ℕ) → Result Unit Fault → List ℕ → List FileDeed → Type 0
+IsExplainedBy (Some asked) words ended text deeds = IsMapped asked.0 asked.1 ended text deeds
+IsExplainedBy None words ended text deeds = IsDoneOrNoMemory (without_why (words_before_why words) words) ended text deeds
+
+-- the files that they name were joined; or, where they name none to join, that was done that they ask for
 abbrev pub IsPerformedBy : Option (List (List ℕ)) → List (List ℕ) → Result Unit Fault → List ℕ → List FileDeed → Type 0
 IsPerformedBy (Some files) words ended text deeds = IsJoining files ended text deeds
-IsPerformedBy None words ended text deeds = IsDoneOrNoMemory words ended text deeds
+IsPerformedBy None words ended text deeds = IsExplainedBy (words_before_map words) words ended text deeds
 
 -- the objects of the image that they name were told; or, where they ask for none, that was done
 abbrev pub IsListedBy : Option (List ℕ × Bool) → List (List ℕ) → Result Unit Fault → List ℕ → List FileDeed → Type 0
 IsListedBy (Some asked) words ended text deeds = IsObjectsDump asked.0 asked.1 ended text deeds
 IsListedBy None words ended text deeds = IsPerformedBy (files_of words) words ended text deeds
 
+-- the two images that they name were compared; or, where they name no two, that was done
+abbrev pub IsComparedBy : Option (List ℕ × List ℕ × Bool) → List (List ℕ) → Result Unit Fault → List ℕ → List FileDeed → Type 0
+IsComparedBy (Some asked) words ended text deeds = IsComparison asked.0 asked.1 asked.2 ended text deeds
+IsComparedBy None words ended text deeds = IsListedBy (asked_of words) words ended text deeds
+
 -- on these words the program came to this end, wrote this text and did this with files
 abbrev pub IsPerformed : List (List ℕ) → Result Unit Fault → List ℕ → List FileDeed → Type 0
-IsPerformed words = IsListedBy (asked_of words) words
+IsPerformed words = IsComparedBy (against_of words) words
 
 -- why nothing was begun: memory was refused, an argument is no text, or the folder that closed standard streams are opened on cannot be
 abbrev pub IsUnbegun : Result Unit Fault → Type 0

@@ -1,5 +1,6 @@
 //! A line on a terminal that tells how far a sweep has come.
 
+use jcard_script::explainer::Explainer;
 use jcard_tear::progress::Progress;
 
 /// Of so many cuts one is told.
@@ -37,6 +38,23 @@ impl<'a, R: Eprint> Progress for ProgressLine<'a, R> {
         if self.is_terminal && number % EACH == EACH - 1 {
             let _ = eprint!(self.rt; "cut {number}\r");
             self.is_told = true;
+        }
+    }
+}
+
+impl<'a, R: Eprint> Explainer for ProgressLine<'a, R> {
+    fn asks(&self) -> bool {
+        true
+    }
+
+    fn map(&self) -> &[u8] {
+        b""
+    }
+
+    // A text that cannot be written is left out.
+    fn tell(&mut self, text: &[u8]) {
+        if let Ok(text) = str::from_utf8(text) {
+            let _ = eprint!(self.rt; "{text}");
         }
     }
 }

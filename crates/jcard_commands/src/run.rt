@@ -8,34 +8,42 @@ ghost use Rattle.jcard_arguments.specs.JoinLines.{files_of};
 ghost use Rattle.jcard_files.specs.FileDeeds.{FileDeed};
 ghost use Rattle.jcard_faults.specs.Faults.{status_of, failures_of, is_unwritten, IsLastLine};
 ghost use Rattle.jcard_commands.specs.Runs.{IsCarriedOut, IsRun};
-ghost use Rattle.jcard_commands.specs.Commands.{IsDone, IsPerformed, IsPerformedBy, IsDoneOrNoMemory};
+ghost use Rattle.jcard_arguments.specs.WhyLines.{words_before_map};
+ghost use Rattle.jcard_commands.specs.Commands.{IsDone, IsDoneOrNoMemory, IsExplainedBy, IsListedBy, IsMapped, IsPerformed, IsPerformedBy};
+ghost use Rattle.jcard_listing.specs.Asked.{asked_of};
 ghost use Rattle.jcard_faults.specs.declared.fault.Fault.{Fault};
 
+use crate::mapped::Mapped;
 use crate::trial::try_script;
 use jc_words::{FuseStore, WordStore};
 use jcard_arguments::arguments::{Action, parse};
 use jcard_arguments::join_line::files_of;
+use jcard_arguments::why_line::{words_before_map, words_before_why};
 use jcard_faults::fault::{Fault, tell};
 use jcard_faults::script_fault::{Names, script_fault};
 use jcard_files::closed_store::ClosedStore;
 use jcard_files::disk::Disk;
+use jcard_files::reading::script_of;
 use jcard_images::dump::dump_image;
 use jcard_images::new_image::make_image;
-use jcard_listing::asked::asked_of;
+use jcard_listing::asked::{against_of, asked_of};
+use jcard_listing::comparison::compare_images;
 use jcard_listing::dump::dump_objects;
-use jcard_script::script::run_script;
+use jcard_script::explainer::{Explainer, Unasked};
+use jcard_script::script::run_script_explained;
 use jcard_script::std_text::StdText;
 use jcard_script::streams::{TextIn, TextOut};
 use jcard_sweeps::joining::join_files;
 use jcard_sweeps::tearing::{Asked, tear_image};
 use jcard_tear::cuts::Behind;
-use jcard_tear::progress::Progress;
+use jcard_tear::progress::{Nobody, Progress};
 use jcard_tests::testing::test_files;
 use std::alloc::Global;
 
 /// Does what the words ask for, the program's name among them as the first, and answers the exit
-/// status. What is written goes to `out`: the answers, and after a fault one last line. How far a sweep has come goes to `progress`.
-pub fn run_words<D: Disk, W: TextOut, P: Progress>(
+/// status. What is written goes to `out`: the answers, and after a fault one last line. How far a sweep has come goes to `progress`,
+/// and so does why commands of a run were not answered by 9000, where the words ask for it.
+pub fn run_words<D: Disk, W: TextOut, P: Progress + Explainer>(
     disk: &mut D,
     words: &[String],
     out: &mut W,
@@ -53,7 +61,7 @@ pub fn run_words<D: Disk, W: TextOut, P: Progress>(
 }
 
 /// Does what the words ask for.
-pub(crate) fn perform<'n, D: Disk, W: TextOut, P: Progress>(
+pub(crate) fn perform<'n, D: Disk, W: TextOut, P: Progress + Explainer>(
     disk: &mut D,
     words: &'n [String],
     out: &mut W,
@@ -66,6 +74,26 @@ pub(crate) fn perform<'n, D: Disk, W: TextOut, P: Progress>(
     ensures writes { W.failures out.new ≡ failures_after (W.failures out.old)
         (is_unwritten result) }
 {
+    match against_of(words) {
+        Some(asked) => compare_images(disk, asked.image, asked.other, asked.all, out),
+        None => perform_alone(disk, words, out, progress),
+    }
+}
+
+// Does what the words ask for, which name no two images.
+fn perform_alone<'n, D: Disk, W: TextOut, P: Progress + Explainer>(
+    disk: &mut D,
+    words: &'n [String],
+    out: &mut W,
+    progress: &mut P,
+) -> Result<(), Fault<'n>>
+    ensures done { (text : List ℕ) × (deeds : List FileDeed)
+        × Appends (W.contents out.old) (W.contents out.new) text
+        × IsListedBy (asked_of (map string_bytes words.now)) (map string_bytes words.now)
+        result text deeds × D.does disk.old deeds disk.new }
+    ensures writes { W.failures out.new ≡ failures_after (W.failures out.old)
+        (is_unwritten result) }
+{
     match asked_of(words) {
         Some(asked) => dump_objects(disk, asked.image, asked.all, out),
         None => perform_other(disk, words, out, progress),
@@ -73,7 +101,7 @@ pub(crate) fn perform<'n, D: Disk, W: TextOut, P: Progress>(
 }
 
 // Does what the words ask for, which ask for no objects.
-fn perform_other<'n, D: Disk, W: TextOut, P: Progress>(
+fn perform_other<'n, D: Disk, W: TextOut, P: Progress + Explainer>(
     disk: &mut D,
     words: &'n [String],
     out: &mut W,
@@ -88,16 +116,63 @@ fn perform_other<'n, D: Disk, W: TextOut, P: Progress>(
 {
     match files_of(words) {
         Some(files) => join_files(disk, files, out),
-        None => perform_parsed(disk, words, out, progress),
+        None => perform_explained(disk, words, out, progress),
     }
 }
 
 // Does what the words ask for, which name no files to join.
-fn perform_parsed<'n, D: Disk, W: TextOut, P: Progress>(
+fn perform_explained<'n, D: Disk, W: TextOut, P: Progress + Explainer>(
     disk: &mut D,
     words: &'n [String],
     out: &mut W,
     progress: &mut P,
+) -> Result<(), Fault<'n>>
+    ensures done { (text : List ℕ) × (deeds : List FileDeed)
+        × Appends (W.contents out.old) (W.contents out.new) text
+        × IsExplainedBy (words_before_map (map string_bytes words.now))
+        (map string_bytes words.now) result text deeds × D.does disk.old deeds disk.new }
+    ensures writes { W.failures out.new ≡ failures_after (W.failures out.old)
+        (is_unwritten result) }
+{
+    match words_before_map(words) {
+        Some((front, file)) => perform_mapped(disk, front, file, out, progress),
+        None => match words_before_why(words) {
+            Some(front) => perform_parsed(disk, front, out, &mut Nobody, progress),
+            None => perform_parsed(disk, words, out, progress, &mut Unasked),
+        },
+    }
+}
+
+// Does what the words ask for, with the names in the map of this name told to whoever asks why.
+fn perform_mapped<'n, D: Disk, W: TextOut, E: Explainer>(
+    disk: &mut D,
+    front: &'n [String],
+    file: &'n str,
+    out: &mut W,
+    explainer: &mut E,
+) -> Result<(), Fault<'n>>
+    ensures done { (text : List ℕ) × (deeds : List FileDeed)
+        × Appends (W.contents out.old) (W.contents out.new) text
+        × IsMapped (map string_bytes front.now) file.now result text deeds
+        × D.does disk.old deeds disk.new }
+    ensures writes { W.failures out.new ≡ failures_after (W.failures out.old)
+        (is_unwritten result) }
+{
+    let names = match script_of(disk, file) {
+        Ok(names) => names,
+        Err(fault) => return Err(fault),
+    };
+    let mut mapped = Mapped::new(explainer, &names);
+    perform_parsed(disk, front, out, &mut Nobody, &mut mapped)
+}
+
+// Does what the words ask for, which name no files to join.
+fn perform_parsed<'n, D: Disk, W: TextOut, P: Progress, E: Explainer>(
+    disk: &mut D,
+    words: &'n [String],
+    out: &mut W,
+    progress: &mut P,
+    explainer: &mut E,
 ) -> Result<(), Fault<'n>>
     ensures done { (text : List ℕ) × (deeds : List FileDeed)
         × Appends (W.contents out.old) (W.contents out.new) text
@@ -107,16 +182,17 @@ fn perform_parsed<'n, D: Disk, W: TextOut, P: Progress>(
         (is_unwritten result) }
 {
     match parse(disk.alloc(), words) {
-        Ok(action) => act(disk, action, out, progress),
+        Ok(action) => act(disk, action, out, progress, explainer),
         Err(fault) => Err(fault),
     }
 }
 
-fn act<'n, D: Disk, W: TextOut, P: Progress>(
+fn act<'n, D: Disk, W: TextOut, P: Progress, E: Explainer>(
     disk: &mut D,
     action: Action<'n>,
     out: &mut W,
     progress: &mut P,
+    explainer: &mut E,
 ) -> Result<(), Fault<'n>>
     ensures done { (text : List ℕ) × (deeds : List FileDeed)
         × Appends (W.contents out.old) (W.contents out.new) text
@@ -132,7 +208,7 @@ fn act<'n, D: Disk, W: TextOut, P: Progress>(
             journal,
             table,
         } => make_image(disk, image, words, journal, table),
-        Action::Run { image, script } => run_file(disk, image, script, out),
+        Action::Run { image, script } => run_file(disk, image, script, out, explainer),
         Action::Dump { image } => dump_image(disk, image, out),
         Action::Try {
             script,
@@ -167,11 +243,12 @@ fn act<'n, D: Disk, W: TextOut, P: Progress>(
 }
 
 // Carries out the script in the file of the second name, on the card of the image of the first.
-fn run_file<'n, D: Disk, W: TextOut>(
+fn run_file<'n, D: Disk, W: TextOut, E: Explainer>(
     disk: &mut D,
     image: &'n str,
     script: &'n str,
     out: &mut W,
+    explainer: &mut E,
 ) -> Result<(), Fault<'n>>
     ensures done { (text : List ℕ) × (deeds : List FileDeed)
         × Appends (W.contents out.old) (W.contents out.new) text
@@ -187,7 +264,7 @@ fn run_file<'n, D: Disk, W: TextOut>(
         Ok(file) => {
             let names = Names { image, script };
             let mut reader = StdText::new(file);
-            let (store, ended) = run_named(disk.alloc(), names, store, &mut reader, out);
+            let (store, ended) = run_named(disk.alloc(), names, store, &mut reader, out, explainer);
             disk.close_image(image, ClosedStore::new(store.into_store()));
             ended
         }
@@ -199,12 +276,13 @@ fn run_file<'n, D: Disk, W: TextOut>(
 }
 
 /// Carries out the script on the card of this store, and gives the store back.
-pub(crate) fn run_named<'a, S: WordStore + Drop, I: TextIn, W: TextOut>(
+pub(crate) fn run_named<'a, S: WordStore + Drop, I: TextIn, W: TextOut, E: Explainer>(
     alloc: Global,
     names: Names<'a>,
     store: FuseStore<S>,
     script: &mut I,
     out: &mut W,
+    explainer: &mut E,
 ) -> (FuseStore<S>, Result<(), Fault<'a>>)
     ensures done { (text : List ℕ) × Appends (W.contents out.old) (W.contents out.new) text
         × IsCarriedOut names.entry.image.now names.entry.script.now (I.remaining script.old)
@@ -212,7 +290,7 @@ pub(crate) fn run_named<'a, S: WordStore + Drop, I: TextIn, W: TextOut>(
     ensures writes { W.failures out.new ≡ failures_after (W.failures out.old)
         (is_unwritten result.1) }
 {
-    let (store, ended) = run_script(alloc, store, script, out);
+    let (store, ended) = run_script_explained(alloc, store, script, out, explainer);
     match ended {
         Ok(()) => (store, Ok(())),
         Err(cause) => (store, Err(script_fault(names, cause))),

@@ -19,6 +19,7 @@ use jcard_files::disk::Disk;
 use jcard_files::reading::text_of;
 use jcard_images::memory_image::new_image;
 use jcard_images::new_image::word_count;
+use jcard_script::explainer::Unasked;
 use jcard_script::std_text::StdText;
 use jcard_script::streams::TextOut;
 
@@ -82,5 +83,13 @@ fn try_on<'n, D: Disk, W: TextOut>(
         script,
     };
     let mut reader = StdText::new(file);
-    run_named(disk.alloc(), names, FuseStore::new(store), &mut reader, out).1
+    let (_, ended) = run_named(
+        disk.alloc(),
+        names,
+        FuseStore::new(store),
+        &mut reader,
+        out,
+        &mut Unasked,
+    );
+    ended
 }

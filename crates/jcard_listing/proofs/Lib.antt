@@ -1,4 +1,6 @@
+pub mod Beside
 pub mod Chains
+pub mod Differing
 pub mod Listed
 pub mod Listings
 pub mod ListingEnds

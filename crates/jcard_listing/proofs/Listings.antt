@@ -18,7 +18,7 @@ listed_by (Ok done) w all old new l is told = (l, is, told)
 listed_by (Err Unreadable) w all old new l is told = (l, is, told)
 listed_by (Err NoMemory) w all old new l is told = tt
 
-areas_readable : (w : List ℕ) (b : Bool) → has_bounds w ≡ b → (line_if (areas_line w)).readable ≡ b
+pub areas_readable : (w : List ℕ) (b : Bool) → has_bounds w ≡ b → (line_if (areas_line w)).readable ≡ b
 areas_readable w true e = ap (λ (c : Bool). (line_if (if c then Some (areas_text w) else None)).readable) e
 areas_readable w false e = ap (λ (c : Bool). (line_if (if c then Some (areas_text w) else None)).readable) e
 

@@ -1,35 +1,40 @@
--- The lines of the objects from an address on.
+-- The lines of what stands from an address on.
 use Rattle.std.proofs.Common.{◌≡◌, ◌∙◌, ℕ, ◌+◌, ◌<◌, ◌≤◌, Bool, true, false, List, [], ◌++◌, ap, ap₂}
 use Rattle.std.specs.List.{flat_map}
 use Rattle.jc_heap.specs.Object.{Item}
 use Rattle.jc_commit.specs.Image.{top_of}
-use Rattle.jc_platform.specs.Tokens.{Tokens}
 use Rattle.jc_records.specs.Bounds.{first_record, has_bounds}
-use Rattle.jc_records.specs.Records.{item_at, record_size}
-use Rattle.jc_records.proofs.Standing.{is_whole_from, items_end, items_first, items_from, items_short, items_step}
+use Rattle.jc_records.specs.Records.{are_whole, is_whole_from, item_at, items_from, record_size, standing_items}
+use Rattle.jc_records.proofs.Standing.{items_end, items_first, items_short, items_step}
 use Rattle.jcard_images.specs.Listings.{Lines}
-use Rattle.jcard_listing.specs.Objects.{item_text, objects_lines}
-
-abbrev pub lines_from : Tokens → List ℕ → Bool → ℕ → Lines
-lines_from t w all at = record { text = flat_map (item_text t w all) (items_from w at); readable = is_whole_from w at }
 
 abbrev both : List ℕ → Bool → Lines
 both text readable = record { text = text; readable = readable }
 
-pub lines_first : (t : Tokens) (w : List ℕ) (all : Bool) → has_bounds w ≡ true → lines_from t w all (first_record w) ≡ objects_lines t w all
-lines_first t w all h = ap₂ both (ap (flat_map (item_text t w all)) (items_first w h).0) (items_first w h).1
+-- of each item a text
+abbrev pub Texts : Type 0
+Texts = ℕ × Item → List ℕ
 
-pub lines_step : (t : Tokens) (w : List ℕ) (all : Bool) (at : ℕ) → has_bounds w ≡ true → at + record_size w at ≤ top_of w
-    → lines_from t w all at ≡ record {
-      text = item_text t w all (at, item_at w at) ++ (lines_from t w all (at + record_size w at)).text;
-      readable = (lines_from t w all (at + record_size w at)).readable;
+abbrev pub lines_from : Texts → List ℕ → ℕ → Lines
+lines_from f w at = record { text = flat_map f (items_from w at); readable = is_whole_from w at }
+
+abbrev pub all_lines : Texts → List ℕ → Lines
+all_lines f w = record { text = flat_map f (standing_items w); readable = are_whole w }
+
+pub lines_first : (f : Texts) (w : List ℕ) → has_bounds w ≡ true → lines_from f w (first_record w) ≡ all_lines f w
+lines_first f w h = ap₂ both (ap (flat_map f) (items_first w h).0) (items_first w h).1
+
+pub lines_step : (f : Texts) (w : List ℕ) (at : ℕ) → has_bounds w ≡ true → at + record_size w at ≤ top_of w
+    → lines_from f w at ≡ record {
+      text = f (at, item_at w at) ++ (lines_from f w (at + record_size w at)).text;
+      readable = (lines_from f w (at + record_size w at)).readable;
     }
-lines_step t w all at h fits = ap₂ both (ap (flat_map (item_text t w all)) (items_step w h at fits).0) (items_step w h at fits).1
+lines_step f w at h fits = ap₂ both (ap (flat_map f) (items_step w h at fits).0) (items_step w h at fits).1
 
-pub lines_short : (t : Tokens) (w : List ℕ) (all : Bool) (at : ℕ) → has_bounds w ≡ true → at < top_of w → top_of w < at + record_size w at
-    → ((lines_from t w all at).text ≡ []) × ((lines_from t w all at).readable ≡ false)
-lines_short t w all at h below short = (ap (flat_map (item_text t w all)) (items_short w h at below short).0, (items_short w h at below short).1)
+pub lines_short : (f : Texts) (w : List ℕ) (at : ℕ) → has_bounds w ≡ true → at < top_of w → top_of w < at + record_size w at
+    → ((lines_from f w at).text ≡ []) × ((lines_from f w at).readable ≡ false)
+lines_short f w at h below short = (ap (flat_map f) (items_short w h at below short).0, (items_short w h at below short).1)
 
-pub lines_end : (t : Tokens) (w : List ℕ) (all : Bool) (at : ℕ) → has_bounds w ≡ true → top_of w ≤ at
-    → ((lines_from t w all at).text ≡ []) × ((lines_from t w all at).readable ≡ true)
-lines_end t w all at h past = (ap (flat_map (item_text t w all)) (items_end w h at past).0, (items_end w h at past).1)
+pub lines_end : (f : Texts) (w : List ℕ) (at : ℕ) → has_bounds w ≡ true → top_of w ≤ at
+    → ((lines_from f w at).text ≡ []) × ((lines_from f w at).readable ≡ true)
+lines_end f w at h past = (ap (flat_map f) (items_end w h at past).0, (items_end w h at past).1)

@@ -1,11 +1,16 @@
 pub mod Applets
 pub mod Areas
 pub mod Asked
+pub mod Compared
+pub mod Comparisons
+pub mod Differences
 pub mod Entries
 pub mod Fault
 pub mod Listing
 pub mod Objects
 pub mod Packages
+pub mod Pairs
+pub mod Parts
 pub mod Table
 pub mod Told
 pub mod Texts

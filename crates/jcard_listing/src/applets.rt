@@ -24,8 +24,12 @@ pub(crate) fn push_applets<S: WordStore>(text: &mut Vec<u8>, store: &S) -> Resul
     Ok(())
 }
 
-// Writes the line of the applet behind so many others.
-fn push_applet_at<S: WordStore>(text: &mut Vec<u8>, store: &S, before: u16) -> Result<(), ListFault>
+/// Writes the line of the applet behind so many others.
+pub(crate) fn push_applet_at<S: WordStore>(
+    text: &mut Vec<u8>,
+    store: &S,
+    before: u16,
+) -> Result<(), ListFault>
     requires words { text_start ≤ length (S.words store.now) }
     requires number { before < 65535 }
     ensures { Lists text.old.items text.new.items

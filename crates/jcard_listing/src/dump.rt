@@ -78,8 +78,8 @@ fn tell_listing<'a, S: WordStore, W: TextOut>(
     }
 }
 
-// Writes these lines, and tells whether there could be more.
-fn write_listing<'a, W: TextOut>(listing: &Listing, out: &mut W) -> Result<(), Fault<'a>>
+/// Writes these lines, and tells whether there could be more.
+pub(crate) fn write_listing<'a, W: TextOut>(listing: &Listing, out: &mut W) -> Result<(), Fault<'a>>
     ensures told { (text : List ℕ) × Appends (W.contents out.old) (W.contents out.new) text
         × AreLinesTold (record {
           text = listing.now.text.items;

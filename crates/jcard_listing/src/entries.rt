@@ -37,8 +37,8 @@ pub(crate) fn push_entries<S: WordStore>(
     Ok(())
 }
 
-// Writes the line of the entry behind so many others.
-fn push_entry_at<S: WordStore>(
+/// Writes the line of the entry behind so many others.
+pub(crate) fn push_entry_at<S: WordStore>(
     alloc: Global,
     text: &mut Vec<u8>,
     platform: &Platform,

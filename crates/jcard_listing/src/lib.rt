@@ -1,14 +1,20 @@
-//! The command `dump --objects`: what is on a card, object by object.
+//! The commands `dump --objects` and `dump --against`: what is on a card, object by object, and what is not the same on two.
 #![tactic(auto)]
 
 mod applets;
 mod areas;
 pub mod asked;
+mod compared;
+pub mod comparison;
+pub mod differences;
 pub mod dump;
 mod entries;
 pub mod fault;
 pub mod listing;
+mod names;
 mod objects;
 mod packages;
+mod pairs;
+mod parts;
 mod table;
 mod texts;

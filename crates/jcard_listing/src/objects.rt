@@ -7,7 +7,7 @@ ghost use Rattle.jc_image.specs.Listed.{NamedApplet};
 ghost use Rattle.jc_records.specs.Bounds.{has_bounds};
 ghost use Rattle.jc_records.specs.Records.{IsRecord, item_at, object_in};
 ghost use Rattle.jcard_listing.specs.Fault.{Lists};
-ghost use Rattle.jcard_listing.specs.Objects.{applet_name, area_text, behind_text, cell_text, contents_text, header_text, is_pin, is_told, item_text, object_text, objects_lines, owner_text, package_name, pin_text};
+ghost use Rattle.jcard_listing.specs.Objects.{applet_name, area_text, behind_text, cell_text, contents_text, header_text, is_pin, is_told, item_text, object_text, objects_lines, owner_text, package_name, pin_text, value_text};
 
 use crate::fault::ListFault;
 use crate::texts::{push_hex, push_labelled, push_number, push_reference};
@@ -75,15 +75,15 @@ fn push_item<S: WordStore>(
     }
 }
 
-// Whether an object is told.
-fn is_told(facts: Facts, all: bool) -> bool
+/// Whether an object is told.
+pub(crate) fn is_told(facts: Facts, all: bool) -> bool
     ensures { result ≡ is_told facts all }
 {
     all || facts.owner().0 != 0
 }
 
-// Writes the line of an object.
-fn push_object<S: WordStore>(
+/// Writes the line of an object.
+pub(crate) fn push_object<S: WordStore>(
     alloc: Global,
     text: &mut Vec<u8>,
     platform: &Platform,
@@ -273,6 +273,18 @@ fn push_cell(alloc: Global, text: &mut Vec<u8>, kind: Kind, cell: u16) -> Result
     ensures { OnOk result (text.new.items ≡ text.old.items ++ cell_text kind cell) }
 {
     text.extend_from_slice(b" ")?;
+    push_value(alloc, text, kind, cell)
+}
+
+/// Writes what stands in a cell of an object of this kind.
+pub(crate) fn push_value(
+    alloc: Global,
+    text: &mut Vec<u8>,
+    kind: Kind,
+    cell: u16,
+) -> Result<(), AllocError>
+    ensures { OnOk result (text.new.items ≡ text.old.items ++ value_text kind cell) }
+{
     match kind {
         Kind::BooleanArray | Kind::ByteArray => push_hex(alloc, text, &[(cell % 256) as u8]),
         Kind::ReferenceArray => push_reference(text, cell),

@@ -39,8 +39,8 @@ pub(crate) fn push_packages<S: WordStore>(
     Ok(())
 }
 
-// Writes the line of the package behind so many others.
-fn push_package<S: WordStore>(
+/// Writes the line of the package behind so many others.
+pub(crate) fn push_package<S: WordStore>(
     alloc: Global,
     text: &mut Vec<u8>,
     store: &S,

@@ -10,7 +10,9 @@ use crate::reply::Reply;
 use jc_card::card::Card;
 use jc_card::power_up::PowerFault;
 use jc_card::response::Response;
+use jc_memory::{Note, Notes};
 use jc_words::{FuseStore, StoreDown, WordStore};
+use jcard_why::explanation::{Asked, why};
 use std::alloc::Global;
 
 /// What a session holds.
@@ -39,6 +41,39 @@ impl<S: WordStore> CardOrStore<S> {
             Ok(card) => (CardOrStore::Card(card), Ok(())),
             Err((PowerFault::StoreDown, store)) => (CardOrStore::Store(store), Ok(())),
             Err((fault, store)) => (CardOrStore::Store(store), Err(fault)),
+        }
+    }
+
+    /// From now on it is noted what keeps the card's code from going on.
+    pub(crate) fn explain(&mut self, notes: &Notes)
+        requires up { IsUp self.old }
+        ensures up { IsUp self.new }
+        ensures same { state_of_card self.new ≡ state_of_card self.old }
+    {
+        match self {
+            CardOrStore::Card(card) => card.explain(notes.share()),
+            CardOrStore::Store(_) => {}
+        }
+    }
+
+    /// The text that says why a command was answered by this status word, by its note and a map of methods.
+    pub(crate) fn why(
+        &self,
+        alloc: Global,
+        note: &Note,
+        status: u16,
+        map: &[u8],
+    ) -> Option<Vec<u8>> {
+        match self {
+            CardOrStore::Card(card) => why(&Asked {
+                alloc,
+                note,
+                status,
+                linked: card.linked(),
+                map,
+            })
+            .ok(),
+            CardOrStore::Store(_) => None,
         }
     }
 

@@ -2,6 +2,7 @@
 #![tactic(auto)]
 
 mod card_or_store;
+pub mod explainer;
 mod line;
 pub mod mem_text;
 mod reply;

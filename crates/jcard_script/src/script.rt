@@ -5,11 +5,13 @@ ghost use Rattle.std.specs.Io.KnownBytes.{Appends, Consumes};
 ghost use Rattle.jc_words.specs.Count.{failures_after};
 ghost use Rattle.jcard_script.specs.Script.{Ends, IsWholeScript, is_read_failed, is_write_failed};
 
+use crate::explainer::{Explainer, Unasked};
 use crate::session::Session;
 use crate::streams::{TextIn, TextOut};
 use jc_card::power_up::PowerFault;
+use jc_memory::Notes;
 use jc_words::{FuseStore, WordStore};
-use std::alloc::Global;
+use std::alloc::{AllocError, Global};
 use thiserror::Error;
 
 /// The most bytes of a script that are carried out.
@@ -63,10 +65,42 @@ pub fn run_script<S: WordStore + Drop, R: TextIn, W: TextOut>(
     ensures writes { W.failures writer.new ≡ failures_after (W.failures writer.old)
         (is_write_failed result.1) }
 {
-    let (mut session, started) = Session::start(alloc, fuse);
+    run_script_explained(alloc, fuse, reader, writer, &mut Unasked)
+}
+
+/// The same; and behind each answer of a command that is not 9000 the explainer is told why, if it asks.
+pub fn run_script_explained<S: WordStore + Drop, R: TextIn, W: TextOut, E: Explainer>(
+    alloc: Global,
+    fuse: FuseStore<S>,
+    reader: &mut R,
+    writer: &mut W,
+    explainer: &mut E,
+) -> (FuseStore<S>, Result<(), ScriptFault>)
+    ensures script { (script text : List ℕ) × (at_end : Bool)
+        × Consumes (R.remaining reader.old) (R.remaining reader.new) script
+        × Appends (W.contents writer.old) (W.contents writer.new) text
+        × OnTrue at_end (IsWholeScript (R.remaining reader.new) script)
+        × Ends result.1 fuse result.0 at_end script text }
+    ensures reads { R.failures reader.new ≡ failures_after (R.failures reader.old)
+        (is_read_failed result.1) }
+    ensures writes { W.failures writer.new ≡ failures_after (W.failures writer.old)
+        (is_write_failed result.1) }
+{
+    let (mut session, started) = Session::start(alloc, fuse, notes_for(alloc, explainer.asks()));
     if let Err(fault) = started {
         return (session.into_store(), Err(ScriptFault::PowerFault(fault)));
     }
-    let result = session.run(reader, writer);
+    let result = session.run(reader, writer, explainer);
     (session.into_store(), result)
+}
+
+// Notes that are kept where somebody asks for them and there is memory.
+fn notes_for(alloc: Global, asked: bool) -> Notes {
+    if !asked {
+        return Notes::nowhere();
+    }
+    match Notes::kept(alloc, None) {
+        Ok(notes) => notes,
+        Err(AllocError) => Notes::nowhere(),
+    }
 }

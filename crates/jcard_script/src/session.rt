@@ -14,11 +14,13 @@ ghost use Rattle.jcard_script.specs.ScriptStates.{ScriptState, Down, IsSessionSt
 ghost use Rattle.jcard_script.specs.Session.{StandsAt, IsUnbroken, LineEnds, LineFails, LinesEnd};
 
 use crate::card_or_store::CardOrStore;
+use crate::explainer::Explainer;
 use crate::line::{Line, LineRequest};
 use crate::reply::{Reply, write_reply};
 use crate::script::{BOUND, ScriptFault};
 use crate::streams::{TextIn, TextOut, WriteFailed};
 use jc_card::power_up::PowerFault;
+use jc_memory::Notes;
 use jc_words::{FuseStore, WordStore};
 use memchr::memchr;
 use std::alloc::Global;
@@ -34,23 +36,30 @@ pub(crate) struct Session<S: WordStore> {
     held: Option<CardOrStore<S>>,
     line: Line,
     number: u32,
+    notes: Notes,
 }
 
 impl<S: WordStore + Drop> Session<S> {
     /// Before the first line: brings the power back and powers up.
-    pub(crate) fn start(alloc: Global, fuse: FuseStore<S>) -> (Session<S>, Result<(), PowerFault>)
+    pub(crate) fn start(
+        alloc: Global,
+        fuse: FuseStore<S>,
+        notes: Notes,
+    ) -> (Session<S>, Result<(), PowerFault>)
         ensures held { IsState result.0.held }
         ensures stands { StandsAt result.0 (state_of_held result.0.held) [] [] }
         ensures powered { OnOk result.1 (PowersUp fuse (state_of_held result.0.held)) }
         ensures fault { IfErr result.1 (λ fault. (after : FuseStoreValue) × FailsUp fuse fault after
             × (state_of_held result.0.held ≡ Down after)) }
     {
-        let (held, started) = CardOrStore::power_up(alloc, fuse);
+        let (mut held, started) = CardOrStore::power_up(alloc, fuse);
+        held.explain(&notes);
         let session = Session {
             alloc,
             held: Some(held),
             line: Line::empty(),
             number: 0,
+            notes,
         };
         (session, started)
     }
@@ -65,15 +74,17 @@ impl<S: WordStore + Drop> Session<S> {
             held,
             line: _,
             number: _,
+            notes: _,
         } = self;
         held.unwrap().into_store()
     }
 
     /// Carries out the lines of a script.
-    pub(crate) fn run<R: TextIn, W: TextOut>(
+    pub(crate) fn run<R: TextIn, W: TextOut, E: Explainer>(
         &mut self,
         reader: &mut R,
         writer: &mut W,
+        explainer: &mut E,
     ) -> Result<(), ScriptFault>
         requires held { IsState self.old.held }
         requires stands { StandsAt self.old (state_of_held self.old.held) [] [] }
@@ -96,19 +107,24 @@ impl<S: WordStore + Drop> Session<S> {
                 return Err(ScriptFault::ReadFailed);
             };
             if count == 0 {
-                return self.finish(writer);
+                return self.finish(writer, explainer);
             }
             if count > left {
-                self.feed(&piece[..left], writer)?;
+                self.feed(&piece[..left], writer, explainer)?;
                 return Err(ScriptFault::TooLong);
             }
-            self.feed(&piece[..count], writer)?;
+            self.feed(&piece[..count], writer, explainer)?;
             left -= count;
         }
     }
 
     // The next bytes of the script.
-    fn feed<W: TextOut>(&mut self, piece: &[u8], writer: &mut W) -> Result<(), ScriptFault>
+    fn feed<W: TextOut, E: Explainer>(
+        &mut self,
+        piece: &[u8],
+        writer: &mut W,
+        explainer: &mut E,
+    ) -> Result<(), ScriptFault>
         requires number { self.old.number + length piece.now < 2 ^ 32 }
         requires held { IsState self.old.held }
         ensures held { IsState self.new.held }
@@ -123,7 +139,7 @@ impl<S: WordStore + Drop> Session<S> {
     {
         let mut rest = piece;
         while let Some(end) = memchr(b'\n', rest) {
-            self.end_line(&rest[..end], writer)?;
+            self.end_line(&rest[..end], writer, explainer)?;
             rest = &rest[end + 1..];
         }
         self.line.push_all(rest);
@@ -131,7 +147,12 @@ impl<S: WordStore + Drop> Session<S> {
     }
 
     // Carries out the line that these bytes and a line feed end, and begins the next.
-    fn end_line<W: TextOut>(&mut self, bytes: &[u8], writer: &mut W) -> Result<(), ScriptFault>
+    fn end_line<W: TextOut, E: Explainer>(
+        &mut self,
+        bytes: &[u8],
+        writer: &mut W,
+        explainer: &mut E,
+    ) -> Result<(), ScriptFault>
         requires unbroken { IsUnbroken bytes.now }
         requires number { self.old.number < 2 ^ 32 - 1 }
         requires held { IsState self.old.held }
@@ -148,13 +169,17 @@ impl<S: WordStore + Drop> Session<S> {
     {
         let asked = self.line.ended_by(bytes);
         self.number += 1;
-        let result = self.answer_line(asked, writer);
+        let result = self.answer_line(asked, writer, explainer);
         self.line.clear();
         result
     }
 
     // Carries out the last line, which no line feed ends.
-    fn finish<W: TextOut>(&mut self, writer: &mut W) -> Result<(), ScriptFault>
+    fn finish<W: TextOut, E: Explainer>(
+        &mut self,
+        writer: &mut W,
+        explainer: &mut E,
+    ) -> Result<(), ScriptFault>
         requires number { self.old.number < 2 ^ 32 - 1 }
         requires held { IsState self.old.held }
         ensures held { IsState self.new.held }
@@ -167,14 +192,15 @@ impl<S: WordStore + Drop> Session<S> {
     {
         let asked = self.line.last();
         self.number += 1;
-        self.answer_line(asked, writer)
+        self.answer_line(asked, writer, explainer)
     }
 
     // Answers the line with the session's number.
-    fn answer_line<W: TextOut>(
+    fn answer_line<W: TextOut, E: Explainer>(
         &mut self,
         asked: LineRequest,
         writer: &mut W,
+        explainer: &mut E,
     ) -> Result<(), ScriptFault>
         requires held { IsState self.old.held }
         ensures held { IsState self.new.held }
@@ -188,10 +214,29 @@ impl<S: WordStore + Drop> Session<S> {
     {
         match self.reply(asked) {
             Ok(reply) => match write_reply(&reply, writer) {
-                Ok(()) => Ok(()),
+                Ok(()) => {
+                    self.tell_why(&reply, explainer);
+                    Ok(())
+                }
                 Err(WriteFailed) => Err(ScriptFault::WriteFailed),
             },
             Err(fault) => Err(fault),
+        }
+    }
+
+    // Tells who asks why this is not the answer 9000, if it is an answer.
+    fn tell_why<E: Explainer>(&self, reply: &Reply, explainer: &mut E) {
+        let Some(status) = reply.refusal() else {
+            return;
+        };
+        let Some(note) = self.notes.take() else {
+            return;
+        };
+        let Some(held) = &self.held else {
+            return;
+        };
+        if let Some(text) = held.why(self.alloc, &note, status, explainer.map()) {
+            explainer.tell(&text);
         }
     }
 
@@ -227,6 +272,7 @@ impl<S: WordStore + Drop> Session<S> {
         ensures answer { IsAnswered command.now (state_of_held self.old.held)
             (state_of_held self.new.held) (text_of_reply result) }
     {
+        self.notes.begin(self.number);
         if let Some(held) = &mut self.held {
             if let Some(response) = held.exchange(command) {
                 return Reply::Answer(response);
@@ -249,7 +295,8 @@ impl<S: WordStore + Drop> Session<S> {
             (state_of_held self.new.held)) }
     {
         let store = self.held.take().unwrap().into_store();
-        let (held, result) = CardOrStore::power_up(self.alloc, store);
+        let (mut held, result) = CardOrStore::power_up(self.alloc, store);
+        held.explain(&self.notes);
         let reply = held.power_up_answer();
         self.held = Some(held);
         match result {

@@ -17,8 +17,10 @@ use Rattle.jcard_files.specs.Readings.{IsScriptRead, IsUnread}
 use Rattle.jcard_files.specs.FileDeeds.{FileDeed, ClosesImage, ReadsImage, untouched}
 use Rattle.jcard_files.specs.Images.{IsNotOpened}
 use Rattle.jcard_faults.specs.declared.fault.Fault.{Fault}
-use Rattle.jcard_faults.specs.declared.fault.Fault.TheVariants.{BadCommand, BadImage, CannotWrite, Down, NoCommand, NoMemory, NotAllOrNothing}
-use Rattle.jcard_faults.specs.declared.fault.Fault.TheVariants.{BadPart, ScriptTooLong, TooManyCuts, WriteFailed}
+use Rattle.jcard_faults.specs.declared.fault.Fault.TheVariants.{BadPart, NoCommand, NoMemory, NotAllOrNothing, WriteFailed}
+use Rattle.jcard_sweeps.specs.TearFaults.{IsTearFault}
+use Rattle.jcard_tear.specs.Faults.{IsLineUncut, IsOneUncut}
+use Rattle.jcard_tear.specs.declared.tearing.TearFault.{TearFault}
 
 -- ---- files
 
@@ -48,30 +50,25 @@ AreReported sweeps (Err NotAllOrNothing) text = (text ≡ verdicts_text sweeps) 
 AreReported sweeps (Err WriteFailed) text = IsCutOf (verdicts_text sweeps) text
 AreReported sweeps (Err other) text = ⊥
 
--- why a command is not cut: memory was refused; or the lines before it, it, or those of the probe cannot be carried out over the image;
--- or the card is down at the command; or it makes too many writes
-abbrev pub IsUncut : Fault → Type 0
-IsUncut NoMemory = Unit {0}
-IsUncut (BadImage damage) = Unit {0}
-IsUncut (CannotWrite path) = Unit {0}
-IsUncut (BadCommand line) = Unit {0}
-IsUncut ScriptTooLong = Unit {0}
-IsUncut Down = Unit {0}
-IsUncut TooManyCuts = Unit {0}
-IsUncut other = ⊥
+-- commands were not cut for such a cause, which is told over an image of some name; and nothing was written
+abbrev pub EndsUncut : (TearFault → Type 0) → Result Unit Fault → List ℕ → Type 0
+EndsUncut Is ended text = (cause : TearFault) × (image : List ℕ) × (fault : Fault) × Is cause × IsTearFault image cause fault × (ended ≡ Err fault)
+    × (text ≡ [])
 
--- it was not cut for one of these causes, and nothing was written
-abbrev pub EndsUncut : Result Unit Fault → List ℕ → Type 0
-EndsUncut ended text = (fault : Fault) × (ended ≡ Err fault) × IsUncut fault × (text ≡ [])
+-- memory was refused for what is told, and nothing was written
+abbrev pub EndsUntold : Result Unit Fault → List ℕ → Type 0
+EndsUntold ended text = (ended ≡ Err NoMemory) × (text ≡ [])
 
 -- the command in this line was cut after each number of its writes, on cards of copies of these words, with these lines of a probe, if
 -- any, and this behind each, and that was told; or it could not be
 abbrev pub IsTornOne : List ℕ → Line → Behind → Option (List ℕ) → Result Unit Fault → List ℕ → Type 0
-IsTornOne w l behind given ended text = ((s : Sweep) × IsLineSwept w given behind l s × IsReported s ended text) ⊎ EndsUncut ended text
+IsTornOne w l behind given ended text = ((s : Sweep) × IsLineSwept w given behind l s × (IsReported s ended text ⊎ EndsUntold ended text))
+    ⊎ EndsUncut (IsLineUncut w given l 1) ended text
 
 -- each command in these lines was cut so, and the verdicts were told; or one could not be
 abbrev pub IsTornEach : List ℕ → List Line → Behind → Option (List ℕ) → Result Unit Fault → List ℕ → Type 0
-IsTornEach w lines behind given ended text = ((sweeps : List LineSweep) × AreSwept w given behind lines sweeps × AreReported sweeps ended text) ⊎ EndsUncut ended text
+IsTornEach w lines behind given ended text = ((sweeps : List LineSweep) × AreSwept w given behind lines sweeps
+    × (AreReported sweeps ended text ⊎ EndsUntold ended text)) ⊎ EndsUncut (IsOneUncut w given lines) ended text
 
 -- ---- the probe
 
@@ -101,7 +98,8 @@ IsPartTold p (Err other) text = ⊥
 -- the command in this line was cut in this part, on cards of copies of these words, with these lines of a probe, if any, and that was
 -- told; or it could not be
 abbrev pub IsTornShare : List ℕ → Line → Bool → Share → Option (List ℕ) → Result Unit Fault → List ℕ → Type 0
-IsTornShare w l objects share given ended text = ((p : Part) × IsLinePart w given objects l share.first share.step p × IsPartTold p ended text) ⊎ EndsUncut ended text
+IsTornShare w l objects share given ended text = ((p : Part) × IsLinePart w given objects l share.first share.step p
+    × (IsPartTold p ended text ⊎ EndsUntold ended text)) ⊎ EndsUncut (IsLineUncut w given l share.step) ended text
 
 -- it was cut in the part that this text names; or the text names none
 abbrev pub IsTornPart : List ℕ → Line → Bool → List ℕ → Option (List ℕ) → Result Unit Fault → List ℕ → List FileDeed → Type 0

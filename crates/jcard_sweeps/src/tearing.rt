@@ -5,8 +5,8 @@ ghost use Rattle.std.specs.Io.KnownBytes.{Appends};
 ghost use Rattle.jc_words.specs.Count.{failures_after};
 ghost use Rattle.jcard_faults.specs.Faults.{is_unwritten};
 ghost use Rattle.jcard_files.specs.FileDeeds.{FileDeed};
-ghost use Rattle.jcard_sweeps.specs.Tears.{AreReported, AreTornOf, EndsUncut, IsImageRead, IsImageUnread, IsLineNumber, IsMeantBy, IsProbeRead, IsProbeUnread, IsProbed, IsReported};
-ghost use Rattle.jcard_sweeps.specs.Tears.{IsTear, IsTearOver, IsTornEach, IsTornIn, IsTornOne, IsUncut};
+ghost use Rattle.jcard_sweeps.specs.Tears.{AreReported, AreTornOf, EndsUntold, IsImageRead, IsImageUnread, IsLineNumber, IsMeantBy, IsProbeRead, IsProbeUnread, IsProbed, IsReported};
+ghost use Rattle.jcard_sweeps.specs.Tears.{IsTear, IsTearOver, IsTornEach, IsTornIn, IsTornOne};
 ghost use Rattle.jcard_sweeps.specs.TearFaults.{IsFaultInMemory, IsTearFault};
 ghost use Rattle.jcard_sweeps.specs.Tears.{IsPartTold, IsTornPart, IsTornShare};
 ghost use Rattle.jcard_tear.specs.ScriptLines.{line_of};
@@ -335,7 +335,7 @@ fn cut_part<'n, W: TextOut, P: Progress>(
 fn tell_part<'n, W: TextOut>(alloc: Global, part: &Part, out: &mut W) -> Result<(), Fault<'n>>
     requires { part.now.first + part.now.step * length part.now.sweep.cuts.items < 65536 }
     ensures done { (text : List ℕ) × Appends (W.contents out.old) (W.contents out.new) text
-        × (IsPartTold part.now result text ⊎ EndsUncut result text) }
+        × (IsPartTold part.now result text ⊎ EndsUntold result text) }
     ensures writes { W.failures out.new ≡ failures_after (W.failures out.old)
         (is_unwritten result) }
 {
@@ -375,7 +375,7 @@ fn cut_each<'n, W: TextOut, P: Progress>(
 // Writes the report of a sweep.
 fn tell_sweep<'n, W: TextOut>(alloc: Global, sweep: &Sweep, out: &mut W) -> Result<(), Fault<'n>>
     ensures done { (text : List ℕ) × Appends (W.contents out.old) (W.contents out.new) text
-        × (IsReported sweep.now result text ⊎ EndsUncut result text) }
+        × (IsReported sweep.now result text ⊎ EndsUntold result text) }
     ensures writes { W.failures out.new ≡ failures_after (W.failures out.old)
         (is_unwritten result) }
 {
@@ -407,7 +407,7 @@ fn tell_verdicts<'n, W: TextOut>(
     out: &mut W,
 ) -> Result<(), Fault<'n>>
     ensures done { (text : List ℕ) × Appends (W.contents out.old) (W.contents out.new) text
-        × (AreReported sweeps.now result text ⊎ EndsUncut result text) }
+        × (AreReported sweeps.now result text ⊎ EndsUntold result text) }
     ensures writes { W.failures out.new ≡ failures_after (W.failures out.old)
         (is_unwritten result) }
 {
@@ -433,8 +433,8 @@ fn each_all_or_nothing<'n>(sweeps: &[LineSweep]) -> Result<(), Fault<'n>>
 
 // What it means that a command was not cut.
 fn tear_fault<'n>(names: Names<'n>, cause: TearFault) -> Fault<'n>
-    ensures uncut { IsUncut result }
     ensures told { IsTearFault names.entry.image.now cause result }
+    ensures unwritten { is_unwritten (Err result) ≡ false }
 {
     match cause {
         TearFault::NoMemory => Fault::NoMemory,
@@ -445,9 +445,10 @@ fn tear_fault<'n>(names: Names<'n>, cause: TearFault) -> Fault<'n>
 }
 
 // What it means that a script was not carried out in memory, where a text is read and written as long as there is memory.
+#[tactic(auto, using(crate::proofs::Tears::unpowered_unwritten))]
 fn tear_script_fault<'n>(names: Names<'n>, fault: ScriptFault) -> Fault<'n>
-    ensures uncut { IsUncut result }
     ensures told { IsFaultInMemory names.entry.image.now fault result }
+    ensures unwritten { is_unwritten (Err result) ≡ false }
 {
     match fault {
         ScriptFault::ReadFailed | ScriptFault::WriteFailed => Fault::NoMemory,

@@ -7,3 +7,4 @@ pub mod CutRecoveries
 pub mod Powers
 pub mod Fuses
 pub mod EveryLists
+pub mod Uncut

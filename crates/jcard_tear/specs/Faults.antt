@@ -1,10 +1,60 @@
 -- Why a command was not cut after each number of its writes.
+use Rattle.std.specs.Prelude.{ℕ, ◌≡◌, ◌⊎◌, ◌+◌, ◌≤◌, true, List, ◌++◌, Option, Some, slice_get}
+use Rattle.jc_words.specs.Stores.{FuseStoreValue}
+use Rattle.jcard_outcomes.specs.declared.recoveries.Recoveries.{Recoveries}
+use Rattle.jcard_outcomes.specs.declared.standing.Left.{Left}
+use Rattle.jcard_tear.specs.Runs.{IsRunFault, Runs}
+use Rattle.jcard_tear.specs.ScriptLines.{Line}
+use Rattle.jcard_tear.specs.Sweeps.{IsCutAt, cut_script, probe_of}
+use Rattle.jcard_tear.specs.declared.cuts.Command.{Command}
 use Rattle.jcard_tear.specs.declared.runs.RunFault.{RunFault}
 use Rattle.jcard_tear.specs.declared.runs.RunFault.TheVariants as run
 use Rattle.jcard_tear.specs.declared.tearing.TearFault.{TearFault}
-use Rattle.jcard_tear.specs.declared.tearing.TearFault.TheVariants.{NoMemory, Script}
+use Rattle.jcard_tear.specs.declared.tearing.TearFault.TheVariants.{NoMemory, Script, Probe, Down, TooManyCuts}
 
 -- what is told where a script was not carried out to its end
 abbrev pub told_run_fault : RunFault → TearFault
 told_run_fault run.NoMemory = NoMemory
 told_run_fault (run.Script fault) = Script fault
+
+-- what is told where a recovery or the probe behind it was not
+abbrev pub told_probe_fault : RunFault → TearFault
+told_probe_fault run.NoMemory = NoMemory
+told_probe_fault (run.Script fault) = Probe fault
+
+-- memory was refused for a recovery or the probe, or one of them was not carried out to its end
+abbrev pub IsProbeFault : TearFault → Type 0
+IsProbeFault NoMemory = Unit {0}
+IsProbeFault (Probe fault) = Unit {0}
+IsProbeFault other = ⊥
+
+-- a script that is carried out for the cuts of a command: the lines before it; those and it; or those and it, with the power cut after
+-- some number of its writes
+abbrev pub IsScriptFor : Command → List ℕ → Type 0
+IsScriptFor c script = (script ≡ c.before.now) ⊎ (script ≡ c.before.now ++ c.line.now) ⊎ ((k : ℕ) × (script ≡ cut_script c k))
+
+-- one of them was carried out to its end over these words
+abbrev pub IsCarriedOut : List ℕ → Command → Type 0
+IsCarriedOut words c = (script text : List ℕ) × (after : FuseStoreValue) × IsScriptFor c script × Runs words script text after
+
+-- the command is cut after a number of writes, and so many more are not counted
+abbrev pub IsCutPast : List ℕ → Command → ℕ → Type 0
+IsCutPast words c step = (k : ℕ) × (left : Left) × (recoveries : Recoveries) × IsCutAt words c k left recoveries × ((65535 ≤ k + step) ⊎ (step ≡ 0))
+
+-- why a command was not cut after every so many of its writes: memory was refused; a script for it ended so, before its end; one was
+-- carried out, but not a recovery or a probe behind it; the card is down at the command; or there are too many cuts
+abbrev pub IsUncutFor : List ℕ → Command → ℕ → TearFault → Type 0
+IsUncutFor words c step NoMemory = Unit {0}
+IsUncutFor words c step (Script fault) = (script : List ℕ) × IsScriptFor c script × IsRunFault words script (run.Script fault)
+IsUncutFor words c step (Probe fault) = IsCarriedOut words c
+IsUncutFor words c step Down = (text : List ℕ) × (after : FuseStoreValue) × Runs words (c.before.now ++ c.line.now) text after × (after.down ≡ true)
+IsUncutFor words c step TooManyCuts = IsCutPast words c step
+
+-- the same of the command in a line
+abbrev pub IsLineUncut : List ℕ → Option (List ℕ) → Line → ℕ → TearFault → Type 0
+IsLineUncut words given l step fault = (c : Command) × (c.before.now ≡ l.before) × (c.line.now ≡ l.text) × (c.probe.now ≡ probe_of given l.before)
+    × IsUncutFor words c step fault
+
+-- one of the commands in these lines was not cut after each of its writes; or memory was refused for them
+abbrev pub IsOneUncut : List ℕ → Option (List ℕ) → List Line → TearFault → Type 0
+IsOneUncut words given lines fault = (fault ≡ NoMemory) ⊎ ((l : Line) × (k : ℕ) × (slice_get lines k ≡ Some l) × IsLineUncut words given l 1 fault)

@@ -1,12 +1,14 @@
 //! Cutting the power within a command, after each number of its word writes.
-ghost use Rattle.std.specs.Prelude.{◌≡◌, ◌<◌, ◌++◌, ◌∷◌, [], length, IfOk, OnOk, MatchOption};
+ghost use Rattle.std.specs.Prelude.{◌≡◌, ◌<◌, ◌++◌, ◌∷◌, ℕ, [], length, IfOk, MatchOption, MatchResult};
+ghost use Rattle.jcard_tear.specs.declared.tearing.TearFault.TheVariants.{NoMemory};
+ghost use Rattle.jcard_tear.specs.Faults.{IsUncutFor};
 ghost use Rattle.jcard_tear.specs.Sweeps.{AreCuts, IsCutAt, IsUncutAt, cut_script};
 ghost use Rattle.jcard_tear.specs.Told.{AreOfImage};
 
 use crate::progress::Progress;
 use crate::recoveries::recoveries;
-use crate::runs::{RunFault, left, run_copy};
-use crate::tearing::TearFault;
+use crate::runs::run_copy;
+use crate::tearing::{TearFault, left_by_probe, probe_fault};
 use crate::told::told;
 use itoa::Buffer;
 use jc_objects::image_objects::ImageObjects;
@@ -53,8 +55,10 @@ pub(crate) fn cut_all<P: Progress>(
 ) -> Result<Vec<Cut>, TearFault>
     requires short { length words.now < 65536 }
     requires whole { AreOfImage objects.now }
-    ensures { IfOk result (λ cuts. AreCuts words.now command.entry spared.now objects.now before.now after.now 0 cuts.items
-        × IsUncutAt words.now command.entry (length cuts.items)) }
+    ensures { MatchResult result
+        (λ cuts. AreCuts words.now command.entry spared.now objects.now before.now after.now 0 cuts.items
+        × IsUncutAt words.now command.entry (length cuts.items))
+        (λ fault. IsUncutFor words.now command.entry 1 fault) }
 {
     let mut cuts = Vec::new(alloc);
     for number in 0..MOST {
@@ -74,7 +78,8 @@ pub(crate) fn cut_all<P: Progress>(
 }
 
 pub(crate) fn push_cut(cuts: &mut Vec<Cut>, cut: Cut) -> Result<(), TearFault>
-    ensures { OnOk result (cuts.new.items ≡ cuts.old.items ++ cut ∷ []) }
+    ensures { MatchResult result (λ _. cuts.new.items ≡ cuts.old.items ++ cut ∷ [])
+        (λ fault. fault ≡ NoMemory) }
 {
     match cuts.push(cut) {
         Ok(()) => Ok(()),
@@ -89,10 +94,11 @@ pub(crate) fn cut_at(
     words: &[u16],
     command: Command,
     number: u16,
-) -> Result<Option<(Left, Recoveries)>, RunFault>
+) -> Result<Option<(Left, Recoveries)>, TearFault>
     requires { length words.now < 65536 }
-    ensures { IfOk result (λ cut. MatchOption cut (IsUncutAt words.now command.entry number)
-        (λ found. IsCutAt words.now command.entry number found.0 found.1)) }
+    ensures { MatchResult result (λ cut. MatchOption cut (IsUncutAt words.now command.entry number)
+        (λ found. IsCutAt words.now command.entry number found.0 found.1))
+        (λ fault. (step : ℕ) → IsUncutFor words.now command.entry step fault) }
 {
     let script = cut_script(alloc, command, number)?;
     let ran = run_copy(alloc, words, &script)?;
@@ -100,9 +106,11 @@ pub(crate) fn cut_at(
         return Ok(None);
     }
     let torn = Vec::from_slice(alloc, &ran.words)?;
-    let left = left(alloc, ran.words, command.probe)?;
-    let recoveries = recoveries(alloc, &torn, command.probe, command.behind.depth, &left)?;
-    Ok(Some((left, recoveries)))
+    let left = left_by_probe(alloc, ran.words, command.probe)?;
+    match recoveries(alloc, &torn, command.probe, command.behind.depth, &left) {
+        Ok(recoveries) => Ok(Some((left, recoveries))),
+        Err(fault) => Err(probe_fault(fault)),
+    }
 }
 
 // The script up to the command, with the power cut after so many of its writes.

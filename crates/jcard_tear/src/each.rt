@@ -1,6 +1,8 @@
 //! The commands of a script, each cut after each number of its writes.
-ghost use Rattle.std.specs.Prelude.{◌≡◌, ◌<◌, ◌++◌, ◌∷◌, ℕ, List, [], length, map, option_map, IfOk, OnOk};
+ghost use Rattle.std.specs.Prelude.{◌≡◌, ◌<◌, ◌++◌, ◌∷◌, ℕ, List, [], length, map, option_map, MatchResult};
 ghost use Rattle.std.specs.Borrow.{Bor};
+ghost use Rattle.jcard_tear.specs.declared.tearing.TearFault.TheVariants.{NoMemory};
+ghost use Rattle.jcard_tear.specs.Faults.{IsLineUncut, IsOneUncut};
 ghost use Rattle.jcard_tear.specs.ScriptLines.{line_of};
 ghost use Rattle.jcard_tear.specs.Sweeps.{AreSwept, IsLineSwept, probe_of};
 
@@ -23,9 +25,10 @@ pub fn tear_line<P: Progress>(
     progress: &mut P,
 ) -> Result<Sweep, TearFault>
     requires { length words.now < 65536 }
-    ensures { IfOk result (λ sweep. IsLineSwept words.now
+    ensures { MatchResult result (λ sweep. IsLineSwept words.now
         (option_map (λ (text : Bor (List ℕ)). text.now) probe.entry) behind
-        (line_of line.entry) sweep) }
+        (line_of line.entry) sweep) (λ fault. IsLineUncut words.now
+        (option_map (λ (text : Bor (List ℕ)). text.now) probe.entry) (line_of line.entry) 1 fault) }
 {
     let command = Command {
         before: line.before,
@@ -46,9 +49,10 @@ pub fn tear_each<P: Progress>(
     progress: &mut P,
 ) -> Result<Vec<LineSweep>, TearFault>
     requires { length words.now < 65536 }
-    ensures { IfOk result (λ sweeps. AreSwept words.now
+    ensures { MatchResult result (λ sweeps. AreSwept words.now
         (option_map (λ (text : Bor (List ℕ)). text.now) probe.entry) behind
-        (map line_of lines.now) sweeps.items) }
+        (map line_of lines.now) sweeps.items) (λ fault. IsOneUncut words.now
+        (option_map (λ (text : Bor (List ℕ)). text.now) probe.entry) (map line_of lines.now) fault) }
 {
     let mut sweeps = Vec::new(alloc);
     for line in lines {
@@ -71,7 +75,8 @@ pub(crate) fn probe_for<'a>(probe: Option<&'a [u8]>, before: &'a [u8]) -> &'a [u
 }
 
 fn push_sweep(sweeps: &mut Vec<LineSweep>, sweep: LineSweep) -> Result<(), TearFault>
-    ensures { OnOk result (sweeps.new.items ≡ sweeps.old.items ++ sweep ∷ []) }
+    ensures { MatchResult result (λ _. sweeps.new.items ≡ sweeps.old.items ++ sweep ∷ [])
+        (λ fault. fault ≡ NoMemory) }
 {
     match sweeps.push(sweep) {
         Ok(()) => Ok(()),

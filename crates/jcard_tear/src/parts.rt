@@ -1,6 +1,7 @@
 //! A part of the cuts of a command, so that several runs share a large sweep.
-ghost use Rattle.std.specs.Prelude.{◌≡◌, ◌<◌, ◌+◌, ◌*◌, ℕ, List, length, option_map, IfOk};
+ghost use Rattle.std.specs.Prelude.{◌≡◌, ◌<◌, ◌+◌, ◌*◌, ℕ, List, length, option_map, IfOk, MatchResult};
 ghost use Rattle.std.specs.Borrow.{Bor};
+ghost use Rattle.jcard_tear.specs.Faults.{IsLineUncut, IsUncutFor};
 ghost use Rattle.jcard_tear.specs.Parts.{AreEvery, IsLinePart, IsPartSwept};
 ghost use Rattle.jcard_tear.specs.ScriptLines.{line_of};
 ghost use Rattle.jcard_tear.specs.Sweeps.{IsUncutAt};
@@ -34,9 +35,11 @@ pub fn tear_line_part<P: Progress>(
     progress: &mut P,
 ) -> Result<Part, TearFault>
     requires { length words.now < 65536 }
-    ensures swept { IfOk result (λ part. IsLinePart words.now
+    ensures swept { MatchResult result (λ part. IsLinePart words.now
         (option_map (λ (text : Bor (List ℕ)). text.now) probe.entry) objects
-        (line_of line.entry) first step part) }
+        (line_of line.entry) first step part) (λ fault. IsLineUncut words.now
+        (option_map (λ (text : Bor (List ℕ)). text.now) probe.entry) (line_of line.entry) step
+        fault) }
     ensures below { IfOk result (λ part. part.first + part.step * length part.sweep.cuts.items < 65536) }
 {
     let command = Command {
@@ -61,7 +64,9 @@ pub fn tear_part<P: Progress>(
     progress: &mut P,
 ) -> Result<Part, TearFault>
     requires { length words.now < 65536 }
-    ensures swept { IfOk result (λ part. IsPartSwept words.now command.entry first step part) }
+    ensures swept { MatchResult result
+        (λ part. IsPartSwept words.now command.entry first step part)
+        (λ fault. IsUncutFor words.now command.entry step fault) }
     ensures below { IfOk result (λ part. part.first + part.step * length part.sweep.cuts.items < 65536) }
 {
     let (answer, after) = done(alloc, words, command)?;
@@ -102,8 +107,10 @@ fn cut_every<P: Progress>(
 ) -> Result<Vec<Cut>, TearFault>
     requires short { length words.now < 65536 }
     requires whole { AreOfImage objects.now }
-    ensures cut { IfOk result (λ cuts. AreEvery words.now command.entry spared.now objects.now before.now after.now first step cuts.items
-        × IsUncutAt words.now command.entry (first + step * length cuts.items)) }
+    ensures cut { MatchResult result
+        (λ cuts. AreEvery words.now command.entry spared.now objects.now before.now after.now first step cuts.items
+        × IsUncutAt words.now command.entry (first + step * length cuts.items))
+        (λ fault. IsUncutFor words.now command.entry step fault) }
     ensures below { IfOk result (λ cuts. first + step * length cuts.items < 65536) }
 {
     let mut cuts = Vec::new(alloc);

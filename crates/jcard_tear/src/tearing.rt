@@ -1,9 +1,9 @@
 //! A command that is cut after each number of its writes, beside what was before it and what it leaves.
-ghost use Rattle.std.specs.Prelude.{◌≡◌, ◌<◌, ◌++◌, length, vec_len, IfOk};
+ghost use Rattle.std.specs.Prelude.{◌≡◌, ◌<◌, ◌++◌, ℕ, length, vec_len, MatchResult};
 ghost use Rattle.jcard_tear.specs.declared.tearing.TearFault.TheVariants.{NoMemory};
 ghost use Rattle.jcard_tear.specs.Sweeps.{IsBegun, IsDone, IsLastLine, IsSwept};
 ghost use Rattle.jcard_tear.specs.Runs.{IsLeft};
-ghost use Rattle.jcard_tear.specs.Faults.{told_run_fault};
+ghost use Rattle.jcard_tear.specs.Faults.{IsProbeFault, IsUncutFor, told_probe_fault, told_run_fault};
 ghost use Rattle.jc_objects.specs.Pins.{AreTriesIn};
 
 use crate::cuts::{Command, cut_all};
@@ -19,7 +19,7 @@ use jcard_script::script::ScriptFault;
 use std::alloc::{AllocError, Global};
 
 /// What a command leaves is no whole image.
-pub(crate) const DAMAGED: TearFault = TearFault::Script(ScriptFault::PowerFault(
+pub(crate) const DAMAGED: TearFault = TearFault::Probe(ScriptFault::PowerFault(
     PowerFault::BadPackage,
 ));
 
@@ -29,7 +29,7 @@ pub enum TearFault {
     NoMemory,
     /// The script, up to the command, was not carried out to its end.
     Script(ScriptFault),
-    /// Nor was the probe.
+    /// Nor was a recovery behind it, or the probe.
     Probe(ScriptFault),
     /// The script cut the power itself, and the card is down at the command.
     Down,
@@ -48,7 +48,8 @@ pub fn tear<P: Progress>(
     progress: &mut P,
 ) -> Result<Sweep, TearFault>
     requires { length words.now < 65536 }
-    ensures { IfOk result (λ sweep. IsSwept words.now command.entry sweep) }
+    ensures { MatchResult result (λ sweep. IsSwept words.now command.entry sweep)
+        (λ fault. IsUncutFor words.now command.entry 1 fault) }
 {
     let (answer, after) = done(alloc, words, command)?;
     let before = begun(alloc, words, command)?;
@@ -74,7 +75,8 @@ pub(crate) fn done(
     command: Command,
 ) -> Result<(Vec<u8>, Left), TearFault>
     requires { length words.now < 65536 }
-    ensures { IfOk result (λ r. IsDone words.now command.entry r.0.items r.1) }
+    ensures { MatchResult result (λ r. IsDone words.now command.entry r.0.items r.1)
+        (λ fault. (step : ℕ) → IsUncutFor words.now command.entry step fault) }
 {
     let mut script = Vec::from_slice(alloc, command.before)?;
     script.extend_from_slice(command.line)?;
@@ -90,27 +92,40 @@ pub(crate) fn done(
 // What is left by the lines before a command.
 pub(crate) fn begun(alloc: Global, words: &[u16], command: Command) -> Result<Left, TearFault>
     requires { length words.now < 65536 }
-    ensures { IfOk result (λ left. IsBegun words.now command.entry left) }
+    ensures { MatchResult result (λ left. IsBegun words.now command.entry left)
+        (λ fault. (step : ℕ) → IsUncutFor words.now command.entry step fault) }
 {
     let ran = run_copy(alloc, words, command.before)?;
     left_by_probe(alloc, ran.words, command.probe)
 }
 
 // What a reset finds and the probe is answered; what is wrong then is wrong with the probe.
-fn left_by_probe(alloc: Global, words: Vec<u16>, probe: &[u8]) -> Result<Left, TearFault>
+pub(crate) fn left_by_probe(alloc: Global, words: Vec<u16>, probe: &[u8]) -> Result<Left, TearFault>
     requires { vec_len words < 65536 }
-    ensures { IfOk result (λ left. IsLeft words.items probe.now left) }
+    ensures { MatchResult result (λ left. IsLeft words.items probe.now left)
+        (λ fault. IsProbeFault fault) }
 {
     match left(alloc, words, probe) {
         Ok(left) => Ok(left),
-        Err(RunFault::NoMemory) => Err(TearFault::NoMemory),
-        Err(RunFault::Script(fault)) => Err(TearFault::Probe(fault)),
+        Err(fault) => Err(probe_fault(fault)),
+    }
+}
+
+// What it means that a recovery, or the probe behind it, was not carried out to its end.
+pub(crate) fn probe_fault(fault: RunFault) -> TearFault
+    ensures told { result ≡ told_probe_fault fault }
+    ensures probe { IsProbeFault result }
+{
+    match fault {
+        RunFault::NoMemory => TearFault::NoMemory,
+        RunFault::Script(fault) => TearFault::Probe(fault),
     }
 }
 
 // The words with the tries of the OwnerPINs in what is left.
 pub(crate) fn tries_in(alloc: Global, left: &Left) -> Result<Vec<u16>, TearFault>
-    ensures { IfOk result (λ tries. AreTriesIn left.now.words.items tries.items) }
+    ensures { MatchResult result (λ tries. AreTriesIn left.now.words.items tries.items)
+        (λ fault. IsProbeFault fault) }
 {
     let copy = Vec::from_slice(alloc, &left.words)?;
     match try_words(alloc, copy) {

@@ -21,7 +21,7 @@ fresh : (b : Bool) (d x : HeapState) → b ≡ false → (if b then d else x) �
 fresh true d x e = absurd (true≢false e)
 fresh false d x e = refl
 
-kept : (b : Bool) (d x : HeapState) → b ≡ true → (if b then d else x) ≡ d
+pub kept : (b : Bool) (d x : HeapState) → b ≡ true → (if b then d else x) ≡ d
 kept true d x e = refl
 kept false d x e = absurd (true≢false (sym e))
 
@@ -174,7 +174,7 @@ begins_second : {A : Type 0} (x y : Program A) (s : MemoryState) (es : List Effe
 begins_second x y s [] begins = tt
 begins_second x y s (e ∷ es) begins = inr begins
 
-due_begun : {A : Type 0} (P : Effect → MemoryState → Type 0) (d : Program A) (s : MemoryState) (es : List Effect) → AllDue P d s → HasTracePrefix d s es
+pub due_begun : {A : Type 0} (P : Effect → MemoryState → Type 0) (d : Program A) (s : MemoryState) (es : List Effect) → AllDue P d s → HasTracePrefix d s es
     → AllEffectsDue P es s
 due_begun P d s [] due begins = tt
 due_begun P (Finish a) s (e ∷ es) due begins = absurd begins
@@ -185,10 +185,10 @@ due_begun P (Either x y) s (e ∷ es) due (inl begins) = due_begun P x s (e ∷ 
 due_begun P (Either x y) s (e ∷ es) due (inr begins) = due_begun P y s (e ∷ es) due.1 begins
 
 -- a loss comes behind a beginning
-abbrev LostAt : {A : Type 0} → Program A → MemoryState → HeapState → Type 0
+abbrev pub LostAt : {A : Type 0} → Program A → MemoryState → HeapState → Type 0
 LostAt d s h = (es : List Effect) × HasTracePrefix d s es × (h ≡ (apply_effects es s).heap.durable)
 
-lost_at : {A : Type 0} (d : Program A) (s : MemoryState) (h : HeapState) → TearLeaves d s h → LostAt d s h
+pub lost_at : {A : Type 0} (d : Program A) (s : MemoryState) (h : HeapState) → TearLeaves d s h → LostAt d s h
 lost_at (Finish x) s h left = absurd left
 lost_at (Perform (HeapMove m) rest) s h (inl e) = ([], tt, e)
 lost_at (Perform (HeapMove m) rest) s h (inr left) = let p = lost_at rest (apply_effect (HeapMove m) s) h left in (HeapMove m ∷ p.0, (refl, p.1), p.2)

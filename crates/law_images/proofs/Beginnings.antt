@@ -23,6 +23,7 @@ use Rattle.jc_platform.specs.Tokens.{Tokens}
 use Rattle.jc_card.specs.Fixed.{fixed_facts, fixed_objects, fixed_of, object_number}
 use Rattle.law_images.specs.Heaps.{HasBeginning}
 use Rattle.law_images.proofs.Finding.{found_put, found_still, found_there, looked_up_still}
+use Rattle.law_soundness.proofs.Statics.{object-with_word}
 
 -- the first words and the table are the same, and each object is followed by the one that followed it
 pub record Stays (h g : HeapState) : Type 0 where
@@ -44,10 +45,6 @@ stays_then h g k first second = record {
 object-with_cell : (t : Item) (i v : ℕ) → is_object (with_cell t i v) ≡ is_object t
 object-with_cell (AnObject o) i v = refl
 object-with_cell (APackage ws) i v = refl
-
-object-with_word : (t : Item) (j v : ℕ) → is_object (with_word t j v) ≡ is_object t
-object-with_word (AnObject o) j v = refl
-object-with_word (APackage ws) j v = refl
 
 next-set_cell : (h : HeapState) (r i v q : ℕ) → next_object (set_cell h r i v) q ≡ next_object h q
 unfolding next_object set_cell heap_item_at

@@ -1,6 +1,7 @@
 -- The static image of a package's record that was written.
 use Rattle.std.proofs.Common.{◌≡◌, ℕ, suc, ◌+◌, ◌-◌, ◌*◌, ◌/◌, ◌<◌, ◌≤◌, List, [], ◌∷◌, ◌++◌, length, drop, get_or, replicate, refl, ◌∙◌, ap, arith}
 use Rattle.std.proofs.Common.{append_assoc, Some}
+use Rattle.jc_cap_linkage.proofs.FoundHeader.{back_of}
 use Rattle.std.proofs.lemmas.List.{length-append, length-replicate, get_or_append_left, get_or-append_right}
 use Rattle.jc_heap.specs.declared.object.Kind.{Kind}
 use Rattle.jc_heap.specs.Components.{part_sizes, words_for}
@@ -12,10 +13,6 @@ use Rattle.jc_heap.proofs.NewPackages.{length-package_record}
 use Rattle.jc_heap.proofs.Packing.{length-array_addresses, length-packed_words, packed_words-word}
 use Rattle.jc_heap.proofs.StaticImages.{image-here, image-next, statics-walk}
 use Rattle.law_soundness.proofs.Lists.{zeros}
-
-drop_front : (xs ys : List ℕ) → drop (length xs) (xs ++ ys) ≡ ys
-drop_front [] ys = refl
-drop_front (x ∷ xs) ys = drop_front xs ys
 
 word_behind : (xs ys : List ℕ) (i : ℕ) → get_or (xs ++ ys) (length xs + i) 0 ≡ get_or ys i 0
 word_behind xs ys i = get_or-append_right xs ys (length xs) (length xs + i) 0 refl (omega arith) ∙ ap (λ n. get_or ys n 0) (omega arith)
@@ -39,7 +36,7 @@ walk at (c ∷ cs) image tagged =
     ap (λ l. image_from (records_from part_sizes 0 at l)) whole
     ∙ image-next at ws (omega arith) (λ e. omega (arith, e, some))
     ∙ ap (λ m. image_from (records_from part_sizes 0 (at + (2 + m)) (drop (2 + m) ws))) words
-    ∙ ap (λ l. image_from (records_from part_sizes 0 (at + (2 + length (packed_words c.1))) l)) (ap (λ m. drop m ws) size ∙ drop_front (component_words c) more)
+    ∙ ap (λ l. image_from (records_from part_sizes 0 (at + (2 + length (packed_words c.1))) l)) (ap (λ m. drop m ws) size ∙ back_of (component_words c) more)
     ∙ walk (at + (2 + length (packed_words c.1))) cs image tagged.1
     ∙ ap Some (omega (arith, length-append (component_words c) (components_words cs)))
 

@@ -23,10 +23,11 @@ use Rattle.jc_card_load.specs.PendingPackages.{PendingPackageValue, linked_compo
 use Rattle.jc_card_load.specs.Reading.{load_of, packages_of, with_prepared, with_records}
 use Rattle.law_images.specs.Kept.{IsReadAs}
 use Rattle.law_images.specs.Loaded.{IsReadable, LoadedPackagesReadBack}
-use Rattle.law_images.proofs.ReadingHeaps.{packages-add_object, records_same}
+use Rattle.law_images.proofs.ReadingHeaps.{records_same}
 use Rattle.law_images.proofs.Preparing.{Prepares, are_read, assembled_is, has_all, prepares}
 use Rattle.law_images.proofs.ReadingTexts.{AreRead, load_back}
 use Rattle.law_images.proofs.Arrays.{item_behind}
+use Rattle.law_soundness.proofs.Objects.{packages-add_object}
 
 -- ---- what stands in the heap
 

@@ -22,6 +22,8 @@ use Rattle.jc_card_load.specs.PendingPackages.{linked_components}
 use Rattle.jc_card_load.specs.Reading.{load_of, packages_of, with_prepared, with_records}
 use Rattle.law_soundness.proofs.Cells.{record-set_cell}
 use Rattle.law_soundness.proofs.Statics.{record-other, record-set_word, statics_set}
+use Rattle.law_soundness.proofs.Pins.{packages-set_place}
+use Rattle.law_soundness.proofs.Objects.{packages-add_object}
 use Rattle.law_images.proofs.ReadingRecords.{load_set}
 
 -- the same packages' records say the same of their components
@@ -73,13 +75,6 @@ record-registry h i v q = refl
 record-count : (h : HeapState) (v q : ℕ) → record_of (set_place h AppletCount v) q ≡ record_of h q
 unfolding heap_item_at
 record-count h v q = refl
-
-packages-set_place : (h : HeapState) (p : Place) (v : ℕ) → (set_place h p v).packages ≡ h.packages
-unfolding set_cell set_word
-packages-set_place h (Cell r i) v = refl
-packages-set_place h (Static r j) v = refl
-packages-set_place h (Registry i) v = refl
-packages-set_place h AppletCount v = refl
 
 -- a word of a package's record is one of its image
 abbrev pub IsPlaced : HeapState → Place → Type 0
@@ -151,10 +146,6 @@ pub run_tells : (h : HeapState) (r i : ℕ) (vs : List ℕ) → TellSame h (set_
 run_tells h r i [] = still h h refl (λ k lt. refl)
 run_tells h r i (v ∷ vs) = also h (set_cell h r i v) (set_cells (set_cell h r i v) r (suc i) vs) (place_tells h (Cell r i) v tt)
     (run_tells (set_cell h r i v) r (suc i) vs)
-
-pub packages-add_object : (h : HeapState) (o : Object) (n : ℕ) → (add_object h o n).packages ≡ h.packages
-unfolding add_object
-packages-add_object h o n = refl
 
 -- no package's record stands at the end
 pub below_end : (h : HeapState) (k : ℕ) → AreAllocated h h.packages → is_allocated h h.top ≡ false → k < length h.packages → h.top ≡ get_or h.packages k 0 → ⊥

@@ -27,7 +27,7 @@ use Rattle.jc_dispatch.specs.AppletResults.{is_select_accepted}
 use Rattle.jc_dispatch.specs.Installing.{applet_installation, next_applet, with_installation}
 use Rattle.jc_dispatch.specs.AdHocCode.{ad_hoc_run}
 use Rattle.jc_dispatch.specs.Phases.{then_with, applet_method_call, close, abort_if_open, instance_of, method_run, registers_released}
-use Rattle.jc_dispatch.specs.Selecting.{after_select, header_of, deselection, manager_selection, process_command, applet_selection, with_command, with_selected}
+use Rattle.jc_dispatch.specs.Selecting.{after_select, header_of, applet_left, deselection, manager_selection, process_command, applet_selection, with_command, with_next, with_selected}
 use Rattle.jc_card_load.specs.PendingPackages.{PendingPackageValue, linked_components}
 use Rattle.jc_card_load.specs.RecordContents.{arrays_of, image_of, parts_of, statics_of}
 use Rattle.jc_card_load.specs.declared.load_refusal.LoadRefusal.{LoadRefusal}
@@ -84,13 +84,20 @@ closed_shut m = closing_shut m.heap.begun m refl
 
 -- ---- applets
 
-left_shut : (budget : ℕ) (p : Packages) (selected_one : Option AppletNumber) (m : MemoryState) → m.heap.begun ≡ false
-    → EndsShut (deselection budget p selected_one m) m
-unfolding deselection
-left_shut budget p None m shut = stays_shut shut
-left_shut budget p (Some a) m shut =
+applet_left_shut : (budget : ℕ) (p : Packages) (one : Option AppletNumber) (m : MemoryState) → m.heap.begun ≡ false
+    → EndsShut (applet_left budget p one m) m
+unfolding applet_left
+applet_left_shut budget p None m shut = stays_shut shut
+applet_left_shut budget p (Some a) m shut =
     then_shut _ (λ end v. still_shut _ (λ u w none. stays_shut none) (close v) v (closed_shut v))
     (applet_method_call budget p AppletDeselect (instance_of m a.0) (Reference (instance_of m a.0) ∷ []) (Applet a) m) m
+
+left_shut : (budget : ℕ) (p : Packages) (next : Option AppletNumber) (m : MemoryState) → m.heap.begun ≡ false
+    → EndsShut (deselection budget p next m) m
+unfolding deselection
+left_shut budget p next m shut =
+    let v = apply_effect (SetRegisters (with_next next m.registers)) m in
+    behind _ _ m (applet_left_shut budget p m.registers.selected v shut)
 
 processed_shut : (budget : ℕ) (p : Packages) (a : AppletNumber) (selecting : Bool) (expected : ℕ) (m : MemoryState)
     → EndsShut (process_command budget p a selecting expected m) m
@@ -115,11 +122,11 @@ selected_shut budget p a expected m =
     behind _ _ v (then_shut _ (λ end x. still_shut _ (λ u y none. accepted_shut (is_select_accepted end.1) end.0 p a expected y none) (close x) x
     (closed_shut x))
     (applet_method_call rest p AppletSelect (instance_of w a.0) (Reference (instance_of w a.0) ∷ []) (Applet a) w) w))
-    (deselection budget p m.registers.selected m) m
+    (deselection budget p (Some a) m) m
 
 managed_shut : (budget : ℕ) (p : Packages) (m : MemoryState) → m.heap.begun ≡ false → EndsShut (manager_selection budget p m) m
 unfolding manager_selection
-managed_shut budget p m shut = still_shut _ (λ rest v none. stays_shut none) _ m (left_shut budget p m.registers.selected m shut)
+managed_shut budget p m shut = still_shut _ (λ rest v none. stays_shut none) _ m (left_shut budget p None m shut)
 
 installed_shut : (budget : ℕ) (p : Packages) (q : PackageNumber) (entry offset : ℕ) (parameters : List ℕ) (m : MemoryState)
     → EndsShut (applet_installation budget p q entry offset parameters m) m

@@ -12,3 +12,6 @@ pub mod CardImages
 pub mod Faults
 pub mod Rest
 pub mod Scripts
+pub mod Comes
+pub mod Tries
+pub mod Left

@@ -59,6 +59,21 @@ ServeLines [] s t text = (t ≡ s) × (text ≡ [])
 ServeLines (line ∷ more) s t text = (first rest : List ℕ) × (next : PowerState) × (text ≡ first ++ rest) × ServesForm (form_of line) s next first
     × ServeLines more next t rest
 
+-- these lines are served, and of one of them this is written
+pub record ServeWithOne (carried : List (List ℕ)) (s last : PowerState) (text told : List ℕ) : Type 0 where
+  pub before : List (List ℕ)
+  pub line : List ℕ
+  pub after : List (List ℕ)
+  pub mid : PowerState
+  pub next : PowerState
+  pub first : List ℕ
+  pub rest : List ℕ
+  pub are : carried ≡ before ++ line ∷ after
+  pub are_told : text ≡ first ++ (told ++ rest)
+  pub up : ServeLines before s mid first
+  pub one : ServesForm (form_of line) mid next told
+  pub behind : ServeLines after next last rest
+
 -- a session of these lines over a store: a power up, and then the lines are served so and lead there
 abbrev pub IsSessionOfScript : FuseStoreValue → List (List ℕ) → List ℕ → PowerState → Type 0
 IsSessionOfScript before carried text last = (first : PowerState) × Starts (state_of before) first × ServeLines carried first last text

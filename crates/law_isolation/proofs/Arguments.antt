@@ -1,6 +1,7 @@
 -- What checks of arguments say where they let a call go on.
 use Rattle.std.proofs.Common.{◌≡◌, ℕ, ◌+◌, ◌≤◌, Bool, true, false, List, length, Option, Some, None, Result, Ok, Err, refl, sym, ◌∙◌, ap, subst, arith}
-use Rattle.std.proofs.Common.{if◌then◌else◌}
+use Rattle.std.proofs.Common.{if◌then◌else◌, inl, inr}
+use Rattle.std.specs.Prelude.{◌⊎◌}
 use Rattle.std.proofs.lemmas.Bool.{and_parts, eqb-true, leb-true, ne_eqb}
 use Rattle.std.proofs.lemmas.List.{length-map}
 use Rattle.std.proofs.lemmas.List.FromFn.{length-range_with_len}
@@ -13,7 +14,7 @@ use Rattle.jc_heap.specs.declared.object.Kind.TheVariants.{Instance, BooleanArra
 use Rattle.jc_heap.specs.Object.{kind_number}
 use Rattle.jc_heap.specs.Heap.{IsObject, facts}
 use Rattle.jc_frames.specs.declared.cell.Cell.{Cell}
-use Rattle.jc_frames.specs.declared.outcome.Exception.TheVariants.{ArrayIndexOutOfBoundsException}
+use Rattle.jc_frames.specs.declared.outcome.Exception.TheVariants.{ArrayIndexOutOfBoundsException, NullPointerException}
 use Rattle.jc_frames.specs.declared.outcome.Outcome.TheVariants.{Fault}
 use Rattle.jc_frames.specs.declared.outcome.FrameExit.{FrameExit}
 use Rattle.jc_frames.specs.declared.outcome.FrameExit.TheVariants.{Throw, End}
@@ -32,6 +33,7 @@ use Rattle.jc_world.specs.Instances.{IsInstanceWith, instance_at, with_cells}
 use Rattle.jc_world.specs.Numbers.{not_negative}
 use Rattle.jc_api_data.specs.ApduBuffer.{buffer_of, is_buffer, is_buffer_of}
 use Rattle.jc_api_data.specs.UtilArguments.{counted_of, pair_of, two_of}
+use Rattle.jc_api_runtime.specs.SystemMemory.{first_of_two, if_shorts, if_shorts_there, shorts_argument}
 use Rattle.law_isolation.proofs.Reaching.{element_allowed, err_not_ok, header_is, object_is, same_Ok}
 
 -- a check and then another one: both let it go on
@@ -39,10 +41,14 @@ pub both_ok : {A B : Type 0} (o : Result A FrameExit) (go : A → Result B Frame
 both_ok (Ok a) go b e = (a, refl, e)
 both_ok (Err x) go b e = absurd (err_not_ok e)
 
--- elements of an array of bytes within reach
+-- an array of numbers whose elements calls set
+abbrev pub HoldsNumbers : Kind → Type 0
+HoldsNumbers kind = (kind ≡ ByteArray) ⊎ (kind ≡ ShortArray)
+
+-- elements of such an array within reach
 pub record IsStretch (p : Packages) (m : MemoryState) (r : ℕ) (count : ℤ) (e : Stretch) : Type 0 where
   pub array : e.array ≡ r
-  pub kind : (facts m.heap.now r).kind ≡ ByteArray
+  pub kind : HoldsNumbers (facts m.heap.now r).kind
   pub reach : IsInReach (situation_of p m (facts m.heap.now r))
   pub within : e.start + e.count ≤ (facts m.heap.now r).length
   pub counted : not_negative count ≡ Some e.count
@@ -83,7 +89,7 @@ module _ (p : Packages) (m : MemoryState) (r : ℕ) (start count : ℤ) (e : Str
       let s : Stretch = record { array = r; start = n; count = c } in
       subst (IsStretch p m r count) (same_Ok s e fine) (record {
         array = refl;
-        kind = subst (λ g. g.kind ≡ ByteArray) is.0 is.1;
+        kind = inl (subst (λ g. g.kind ≡ ByteArray) is.0 is.1);
         reach = subst (λ g. IsInReach (situation_of p m g)) is.0 reach;
         within = subst (λ g. n + c ≤ g.length) is.0 (leb-true (n + c) f.length le);
         counted = counts;
@@ -105,6 +111,48 @@ module _ (p : Packages) (m : MemoryState) (r : ℕ) (start count : ℤ) (e : Str
   -- the elements of an argument that a call may read or write
   pub stretch_is : (argument : Option Facts) → bytes_argument m r ≡ Ok argument → elements_of p m r argument start count ≡ Ok e → IsStretch p m r count e
   stretch_is argument there fine = stretch_in argument (argument_is m r argument there) fine
+
+-- the array of shorts that a reference argument names
+shorts_if : (kind : Kind) (f g : Facts) → if_shorts kind f ≡ Ok g → (g ≡ f) × (kind ≡ ShortArray)
+shorts_if Instance f g e = absurd (err_not_ok e)
+shorts_if BooleanArray f g e = absurd (err_not_ok e)
+shorts_if ByteArray f g e = absurd (err_not_ok e)
+shorts_if ShortArray f g e = (sym (same_Ok f g e), refl)
+shorts_if ReferenceArray f g e = absurd (err_not_ok e)
+
+module _ (m : MemoryState) (r : ℕ) (f : Facts) where
+  shorts_there : (o : Option Facts) → header_at m r ≡ o → if_shorts_there o ≡ Ok f → (f ≡ facts m.heap.now r) × (f.kind ≡ ShortArray)
+  shorts_there None is e = absurd (err_not_ok e)
+  shorts_there (Some g) is e = let so = shorts_if g.kind g f e in (so.0 ∙ (header_is m r g is).1, ap (λ x. x.kind) so.0 ∙ so.1)
+
+  shorts_in : (null : Bool) → (if null then Err (Throw NullPointerException) else if_shorts_there (header_at m r)) ≡ Ok f
+      → (f ≡ facts m.heap.now r) × (f.kind ≡ ShortArray)
+  shorts_in true e = absurd (err_not_ok e)
+  shorts_in false e = shorts_there (header_at m r) refl e
+
+  shorts_are : shorts_argument m r ≡ Ok f → (f ≡ facts m.heap.now r) × (f.kind ≡ ShortArray)
+  unfolding shorts_argument
+  shorts_are e = shorts_in (r == 0) e
+
+two_if : (length n i : ℕ) (b : Bool) → nat_le (n + 2) length ≡ b → (if b then Ok n else Err (Throw ArrayIndexOutOfBoundsException)) ≡ Ok i → i + 2 ≤ length
+two_if length n i false le e = absurd (err_not_ok e)
+two_if length n i true le e = subst (λ k. k + 2 ≤ length) (same_Ok n i e) (leb-true (n + 2) length le)
+
+two_within : (length : ℕ) (o : Option ℕ) (i : ℕ) → first_of_two length o ≡ Ok i → i + 2 ≤ length
+two_within length None i e = absurd (err_not_ok e)
+two_within length (Some n) i e = two_if length n i (nat_le (n + 2) length) refl e
+
+-- the two elements of it that a call writes
+pub shorts_is : (p : Packages) (m : MemoryState) (r i : ℕ) (f : Facts) (u : Unit {0}) (start : ℤ) → shorts_argument m r ≡ Ok f
+    → firewall_check ArrayElement p m f ≡ Ok u → first_of_two f.length (not_negative start) ≡ Ok i
+    → IsStretch p m r (pos 2) (record { array = r; start = i; count = 2 })
+shorts_is p m r i f u start there allowed first = let is = shorts_are m r f there in record {
+  array = refl;
+  kind = inr (subst (λ g. g.kind ≡ ShortArray) is.0 is.1);
+  reach = subst (λ g. IsInReach (situation_of p m g)) is.0 (element_allowed p m f allowed);
+  within = subst (λ g. i + 2 ≤ g.length) is.0 (two_within f.length (not_negative start) i first);
+  counted = refl;
+}
 
 -- the elements that a call of two arrays writes, as many as it reads
 pub pair_is : (p : Packages) (m : MemoryState) (n : _) (a : _) → pair_of p m n ≡ Ok a → IsStretch p m n.destination n.count a.to × (a.from.count ≡ a.to.count)

@@ -52,8 +52,9 @@ use Rattle.jc_platform.specs.declared.names.PlatformMethod.TheVariants.{PinExcep
 use Rattle.jc_platform.specs.declared.names.PlatformMethod.TheVariants.{TransactionExceptionInit, TransactionExceptionThrowIt, UserExceptionInit}
 use Rattle.jc_platform.specs.declared.names.PlatformMethod.TheVariants.{UserExceptionThrowIt, UtilArrayCompare, UtilArrayCopy, UtilGetShort, UtilMakeShort}
 use Rattle.jc_platform.specs.declared.names.PlatformMethod.TheVariants.{UtilArrayFill, UtilSetShort, UserExceptionInitWithoutReason, OwnerPinGetValidatedFlag, OwnerPinSetValidatedFlag}
-use Rattle.jc_platform.specs.declared.names.PlatformMethod.TheVariants.{AidRidEquals, AidPartialEquals, AidGetPartialBytes, JcSystemIsAppletActive, ApduGetIncomingLength, ApduGetOffsetCdata}
+use Rattle.jc_platform.specs.declared.names.PlatformMethod.TheVariants.{AidRidEquals, AidPartialEquals, AidGetPartialBytes, JcSystemIsAppletActive, JcSystemGetAvailableMemory, ApduGetIncomingLength, ApduGetOffsetCdata}
 use Rattle.jc_platform.specs.declared.names.PlatformMethod.TheVariants.{ApduSendBytesLong, ApduSetOutgoingNoChaining, ApduGetCurrentApdu, ApduGetCurrentApduBuffer}
+use Rattle.jc_platform.specs.declared.names.PlatformMethod.TheVariants.{JcSystemGetAvailableMemoryShorts}
 use Rattle.jc_platform.specs.Distinct.{class_of, class_word}
 use Rattle.jc_platform.specs.Names.{methods}
 use Rattle.jc_pin.specs.declared.updating.PinRefusal.{PinRefusal}
@@ -88,6 +89,10 @@ use Rattle.jc_api_data.specs.OwnerPin.{owner_pin_set_validated_flag}
 use Rattle.jc_api_runtime.specs.SystemSharing.{jc_system_lookup_aid, server_call_result, server_call_by_aid, server_call_if_known}
 use Rattle.jc_api_runtime.specs.SystemSharing.{jc_system_get_applet_shareable_interface_object, jc_system_is_applet_active}
 use Rattle.jc_api_runtime.specs.System.{system_call}
+use Rattle.jc_api_runtime.specs.SystemMemory.{available_bytes, first_of_two, jc_system_get_available_memory, jc_system_get_available_memory_shorts}
+use Rattle.jc_api_runtime.specs.SystemMemory.{shorts_argument, shorts_of_count}
+use Rattle.jc_firewall.specs.declared.access.Access.TheVariants.{ArrayElement}
+use Rattle.jc_world.specs.Contexts.{firewall_check}
 use Rattle.jc_api_runtime.specs.SystemTransactions.{jc_system_abort_transaction, after_abort, jc_system_begin_transaction, jc_system_commit_transaction}
 use Rattle.jc_api_runtime.specs.SystemTransactions.{commit_of_applet}
 use Rattle.jc_api_runtime.specs.SystemTransient.{jc_system_make_transient_array, jc_system_is_transient, requested_array}
@@ -103,7 +108,7 @@ use Rattle.jc_interp.specs.Parts.{part_of}
 use Rattle.law_isolation.specs.Natives.{sets_receiver}
 use Rattle.jc_world.specs.NativeCalls.{NativeProgram}
 use Rattle.jc_world.specs.Numbers.{not_negative}
-use Rattle.law_isolation.proofs.Arguments.{buffer_is, counted_is, instance_is, length_bytes, pair_is, stretch_is, two_is}
+use Rattle.law_isolation.proofs.Arguments.{buffer_is, counted_is, instance_is, length_bytes, pair_is, shorts_is, stretch_is, two_is}
 use Rattle.law_isolation.proofs.Due.{call_ok, call_some, call_unless, due_if, kept_each}
 use Rattle.law_isolation.proofs.Passing.{Bears, IsPinCall, MethodPasses}
 
@@ -124,6 +129,10 @@ module _ (P : Effect → MemoryState → Type 0) (args : List Cell) (p : Package
   thrown_due of = call_some P m (short_argument args 0) _ (λ reason is. tt)
 
   -- JCSystem
+  memory_told_due : AllDue P (jc_system_get_available_memory args m) m
+  unfolding jc_system_get_available_memory
+  memory_told_due = call_some P m (short_argument args 0) _ (λ type is. call_ok P m (available_bytes m type) _ (λ count fine. tt))
+
   looked_up_due : AllDue P (jc_system_lookup_aid args p m) m
   unfolding jc_system_lookup_aid
   looked_up_due = call_some P m (reference_argument args 0) _ (λ array is. call_some P m (short_argument args 1) _
@@ -364,6 +373,15 @@ module _ (P : Effect → MemoryState → Type 0) (Q : MemoryState → Type 0) (b
       call_unless P m (cells_refusal m e.array e.start (filling_of v e)) _ (λ room.
       (pass.stretch counted.0 counted.1 e (filling_of v e) counted.2 (length-replicate e.count (cast_unsigned w16 v % 256)), tt))))
 
+  -- JCSystem
+  memory_set_due : AllDue P (jc_system_get_available_memory_shorts args p m) m
+  unfolding jc_system_get_available_memory_shorts
+  memory_set_due = call_some P m (reference_argument args 0) _ (λ array a. call_some P m (short_argument args 1) _ (λ start s.
+      call_some P m (short_argument args 2) _ (λ type t. call_ok P m (shorts_argument m array) _ (λ f there.
+      call_ok P m (firewall_check ArrayElement p m f) _ (λ u allowed. call_ok P m (first_of_two f.length (not_negative start)) _ (λ i first.
+      call_ok P m (available_bytes m type) _ (λ count fine. call_unless P m (cells_refusal m array i (shorts_of_count count)) _ (λ room.
+      (pass.stretch array (pos 2) _ (shorts_of_count count) (shorts_is p m array i f u start there allowed first) refl, tt)))))))))
+
   -- AID
   aid_made_due : method ≡ AidInit → AllDue P (aid_init args p m) m
   unfolding aid_init
@@ -569,6 +587,8 @@ module _ (P : Effect → MemoryState → Type 0) (Q : MemoryState → Type 0) (b
   system_due JcSystemBeginTransaction pass = begun_due P Q bears m so m.registers.depth
   system_due JcSystemCommitTransaction pass = committed_due P Q bears m so m.registers.depth
   system_due JcSystemGetAppletShareableInterfaceObject pass = server_due P args p m
+  system_due JcSystemGetAvailableMemory pass = memory_told_due P args p m
+  system_due JcSystemGetAvailableMemoryShorts pass = memory_set_due P Q bears JcSystemGetAvailableMemoryShorts args p m so pass
   system_due JcSystemIsAppletActive pass = active_due P args p m
   system_due JcSystemIsTransient pass = event_due P args p m
   system_due JcSystemLookupAid pass = looked_up_due P args p m

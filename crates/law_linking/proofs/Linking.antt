@@ -28,7 +28,7 @@ use Rattle.jc_linker.specs.Outlines.{package_outline}
 use Rattle.jc_linker.specs.Completeness.{are_complete, are_complete_from, has_superclass, inherits_from, is_implemented, is_complete}
 use Rattle.law_linking.specs.Linked.{IsLinkedAgainst}
 use Rattle.law_linking.proofs.Lists.{AllOf, IfThere, all_behind, all_more, map_there}
-use Rattle.law_linking.proofs.Numbers.{Stands, class_stands, interface_stands, platform_high, stands_more}
+use Rattle.law_linking.proofs.Numbers.{Stands, class_stands, interface_stands, platform_high, stands_more, one_of}
 use Rattle.law_linking.proofs.Closed.{IsClosed, IsClosedClass, IsClosedPackage, anything, package_more}
 
 -- ---- what answered
@@ -47,7 +47,7 @@ value_or d (Err e) = d
 abbrev as_ok : {A : Type 0} → A → Result A LinkFault
 as_ok x = Ok x
 
-ok_value : {A : Type 0} (x y : A) → as_ok x ≡ as_ok y → x ≡ y
+pub ok_value : {A : Type 0} (x y : A) → as_ok x ≡ as_ok y → x ≡ y
 ok_value x y is = ap (value_or x) is
 
 then_ok : {A B : Type 0} (r : Result A LinkFault) (f : A → Result B LinkFault) (y : B) → then_on r f ≡ Ok y → (x : A) × (r ≡ Ok x) × (f x ≡ Ok y)
@@ -165,10 +165,6 @@ imports_stand p (i ∷ is) ns are =
     subst (AllOf (Stands (length p.loaded))) (ok_value (a.0 ∷ b.0) ns b.2) (import_stands p i a.0 a.1, imports_stand p is b.0 b.1)
 
 -- ---- classes
-
-one_of : (a b : Bool) → (a || b) ≡ true → (a ≡ true) ⊎ (b ≡ true)
-one_of true b e = inl refl
-one_of false b e = inr e
 
 carried_stand : (p : Packages) (number class : ℕ) (is : List Implementation) → list_all (is_implemented p number class) is ≡ true
     → AllOf (λ i. Stands (length p.loaded) (i.interface / 256)) is

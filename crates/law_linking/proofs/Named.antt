@@ -25,20 +25,18 @@ use Rattle.law_linking.proofs.Fields.{any_field, any_foreign, any_super, of_entr
 use Rattle.law_linking.proofs.ResolutionLaws.{linked_closed}
 use Rattle.law_linking.proofs.Lists.{IfThere, all_at, map_there}
 use Rattle.law_linking.specs.Given.{AreRead, HasByteTokens}
-use Rattle.law_linking.proofs.Tokens.{HasToken, class_is, word_told}
+use Rattle.law_linking.proofs.Tokens.{HasToken, class_is, word_parts, word_told}
 
 abbrev IsThere : Packages → ℕ → Type 0
 IsThere p w = is_class p w ≡ true
 
 -- a package's class by its place
-at_place : (number place : ℕ) → place < 256 → ((256 * number + place) / 256 ≡ number) × ((256 * number + place) % 256 ≡ place)
-at_place number place less = (omega (arith, less), omega (arith, less))
 
 place_there : (p : Packages) (number place : ℕ) (q : PackageValue) → package_in p number ≡ Some q → place < length q.classes → length q.classes ≤ 256
     → IsThere p (256 * number + place)
 unfolding is_class class_in
 place_there p number place q is less few =
-    let parts = at_place number place (omega (arith, less, few)) in
+    let parts = word_parts number place (omega (arith, less, few)) in
     let at = some_at q.classes place less in
     let found : class_in p (256 * number + place) ≡ Some at.0 =
     ap (λ n. option_and_then (λ r. slice_get r.classes ((256 * number + place) % 256)) (package_in p n)) parts.0

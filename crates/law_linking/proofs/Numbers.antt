@@ -79,7 +79,7 @@ pub then_some : {A B : Type 0} (f : A → Option B) (o : Option A) → is_some (
 then_some f None there = there
 then_some f (Some x) there = refl
 
-one_of : (a b : Bool) → (a || b) ≡ true → (a ≡ true) ⊎ (b ≡ true)
+pub one_of : (a b : Bool) → (a || b) ≡ true → (a ≡ true) ⊎ (b ≡ true)
 one_of true b e = inl refl
 one_of false b e = inr e
 

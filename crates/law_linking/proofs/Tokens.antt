@@ -24,7 +24,7 @@ use Rattle.jc_platform.proofs.Distinct.{class_by_number, found_has, homes, metho
 
 -- ---- a class by its word
 
-word_parts : (n token : ℕ) → token < 256 → ((256 * n + token) / 256 ≡ n) × ((256 * n + token) % 256 ≡ token)
+pub word_parts : (n token : ℕ) → token < 256 → ((256 * n + token) / 256 ≡ n) × ((256 * n + token) % 256 ≡ token)
 word_parts n token small = (omega (arith, small), omega (arith, small))
 
 -- the platform has the class
@@ -132,13 +132,6 @@ word_of_class t w c is =
     option_and_then_some (λ home. class_by_token t home (w % 256)) (package_by_number t (w / 256)) c is
     (λ home at more. let a = class_is t home (w % 256) c more in back_again w (number_in t (home_of c)) (class_token t c)
     (package_is t (w / 256) home at ∙ a.0) (ap (λ o. unwrap_or o 0) a.1))
-
--- a class that a word names stands
-pub word_stands : (t : Tokens) (w : ℕ) (c : PlatformClass) → class_by_word t w ≡ Some c → HasToken t c
-unfolding class_by_word
-word_stands t w c is =
-    option_and_then_some (λ home. class_by_token t home (w % 256)) (package_by_number t (w / 256)) c is
-    (λ home at more. (w % 256, (class_is t home (w % 256) c more).1))
 
 -- ---- the class and the kind of a method
 

@@ -24,8 +24,9 @@ use Rattle.jc_api_data.specs.Apdu.{apdu_get_current_apdu, apdu_get_current_apdu_
 use Rattle.jc_api_data.specs.ApduCurrent.{apdu_object, has_command}
 use Rattle.jc_api_data.specs.ApduQueries.{while_received}
 use Rattle.jc_api_data.specs.OwnerPinArguments.{array_arguments, argument_bytes}
+use Rattle.law_soundness.proofs.NativeExits.{plain_argument, plain_given, plain_length, plain_piece}
 use Rattle.law_soundness.proofs.Still.{IsLike, IsStillAnswer, IsStillCall, still_bind, still_if, still_ok, still_sets_run, still_some}
-use Rattle.law_soundness.proofs.Still.{still_there, still_unless}
+use Rattle.law_soundness.proofs.Still.{still_plain, still_there, still_unless}
 
 module _ (g : MemoryState) where
   module _ (m : MemoryState) (like : IsLike g m) where
@@ -63,7 +64,7 @@ module _ (g : MemoryState) where
     length_in_still : (phase : ApduPhase) (count : ℤ) → IsStillCall g (set_length_in_phase m phase count)
     length_in_still Waiting count = tt
     length_in_still Received count = tt
-    length_in_still Outgoing count = still_ok g (length_of count) _ (λ n. (turn, tt))
+    length_in_still Outgoing count = still_ok g (length_of count) _ (plain_length count) (λ n. (turn, tt))
     length_in_still (Sending left) count = tt
 
     length_still : (count : ℤ) → IsStillCall g (apdu_set_outgoing_length count m)
@@ -74,7 +75,7 @@ module _ (g : MemoryState) where
     sent_in_still Waiting start count = tt
     sent_in_still Received start count = tt
     sent_in_still Outgoing start count = tt
-    sent_in_still (Sending left) start count = still_ok g (piece_of m left start count) _ (λ piece. still_some g (buffer_of m) _ (λ buffer. (tt, (turn, tt))))
+    sent_in_still (Sending left) start count = still_ok g (piece_of m left start count) _ (plain_piece m left start count) (λ piece. still_some g (buffer_of m) _ (λ buffer. (tt, (turn, tt))))
 
     sent_still : (start count : ℤ) → IsStillCall g (apdu_send_bytes start count m)
     unfolding apdu_send_bytes
@@ -88,7 +89,7 @@ module _ (g : MemoryState) where
 
     sent_long_still : (args : List Cell) (p : Packages) → IsStillCall g (apdu_send_bytes_long args p m)
     unfolding apdu_send_bytes_long
-    sent_long_still args p = still_ok g (array_arguments args m) _ (λ given. still_ok g (argument_bytes given p m) _ (λ e. elements_still (phase_of m) e))
+    sent_long_still args p = still_ok g (array_arguments args m) _ (plain_given args m) (λ given. still_ok g (argument_bytes given p m) _ (plain_argument given p m) (λ e. elements_still (phase_of m) e))
 
     received_answer_still : (phase : ApduPhase) (answer : ℤ) → IsStillCall g (while_received phase answer)
     received_answer_still Waiting answer = tt
@@ -106,7 +107,7 @@ module _ (g : MemoryState) where
 
     then_still : (first next : MemoryState → NativeProgram) → IsStillCall g (first m) → ((v : MemoryState) → IsLike g v → IsStillCall g (next v))
         → IsStillCall g (then_call m first next)
-    then_still first next still rest = still_bind g (IsStillAnswer g) (IsStillAnswer g) _ (first m) m like still (λ answer v none same. still_ok g answer _ (λ a. rest v same))
+    then_still first next still rest = still_bind g (IsStillAnswer g) (IsStillAnswer g) _ (first m) m like still (λ answer v answered same. still_ok g answer _ (still_plain g answer answered) (λ a. rest v same))
 
   module _ (m : MemoryState) (like : IsLike g m) where
     all_still : (start count : ℤ) → IsStillCall g (apdu_set_outgoing_and_send start count m)

@@ -16,6 +16,7 @@ use Rattle.jc_heap.specs.Moves.{Commit, SetCells, SetPlaces, new_move}
 use Rattle.jc_heap.specs.Object.{AnObject, Object, header_only, cells_of, facts_of, is_object, new_object, object_size}
 use Rattle.jc_heap.specs.Places.{applet_changes}
 use Rattle.jc_heap.proofs.Laws.{heap_item_at-add_object, heap_item_at-add_other, object_named, same_facts}
+use Rattle.jc_heap.proofs.Keeping.{object-header_only}
 use Rattle.jc_frames.specs.declared.outcome.FrameExit.TheVariants.{Throw}
 use Rattle.jc_memory.specs.declared.registers.Installation.{Installation}
 use Rattle.jc_memory.specs.declared.registers.Installation.TheVariants.{Idle, Open, Registered}
@@ -37,6 +38,7 @@ use Rattle.jc_card_checks.specs.Objects.{is_a, is_instance, is_object_address}
 use Rattle.jc_card_checks.specs.Sound.{aid_in, aid_of_entry, entry_word, holds_aid}
 use Rattle.jc_world.specs.declared.arrays.Stretch.{Stretch}
 use Rattle.jc_world.specs.Arrays.{bytes_in}
+use Rattle.jc_world.proofs.Below.{below_itself}
 use Rattle.jc_api_runtime.specs.AidCells.{cells_of_aid, is_aid_length}
 use Rattle.jc_api_runtime.specs.Applet.{install_aid}
 use Rattle.jc_frames.specs.Reasons.{buffer_full, illegal_aid, in_progress, no_resource}
@@ -51,8 +53,8 @@ use Rattle.law_isolation.proofs.Reaching.{err_not_ok, header_is, same_Ok}
 use Rattle.law_isolation.proofs.Standing.{applets-add_object, applets-set_cells}
 use Rattle.law_soundness.proofs.Below.{aid_no_pin}
 use Rattle.law_soundness.proofs.Frames.{run_headers}
-use Rattle.law_soundness.proofs.RunCells.{aid_put, all_set, item-set_cells, nine}
-use Rattle.law_soundness.proofs.RunPins.{bare_object}
+use Rattle.law_isolation.proofs.Natives.{nine}
+use Rattle.law_soundness.proofs.RunCells.{aid_put, all_set, item-set_cells}
 use Rattle.law_soundness.proofs.RunRegistry.{unlike}
 
 -- an applet may be registered, in this package
@@ -122,11 +124,6 @@ owned_there : (m : MemoryState) (n r : ℕ) (o : Option Facts) → header_at m r
 owned_there m n r None is e = absurd (true≢false (sym e))
 owned_there m n r (Some f) is e = (header_is m r f is).0
 
--- a class is below itself
-below_self : (p : Packages) (class : ℕ) → is_below p class class ≡ true
-unfolding is_below any_is lineage_from
-below_self p class = or_left (class == class || implements p class class) _ (or_left (class == class) _ (eq-eqb class class refl))
-
 durable_stays : {A : Type 0} (b : Bool) → b ≡ true → (x y z : A) → (if b then (if b then x else y) else z) ≡ x
 durable_stays true is x y z = refl
 durable_stays false is x y z = absurd (true≢false (sym is))
@@ -160,11 +157,11 @@ module _ (keeps : KeepsSound) (p : Packages) (m : MemoryState) (known : KnowsCla
 
   no_pin : is_a p aid_class OwnerPin ≡ false
   unfolding is_interface
-  no_pin = false_from_ne_true (is_a p aid_class OwnerPin) (aid_no_pin p known aid_class (known.platform.own Aid refl) (below_self p aid_class))
+  no_pin = false_from_ne_true (is_a p aid_class OwnerPin) (aid_no_pin p known aid_class (known.platform.own Aid refl) (below_itself p aid_class))
 
   numbers : (k : ℕ) → k < 9 → reference_cell p aid_class k ≡ false
   unfolding platform.cells_of holds_reference is_interface
-  numbers k lt = known.platform.kinds aid_class k Aid (known.platform.own Aid refl) refl (below_self p aid_class) lt
+  numbers k lt = known.platform.kinds aid_class k Aid (known.platform.own Aid refl) refl (below_itself p aid_class) lt
 
   module _ (r : ℕ) (new : IsNew m.heap.now r) where
     free : is_allocated m.heap.now m.heap.now.top ≡ false
@@ -238,7 +235,7 @@ module _ (keeps : KeepsSound) (p : Packages) (m : MemoryState) (known : KnowsCla
       bare_after_cells q = run_headers (cells_of_aid aid) with_object r 0 q
 
       stands_after_cells : (q : ℕ) → is_object (heap_item_at (with_cells aid r) q) ≡ is_object (heap_item_at with_object q)
-      stands_after_cells q = sym (bare_object (heap_item_at (with_cells aid r) q)) ∙ ap is_object (bare_after_cells q) ∙ bare_object (heap_item_at with_object q)
+      stands_after_cells q = sym (object-header_only (heap_item_at (with_cells aid r) q)) ∙ ap is_object (bare_after_cells q) ∙ object-header_only (heap_item_at with_object q)
 
       facts_after_cells : (q : ℕ) → facts (with_cells aid r) q ≡ facts with_object q
       facts_after_cells q = same_facts (heap_item_at (with_cells aid r) q) (heap_item_at with_object q) (bare_after_cells q)

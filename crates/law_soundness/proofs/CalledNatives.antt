@@ -17,10 +17,11 @@ use Rattle.jc_platform.specs.declared.names.PlatformMethod.TheVariants.{JcSystem
 use Rattle.jc_platform.specs.declared.names.PlatformMethod.TheVariants.{JcSystemIsTransient, JcSystemLookupAid, JcSystemMakeTransientBooleanArray}
 use Rattle.jc_platform.specs.declared.names.PlatformMethod.TheVariants.{JcSystemMakeTransientByteArray, JcSystemMakeTransientObjectArray}
 use Rattle.jc_platform.specs.declared.names.PlatformMethod.TheVariants.{JcSystemMakeTransientShortArray, AppletSelect, AppletDeselect}
-use Rattle.jc_platform.specs.declared.names.PlatformMethod.TheVariants.{AppletGetShareableInterfaceObject, AppletSelectingApplet, JcSystemGetAid}
+use Rattle.jc_platform.specs.declared.names.PlatformMethod.TheVariants.{AppletGetShareableInterfaceObject, AppletReSelectingApplet, AppletSelectingApplet, JcSystemGetAid}
 use Rattle.jc_platform.specs.declared.names.PlatformMethod.TheVariants.{JcSystemGetMaxCommitCapacity, JcSystemGetPreviousContextAid}
 use Rattle.jc_platform.specs.declared.names.PlatformMethod.TheVariants.{JcSystemGetTransactionDepth, JcSystemGetUnusedCommitCapacity, JcSystemGetVersion, JcSystemIsObjectDeletionSupported}
 use Rattle.jc_platform.specs.declared.names.PlatformMethod.TheVariants.{JcSystemRequestObjectDeletion, JcSystemIsAppletActive, JcSystemGetAssignedChannel}
+use Rattle.jc_platform.specs.declared.names.PlatformMethod.TheVariants.{JcSystemGetAvailableMemory, JcSystemGetAvailableMemoryShorts}
 use Rattle.jc_interp.specs.declared.parts.Part.{Part}
 use Rattle.jc_interp.specs.declared.parts.Part.TheVariants.{Objects, CardExceptions, Utilities, System, Aids, Pins, Applets, Apdus}
 use Rattle.jc_interp.specs.Natives.{native_call, native_call_in}
@@ -32,6 +33,7 @@ use Rattle.jc_api_runtime.specs.Applet.{applet_call}
 use Rattle.jc_api_data.specs.OwnerPin.{pin_call}
 use Rattle.jc_api_runtime.specs.SystemSharing.{applet_of, jc_system_is_applet_active, jc_system_lookup_aid}
 use Rattle.jc_api_runtime.specs.System.{system_call}
+use Rattle.jc_api_runtime.specs.SystemMemory.{jc_system_get_available_memory, jc_system_get_available_memory_shorts}
 use Rattle.jc_api_runtime.specs.SystemTransient.{jc_system_is_transient}
 use Rattle.jc_api_data.specs.Exceptions.{exception_call}
 use Rattle.jc_api_data.specs.Objects.{object_call}
@@ -50,7 +52,7 @@ use Rattle.law_soundness.proofs.Register.{given_left, own_left}
 use Rattle.law_soundness.proofs.Still.{IsLike}
 use Rattle.law_isolation.proofs.Arguments.{buffer_is}
 use Rattle.law_soundness.proofs.Registered.{or_null_refers}
-use Rattle.law_soundness.proofs.System.{active_still, array_left, event_still, looked_up_still, server_left}
+use Rattle.law_soundness.proofs.System.{active_still, array_left, event_still, looked_up_still, memory_set_still, memory_told_still, server_left}
 use Rattle.law_soundness.proofs.Transactions.{aborted_left, begun_left, committed_left}
 use Rattle.law_soundness.proofs.Util.{exception_still, object_still, util_still}
 
@@ -90,6 +92,9 @@ module _ (keeps : KeepsSound) (calm : LocalEffectsStay) (args : List Cell) (p : 
   system_left JcSystemRequestObjectDeletion due = stays m steady
   system_left JcSystemIsAppletActive due = still_left keeps calm p m sound steady (jc_system_is_applet_active args p m) (active_still args p m sound) due
   system_left JcSystemGetAssignedChannel due = (stays m steady, tt)
+  system_left JcSystemGetAvailableMemory due = still_left keeps calm p m sound steady (jc_system_get_available_memory args m) (memory_told_still args p m sound) due
+  system_left JcSystemGetAvailableMemoryShorts due = still_left keeps calm p m sound steady (jc_system_get_available_memory_shorts args p m)
+      (memory_set_still args p m sound) due
   system_left _ due = tt
 
   applet_left : (method : PlatformMethod) → AllResults (applet_call method args p m) m (IsCallResult m)
@@ -98,6 +103,7 @@ module _ (keeps : KeepsSound) (calm : LocalEffectsStay) (args : List Cell) (p : 
   applet_left AppletDeselect = stays m steady
   applet_left AppletGetShareableInterfaceObject = (stays m steady, inl refl)
   applet_left AppletSelectingApplet = (stays m steady, tt)
+  applet_left AppletReSelectingApplet = (stays m steady, tt)
   applet_left AppletRegister = own_left p m sound steady args
   applet_left AppletRegisterBytes = given_left p m sound steady args
   applet_left _ = tt

@@ -31,6 +31,8 @@ use Rattle.jc_api_data.specs.OwnerPin.{bytes_in, pin_comparison, owner_pin_init,
 use Rattle.jc_api_data.specs.OwnerPin.{owner_pin_get_tries_remaining, return_unless_refused, owner_pin_is_validated, owner_pin_update, owner_pin_reset}
 use Rattle.jc_api_data.specs.OwnerPin.{owner_pin_reset_and_unblock, owner_pin_set_validated_flag}
 use Rattle.law_soundness.specs.LocalEffects.{AreElsewhere}
+use Rattle.law_soundness.proofs.Exits.{FaultsOnly}
+use Rattle.law_soundness.proofs.NativeExits.{plain_argument, plain_given, plain_least, plain_own}
 use Rattle.law_soundness.proofs.Still.{AllStill, Any, IsLike, IsStillAnswer, IsStillCall, still_bind, still_if, still_makes_new, still_ok, still_some}
 
 put_elsewhere : (bytes : List ℕ) (array i : ℕ) (cs : List (Place × ℕ)) → AreElsewhere cs → AreElsewhere (cell_changes array i bytes ++ cs)
@@ -84,24 +86,24 @@ module _ (g : MemoryState) where
     unfolding owner_pin_init
     constructed_still =
         still_some g (receiver m args) _ (λ pin. still_some g (short_argument args 1) _ (λ limit. still_some g (short_argument args 2) _ (λ maximum.
-        still_ok g (at_least_1 limit) _ (λ l. still_ok g (at_least_1 maximum) _ (λ n. settled_still (pin_init m pin l n) (started_still m pin l n))))))
+        still_ok g (at_least_1 limit) _ (plain_least limit) (λ l. still_ok g (at_least_1 maximum) _ (plain_least maximum) (λ n. settled_still (pin_init m pin l n) (started_still m pin l n))))))
 
-    compared_still : (pin : ℕ) (bytes : Result Stretch FrameExit) → IsStillCall g (pin_comparison m pin bytes)
+    compared_still : (pin : ℕ) (bytes : Result Stretch FrameExit) → FaultsOnly bytes → IsStillCall g (pin_comparison m pin bytes)
     unfolding pin_comparison
-    compared_still pin bytes =
+    compared_still pin bytes plain =
         still_if g (IsStillAnswer g) ((record_of m pin).tries == 0) _ _ tt
         (still_bind g Any (IsStillAnswer g) _ (pin_check m pin (guess_of m bytes)) m like (checked_still m pin (guess_of m bytes))
-        (λ same v any l. still_ok g bytes _ (λ e. tt)))
+        (λ same v any l. still_ok g bytes _ plain (λ e. tt)))
 
     pin_checked_still : IsStillCall g (owner_pin_check args p m)
     unfolding owner_pin_check
-    pin_checked_still = still_some g (receiver m args) _ (λ pin. still_ok g (array_arguments args m) _ (λ given. compared_still pin (argument_bytes given p m)))
+    pin_checked_still = still_some g (receiver m args) _ (λ pin. still_ok g (array_arguments args m) _ (plain_given args m) (λ given. compared_still pin (argument_bytes given p m) (plain_argument given p m)))
 
     value_still : IsStillCall g (owner_pin_update args p m)
     unfolding owner_pin_update
     value_still =
-        still_some g (receiver m args) _ (λ pin. still_ok g (array_arguments args m) _ (λ given. still_ok g (argument_bytes given p m) _ (λ e.
-        still_ok g (is_own_value m pin) _ (λ u. settled_still (pin_update m pin (bytes_in m e)) (updated_still m pin (bytes_in m e))))))
+        still_some g (receiver m args) _ (λ pin. still_ok g (array_arguments args m) _ (plain_given args m) (λ given. still_ok g (argument_bytes given p m) _ (plain_argument given p m) (λ e.
+        still_ok g (is_own_value m pin) _ (plain_own m pin) (λ u. settled_still (pin_update m pin (bytes_in m e)) (updated_still m pin (bytes_in m e))))))
 
     was_reset_still : IsStillCall g (owner_pin_reset args m)
     unfolding owner_pin_reset

@@ -15,8 +15,9 @@ use Rattle.jc_linker.specs.Values.{Packages}
 use Rattle.jc_card_checks.specs.Objects.{HoldsReferences, fits_aid, fits_pin, is_a, is_persistent_instance, is_reference, is_object_address}
 use Rattle.jc_card_checks.specs.Sound.{entry_word}
 use Rattle.law_soundness.proofs.Lists.{first_set}
-use Rattle.law_soundness.proofs.Kept.{AidsStay, Carries, HoldsBut, IsFitBut, IsSoundBut, SameApplets, object_kept, object_new, pin_kept, pin_same, records_kept}
+use Rattle.law_soundness.proofs.Kept.{AidsStay, Carries, HoldsBut, IsFitBut, IsSoundBut, object_kept, object_new, pin_kept, pin_same, records_kept}
 use Rattle.law_soundness.proofs.Kept.{reference_kept, sound_kept}
+use Rattle.law_isolation.proofs.Standing.{SameApplets}
 
 -- what is set in a cell fits it; of one object, a PIN's cells need not say the right thing of one another
 pub record CellFits (x : ℕ) (p : Packages) (h : HeapState) (r i v : ℕ) : Type 0 where

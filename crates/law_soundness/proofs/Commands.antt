@@ -36,7 +36,7 @@ use Rattle.jc_dispatch.specs.AppletResults.{is_select_accepted}
 use Rattle.jc_dispatch.specs.Installing.{applet_installation, next_applet, with_installation}
 use Rattle.jc_dispatch.specs.AdHocCode.{ad_hoc_run}
 use Rattle.jc_dispatch.specs.Phases.{applet_method_call, close, instance_of, method_run}
-use Rattle.jc_dispatch.specs.Selecting.{after_select, header_of, deselection, manager_selection, process_command, applet_selection, with_command, with_selected}
+use Rattle.jc_dispatch.specs.Selecting.{after_select, header_of, applet_left, deselection, manager_selection, process_command, applet_selection, with_command, with_next, with_selected}
 use Rattle.law_soundness.specs.Environment.{HasEnvironment}
 use Rattle.law_soundness.specs.Fit.{FitsTurn, IsFit}
 use Rattle.law_soundness.specs.State.{IsSoundMemory, IsSteady, is_applet, is_home, is_open, is_owner_up_to, most_owner}
@@ -50,6 +50,7 @@ use Rattle.law_soundness.proofs.Living.{first_living, more_living, none_living}
 use Rattle.law_soundness.proofs.Registered.{instance_refers}
 use Rattle.law_soundness.proofs.Phases.{good_then, run_for_good}
 use Rattle.law_soundness.proofs.Serving.{StandsBehind, all_served, behind_both, behind_each, behind_itself, behind_one, same_fits, serving_keeps}
+use Rattle.law_soundness.proofs.Memories.{applet_more}
 
 -- ---- owners
 
@@ -64,10 +65,6 @@ carried_owner most more h g n le same is = ap (λ k. n == 0 || (nat_le n more ||
 -- the owner that an applet is
 applet_parts : (h : HeapState) (a : AppletNumber) → is_applet h a ≡ true → (0 < a.0) × (a.0 ≤ h.counts.1)
 applet_parts h a is = let both = and_parts (nat_lt 0 a.0) _ is in (ltb-true 0 a.0 both.0, leb-true a.0 h.counts.1 both.1)
-
-still_there : (h g : HeapState) (a : AppletNumber) → h.counts.1 ≤ g.counts.1 → is_applet h a ≡ true → is_applet g a ≡ true
-still_there h g a le is =
-    let parts = applet_parts h a is in and_from (nat_lt 0 a.0) _ (lt-ltb 0 a.0 parts.0) (le-leb a.0 g.counts.1 (let x = parts.1 in omega (arith, x, le)))
 
 -- while nothing is being installed
 idle_most : (p : Packages) (m : MemoryState) → IsSoundMemory p m → is_open m.registers.installation ≡ false → most_owner m ≡ m.heap.durable.counts.1
@@ -133,7 +130,7 @@ module _ (runs : RunsAreSound) (p : Packages) (known : AreKnown p) where
   goes_on m v n b s = record { stands = behind_both p m v n b.stands s; idle = s.idle b.idle }
 
   there_still : (m n : MemoryState) (a : AppletNumber) → Behind m n → is_applet m.heap.durable a ≡ true → is_applet n.heap.durable a ≡ true
-  there_still m n a b there = still_there m.heap.durable n.heap.durable a b.stands.counts there
+  there_still m n a b there = applet_more m.heap.durable n.heap.durable a b.stands.counts there
 
   begins : (m : MemoryState) → IsReady p m → Behind m m
   begins m r = record { stands = behind_itself p m r.sound r.environment; idle = r.idle }
@@ -160,18 +157,26 @@ module _ (runs : RunsAreSound) (p : Packages) (known : AreKnown p) where
   closed_behind m x b = good_more p _ _ (close x) x (closed_good p x b.stands.sound b.stands.environment)
       (λ u y c. record { behind = goes_on m x y b c.behind; shut = c.closed })
 
-  left_good : (budget : ℕ) (one : Option AppletNumber) (m : MemoryState) → IsReady p m → ((a : AppletNumber) → one ≡ Some a → is_applet m.heap.durable a ≡ true)
-      → Good p (deselection budget p one m) m (λ rest n. IsShut m n)
-  unfolding deselection
-  left_good budget None m r there = good_then p _ (ClearTransient Deselect) (Finish budget) m tt
-      (good_gives p _ budget _ (cleared m m (record { behind = begins m r; shut = r.closed })))
-  left_good budget (Some a) m r there =
-      good_bind p _ _ (applet_method_call budget p AppletDeselect (instance_of m a.0) (Reference (instance_of m a.0) ∷ []) (Applet a) m) m
-      (good_more p _ _ (applet_method_call budget p AppletDeselect (instance_of m a.0) (Reference (instance_of m a.0) ∷ []) (Applet a) m) m
-      (called_good runs p known budget AppletDeselect (instance_of m a.0) (Reference (instance_of m a.0) ∷ []) (Applet a) m (own_living m a r.sound)
-      (runs_behind m m a (begins m r) (there a refl)))
-      (λ end v ran. good_bind p _ _ (close v) v (good_more p _ _ (close v) v (closed_behind m v (goes_on m m v (begins m r) ran.behind)) (λ u w shut.
+  applet_left_good : (budget : ℕ) (one : Option AppletNumber) (m n : MemoryState) → IsShut m n → ((a : AppletNumber) → one ≡ Some a → is_applet m.heap.durable a ≡ true)
+      → Good p (applet_left budget p one n) n (λ rest k. IsShut m k)
+  unfolding applet_left
+  applet_left_good budget None m n x there = good_then p _ (ClearTransient Deselect) (Finish budget) n tt (good_gives p _ budget _ (cleared m n x))
+  applet_left_good budget (Some a) m n x there =
+      good_bind p _ _ (applet_method_call budget p AppletDeselect (instance_of n a.0) (Reference (instance_of n a.0) ∷ []) (Applet a) n) n
+      (good_more p _ _ (applet_method_call budget p AppletDeselect (instance_of n a.0) (Reference (instance_of n a.0) ∷ []) (Applet a) n) n
+      (called_good runs p known budget AppletDeselect (instance_of n a.0) (Reference (instance_of n a.0) ∷ []) (Applet a) n (own_living n a x.behind.stands.sound)
+      (runs_behind m n a x.behind (there a refl)))
+      (λ end v ran. good_bind p _ _ (close v) v (good_more p _ _ (close v) v (closed_behind m v (goes_on m n v x.behind ran.behind)) (λ u w shut.
       good_then p _ (ClearTransient Deselect) (Finish end.0) w tt (good_gives p _ end.0 _ (cleared m w shut))))))
+
+  left_good : (budget : ℕ) (next : Option AppletNumber) (m : MemoryState) → IsReady p m → Good p (deselection budget p next m) m (λ rest n. IsShut m n)
+  unfolding deselection
+  left_good budget next m r =
+      let fits = same_fits p m r.sound (with_next next m.registers) refl refl refl in
+      let v = apply_effect (SetRegisters (with_next next m.registers)) m in
+      let first = behind_one p m (SetRegisters (with_next next m.registers)) fits r.sound r.environment in
+      good_then p _ (SetRegisters (with_next next m.registers)) _ m (inl fits)
+      (applet_left_good budget m.registers.selected m v (record { behind = goes_on m m v (begins m r) first; shut = r.closed }) r.sound.selected)
 
   -- an applet answers, behind a ready memory
   processed_behind : (budget : ℕ) (a : AppletNumber) (selecting : Bool) (expected : ℕ) (m n : MemoryState) → Behind m n → is_applet m.heap.durable a ≡ true
@@ -220,8 +225,8 @@ module _ (runs : RunsAreSound) (p : Packages) (known : AreKnown p) where
       → Good p (applet_selection budget p a expected m) m (λ e k. IsReady p k)
   unfolding applet_selection
   selected_good budget a expected m r there =
-      good_bind p _ _ (deselection budget p m.registers.selected m) m (good_more p _ _ (deselection budget p m.registers.selected m) m
-      (left_good budget m.registers.selected m r r.sound.selected) (λ rest v gone.
+      good_bind p _ _ (deselection budget p (Some a) m) m (good_more p _ _ (deselection budget p (Some a) m) m
+      (left_good budget (Some a) m r) (λ rest v gone.
       let fits = select_fits v (Some a) gone.behind.stands.sound (λ b e. subst (λ x. is_applet v.heap.durable x ≡ true) (same_Some a b e)
       (there_still m v a gone.behind there)) in
       let w = apply_effect (SetRegisters (with_selected (Some a) v.registers)) v in
@@ -238,8 +243,8 @@ module _ (runs : RunsAreSound) (p : Packages) (known : AreKnown p) where
   managed_good : (budget : ℕ) (m : MemoryState) → IsReady p m → Good p (manager_selection budget p m) m (λ e k. IsReady p k)
   unfolding manager_selection
   managed_good budget m r =
-      good_bind p _ _ (deselection budget p m.registers.selected m) m (good_more p _ _ (deselection budget p m.registers.selected m) m
-      (left_good budget m.registers.selected m r r.sound.selected) (λ rest v gone.
+      good_bind p _ _ (deselection budget p None m) m (good_more p _ _ (deselection budget p None m) m
+      (left_good budget None m r) (λ rest v gone.
       let fits = select_fits v None gone.behind.stands.sound (none_there v) in
       good_then p _ (SetRegisters (with_selected None v.registers)) _ v (inl fits) (good_gives p _ _ _
       (ready m _ (goes_on m v _ gone.behind (behind_one p v (SetRegisters (with_selected None v.registers)) fits gone.behind.stands.sound

@@ -49,7 +49,7 @@ use Rattle.law_soundness.proofs.Values.{aid_run_kept, none_of, of_all, run_kept,
 no_array : (f : Facts) → is_persistent_instance f ≡ true → f.kind ≡ ReferenceArray → ⊥
 no_array f kept e = false≢true (sym (ap is_instance e) ∙ (and_parts (is_instance f.kind) _ kept).0)
 
-event_none : (f : Facts) → is_persistent_instance f ≡ true → f.event ≡ None
+pub event_none : (f : Facts) → is_persistent_instance f ≡ true → f.event ≡ None
 event_none f kept = none_of f.event (and_parts (is_instance f.kind) _ kept).1
 
 statics_suit : (p : Packages) (h : HeapState) (cs : List (Place × ℕ)) → AreStatics p h cs → AreLegalValues h cs

@@ -11,16 +11,13 @@ use Rattle.jc_heap.specs.Places.{set_place, set_places, cell_changes}
 use Rattle.jc_heap.specs.Statics.{set_word}
 use Rattle.jc_heap.proofs.Laws.{header_only-set_cell, facts-set_cell, heap_item_at-add_other, same_facts}
 use Rattle.jc_heap.proofs.RecordWords.{header_only-set_word}
+use Rattle.jc_heap.proofs.Keeping.{object-header_only}
 use Rattle.jc_linker.specs.Values.{Packages}
 use Rattle.law_soundness.specs.Fit.{AreStatics}
 
-bare_object : (t : Item) → is_object (header_only t) ≡ is_object t
-bare_object (AnObject o) = refl
-bare_object (APackage ws) = refl
-
 -- what differs in cells and words alone is an object in both
 pub same_object : (a b : Item) → header_only a ≡ header_only b → is_object a ≡ is_object b
-same_object a b e = sym (bare_object a) ∙ ap is_object e ∙ bare_object b
+same_object a b e = sym (object-header_only a) ∙ ap is_object e ∙ object-header_only b
 
 -- each header is the same
 abbrev pub SameHeaders : HeapState → HeapState → Type 0

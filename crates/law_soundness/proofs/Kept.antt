@@ -16,6 +16,7 @@ use Rattle.jc_card_checks.specs.Objects.{is_persistent_instance, is_reference, i
 use Rattle.jc_card_checks.specs.Sound.{HasOwnAid, HoldsStatics, IsRegistered, aid_of_entry, aid_in, entry_word, holds_aid, package_record_at}
 use Rattle.law_soundness.specs.State.{IsFitObject, IsOwnAid, IsSoundUpTo, is_owner_up_to}
 use Rattle.law_soundness.proofs.Lists.{Agree, aid_same}
+use Rattle.law_isolation.proofs.Standing.{SameApplets}
 
 -- what an instance holds fits its class; of one instance, what a PIN's cells say of one another need not
 pub record HoldsBut (x : ℕ) (p : Packages) (h : HeapState) (r : ℕ) : Type 0 where
@@ -84,10 +85,6 @@ pub record Carries (h g : HeapState) : Type 0 where
   pub there : (q : ℕ) → IsObject h q → IsObject g q
   pub same : (q : ℕ) → IsObject h q → facts g q ≡ facts h q
   pub packages : g.packages ≡ h.packages
-
--- the same registry
-abbrev pub SameApplets : HeapState → HeapState → Type 0
-SameApplets h g = (g.counts.1 ≡ h.counts.1) × (g.applets ≡ h.applets)
 
 -- owners
 pub owner_same : (most : ℕ) (h g : HeapState) (n : ℕ) → g.packages ≡ h.packages → is_owner_up_to most g n ≡ is_owner_up_to most h n

@@ -17,18 +17,16 @@ use Rattle.law_soundness.specs.State.{IsSoundMemory, IsSteady, is_owner_up_to, m
 use Rattle.law_soundness.specs.LocalEffects.{LocalEffectsStay}
 use Rattle.law_soundness.specs.Machines.{KnowOwners}
 use Rattle.law_soundness.specs.Calls.{IsCallResult, IsReadyAgain}
+use Rattle.law_soundness.proofs.Exits.{FaultsOnly, plain_living}
 use Rattle.law_soundness.proofs.Living.{cell_kept}
 use Rattle.law_soundness.proofs.Still.{IsLike, IsStillAnswer, IsStillCall, still_calm}
-
--- owners that were known are known where the packages and the highest number of an owner are the same
-still_known : (most : ℕ) (h k : HeapState) (n : ℕ) → k.packages ≡ h.packages → is_owner_up_to most h n ≡ true → is_owner_up_to most k n ≡ true
-still_known most h k n same known = subst (λ l. is_owner_up_to most (record h { packages = l }) n ≡ true) (sym same) known
+use Rattle.law_soundness.proofs.LocalEffects.{same_known}
 
 pub same_owners : (m n : MemoryState) → n.heap.now.packages ≡ m.heap.now.packages → most_owner n ≡ most_owner m → (callers : List Caller) → KnowOwners callers m
     → KnowOwners callers n
 same_owners m n packages most [] known = tt
 same_owners m n packages most (c ∷ callers) known = (
-  still_known (most_owner n) m.heap.now n.heap.now c.resume.active packages (subst (λ k. is_owner_up_to k m.heap.now c.resume.active ≡ true)
+  same_known (most_owner n) m.heap.now n.heap.now c.resume.active packages (subst (λ k. is_owner_up_to k m.heap.now c.resume.active ≡ true)
       (sym most) known.0),
   known.1,
   same_owners m n packages most callers known.2,
@@ -45,7 +43,7 @@ left_so m n (Ok (ReturnValue cell)) still stands = (stands, cell_kept m.heap.now
 left_so m n (Ok (CallServer asked)) still stands = absurd still
 left_so m n (Ok Aborted) still stands = absurd still
 left_so m n (Err (Throw e)) still stands = stands
-left_so m n (Err (End o)) still stands = tt
+left_so m n (Err (End o)) still stands = plain_living n.heap.now o still
 
 -- calls that are still
 module _ (keeps : KeepsSound) (calm : LocalEffectsStay) (p : Packages) (m : MemoryState) where
@@ -81,11 +79,12 @@ module _ (m : MemoryState) where
   left_some None go k = tt
   left_some (Some a) go k = k a refl
 
-  pub left_ok : {A : Type 0} → IsSteady m → (o : Result A FrameExit) (go : A → NativeProgram) → ((a : A) → o ≡ Ok a → AllResults (go a) m (IsCallResult m))
+  pub left_ok : {A : Type 0} → IsSteady m → (o : Result A FrameExit) (go : A → NativeProgram) → FaultsOnly o
+      → ((a : A) → o ≡ Ok a → AllResults (go a) m (IsCallResult m))
       → AllResults (if_ok o go) m (IsCallResult m)
-  left_ok steady (Ok a) go k = k a refl
-  left_ok steady (Err (Throw e)) go k = stays m steady
-  left_ok steady (Err (End o)) go k = tt
+  left_ok steady (Ok a) go plain k = k a refl
+  left_ok steady (Err (Throw e)) go plain k = stays m steady
+  left_ok steady (Err (End o)) go plain k = plain_living m.heap.now o plain
 
   pub left_unless : IsSteady m → (o : Option HeapRefusal) (d : NativeProgram) → AllResults d m (IsCallResult m) → AllResults (unless o d) m (IsCallResult m)
   left_unless steady None d left = left

@@ -35,6 +35,8 @@ pub mod Arguments
 pub mod Calls
 pub mod Instructions
 pub mod LocalEffects
+pub mod Exits
+pub mod NativeExits
 pub mod Still
 pub mod Util
 pub mod Aids

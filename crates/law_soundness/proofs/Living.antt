@@ -12,9 +12,12 @@ use Rattle.jc_frames.specs.declared.cell.Cell.TheVariants.{Short, Reference, Ret
 use Rattle.jc_frames.specs.Cells.{as_reference, cell_on, reference_on, short_on, storable_on, two_references_on, two_shorts_on, without_dead}
 use Rattle.jc_frames.specs.Calls.{arguments_on, caller_without_dead, first_frame, frame_without_dead}
 use Rattle.jc_frames.specs.declared.method.Origin.{Origin}
+use Rattle.jc_frames.specs.declared.outcome.Outcome.{Outcome}
+use Rattle.jc_frames.specs.declared.outcome.Outcome.TheVariants as ends
 use Rattle.jc_frames.specs.Frames.{Caller, Frame}
 use Rattle.law_isolation.proofs.Receivers.{args_are}
-use Rattle.law_soundness.specs.Living.{AreLivingCallers, AreLivingCells, IsLivingCell, IsLivingFrame, KeepsReferences, KeepsReferencesBelow}
+use Rattle.law_soundness.specs.Living.{AreLivingCallers, AreLivingCells, IsLivingCell, IsLivingFrame, IsLivingOutcome, KeepsReferences}
+use Rattle.law_soundness.specs.Living.{KeepsReferencesBelow}
 
 -- what is so of each value that this may be
 pub mapped_some : {A B : Type 0} (f : A → B) (o : Option A) (y : B) (P : B → Type 0) → option_map f o ≡ Some y → ((a : A) → o ≡ Some a → P (f a)) → P y
@@ -112,6 +115,13 @@ module _ (h g : HeapState) (keeps : KeepsReferences h g) where
   cell_kept (Short x) living = tt
   cell_kept (Reference r) living = keeps r living
   cell_kept (ReturnAddress a) living = tt
+
+  pub outcome_kept : (o : Outcome) → IsLivingOutcome h o → IsLivingOutcome g o
+  outcome_kept ends.Void living = tt
+  outcome_kept (ends.Short v) living = tt
+  outcome_kept (ends.Reference r) living = keeps r living
+  outcome_kept (ends.Thrown r) living = keeps r living
+  outcome_kept ends.Fault living = tt
 
   pub cells_kept : (cells : List Cell) → AreLivingCells h cells → AreLivingCells g cells
   cells_kept cells all = All-weaker (λ c. IsLivingCell h c) (λ c. IsLivingCell g c) cell_kept cells all

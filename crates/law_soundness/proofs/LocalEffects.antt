@@ -98,7 +98,7 @@ same_most m v s =
     ∙ ap (λ c. if is_open m.registers.installation then c.1 + 1 else v.heap.now.counts.1) s.durable
     ∙ ap (λ c. if is_open m.registers.installation then m.heap.durable.counts.1 + 1 else c.1) s.now.counts
 
-same_known : (most : ℕ) (h g : HeapState) (n : ℕ) → g.packages ≡ h.packages → is_owner_up_to most h n ≡ true → is_owner_up_to most g n ≡ true
+pub same_known : (most : ℕ) (h g : HeapState) (n : ℕ) → g.packages ≡ h.packages → is_owner_up_to most h n ≡ true → is_owner_up_to most g n ≡ true
 same_known most h g n same known = subst (λ l. is_owner_up_to most (record h { packages = l }) n ≡ true) (sym same) known
 
 still_known : (m v : MemoryState) (callers : List Caller) → Stays m v → KnowOwners callers m → KnowOwners callers v

@@ -21,7 +21,7 @@ use Rattle.jc_world.specs.Instructions.{if_ok, if_some, exit_of, unless}
 use Rattle.jc_interp_calls.specs.declared.invoke.MethodCall.{MethodCall}
 use Rattle.law_soundness.specs.Environment.{HasEnvironment, KeepsEnvironment}
 use Rattle.law_soundness.specs.Fit.{IsFit, KeepsSound}
-use Rattle.law_soundness.specs.Living.{AreLivingCallers, IsLivingFrame, KeepsReferences}
+use Rattle.law_soundness.specs.Living.{AreLivingCallers, IsLivingFrame, IsLivingOutcome, KeepsReferences}
 use Rattle.law_soundness.specs.State.{IsSoundMemory, IsSteady}
 use Rattle.law_soundness.specs.Natives.{IsReceiver}
 use Rattle.law_soundness.specs.LocalEffects.{LocalEffectsStay, IsLocalEffect}
@@ -30,7 +30,8 @@ use Rattle.law_soundness.specs.Methods.{KnowsMethods}
 use Rattle.law_soundness.specs.Steps.{AsksFit, CallsFit, HasSoundCallers, InstructionsFit, IsSoundInvoke, LeavesFit}
 use Rattle.law_soundness.specs.Calls.{NativesLeave}
 use Rattle.law_soundness.specs.Soundness.{IsSoundNext}
-use Rattle.law_soundness.proofs.Living.{callers_kept, frame_kept}
+use Rattle.law_soundness.proofs.Exits.{FaultsOnly, IsPlainExit, plain_living}
+use Rattle.law_soundness.proofs.Living.{callers_kept, frame_kept, outcome_kept}
 use Rattle.law_soundness.proofs.Quiet.{IsWithin, Keeps, Stays, quiet_calm, quiet_registers, without_cells}
 
 -- a method of the platform that a package's method calls is called on an object that it may be called on
@@ -99,14 +100,14 @@ pub within_next : (p : Packages) (callers : List Caller) (origin : Origin) (next
     → IsWithin m.heap.now callers origin next → IsSoundUnder p callers m → MayRun origin m → IsSoundNext p next m
 within_next p callers origin (GoesOn s) m within under may = machine_like p callers origin s m within.0 within.1 under may within.2
 within_next p callers origin (Throws e s) m within under may = machine_like p callers origin s m within.0 within.1 under may within.2
-within_next p callers origin (Ends o) m within under may = tt
+within_next p callers origin (Ends o) m within under may = within
 
 -- what refers in one heap refers in another
 within_kept : (h g : HeapState) → KeepsReferences h g → (callers : List Caller) (origin : Origin) (next : Next Frames) → IsWithin h callers origin next
     → IsWithin g callers origin next
 within_kept h g keeps callers origin (GoesOn s) within = (within.0, within.1, frame_kept h g keeps s.current within.2)
 within_kept h g keeps callers origin (Throws e s) within = (within.0, within.1, frame_kept h g keeps s.current within.2)
-within_kept h g keeps callers origin (Ends o) within = tt
+within_kept h g keeps callers origin (Ends o) within = outcome_kept h g keeps o within
 
 -- ---- whatever the method
 
@@ -114,19 +115,19 @@ within_kept h g keeps callers origin (Ends o) within = tt
 abbrev pub HasCallers : HeapState → List Caller → Next Frames → Type 0
 HasCallers h callers (GoesOn s) = (s.callers ≡ callers) × IsLivingFrame h s.current
 HasCallers h callers (Throws e s) = (s.callers ≡ callers) × IsLivingFrame h s.current
-HasCallers h callers (Ends o) = Unit {0}
+HasCallers h callers (Ends o) = IsLivingOutcome h o
 
 pub callers_in_frame : (h : HeapState) (callers : List Caller) (s : Frames) (next : Next Frame) → s.callers ≡ callers → Keeps h s.current.origin next
     → HasCallers h callers (in_frame s next)
 callers_in_frame h callers s (GoesOn f) same kept = (same, kept.1)
 callers_in_frame h callers s (Throws e f) same kept = (same, kept.1)
-callers_in_frame h callers s (Ends o) same kept = tt
+callers_in_frame h callers s (Ends o) same kept = kept
 
 pub callers_next : (p : Packages) (callers : List Caller) (next : Next Frames) (m : MemoryState) → HasCallers m.heap.now callers next
     → IsSoundUnder p callers m → IsOthers m → IsSoundNext p next m
 callers_next p callers (GoesOn s) m has under others = machine_like p callers s.current.origin s m has.0 refl under (λ code. others) has.1
 callers_next p callers (Throws e s) m has under others = machine_like p callers s.current.origin s m has.0 refl under (λ code. others) has.1
-callers_next p callers (Ends o) m has under others = tt
+callers_next p callers (Ends o) m has under others = has
 
 -- ---- effects
 
@@ -182,13 +183,14 @@ module _ (p : Packages) (m : MemoryState) where
     led_thrown : IsSoundMachine p (with_stack s []) m
     led_thrown = machine_like p s.callers s.current.origin (with_stack s []) m refl refl under may (without_cells m.heap.now s.current living)
 
-    pub led_stopped : (e : FrameExit) → IsLed p (exit_of s e) m
-    led_stopped (stop.Throw e) = λ due. led_thrown
-    led_stopped (stop.End o) = λ due. tt
+    pub led_stopped : (e : FrameExit) → IsPlainExit e → IsLed p (exit_of s e) m
+    led_stopped (stop.Throw e) plain = λ due. led_thrown
+    led_stopped (stop.End o) plain = λ due. plain_living m.heap.now o plain
 
-    pub led_ok : {A : Type 0} (x : Result A FrameExit) (go : A → Program (Next Frames)) → ((a : A) → x ≡ Ok a → IsLed p (go a) m) → IsLed p (if_ok s x go) m
-    led_ok (Ok a) go led = led a refl
-    led_ok (Err e) go led = led_stopped e
+    pub led_ok : {A : Type 0} (x : Result A FrameExit) (go : A → Program (Next Frames)) → FaultsOnly x → ((a : A) → x ≡ Ok a → IsLed p (go a) m)
+        → IsLed p (if_ok s x go) m
+    led_ok (Ok a) go plain led = led a refl
+    led_ok (Err e) go plain led = led_stopped e plain
 
     pub led_unless : (o : Option HeapRefusal) (d : Program (Next Frames)) → (o ≡ None → IsLed p d m) → IsLed p (unless s o d) m
     led_unless None d led = led refl

@@ -1,9 +1,9 @@
--- Cells that methods of the platform set: bytes of an array, and those of an AID.
-use Rattle.std.proofs.Common.{◌≡◌, ℕ, ◌+◌, ◌≤◌, Bool, true, false, List, length, Option, Some, None, refl, sym, ◌∙◌, ap}
+-- Cells that methods of the platform set: numbers of an array, and those of an AID.
+use Rattle.std.proofs.Common.{◌≡◌, ℕ, ◌+◌, ◌≤◌, Bool, true, false, inl, inr, List, length, Option, Some, None, refl, sym, ◌∙◌, ap}
 use Rattle.std.proofs.lemmas.Bool.{and_parts, false_from_ne_true, true≢false}
 use Rattle.jc_transient.specs.declared.cell.ClearEvent.{ClearEvent}
 use Rattle.jc_heap.specs.declared.object.Kind.{Kind}
-use Rattle.jc_heap.specs.declared.object.Kind.TheVariants.{ByteArray, ReferenceArray}
+use Rattle.jc_heap.specs.declared.object.Kind.TheVariants.{ReferenceArray}
 use Rattle.jc_heap.specs.Heap.{facts}
 use Rattle.jc_memory.specs.State.{MemoryState}
 use Rattle.jc_memory.specs.Cells.{cells_effect, cells_effect_in}
@@ -13,6 +13,7 @@ use Rattle.jc_platform.specs.Hierarchy.{cells_of, holds_reference, is_interface}
 use Rattle.jc_card_checks.specs.Objects.{is_a, is_instance}
 use Rattle.jc_world.specs.Instances.{IsInstanceWith}
 use Rattle.jc_api_runtime.specs.AidCells.{cells_of_aid, is_aid_length}
+use Rattle.law_isolation.proofs.Arguments.{HoldsNumbers}
 use Rattle.law_soundness.specs.Classes.{KnowsClasses}
 use Rattle.law_soundness.specs.Fit.{FitsRun, IsFit}
 use Rattle.law_soundness.specs.State.{IsSoundMemory}
@@ -20,27 +21,32 @@ use Rattle.law_soundness.proofs.RunObjects.{instance_no_array, kept_fits}
 use Rattle.law_soundness.proofs.Below.{aid_no_pin}
 use Rattle.law_soundness.proofs.Transients.{numbers_fit}
 
--- bytes of an array of them may be set
+-- elements of an array of numbers may be set
 module _ (p : Packages) (m : MemoryState) (r i : ℕ) (words : List ℕ) where
   pub run_in : (event : Option ClearEvent) → (facts m.heap.now r).event ≡ event → i + length words ≤ (facts m.heap.now r).length → FitsRun p m r i words → IsFit p (cells_effect_in event r i words) m
   run_in None is within fits = ((is, within), fits)
   run_in (Some event) is within fits = numbers_fit m r i words within fits.1
 
-  bytes_run : (kind : Kind) → (facts m.heap.now r).kind ≡ kind → kind ≡ ByteArray → FitsRun p m r i words
-  bytes_run kind is bytes = (
-    λ stays. absurd (true≢false (sym (and_parts (is_instance (facts m.heap.now r).kind) _ stays).0 ∙ ap is_instance (is ∙ bytes))),
-    λ array. absurd (not_both (sym array ∙ is ∙ bytes)),
+  numbers_run : (kind : Kind) → (facts m.heap.now r).kind ≡ kind → HoldsNumbers kind → FitsRun p m r i words
+  numbers_run kind is numbers = (
+    λ stays. absurd (true≢false (sym (and_parts (is_instance (facts m.heap.now r).kind) _ stays).0 ∙ ap is_instance is ∙ no_instance kind numbers)),
+    λ array. absurd (true≢false (ap has_references (sym array ∙ is) ∙ no_references kind numbers)),
   )
     where
       has_references : Kind → Bool
       has_references ReferenceArray = true
       has_references _ = false
 
-      not_both : ReferenceArray ≡ ByteArray → ⊥
-      not_both e = true≢false (ap has_references e)
+      no_instance : (kind : Kind) → HoldsNumbers kind → is_instance kind ≡ false
+      no_instance kind (inl e) = ap is_instance e
+      no_instance kind (inr e) = ap is_instance e
 
-  pub bytes_fit : (facts m.heap.now r).kind ≡ ByteArray → i + length words ≤ (facts m.heap.now r).length → IsFit p (cells_effect m r i words) m
-  bytes_fit is within = run_in (facts m.heap.now r).event refl within (bytes_run (facts m.heap.now r).kind refl is)
+      no_references : (kind : Kind) → HoldsNumbers kind → has_references kind ≡ false
+      no_references kind (inl e) = ap has_references e
+      no_references kind (inr e) = ap has_references e
+
+  pub elements_fit : HoldsNumbers (facts m.heap.now r).kind → i + length words ≤ (facts m.heap.now r).length → IsFit p (cells_effect m r i words) m
+  elements_fit numbers within = run_in (facts m.heap.now r).event refl within (numbers_run (facts m.heap.now r).kind refl numbers)
 
 -- the constructor of AID, on an instance that is none of the runtime environment's
 module _ (p : Packages) (m : MemoryState) (known : KnowsClasses p) (sound : IsSoundMemory p m) where

@@ -1,5 +1,5 @@
 -- Methods of the platform fit.
-use Rattle.std.proofs.Common.{◌≡◌, ℕ, true, false, List, Some, refl, sym, ◌∙◌, ap, subst, arith}
+use Rattle.std.proofs.Common.{◌≡◌, ℕ, true, false, inl, List, Some, refl, sym, ◌∙◌, ap, subst, arith}
 use Rattle.jc_transient.specs.declared.cell.CellValue.TheVariants.{Short}
 use Rattle.jc_heap.specs.Heap.{facts}
 use Rattle.jc_frames.specs.declared.cell.Cell.{Cell}
@@ -36,11 +36,12 @@ use Rattle.law_soundness.proofs.Effects.{keeps_sound}
 use Rattle.law_soundness.specs.Natives.{IsReceiver, NativesFit, minds_receiver}
 use Rattle.law_soundness.proofs.Applets.{bytes_small, entry_named, registered_due}
 use Rattle.law_soundness.proofs.Below.{HasReason, has_reason}
-use Rattle.law_soundness.proofs.NativeArrays.{aid_fits, bytes_fit, run_in}
+use Rattle.law_soundness.proofs.NativeArrays.{aid_fits, elements_fit, run_in}
 use Rattle.law_soundness.proofs.RunObjects.{instance_no_array, one_fits, set_in}
 use Rattle.law_soundness.proofs.RunPins.{after_count, after_flag, pin_object, starts}
 use Rattle.law_soundness.proofs.Small.{reason_fits, transient_fits}
 use Rattle.law_soundness.proofs.Turning.{bears}
+use Rattle.law_soundness.proofs.Minding.{aid_minds}
 
 -- exceptions of the card's framework have reasons
 reasoned_class : (of : PlatformClass) → part_of_class of ≡ CardExceptions → HasReason of
@@ -66,10 +67,6 @@ unfolding minds_receiver sets_receiver
 minds AppletRegister sets = refl
 minds AppletRegisterBytes sets = refl
 minds method sets = sets
-
-minds_init : (method : PlatformMethod) → method ≡ AidInit → minds_receiver method ≡ true
-unfolding minds_receiver sets_receiver
-minds_init method is = ap minds_receiver is
 
 minds_own : (method : PlatformMethod) → method ≡ AppletRegister → minds_receiver method ≡ true
 unfolding minds_receiver
@@ -107,11 +104,11 @@ module _ (method : PlatformMethod) (args : List Cell) (p : Packages) (m : Memory
         (reason_fits p m known sound (class_of method) (reasoned method part) own _ (called_on (class_of method) (minds method sets) refl own is) there)
         (one_fits m own 0 (Short v) there.cells tt (λ array. absurd (instance_no_array (facts m.heap.now own).kind (ap is_instance there.instance) array)));
     stretch = λ r count e words is long. subst (λ a. IsFit p (cells_effect m a e.start words) m) (sym is.array)
-        (bytes_fit p m r e.start words is.kind (let w = is.within in omega (arith, w, long)));
+        (elements_fit p m r e.start words is.kind (let w = is.within in omega (arith, w, long)));
     aid = λ init own bytes is there long. run_in p m own 0 (cells_of_aid bytes) (facts m.heap.now own).event refl
         (let l = there.cells in let n = nine bytes in omega (arith, l, n))
-        (aid_fits p m known sound own bytes (called_on Aid (minds_init method init) (class_init method init) own is) (receiver.owned init own is) there long);
-    buffer = λ r is. bytes_fit p m r 5 (data_of m.command) is.kind
+        (aid_fits p m known sound own bytes (called_on Aid (aid_minds method init) (class_init method init) own is) (receiver.owned init own is) there long);
+    buffer = λ r is. elements_fit p m r 5 (data_of m.command) (inl is.kind)
         (let d = data_fits m.command sound.command in let l = is.long in omega (arith, d, l));
     transient = λ kind count event o none fine room. transient_fits p m known sound steady kind count event o
         (λ r. return_value (ReturnValue (Reference r))) none fine room (λ r v. tt);

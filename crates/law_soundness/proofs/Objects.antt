@@ -18,15 +18,12 @@ use Rattle.jc_card_checks.specs.Objects.{fits_aid, fits_class, fits_pin, is_a, i
 use Rattle.jc_card_checks.specs.Sound.{entry_word}
 use Rattle.law_soundness.specs.State.{is_owner_up_to}
 use Rattle.law_soundness.proofs.Lists.{zeros}
-use Rattle.law_soundness.proofs.Kept.{Carries, HoldsBut, IsFitBut, IsSoundBut, SameApplets, object_kept, owner_same, pin_same, records_kept, sound_kept}
+use Rattle.law_soundness.proofs.Kept.{Carries, HoldsBut, IsFitBut, IsSoundBut, object_kept, owner_same, pin_same, records_kept, sound_kept}
+use Rattle.law_isolation.proofs.Standing.{SameApplets, applets-add_object}
 
-packages-add_object : (h : HeapState) (o : Object) (n : ℕ) → (add_object h o n).packages ≡ h.packages
+pub packages-add_object : (h : HeapState) (o : Object) (n : ℕ) → (add_object h o n).packages ≡ h.packages
 unfolding add_object
 packages-add_object h o n = refl
-
-applets-add_object : (h : HeapState) (o : Object) (n : ℕ) → SameApplets h (add_object h o n)
-unfolding add_object
-applets-add_object h o n = (refl, refl)
 
 -- what is new fits: its class and its owner are there, and its cells are zeros
 pub record IsFitNew (most : ℕ) (p : Packages) (h : HeapState) (o : Object) : Type 0 where

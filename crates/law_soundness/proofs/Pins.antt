@@ -25,6 +25,7 @@ use Rattle.law_soundness.specs.Fit.{IsPinObject}
 use Rattle.law_soundness.proofs.Kept.{Carries, IsSoundBut, but_one, pin_kept, pin_same, value_kept, with_one}
 use Rattle.law_soundness.proofs.Cells.{CellFits, cell_carries, cell_kept, cells_set}
 use Rattle.law_soundness.proofs.Values.{bytes_other, kept_aid, value_kept as array_kept}
+use Rattle.law_soundness.proofs.Frames.{SameHeaders, places_headers}
 
 -- a PIN, by what its header says
 pub record PinAt (p : Packages) (h : HeapState) (r : ℕ) : Type 0 where
@@ -35,10 +36,6 @@ pub record PinAt (p : Packages) (h : HeapState) (r : ℕ) : Type 0 where
 
 pub pin_at : (p : Packages) (m : MemoryState) (r : ℕ) → IsPinObject p m r → PinAt p m.heap.now r
 pin_at p m r o = record { there = o.there; kept = o.kept; aid = o.aid; numbers = o.numbers }
-
--- the same headers, and the same things stand
-abbrev pub SameHeaders : HeapState → HeapState → Type 0
-SameHeaders h g = (q : ℕ) → header_only (heap_item_at g q) ≡ header_only (heap_item_at h q)
 
 pub object_still : (h g : HeapState) → SameHeaders h g → (q : ℕ) → IsObject h q → IsObject g q
 object_still h g same q there = sym (object-header_only (heap_item_at g q)) ∙ ap is_object (same q) ∙ object-header_only (heap_item_at h q) ∙ there
@@ -56,11 +53,7 @@ pin_still p h g r same pin =
       numbers = λ k lt. ap (λ f. reference_cell p f.class k) header ∙ pin.numbers k lt;
     }
 
-places_still : (cs : List (Place × ℕ)) (h : HeapState) → SameHeaders h (set_places h cs)
-places_still [] h q = refl
-places_still (c ∷ cs) h q = places_still cs (set_place h c.0 c.1) q ∙ bare_stays h c.0 c.1 q
-
-packages-set_place : (h : HeapState) (place : Place) (v : ℕ) → (set_place h place v).packages ≡ h.packages
+pub packages-set_place : (h : HeapState) (place : Place) (v : ℕ) → (set_place h place v).packages ≡ h.packages
 unfolding set_cell set_word
 packages-set_place h (Cell r i) v = refl
 packages-set_place h (Static r j) v = refl
@@ -73,8 +66,8 @@ packages-set_places (c ∷ cs) h = packages-set_places cs (set_place h c.0 c.1) 
 
 pub places_carry : (cs : List (Place × ℕ)) (h : HeapState) → Carries h (set_places h cs)
 places_carry cs h = record {
-  there = object_still h (set_places h cs) (places_still cs h);
-  same = λ q there. facts_still h (set_places h cs) (places_still cs h) q;
+  there = object_still h (set_places h cs) (places_headers cs h);
+  same = λ q there. facts_still h (set_places h cs) (places_headers cs h) q;
   packages = packages-set_places cs h;
 }
 
@@ -270,7 +263,7 @@ module _ (most own : ℕ) (p : Packages) (h : HeapState) (r limit : ℕ) (bytes 
   filled = set_places h (cell_changes array 0 bytes)
 
   pin_filled : PinAt p filled r
-  pin_filled = pin_still p h filled r (places_still (cell_changes array 0 bytes) h r) pin
+  pin_filled = pin_still p h filled r (places_headers (cell_changes array 0 bytes) h r) pin
 
   abbrev longer : HeapState
   longer = set_cell filled r 3 (length bytes)

@@ -125,7 +125,7 @@ module _ (h : HeapState) where
   keeps_jumped origin (GoesOn s) None kept = tt
   keeps_jumped origin (GoesOn s) (Some target) kept = (kept.0, (keeps_place s kept.1 (Some target)).1)
   keeps_jumped origin (Throws e s) o kept = kept
-  keeps_jumped origin (Ends e) o kept = tt
+  keeps_jumped origin (Ends e) o kept = kept
 
   pub keeps_branched : (code : List ℕ) (pc : ℕ) (branch : BranchOp) (s : Frame) → IsLivingFrame h s → Keeps h s.origin (branch_instruction code pc branch s)
   keeps_branched code pc (If condition offset) s living =

@@ -15,8 +15,9 @@ use Rattle.jc_frames.specs.declared.outcome.FrameExit.{FrameExit}
 use Rattle.jc_frames.specs.declared.outcome.FrameExit.TheVariants as stop
 use Rattle.jc_frames.specs.Frames.{Caller, Frame, Frames, Next, GoesOn, Throws, Ends, in_frame}
 use Rattle.jc_world.specs.Instructions.{if_ok, if_some, exit_of, unless}
-use Rattle.law_soundness.specs.Living.{AreLivingCells, IsLivingFrame}
+use Rattle.law_soundness.specs.Living.{AreLivingCells, IsLivingFrame, IsLivingOutcome}
 use Rattle.law_soundness.specs.LocalEffects.{AreElsewhere, IsLocalEffect, IsElsewhere}
+use Rattle.law_soundness.proofs.Exits.{FaultsOnly, IsPlainExit, plain_living}
 use Rattle.law_soundness.proofs.Living.{none_living}
 
 -- calm in each memory, and no turn of the registers
@@ -58,11 +59,12 @@ quiet_registers (SetRegisters registers) m quiet = absurd quiet
 quiet_registers (BeginCommand bytes) m quiet = refl
 quiet_registers (SendBytes bytes) m quiet = refl
 
--- what follows is in a method of these callers, with this origin, and each reference in its frame is null or names an object of this heap
+-- what follows is in a method of these callers, with this origin, and each reference in its frame is null or names an object of this heap;
+-- and so does what the run ends with
 abbrev pub IsWithin : HeapState → List Caller → Origin → Next Frames → Type 0
 IsWithin h callers origin (GoesOn s) = (s.callers ≡ callers) × (s.current.origin ≡ origin) × IsLivingFrame h s.current
 IsWithin h callers origin (Throws e s) = (s.callers ≡ callers) × (s.current.origin ≡ origin) × IsLivingFrame h s.current
-IsWithin h callers origin (Ends o) = Unit {0}
+IsWithin h callers origin (Ends o) = IsLivingOutcome h o
 
 -- all effects are quiet, none makes an object, and what follows is there
 abbrev pub Stays : HeapState → List Caller → Origin → Program (Next Frames) → Type 0
@@ -92,14 +94,14 @@ module _ (h : HeapState) where
   stays_some callers origin (Some a) go stays = stays a refl
 
   module _ (s : Frames) (living : IsLivingFrame h s.current) where
-    pub stays_stopped : (e : FrameExit) → Stays h s.callers s.current.origin (exit_of s e)
-    stays_stopped (stop.Throw e) = (refl, refl, without_cells h s.current living)
-    stays_stopped (stop.End o) = tt
+    pub stays_stopped : (e : FrameExit) → IsPlainExit e → Stays h s.callers s.current.origin (exit_of s e)
+    stays_stopped (stop.Throw e) plain = (refl, refl, without_cells h s.current living)
+    stays_stopped (stop.End o) plain = plain_living h o plain
 
-    pub stays_ok : {A : Type 0} (x : Result A FrameExit) (go : A → Program (Next Frames)) → ((a : A) → x ≡ Ok a → Stays h s.callers s.current.origin (go a))
-        → Stays h s.callers s.current.origin (if_ok s x go)
-    stays_ok (Ok a) go stays = stays a refl
-    stays_ok (Err e) go stays = stays_stopped e
+    pub stays_ok : {A : Type 0} (x : Result A FrameExit) (go : A → Program (Next Frames)) → FaultsOnly x
+        → ((a : A) → x ≡ Ok a → Stays h s.callers s.current.origin (go a)) → Stays h s.callers s.current.origin (if_ok s x go)
+    stays_ok (Ok a) go plain stays = stays a refl
+    stays_ok (Err e) go plain stays = stays_stopped e plain
 
     pub stays_unless : (o : Option HeapRefusal) (d : Program (Next Frames)) → Stays h s.callers s.current.origin d
         → Stays h s.callers s.current.origin (unless s o d)
@@ -121,10 +123,10 @@ quiet_sets m r i v = sets_quiet (facts m.heap.now r).event r i v
 abbrev pub Keeps : HeapState → Origin → Next Frame → Type 0
 Keeps h origin (GoesOn f) = (f.origin ≡ origin) × IsLivingFrame h f
 Keeps h origin (Throws e f) = (f.origin ≡ origin) × IsLivingFrame h f
-Keeps h origin (Ends o) = Unit {0}
+Keeps h origin (Ends o) = IsLivingOutcome h o
 
 pub within_frame : (h : HeapState) (s : Frames) (next : Next Frame) → Keeps h s.current.origin next
     → IsWithin h s.callers s.current.origin (in_frame s next)
 within_frame h s (GoesOn f) kept = (refl, kept.0, kept.1)
 within_frame h s (Throws e f) kept = (refl, kept.0, kept.1)
-within_frame h s (Ends o) kept = tt
+within_frame h s (Ends o) kept = kept

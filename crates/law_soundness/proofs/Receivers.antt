@@ -1,7 +1,7 @@
 -- What a call is made on: an instance of the method's class; and an owner that it switches to is known.
 use Rattle.std.proofs.Common.{◌≡◌, ℕ, ◌/◌, ◌≤◌, Bool, true, false, inl, inr, List, Option, Some, None, Ok, refl, sym, ◌∙◌, ap, subst, if◌then◌else◌}
-use Rattle.std.proofs.lemmas.Bool.{both_ways, false≢true}
-use Rattle.std.proofs.lemmas.Option.{same_Some}
+use Rattle.std.proofs.lemmas.Bool.{both_ways, false≢true, not-true}
+use Rattle.std.proofs.lemmas.Option.{none-some, same_Some}
 use Rattle.std.specs.Prelude.{not, ◌==◌}
 use Rattle.jc_heap.specs.declared.object.Facts.{Facts}
 use Rattle.jc_heap.specs.declared.object.Kind.{Kind}
@@ -58,13 +58,6 @@ use Rattle.law_soundness.proofs.Owners.{known_again, object_owner}
 it_holds : (b : Bool) → (u : Unit {0}) → check_or_fault b ≡ Ok u → b ≡ true
 it_holds true u e = refl
 it_holds false u e = absurd (err_not_ok e)
-
-not_true : (b : Bool) → not b ≡ true → b ≡ false
-not_true false e = refl
-not_true true e = absurd (false≢true e)
-
-owner_none : {o : Owner} → None ≡ Some o → ⊥
-owner_none e = cc
 
 -- ---- the code that runs is a package's
 
@@ -139,7 +132,7 @@ module _ (p : Packages) (m : MemoryState) (known : KnowsClasses p) (methods : Kn
       (c.method ≡ by) × (c.arguments ≡ n) × ((o : Owner) → c.switches_to ≡ Some o → is_owner_up_to (most_owner m) m.heap.now (owner_number o) ≡ true)
   judged_is Allow f by n there e =
       let same = same_Ok (call_of by n None) c e in
-      (ap (λ x. x.method) (sym same), ap (λ x. x.arguments) (sym same), λ o is. absurd (owner_none (ap (λ x. x.switches_to) same ∙ is)))
+      (ap (λ x. x.method) (sym same), ap (λ x. x.arguments) (sym same), λ o is. absurd (none-some o (ap (λ x. x.switches_to) same ∙ is)))
   judged_is (Switch context) f by n there e =
       let same = same_Ok (call_of by n (Some (owner_of f.owner))) c e in (
         ap (λ x. x.method) (sym same),
@@ -211,7 +204,7 @@ module _ (p : Packages) (m : MemoryState) (known : KnowsClasses p) (methods : Kn
               class = subst (λ g. is_a p g.class (class_of_method method) ≡ true) at of.1;
               owned = λ aid zero. not_own two.0 of.0 (ap (λ g. g.owner) at ∙ zero) (field_allowed p m two.0 five.1);
             });
-        switches = λ o to. absurd (owner_none (ap (λ x. x.switches_to) same ∙ to));
+        switches = λ o to. absurd (none-some o (ap (λ x. x.switches_to) same ∙ to));
       }
 
   statically_fit : (number index : ℕ) (class : Option ℕ) (method : Method) → target_at p number index ≡ Some (StaticMethod class method)
@@ -225,9 +218,9 @@ module _ (p : Packages) (m : MemoryState) (known : KnowsClasses p) (methods : Kn
         on = λ native reached minds r on. (
             let is = ap (λ x. x.method) same ∙ reached in
             absurd (minds_no_static native minds (known.receivers.statically number index class native (target ∙ ap (λ x. Some (StaticMethod class x)) is)).1
-            (subst (λ x. is_native_constructor x ≡ false) is (not_true (is_native_constructor method)
+            (subst (λ x. is_native_constructor x ≡ false) is (not-true (is_native_constructor method)
             (it_holds (not (is_native_constructor method)) one.0 one.1)))));
-        switches = λ o to. absurd (owner_none (ap (λ x. x.switches_to) same ∙ to));
+        switches = λ o to. absurd (none-some o (ap (λ x. x.switches_to) same ∙ to));
       }
 
   virtual_fit : (o : Option Target) → virtual_by o p stack m ≡ Ok c → IsFitCall p m stack c

@@ -30,6 +30,7 @@ use Rattle.law_soundness.specs.State.{IsSoundMemory, IsSteady, is_open, most_own
 use Rattle.law_soundness.proofs.Frames.{object_frames, places_headers, run_frames, run_headers}
 use Rattle.law_soundness.proofs.References.{headers_keep}
 use Rattle.law_soundness.specs.Calls.{IsCallResult, IsReadyAgain}
+use Rattle.law_soundness.proofs.NativeExits.{plain_bytes, plain_elements, plain_registration}
 use Rattle.law_soundness.proofs.Leaving.{left_if, left_ok, left_some, same_owners, stays}
 
 -- an applet may be registered only while it is being installed
@@ -101,7 +102,7 @@ module _ (p : Packages) (m : MemoryState) (sound : IsSoundMemory p m) (steady : 
 
   registered_left : (aid : List ℕ) (instance : ℕ) → AllResults (registration aid instance p m) m (IsCallResult m)
   unfolding registration aid_object_creation registry_entry
-  registered_left aid instance = left_ok m steady (registration_package m aid instance) _
+  registered_left aid instance = left_ok m steady (registration_package m aid instance) _ (plain_registration m aid instance)
       (λ k may. λ r new. registered_again aid instance k r (while_open m aid instance k may))
 
   as_left : (instance : ℕ) (aid : Option (List ℕ)) → AllResults (register_with instance p m aid) m (IsCallResult m)
@@ -117,5 +118,6 @@ module _ (p : Packages) (m : MemoryState) (sound : IsSoundMemory p m) (steady : 
   given_left args =
       left_some m (reference_argument args 0) _ (λ instance i. left_some m (reference_argument args 1) _
       (λ array a. left_some m (short_argument args 2) _ (λ start s. left_some m (short_argument args 3) _ (λ count c.
-      left_ok m steady (bytes_argument m array) _ (λ header h. left_ok m steady (elements_of p m array header start count) _ (λ e f.
+      left_ok m steady (bytes_argument m array) _ (plain_bytes m array) (λ header h. left_ok m steady (elements_of p m array header start count) _
+      (plain_elements p m array header start count) (λ e f.
       left_if m (is_aid_length e.count) _ _ (λ on. registered_left (bytes_in m e) instance) (λ off. stays m steady)))))))

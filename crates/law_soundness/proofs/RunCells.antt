@@ -2,8 +2,7 @@
 use Rattle.std.proofs.Common.{◌≡◌, ℕ, zero, suc, ◌+◌, ◌/◌, ◌%◌, ◌<◌, ◌≤◌, Bool, true, false, inl, inr, List, [], ◌∷◌, length, map, drop, get_or, find, Option}
 use Rattle.std.proofs.Common.{Some, None, refl, sym, ◌∙◌, ap, subst, arith, if◌then◌else◌}
 use Rattle.std.proofs.lemmas.Bool.{cases_eq, cond-true, le-leb}
-use Rattle.std.proofs.lemmas.List.{ext_get_or, get_or-drop, get_or-set_other, get_or-set_same, length-map}
-use Rattle.std.proofs.lemmas.List.FromFn.{length-range_with_len}
+use Rattle.std.proofs.lemmas.List.{ext_get_or, get_or-drop, get_or-set_other, get_or-set_same}
 use Rattle.std.proofs.lemmas.Option.{none-some, same_Some}
 use Rattle.std.specs.List.{range_with_len}
 use Rattle.std.specs.Prelude.{◌==◌, nat_le, slice_index}
@@ -12,7 +11,7 @@ use Rattle.jc_heap.specs.Packed.{packed_byte, bytes_of_packed}
 use Rattle.jc_heap.proofs.Laws.{cells-set_cell, heap_item_at-set_other, length-cells-set_cell}
 use Rattle.jc_card_checks.specs.Sound.{aid_in}
 use Rattle.jc_registry.specs.Aids.{aid_byte, aid_of_cells}
-use Rattle.jc_api_runtime.specs.AidCells.{aid_cell, cells_of_aid}
+use Rattle.jc_api_runtime.specs.AidCells.{cells_of_aid}
 use Rattle.jc_api_runtime.proofs.ReadBack.{read_back}
 
 -- ---- a run of cells that is set
@@ -82,9 +81,6 @@ aid_of held few = cond-true (nat_le (slice_index held 0) 16) _ _ (le-leb (slice_
 -- what was put into one
 pub aid_put : (aid : List ℕ) → length aid ≤ 16 → ((i : ℕ) → i < length aid → slice_index aid i < 256) → aid_in (cells_of_aid aid) ≡ aid
 aid_put aid few bytes = same_Some (aid_in (cells_of_aid aid)) aid (sym (aid_of (cells_of_aid aid) few) ∙ read_back aid few bytes)
-
-pub nine : (aid : List ℕ) → length (cells_of_aid aid) ≡ 9
-nine aid = let l = length-map (range_with_len 0 8) (aid_cell aid) in let n = length-range_with_len 0 8 in omega (arith, l, n)
 
 -- ---- a search through numbers in turn that finds nothing
 

@@ -7,6 +7,7 @@ use Rattle.jc_heap.specs.Object.{Item, AnObject, APackage, Object, header_only, 
 use Rattle.jc_heap.specs.Heap.{HeapState, add_object, facts, heap_item_at, is_allocated, set_cell}
 use Rattle.jc_heap.specs.Moves.{WriteNonAtomic}
 use Rattle.jc_heap.proofs.Laws.{header_only-set_cell, facts-set_cell, heap_item_at-add_object, heap_item_at-add_other, object_named}
+use Rattle.jc_heap.proofs.Keeping.{object-header_only}
 use Rattle.jc_memory.specs.Owners.{owner_number}
 use Rattle.jc_memory.specs.State.{MemoryState, HeapMove, SetFlag, IsNew, apply_effect}
 use Rattle.jc_memory.specs.Making.{object_creation}
@@ -39,13 +40,9 @@ pin_stays p m v r old same there fixed = record {
   long = subst (λ f. 5 ≤ f.length) (sym same) old.long;
 }
 
-pub bare_object : (t : Item) → is_object (header_only t) ≡ is_object t
-bare_object (AnObject o) = refl
-bare_object (APackage ws) = refl
-
 is_object_address-set_cell : (h : HeapState) (r i v q : ℕ) → is_object_address (set_cell h r i v) q ≡ is_object_address h q
-is_object_address-set_cell h r i v q = sym (bare_object (heap_item_at (set_cell h r i v) q)) ∙ ap is_object (header_only-set_cell h r i v q)
-    ∙ bare_object (heap_item_at h q)
+is_object_address-set_cell h r i v q = sym (object-header_only (heap_item_at (set_cell h r i v) q)) ∙ ap is_object (header_only-set_cell h r i v q)
+    ∙ object-header_only (heap_item_at h q)
 
 pub positive : (n : ℕ) → (n ≡ 0 → ⊥) → 0 < n
 positive n some = omega (arith, some)

@@ -27,10 +27,7 @@ use Rattle.law_soundness.specs.Classes.{KnowsClasses}
 use Rattle.law_soundness.specs.State.{IsSoundMemory}
 use Rattle.law_soundness.proofs.RunObjects.{instance_kind, kept_behind}
 use Rattle.law_soundness.proofs.RunCells.{aid_of, none_found}
-
-none_event : (event : Option ClearEvent) → is_none event ≡ true → event ≡ None
-none_event None e = refl
-none_event (Some x) e = absurd cc
+use Rattle.law_soundness.proofs.Values.{none_of}
 
 numbered : ℕ → AppletNumber
 numbered n = record { 0 = n }
@@ -55,7 +52,7 @@ module _ (p : Packages) (m : MemoryState) (known : KnowsClasses p) (sound : IsSo
         (and_parts ((facts m.heap.now r).class == class_word p.platform Aid) _ (and_parts (is_persistent_instance (facts m.heap.now r)) _ holds).1).1).1
 
     no_event : (facts m.heap.now r).event ≡ None
-    no_event = none_event (facts m.heap.now r).event (and_parts (is_instance (facts m.heap.now r).kind) _ kept).1
+    no_event = none_of (facts m.heap.now r).event (and_parts (is_instance (facts m.heap.now r).kind) _ kept).1
 
     has_nine : (facts m.heap.now r).length ≡ 9
     unfolding cells_of is_interface

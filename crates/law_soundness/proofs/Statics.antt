@@ -21,7 +21,8 @@ use Rattle.jc_linker.specs.Values.{Packages}
 use Rattle.jc_card_checks.specs.Objects.{is_reference}
 use Rattle.jc_card_checks.specs.Sound.{HoldsStatics, entry_word, package_record_at}
 use Rattle.law_soundness.specs.Fit.{AreStatics, FitsStatic}
-use Rattle.law_soundness.proofs.Kept.{Carries, IsSoundBut, SameApplets, object_kept, reference_kept, sound_kept, statics_kept}
+use Rattle.law_soundness.proofs.Kept.{Carries, IsSoundBut, object_kept, reference_kept, sound_kept, statics_kept}
+use Rattle.law_isolation.proofs.Standing.{SameApplets}
 
 -- ---- where the image begins
 
@@ -107,7 +108,7 @@ facts-with_word : (t : Item) (j v : ℕ) → facts_of (with_word t j v) ≡ fact
 facts-with_word (AnObject o) j v = refl
 facts-with_word (APackage ws) j v = refl
 
-object-with_word : (t : Item) (j v : ℕ) → is_object (with_word t j v) ≡ is_object t
+pub object-with_word : (t : Item) (j v : ℕ) → is_object (with_word t j v) ≡ is_object t
 object-with_word (AnObject o) j v = refl
 object-with_word (APackage ws) j v = refl
 

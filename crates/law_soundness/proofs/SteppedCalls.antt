@@ -48,12 +48,13 @@ use Rattle.law_soundness.specs.Environment.{HasEnvironment}
 use Rattle.law_soundness.specs.Fit.{IsFit}
 use Rattle.law_soundness.specs.State.{IsSoundMemory, is_owner_up_to, most_owner}
 use Rattle.law_soundness.specs.Calls.{AnswersWell, IsCallResult, IsReadyAgain, IsSteadyAgain}
-use Rattle.law_soundness.specs.Living.{AreLivingFrames, IsLivingCell, IsLivingFrame}
+use Rattle.law_soundness.specs.Living.{AreLivingFrames, IsLivingCell, IsLivingFrame, IsLivingOutcome}
 use Rattle.law_soundness.specs.Machines.{IsSoundMachine, KnowOwners}
 use Rattle.law_soundness.specs.Steps.{IsSoundInvoke}
 use Rattle.law_soundness.specs.Soundness.{AreKnown, IsSoundNext}
 use Rattle.law_soundness.proofs.Machines.{Given, HasCallers, IsLed, IsOthers, IsSoundUnder, callers_in_frame, callers_next, led_if, led_ok, led_some}
 use Rattle.law_soundness.proofs.Machines.{machine_like, under_after, under_of}
+use Rattle.law_soundness.proofs.Exits.{plain_selection}
 use Rattle.law_soundness.proofs.Living.{arguments_living, callers_kept, callers_nulled, first_living, frame_kept, frame_nulled, reverse_living}
 use Rattle.law_soundness.proofs.Plain.{keeps_pushed, keeps_stored}
 use Rattle.law_soundness.proofs.Quiet.{with_cells, without_cells}
@@ -84,7 +85,7 @@ module _ (h : HeapState) where
       → HasCallers h callers (with_local n cell next)
   stored_has callers n cell (GoesOn s) one has = callers_in_frame h callers s (store_local n cell s.current) has.0 (keeps_stored h s.current has.1 n cell one)
   stored_has callers n cell (Throws e s) one has = has
-  stored_has callers n cell (Ends o) one has = tt
+  stored_has callers n cell (Ends o) one has = has
 
   asked_has : (callers : List Caller) (asked : ServerCall) (next : Next Frames) → IsReference h asked.server → IsReference h asked.client
       → HasCallers h callers next → HasCallers h callers (with_server_arguments asked next)
@@ -121,7 +122,7 @@ module _ (g : Given) (p : Packages) where
       callers_next p callers (GoesOn s) _ has (under_after g p (SetRegisters (registers_in_callee (Some owner) m.registers)) callers m due.0 refl under)
       (to owner refl)
   switching_led (Some owner) callers (Throws e s) m has under others to due = callers_next p callers (Throws e s) m has under others
-  switching_led (Some owner) callers (Ends o) m has under others to due = tt
+  switching_led (Some owner) callers (Ends o) m has under others to due = has
 
   entering_led : (c : Callee) (site : CallSite) (s : Frames) (m : MemoryState) → IsSoundUnder p s.callers m → IsOthers m → IsLivingFrame m.heap.now s.current
       → ((o : Owner) → c.switches_to ≡ Some o → owner_number o ≡ 0 → ⊥) → IsLed p (method_entry c site p s m) m
@@ -163,14 +164,14 @@ module _ (g : Given) (p : Packages) where
   IsReady : MemoryState → Result NativeResult FrameExit → MemoryState → Type 0
   IsReady m (Ok answer) v = IsSoundMemory p v × HasEnvironment p v × AnswersWell answer m v
   IsReady m (Err (stop.Throw e)) v = IsSoundMemory p v × HasEnvironment p v × IsReadyAgain m v
-  IsReady m (Err (stop.End o)) v = Unit {0}
+  IsReady m (Err (stop.End o)) v = IsLivingOutcome v.heap.now o
 
   module _ (m : MemoryState) where
     ready : (result : Result NativeResult FrameExit) (v : MemoryState) → IsCallResult m result v → IsSoundMemory p v → HasEnvironment p v → IsReady m result v
     unfolding IsReady
     ready (Ok answer) v left sound environment = (sound, environment, left)
     ready (Err (stop.Throw e)) v left sound environment = (sound, environment, left)
-    ready (Err (stop.End o)) v left sound environment = tt
+    ready (Err (stop.End o)) v left sound environment = left
 
     each_ready : (d : NativeProgram) (v : MemoryState) → AllDue (IsFit p) d v → AllResults d v (IsCallResult m) → IsSoundMemory p v → HasEnvironment p v
         → AllResults d v (IsReady m)
@@ -235,7 +236,7 @@ module _ (g : Given) (p : Packages) where
     after_next (Ok answer) v is = answered_next v is.0 is.1 answer is.2
     after_next (Err (stop.Throw e)) v is = machine_like p s.callers s.current.origin _ v refl refl (under_again v is.0 is.1 is.2)
         (λ code. others_again v is.0 is.1 (is.2).again) (without_cells v.heap.now s.current (current_again v is.0 is.1 is.2))
-    after_next (Err (stop.End o)) v is = tt
+    after_next (Err (stop.End o)) v is = is
 
   module _ (known : AreKnown p) (i : InvokeOp) (c : MethodCall) (place : ℕ) (s : Frames) (m : MemoryState) (machine : IsSoundMachine p s m)
       (home : s.current.origin.package_number == 0 ≡ false) (chose : method_selection i p s m ≡ Ok c) where
@@ -308,4 +309,4 @@ module _ (g : Given) (p : Packages) where
       → IsLed p (invoke_instruction i place p s m) m
   unfolding invoke_instruction
   invoked_led known i place s m machine home = led_ok p m s (under_of p s m machine) machine.code machine.living.current (method_selection i p s m) _
-      (λ c chose. made_led known i c place s m machine home chose c.method refl)
+      (plain_selection p i s m) (λ c chose. made_led known i c place s m machine home chose c.method refl)

@@ -35,6 +35,7 @@ use Rattle.law_soundness.specs.State.{IsSoundMemory}
 use Rattle.law_soundness.proofs.Living.{mapped_some, more_living, reference_taken, short_taken}
 use Rattle.law_soundness.proofs.Loads.{field_living, static_living}
 use Rattle.law_soundness.proofs.RunStatics.{static_is}
+use Rattle.law_soundness.proofs.Exits.{plain_field, plain_keepable}
 use Rattle.law_soundness.proofs.Quiet.{Stays, quiet_sets, stays_if, stays_ok, stays_some, stays_unless, with_cells}
 
 -- what is below a value that is taken from a stack
@@ -64,7 +65,7 @@ module _ (p : Packages) (m : MemoryState) (known : KnowsClasses p) (sound : IsSo
   got_stays : (t : ValueType) (index r : ℕ) (s : Frames) → IsLivingFrame h s.current → Stays h s.callers s.current.origin (field_read t index r p s m)
   unfolding field_read
   got_stays t index r s living = stays_some h s.callers s.current.origin (own_field t index p s) _ (λ field named.
-      stays_ok h s living (field_cell field p m r) _ (λ i has. (
+      stays_ok h s living (field_cell field p m r) _ (plain_field field p m r) (λ i has. (
         refl,
         refl,
         topped h s _ living
@@ -76,8 +77,8 @@ module _ (p : Packages) (m : MemoryState) (known : KnowsClasses p) (sound : IsSo
       → Stays h s.callers s.current.origin (field_write t index r value p s m)
   unfolding field_write
   put_stays t index r value s living =
-      stays_some h s.callers s.current.origin (own_field t index p s) _ (λ field named. stays_ok h s living (field_cell field p m r) _
-      (λ i has. stays_ok h s living (keepable p m value) _ (λ v kept.
+      stays_some h s.callers s.current.origin (own_field t index p s) _ (λ field named. stays_ok h s living (field_cell field p m r) _ (plain_field field p m r)
+      (λ i has. stays_ok h s living (keepable p m value) _ (plain_keepable p m value) (λ v kept.
       stays_unless h s living (cell_refusal m r i) _ (quiet_sets m r i v, (refl, refl, living)))))
 
   got_stack_stays : (t : ValueType) (index : ℕ) (s : Frames) → IsLivingFrame h s.current → Stays h s.callers s.current.origin (getfield t index p s m)
@@ -143,7 +144,7 @@ module _ (p : Packages) (m : MemoryState) (known : KnowsClasses p) (sound : IsSo
   unfolding putstatic
   put_static_stays t index s living =
       stays_some h s.callers s.current.origin (value_on t s.current.stack) _ (λ v taken. stays_some h s.callers s.current.origin (own_static t index p s) _
-      (λ field named. stays_ok h s living (keepable p m v.0) _ (λ value kept.
+      (λ field named. stays_ok h s living (keepable p m v.0) _ (plain_keepable p m v.0) (λ value kept.
       static_stays (with_stack s v.1) (with_cells h s.current v.1 living (value_taken h t s.current.stack v living.stack taken)) t field (word_of value))))
 
   pub fielded_stays : (field : FieldOp) (s : Frames) → IsLivingFrame h s.current → Stays h s.callers s.current.origin (field_instruction field p s m)

@@ -22,7 +22,7 @@ use Rattle.jc_frames.specs.declared.method.CallKind.{CallKind}
 use Rattle.jc_frames.specs.declared.method.CallKind.TheVariants.{Instruction, ShareableRequest}
 use Rattle.jc_frames.specs.declared.method.ReturnPoint.{ReturnPoint}
 use Rattle.jc_frames.specs.declared.outcome.Exception.{Exception}
-use Rattle.jc_frames.specs.Calls.{frames_after_return, frames_with_result}
+use Rattle.jc_frames.specs.Calls.{frames_after_return, frames_with_result, outcome_of}
 use Rattle.jc_frames.specs.Cells.{reference_on, short_on}
 use Rattle.jc_frames.specs.Frames.{Caller, Frame, Frames, Next, push, with_stack}
 use Rattle.jc_frames.specs.ReturnOps.{returned_cell}
@@ -38,8 +38,9 @@ use Rattle.law_soundness.specs.Fit.{IsFit}
 use Rattle.jc_heap.specs.Heap.{HeapState}
 use Rattle.jc_heap.specs.Whole.{IsReference}
 use Rattle.law_isolation.proofs.Reaching.{header_is}
-use Rattle.law_soundness.specs.Living.{AreLivingCells, IsLivingCell, IsLivingFrame}
+use Rattle.law_soundness.specs.Living.{AreLivingCells, IsLivingCell, IsLivingFrame, IsLivingOutcome}
 use Rattle.law_soundness.specs.Soundness.{IsSoundNext}
+use Rattle.law_soundness.proofs.Exits.{plain_check, plain_firewall, plain_object}
 use Rattle.law_soundness.proofs.Living.{mapped_some, none_living, reference_taken}
 use Rattle.law_soundness.proofs.Machines.{Given, IsLed, IsOthers, IsSoundUnder, MayRun, callers_in_frame, callers_next, led_if, led_ok, led_some, under_after}
 use Rattle.law_soundness.proofs.Machines.{within_next}
@@ -59,6 +60,12 @@ pub owner_zero : (n : ℕ) → owner_number (owner_of n) ≡ 0 → n ≡ 0
 owner_zero n zero = named_zero n (n == 0) refl (nat_lt n 256) zero
 
 -- ---- what is handed over
+
+outcome_living : (h : HeapState) (value : Option Cell) → ((c : Cell) → value ≡ Some c → IsLivingCell h c) → IsLivingOutcome h (outcome_of value)
+outcome_living h None lives = tt
+outcome_living h (Some (variants.Short v)) lives = tt
+outcome_living h (Some (Reference r)) lives = lives (Reference r) refl
+outcome_living h (Some (ReturnAddress a)) lives = tt
 
 returned_living : (h : HeapState) (how : ReturnOp) (cells : List Cell) (value : Option Cell) → AreLivingCells h cells → returned_cell how cells ≡ Some value
     → (c : Cell) → value ≡ Some c → IsLivingCell h c
@@ -101,7 +108,7 @@ module _ (g : Given) (p : Packages) where
 
   back_led : (value : Option Cell) (callers : List Caller) (m : MemoryState) → IsSoundUnder p callers m
       → ((c : Cell) → value ≡ Some c → IsLivingCell m.heap.now c) → IsLed p (return_to_caller value (frames_after_return callers) m) m
-  back_led value [] m under lives due = tt
+  back_led value [] m under lives due = outcome_living m.heap.now value lives
   back_led value (c ∷ callers) m under lives due =
       callers_next p callers _ _ (callers_in_frame m.heap.now callers (record { current = c.frame; callers = callers })
       (frames_with_result c.resume.call value c.frame) refl (handed_keeps m.heap.now c.resume.call value c.frame under.living.0 lives))
@@ -138,7 +145,7 @@ module _ (g : Given) (p : Packages) where
 
   on_led : (class r : ℕ) (callers : List Caller) (m : MemoryState) → IsSoundUnder p callers m → IsReference m.heap.now r
       → IsLed p (callers_unwind p class r callers m) m
-  on_led class r [] m under refers due = tt
+  on_led class r [] m under refers due = refers
   on_led class r (c ∷ callers) m under refers due =
       let back = back_under c.resume callers m due.0 (under_rest c callers m under) in
       let others = back_others c.resume m under.known.1 in
@@ -163,9 +170,10 @@ module _ (g : Given) (p : Packages) where
       → IsLed p (athrow place p s m) m
   unfolding athrow
   throwing_led place s m under may living = led_some p m (reference_on s.current.stack) _ (λ top taken.
-      led_ok p m s under may living (object_at m top.0) _ (λ f there.
+      led_ok p m s under may living (object_at m top.0) _ (plain_object m top.0) (λ f there.
       led_ok p m s under may living (check_or_fault (is_instance_of p f (class_word p.platform Throwable))) _
-      (λ u is. led_ok p m s under may living (firewall_check Throw p m f) _ (λ v fine.
+      (plain_check (is_instance_of p f (class_word p.platform Throwable)))
+      (λ u is. led_ok p m s under may living (firewall_check Throw p m f) _ (plain_firewall Throw p m f) (λ v fine.
       unwinding_led place (with_stack s top.1) m under may (with_cells m.heap.now s.current top.1 living
       (reference_taken m.heap.now s.current.stack top living.stack taken).1) top.0))))
 

@@ -50,6 +50,7 @@ use Rattle.law_soundness.proofs.Loads.{element_comes}
 use Rattle.law_soundness.proofs.Machines.{Given, IsLed, IsSoundUnder, MayRun, led_ok, led_some, led_stopped, led_unless, machine_like, stayed_led, under_after}
 use Rattle.law_soundness.proofs.Machines.{under_of}
 use Rattle.law_soundness.proofs.SteppedFields.{topped, value_taken}
+use Rattle.law_soundness.proofs.Exits.{plain_array, plain_element, plain_element_value, plain_index, plain_keepable, plain_size, plain_type}
 use Rattle.law_soundness.proofs.Quiet.{Stays, quiet_sets, stays_if, stays_ok, stays_some, stays_stopped, stays_unless, with_cells}
 
 -- ---- what is in an array comes onto the stack, or what is there goes into it
@@ -60,15 +61,15 @@ module _ (p : Packages) (m : MemoryState) (sound : IsSoundMemory p m) where
 
   loaded_stays : (t : ValueType) (r : ℕ) (i : ℤ) (s : Frames) → IsLivingFrame h s.current → Stays h s.callers s.current.origin (element_read t r i p s m)
   unfolding element_read
-  loaded_stays t r i s living = stays_ok h s living (element_at t p m r i) _
+  loaded_stays t r i s living = stays_ok h s living (element_at t p m r i) _ (plain_element t p m r i)
       (λ e at. (refl, refl, topped h s _ living (element_comes p m sound t r i e at)))
 
   stored_stays : (t : ValueType) (r : ℕ) (i : ℤ) (value : CellValue) (s : Frames) → IsLivingFrame h s.current
       → Stays h s.callers s.current.origin (element_write t r i value p s m)
   unfolding element_write
   stored_stays t r i value s living =
-      stays_ok h s living (array_at (Some t) p m r) _ (λ f there. stays_ok h s living (keepable p m value) _
-      (λ k kept. stays_ok h s living (with_index f i) _ (λ e at. stays_ok h s living (element_value p m e.class k) _ (λ v fits.
+      stays_ok h s living (array_at (Some t) p m r) _ (plain_array (Some t) p m r) (λ f there. stays_ok h s living (keepable p m value) _ (plain_keepable p m value)
+      (λ k kept. stays_ok h s living (with_index f i) _ (plain_index f i) (λ e at. stays_ok h s living (element_value p m e.class k) _ (plain_element_value p m e.class k) (λ v fits.
       stays_unless h s living (cell_refusal m r e.index) _ (quiet_sets m r e.index v, (refl, refl, living))))))
 
   loaded_stack_stays : (t : ValueType) (s : Frames) → IsLivingFrame h s.current → Stays h s.callers s.current.origin (array_load t p s m)
@@ -89,7 +90,7 @@ module _ (p : Packages) (m : MemoryState) (sound : IsSoundMemory p m) where
   counted_stays : (s : Frames) → IsLivingFrame h s.current → Stays h s.callers s.current.origin (arraylength p s m)
   unfolding arraylength
   counted_stays s living = stays_some h s.callers s.current.origin (reference_on s.current.stack) _ (λ q on.
-      stays_ok h s living (array_at None p m q.0) _ (λ f there. (
+      stays_ok h s living (array_at None p m q.0) _ (plain_array None p m q.0) (λ f there. (
         refl,
         refl,
         topped h (with_stack s q.1) (Short _)
@@ -102,17 +103,17 @@ module _ (p : Packages) (m : MemoryState) (sound : IsSoundMemory p m) where
   unfolding checkcast
   checked_stays t s living =
       stays_some h s.callers s.current.origin (reference_on s.current.stack) _ (λ q on. stays_some h s.callers s.current.origin (own_type t p s) _
-      (λ of_type named. stays_ok h s living (type_test true of_type p m q.0) _ (λ passes tested.
+      (λ of_type named. stays_ok h s living (type_test true of_type p m q.0) _ (plain_type true of_type p m q.0) (λ passes tested.
       (let taken = reference_taken h s.current.stack q living.stack on in
       stays_if h s.callers s.current.origin passes _ _
       (refl, refl, topped h (with_stack s q.1) (Reference q.0) (with_cells h s.current q.1 living taken.1) taken.0)
-      (stays_stopped h s living (Throw ClassCastException))))))
+      (stays_stopped h s living (Throw ClassCastException) tt)))))
 
   pub examined_stays : (t : TestedType) (s : Frames) → IsLivingFrame h s.current → Stays h s.callers s.current.origin (instanceof t p s m)
   unfolding instanceof
   examined_stays t s living =
       stays_some h s.callers s.current.origin (reference_on s.current.stack) _ (λ q on. stays_some h s.callers s.current.origin (own_type t p s) _
-      (λ of_type named. stays_ok h s living (type_test false of_type p m q.0) _ (λ answer tested.
+      (λ of_type named. stays_ok h s living (type_test false of_type p m q.0) _ (plain_type false of_type p m q.0) (λ answer tested.
       (refl, refl, topped h (with_stack s q.1) (Short _) (with_cells h s.current q.1 living (reference_taken h s.current.stack q living.stack on).1) tt))))
 
 -- ---- a new object is there
@@ -155,7 +156,7 @@ module _ (g : Given) (p : Packages) (m : MemoryState) where
     array_led : (kind : Kind) (class : ℕ) (n : ℤ) → IsLed p (array_creation kind class n s m) m
     unfolding array_creation
     array_led kind class (pos n) = new_led (record { kind = kind; event = None; class = class; owner = m.registers.active; length = n })
-    array_led kind class (negsuc n) = led_stopped p m s under may living (Throw NegativeArraySizeException)
+    array_led kind class (negsuc n) = led_stopped p m s under may living (Throw NegativeArraySizeException) tt
 
   module _ (known : KnowsClasses p) (s : Frames) (machine : IsSoundMachine p s m) where
     below : (cells : List Cell) → AreLivingCells m.heap.now cells → IsLivingFrame m.heap.now (with_stack s cells).current
@@ -184,6 +185,6 @@ module _ (g : Given) (p : Packages) (m : MemoryState) where
     unfolding new_instance
     made_led index =
         led_some p m (if_room s (instantiable_class p s.current.origin.package_number index)) _
-        (λ class named. led_ok p m s (under_of p s m machine) machine.code machine.living.current (cells_for (size_of p class)) _ (λ n fits.
+        (λ class named. led_ok p m s (under_of p s m machine) machine.code machine.living.current (cells_for (size_of p class)) _ (plain_size (size_of p class)) (λ n fits.
         new_led s (under_of p s m machine) machine.code machine.living.current
         (record { kind = Instance; event = None; class = class; owner = m.registers.active; length = n })))

@@ -116,7 +116,7 @@ module _ (g : Given) (p : Packages) (known : AreKnown p) where
   caught_next place (GoesOn s) m machine = machine
   caught_next place (Throws e s) m machine = thrown_led g p e place s m (under_of p s m machine) machine.code machine.living.current
       (caught_due place (Throws e s) m machine)
-  caught_next place (Ends o) m machine = tt
+  caught_next place (Ends o) m machine = machine
 
   step_due : (lent : List ℕ) (s : Frames) (m : MemoryState) → IsSoundMachine p s m → AllDue (IsFit p) (machine_step lent p s m) m
   unfolding machine_step

@@ -19,6 +19,7 @@ use Rattle.jc_world.specs.declared.native_result.NativeResult.TheVariants.{Retur
 use Rattle.jc_world.specs.NativeCalls.{NativeProgram, if_some, if_ok, unless}
 use Rattle.law_soundness.specs.Living.{IsLivingCell}
 use Rattle.law_soundness.specs.LocalEffects.{AreElsewhere, IsLocalEffect, IsElsewhere}
+use Rattle.law_soundness.proofs.Exits.{FaultsOnly, IsPlainExit}
 
 -- an effect is calm, and registers that are set tell of the same owner and the same installation as these
 abbrev pub IsStill : Registers → Effect → Type 0
@@ -39,7 +40,8 @@ AllStill g Q (Perform e rest) = IsStill g.registers e × AllStill g Q rest
 AllStill g Q (Choose choose) = (r : ℕ) → AllStill g Q (choose r)
 AllStill g Q (Either x y) = AllStill g Q x × AllStill g Q y
 
--- any answer; one that asks no server, with a reference that is null or names an object of this memory, if with one
+-- any answer; one that asks no server, with a reference that is null or names an object of this memory, if with one, or an exception or a code
+-- fault
 abbrev pub Any : {A : Type 0} → A → Type 0
 Any a = Unit {0}
 
@@ -48,7 +50,11 @@ IsStillAnswer g (Ok ReturnVoid) = Unit {0}
 IsStillAnswer g (Ok (ReturnValue cell)) = IsLivingCell g.heap.now cell
 IsStillAnswer g (Ok (CallServer asked)) = ⊥
 IsStillAnswer g (Ok Aborted) = ⊥
-IsStillAnswer g (Err e) = Unit {0}
+IsStillAnswer g (Err e) = IsPlainExit e
+
+pub still_plain : (g : MemoryState) (answer : Result NativeResult FrameExit) → IsStillAnswer g answer → FaultsOnly answer
+still_plain g (Ok answer) still = tt
+still_plain g (Err e) still = still
 
 -- a call that is still, behind this memory
 abbrev pub IsStillCall : MemoryState → NativeProgram → Type 0
@@ -103,9 +109,9 @@ module _ (g : MemoryState) where
   still_there None go still = tt
   still_there (Some a) go still = still a refl
 
-  pub still_ok : {A : Type 0} (x : Result A FrameExit) (go : A → NativeProgram) → ((a : A) → IsStillCall g (go a)) → IsStillCall g (if_ok x go)
-  still_ok (Ok a) go still = still a
-  still_ok (Err e) go still = tt
+  pub still_ok : {A : Type 0} (x : Result A FrameExit) (go : A → NativeProgram) → FaultsOnly x → ((a : A) → IsStillCall g (go a)) → IsStillCall g (if_ok x go)
+  still_ok (Ok a) go plain still = still a
+  still_ok (Err e) go plain still = plain
 
   pub still_unless : (o : Option HeapRefusal) (d : NativeProgram) → IsStillCall g d → IsStillCall g (unless o d)
   still_unless None d still = still

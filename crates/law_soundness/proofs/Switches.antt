@@ -1,6 +1,6 @@
 -- A call of a method in bytecode never switches to the runtime environment: its objects are of the platform's classes, which have no such methods.
 use Rattle.std.proofs.Common.{◌≡◌, ℕ, ◌/◌, true, Option, Some, None, Ok, refl, sym, ◌∙◌, ap, subst, if◌then◌else◌, List}
-use Rattle.std.proofs.lemmas.Option.{same_Some}
+use Rattle.std.proofs.lemmas.Option.{none-some, same_Some}
 use Rattle.std.specs.Prelude.{not}
 use Rattle.jc_heap.specs.declared.object.Facts.{Facts}
 use Rattle.jc_heap.specs.declared.object.Kind.{Kind}
@@ -43,9 +43,6 @@ use Rattle.law_soundness.specs.Fit.{IsPlatformClass}
 use Rattle.law_soundness.specs.Platform.{KeepsPlatform}
 use Rattle.law_soundness.proofs.SteppedLeaves.{owner_zero}
 
-none_some : {o : Owner} → None ≡ Some o → ⊥
-none_some e = cc
-
 -- the class by which a method of an object is found is one of the platform
 abbrev IsOfPlatform : Packages → ℕ → Type 0
 IsOfPlatform p class = (of : PlatformClass) × (class ≡ class_word p.platform of)
@@ -55,7 +52,7 @@ abbrev pub SwitchesToOthers : MethodCall → Type 0
 SwitchesToOthers c = (o : Owner) → c.switches_to ≡ Some o → owner_number o ≡ 0 → ⊥
 
 to_others : (c : MethodCall) → None ≡ c.switches_to → SwitchesToOthers c
-to_others c none o is zero = none_some (none ∙ is)
+to_others c none o is zero = none-some o (none ∙ is)
 
 platform_class : (p : Packages) (k : Kind) (class : ℕ) → (is_instance k ≡ true → IsPlatformClass p class)
     → IsOfPlatform p (if world.is_instance k then class else class_word p.platform Object)

@@ -12,7 +12,7 @@ use Rattle.jc_memory.specs.declared.registers.AppletNumber.{AppletNumber}
 use Rattle.jc_memory.specs.declared.making.NewObject.{NewObject}
 use Rattle.jc_heap.specs.Whole.{IsReference}
 use Rattle.jc_memory.specs.State.{MemoryState, HeapMove}
-use Rattle.jc_memory.specs.Cells.{header_at}
+use Rattle.jc_memory.specs.Cells.{cells_refusal, header_at}
 use Rattle.jc_memory.specs.Making.{creation_move, creation_refusal, object_creation}
 use Rattle.jc_memory.specs.Reading.{AllResults}
 use Rattle.jc_linker.specs.Values.{Packages}
@@ -21,10 +21,15 @@ use Rattle.jc_platform.specs.Distinct.{class_word}
 use Rattle.jc_registry.specs.Aids.{aid_at}
 use Rattle.jc_registry.specs.Registry.{applet_count, applet_entry, applet_with_aid, instance_of_applet, is_applet}
 use Rattle.jc_world.specs.Objects.{is_instance_of, reference_argument, short_argument}
+use Rattle.jc_firewall.specs.declared.access.Access.TheVariants.{ArrayElement}
+use Rattle.jc_world.specs.Contexts.{firewall_check}
+use Rattle.jc_world.specs.Numbers.{not_negative}
 use Rattle.jc_world.specs.Arrays.{bytes_argument, bytes_in, elements_of}
 use Rattle.jc_api_runtime.specs.AidCells.{is_aid_length}
 use Rattle.jc_api_runtime.specs.SystemSharing.{aid_or_null, applet_of, jc_system_lookup_aid, server_call_result, server_call_by_aid, server_call_if_known}
 use Rattle.jc_api_runtime.specs.SystemSharing.{jc_system_get_applet_shareable_interface_object, jc_system_is_applet_active}
+use Rattle.jc_api_runtime.specs.SystemMemory.{available_bytes, first_of_two, jc_system_get_available_memory, jc_system_get_available_memory_shorts}
+use Rattle.jc_api_runtime.specs.SystemMemory.{shorts_argument, shorts_of_count}
 use Rattle.jc_api_runtime.specs.SystemTransient.{jc_system_make_transient_array, jc_system_is_transient, requested_array}
 use Rattle.jc_frames.specs.declared.cell.Cell.TheVariants.{Reference}
 use Rattle.jc_world.specs.declared.native_result.NativeResult.TheVariants.{ReturnValue}
@@ -34,7 +39,9 @@ use Rattle.law_soundness.specs.Calls.{IsCallResult}
 use Rattle.law_soundness.specs.LocalEffects.{LocalEffectsStay}
 use Rattle.law_soundness.proofs.Leaving.{left_if, left_ok, left_some, left_unless, stays}
 use Rattle.law_soundness.proofs.Registered.{or_null_refers, server_refers}
-use Rattle.law_soundness.proofs.Still.{IsStillAnswer, IsStillCall, still_if, still_ok, still_some}
+use Rattle.law_soundness.proofs.Exits.{plain_firewall}
+use Rattle.law_soundness.proofs.NativeExits.{plain_available, plain_bytes, plain_elements, plain_requested, plain_shorts, plain_two_within}
+use Rattle.law_soundness.proofs.Still.{IsStillAnswer, IsStillCall, still_if, still_ok, still_sets_run, still_some, still_unless}
 use Rattle.law_soundness.proofs.SteppedObjects.{creation_local, new_there}
 
 module _ (args : List Cell) (p : Packages) (m : MemoryState) (sound : IsSoundMemory p m) where
@@ -47,6 +54,19 @@ module _ (args : List Cell) (p : Packages) (m : MemoryState) (sound : IsSoundMem
   active_still = still_some m (reference_argument args 0) _ (λ aid. still_if m (IsStillAnswer m) (aid == 0) _ _ tt
       (still_some m (header_at m aid) _ (λ f. still_if m (IsStillAnswer m) (is_instance_of p f (class_word p.platform Aid)) _ _ tt tt)))
 
+  pub memory_told_still : IsStillCall m (jc_system_get_available_memory args m)
+  unfolding jc_system_get_available_memory
+  memory_told_still = still_some m (short_argument args 0) _ (λ type. still_ok m (available_bytes m type) _ (plain_available m type) (λ count. tt))
+
+  pub memory_set_still : IsStillCall m (jc_system_get_available_memory_shorts args p m)
+  unfolding jc_system_get_available_memory_shorts
+  memory_set_still = still_some m (reference_argument args 0) _ (λ array. still_some m (short_argument args 1) _ (λ start.
+      still_some m (short_argument args 2) _ (λ type. still_ok m (shorts_argument m array) _ (plain_shorts m array) (λ f.
+      still_ok m (firewall_check ArrayElement p m f) _ (plain_firewall ArrayElement p m f) (λ u.
+      still_ok m (first_of_two f.length (not_negative start)) _ (plain_two_within f.length (not_negative start)) (λ i.
+      still_ok m (available_bytes m type) _ (plain_available m type) (λ count.
+      still_unless m (cells_refusal m array i (shorts_of_count count)) _ (still_sets_run m m array i (shorts_of_count count), tt))))))))
+
   found_refers : (b : Bool) (o : Option AppletNumber) → IsReference m.heap.now (if b then aid_or_null m.heap.now o else 0)
   found_refers true o = or_null_refers p m sound o
   found_refers false o = inl refl
@@ -55,7 +75,8 @@ module _ (args : List Cell) (p : Packages) (m : MemoryState) (sound : IsSoundMem
   unfolding jc_system_lookup_aid
   looked_up_still = still_some m (reference_argument args 0) _ (λ array. still_some m (short_argument args 1) _
       (λ start. still_some m (short_argument args 2) _ (λ count.
-      still_ok m (bytes_argument m array) _ (λ argument. still_ok m (elements_of p m array argument start count) _
+      still_ok m (bytes_argument m array) _ (plain_bytes m array) (λ argument. still_ok m (elements_of p m array argument start count) _
+      (plain_elements p m array argument start count)
       (λ e. found_refers (is_aid_length e.count) (applet_with_aid m (bytes_in m e)))))))
 
   -- a new array is there
@@ -78,7 +99,7 @@ module _ (args : List Cell) (p : Packages) (m : MemoryState) (sound : IsSoundMem
     pub array_left : (kind : Kind) → AllResults (jc_system_make_transient_array kind args p m) m (IsCallResult m)
     unfolding jc_system_make_transient_array
     array_left kind = left_some m (short_argument args 0) _ (λ count there. left_some m (short_argument args 1) _ (λ event is.
-        left_ok m steady (requested_array kind count event p m) _ (λ o asked. left_unless m steady (creation_refusal m o) _ (made_left o))))
+        left_ok m steady (requested_array kind count event p m) _ (plain_requested kind count event p m) (λ o asked. left_unless m steady (creation_refusal m o) _ (made_left o))))
 
 -- an applet of which there is an instance is there
 entered_in : (b : Bool) (n server : ℕ) (e : AppletEntry) → option_map (λ x. x.instance) (if b then Some e else None) ≡ Some server → b ≡ true

@@ -23,6 +23,7 @@ use Rattle.jc_api_data.specs.Exceptions.{exception_set_no_reason, exception_set_
 use Rattle.jc_api_data.specs.UtilArguments.{counted_of, pair_arguments, pair_of, two_of}
 use Rattle.jc_api_data.specs.Util.{util_array_copy, util_array_compare, bytes_of_short, util_get_short, util_set_short, util_make_short, util_call}
 use Rattle.jc_api_data.specs.Util.{filling_of, util_array_fill}
+use Rattle.law_soundness.proofs.NativeExits.{plain_counted, plain_instance, plain_pair, plain_pair_arguments, plain_two}
 use Rattle.law_soundness.proofs.Still.{IsStillCall, still_ok, still_sets, still_sets_run, still_some, still_unless}
 
 module _ (g : MemoryState) where
@@ -40,17 +41,17 @@ module _ (g : MemoryState) where
   set_still : (args : List Cell) (m : MemoryState) → IsStillCall g (exception_set_reason args m)
   unfolding exception_set_reason
   set_still args m =
-      still_some g (reference_argument args 0) _ (λ own. still_some g (short_argument args 1) _ (λ reason. still_ok g (instance_at m own 1) _ (λ f.
+      still_some g (reference_argument args 0) _ (λ own. still_some g (short_argument args 1) _ (λ reason. still_ok g (instance_at m own 1) _ (plain_instance m own 1) (λ f.
       still_unless g (cell_refusal m own 0) _ (still_sets g m own 0 (cell.Short reason), tt))))
 
   set_none_still : (args : List Cell) (m : MemoryState) → IsStillCall g (exception_set_no_reason args m)
   unfolding exception_set_no_reason
-  set_none_still args m = still_some g (reference_argument args 0) _ (λ own. still_ok g (instance_at m own 1) _ (λ f.
+  set_none_still args m = still_some g (reference_argument args 0) _ (λ own. still_ok g (instance_at m own 1) _ (plain_instance m own 1) (λ f.
       still_unless g (cell_refusal m own 0) _ (still_sets g m own 0 (cell.Short (pos 0)), tt)))
 
   got_still : (args : List Cell) (m : MemoryState) → IsStillCall g (exception_get_reason args m)
   unfolding exception_get_reason
-  got_still args m = still_some g (reference_argument args 0) _ (λ own. still_ok g (instance_at m own 1) _ (λ f. tt))
+  got_still args m = still_some g (reference_argument args 0) _ (λ own. still_ok g (instance_at m own 1) _ (plain_instance m own 1) (λ f. tt))
 
   thrown_still : (of : ℤ → Exception) (args : List Cell) → IsStillCall g (exception_throw_it of args)
   unfolding exception_throw_it
@@ -85,25 +86,25 @@ module _ (g : MemoryState) where
 
   copied_still : (args : List Cell) (p : Packages) (m : MemoryState) → IsStillCall g (util_array_copy args p m)
   unfolding util_array_copy
-  copied_still args p m = still_ok g (pair_arguments args) _ (λ n. still_ok g (pair_of p m n) _ (λ a.
+  copied_still args p m = still_ok g (pair_arguments args) _ (plain_pair_arguments args) (λ n. still_ok g (pair_of p m n) _ (plain_pair p m n) (λ a.
       still_unless g (cells_refusal m a.to.array a.to.start (bytes_in m a.from)) _ (still_sets_run g m a.to.array a.to.start (bytes_in m a.from), tt)))
 
   compared_still : (args : List Cell) (p : Packages) (m : MemoryState) → IsStillCall g (util_array_compare args p m)
   unfolding util_array_compare
-  compared_still args p m = still_ok g (pair_arguments args) _ (λ n. still_ok g (pair_of p m n) _ (λ a. tt))
+  compared_still args p m = still_ok g (pair_arguments args) _ (plain_pair_arguments args) (λ n. still_ok g (pair_of p m n) _ (plain_pair p m n) (λ a. tt))
 
   short_got_still : (args : List Cell) (p : Packages) (m : MemoryState) → IsStillCall g (util_get_short args p m)
   unfolding util_get_short
-  short_got_still args p m = still_ok g (two_of args p m) _ (λ e. tt)
+  short_got_still args p m = still_ok g (two_of args p m) _ (plain_two args p m) (λ e. tt)
 
   short_set_still : (args : List Cell) (p : Packages) (m : MemoryState) → IsStillCall g (util_set_short args p m)
   unfolding util_set_short
-  short_set_still args p m = still_some g (short_argument args 2) _ (λ v. still_ok g (two_of args p m) _ (λ e.
+  short_set_still args p m = still_some g (short_argument args 2) _ (λ v. still_ok g (two_of args p m) _ (plain_two args p m) (λ e.
       still_unless g (cells_refusal m e.array e.start (bytes_of_short v)) _ (still_sets_run g m e.array e.start (bytes_of_short v), tt)))
 
   filled_still : (args : List Cell) (p : Packages) (m : MemoryState) → IsStillCall g (util_array_fill args p m)
   unfolding util_array_fill
-  filled_still args p m = still_some g (short_argument args 3) _ (λ v. still_ok g (counted_of args p m) _ (λ e.
+  filled_still args p m = still_some g (short_argument args 3) _ (λ v. still_ok g (counted_of args p m) _ (plain_counted args p m) (λ e.
       still_unless g (cells_refusal m e.array e.start (filling_of v e)) _ (still_sets_run g m e.array e.start (filling_of v e), tt)))
 
   short_made_still : (args : List Cell) → IsStillCall g (util_make_short args)

@@ -16,18 +16,10 @@ use Rattle.jc_card_checks.specs.Objects.{is_a, is_bytes, is_instance, is_persist
 use Rattle.jc_card_checks.specs.Sound.{IsRegistered, entry_word}
 use Rattle.law_soundness.specs.State.{IsSoundUpTo}
 use Rattle.law_soundness.specs.Fit.{FitsCell}
-use Rattle.law_soundness.proofs.Kept.{IsSoundBut, SameApplets, but_one, with_one}
+use Rattle.law_soundness.proofs.Kept.{IsSoundBut, but_one, with_one}
 use Rattle.law_soundness.proofs.Cells.{CellFits, applets-set_cell, cell_kept}
-
--- a class is below itself
-below_first : (p : Packages) (w n : ℕ) → 0 < n → any_is p w (lineage_from p n (Some w)) ≡ true
-unfolding any_is lineage_from
-below_first p w zero some = absurd (omega (arith, some))
-below_first p w (suc n) some = or_left _ _ (or_left (w == w) _ (eq-eqb w w refl))
-
-pub below_itself : (p : Packages) (w : ℕ) → is_below p w w ≡ true
-unfolding is_below
-below_itself p w = below_first p w most_classes (omega arith)
+use Rattle.law_isolation.proofs.Standing.{SameApplets}
+use Rattle.jc_world.proofs.Below.{below_itself}
 
 -- the object of a registered AID
 pub kept_aid : (p : Packages) (h : HeapState) (a r : ℕ) → IsRegistered p h a → entry_word h a 0 ≡ r

@@ -12,7 +12,7 @@ use Rattle.jc_world.specs.declared.native_result.NativeResult.{NativeResult}
 use Rattle.jc_world.specs.declared.native_result.NativeResult.TheVariants.{ReturnVoid, ReturnValue, CallServer, Aborted}
 use Rattle.jc_interp.specs.Natives.{native_call}
 use Rattle.jc_heap.specs.Whole.{IsReference}
-use Rattle.law_soundness.specs.Living.{IsLivingCell, KeepsReferences, KeepsReferencesBelow}
+use Rattle.law_soundness.specs.Living.{IsLivingCell, IsLivingOutcome, KeepsReferences, KeepsReferencesBelow}
 use Rattle.law_soundness.specs.State.{IsSteady, is_owner_up_to, most_owner}
 use Rattle.law_soundness.specs.Natives.{IsSoundCall}
 use Rattle.law_soundness.specs.Machines.{KnowOwners}
@@ -36,11 +36,11 @@ AnswersWell (CallServer asked) m n = IsReadyAgain m n × (is_owner_up_to (most_o
     × IsReference n.heap.now asked.server × IsReference n.heap.now asked.client
 AnswersWell Aborted m n = IsSteadyAgain m n × KeepsReferencesBelow m.heap.now n.heap.now
 
--- how a call leaves the memory, unless it ends the run
+-- how a call leaves the memory
 abbrev pub IsCallResult : MemoryState → Result NativeResult FrameExit → MemoryState → Type 0
 IsCallResult m (Ok answer) n = AnswersWell answer m n
 IsCallResult m (Err (Throw e)) n = IsReadyAgain m n
-IsCallResult m (Err (End o)) n = Unit {0}
+IsCallResult m (Err (End o)) n = IsLivingOutcome n.heap.now o
 
 -- so each sound call of a method of the platform leaves the memory
 abbrev pub NativesLeave : Type 0

@@ -13,3 +13,4 @@ pub mod Steps
 pub mod Calls
 pub mod Soundness
 pub mod Commands
+pub mod References

@@ -5,6 +5,8 @@ use Rattle.jc_heap.specs.Heap.{HeapState}
 use Rattle.jc_heap.specs.Whole.{IsReference}
 use Rattle.jc_frames.specs.declared.cell.Cell.{Cell}
 use Rattle.jc_frames.specs.declared.cell.Cell.TheVariants.{Short, Reference, ReturnAddress}
+use Rattle.jc_frames.specs.declared.outcome.Outcome.{Outcome}
+use Rattle.jc_frames.specs.declared.outcome.Outcome.TheVariants as ends
 use Rattle.jc_frames.specs.Frames.{Caller, Frame, Frames}
 
 -- a reference in a cell is null or names an object
@@ -31,6 +33,14 @@ AreLivingCallers h (c ∷ callers) = IsLivingFrame h c.frame × AreLivingCallers
 pub record AreLivingFrames (h : HeapState) (s : Frames) : Type 0 where
   pub current : IsLivingFrame h s.current
   pub callers : AreLivingCallers h s.callers
+
+-- what a run ends with: a reference that it returns, and an exception that nothing caught, is null or names an object
+abbrev pub IsLivingOutcome : HeapState → Outcome → Type 0
+IsLivingOutcome h ends.Void = Unit {0}
+IsLivingOutcome h (ends.Short v) = Unit {0}
+IsLivingOutcome h (ends.Reference r) = IsReference h r
+IsLivingOutcome h (ends.Thrown r) = IsReference h r
+IsLivingOutcome h ends.Fault = Unit {0}
 
 -- what refers in one heap refers in another
 abbrev pub KeepsReferences : HeapState → HeapState → Type 0

@@ -8,6 +8,7 @@ use Rattle.jc_interp.specs.Stepping.{machine_step}
 use Rattle.jc_interp.specs.Running.{run_of}
 use Rattle.law_soundness.specs.Classes.{HasAids, KnowsClasses}
 use Rattle.law_soundness.specs.Fit.{IsFit}
+use Rattle.law_soundness.specs.Living.{IsLivingOutcome}
 use Rattle.law_soundness.specs.Machines.{IsSoundMachine}
 use Rattle.law_soundness.specs.Methods.{KnowsMethods}
 use Rattle.law_soundness.specs.Platform.{KeepsPlatform}
@@ -19,11 +20,11 @@ pub record AreKnown (p : Packages) : Type 0 where
   pub methods : KnowsMethods p
   pub platform : KeepsPlatform p
 
--- what follows is a sound machine, unless it is the end
+-- what follows is a sound machine; at the end, what the run returns or throws is there
 abbrev pub IsSoundNext : Packages → Next Frames → MemoryState → Type 0
 IsSoundNext p (GoesOn s) m = IsSoundMachine p s m
 IsSoundNext p (Throws e s) m = IsSoundMachine p s m
-IsSoundNext p (Ends o) m = Unit {0}
+IsSoundNext p (Ends o) m = IsLivingOutcome m.heap.now o
 
 -- each effect of a step of a sound machine fits, and what follows is one
 pub record StepsAreSound : Type 0 where

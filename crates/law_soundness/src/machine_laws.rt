@@ -63,7 +63,7 @@ pub fn platform_methods_end_between_instructions()
 {}
 
 /// Whatever a step of a sound machine does fits the packages that are linked, and leaves a sound machine: so no local
-/// and no stack ever has a reference that names nothing.
+/// and no stack ever has a reference that names nothing, and no run returns one or ends by throwing one.
 pub fn steps_keep_machines_sound()
     ensures { StepsAreSound }
 {}

@@ -14,7 +14,7 @@ use Rattle.law_images.specs.Cards.{IsOwnPower, StaysOwn}
 use Rattle.law_images.specs.Rest.{IsResting}
 use Rattle.law_images.proofs.Rest.{leave_at_rest, rests_so}
 use Rattle.law_images.proofs.Sessions.{stays_own}
-use Rattle.law_theorems.specs.Comes.{ComesTo, StoresCome}
+use Rattle.law_images.specs.Comes.{ComesTo, StoresCome}
 
 pub comes_own : (t : Tokens) (s : PowerState) → ComesTo t s → IsOwnPower t s
 comes_own t s c = let stays : StaysOwn = stays_own one_table in stays.session t (Off c.first) c.events c.answers s c.bytes c.own c.run

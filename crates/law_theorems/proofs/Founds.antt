@@ -9,27 +9,26 @@ use Rattle.jc_card.specs.Answers.{exchange}
 use Rattle.jc_card.specs.CardState.{CardState}
 use Rattle.law_atomicity.specs.Orderly.{KeepsTransactionOrder}
 use Rattle.law_atomicity.proofs.Same.{differ}
-use Rattle.law_atomicity.proofs.Torn.{saved_within}
+use Rattle.law_atomicity.proofs.Torn.{saved_within, due_begun}
 use Rattle.law_soundness.specs.State.{IsSoundMemory}
 use Rattle.law_soundness.specs.Commands.{IsServed}
 use Rattle.law_images.specs.Cards.{IsOwnCard}
 use Rattle.law_images.proofs.Rest.{IsEmpty, empty_effect}
 use Rattle.law_images.proofs.Sessions.{linked_known}
-use Rattle.law_theorems.specs.Comes.{ComesWithin, memory_at}
-use Rattle.law_theorems.specs.Tries.{IsAsFound}
+use Rattle.law_images.specs.Comes.{ComesWithin, memory_at}
+use Rattle.law_images.specs.Tries.{IsAsFound}
 use Rattle.law_theorems.proofs.Orders.{commands_orderly}
 use Rattle.law_theorems.proofs.Others.{others}
 use Rattle.law_theorems.proofs.Pins.{pin_left}
-use Rattle.law_theorems.proofs.Prefixes.{behind_both, due_after, due_all, due_begun}
+use Rattle.law_theorems.proofs.Prefixes.{behind_both, due_after, due_all}
 use Rattle.law_theorems.proofs.Served.{AddsPackage, IsFine, commands_fine}
 use Rattle.jc_heap.specs.Heap.{HeapView}
 use Rattle.jc_session.specs.Power.{Up}
-use Rattle.law_theorems.specs.Comes.{ComesTo}
-use Rattle.law_theorems.specs.Tries.{tries_in}
+use Rattle.law_images.specs.Comes.{ComesTo}
+use Rattle.law_images.specs.Tries.{tries_in}
 use Rattle.law_theorems.proofs.Coming.{comes_rests}
 use Rattle.law_theorems.proofs.OwnerPins.{pin_in, pin_stands}
 use Rattle.law_theorems.proofs.Pins.{tries_left}
-use Rattle.law_theorems.proofs.Prefixes.{due_all}
 use Rattle.law_theorems.proofs.Staying.{IsLaidOutAt, away_at_begin, laid_behind, stay}
 
 module _ (t : Tokens) (card : CardState) (own : IsOwnCard t card) (bytes : List ℕ) (earlier during : List Effect) where

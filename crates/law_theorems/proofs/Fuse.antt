@@ -10,13 +10,10 @@ use Rattle.jc_session.specs.declared.event.Answer.{Answer}
 use Rattle.jc_session.specs.declared.event.Answer.TheVariants.{Response, Ready, Down}
 use Rattle.jc_session.specs.Power.{PowerState, Up, Off, KeptState, durable_state}
 use Rattle.jc_session.specs.Serving.{AnswersCommand, AnswersReset}
-use Rattle.jc_session.proofs.Refusals.{count_raised, done_refusals, one_more, powered_refusals}
+use Rattle.jc_session.proofs.Refusals.{done_refusals, one_more, powered_refusals}
 use Rattle.jcard_script.specs.Script.{Form, Skipped, Command, Resets, ArmsFuse, Bad, down_text, form_of}
-use Rattle.law_images.specs.Scripts.{ServeLines, ServesForm, armed, text_of_answer}
-use Rattle.law_theorems.specs.Fuse.{FusesCut, IsCutAt, LeaveFuse, LeavesFuse}
-
-abbrev refusals_of : PowerState → Refusals
-refusals_of s = (durable_state s).refusals
+use Rattle.law_images.specs.Scripts.{ArmNone, ArmsNone, ServeLines, ServesForm, armed, text_of_answer}
+use Rattle.law_theorems.specs.Fuse.{FusesCut, IsCutAt, refusals_of}
 
 abbrev most : ℕ
 most = 18446744073709551615
@@ -31,9 +28,12 @@ grows_if : (at : Bool) (n : ℕ) → n ≤ (if at then n else saturating_count n
 grows_if true n = omega arith
 grows_if false n = omega arith
 
-none_if : (at : Bool) (fuse : Option ℕ) → at ≡ true → (if at then None else fuse) ≡ None
-none_if true fuse on = refl
-none_if false fuse on = absurd (false≢true on)
+abbrev refused_if : Bool → Refusals → Refusals
+refused_if at r = record {
+  count = saturating_count r.count 1;
+  fuse = if at then None else r.fuse;
+  faults = if at then r.faults else saturating_count r.faults 1;
+}
 
 module _ (passed : ℕ) (old new : Refusals) (refused : new ≡ refused_once false passed old) where
   faults_grow : old.faults ≤ new.faults
@@ -45,9 +45,10 @@ module _ (passed : ℕ) (old new : Refusals) (refused : new ≡ refused_once fal
   unfolding refused_once
   by_fuse small same = fault_if (is_at passed old.fuse) old.faults small (sym (ap (λ (r : Refusals). r.faults) refused) ∙ same)
 
-  burnt_out : is_at passed old.fuse ≡ true → new.fuse ≡ None
+  -- and it is burnt out, and nothing else is told
+  burns : is_at passed old.fuse ≡ true → new ≡ record old { count = saturating_count old.count 1; fuse = None }
   unfolding refused_once
-  burnt_out on = ap (λ (r : Refusals). r.fuse) refused ∙ none_if (is_at passed old.fuse) old.fuse on
+  burns on = refused ∙ ap (λ b. refused_if b old) on
 
 at_count : (passed count : ℕ) (fuse : Option ℕ) → fuse ≡ Some count → is_at passed fuse ≡ true → passed ≡ count
 at_count passed count None is on = absurd (none-some count is)
@@ -79,7 +80,7 @@ so_told : (s next : PowerState) (answer : Answer) (text : List ℕ) → text ≡
 so_told s next answer text is (inl same) = inl same
 so_told s next answer text is (inr cut) = inr (is ∙ ap text_of_answer cut.0, cut.1)
 
-line_refuses : (form : Form) (s next : PowerState) (text : List ℕ) → LeavesFuse form → ServesForm form s next text → IsRefusing s next (text ≡ down_text)
+line_refuses : (form : Form) (s next : PowerState) (text : List ℕ) → ArmsNone form → ServesForm form s next text → IsRefusing s next (text ≡ down_text)
 line_refuses Skipped s next text leaves h = inl (ap refusals_of h.0)
 line_refuses (Command bytes) s next text leaves h = so_told s next h.0 text h.2 (command_refuses s bytes h.0 next h.1)
 line_refuses Resets s next text leaves h = so_told s next h.0 text h.2 (reset_refuses s h.0 next h.1)
@@ -90,7 +91,7 @@ line_faults : (s next : PowerState) (told : Type 0) → IsRefusing s next told �
 line_faults s next told (inl same) = let e = ap (λ (r : Refusals). r.faults) same in omega (arith, e)
 line_faults s next told (inr cut) = faults_grow (durable_state next).passed (refusals_of s) (refusals_of next) cut.1
 
-lines_faults : (carried : List (List ℕ)) (s last : PowerState) (text : List ℕ) → LeaveFuse carried → ServeLines carried s last text
+lines_faults : (carried : List (List ℕ)) (s last : PowerState) (text : List ℕ) → ArmNone carried → ServeLines carried s last text
     → (refusals_of s).faults ≤ (refusals_of last).faults
 lines_faults [] s last text leave h = let e = ap (λ p. (refusals_of p).faults) h.0 in omega (arith, e)
 lines_faults (line ∷ more) s last text leave h =
@@ -101,11 +102,11 @@ lines_faults (line ∷ more) s last text leave h =
 -- ---- behind a fuse that is burnt out no write is refused
 
 abbrev StayUnrefused : List (List ℕ) → PowerState → Type 0
-StayUnrefused carried last = (s : PowerState) (text : List ℕ) → LeaveFuse carried → ServeLines carried s last text → (refusals_of s).fuse ≡ None
+StayUnrefused carried last = (s : PowerState) (text : List ℕ) → ArmNone carried → ServeLines carried s last text → (refusals_of s).fuse ≡ None
     → (refusals_of s).faults < most → (refusals_of last).faults ≡ (refusals_of s).faults → refusals_of last ≡ refusals_of s
 
 unrefused_line : (more : List (List ℕ)) (s next last : PowerState) (told : Type 0) (text : List ℕ) → IsRefusing s next told → StayUnrefused more last
-    → LeaveFuse more → ServeLines more next last text → (refusals_of s).fuse ≡ None → (refusals_of s).faults < most
+    → ArmNone more → ServeLines more next last text → (refusals_of s).fuse ≡ None → (refusals_of s).faults < most
     → (refusals_of last).faults ≡ (refusals_of s).faults → refusals_of last ≡ refusals_of s
 unrefused_line more s next last told text (inl kept) rest leave h none small same =
     let faults : (refusals_of next).faults ≡ (refusals_of s).faults = ap (λ (r : Refusals). r.faults) kept in
@@ -124,7 +125,7 @@ unrefused (line ∷ more) last s text leave h none small same = unrefused_line m
 -- ---- one that is set cuts there
 
 abbrev StaysOrCuts : ℕ → List (List ℕ) → PowerState → Type 0
-StaysOrCuts count carried last = (s : PowerState) (text : List ℕ) → LeaveFuse carried → ServeLines carried s last text → (refusals_of s).fuse ≡ Some count
+StaysOrCuts count carried last = (s : PowerState) (text : List ℕ) → ArmNone carried → ServeLines carried s last text → (refusals_of s).fuse ≡ Some count
     → (refusals_of s).faults < most → (refusals_of last).faults ≡ (refusals_of s).faults
     → (refusals_of last ≡ refusals_of s) ⊎ IsCutAt count carried s last text
 
@@ -132,28 +133,29 @@ cut_later : (count : ℕ) (line : List ℕ) (more : List (List ℕ)) (s next las
     → ServesForm (form_of line) s next first → refusals_of next ≡ refusals_of s → (refusals_of last ≡ refusals_of next) ⊎ IsCutAt count more next last rest
     → (refusals_of last ≡ refusals_of s) ⊎ IsCutAt count (line ∷ more) s last text
 cut_later count line more s next last first rest text is served kept (inl stays) = inl (stays ∙ kept)
-cut_later count line more s next last first rest text is served kept (inr at) = inr (record {
-  before = line ∷ at.before;
-  line = at.line;
-  after = at.after;
-  mid = at.mid;
-  next = at.next;
-  first = first ++ at.first;
-  rest = at.rest;
-  are = ap (λ l. line ∷ l) at.are;
-  told = is ∙ ap (λ l. first ++ l) at.told ∙ sym (append_assoc first at.first (down_text ++ at.rest));
-  up = (first, at.first, next, refl, served, at.up);
+cut_later count line more s next last first rest text is served kept (inr at) = let l = at.lines in inr (record {
+  lines = record {
+    before = line ∷ l.before;
+    line = l.line;
+    after = l.after;
+    mid = l.mid;
+    next = l.next;
+    first = first ++ l.first;
+    rest = l.rest;
+    are = ap (λ m. line ∷ m) l.are;
+    are_told = is ∙ ap (λ m. first ++ m) l.are_told ∙ sym (append_assoc first l.first (down_text ++ l.rest));
+    up = (first, l.first, next, refl, served, l.up);
+    one = l.one;
+    behind = l.behind;
+  };
   none = at.none ∙ kept;
-  cut = at.cut;
   passed = at.passed;
-  one = at.one ∙ ap (λ (r : Refusals). saturating_count r.count 1) kept;
-  burnt = at.burnt;
-  behind = at.behind;
+  cut = at.cut ∙ ap (λ (r : Refusals). record r { count = saturating_count r.count 1; fuse = None }) kept;
   still = at.still;
 })
 
 cut_now : (count : ℕ) (line : List ℕ) (more : List (List ℕ)) (s next last : PowerState) (first rest text : List ℕ) → text ≡ first ++ rest
-    → ServesForm (form_of line) s next first → IsRefusing s next (first ≡ down_text) → StaysOrCuts count more last → LeaveFuse more
+    → ServesForm (form_of line) s next first → IsRefusing s next (first ≡ down_text) → StaysOrCuts count more last → ArmNone more
     → ServeLines more next last rest → (refusals_of s).fuse ≡ Some count → (refusals_of s).faults < most
     → (refusals_of last).faults ≡ (refusals_of s).faults → (refusals_of last ≡ refusals_of s) ⊎ IsCutAt count (line ∷ more) s last text
 cut_now count line more s next last first rest text is served (inl kept) go leave h fuse small same =
@@ -166,25 +168,26 @@ cut_now count line more s next last first rest text is served (inr cut) go leave
     let on = lines_faults more next last rest leave h in
     let faults : (refusals_of next).faults ≡ (refusals_of s).faults = omega (arith, up, on, same) in
     let at = by_fuse passed (refusals_of s) (refusals_of next) cut.1 small faults in
-    let burnt = burnt_out passed (refusals_of s) (refusals_of next) cut.1 at in
+    let burnt = burns passed (refusals_of s) (refusals_of next) cut.1 at in
     inr (record {
-      before = [];
-      line = line;
-      after = more;
-      mid = s;
-      next = next;
-      first = [];
-      rest = rest;
-      are = refl;
-      told = is ∙ ap (λ l. l ++ rest) cut.0;
-      up = (refl, refl);
+      lines = record {
+        before = [];
+        line = line;
+        after = more;
+        mid = s;
+        next = next;
+        first = [];
+        rest = rest;
+        are = refl;
+        are_told = is ∙ ap (λ l. l ++ rest) cut.0;
+        up = (refl, refl);
+        one = subst (ServesForm (form_of line) s next) cut.0 served;
+        behind = h;
+      };
       none = refl;
-      cut = subst (ServesForm (form_of line) s next) cut.0 served;
       passed = at_count passed count (refusals_of s).fuse fuse at;
-      one = count_raised passed (refusals_of s) (refusals_of next) cut.1;
-      burnt = burnt;
-      behind = h;
-      still = unrefused more last next rest leave h burnt (omega (arith, faults, small)) (same ∙ sym faults);
+      cut = burnt;
+      still = unrefused more last next rest leave h (ap (λ (r : Refusals). r.fuse) burnt) (omega (arith, faults, small)) (same ∙ sym faults);
     })
 
 stays_or_cuts : (count : ℕ) (carried : List (List ℕ)) (last : PowerState) → StaysOrCuts count carried last
@@ -202,6 +205,6 @@ fuses_cut k carried s last text h leave small same within =
     let set = armed_refusals k s in
     let faults : (refusals_of (armed k s)).faults ≡ (refusals_of s).faults = ap (λ (r : Refusals). r.faults) set in
     elim (stays_or_cuts count carried last (armed k s) text leave h (ap (λ (r : Refusals). r.fuse) set) (omega (arith, faults, small)) (same ∙ sym faults)) [
-      | inl stays ↦ inl (record { set = stays ∙ set; within = within count (ap (λ (r : Refusals). r.fuse) (stays ∙ set)) })
+      | inl stays ↦ inl (stays ∙ set, within count (ap (λ (r : Refusals). r.fuse) (stays ∙ set)))
       | inr at ↦ inr at
     ]

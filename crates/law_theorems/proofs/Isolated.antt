@@ -14,16 +14,19 @@ use Rattle.law_isolation.specs.Sparing.{IsSet}
 use Rattle.law_isolation.specs.Steps.{NamesStatics}
 use Rattle.law_isolation.proofs.Runs.{isolated}
 use Rattle.law_soundness.specs.Commands.{IsServed}
+use Rattle.law_soundness.specs.Environment.{HasEnvironment}
 use Rattle.law_soundness.specs.State.{IsSoundMemory}
+use Rattle.law_soundness.proofs.Serving.{serving_keeps}
 use Rattle.law_images.specs.Cards.{IsOwnCard}
 use Rattle.law_images.proofs.Sessions.{linked_known}
-use Rattle.law_theorems.specs.Comes.{ComesWithin, memory_at}
-use Rattle.law_theorems.specs.Isolation.{AddNone, RunsApart, StayApart}
-use Rattle.law_theorems.proofs.Prefixes.{due_begun}
-use Rattle.law_theorems.proofs.Served.{AddsPackage, IsFine, commands_fine, sound_behind}
+use Rattle.law_images.specs.Comes.{AddNone, ComesWithin, memory_at}
+use Rattle.law_theorems.specs.Isolation.{RunsApart, StayApart}
+use Rattle.law_theorems.proofs.Prefixes.{due_all}
+use Rattle.law_theorems.proofs.Served.{AddsPackage, IsFine, commands_fine}
 use Rattle.law_theorems.proofs.Coming.{comes_own}
+use Rattle.law_atomicity.proofs.Torn.{due_begun}
 
-pub none_added : (es : List Effect) (m : MemoryState) → AllEffectsDue AddsPackage es m → AddNone es → es ≡ []
+none_added : (es : List Effect) (m : MemoryState) → AllEffectsDue AddsPackage es m → AddNone es → es ≡ []
 none_added [] m due none = refl
 none_added (HeapMove (AddPackage components arrays image) ∷ es) m due none = absurd none
 none_added (e ∷ es) m due none = absurd due.0
@@ -39,6 +42,10 @@ set_of p m sound = record {
 statics_of : (t : Tokens) (card : CardState) → IsOwnCard t card → NamesStatics card.packages
 statics_of t card own number index class method target = ((linked_known card.packages own.linked).classes.receivers.statically number index class method target).1
 
+-- the memory is sound there, and the environment's objects are
+abbrev pub IsWell : Packages → MemoryState → Type 0
+IsWell p m = IsSoundMemory p m × HasEnvironment p m
+
 module _ (t : Tokens) (card : CardState) (bytes : List ℕ) (es : List Effect) (comes : ComesWithin t card bytes es) (none : AddNone es) where
   own : IsOwnCard t card
   own = comes_own t (Up card) comes.comes
@@ -46,12 +53,18 @@ module _ (t : Tokens) (card : CardState) (bytes : List ℕ) (es : List Effect) (
   due : (P : Effect → MemoryState → Type 0) → AllDue P (exchange bytes card) card.memory → AllEffectsDue P es card.memory
   due P all = due_begun P (exchange bytes card) card.memory es all comes.begins
 
-  is_sound : IsFine card.packages (exchange bytes card) card.memory → IsSoundMemory card.packages (memory_at card es)
-  is_sound (inl served) = sound_behind card.packages es card.memory (due (IsServed card.packages) served) own.ready.sound
-  is_sound (inr adds) = subst (λ l. IsSoundMemory card.packages (memory_at card l)) (sym (none_added es card.memory (due AddsPackage adds) none)) own.ready.sound
+  well : IsFine card.packages (exchange bytes card) card.memory → IsWell card.packages (memory_at card es)
+  well (inl served) = due_all (IsServed card.packages) (IsWell card.packages) (λ e v fits w.
+      (serving_keeps.sound card.packages e v fits w.0, serving_keeps.environment card.packages e v fits w.0 w.1)) es card.memory
+      (due (IsServed card.packages) served) (own.ready.sound, own.ready.environment)
+  well (inr adds) = subst (λ l. IsWell card.packages (memory_at card l)) (sym (none_added es card.memory (due AddsPackage adds) none))
+      (own.ready.sound, own.ready.environment)
+
+  pub is_well : IsWell card.packages (memory_at card es)
+  is_well = well (commands_fine t card own bytes comes.are)
 
   is_set : IsSet (memory_at card es)
-  is_set = set_of card.packages (memory_at card es) (is_sound (commands_fine t card own bytes comes.are))
+  is_set = set_of card.packages (memory_at card es) is_well.0
 
 runs_outside : (t : Tokens) (card : CardState) (bytes : List ℕ) (es : List Effect) (q k : ℕ) (lent : List ℕ) (s u : Frames) (n : MemoryState)
     → RunsApart t card bytes es q k lent s u n → RunsOutside k q lent card.packages s (memory_at card es) u n

@@ -12,11 +12,12 @@ use Rattle.law_soundness.specs.Commands.{IsServed}
 use Rattle.law_soundness.specs.State.{TransientCells}
 use Rattle.law_images.specs.Cards.{IsOwnCard}
 use Rattle.law_images.proofs.LivingLoads.{package_carried}
-use Rattle.law_theorems.specs.Comes.{ComesWithin, memory_at}
+use Rattle.law_images.specs.Comes.{ComesWithin, memory_at}
 use Rattle.law_theorems.proofs.Coming.{comes_own}
-use Rattle.law_theorems.proofs.Prefixes.{due_all, due_begun}
+use Rattle.law_theorems.proofs.Prefixes.{due_all}
 use Rattle.law_theorems.proofs.Renewed.{added_end}
 use Rattle.law_theorems.proofs.Served.{AddsPackage, IsFine, commands_fine, sound_behind}
+use Rattle.law_atomicity.proofs.Torn.{due_begun}
 
 -- nothing stands behind the heap's end, and transient cells name what is there
 abbrev IsLiving : MemoryState → Type 0

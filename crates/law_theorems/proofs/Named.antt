@@ -29,8 +29,10 @@ use Rattle.jc_card_checks.specs.Objects.{is_a, is_byte_array, is_bytes, is_insta
 use Rattle.law_soundness.specs.Commands.{IsServed}
 use Rattle.law_soundness.specs.Fit.{AreCellsOf, AreStatics, FitsChange, FitsPlace, FitsRun, IsPinObject, OfPin, OfRegistry, OfStatics, OfValue, RegistersApplet, SetsUpPin, UpdatesPin}
 use Rattle.law_soundness.specs.State.{IsSoundMemory}
+use Rattle.law_soundness.proofs.Effects.{event_none}
+use Rattle.law_soundness.proofs.Values.{none_of as none_is}
 use Rattle.law_images.specs.Apart.{StandApart, item_size}
-use Rattle.law_theorems.specs.Tries.{SetsAnew}
+use Rattle.law_images.specs.Tries.{SetsAnew}
 
 -- the words that an effect names, of those whose old values an abort needs
 abbrev pub words_by : Effect → MemoryState → List ℕ
@@ -98,13 +100,6 @@ there_if h q f bare some = elim (cases_Bool (is_allocated h q)) [
   | inr isnt ↦ let e = ap f (heap_item_at-absent h q isnt) in absurd (omega (arith, e, bare, some))
 ]
 
-none_is : (o : Option ClearEvent) → is_none o ≡ true → o ≡ None
-none_is None e = refl
-none_is (Some event) e = absurd (false≢true e)
-
-pub kept_none : (f : Facts) → is_persistent_instance f ≡ true → f.event ≡ None
-kept_none f e = none_is f.event (and_parts (is_instance f.kind) _ e).1
-
 -- an instance has no two cells in a word
 plain_kind : (kind : Kind) → is_instance kind ≡ true → has_bytes kind ≡ false
 plain_kind Instance e = refl
@@ -143,7 +138,7 @@ plain_pin p m r pin = ap (λ b. b && (facts m.heap.now r).packed)
 
 module _ (p : Packages) (m : MemoryState) (s : IsSoundMemory p m) where
   pub word_is : (q i : ℕ) → is_persistent_instance (facts m.heap.now q) ≡ true → word_at m q i ≡ slice_index (cells m.heap.now q) i
-  word_is q i kept = ap (λ event. word_in event m q i) (kept_none (facts m.heap.now q) kept)
+  word_is q i kept = ap (λ event. word_in event m q i) (event_none (facts m.heap.now q) kept)
 
   -- a PIN with a maximum has an array of so many bytes
   pub is_value : (q : ℕ) → IsPinObject p m q → 0 < (pin_of m q).maximum
@@ -181,7 +176,7 @@ module _ (p : Packages) (m : MemoryState) (s : IsSoundMemory p m) (apart : Stand
       (omega arith, omega (arith, k))
 
   word_in_pin : (r < w) × (w < r + size r)
-  word_in_pin = let long = pin.long in cell_in r 2 (kept_none (facts h r) pin.kept, omega (arith, long))
+  word_in_pin = let long = pin.long in cell_in r 2 (event_none (facts h r) pin.kept, omega (arith, long))
 
   pub word_below : w < h.top
   word_below = let own = word_in_pin in let high = own.1 in let below = apart.below r pin_there in omega (arith, high, below)
@@ -287,7 +282,7 @@ module _ (p : Packages) (m : MemoryState) (s : IsSoundMemory p m) (apart : Stand
       no_instance (facts h r).kind (subst (λ x. is_bytes (facts h x).kind ≡ true) same b.0) (and_parts (is_instance (facts h r).kind) _ pin.kept).0)
 
   own_cells : (q i : ℕ) → IsPinObject p m q → i < 5 → AreCellsOf h q (i + 1)
-  own_cells q i object lt = let long = object.long in (kept_none (facts h q) object.kept, omega (arith, lt, long))
+  own_cells q i object lt = let long = object.long in (event_none (facts h q) object.kept, omega (arith, lt, long))
 
   -- ---- all effects
 

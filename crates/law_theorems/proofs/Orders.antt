@@ -18,6 +18,7 @@ use Rattle.jc_card_checks.specs.Objects.{is_a, is_bytes, is_instance}
 use Rattle.jc_card.specs.Answers.{exchange}
 use Rattle.jc_card.specs.CardState.{CardState}
 use Rattle.law_atomicity.specs.Orderly.{KeepsTransactionOrder}
+use Rattle.law_atomicity.proofs.Torn.{due_begun}
 use Rattle.law_soundness.specs.Commands.{IsServed}
 use Rattle.law_soundness.specs.Fit.{IsPinObject}
 use Rattle.law_soundness.specs.State.{IsSoundMemory}
@@ -25,7 +26,6 @@ use Rattle.law_soundness.proofs.Serving.{serving_keeps}
 use Rattle.law_images.specs.Loaded.{AreBytes}
 use Rattle.law_images.specs.Cards.{IsOwnCard}
 use Rattle.law_theorems.proofs.Named.{is_value, when_not, word_is}
-use Rattle.law_theorems.proofs.Prefixes.{due_begun}
 use Rattle.law_theorems.proofs.Served.{AddsPackage, IsFine, commands_fine}
 
 -- ---- the object that fits is a PIN

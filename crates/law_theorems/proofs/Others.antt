@@ -19,11 +19,8 @@ use Rattle.law_soundness.specs.State.{IsSoundMemory}
 use Rattle.law_soundness.specs.Commands.{IsServed}
 use Rattle.law_soundness.proofs.Frames.{same_object}
 use Rattle.law_soundness.proofs.Serving.{serving_keeps}
-use Rattle.law_theorems.specs.Tries.{is_owner_pin}
-
-pub stands_if : (b : Bool) (d x : HeapState) → b ≡ true → (if b then d else x) ≡ d
-stands_if true d x e = refl
-stands_if false d x e = absurd (true≢false (sym e))
+use Rattle.law_atomicity.proofs.Torn.{kept as stands_if}
+use Rattle.law_images.specs.Tries.{is_owner_pin}
 
 module _ (p : Packages) (r : ℕ) where
   -- a PIN whose tries are counted is one in the durable heap, if anything stands there

@@ -17,9 +17,10 @@ use Rattle.jc_card_checks.specs.Objects.{fits_class, is_a, is_instance, is_persi
 use Rattle.law_soundness.specs.State.{IsSoundMemory}
 use Rattle.law_soundness.specs.Soundness.{AreKnown}
 use Rattle.law_soundness.proofs.RunObjects.{instance_kind, kept_behind, kept_fits}
-use Rattle.law_theorems.specs.Tries.{is_owner_pin}
+use Rattle.law_soundness.proofs.Effects.{event_none}
+use Rattle.law_images.specs.Tries.{is_owner_pin}
 use Rattle.law_theorems.proofs.Pins.{PinIn}
-use Rattle.law_theorems.proofs.Named.{PinStands, kept_none}
+use Rattle.law_theorems.proofs.Named.{PinStands}
 
 pub an_object : (t : Item) → is_object t ≡ true → (o : Object) × (t ≡ AnObject o)
 an_object (AnObject o) e = (o, refl)
@@ -54,7 +55,7 @@ module _ (p : Packages) (known : AreKnown p) (m : MemoryState) (s : IsSoundMemor
 
   five : 5 ≤ length (cells m.heap.now r)
   five =
-      let long = (s.now.objects r (kept_behind p m s r there kept) there).cells (kept_none (facts m.heap.now r) kept) in
+      let long = (s.now.objects r (kept_behind p m s r there kept) there).cells (event_none (facts m.heap.now r) kept) in
       let five = declared in
       omega (arith, long, five)
 

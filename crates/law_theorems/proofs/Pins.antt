@@ -13,7 +13,7 @@ use Rattle.jc_heap.proofs.Laws.{heap_item_at-set_cell, heap_item_at-set_other, i
 use Rattle.jc_memory.specs.State.{MemoryState, Effect, HeapMove, SetTransient, SetFlag, ClearTransient, SetRegisters, BeginCommand, SendBytes}
 use Rattle.jc_memory.specs.State.{apply_effect}
 use Rattle.law_atomicity.specs.Tears.{SavedHeapAfter}
-use Rattle.law_theorems.specs.Tries.{tries_in}
+use Rattle.law_images.specs.Tries.{tries_in}
 
 -- so many tries of a PIN stay, of as many before, where an effect sets them for good, unless an abort takes back what is written there
 abbrev pub tries_behind : ℕ → Effect → MemoryState → ℕ → ℕ

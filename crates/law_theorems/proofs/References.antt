@@ -9,8 +9,8 @@ use Rattle.jc_heap.specs.Whole.{IsReference}
 use Rattle.jc_frames.specs.declared.outcome.Exception.TheVariants.{NullPointerException}
 use Rattle.jc_frames.specs.declared.outcome.FrameExit.TheVariants.{End, Throw}
 use Rattle.jc_frames.specs.declared.outcome.Outcome.TheVariants.{Fault}
-use Rattle.jc_frames.specs.Frames.{Frames, GoesOn}
-use Rattle.jc_memory.specs.Reading.{AllDue, AllEffectsDue}
+use Rattle.jc_frames.specs.Frames.{Ends, Frames, GoesOn, Next}
+use Rattle.jc_memory.specs.Reading.{HasTrace}
 use Rattle.jc_memory.specs.State.{MemoryState, Effect, apply_effects}
 use Rattle.jc_memory.proofs.ProgramLemmas.{each_did, taken_did}
 use Rattle.jc_linker.specs.Values.{Packages}
@@ -18,32 +18,26 @@ use Rattle.jc_platform.specs.Tokens.{Tokens}
 use Rattle.jc_world.specs.Objects.{object_at, some_or_fault}
 use Rattle.jc_interp.specs.Stepping.{machine_step}
 use Rattle.jc_card.specs.CardState.{CardState}
-use Rattle.jc_card.specs.Answers.{exchange}
 use Rattle.jc_session.specs.Power.{Up}
 use Rattle.law_isolation.specs.Runs.{RunSteps}
-use Rattle.law_soundness.specs.Commands.{IsServed}
 use Rattle.law_soundness.specs.Environment.{HasEnvironment}
 use Rattle.law_soundness.specs.Living.{AreLivingCallers, AreLivingFrames}
 use Rattle.law_soundness.specs.Machines.{IsSoundMachine, KnowOwners}
 use Rattle.law_soundness.specs.Soundness.{AreKnown, IsSoundNext}
+use Rattle.law_soundness.specs.References.{EndsLiving, HandsObjects, MayBegin, NamesObjects}
 use Rattle.law_soundness.specs.State.{IsSoundMemory}
 use Rattle.law_soundness.proofs.Loads.{element_refers}
 use Rattle.law_soundness.proofs.Registered.{instance_refers}
 use Rattle.law_soundness.proofs.RunObjects.{kept_behind}
-use Rattle.law_soundness.proofs.Serving.{serving_keeps}
 use Rattle.law_soundness.proofs.StepLaws.{given}
 use Rattle.law_soundness.proofs.Stepping.{steps_sound}
 use Rattle.law_soundness.proofs.Transients.{names_object}
-use Rattle.law_images.specs.Cards.{IsOwnCard}
 use Rattle.law_images.proofs.Sessions.{linked_known}
-use Rattle.law_theorems.specs.Comes.{ComesWithin, memory_at}
-use Rattle.law_theorems.specs.Isolation.{AddNone}
-use Rattle.law_theorems.specs.References.{HandsObjects, MayBegin, NamesObjects, ReferencesNameObjects, RunsFrom}
+use Rattle.law_images.specs.Comes.{AddNone, ComesWithin, memory_at}
+use Rattle.law_theorems.specs.References.{ReferencesNameObjects, RunsFrom}
 use Rattle.law_theorems.proofs.Coming.{comes_own}
 use Rattle.law_theorems.proofs.Living.{name_what_is_there}
-use Rattle.law_theorems.proofs.Isolated.{none_added}
-use Rattle.law_theorems.proofs.Prefixes.{due_all, due_begun}
-use Rattle.law_theorems.proofs.Served.{AddsPackage, IsFine, commands_fine}
+use Rattle.law_theorems.proofs.Isolated.{IsWell, is_well}
 
 named : (p : Packages) (m : MemoryState) → IsSoundMemory p m → NamesObjects p m
 named p m sound = record {
@@ -63,53 +57,51 @@ handed p m sound environment = record {
 -- ---- steps
 
 module _ (p : Packages) (known : AreKnown p) (lent : List ℕ) where
+  step_leads : (s : Frames) (m : MemoryState) → IsSoundMachine p s m → (es : List Effect) (next : Next Frames) → HasTrace (machine_step lent p s m) m es next
+      → IsSoundNext p next (apply_effects es m)
+  step_leads s m machine es next trace = each_did (IsSoundNext p) (machine_step lent p s m) m (apply_effects es m) next
+      ((steps_sound given).next lent p s m known machine) (taken_did (machine_step lent p s m) m es next trace)
+
   steps_lead : (k : ℕ) (s u : Frames) (m n : MemoryState) → IsSoundMachine p s m → RunSteps k lent p s m u n → IsSoundMachine p u n
   steps_lead zero s u m n machine steps = subst (λ v. IsSoundMachine p u v) (sym steps.1) (subst (λ f. IsSoundMachine p f m) (sym steps.0) machine)
   steps_lead (suc k) s u m n machine steps =
       let es = steps.0 in
       let t = steps.1 in
-      steps_lead k t u (apply_effects es m) n (each_did (IsSoundNext p) (machine_step lent p s m) m (apply_effects es m) (GoesOn t)
-      ((steps_sound given).next lent p s m known machine) (taken_did (machine_step lent p s m) m es (GoesOn t) steps.2)) steps.3
+      steps_lead k t u (apply_effects es m) n (step_leads s m machine es (GoesOn t) steps.2) steps.3
 
 -- ---- at a moment of a command
 
--- the memory is sound there, and the environment's objects are
-abbrev IsWell : Packages → MemoryState → Type 0
-IsWell p m = IsSoundMemory p m × HasEnvironment p m
-
 module _ (t : Tokens) (card : CardState) (bytes : List ℕ) (es : List Effect) (comes : ComesWithin t card bytes es) (none : AddNone es) where
-  own : IsOwnCard t card
-  own = comes_own t (Up card) comes.comes
-
-  due : (P : Effect → MemoryState → Type 0) → AllDue P (exchange bytes card) card.memory → AllEffectsDue P es card.memory
-  due P all = due_begun P (exchange bytes card) card.memory es all comes.begins
-
-  well : IsFine card.packages (exchange bytes card) card.memory → IsWell card.packages (memory_at card es)
-  well (inl served) = due_all (IsServed card.packages) (IsWell card.packages) (λ e v fits w.
-      (serving_keeps.sound card.packages e v fits w.0, serving_keeps.environment card.packages e v fits w.0 w.1)) es card.memory
-      (due (IsServed card.packages) served) (own.ready.sound, own.ready.environment)
-  well (inr adds) = subst (λ l. IsWell card.packages (memory_at card l)) (sym (none_added es card.memory (due AddsPackage adds) none))
-      (own.ready.sound, own.ready.environment)
-
-  is_well : IsWell card.packages (memory_at card es)
-  is_well = well (commands_fine t card own bytes comes.are)
+  well : IsWell card.packages (memory_at card es)
+  well = is_well t card bytes es comes none
 
   begun : (s : Frames) → MayBegin s (memory_at card es) → IsSoundMachine card.packages s (memory_at card es)
   begun s may = record {
-    sound = is_well.0;
+    sound = well.0;
     steady = may.steady;
     callers = subst (λ c. KnowOwners c (memory_at card es)) (sym may.first) tt;
-    environment = is_well.1;
+    environment = well.1;
     code = may.owner;
     living = record { current = may.living; callers = subst (AreLivingCallers (memory_at card es).heap.now) (sym may.first) tt };
   }
 
+  known_at : AreKnown card.packages
+  known_at = linked_known card.packages (comes_own t (Up card) comes.comes).linked
+
+led : (t : Tokens) (card : CardState) (bytes : List ℕ) (es : List Effect) (k : ℕ) (lent : List ℕ) (s u : Frames) (n : MemoryState)
+    → RunsFrom t card bytes es k lent s u n → IsSoundMachine card.packages u n
+led t card bytes es k lent s u n runs =
+    steps_lead card.packages (known_at t card bytes es runs.comes runs.same) lent k s u (memory_at card es) n
+    (begun t card bytes es runs.comes runs.same s runs.begins) runs.steps
+
 ran : (t : Tokens) (card : CardState) (bytes : List ℕ) (es : List Effect) (k : ℕ) (lent : List ℕ) (s u : Frames) (n : MemoryState)
-    → RunsFrom t card bytes es k lent s u n → AreLivingFrames n.heap.now u × NamesObjects card.packages n
+    → RunsFrom t card bytes es k lent s u n → AreLivingFrames n.heap.now u × NamesObjects card.packages n × EndsLiving lent card.packages u n
 ran t card bytes es k lent s u n runs =
-    let last = steps_lead card.packages (linked_known card.packages (own t card bytes es runs.comes runs.same).linked) lent k s u (memory_at card es) n
-    (begun t card bytes es runs.comes runs.same s runs.begins) runs.steps in
-    (last.living, named card.packages n last.sound)
+    let last = led t card bytes es k lent s u n runs in (
+      last.living,
+      named card.packages n last.sound,
+      λ during o trace. step_leads card.packages (known_at t card bytes es runs.comes runs.same) lent u n last during (Ends o) trace,
+    )
 
 -- ---- an object that a reference names is found
 

@@ -29,19 +29,21 @@ use Rattle.law_isolation.proofs.OnHeap.{StandsBeside, cells_set, count_set, not_
 use Rattle.law_soundness.specs.Commands.{IsServed}
 use Rattle.law_soundness.specs.Fit.{AreStatics, FitsChange, FitsPlace, IsPinObject, OfPin, OfRegistry, OfStatics, OfValue}
 use Rattle.law_soundness.specs.State.{IsSoundMemory}
+use Rattle.law_soundness.proofs.Effects.{event_none}
 use Rattle.law_images.specs.Cards.{IsOwnCard}
 use Rattle.law_images.proofs.Apart.{record_some}
 use Rattle.law_images.proofs.Arrays.{below_end, item_behind}
 use Rattle.law_images.proofs.Sessions.{linked_known}
 use Rattle.law_images.proofs.Loaded.{item-push_other}
-use Rattle.law_theorems.specs.Comes.{memory_at}
-use Rattle.law_theorems.specs.Tries.{SetsAnew}
+use Rattle.law_images.specs.Comes.{memory_at}
+use Rattle.law_images.specs.Tries.{SetsAnew}
 use Rattle.law_theorems.specs.TryChanges.{Renews, TriesChangeByPinCalls}
 use Rattle.law_theorems.proofs.Coming.{comes_own}
-use Rattle.law_theorems.proofs.Named.{PinStands, is_value, kept_none, no_instance}
+use Rattle.law_theorems.proofs.Named.{PinStands, is_value, no_instance}
 use Rattle.law_theorems.proofs.OwnerPins.{an_object, pin_stands}
-use Rattle.law_theorems.proofs.Prefixes.{behind_both, due_after, due_all, due_begun}
+use Rattle.law_theorems.proofs.Prefixes.{behind_both, due_after, due_all}
 use Rattle.law_theorems.proofs.Served.{AddsPackage, IsFine, commands_fine, sound_behind}
+use Rattle.law_atomicity.proofs.Torn.{due_begun}
 
 -- the place is not the counter of this PIN
 abbrev IsBeside : ℕ → Place → Type 0
@@ -213,7 +215,7 @@ served_tries p e m q s pin served none =
     let held : Holds q n m.heap.now = record {
       object = found.0;
       item = found.1;
-      persistent = ap (λ t. (facts_of t).event) (sym found.1) ∙ kept_none (facts m.heap.now q) pin.kept;
+      persistent = ap (λ t. (facts_of t).event) (sym found.1) ∙ event_none (facts m.heap.now q) pin.kept;
       tries = ap (λ t. get_or (cells_of t) 2 0) (sym found.1);
     } in
     let behind = held_behind p m s q pin n held e served none in

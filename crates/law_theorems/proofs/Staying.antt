@@ -36,9 +36,9 @@ use Rattle.law_images.specs.Apart.{StandApart}
 use Rattle.law_images.specs.Loads.{AreLaidOut}
 use Rattle.law_images.proofs.Arrays.{below_end}
 use Rattle.law_images.proofs.LaidOut.{effects_keep_layout}
-use Rattle.law_theorems.specs.Tries.{SetsAnew, TriesStay, is_owner_pin, tries_after}
+use Rattle.law_images.specs.Tries.{SetsAnew, TriesStay, is_owner_pin, tries_after}
 use Rattle.law_theorems.proofs.Named.{IsNone, PinStands, decides, none_of, plain_pin, word_below, words_by}
-use Rattle.law_theorems.proofs.Others.{stands_if}
+use Rattle.law_atomicity.proofs.Torn.{kept as stands_if}
 use Rattle.law_theorems.proofs.OwnerPins.{pin_stands}
 use Rattle.law_theorems.proofs.Pins.{tries_behind, tries_left}
 use Rattle.law_theorems.proofs.Prefixes.{due_all}

@@ -20,16 +20,17 @@ use Rattle.jc_session.specs.Serving.{AnswersReset, Serves, SessionRun}
 use Rattle.jc_session.specs.Starting.{IsPoweredUp}
 use Rattle.law_atomicity.specs.Orderly.{KeepsTransactionOrder}
 use Rattle.law_atomicity.specs.Tears.{IsDurableOutside, TearLeavesAfter}
-use Rattle.law_atomicity.proofs.Torn.{begun_inside, behind}
+use Rattle.law_atomicity.proofs.Torn.{begun_inside, behind, lost_at}
 use Rattle.law_images.specs.Loaded.{AreBytes}
 use Rattle.law_images.specs.Cards.{IsOfBytes, IsOwnCard}
 use Rattle.law_images.proofs.Rest.{leave_at_rest, rests_so}
-use Rattle.law_theorems.specs.Comes.{AreDown, ComesTo, memory_at}
-use Rattle.law_theorems.specs.TakenBack.{IsLeft, IsLeftBy, IsTakenBack, IsWhatWasFound}
-use Rattle.law_theorems.specs.Tries.{IsAsFound}
+use Rattle.law_images.specs.Comes.{AreDown, ComesTo, memory_at}
+use Rattle.law_images.specs.Left.{IsLeft, IsLeftBy, IsWhatWasFound}
+use Rattle.law_theorems.specs.TakenBack.{IsTakenBack}
+use Rattle.law_images.specs.Tries.{IsAsFound}
 use Rattle.law_theorems.proofs.Founds.{is_found}
 use Rattle.law_theorems.proofs.Orders.{commands_orderly}
-use Rattle.law_theorems.proofs.Prefixes.{behind_both, due_after, front, lost_at}
+use Rattle.law_theorems.proofs.Prefixes.{behind_both, due_after, front}
 use Rattle.law_theorems.proofs.Coming.{comes_own, comes_rests}
 
 -- ---- while all is answered down

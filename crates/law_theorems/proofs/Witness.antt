@@ -1,12 +1,14 @@
--- A new image, its first reset, and a command.
-use Rattle.std.proofs.Common.{◌≡◌, ℕ, zero, suc, ◌+◌, ◌≤◌, Bool, true, false, List, [], ◌∷◌, get_or, refl, sym, ◌∙◌, ap, subst, Some, None}
+-- A new image, its first reset, a cut one, a command, and code that begins within it.
+use Rattle.std.proofs.Common.{◌≡◌, ℕ, zero, suc, ◌+◌, ◌<◌, ◌≤◌, Bool, true, false, List, [], ◌∷◌, get_or, length, refl, sym, ◌∙◌, ap, subst, arith, Some, None}
 use Rattle.std.specs.Prelude.{pos, replicate, Ok}
 use Rattle.std.proofs.lemmas.Bool.{false≢true, true≢false}
 use Rattle.std.proofs.lemmas.List.{length-replicate}
+use Rattle.std.proofs.lemmas.List.Elements.{All-from_recursion}
 use Rattle.std.proofs.lemmas.Option.{none-some}
 use Rattle.jc_words.specs.Layout.{least_size}
 use Rattle.jc_words.specs.Image.{heap_end}
 use Rattle.jc_words.specs.Refusals.{Refusals, no_refusals, refused_once}
+use Rattle.jc_commit.specs.Image.{limit_of, recovered_of}
 use Rattle.jc_transient.specs.declared.cell.CellValue.TheVariants.{Short}
 use Rattle.jc_transient.specs.declared.cell.ClearEvent.{ClearEvent}
 use Rattle.jc_transient.specs.declared.cell.ClearEvent.TheVariants.{Reset as AtReset, Deselect}
@@ -19,39 +21,38 @@ use Rattle.jc_linker.specs.Values.{Packages}
 use Rattle.jc_platform.specs.Table.{Reads}
 use Rattle.jc_platform.specs.Tokens.{Tokens}
 use Rattle.jc_platform.proofs.NamesTold.{names_told}
-use Rattle.law_linking.proofs.Bytes.{have_bytes}
-use Rattle.jc_card.specs.Answers.{manager_command, exchange}
+use Rattle.jc_interp.specs.Running.{bare_frames, no_package}
+use Rattle.jc_interp.specs.Stepping.{instruction_step, machine_step}
 use Rattle.jc_card_load.specs.Loading.{empty_load}
+use Rattle.jc_card_checks.specs.Sound.{IsSound}
+use Rattle.jc_card.specs.Answers.{manager_command, exchange}
 use Rattle.jc_card.specs.CardState.{CardState}
 use Rattle.jc_card.specs.Fixed.{fixed_of, last_fixed}
 use Rattle.jc_card.specs.Made.{IsCardHeap, new_card_heap}
 use Rattle.jc_card.specs.Reset.{ReadsAsZero}
-use Rattle.jc_card_checks.specs.Sound.{IsSound}
+use Rattle.jc_session.specs.declared.event.Event.TheVariants.{Reset}
+use Rattle.jc_session.specs.declared.event.Answer.TheVariants.{Ready, Down}
+use Rattle.jc_session.specs.Power.{KeptState, Up, Off, StoreState, durable_state, is_well_formed, with_refusal}
+use Rattle.jc_session.specs.Starting.{IsPoweredUp}
+use Rattle.jc_session.proofs.Laid.{if_laid}
+use Rattle.jcard_script.specs.Script.{down_text}
+use Rattle.law_soundness.specs.References.{MayBegin}
 use Rattle.law_soundness.specs.State.{IsFitObject}
+use Rattle.law_soundness.proofs.Living.{first_living, none_living}
+use Rattle.law_linking.proofs.Bytes.{have_bytes}
+use Rattle.law_images.specs.Cards.{IsOwnKept}
+use Rattle.law_images.specs.Comes.{ComesTo}
 use Rattle.law_images.specs.Heaps.{IsOwnHeap}
+use Rattle.law_images.specs.Loaded.{AreBytes}
 use Rattle.law_images.proofs.CardHeaps.{own_at}
 use Rattle.law_images.proofs.CardImages.{new_layout}
 use Rattle.law_images.proofs.NewImages.{new_images}
-use Rattle.jc_session.specs.declared.event.Event.TheVariants.{Reset}
-use Rattle.jc_session.specs.declared.event.Answer.TheVariants.{Ready, Down}
-use Rattle.jc_session.specs.Power.{Up, Off}
-use Rattle.jc_session.specs.Starting.{IsPoweredUp}
-use Rattle.law_images.specs.Cards.{IsOwnKept}
-use Rattle.jc_interp.specs.Running.{no_package}
-use Rattle.law_soundness.proofs.Living.{first_living, none_living}
-use Rattle.law_theorems.specs.Comes.{ComesTo}
-use Rattle.jcard_script.specs.Script.{down_text}
-use Rattle.law_theorems.specs.Witness.{HaveWitnesses, new_blown, new_kept}
+use Rattle.law_theorems.specs.Witness.{HaveWitnesses, NewStoresServe, begin_load_bytes, new_blown, new_kept}
 
-zero_there : (n k : ℕ) → get_or (replicate n (Short (pos 0))) k (Short (pos 0)) ≡ Short (pos 0)
-zero_there zero k = refl
-zero_there (suc n) zero = refl
-zero_there (suc n) (suc k) = zero_there n k
-
-false_there : (n k : ℕ) → get_or (replicate n false) k false ≡ false
-false_there zero k = refl
-false_there (suc n) zero = refl
-false_there (suc n) (suc k) = false_there n k
+same_there : {A : Type 0} (x : A) (n k : ℕ) → get_or (replicate n x) k x ≡ x
+same_there x zero k = refl
+same_there x (suc n) zero = refl
+same_there x (suc n) (suc k) = same_there x n k
 
 abbrev blank : RamState
 blank = record {
@@ -61,8 +62,8 @@ blank = record {
 }
 
 blank_cell : (event : ClearEvent) (place : ℕ) → cell_at blank event place ≡ Short (pos 0)
-blank_cell AtReset place = zero_there area_size place
-blank_cell Deselect place = zero_there area_size place
+blank_cell AtReset place = same_there (Short (pos 0)) area_size place
+blank_cell Deselect place = same_there (Short (pos 0)) area_size place
 
 is_blank : IsCleared blank
 is_blank = record {
@@ -72,7 +73,7 @@ is_blank = record {
     flags = length-replicate flag_count false;
   };
   cells = blank_cell;
-  flags = λ r. false_there flag_count r;
+  flags = λ r. same_there false flag_count r;
 }
 
 module _ (n capacity : ℕ) (text : List ℕ) (t : Tokens) (enough : least_size ≤ n) (reads : Reads text (Ok t)) where
@@ -115,10 +116,10 @@ module _ (n capacity : ℕ) (text : List ℕ) (t : Tokens) (enough : least_size 
     whole = fits.stands.whole;
   }
 
-  module _ (refusals : Refusals) where
+  module _ (passed size : ℕ) (refusals : Refusals) where
     abbrev memory : MemoryState
     memory = record {
-      heap = heap_at_rest heap 0 refusals (heap_end n capacity);
+      heap = heap_at_rest heap passed refusals size;
       ram = blank;
       fixed = fixed_of heap;
       registers = at_reset;
@@ -132,15 +133,15 @@ module _ (n capacity : ℕ) (text : List ℕ) (t : Tokens) (enough : least_size 
     as_zero : ReadsAsZero memory
     as_zero r i event e = ap (λ x. word_in x memory r i) e ∙ ap word_of (blank_cell event ((facts memory.heap.now r).place + i))
 
-    powered : (down : Bool) → IsPoweredUp (record {
+    powered : (laid down : Bool) (before : ℕ) → IsPoweredUp (record {
       durable = heap;
-      laid = true;
+      laid = laid;
       down = down;
-      passed = 0;
+      passed = before;
       refusals = refusals;
-      size = heap_end n capacity;
+      size = size;
     }) card
-    powered down = record {
+    powered laid down before = record {
       made = subst (λ m. IsCardHeap m heap) (sym (ap (λ (x : ℕ × ℕ). x.1) fits.beginning.head)) card_heap;
       heap = refl;
       reset = record {
@@ -155,39 +156,94 @@ module _ (n capacity : ℕ) (text : List ℕ) (t : Tokens) (enough : least_size 
       };
     }
 
+  abbrev first : CardState
+  first = card 0 (heap_end n capacity) no_refusals
+
   comes_off : ComesTo t (Off (new_kept n capacity text t))
   comes_off = record { first = new_kept n capacity text t; events = []; answers = []; own = own; bytes = tt; run = refl }
 
-  comes_up : ComesTo t (Up (card no_refusals))
+  comes_up : ComesTo t (Up first)
   comes_up = record {
     first = new_kept n capacity text t;
     events = Reset ∷ [];
     answers = Ready ∷ [];
     own = own;
     bytes = (tt, tt);
-    run = (Up (card no_refusals), powered no_refusals false, refl);
+    run = (Up first, powered 0 (heap_end n capacity) no_refusals true false 0, refl);
   }
 
+  begins : MayBegin (bare_frames 0 0) first.memory
+  begins = record {
+    first = refl;
+    living = first_living first.memory.heap.now [] 0 0 0 no_package (none_living first.memory.heap.now);
+    steady = record { counts = refl; begun = λ on. absurd (false≢true on) };
+    owner = λ home zero. true≢false home;
+  }
+
+are_bytes : AreBytes begin_load_bytes
+are_bytes = All-from_recursion (λ b. b < 256) begin_load_bytes (omega arith, (omega arith, (omega arith, (omega arith, tt))))
+
 pub witnesses : HaveWitnesses
-unfolding exchange manager_command refused_once
+unfolding exchange manager_command refused_once machine_step instruction_step
 witnesses n capacity text t enough reads =
-    let first = card n capacity text t enough reads no_refusals in
-    let refused = refused_once false 0 no_refusals in record {
+    let size = heap_end n capacity in
+    let refused = refused_once false 0 no_refusals in
+    let other = card n capacity text t enough reads 0 size refused in record {
       off = comes_off n capacity text t enough reads;
-      card = first;
-      reset = powered n capacity text t enough reads no_refusals false;
+      card = first n capacity text t enough reads;
       up = comes_up n capacity text t enough reads;
+      down = refl;
+      few = let least : 0 < 18446744073709551615 = omega arith in least;
+      other = other;
+      lost = (
+        Off (with_refusal 0 (durable_state (Up (first n capacity text t enough reads)))),
+        refl,
+        (
+          Up other,
+          powered n capacity text t enough reads 0 size refused true true 0,
+          refl,
+        ),
+      );
+      next = record (first n capacity text t enough reads) { load = Some empty_load };
+      bytes = are_bytes;
+      ended = (refl, refl);
       begins = record {
-        first = refl;
-        living = first_living first.memory.heap.now [] 0 0 0 no_package (none_living first.memory.heap.now);
-        steady = record { counts = refl; begun = λ on. absurd (false≢true on) };
-        owner = λ home zero. true≢false home;
+        comes = record { comes = comes_up n capacity text t enough reads; are = are_bytes; begins = tt };
+        same = tt;
+        begins = begins n capacity text t enough reads;
+        steps = (refl, refl);
       };
-      cut = refl;
-      other = card n capacity text t enough reads refused;
-      again = powered n capacity text t enough reads refused true;
-      next = record first { load = Some empty_load };
-      command = (refl, refl);
-      blown = (down_text, [], Off (new_blown n capacity text t), refl, (Down, refl, refl), (refl, refl));
+      step = (refl, refl);
+      cut = (down_text, [], new_blown n capacity text t, refl, (Down, refl, refl), (refl, refl));
+      none = (tt, tt);
       spared = refl;
+      within = λ count is. absurd (none-some count is);
     }
+
+-- what is left in a store whose power is back
+abbrev left_in : StoreState → HeapState → Bool → KeptState
+left_in store h laid = record { durable = h; laid = laid; down = false; passed = store.passed; refusals = store.refusals; size = limit_of store.words }
+
+pub new_stores_serve : NewStoresServe
+new_stores_serve t capacity text store made reads is =
+    let n = length store.words in
+    let size = limit_of store.words in
+    let enough = made.heap.enough in
+    let laid = is_well_formed (recovered_of store.words) in
+    let first = card n capacity text t enough reads store.passed size store.refusals in
+    let up = powered n capacity text t enough reads store.passed size store.refusals in
+    let starts = subst (λ h. IsPoweredUp (record {
+      durable = h;
+      laid = laid;
+      down = store.down;
+      passed = store.passed;
+      refusals = store.refusals;
+      size = size;
+    }) first) (sym is) (up laid store.down store.passed) in (
+      Up first,
+      (Up first, (made, starts), (Up first, up true false store.passed, refl)),
+      record {
+        good = made.log;
+        kept = ap (λ h. left_in store h laid) is ∙ ap (left_in store (new_card_heap n capacity text t)) (if_laid (recovered_of store.words) made.laid);
+      },
+    )

@@ -1,8 +1,7 @@
 -- Contexts stay isolated over whole commands.
-use Rattle.std.specs.Prelude.{ℕ, List, [], ◌∷◌, ◌++◌}
-use Rattle.jc_heap.specs.Moves.{AddPackage}
+use Rattle.std.specs.Prelude.{ℕ, List, ◌++◌}
 use Rattle.jc_frames.specs.Frames.{Frames, Next}
-use Rattle.jc_memory.specs.State.{MemoryState, Effect, HeapMove, apply_effects}
+use Rattle.jc_memory.specs.State.{MemoryState, Effect, apply_effects}
 use Rattle.jc_memory.specs.Reading.{HasTrace}
 use Rattle.jc_platform.specs.Tokens.{Tokens}
 use Rattle.jc_interp.specs.Stepping.{machine_step}
@@ -11,13 +10,7 @@ use Rattle.law_isolation.specs.Reach.{IsOutside, KeepsCells}
 use Rattle.law_isolation.specs.Runs.{RunStepsWithin}
 use Rattle.law_isolation.specs.Sparing.{AreQuiet}
 use Rattle.law_isolation.specs.Steps.{Stays}
-use Rattle.law_theorems.specs.Comes.{ComesWithin, memory_at}
-
--- no package comes in by these effects
-abbrev pub AddNone : List Effect → Type 0
-AddNone [] = Unit {0}
-AddNone (HeapMove (AddPackage components arrays image) ∷ es) = ⊥
-AddNone (e ∷ es) = AddNone es
+use Rattle.law_images.specs.Comes.{AddNone, ComesWithin, memory_at}
 
 -- Behind these effects of a command of a session an object is outside the reach of the code that runs, and so many steps in a row, from
 -- whatever frames to others, neither switch, abort nor clear. The load whose end adds a package runs no code

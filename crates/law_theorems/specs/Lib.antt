@@ -1,8 +1,6 @@
 pub mod WholeCopies
 pub mod Refusals
 pub mod Images
-pub mod Comes
-pub mod Tries
 pub mod TryChanges
 pub mod TakenBack
 pub mod Isolation

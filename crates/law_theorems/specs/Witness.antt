@@ -1,20 +1,30 @@
--- The premises of the theorems can be met: a new image, its first reset, a cut one, and a command.
-use Rattle.std.specs.Prelude.{ℕ, ◌≡◌, ◌≤◌, true, false, List, [], ◌∷◌, codes, Ok}
+-- The premises of the theorems can be met: a new image, its first reset, a cut one, a command, and code that begins to run within it.
+use Rattle.std.specs.Prelude.{ℕ, ◌≡◌, ◌≤◌, ◌<◌, true, false, List, [], ◌∷◌, length, codes, Ok}
 use Rattle.jc_words.specs.Layout.{least_size}
-use Rattle.jc_words.specs.Refusals.{no_refusals}
+use Rattle.jc_words.specs.Refusals.{IsWithinFuse, no_refusals}
 use Rattle.jc_words.specs.Image.{heap_end}
+use Rattle.jc_commit.specs.Image.{recovered_of}
+use Rattle.jc_heap.specs.Heap.{heap_of}
+use Rattle.jc_frames.specs.declared.outcome.Outcome.TheVariants.{Fault}
+use Rattle.jc_frames.specs.Frames.{Ends}
+use Rattle.jc_memory.specs.Reading.{HasTrace}
 use Rattle.jc_platform.specs.Table.{Reads}
 use Rattle.jc_platform.specs.Tokens.{Tokens}
-use Rattle.jc_card.specs.CardState.{CardState}
-use Rattle.jc_card.specs.Made.{new_card_heap}
-use Rattle.jc_session.specs.declared.event.Answer.TheVariants.{Response, Ready, Down}
-use Rattle.jc_session.specs.Power.{PowerState, Up, Off, KeptState, durable_state, with_refusal}
-use Rattle.jc_session.specs.Serving.{AnswersCommand, AnswersReset}
-use Rattle.jcard_script.specs.Script.{down_text}
-use Rattle.law_images.specs.Scripts.{ServeLines, armed}
 use Rattle.jc_interp.specs.Running.{bare_frames}
-use Rattle.law_theorems.specs.Comes.{ComesTo}
-use Rattle.law_theorems.specs.References.{MayBegin}
+use Rattle.jc_interp.specs.Stepping.{machine_step}
+use Rattle.jc_card.specs.CardState.{CardState}
+use Rattle.jc_card.specs.Made.{IsMade, new_card_heap}
+use Rattle.jc_session.specs.declared.event.Event.TheVariants.{Reset}
+use Rattle.jc_session.specs.declared.event.Answer.TheVariants.{Response, Ready, Down}
+use Rattle.jc_session.specs.Power.{PowerState, Up, Off, KeptState, StoreState, durable_state, with_refusal}
+use Rattle.jc_session.specs.Serving.{AnswersCommand, Serves, SessionRun}
+use Rattle.jc_session.specs.Sessions.{SessionEnds}
+use Rattle.jcard_script.specs.Script.{down_text}
+use Rattle.law_images.specs.Comes.{ComesTo}
+use Rattle.law_images.specs.Loaded.{AreBytes}
+use Rattle.law_images.specs.Scripts.{ArmNone, ServeLines, armed}
+use Rattle.law_theorems.specs.Fuse.{refusals_of}
+use Rattle.law_theorems.specs.References.{RunsFrom}
 
 -- what is kept of a new image
 abbrev pub new_kept : ℕ → ℕ → List ℕ → Tokens → KeptState
@@ -25,24 +35,46 @@ abbrev pub new_armed : ℕ → ℕ → List ℕ → Tokens → PowerState
 new_armed n capacity text t = armed 0 (Off (new_kept n capacity text t))
 
 -- a reset of it that the fuse cuts
-abbrev pub new_blown : ℕ → ℕ → List ℕ → Tokens → KeptState
-new_blown n capacity text t = with_refusal 0 (durable_state (new_armed n capacity text t))
+abbrev pub new_blown : ℕ → ℕ → List ℕ → Tokens → PowerState
+new_blown n capacity text t = Off (with_refusal 0 (durable_state (new_armed n capacity text t)))
 
--- With any table that reads sessions come to a new image without power, and to a card behind its first reset, on which lent code may run. A reset of it may be cut, and
--- the next one completes; a command may be answered, as one that begins a load; and a script's line may be cut by the fuse
+-- a command that begins a load, and a line that asks for a reset
+abbrev pub begin_load_bytes : List ℕ
+begin_load_bytes = 0x80 ∷ 0xB0 ∷ 0 ∷ 0 ∷ []
+
+abbrev pub reset_line : List ℕ
+reset_line = codes "reset"
+
+-- With any table that reads sessions come to a new image without power, and to the card behind its first reset
 pub record HaveWitness (n capacity : ℕ) (text : List ℕ) (t : Tokens) : Type 0 where
   pub off : ComesTo t (Off (new_kept n capacity text t))
   pub card : CardState
-  pub reset : AnswersReset (Off (new_kept n capacity text t)) Ready (Up card)
   pub up : ComesTo t (Up card)
-  pub begins : MayBegin (bare_frames 0 0) card.memory
-  pub cut : AnswersReset (Up card) Down (Off (with_refusal 0 (durable_state (Up card))))
+  -- of `down_tells_of_refused_writes`: a reset is cut
+  pub down : Serves (Up card) Reset Down (Off (with_refusal 0 (durable_state (Up card))))
+  pub few : (refusals_of (Up card)).count < 18446744073709551615
+  -- of `lost` in `sessions_take_back_what_is_not_committed`: another one completes
   pub other : CardState
-  pub again : AnswersReset (Off (with_refusal 0 (durable_state (Up card)))) Ready (Up other)
+  pub lost : SessionRun (Up card) (Reset ∷ Reset ∷ []) (Down ∷ Ready ∷ []) (Up other)
+  -- of `ended` there: a command is answered
   pub next : CardState
-  pub command : AnswersCommand (Up card) (0x80 ∷ 0xB0 ∷ 0 ∷ 0 ∷ []) (Response (0x90 ∷ 0 ∷ [])) (Up next)
-  pub blown : ServeLines (codes "reset" ∷ []) (new_armed n capacity text t) (Off (new_blown n capacity text t)) down_text
-  pub spared : (new_blown n capacity text t).refusals.faults ≡ 0
+  pub bytes : AreBytes begin_load_bytes
+  pub ended : AnswersCommand (Up card) begin_load_bytes (Response (0x90 ∷ 0 ∷ [])) (Up next)
+  -- of `references_name_what_is_there`: within it code begins that was lent, and a step ends its run
+  pub begins : RunsFrom t card begin_load_bytes [] 0 [] (bare_frames 0 0) (bare_frames 0 0) card.memory
+  pub step : HasTrace (machine_step [] card.packages (bare_frames 0 0) card.memory) card.memory [] (Ends Fault)
+  -- of `fuses_cut_where_they_were_set`: a line is cut behind `stop 0`
+  pub cut : ServeLines (reset_line ∷ []) (new_armed n capacity text t) (new_blown n capacity text t) down_text
+  pub none : ArmNone (reset_line ∷ [])
+  pub spared : (refusals_of (new_blown n capacity text t)).faults ≡ 0
+  pub within : IsWithinFuse (durable_state (new_blown n capacity text t)).passed (refusals_of (new_blown n capacity text t)).fuse
 
 abbrev pub HaveWitnesses : Type 0
 HaveWitnesses = (n capacity : ℕ) (text : List ℕ) (t : Tokens) → least_size ≤ n → Reads text (Ok t) → HaveWitness n capacity text t
+
+-- of `sessions_without_refused_writes_are_of_whole_copies` and `images_power_up_again`: over each store of a new image a session ends well, and
+-- refuses no write
+abbrev pub NewStoresServe : Type 0
+NewStoresServe = (t : Tokens) (capacity : ℕ) (text : List ℕ) (store : StoreState) → IsMade store.words → Reads text (Ok t)
+    → heap_of (recovered_of store.words) ≡ new_card_heap (length store.words) capacity text t
+    → SessionEnds (Ok (Ready ∷ [])) store (Reset ∷ []) (record store { down = false })

@@ -1,5 +1,5 @@
 //! Laws of whole sessions.
-ghost use Rattle.law_theorems.specs.Comes.{StoresCome};
+ghost use Rattle.law_images.specs.Comes.{StoresCome};
 ghost use Rattle.law_theorems.specs.Fuse.{FusesCut};
 ghost use Rattle.law_theorems.specs.Images.{PowerUpAgain};
 ghost use Rattle.law_theorems.specs.Isolation.{StayApart};
@@ -8,7 +8,7 @@ ghost use Rattle.law_theorems.specs.Refusals.{DownTells};
 ghost use Rattle.law_theorems.specs.TakenBack.{IsTakenBack};
 ghost use Rattle.law_theorems.specs.TryChanges.{TriesChangeByPinCalls};
 ghost use Rattle.law_theorems.specs.WholeCopies.{AreOfWholeCopies};
-ghost use Rattle.law_theorems.specs.Witness.{HaveWitnesses};
+ghost use Rattle.law_theorems.specs.Witness.{HaveWitnesses, NewStoresServe};
 
 /// While no write is refused, a session answers exactly as a card does that keeps two whole copies of its heap,
 /// the present one and the one of the last commit, and leaves the same heap.
@@ -53,7 +53,8 @@ pub fn sessions_keep_contexts_apart()
 
 /// At whatever moment of whatever command of a session, each reference in arrays, transient ones too, in fields and in
 /// static fields is null or names an object that is there; and so is each in locals and on stacks, however many steps
-/// code takes, whatever it is. So code faults on no reference that names nothing.
+/// code takes, whatever it is, and what its run returns or throws uncaught. So code faults on no reference that names
+/// nothing.
 pub fn references_name_what_is_there()
     ensures { ReferencesNameObjects }
 {}
@@ -64,10 +65,11 @@ pub fn images_power_up_again()
     ensures { PowerUpAgain }
 {}
 
-/// The premises of these laws can be met: by a new image over any table that reads, by the card behind its first
-/// reset, also a cut one, and by a command of it; and each session over a store that commands left is one of which
-/// they tell.
+/// The premises of these laws can be met, each by what is named beside it, over any table that reads: by a new image, the card
+/// behind its first reset, also a cut one, a command of it, and code that begins within the command; by a session over each
+/// store of a new image; and each session over a store that commands left is one of which they tell.
 pub fn premises_can_be_met()
     ensures witnesses { HaveWitnesses }
+    ensures new_stores { NewStoresServe }
     ensures stores { StoresCome }
 {}

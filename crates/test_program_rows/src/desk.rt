@@ -1,6 +1,7 @@
 //! What rows are told to: the program over the files of its folder, and new cards for scripts.
 //!
-//! `jcard WORDS`                 the program with these words: its exit status, and behind `: ` the lines that it printed
+//! `jcard WORDS`                 the program with these words: its exit status, and behind `: ` the lines that it printed, those that say
+//!                               why last
 //! `script TEXT`                 a script on a new card: how it ended, and what it printed
 //! `conversation`                a script of which each line is asked when the one before is answered
 //! `reader MANNER`, `writer MANNER`
@@ -12,10 +13,12 @@
 //! `memory script TEXT`          the text `script` of the disk in memory, whose text `table` is the example of a platform table
 //! `memory jcard WORDS`          the program with these words, on the disk in memory
 //! `memory writes NAME`          how many words were written to that image of it since it was made
+//! `load IMAGE FILE`             loads the package of a file of rows: `ok` where each answer is 9000, else what `run --why` tells
 //! `same NAME OTHER`, `there NAME`
 //!                               whether two files have the same bytes, and whether one is there
 //!
 //! A text is one piece in double quotes or several, each so often as `N times` before it says, with `\n`, `\r`, `\t`, `\q`, `\s`.
+use crate::asked::Asked;
 use crate::card::run_on_new_card;
 use crate::conversation::{Asker, Listener};
 use crate::files;
@@ -32,14 +35,19 @@ use jcard_script::mem_text::MemText;
 use jcard_script::script::ScriptFault;
 use jcard_script::std_text::StdText;
 use jcard_script::streams::TextIn;
-use jcard_tear::progress::Nobody;
 use std::alloc::{AllocError, Global};
 use std::cell::Cell;
-use std::fs::File;
+use std::fs::{self, File};
 use std::io::{self, ErrorKind};
 use std::mem;
 use std::rt::Files;
 use test_row_files::subject::FileSubject;
+
+/// The file of the commands of a load.
+const COMMANDS: &str = "commands";
+
+/// The most bytes that a load answers.
+const MOST_TOLD: usize = 10_000;
 
 /// How the next program or script is run.
 #[derive(Drop)]
@@ -90,6 +98,7 @@ impl Desk {
             "script" => self.run_script(rt.alloc(), text_of(rt.alloc(), rest)?.as_bytes()),
             "conversation" => converse(rt.alloc()),
             "memory" => self.in_memory(rt.alloc(), rest),
+            "load" => load(rt, rest),
             "room" | "reader" | "writer" => {
                 self.set(verb, rest)?;
                 Ok(String::from_str(rt.alloc(), "ok")?)
@@ -109,13 +118,14 @@ impl Desk {
     ) -> io::Result<String> {
         let words = words_of(rt.alloc(), words)?;
         let mut out = MemText::new(rt.alloc(), b"", self.room)?;
+        let mut asked = Asked::new(rt.alloc());
         let status = run_words(
             &mut SystemDisk::new(rt),
             words.as_slice(),
             &mut out,
-            &mut Nobody,
+            &mut asked,
         );
-        Ok(told(rt.alloc(), status, out.written())?)
+        told_with(rt.alloc(), status, out.written(), &asked)
     }
 
     /// Carries out a command on the disk in memory.
@@ -151,9 +161,10 @@ impl Desk {
         let mut out = MemText::new(alloc, b"", self.room)?;
         let images = mem::replace(&mut self.images, Vec::new(alloc));
         let mut disk = MemDisk::new(alloc, &texts, images);
-        let status = run_words(&mut disk, words.as_slice(), &mut out, &mut Nobody);
+        let mut asked = Asked::new(alloc);
+        let status = run_words(&mut disk, words.as_slice(), &mut out, &mut asked);
         self.images = disk.into_images();
-        Ok(told(alloc, status, out.written())?)
+        told_with(alloc, status, out.written(), &asked)
     }
 
     /// Changes how the next program or script is run.
@@ -195,6 +206,36 @@ impl Desk {
     }
 }
 
+/// Loads the package of a file of rows onto the card of an image: `ok`, or what was answered instead.
+fn load<R: Files<File = File> + AllocGlobal>(rt: &R, words: &str) -> io::Result<String> {
+    let alloc = rt.alloc();
+    let (image, rows) = known(words.split_once(' '))?;
+    let commands = files::commands_of(rt, rows)?;
+    fs::write(rt, COMMANDS, commands.as_str())?;
+    let words = words_of(
+        alloc,
+        &format!(in alloc; "jcard run {image} {COMMANDS} --why")?,
+    )?;
+    let mut out = MemText::new(alloc, b"", MOST_TOLD)?;
+    let mut asked = Asked::new(alloc);
+    let status = run_words(
+        &mut SystemDisk::new(rt),
+        words.as_slice(),
+        &mut out,
+        &mut asked,
+    );
+    let told = out.written();
+    if status == 0
+        && told
+            == b"9000\n"
+                .repeat(alloc, commands.lines().count())?
+                .as_slice()
+    {
+        return Ok(String::from_str(alloc, "ok")?);
+    }
+    told_with(alloc, status, told, &asked)
+}
+
 /// How many words were written to the image of this name.
 fn writes_of(images: &[ImageFile], name: &str) -> Option<u64> {
     for image in images {
@@ -222,4 +263,11 @@ fn ended_with(alloc: Global, ended: Result<(), ScriptFault>, printed: &[u8]) -> 
         Ok(()) => Ok(told(alloc, "done", printed)?),
         Err(fault) => Ok(told(alloc, fault, printed)?),
     }
+}
+
+// How the program ended, what it printed, and what was told of why.
+fn told_with(alloc: Global, status: u8, printed: &[u8], asked: &Asked) -> io::Result<String> {
+    let mut lines = Vec::from_slice(alloc, printed)?;
+    lines.extend_from_slice(&asked.text)?;
+    Ok(told(alloc, status, &lines)?)
 }

@@ -71,3 +71,18 @@ fn put_words<R: Files + AllocGlobal>(rt: &R, name: &str, rest: &str) -> io::Resu
     }
     fs::write(rt, name, bytes.as_slice())
 }
+
+/// The commands of a file of rows, and the end of the load that they are.
+pub(crate) fn commands_of<R: Files + AllocGlobal>(rt: &R, rows: &str) -> io::Result<String> {
+    let bytes = fs::read(rt, rows)?;
+    let mut commands = String::new(rt.alloc());
+    for line in known(str::from_utf8(&bytes).ok())?.lines() {
+        let command = line.split('#').next().unwrap_or("").trim();
+        if !command.is_empty() {
+            commands.push_str(command)?;
+            commands.push_str("\n")?;
+        }
+    }
+    commands.push_str("80BA0000\n")?;
+    Ok(commands)
+}

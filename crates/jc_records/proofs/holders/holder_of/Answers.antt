@@ -2,11 +2,11 @@ use Rattle.std.proofs.Common.{arith, ◌<◌, ◌+◌, ◌-◌, ◌∙◌, ap, s
 use Rattle.jc_heap.specs.Object.{Item}
 use Rattle.jc_commit.specs.Image.{top_of}
 use Rattle.jc_records.specs.Holders.{holder_in, or_else}
-use Rattle.jc_records.specs.Records.{record_size}
+use Rattle.jc_records.specs.Records.{items_from, record_size}
 use Rattle.jc_records.specs.declared.holders.Holder.{Holder}
 use Rattle.jc_records.proofs.HeapBounds.{Bounds, bounds}
 use Rattle.jc_records.proofs.Sizes.{size_none, size_some}
-use Rattle.jc_records.proofs.Standing.{items_end, items_first, items_from, items_short, items_step}
+use Rattle.jc_records.proofs.Standing.{items_end, items_first, items_short, items_step}
 use Rattle.jc_records.proofs.holders.holder_of.Goals as goal
 
 pub loop-at-init : goal.loop-at-init

@@ -1,8 +1,7 @@
 use Rattle.std.proofs.Common.{◌≡◌, ◌≤◌, ◌-◌}
 use Rattle.jc_words.specs.Layout.{text_start}
 use Rattle.jc_records.specs.Holders.{holder_in}
-use Rattle.jc_records.specs.Records.{standing_items}
-use Rattle.jc_records.proofs.Standing.{items_from}
+use Rattle.jc_records.specs.Records.{items_from, standing_items}
 use Rattle.jc_records.proofs.holders.holder_of.Given as goal
 
 -- what is left of the walk has the answer

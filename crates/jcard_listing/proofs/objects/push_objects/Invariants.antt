@@ -1,6 +1,6 @@
 use Rattle.std.proofs.Common.{◌≡◌, ◌≤◌, ◌-◌}
 use Rattle.jc_words.specs.Layout.{text_start}
-use Rattle.jcard_listing.specs.Objects.{objects_lines}
+use Rattle.jcard_listing.specs.Objects.{item_text, objects_lines}
 use Rattle.jcard_listing.proofs.Listed.{IsTelling}
 use Rattle.jcard_listing.proofs.ObjectLines.{lines_from}
 use Rattle.jcard_listing.proofs.objects.push_objects.Given as goal
@@ -11,7 +11,7 @@ invariant-loop-at g l =
     record {
       low : text_start ≤ l.at;
       high : l.at ≤ l.top;
-      told : IsTelling l.fn.text.items l.text.items (objects_lines l.platform w l.all) (lines_from l.platform w l.all l.at);
+      told : IsTelling l.fn.text.items l.text.items (objects_lines l.platform w l.all) (lines_from (item_text l.platform w l.all) w l.at);
     }
 
 abbrev pub decreases-loop-at : goal.decreases-loop-at

@@ -5,7 +5,7 @@ use Rattle.jcard_sweeps.proofs.tearing.cut_part.Goals as goal
 pub returns-in-Ok-clause-done : goal.returns-in-Ok-clause-done
 returns-in-Ok-clause-done g c =
     let told = c.tell_part.ensures.done in
-    (told.0, told.1, elim told.2 [ inl reported ↦ inl (c.in-Ok.part, c.in-Ok.ensures.swept, reported) | inr uncut ↦ inr uncut ])
+    (told.0, told.1, inl (c.in-Ok.part, c.in-Ok.ensures.swept, told.2))
 
 pub returns-in-Err-clause-done : goal.returns-in-Err-clause-done
-returns-in-Err-clause-done g c = ([], appends_same _, inr (c.tear_fault.result, refl, c.tear_fault.ensures.uncut, refl))
+returns-in-Err-clause-done g c = ([], appends_same _, inr (c.in-Err.cause, c.args.names.image.now, c.tear_fault.result, c.in-Err.ensures.swept, c.tear_fault.ensures.told, refl, refl))

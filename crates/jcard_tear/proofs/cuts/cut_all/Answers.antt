@@ -1,7 +1,9 @@
-use Rattle.std.proofs.Common.{◌≡◌, ◌+◌, ◌∷◌, [], length, length-append, refl, sym, subst, arith}
+use Rattle.std.proofs.Common.{◌≡◌, ◌∙◌, ◌+◌, ◌∷◌, [], length, length-append, refl, sym, subst, arith}
+use Rattle.jcard_tear.specs.Faults.{IsUncutFor}
 use Rattle.jcard_outcomes.specs.declared.standing.Cut.{Cut}
 use Rattle.jcard_tear.specs.Sweeps.{IsCutAt, IsUncutAt}
 use Rattle.jcard_tear.proofs.CutLists.{cuts_more, cuts_none}
+use Rattle.jcard_tear.proofs.Uncut.{cuts_past, memory_uncut, passed_on}
 use Rattle.jcard_tear.proofs.cuts.cut_all.Goals as goal
 
 pub loop-number-init : goal.loop-number-init
@@ -25,3 +27,20 @@ loop-number-preserved g c =
           c.loop-number.invariant.cuts (c.in-Some.left, here, c.in_ok-told.ensures, standing));
       count = rw c.in_ok-push_cut.ensures (omega (arith, length-append cuts (cut ∷ []), c.loop-number.invariant.count));
     }
+
+pub returns-in_err-left : goal.returns-in_err-left
+returns-in_err-left g c = passed_on _ _ c.from_residual.result c.from_residual.ensures.1
+    (λ fault e. subst (IsUncutFor c.args.words.now c.args.command 1) (sym e) (c.in_err-left.ensures 1))
+
+pub returns-in_err-told : goal.returns-in_err-told
+returns-in_err-told g c = passed_on _ _ c.from_residual-in_err-told.result c.from_residual-in_err-told.ensures.1
+    (λ fault e. memory_uncut c.args.words.now c.args.command 1 fault e)
+
+pub returns-in_err-push_cut : goal.returns-in_err-push_cut
+returns-in_err-push_cut g c = passed_on _ _ c.from_residual-in_err-push_cut.result c.from_residual-in_err-push_cut.ensures.1
+    (λ fault e. memory_uncut c.args.words.now c.args.command 1 fault (e ∙ c.in_err-push_cut.ensures))
+
+pub returns : goal.returns
+returns g c = cuts_past c.args.words.now c.args.command c.args.spared.now c.args.objects.now c.args.before.now c.args.after.now 0 c.loop-number.cuts.items
+    c.loop-number.invariant.cuts (omega (arith, c.loop-number.invariant.count, c.loop-number-test.false))
+    (omega (arith, c.loop-number.invariant.count, c.loop-number-test.false))

@@ -1,11 +1,13 @@
-use Rattle.std.proofs.Common.{◌≡◌, ◌∙◌, ◌+◌, ◌*◌, ◌∷◌, [], length, length-append, ap, refl, rules, sym, subst, arith}
+use Rattle.std.proofs.Common.{◌≡◌, ◌∙◌, ◌+◌, ◌*◌, ◌≤◌, ◌∷◌, [], length, length-append, ap, refl, rules, sym, subst, inl, arith}
 use Rattle.jcard_outcomes.specs.declared.standing.Cut.{Cut}
+use Rattle.jcard_tear.specs.Faults.{IsUncutFor}
 use Rattle.jcard_tear.specs.Sweeps.{IsCutAt, IsUncutAt}
 use Rattle.jcard_tear.proofs.EveryLists.{every_more, every_none, number_more}
+use Rattle.jcard_tear.proofs.Uncut.{every_past, memory_uncut, passed_on, steps_past}
 use Rattle.jcard_tear.proofs.parts.cut_every.Goals as goal
 
 pub loop-place-init : goal.loop-place-init
-loop-place-init g c = record { cuts = rw c.new-cuts.ensures.items (every_none _ _ _ _ _ _ _ _); count = rw c.new-cuts.ensures.items (omega arith); fits = omega (arith, c.ranges.first.fits) }
+loop-place-init g c = record { cuts = rw c.new-cuts.ensures.items (every_none _ _ _ _ _ _ _ _); count = rw c.new-cuts.ensures.items (omega arith); fits = omega (arith, c.ranges.first.fits); places = rw c.new-cuts.ensures.items refl }
 
 pub returns-in_default-clause-cut : goal.returns-in_default-clause-cut
 returns-in_default-clause-cut g c =
@@ -29,4 +31,29 @@ loop-place-preserved g c =
       count = number_more c.args.first c.args.step (length cuts) c.loop-place.number c.in-Some-checked_add.next c.loop-place.invariant.count next
           ∙ ap (λ n. c.args.first + c.args.step * n) (sym (ap length c.in_ok-push_cut.ensures ∙ length-append cuts (cut ∷ [])));
       fits = search rules;
+      places = rw c.in_ok-push_cut.ensures (omega (arith, length-append cuts (cut ∷ []), c.loop-place.invariant.places));
     }
+
+pub returns-in_err-left-clause-cut : goal.returns-in_err-left-clause-cut
+returns-in_err-left-clause-cut g c = passed_on _ _ c.from_residual.result c.from_residual.ensures.1
+    (λ fault e. subst (IsUncutFor c.args.words.now c.args.command c.args.step) (sym e) (c.in_err-left.ensures c.args.step))
+
+pub returns-in_err-told-clause-cut : goal.returns-in_err-told-clause-cut
+returns-in_err-told-clause-cut g c = passed_on _ _ c.from_residual-in_err-told.result c.from_residual-in_err-told.ensures.1
+    (λ fault e. memory_uncut c.args.words.now c.args.command c.args.step fault e)
+
+pub returns-in_err-push_cut-clause-cut : goal.returns-in_err-push_cut-clause-cut
+returns-in_err-push_cut-clause-cut g c = passed_on _ _ c.from_residual-in_err-push_cut.result c.from_residual-in_err-push_cut.ensures.1
+    (λ fault e. memory_uncut c.args.words.now c.args.command c.args.step fault (e ∙ c.in_err-push_cut.ensures))
+
+pub returns-in_default-checked_add-clause-cut : goal.returns-in_default-checked_add-clause-cut
+returns-in_default-checked_add-clause-cut g c =
+    let left = rw c.in-Some.is at c.in_ok-left.ensures in
+    (c.loop-place.number, c.in-Some.left, c.in-Some.recoveries, left, inl (search rules))
+
+pub returns-clause-cut : goal.returns-clause-cut
+returns-clause-cut g c =
+    let cuts = c.loop-place.cuts.items in
+    let many : 65535 ≤ length cuts = omega (arith, c.loop-place.invariant.places, c.loop-place-test.false) in
+    every_past c.args.words.now c.args.command c.args.spared.now c.args.objects.now c.args.before.now c.args.after.now c.args.first c.args.step cuts
+    c.loop-place.invariant.cuts (omega (arith, many)) (steps_past c.args.first c.args.step (length cuts) many)

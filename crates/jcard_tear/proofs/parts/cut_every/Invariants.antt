@@ -7,4 +7,5 @@ invariant-loop-place g l = record {
   cuts : AreEvery l.words l.command l.spared l.objects l.before l.after l.first l.step l.cuts.items;
   count : l.number ≡ l.first + l.step * length l.cuts.items;
   fits : l.number < 65536;
+  places : length l.cuts.items ≡ l._place;
 }

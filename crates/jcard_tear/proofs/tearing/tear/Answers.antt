@@ -1,5 +1,7 @@
-use Rattle.std.proofs.Common.{refl, subst}
+use Rattle.std.proofs.Common.{refl, subst, sym}
+use Rattle.jcard_tear.specs.Faults.{IsProbeFault, IsUncutFor}
 use Rattle.jcard_tear.specs.Sweeps.{AreCuts}
+use Rattle.jcard_tear.proofs.Uncut.{done_carried, memory_uncut, passed_on, probe_uncut}
 use Rattle.jcard_tear.proofs.tearing.tear.Goals as goal
 
 pub returns : goal.returns
@@ -16,3 +18,29 @@ returns g c = record {
   uncut = c.in_ok-cuts.ensures.1;
   depth = refl;
 }
+
+pub returns-in_err-answer : goal.returns-in_err-answer
+returns-in_err-answer g c = passed_on _ _ c.from_residual.result c.from_residual.ensures.1
+    (λ fault e. subst (IsUncutFor c.args.words.now c.args.command 1) (sym e) (c.in_err-answer.ensures 1))
+
+pub returns-in_err-before : goal.returns-in_err-before
+returns-in_err-before g c = passed_on _ _ c.from_residual-in_err-before.result c.from_residual-in_err-before.ensures.1
+    (λ fault e. subst (IsUncutFor c.args.words.now c.args.command 1) (sym e) (c.in_err-before.ensures 1))
+
+pub returns-in_err-spared : goal.returns-in_err-spared
+returns-in_err-spared g c = passed_on _ _ c.from_residual-in_err-spared.result c.from_residual-in_err-spared.ensures.1
+    (λ fault e. probe_uncut c.args.words.now c.args.command 1 fault (done_carried c.args.words.now c.args.command c.in_ok-answer.answer.items c.in_ok-answer.after c.in_ok-answer.ensures)
+    (subst IsProbeFault (sym e) c.in_err-spared.ensures))
+
+pub returns-in_err-objects : goal.returns-in_err-objects
+returns-in_err-objects g c = passed_on _ _ c.from_residual-in_err-objects.result c.from_residual-in_err-objects.ensures.1
+    (λ fault e. probe_uncut c.args.words.now c.args.command 1 fault (done_carried c.args.words.now c.args.command c.in_ok-answer.answer.items c.in_ok-answer.after c.in_ok-answer.ensures)
+    (subst IsProbeFault (sym e) c.in_err-objects.ensures.asked))
+
+pub returns-in_err-cuts : goal.returns-in_err-cuts
+returns-in_err-cuts g c = passed_on _ _ c.from_residual-in_err-cuts.result c.from_residual-in_err-cuts.ensures.1
+    (λ fault e. subst (IsUncutFor c.args.words.now c.args.command 1) (sym e) c.in_err-cuts.ensures)
+
+pub returns-in_err-after : goal.returns-in_err-after
+returns-in_err-after g c = passed_on _ _ c.from_residual-in_err-after.result c.from_residual-in_err-after.ensures.1
+    (λ fault e. memory_uncut c.args.words.now c.args.command 1 fault e)

@@ -1,6 +1,7 @@
 -- What sessions come to.
 use Rattle.std.specs.Prelude.{ℕ, ◌≡◌, List, [], ◌∷◌}
-use Rattle.jc_memory.specs.State.{MemoryState, Effect, apply_effects}
+use Rattle.jc_heap.specs.Moves.{AddPackage}
+use Rattle.jc_memory.specs.State.{MemoryState, Effect, HeapMove, apply_effects}
 use Rattle.jc_memory.specs.Reading.{HasTracePrefix}
 use Rattle.jc_platform.specs.Tokens.{Tokens}
 use Rattle.jc_card.specs.Answers.{exchange}
@@ -38,6 +39,12 @@ pub record ComesWithin (t : Tokens) (card : CardState) (bytes : List ℕ) (es : 
 -- the memory behind these effects
 abbrev pub memory_at : CardState → List Effect → MemoryState
 memory_at card es = apply_effects es card.memory
+
+-- no package comes in by these effects
+abbrev pub AddNone : List Effect → Type 0
+AddNone [] = Unit {0}
+AddNone (HeapMove (AddPackage components arrays image) ∷ es) = ⊥
+AddNone (e ∷ es) = AddNone es
 
 -- each answer is down
 abbrev pub AreDown : List Answer → Type 0

@@ -1,0 +1,33 @@
+use Rattle.std.proofs.Common.{◌≡◌, ◌++◌, List, ℕ}
+use Rattle.std.specs.Prelude.{codes}
+use Rattle.jcard_objects.specs.ClassTexts.{kind_text}
+use Rattle.jcard_listing.specs.Objects.{value_text}
+use Rattle.jcard_listing.specs.Texts.{labelled_text}
+use Rattle.jcard_listing.proofs.Chains.{push_behind}
+use Rattle.jcard_listing.proofs.compared.push_change_line.Goals as goal
+
+pub returns : goal.returns
+returns g c =
+    let w : List ℕ = g.S.WordStore.words c.args.store.now in
+    let f = c.args.facts in
+    let old : List ℕ = c.args.text.now.items in
+    let one : List ℕ = c.push_labelled.new.text.items in
+    let two : List ℕ = c.push_kind.new.text.items in
+    let three : List ℕ = c.push_labelled-2.new.text.items in
+    let four : List ℕ = c.push_value.new.text.items in
+    let five : List ℕ = c.extend_from_slice.new.self.items in
+    let six : List ℕ = c.push_value-2.new.text.items in
+    let new : List ℕ = c.extend_from_slice-2.new.self.items in
+    let a : List ℕ = labelled_text (codes "@") c.args.at (codes " ") in
+    let b : List ℕ = kind_text c.args.platform.now w f.kind f.class in
+    let d : List ℕ = labelled_text (codes " [") c.args.i (codes "] ") in
+    let e : List ℕ = value_text f.kind c.args.one in
+    let h : List ℕ = codes ">" in
+    let k : List ℕ = value_text f.kind c.args.other in
+    let m : List ℕ = codes "\n" in
+    push_behind old one new a (b ++ (d ++ (e ++ (h ++ (k ++ m))))) c.in_ok-push_labelled.ensures
+    (push_behind one two new b (d ++ (e ++ (h ++ (k ++ m)))) (rw c.class.ensures at c.in_ok-push_kind.ensures)
+    (push_behind two three new d (e ++ (h ++ (k ++ m))) c.in_ok-push_labelled-2.ensures
+    (push_behind three four new e (h ++ (k ++ m)) c.in_ok-push_value.ensures
+    (push_behind four five new h (k ++ m) c.in_ok-extend_from_slice.ensures.items
+    (push_behind five six new k m c.in_ok-push_value-2.ensures c.in_ok-extend_from_slice-2.ensures.items)))))

@@ -1,0 +1,13 @@
+use Rattle.std.proofs.Common.{[], inl, inr, refl}
+use Rattle.jcard_script.proofs.Known.{appends_same}
+use Rattle.jcard_images.specs.Listings.{Lines}
+use Rattle.jcard_listing.proofs.comparison.tell_lines.Goals as goal
+
+pub returns-in-Ok-clause-told : goal.returns-in-Ok-clause-told
+returns-in-Ok-clause-told g c =
+    let l : Lines = record { text = c.in-Ok.listing.text.items; readable = c.in-Ok.listing.readable } in
+    let told = c.write_listing.ensures.told in
+    (told.0, told.1, inl (l, c.in-Ok.ensures, told.2))
+
+pub returns-in-Err-clause-told : goal.returns-in-Err-clause-told
+returns-in-Err-clause-told g c = ([], appends_same _, inr (refl, refl))

@@ -1,0 +1,337 @@
+//! The objects of two images, compared.
+ghost use Rattle.std.specs.Prelude.{◌≡◌, ◌≤◌, ◌++◌, ◌==◌, Some, None, true, length, slice_index, IfOk, OnOk};
+ghost use Rattle.jc_words.specs.Layout.{text_start};
+ghost use Rattle.jc_heap.specs.Object.{cells_of, event_number, kind_number};
+ghost use Rattle.jc_records.specs.Bounds.{has_bounds};
+ghost use Rattle.jc_records.specs.Places.{IsPlaceFor, IsStanding};
+ghost use Rattle.jc_records.specs.Records.{IsRecord, item_at, object_in};
+ghost use Rattle.jcard_listing.specs.Compared.{alone_text, beside_text, change_line, change_text, changes_text, compared_lines, compared_text, heap_lines, is_same, kept_text};
+ghost use Rattle.jcard_listing.specs.Fault.{Lists};
+ghost use Rattle.jcard_listing.specs.Objects.{is_told};
+ghost use Rattle.jcard_listing.specs.Pairs.{lines_of};
+
+use crate::fault::ListFault;
+use crate::listing::Listing;
+use crate::objects::{is_told, push_object, push_value};
+use crate::pairs::{Side, listing_by, push_end};
+use crate::texts::push_labelled;
+use jc_heap::{Facts, Kind};
+use jc_platform::platform::Platform;
+use jc_records::bounds::first_record;
+use jc_records::places::{Standing, first_place, standing_from};
+use jc_records::records::{cell_of, object_at, whole_size};
+use jc_transient::ClearEvent;
+use jc_words::WordStore;
+use jc_words::layout::TOP;
+use jcard_objects::class_texts::push_kind;
+use std::alloc::{AllocError, Global};
+
+/// Writes the cells that are not the same, and the objects that one image alone has, up to where one cannot be read. Those of the
+/// runtime environment are told where all are asked for.
+pub(crate) fn push_heaps<S: WordStore>(
+    alloc: Global,
+    text: &mut Vec<u8>,
+    platform: &Platform,
+    store: &S,
+    others: &Platform,
+    other: &S,
+    all: bool,
+) -> Result<(), ListFault>
+    requires bounds { has_bounds (S.words store.now) ≡ true }
+    requires other_bounds { has_bounds (S.words other.now) ≡ true }
+    ensures { Lists text.old.items text.new.items (heap_lines platform.now others.now
+        (S.words store.now) (S.words other.now) all) result }
+{
+    let first = compared(alloc, Side::One, platform, store, other, all)?;
+    let second = compared(alloc, Side::Other, others, other, store, all)?;
+    push_texts(text, &first.text, &second.text)?;
+    push_end(text, first.readable, second.readable)
+}
+
+// Writes two texts.
+fn push_texts(text: &mut Vec<u8>, first: &[u8], second: &[u8]) -> Result<(), AllocError>
+    ensures { OnOk result (text.new.items ≡ text.old.items ++ (first.now ++ second.now)) }
+{
+    text.extend_from_slice(first)?;
+    text.extend_from_slice(second)
+}
+
+// Lists the objects of an image beside the other one.
+fn compared<S: WordStore>(
+    alloc: Global,
+    side: Side,
+    platform: &Platform,
+    store: &S,
+    other: &S,
+    all: bool,
+) -> Result<Listing, AllocError>
+    requires bounds { has_bounds (S.words store.now) ≡ true }
+    requires other_bounds { has_bounds (S.words other.now) ≡ true }
+    ensures { IfOk result (λ found. lines_of found ≡ compared_lines side platform.now
+        (S.words store.now) (S.words other.now) all) }
+{
+    let mut text = Vec::new(alloc);
+    let told = push_compared(alloc, &mut text, side, platform, store, other, all);
+    listing_by(text, told)
+}
+
+// Writes them, up to the first record that lacks words.
+fn push_compared<S: WordStore>(
+    alloc: Global,
+    text: &mut Vec<u8>,
+    side: Side,
+    platform: &Platform,
+    store: &S,
+    other: &S,
+    all: bool,
+) -> Result<(), ListFault>
+    requires bounds { has_bounds (S.words store.now) ≡ true }
+    requires other_bounds { has_bounds (S.words other.now) ≡ true }
+    ensures { Lists text.old.items text.new.items (compared_lines side platform.now
+        (S.words store.now) (S.words other.now) all) result }
+{
+    let _ = store.size(); // so that the proof knows that there are fewer than 65,536 words
+    let top = store.read(TOP);
+    let mut place = first_place(other);
+    let mut at = first_record(store) as u16;
+    while at < top {
+        let Some(size) = whole_size(store, at, top) else {
+            return Err(ListFault::Unreadable);
+        };
+        push_item(
+            alloc, text, side, platform, store, other, &mut place, at, all,
+        )?;
+        at += size;
+    }
+    Ok(())
+}
+
+// Writes what is told of what stands at an address. The place is where the walk of the other image goes on.
+fn push_item<S: WordStore>(
+    alloc: Global,
+    text: &mut Vec<u8>,
+    side: Side,
+    platform: &Platform,
+    store: &S,
+    other: &S,
+    place: &mut u16,
+    at: u16,
+    all: bool,
+) -> Result<(), AllocError>
+    requires bounds { has_bounds (S.words store.now) ≡ true }
+    requires other_bounds { has_bounds (S.words other.now) ≡ true }
+    requires record { IsRecord (S.words store.now) at }
+    requires place { IsPlaceFor (S.words other.now) place.old at }
+    ensures told { OnOk result (text.new.items ≡ text.old.items ++ compared_text side platform.now
+        (S.words store.now) (S.words other.now) all (at, item_at (S.words store.now) at)) }
+    ensures place { IsPlaceFor (S.words other.now) place.new at }
+{
+    match object_at(store, at) {
+        Some(facts) if is_told(facts, all) => push_beside(
+            alloc,
+            text,
+            side,
+            platform,
+            store,
+            other,
+            at,
+            facts,
+            standing_from(other, place, at),
+        ),
+        _ => Ok(()),
+    }
+}
+
+// Writes what is told of an object, beside what begins at its address in the other image.
+fn push_beside<S: WordStore>(
+    alloc: Global,
+    text: &mut Vec<u8>,
+    side: Side,
+    platform: &Platform,
+    store: &S,
+    other: &S,
+    at: u16,
+    facts: Facts,
+    standing: Standing,
+) -> Result<(), AllocError>
+    requires bounds { has_bounds (S.words store.now) ≡ true }
+    requires other_bounds { has_bounds (S.words other.now) ≡ true }
+    requires object { IsStanding (S.words store.now) at (Standing.Object facts) }
+    requires standing { IsStanding (S.words other.now) at standing }
+    ensures { OnOk result (text.new.items ≡ text.old.items ++ beside_text side platform.now
+        (S.words store.now) (S.words other.now) at facts standing) }
+{
+    match standing {
+        Standing::Object(found) if is_same(facts, found) => {
+            push_kept(alloc, text, side, platform, store, other, at, facts, found)
+        }
+        Standing::Unread => Ok(()),
+        _ => push_alone(alloc, text, side, platform, store, at, facts),
+    }
+}
+
+// Whether two headers say the same.
+fn is_same(facts: Facts, found: Facts) -> bool
+    ensures { result ≡ is_same facts found }
+{
+    facts.length == found.length
+        && kind_number(facts.kind) == kind_number(found.kind)
+        && event_number(facts.event) == event_number(found.event)
+        && facts.class() == found.class()
+        && facts.owner() == found.owner()
+        && facts.place == found.place
+}
+
+// A kind as a number of the image.
+fn kind_number(kind: Kind) -> u16
+    ensures { result ≡ kind_number kind }
+{
+    match kind {
+        Kind::Instance => 1,
+        Kind::BooleanArray => 2,
+        Kind::ByteArray => 3,
+        Kind::ShortArray => 4,
+        Kind::ReferenceArray => 5,
+    }
+}
+
+// What clears an object, as a number of the image.
+fn event_number(event: Option<ClearEvent>) -> u16
+    ensures { result ≡ event_number event }
+{
+    match event {
+        None => 0,
+        Some(ClearEvent::Reset) => 1,
+        Some(ClearEvent::Deselect) => 2,
+    }
+}
+
+// Writes an object that one image alone has.
+fn push_alone<S: WordStore>(
+    alloc: Global,
+    text: &mut Vec<u8>,
+    side: Side,
+    platform: &Platform,
+    store: &S,
+    at: u16,
+    facts: Facts,
+) -> Result<(), AllocError>
+    requires bounds { has_bounds (S.words store.now) ≡ true }
+    requires object { IsStanding (S.words store.now) at (Standing.Object facts) }
+    ensures { OnOk result (text.new.items ≡ text.old.items
+        ++ alone_text side platform.now (S.words store.now) at facts) }
+{
+    text.extend_from_slice(side.sign())?;
+    push_object(alloc, text, platform, store, at, facts)
+}
+
+// Writes the cells that are not the same of an object that both images have, for the first of them.
+fn push_kept<S: WordStore>(
+    alloc: Global,
+    text: &mut Vec<u8>,
+    side: Side,
+    platform: &Platform,
+    store: &S,
+    other: &S,
+    at: u16,
+    facts: Facts,
+    found: Facts,
+) -> Result<(), AllocError>
+    requires bounds { has_bounds (S.words store.now) ≡ true }
+    requires other_bounds { has_bounds (S.words other.now) ≡ true }
+    requires object { IsStanding (S.words store.now) at (Standing.Object facts) }
+    requires found { IsStanding (S.words other.now) at (Standing.Object found) }
+    requires length { facts.length ≡ found.length }
+    ensures { OnOk result (text.new.items ≡ text.old.items ++ kept_text side platform.now
+        (S.words store.now) (S.words other.now) at facts found) }
+{
+    match side {
+        Side::One if facts.event.is_none() && found.event.is_none() => {
+            push_changes(alloc, text, platform, store, other, at, facts, found)
+        }
+        _ => Ok(()),
+    }
+}
+
+// Writes those of a persistent object.
+fn push_changes<S: WordStore>(
+    alloc: Global,
+    text: &mut Vec<u8>,
+    platform: &Platform,
+    store: &S,
+    other: &S,
+    at: u16,
+    facts: Facts,
+    found: Facts,
+) -> Result<(), AllocError>
+    requires bounds { has_bounds (S.words store.now) ≡ true }
+    requires other_bounds { has_bounds (S.words other.now) ≡ true }
+    requires object { IsStanding (S.words store.now) at (Standing.Object facts) }
+    requires found { IsStanding (S.words other.now) at (Standing.Object found) }
+    requires length { facts.length ≡ found.length }
+    requires persistent { (facts.event ≡ None) × (found.event ≡ None) }
+    ensures { OnOk result (text.new.items ≡ text.old.items ++ changes_text platform.now
+        (S.words store.now) (S.words other.now) at facts None None) }
+{
+    for i in 0..facts.length {
+        push_change(
+            alloc,
+            text,
+            platform,
+            store,
+            at,
+            facts,
+            i,
+            cell_of(store, at, facts, i),
+            cell_of(other, at, found, i),
+        )?;
+    }
+    Ok(())
+}
+
+// Writes a cell, if it is not the same.
+fn push_change<S: WordStore>(
+    alloc: Global,
+    text: &mut Vec<u8>,
+    platform: &Platform,
+    store: &S,
+    at: u16,
+    facts: Facts,
+    i: u16,
+    one: u16,
+    other: u16,
+) -> Result<(), AllocError>
+    requires { text_start ≤ length (S.words store.now) }
+    ensures { OnOk result (text.new.items ≡ text.old.items
+        ++ change_text platform.now (S.words store.now) at facts i one other) }
+{
+    if one == other {
+        return Ok(());
+    }
+    push_change_line(alloc, text, platform, store, at, facts, i, one, other)
+}
+
+fn push_change_line<S: WordStore>(
+    alloc: Global,
+    text: &mut Vec<u8>,
+    platform: &Platform,
+    store: &S,
+    at: u16,
+    facts: Facts,
+    i: u16,
+    one: u16,
+    other: u16,
+) -> Result<(), AllocError>
+    requires { text_start ≤ length (S.words store.now) }
+    ensures { OnOk result (text.new.items ≡ text.old.items
+        ++ change_line platform.now (S.words store.now) at facts i one other) }
+{
+    push_labelled(text, b"@", at, b" ")?;
+    push_kind(alloc, text, platform, store, facts.kind, facts.class())?;
+    push_labelled(text, b" [", i, b"] ")?;
+    push_value(alloc, text, facts.kind, one)?;
+    text.extend_from_slice(b">")?;
+    push_value(alloc, text, facts.kind, other)?;
+    text.extend_from_slice(b"\n")?;
+    Ok(())
+}

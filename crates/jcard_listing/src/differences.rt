@@ -1,0 +1,225 @@
+//! All that is not the same in two images.
+ghost use Rattle.std.specs.Prelude.{◌≡◌, Err, Some, true, IfOk};
+ghost use Rattle.jc_words.specs.Image.{HasSize};
+ghost use Rattle.jc_records.specs.Bounds.{has_bounds};
+ghost use Rattle.jcard_images.specs.Listings.{line_if};
+ghost use Rattle.jcard_listing.specs.Areas.{areas_line};
+ghost use Rattle.jcard_listing.specs.Differences.{AreDifferences, AreToldTo, IsContentTold, area_lines, content_lines, named_lines, placed_lines};
+ghost use Rattle.jcard_listing.specs.Fault.{Lists};
+ghost use Rattle.jcard_listing.specs.Listing.{IsTableOf};
+ghost use Rattle.jcard_listing.specs.Pairs.{end_lines, lines_of};
+
+use crate::areas::push_areas;
+use crate::compared::push_heaps;
+use crate::fault::ListFault;
+use crate::listing::Listing;
+use crate::pairs::{listing_by, push_end, push_pair};
+use crate::parts::{Part, push_part};
+use crate::table::platform_of;
+use jc_platform::platform::Platform;
+use jc_words::WordStore;
+use std::alloc::{AllocError, Global};
+
+/// Lists what is not the same in two images, as their words stand: the lines that one alone has, and the cells of objects that both
+/// have. It ends at the first that cannot be read in one. The objects of the runtime environment are compared where all are
+/// asked for.
+pub fn differences_of<S: WordStore>(
+    alloc: Global,
+    store: &S,
+    other: &S,
+    all: bool,
+) -> Result<Listing, AllocError>
+    requires size { HasSize (S.words store.now) }
+    requires other_size { HasSize (S.words other.now) }
+    ensures { IfOk result (λ found. AreDifferences (S.words store.now) (S.words other.now) all
+        (lines_of found)) }
+{
+    let mut text = Vec::new(alloc);
+    match push_differences(alloc, &mut text, store, other, all) {
+        Ok(()) => Ok(Listing {
+            text,
+            readable: true,
+        }),
+        Err(ListFault::Unreadable) => Ok(Listing {
+            text,
+            readable: false,
+        }),
+        Err(ListFault::NoMemory) => Err(AllocError),
+    }
+}
+
+// Writes the lines.
+fn push_differences<S: WordStore>(
+    alloc: Global,
+    text: &mut Vec<u8>,
+    store: &S,
+    other: &S,
+    all: bool,
+) -> Result<(), ListFault>
+    requires size { HasSize (S.words store.now) }
+    requires other_size { HasSize (S.words other.now) }
+    ensures { AreToldTo (S.words store.now) (S.words other.now) all text.old.items text.new.items
+        result }
+{
+    push_area_pair(alloc, text, store, other)?;
+    push_content(alloc, text, store, other, all)
+}
+
+// Writes the lines of the heaps' ends.
+fn push_area_pair<S: WordStore>(
+    alloc: Global,
+    text: &mut Vec<u8>,
+    store: &S,
+    other: &S,
+) -> Result<(), ListFault>
+    requires size { HasSize (S.words store.now) }
+    requires other_size { HasSize (S.words other.now) }
+    ensures { Lists text.old.items text.new.items
+        (area_lines (S.words store.now) (S.words other.now)) result }
+{
+    let one = areas_of(alloc, store)?;
+    let second = areas_of(alloc, other)?;
+    push_pair(text, &one, &second)
+}
+
+// Lists the line of a heap's end.
+fn areas_of<S: WordStore>(alloc: Global, store: &S) -> Result<Listing, AllocError>
+    requires { HasSize (S.words store.now) }
+    ensures { IfOk result (λ found. lines_of found ≡ line_if (areas_line (S.words store.now))) }
+{
+    let mut text = Vec::new(alloc);
+    let told = push_areas(&mut text, store);
+    listing_by(text, told)
+}
+
+// Writes the lines behind those of the heaps' ends.
+fn push_content<S: WordStore>(
+    alloc: Global,
+    text: &mut Vec<u8>,
+    store: &S,
+    other: &S,
+    all: bool,
+) -> Result<(), ListFault>
+    requires size { HasSize (S.words store.now) }
+    requires bounds { has_bounds (S.words store.now) ≡ true }
+    requires other_size { HasSize (S.words other.now) }
+    requires other_bounds { has_bounds (S.words other.now) ≡ true }
+    ensures { IsContentTold (S.words store.now) (S.words other.now) all text.old.items
+        text.new.items result }
+{
+    match platform_of(alloc, store) {
+        Ok(platform) => push_beside_table(alloc, text, &platform, store, other, all),
+        Err(fault) => push_no_table(text, false, true, fault),
+    }
+}
+
+// Writes them, where the first image has this platform.
+fn push_beside_table<S: WordStore>(
+    alloc: Global,
+    text: &mut Vec<u8>,
+    platform: &Platform,
+    store: &S,
+    other: &S,
+    all: bool,
+) -> Result<(), ListFault>
+    requires size { HasSize (S.words store.now) }
+    requires bounds { has_bounds (S.words store.now) ≡ true }
+    requires table { IsTableOf (S.words store.now) (Some platform.now) }
+    requires other_size { HasSize (S.words other.now) }
+    requires other_bounds { has_bounds (S.words other.now) ≡ true }
+    ensures { IsContentTold (S.words store.now) (S.words other.now) all text.old.items
+        text.new.items result }
+{
+    match platform_of(alloc, other) {
+        Ok(others) => push_lines(alloc, text, platform, store, &others, other, all),
+        Err(fault) => push_no_table(text, true, false, fault),
+    }
+}
+
+// Writes which image has no table, unless memory was refused.
+fn push_no_table(
+    text: &mut Vec<u8>,
+    one: bool,
+    other: bool,
+    fault: ListFault,
+) -> Result<(), ListFault>
+    ensures told { Lists text.old.items text.new.items (end_lines one other) result }
+    ensures memory { fault ≡ ListFault.NoMemory → result ≡ Err ListFault.NoMemory }
+{
+    match fault {
+        ListFault::Unreadable => push_end(text, one, other),
+        ListFault::NoMemory => Err(ListFault::NoMemory),
+    }
+}
+
+// Writes them for images with these platforms.
+fn push_lines<S: WordStore>(
+    alloc: Global,
+    text: &mut Vec<u8>,
+    platform: &Platform,
+    store: &S,
+    others: &Platform,
+    other: &S,
+    all: bool,
+) -> Result<(), ListFault>
+    requires size { HasSize (S.words store.now) }
+    requires bounds { has_bounds (S.words store.now) ≡ true }
+    requires other_size { HasSize (S.words other.now) }
+    requires other_bounds { has_bounds (S.words other.now) ≡ true }
+    ensures { Lists text.old.items text.new.items (content_lines platform.now others.now
+        (S.words store.now) (S.words other.now) all) result }
+{
+    push_named(alloc, text, platform, store, others, other)?;
+    push_placed(alloc, text, platform, store, others, other)?;
+    push_heaps(alloc, text, platform, store, others, other, all)
+}
+
+// Writes the lines that name what is there.
+fn push_named<S: WordStore>(
+    alloc: Global,
+    text: &mut Vec<u8>,
+    platform: &Platform,
+    store: &S,
+    others: &Platform,
+    other: &S,
+) -> Result<(), ListFault>
+    requires size { HasSize (S.words store.now) }
+    requires bounds { has_bounds (S.words store.now) ≡ true }
+    requires other_size { HasSize (S.words other.now) }
+    requires other_bounds { has_bounds (S.words other.now) ≡ true }
+    ensures { Lists text.old.items text.new.items (named_lines platform.now others.now
+        (S.words store.now) (S.words other.now)) result }
+{
+    push_part(alloc, text, Part::Sizes, platform, store, others, other)?;
+    push_part(alloc, text, Part::Packages, platform, store, others, other)?;
+    push_part(alloc, text, Part::Applets, platform, store, others, other)
+}
+
+// Writes the lines that tell where it stands.
+fn push_placed<S: WordStore>(
+    alloc: Global,
+    text: &mut Vec<u8>,
+    platform: &Platform,
+    store: &S,
+    others: &Platform,
+    other: &S,
+) -> Result<(), ListFault>
+    requires size { HasSize (S.words store.now) }
+    requires bounds { has_bounds (S.words store.now) ≡ true }
+    requires other_size { HasSize (S.words other.now) }
+    requires other_bounds { has_bounds (S.words other.now) ≡ true }
+    ensures { Lists text.old.items text.new.items (placed_lines platform.now others.now
+        (S.words store.now) (S.words other.now)) result }
+{
+    push_part(alloc, text, Part::Entries, platform, store, others, other)?;
+    push_part(alloc, text, Part::Records, platform, store, others, other)?;
+    push_part(
+        alloc,
+        text,
+        Part::Registrations,
+        platform,
+        store,
+        others,
+        other,
+    )
+}

@@ -1,0 +1,72 @@
+-- Why a command was not cut.
+use Rattle.std.proofs.Common.{◌≡◌, ◌⊎◌, ◌++◌, ◌+◌, ◌*◌, ◌<◌, ◌≤◌, ℕ, zero, suc, List, [], ◌∷◌, Option, Result, Ok, Err, IsErrAnd, MatchResult, length, refl, sym, subst, inl, inr, arith}
+use Rattle.std.proofs.Math.Nat.{mul-suc, suc-mul}
+use Rattle.jc_objects.specs.declared.image_objects.ImageObjects.{ImageObjects}
+use Rattle.jcard_outcomes.specs.declared.standing.Cut.{Cut}
+use Rattle.jcard_outcomes.specs.declared.standing.Left.{Left}
+use Rattle.jcard_tear.specs.Faults.{IsCarriedOut, IsCutPast, IsProbeFault, IsScriptFor, IsUncutFor, told_run_fault}
+use Rattle.jcard_tear.specs.Parts.{AreEvery}
+use Rattle.jcard_tear.specs.Runs.{IsRunFault}
+use Rattle.jcard_tear.specs.Sweeps.{AreCuts, IsDone}
+use Rattle.jcard_tear.specs.declared.cuts.Command.{Command}
+use Rattle.jcard_tear.specs.declared.runs.RunFault.{RunFault}
+use Rattle.jcard_tear.specs.declared.runs.RunFault.TheVariants as run
+use Rattle.jcard_tear.specs.declared.tearing.TearFault.{TearFault}
+use Rattle.jcard_tear.specs.declared.tearing.TearFault.TheVariants.{NoMemory, Probe}
+
+-- memory was refused
+pub memory_uncut : (words : List ℕ) (c : Command) (step : ℕ) (fault : TearFault) → fault ≡ NoMemory → IsUncutFor words c step fault
+memory_uncut words c step fault e = subst (λ (f : TearFault). IsUncutFor words c step f) (sym e) tt
+
+-- a script was not carried out to its end
+pub run_uncut : (words : List ℕ) (c : Command) (step : ℕ) (script : List ℕ) (cause : RunFault) (fault : TearFault) → IsScriptFor c script
+    → IsRunFault words script cause → fault ≡ told_run_fault cause → IsUncutFor words c step fault
+run_uncut words c step script run.NoMemory fault for is e = memory_uncut words c step fault e
+run_uncut words c step script (run.Script x) fault for is e = subst (λ (f : TearFault). IsUncutFor words c step f) (sym e) (script, for, is)
+
+-- a recovery or the probe behind it was not
+pub probe_uncut : (words : List ℕ) (c : Command) (step : ℕ) (fault : TearFault) → IsCarriedOut words c → IsProbeFault fault → IsUncutFor words c step fault
+probe_uncut words c step NoMemory done is = tt
+probe_uncut words c step (Probe x) done is = done
+probe_uncut words c step other done is = absurd is
+
+-- a command that was done was carried out
+pub done_carried : (words : List ℕ) (c : Command) (answer : List ℕ) (left : Left) → IsDone words c answer left → IsCarriedOut words c
+done_carried words c answer left done = (c.before.now ++ c.line.now, done.0, done.1, inr (inl refl), done.2)
+
+-- a `?` passes on what is known of the cause
+pub passed_on : {A F : Type 0} (P : A → Type 0) {Q : F → Type 0} (R : F → Type 0) (r : Result A F) → IsErrAnd r Q → ((fault : F) → Q fault → R fault) → MatchResult r P R
+passed_on P R (Ok x) is to = absurd is
+passed_on P R (Err fault) is to = to fault is
+
+-- memory was refused for a recovery or the probe
+pub memory_probed : (fault : TearFault) → fault ≡ NoMemory → IsProbeFault fault
+memory_probed fault e = subst IsProbeFault (sym e) tt
+
+-- ---- too many cuts
+
+-- of all cuts up to the most the last is past them
+pub cuts_past : (words : List ℕ) (c : Command) (spared : List ℕ) (objects : Option ImageObjects) (before after : Left) (k : ℕ) (cuts : List Cut)
+    → AreCuts words c spared objects before after k cuts → 0 < length cuts → 65535 ≤ k + length cuts → IsCutPast words c 1
+unfolding AreCuts
+cuts_past words c spared objects before after k [] a some most = absurd (omega (arith, some))
+cuts_past words c spared objects before after k (x ∷ []) a some most = (k, a.0.0, x.recoveries, a.0.1, inl (omega (arith, most)))
+cuts_past words c spared objects before after k (x ∷ y ∷ ys) a some most =
+    cuts_past words c spared objects before after (k + 1) (y ∷ ys) a.1 (omega arith) (omega (arith, most))
+
+-- the last of each n-th cut is past the most, if the next one would be
+pub every_past : (words : List ℕ) (c : Command) (spared : List ℕ) (objects : Option ImageObjects) (before after : Left) (k n : ℕ) (cuts : List Cut)
+    → AreEvery words c spared objects before after k n cuts → 0 < length cuts → (65535 ≤ k + n * length cuts) ⊎ (n ≡ 0) → IsCutPast words c n
+unfolding AreEvery
+every_past words c spared objects before after k n [] a some most = absurd (omega (arith, some))
+every_past words c spared objects before after k n (x ∷ []) a some (inl most) = (k, a.0.0, x.recoveries, a.0.1, inl (omega (arith, most)))
+every_past words c spared objects before after k n (x ∷ []) a some (inr none) = (k, a.0.0, x.recoveries, a.0.1, inr none)
+every_past words c spared objects before after k n (x ∷ y ∷ ys) a some (inl most) =
+    every_past words c spared objects before after (k + n) n (y ∷ ys) a.1 (omega arith) (inl (omega (arith, mul-suc n (length (y ∷ ys)), most)))
+every_past words c spared objects before after k n (x ∷ y ∷ ys) a some (inr none) =
+    every_past words c spared objects before after (k + n) n (y ∷ ys) a.1 (omega arith) (inr none)
+
+-- a step as often as cuts are counted comes past them, if it is one
+pub steps_past : (first n m : ℕ) → 65535 ≤ m → (65535 ≤ first + n * m) ⊎ (n ≡ 0)
+steps_past first zero m h = inr refl
+steps_past first (suc n) m h = inl (omega (arith, suc-mul n m, h))

@@ -1,0 +1,16 @@
+use Rattle.std.proofs.Common.{◌∙◌, ap, sym, refl, inl, subst}
+use Rattle.std.proofs.lemmas.Result.{MatchResult-weaker}
+use Rattle.jcard_tear.specs.Runs.{IsLeft}
+use Rattle.jcard_tear.proofs.Uncut.{passed_on, probe_uncut, run_uncut}
+use Rattle.jcard_tear.proofs.tearing.begun.Goals as goal
+
+pub returns-in_err-ran : goal.returns-in_err-ran
+returns-in_err-ran c = passed_on _ _ c.from_residual.result c.from_residual.ensures.1
+    (λ fault e step. run_uncut c.args.words.now c.args.command step c.args.command.before.now c.in_err-ran.field-0.0 fault (inl refl) c.in_err-ran.ensures.ran e)
+
+pub returns : goal.returns
+returns c =
+    let ran = c.in_ok-ran.ensures.ran in
+    MatchResult-weaker c.left_by_probe.result c.left_by_probe.ensures
+    (λ left is. (c.in_ok-ran.ran.text.items, ran.0, ran.1, subst (λ w. IsLeft w c.args.command.probe.now left) ran.2 is))
+    (λ fault is step. probe_uncut c.args.words.now c.args.command step fault (_, c.in_ok-ran.ran.text.items, ran.0, inl refl, ran.1) is)

@@ -1,0 +1,115 @@
+//! The first line: what kept a command from being answered by 9000, and in which method of the applet.
+
+use crate::explanation::Asked;
+use crate::places::push_package;
+use crate::reasons::reason_name;
+use crate::statuses::status_text;
+use crate::text::Text;
+use jc_linker::linked::Linked;
+use jc_memory::{Cause, FaultKind, Phase};
+use jc_objects::class_names::class_name;
+use jc_platform::names::PlatformClass;
+use jc_transient::ClassWord;
+use std::alloc::AllocError;
+
+/// Adds the cause.
+pub(crate) fn push_cause(text: &mut Text, asked: &Asked<'_>) -> Result<(), AllocError> {
+    let phase = asked.note.phase;
+    match asked.note.cause {
+        Cause::Nothing => text.push(own_answer(asked.status, phase)),
+        Cause::Exception(class, reason) => {
+            push_exception(text, class, reason, asked.linked)?;
+            push_phase(text, phase)
+        }
+        Cause::Fault(kind) => {
+            text.push(b"code fault")?;
+            push_phase(text, phase)?;
+            text.push(b": ")?;
+            text.push(fault_text(kind))
+        }
+    }
+}
+
+// Why the runtime environment answers so by itself: behind a method of the applet that returned, or without one.
+const fn own_answer(status: u16, phase: Option<Phase>) -> &'static [u8] {
+    match (status, phase) {
+        (0x6999, Some(Phase::Select)) => b"select answered false",
+        (0x6985, Some(Phase::Install)) => b"install returned without having registered an instance",
+        (0x6F00, _) => b"code fault before the first instruction",
+        _ => status_text(status),
+    }
+}
+
+fn push_phase(text: &mut Text, phase: Option<Phase>) -> Result<(), AllocError> {
+    let Some(phase) = phase else {
+        return Ok(());
+    };
+    text.push(b" in ")?;
+    text.push(match phase {
+        Phase::Install => b"install".as_slice(),
+        Phase::Select => b"select".as_slice(),
+        Phase::Deselect => b"deselect".as_slice(),
+        Phase::Process => b"process".as_slice(),
+        Phase::RunCode => b"run code".as_slice(),
+    })
+}
+
+fn push_exception(
+    text: &mut Text,
+    class: ClassWord,
+    reason: Option<i16>,
+    linked: &Linked,
+) -> Result<(), AllocError> {
+    let named = linked.platform().class_by_word(class);
+    push_class(text, class, named, linked)?;
+    let Some(reason) = reason else {
+        return Ok(());
+    };
+    text.push(b" with reason ")?;
+    text.push_hex(&reason.to_be_bytes())?;
+    match named.and_then(|named| reason_name(named, reason)) {
+        Some(name) => {
+            text.push(b" (")?;
+            text.push(name)?;
+            text.push(b")")
+        }
+        None => Ok(()),
+    }
+}
+
+// A class of the platform by its name, another by its package's AID and its number there.
+fn push_class(
+    text: &mut Text,
+    class: ClassWord,
+    named: Option<PlatformClass>,
+    linked: &Linked,
+) -> Result<(), AllocError> {
+    if let Some(named) = named {
+        return text.push(class_name(named));
+    }
+    push_package(text, (class.0 / 256) as u8, linked)?;
+    text.push(b".")?;
+    text.push_number(u32::from(class.0 % 256))
+}
+
+const fn fault_text(kind: FaultKind) -> &'static [u8] {
+    match kind {
+        FaultKind::NoInstruction => b"no instruction stands here, or it is cut",
+        FaultKind::NotLent => b"run code has no such instruction",
+        FaultKind::EmptyStack => b"a cell is taken from the empty stack",
+        FaultKind::FullStack => b"the stack is full",
+        FaultKind::WrongKind => b"a cell of the wrong kind",
+        FaultKind::NoLocal => b"no such local",
+        FaultKind::JumpOutside => b"a jump outside the method",
+        FaultKind::NoObject => b"no object stands behind the reference",
+        FaultKind::NoMember => b"the constant pool has no such field, method or class here",
+        FaultKind::WrongClass =>
+            b"the object is not of the class or kind that the instruction wants",
+        FaultKind::WrongArguments => b"the arguments are not those of the method",
+        FaultKind::NoMethod => b"the method is abstract or cut, or the object's class has none",
+        FaultKind::TooManyFrames => b"33rd frame",
+        FaultKind::TooManyCells => b"513th cell",
+        FaultKind::TooManyInstructions => b"100,001st instruction",
+        FaultKind::Other => b"the instruction cannot use what it is given",
+    }
+}

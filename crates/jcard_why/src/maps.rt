@@ -1,0 +1,68 @@
+//! Maps of methods: lines that name the methods of packages.
+ghost use Rattle.std.specs.Prelude.{◌≡◌, ◌<◌, ◌==◌, [], ◌∷◌, length, MatchOption, IfSome, None, Some};
+ghost use Rattle.std.specs.List.{slice_split};
+ghost use Rattle.jcard_why.specs.Maps.{behind, is_of, name_at, named_by};
+
+/// The name that a map has of the method at an offset of a package's Method component. The package is told by its AID in
+/// hexadecimal digits, which a line `package AID` of the map has to spell the same, and the offset in decimal ones.
+pub fn name_at<'a>(map: &'a [u8], aid: &[u8], offset: &[u8]) -> Option<&'a [u8]>
+    ensures { MatchOption result (name_at map.now aid.now offset.now ≡ None)
+        (λ name. name_at map.now aid.now offset.now ≡ Some name.now) }
+{
+    let mut rest = map;
+    let mut is_inside = false;
+    while let Some((line, more)) = split_line(rest) {
+        if is_inside {
+            if let Some(name) = named_by(line, offset) {
+                return Some(name);
+            }
+        }
+        is_inside = is_of(line, is_inside, aid);
+        rest = more;
+    }
+    if is_inside {
+        return named_by(rest, offset);
+    }
+    None
+}
+
+// The first line of a text and what follows; none where no line feed ends it.
+fn split_line(text: &[u8]) -> Option<(&[u8], &[u8])>
+    ensures parts { MatchOption result
+        (slice_split (λ b. b == 10) text.now ≡ text.now ∷ [])
+        (λ r. slice_split (λ b. b == 10) text.now
+        ≡ r.0.now ∷ slice_split (λ b. b == 10) r.1.now) }
+    ensures shorter { IfSome result (λ r. length r.1.now < length text.now) }
+{
+    let at = text.iter().position(|byte| *byte == b'\n')?;
+    Some((&text[..at], &text[at + 1..]))
+}
+
+// What stands behind a word with which a line begins.
+fn behind<'a>(line: &'a [u8], word: &[u8]) -> Option<&'a [u8]>
+    ensures { MatchOption result (behind word.now line.now ≡ None)
+        (λ more. behind word.now line.now ≡ Some more.now) }
+{
+    line.strip_prefix(word)
+}
+
+// The name in a line `OFFSET NAME`.
+fn named_by<'a>(line: &'a [u8], offset: &[u8]) -> Option<&'a [u8]>
+    ensures { MatchOption result (named_by offset.now line.now ≡ None)
+        (λ name. named_by offset.now line.now ≡ Some name.now) }
+{
+    let Some(more) = behind(line, offset) else {
+        return None;
+    };
+    behind(more, b" ")
+}
+
+// Whether what follows a line is of the package.
+fn is_of(line: &[u8], before: bool, aid: &[u8]) -> bool
+    ensures { result ≡ is_of aid.now before line.now }
+{
+    match behind(line, b"package ") {
+        Some(other) => other == aid,
+        None => before,
+    }
+}

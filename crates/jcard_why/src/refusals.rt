@@ -1,0 +1,143 @@
+//! What was refused: by the firewall, for want of room, or as a package was loaded.
+
+use crate::explanation::Asked;
+use crate::places::push_context;
+use crate::text::Text;
+use jc_firewall::access::Access;
+use jc_linker::linked::Linked;
+use jc_memory::{Cause, Denial, RefusedLoad, Shortage, Space};
+use jc_platform::names::PlatformClass;
+use std::alloc::AllocError;
+
+/// The status word of a component that ends too early.
+const TRUNCATED: u16 = 0x6401;
+
+/// The number in place of an entry's where it is none of the constant pool.
+const NO_ENTRY: u16 = 65_535;
+
+/// Adds a line for each of what was refused.
+pub(crate) fn push_refusals(text: &mut Text, asked: &Asked<'_>) -> Result<(), AllocError> {
+    push_denial(text, asked)?;
+    if let Some(shortage) = asked.note.shortage {
+        push_shortage(text, shortage)?;
+    }
+    match &asked.note.refused_load {
+        Some(refused) => push_load(text, refused, asked.status),
+        None => Ok(()),
+    }
+}
+
+// The firewall's refusal, where that is what was thrown.
+fn push_denial(text: &mut Text, asked: &Asked<'_>) -> Result<(), AllocError> {
+    let Some(denial) = asked.note.denial else {
+        return Ok(());
+    };
+    if throws_security(asked.note.cause, asked.linked) {
+        return push_rule(text, denial, asked);
+    }
+    Ok(())
+}
+
+// What was thrown is a SecurityException.
+fn throws_security(cause: Cause, linked: &Linked) -> bool {
+    match cause {
+        Cause::Exception(class, _) => {
+            linked.platform().class_by_word(class) == Some(PlatformClass::SecurityException)
+        }
+        _ => false,
+    }
+}
+
+fn push_rule(text: &mut Text, denial: Denial, asked: &Asked<'_>) -> Result<(), AllocError> {
+    text.push(b"  firewall rule ")?;
+    text.push_number(u32::from(denial.rule.number()))?;
+    text.push(b": ")?;
+    text.push(access_text(denial.access))?;
+    text.push(b", by code of ")?;
+    push_context(text, denial.active, asked.linked)?;
+    text.push(b", the object is of ")?;
+    push_context(text, denial.owner, asked.linked)?;
+    text.push(b"\n")
+}
+
+const fn access_text(access: Access) -> &'static [u8] {
+    match access {
+        Access::StaticField => b"access to a static field",
+        Access::ArrayElement => b"access to an array",
+        Access::InstanceField => b"access to an instance field",
+        Access::VirtualCall => b"call of a virtual method",
+        Access::StandardInterfaceCall => b"call of an interface that is not shareable",
+        Access::ShareableInterfaceCall => b"call of a shareable interface",
+        Access::Throw => b"throw",
+        Access::CastToClass => b"cast to a class or an array type",
+        Access::CastToStandardInterface => b"cast to an interface that is not shareable",
+        Access::CastToShareableInterface => b"cast to a shareable interface",
+        Access::StoreReference => b"store of a reference",
+    }
+}
+
+fn push_shortage(text: &mut Text, shortage: Shortage) -> Result<(), AllocError> {
+    text.push(b"  asked for ")?;
+    match shortage.space {
+        Space::Heap => text.push_count(shortage.asked, b"word")?,
+        Space::ResetArea | Space::DeselectArea => text.push_count(shortage.asked, b"cell")?,
+        Space::Transaction => text.push_count(shortage.asked, b"place")?,
+    }
+    text.push(space_text(shortage.space))?;
+    text.push_number(shortage.left)?;
+    text.push(b" left\n")
+}
+
+const fn space_text(space: Space) -> &'static [u8] {
+    match space {
+        Space::Heap => b" of the heap, ",
+        Space::ResetArea => b" that a reset clears, ",
+        Space::DeselectArea => b" that a deselection clears, ",
+        Space::Transaction => b" of the transaction, ",
+    }
+}
+
+fn push_load(text: &mut Text, refused: &RefusedLoad, status: u16) -> Result<(), AllocError> {
+    match refused {
+        RefusedLoad::Component { tag, offset } => {
+            text.push(b"  component ")?;
+            text.push_number(u32::from(*tag))?;
+            text.push(if status == TRUNCATED {
+                b", which ends at offset ".as_slice()
+            } else {
+                b", wrong at offset ".as_slice()
+            })?;
+            text.push_number(u32::from(*offset))?;
+            text.push(b" from its tag")?;
+        }
+        RefusedLoad::Entry {
+            entry,
+            package,
+            class,
+            token,
+        } => {
+            push_entry(text, *entry)?;
+            text.push(b": package ")?;
+            text.push_hex(package.as_slice())?;
+            push_token(text, b", class ", *class)?;
+            push_token(text, b", token ", *token)?;
+        }
+    }
+    text.push(b"\n")
+}
+
+fn push_entry(text: &mut Text, entry: u16) -> Result<(), AllocError> {
+    if entry == NO_ENTRY {
+        return text.push(b"  a class");
+    }
+    text.push(b"  entry ")?;
+    text.push_number(u32::from(entry))
+}
+
+fn push_token(text: &mut Text, word: &[u8], token: Option<u8>) -> Result<(), AllocError> {
+    let Some(token) = token else {
+        return Ok(());
+    };
+    text.push(word)?;
+    text.push_number(u32::from(token))
+}

@@ -1,0 +1,54 @@
+//! A text that grows.
+
+use itoa::Buffer;
+use std::alloc::{AllocError, Global};
+
+/// A text that grows.
+#[derive(Drop)]
+pub(crate) struct Text {
+    alloc: Global,
+    bytes: Vec<u8>,
+}
+
+impl Text {
+    /// An empty text.
+    pub(crate) fn new(alloc: Global) -> Text {
+        Text {
+            alloc,
+            bytes: Vec::new(alloc),
+        }
+    }
+
+    /// Its bytes.
+    pub(crate) fn into_bytes(self) -> Vec<u8> {
+        self.bytes
+    }
+
+    /// Adds words.
+    pub(crate) fn push(&mut self, words: &[u8]) -> Result<(), AllocError> {
+        self.bytes.extend_from_slice(words)
+    }
+
+    /// Adds a number in decimal digits.
+    pub(crate) fn push_number(&mut self, number: u32) -> Result<(), AllocError> {
+        let mut digits = Buffer::new();
+        self.push(digits.format(number).as_bytes())
+    }
+
+    /// Adds a number of things, of which one is named so: behind another number than 1 it ends by s.
+    pub(crate) fn push_count(&mut self, number: u32, thing: &[u8]) -> Result<(), AllocError> {
+        self.push_number(number)?;
+        self.push(b" ")?;
+        self.push(thing)?;
+        if number == 1 {
+            return Ok(());
+        }
+        self.push(b"s")
+    }
+
+    /// Adds bytes in upper case hexadecimal digits.
+    pub(crate) fn push_hex(&mut self, bytes: &[u8]) -> Result<(), AllocError> {
+        let digits = hex::encode_upper(self.alloc, bytes)?;
+        self.push(digits.as_bytes())
+    }
+}

@@ -1,0 +1,31 @@
+-- What an abort and a loss of power leave.
+use Rattle.std.specs.Prelude.{◌≡◌, ◌⊎◌, true, false, List, ◌∷◌, ◌++◌}
+use Rattle.jc_heap.specs.Heap.{HeapState}
+use Rattle.jc_heap.specs.Moves.{Begin, IsInside}
+use Rattle.jc_memory.specs.State.{Effect, HeapMove, apply_effect, moves_of}
+use Rattle.jc_memory.specs.Reading.{HasTracePrefix}
+use Rattle.jc_card.specs.Answers.{exchange}
+use Rattle.jc_card.specs.CardState.{CardState}
+use Rattle.jc_session.specs.declared.event.Event.{Event}
+use Rattle.jc_session.specs.declared.event.Event.TheVariants.{Command, Reset}
+use Rattle.law_images.specs.Comes.{memory_at}
+use Rattle.law_images.specs.Tries.{IsAsFound}
+
+-- a transaction is open behind these effects of a command, and this is what its beginning found, but for tries
+pub record IsWhatWasFound (card : CardState) (es : List Effect) (left : HeapState) : Type 0 where
+  pub earlier : List Effect
+  pub during : List Effect
+  pub are : es ≡ earlier ++ (HeapMove Begin ∷ during)
+  pub inside : IsInside (moves_of during)
+  pub found : IsAsFound card.packages during (apply_effect (HeapMove Begin) (memory_at card earlier)) (memory_at card earlier).heap.now left
+
+-- what a loss of power leaves behind these effects of a command: the heap as it is, where no transaction is open, and else what its
+-- beginning found
+abbrev pub IsLeft : CardState → List Effect → HeapState → Type 0
+IsLeft card es left = (((memory_at card es).heap.begun ≡ false) × (left ≡ (memory_at card es).heap.now))
+    ⊎ (((memory_at card es).heap.begun ≡ true) × IsWhatWasFound card es left)
+
+-- what a loss of power leaves within an event
+abbrev pub IsLeftBy : CardState → Event → HeapState → Type 0
+IsLeftBy card (Command bytes) left = (es : List Effect) × HasTracePrefix (exchange bytes.items card) card.memory es × IsLeft card es left
+IsLeftBy card Reset left = left ≡ card.memory.heap.now

@@ -1,0 +1,263 @@
+-- What a check gives where code does not go on: an exception, or a code fault; no value, and no exception that nothing caught.
+use Rattle.std.specs.Prelude.{ℕ, ℤ, pos, negsuc, ◌/◌, ◌^◌, ◌==◌, nat_lt, not, Bool, true, false, List, Option, Some, None, Result, Ok, Err, if◌then◌else◌}
+use Rattle.jc_transient.specs.declared.cell.CellValue.{CellValue}
+use Rattle.jc_transient.specs.declared.cell.CellValue.TheVariants as kept
+use Rattle.jc_heap.specs.Heap.{HeapState}
+use Rattle.jc_heap.specs.declared.object.Facts.{Facts}
+use Rattle.jc_memory.specs.Cells.{header_at}
+use Rattle.jc_memory.specs.State.{MemoryState}
+use Rattle.jc_cap_linkage.specs.declared.pool.VirtualToken.{VirtualToken}
+use Rattle.jc_linker.specs.declared.target.Method.{Method}
+use Rattle.jc_linker.specs.declared.target.Target.{Target}
+use Rattle.jc_linker.specs.declared.target.Target.TheVariants.{Class, VirtualMethod, SuperMethod, StaticMethod}
+use Rattle.jc_linker.specs.Values.{Packages}
+use Rattle.jc_linker.specs.Lookups.{target_at}
+use Rattle.jc_linker.specs.Methods.{interface_method_at, method_at}
+use Rattle.jc_opcodes.specs.declared.instr.InvokeOp.{InvokeOp}
+use Rattle.jc_opcodes.specs.declared.instr.InvokeOp.TheVariants.{Virtual, Special, Static, Interface}
+use Rattle.jc_opcodes.specs.declared.instr.ValueType.{ValueType}
+use Rattle.jc_firewall.specs.declared.access.Access.{Access}
+use Rattle.jc_firewall.specs.declared.access.Access.TheVariants.{ArrayElement, InstanceField, StoreReference, VirtualCall}
+use Rattle.jc_firewall.specs.declared.decide.Decision.{Decision}
+use Rattle.jc_firewall.specs.declared.decide.Decision.TheVariants.{Allow, Switch, Deny}
+use Rattle.jc_frames.specs.declared.cell.Cell.{Cell}
+use Rattle.jc_frames.specs.declared.outcome.FrameExit.{FrameExit}
+use Rattle.jc_frames.specs.declared.outcome.FrameExit.TheVariants.{Throw, End}
+use Rattle.jc_frames.specs.declared.outcome.Outcome.{Outcome}
+use Rattle.jc_frames.specs.declared.outcome.Outcome.TheVariants.{Void, Short, Reference, Thrown, Fault}
+use Rattle.jc_frames.specs.Frames.{Frames}
+use Rattle.jc_world.specs.Answers.{and_then}
+use Rattle.jc_world.specs.Contexts.{firewall_check, firewall_decision, unless_denied}
+use Rattle.jc_world.specs.Objects.{check_or_fault, object_at, some_or_fault, storable_in, storable_of}
+use Rattle.jc_world.specs.Types.{is_a}
+use Rattle.jc_world.specs.Values.{keepable, value_if_allowed}
+use Rattle.jc_interp_objects.specs.declared.field_names.FieldOfClass.{FieldOfClass}
+use Rattle.jc_interp_objects.specs.declared.object_types.ObjectType.{ObjectType}
+use Rattle.jc_interp_objects.specs.ArrayElements.{array_at, array_in, assignable_in, assignable_or_null, element_at, element_if_assignable, element_in}
+use Rattle.jc_interp_objects.specs.ArrayElements.{element_value, header_if_allowed, is_array, with_index}
+use Rattle.jc_interp_objects.specs.Fields.{cell_if_allowed, cell_in, field_cell, has_cell}
+use Rattle.jc_interp_objects.specs.ObjectCreation.{cells_for}
+use Rattle.jc_interp_objects.specs.ObjectTypes.{access_to, is_of_type}
+use Rattle.jc_interp_objects.specs.TypeChecks.{answer_if_allowed, type_test, type_test_of}
+use Rattle.jc_interp_calls.specs.Invoke.{arguments_of, call_decision, class_of, fits_at_null, interface_access, interface_by, invokeinterface, invokespecial}
+use Rattle.jc_interp_calls.specs.Invoke.{invokestatic, invokevirtual, is_native_constructor, is_of, is_of_any, method_selection, receiver_of, receiver_on}
+use Rattle.jc_interp_calls.specs.Invoke.{special_by, static_by, virtual_by}
+use Rattle.jc_interp_calls.specs.Parameters.{fits}
+use Rattle.law_soundness.specs.Living.{IsLivingOutcome}
+
+-- an exception, or a code fault
+abbrev pub IsPlainExit : FrameExit → Type 0
+IsPlainExit (Throw e) = Unit {0}
+IsPlainExit (End Void) = ⊥
+IsPlainExit (End (Short v)) = ⊥
+IsPlainExit (End (Reference r)) = ⊥
+IsPlainExit (End (Thrown r)) = ⊥
+IsPlainExit (End Fault) = Unit {0}
+
+-- where there is no value there is such an exit
+abbrev pub FaultsOnly : {A : Type 0} → Result A FrameExit → Type 0
+FaultsOnly (Ok a) = Unit {0}
+FaultsOnly (Err e) = IsPlainExit e
+
+pub plain_living : (h : HeapState) (o : Outcome) → IsPlainExit (End o) → IsLivingOutcome h o
+plain_living h Void plain = tt
+plain_living h (Short v) plain = tt
+plain_living h (Reference r) plain = absurd plain
+plain_living h (Thrown r) plain = absurd plain
+plain_living h Fault plain = tt
+
+-- ---- checks in a row
+
+pub plain_if : {A : Type 0} (b : Bool) (x y : Result A FrameExit) → FaultsOnly x → FaultsOnly y → FaultsOnly (if b then x else y)
+plain_if true x y first second = first
+plain_if false x y first second = second
+
+pub plain_then : {A B : Type 0} (x : Result A FrameExit) (go : A → Result B FrameExit) → FaultsOnly x → ((a : A) → FaultsOnly (go a)) → FaultsOnly (and_then x go)
+plain_then (Ok a) go plain each = each a
+plain_then (Err e) go plain each = plain
+
+pub plain_some : {A : Type 0} (o : Option A) → FaultsOnly (some_or_fault o)
+plain_some None = tt
+plain_some (Some a) = tt
+
+pub plain_check : (b : Bool) → FaultsOnly (check_or_fault b)
+plain_check true = tt
+plain_check false = tt
+
+plain_denied : (d : Decision) → FaultsOnly (unless_denied d)
+plain_denied Allow = tt
+plain_denied (Switch c) = tt
+plain_denied (Deny rule) = tt
+
+pub plain_firewall : (access : Access) (p : Packages) (m : MemoryState) (f : Facts) → FaultsOnly (firewall_check access p m f)
+plain_firewall access p m f = plain_denied (firewall_decision access p m f)
+
+pub plain_object : (m : MemoryState) (r : ℕ) → FaultsOnly (object_at m r)
+unfolding object_at
+plain_object m r = plain_if (r == 0) _ _ tt (plain_some (header_at m r))
+
+-- ---- values
+
+plain_storable_in : (p : Packages) (m : MemoryState) (o : Option Facts) → FaultsOnly (storable_in p m o)
+plain_storable_in p m None = tt
+plain_storable_in p m (Some f) = plain_firewall StoreReference p m f
+
+plain_storable : (p : Packages) (m : MemoryState) (r : ℕ) → FaultsOnly (storable_of p m r)
+unfolding storable_of
+plain_storable p m r = plain_if (r == 0) _ _ tt (plain_storable_in p m (header_at m r))
+
+plain_value : (value : CellValue) (x : Result (Unit {0}) FrameExit) → FaultsOnly x → FaultsOnly (value_if_allowed value x)
+plain_value value (Ok u) plain = tt
+plain_value value (Err e) plain = plain
+
+pub plain_keepable : (p : Packages) (m : MemoryState) (value : CellValue) → FaultsOnly (keepable p m value)
+plain_keepable p m (kept.Short x) = tt
+plain_keepable p m (kept.Reference r) = plain_value (kept.Reference r) (storable_of p m r) (plain_storable p m r)
+
+-- ---- fields, elements and types of objects
+
+plain_cell_if : (i : ℕ) (x : Result (Unit {0}) FrameExit) → FaultsOnly x → FaultsOnly (cell_if_allowed i x)
+plain_cell_if i (Ok u) plain = tt
+plain_cell_if i (Err e) plain = plain
+
+plain_cell_in : (field : FieldOfClass) (p : Packages) (m : MemoryState) (x : Result Facts FrameExit) → FaultsOnly x → FaultsOnly (cell_in field p m x)
+plain_cell_in field p m (Err e) plain = plain
+plain_cell_in field p m (Ok f) plain = plain_if (has_cell field p f) _ _ (plain_cell_if field.cell _ (plain_firewall InstanceField p m f)) tt
+
+pub plain_field : (field : FieldOfClass) (p : Packages) (m : MemoryState) (r : ℕ) → FaultsOnly (field_cell field p m r)
+unfolding field_cell
+plain_field field p m r = plain_cell_in field p m (object_at m r) (plain_object m r)
+
+plain_header_if : (f : Facts) (x : Result (Unit {0}) FrameExit) → FaultsOnly x → FaultsOnly (header_if_allowed f x)
+plain_header_if f (Ok u) plain = tt
+plain_header_if f (Err e) plain = plain
+
+plain_array_in : (t : Option ValueType) (p : Packages) (m : MemoryState) (x : Result Facts FrameExit) → FaultsOnly x → FaultsOnly (array_in t p m x)
+plain_array_in t p m (Err e) plain = plain
+plain_array_in t p m (Ok f) plain = plain_if (is_array t f.kind) _ _ (plain_header_if f _ (plain_firewall ArrayElement p m f)) tt
+
+pub plain_array : (t : Option ValueType) (p : Packages) (m : MemoryState) (r : ℕ) → FaultsOnly (array_at t p m r)
+unfolding array_at
+plain_array t p m r = plain_array_in t p m (object_at m r) (plain_object m r)
+
+pub plain_index : (f : Facts) (i : ℤ) → FaultsOnly (with_index f i)
+plain_index f (pos i) = plain_if (nat_lt i f.length) _ _ tt tt
+plain_index f (negsuc i) = tt
+
+plain_element_in : (i : ℤ) (x : Result Facts FrameExit) → FaultsOnly x → FaultsOnly (element_in i x)
+plain_element_in i (Err e) plain = plain
+plain_element_in i (Ok f) plain = plain_index f i
+
+pub plain_element : (t : ValueType) (p : Packages) (m : MemoryState) (r : ℕ) (i : ℤ) → FaultsOnly (element_at t p m r i)
+unfolding element_at
+plain_element t p m r i = plain_element_in i (array_at (Some t) p m r) (plain_array (Some t) p m r)
+
+plain_assignable_in : (p : Packages) (class : ℕ) (o : Option Facts) → FaultsOnly (assignable_in p class o)
+plain_assignable_in p class None = tt
+plain_assignable_in p class (Some f) = plain_if (is_a p f class) _ _ tt tt
+
+plain_assignable : (p : Packages) (m : MemoryState) (class r : ℕ) → FaultsOnly (assignable_or_null p m class r)
+unfolding assignable_or_null
+plain_assignable p m class r = plain_if (r == 0) _ _ tt (plain_assignable_in p class (header_at m r))
+
+plain_element_if : (value : CellValue) (x : Result (Unit {0}) FrameExit) → FaultsOnly x → FaultsOnly (element_if_assignable value x)
+plain_element_if value (Ok u) plain = tt
+plain_element_if value (Err e) plain = plain
+
+pub plain_element_value : (p : Packages) (m : MemoryState) (class : ℕ) (value : CellValue) → FaultsOnly (element_value p m class value)
+unfolding element_value
+plain_element_value p m class (kept.Short x) = tt
+plain_element_value p m class (kept.Reference r) = plain_element_if (kept.Reference r) _ (plain_assignable p m class r)
+
+plain_answer_if : (answer : Bool) (x : Result (Unit {0}) FrameExit) → FaultsOnly x → FaultsOnly (answer_if_allowed answer x)
+plain_answer_if answer (Ok u) plain = tt
+plain_answer_if answer (Err e) plain = plain
+
+plain_type_of : (t : ObjectType) (p : Packages) (m : MemoryState) (x : Result Facts FrameExit) → FaultsOnly x → FaultsOnly (type_test_of t p m x)
+plain_type_of t p m (Err e) plain = plain
+plain_type_of t p m (Ok f) plain = plain_answer_if (is_of_type t p f) _ (plain_firewall (access_to p t) p m f)
+
+pub plain_type : (null : Bool) (t : ObjectType) (p : Packages) (m : MemoryState) (r : ℕ) → FaultsOnly (type_test null t p m r)
+unfolding type_test
+plain_type null t p m r = plain_if (r == 0) _ _ tt (plain_type_of t p m (object_at m r) (plain_object m r))
+
+pub plain_size : (size : ℕ) → FaultsOnly (cells_for size)
+plain_size size = plain_if (nat_lt size (2 ^ 16)) _ _ tt tt
+
+-- ---- methods
+
+plain_receiver : (n : ℕ) (stack : List Cell) (m : MemoryState) → FaultsOnly (receiver_of n stack m)
+unfolding receiver_of
+plain_receiver n stack m = plain_then (some_or_fault (receiver_on n stack)) _ (plain_some (receiver_on n stack)) (plain_object m)
+
+plain_decision : (d : Decision) (f : Facts) (method : Method) (n : ℕ) → FaultsOnly (call_decision d f method n)
+plain_decision Allow f method n = tt
+plain_decision (Switch c) f method n = tt
+plain_decision (Deny rule) f method n = tt
+
+module _ (p : Packages) where
+  arguments_plain : (method : Method) → FaultsOnly (some_or_fault (arguments_of p method))
+  arguments_plain method = plain_some (arguments_of p method)
+
+  plain_virtual : (class : ℕ) (token : VirtualToken) (method : Method) (stack : List Cell) (m : MemoryState)
+      → FaultsOnly (invokevirtual class token method p stack m)
+  unfolding invokevirtual
+  plain_virtual class token method stack m =
+      plain_then (some_or_fault (arguments_of p method)) _ (arguments_plain method) (λ n.
+      plain_then (check_or_fault (fits_at_null n method p stack m)) _ (plain_check (fits_at_null n method p stack m)) (λ u.
+      plain_then (receiver_of n stack m) _ (plain_receiver n stack m) (λ f.
+      plain_then (check_or_fault (is_of p f class)) _ (plain_check (is_of p f class)) (λ v.
+      plain_then (some_or_fault (method_at p (class_of p f) (class / 256) token)) _ (plain_some (method_at p (class_of p f) (class / 256) token)) (λ found.
+      plain_then (check_or_fault (fits found p m stack)) _ (plain_check (fits found p m stack)) (λ w.
+      plain_decision (firewall_decision VirtualCall p m f) f found n))))))
+
+  plain_special : (class : Option ℕ) (method : Method) (stack : List Cell) (m : MemoryState) → FaultsOnly (invokespecial class method p stack m)
+  unfolding invokespecial
+  plain_special class method stack m =
+      plain_then (some_or_fault (arguments_of p method)) _ (arguments_plain method) (λ n.
+      plain_then (check_or_fault (fits_at_null n method p stack m)) _ (plain_check (fits_at_null n method p stack m)) (λ u.
+      plain_then (receiver_of n stack m) _ (plain_receiver n stack m) (λ f.
+      plain_then (check_or_fault (is_of_any p f class)) _ (plain_check (is_of_any p f class)) (λ v.
+      plain_then (check_or_fault (fits method p m stack)) _ (plain_check (fits method p m stack)) (λ w.
+      plain_then (firewall_check InstanceField p m f) _ (plain_firewall InstanceField p m f) (λ x. tt))))))
+
+  plain_static : (method : Method) → FaultsOnly (invokestatic method p)
+  unfolding invokestatic
+  plain_static method =
+      plain_then (check_or_fault (not (is_native_constructor method))) _ (plain_check (not (is_native_constructor method))) (λ u.
+      plain_then (some_or_fault (arguments_of p method)) _ (arguments_plain method) (λ n. tt))
+
+  plain_interface : (interface n token : ℕ) (stack : List Cell) (m : MemoryState) → FaultsOnly (invokeinterface interface n token p stack m)
+  unfolding invokeinterface
+  plain_interface interface n token stack m =
+      plain_then (receiver_of n stack m) _ (plain_receiver n stack m) (λ f.
+      plain_then (check_or_fault (is_of p f interface)) _ (plain_check (is_of p f interface)) (λ u.
+      plain_then (some_or_fault (interface_method_at p (class_of p f) interface token)) _ (plain_some (interface_method_at p (class_of p f) interface token))
+      (λ found.
+      plain_then (check_or_fault (fits found p m stack)) _ (plain_check (fits found p m stack)) (λ v.
+      plain_decision (firewall_decision (interface_access p interface) p m f) f found n))))
+
+  module _ (stack : List Cell) (m : MemoryState) where
+    plain_virtual_by : (o : Option Target) → FaultsOnly (virtual_by o p stack m)
+    plain_virtual_by (Some (VirtualMethod class token method)) = plain_virtual class token method stack m
+    plain_virtual_by _ = tt
+
+    plain_special_by : (o : Option Target) → FaultsOnly (special_by o p stack m)
+    plain_special_by (Some (StaticMethod class method)) = plain_special class method stack m
+    plain_special_by (Some (SuperMethod class method)) = plain_special (Some class) method stack m
+    plain_special_by _ = tt
+
+    plain_interface_by : (n token : ℕ) (o : Option Target) → FaultsOnly (interface_by o n token p stack m)
+    plain_interface_by n token (Some (Class class)) = plain_interface class n token stack m
+    plain_interface_by n token _ = tt
+
+  plain_static_by : (o : Option Target) → FaultsOnly (static_by o p)
+  plain_static_by (Some (StaticMethod class method)) = plain_static method
+  plain_static_by _ = tt
+
+  pub plain_selection : (i : InvokeOp) (s : Frames) (m : MemoryState) → FaultsOnly (method_selection i p s m)
+  unfolding method_selection
+  plain_selection (Virtual index) s m = plain_virtual_by s.current.stack m (target_at p s.current.origin.package_number index)
+  plain_selection (Special index) s m = plain_special_by s.current.stack m (target_at p s.current.origin.package_number index)
+  plain_selection (Static index) s m = plain_static_by (target_at p s.current.origin.package_number index)
+  plain_selection (Interface n index token) s m = plain_interface_by s.current.stack m n token (target_at p s.current.origin.package_number index)
